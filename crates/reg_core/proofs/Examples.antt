@@ -1,0 +1,51 @@
+-- The definitions, computed on a few examples.
+use Rattle.std.proofs.Common.{◌≡◌, ◌∷◌, [], codes, length, refl}
+use Rattle.std.specs.Prelude.{None, Some}
+use Rattle.std.specs.Fmt.{digits}
+use Rattle.serde_json.proofs.OnLiterals.{serde_json_on_literals}
+use Rattle.reg_core.specs.declared.level.Level.TheVariants.{Full, Off}
+use Rattle.reg_core.specs.declared.code.Code.TheVariants.{InvalidLevel, KeyReused, NotFound}
+use Rattle.reg_core.specs.declared.command.Command.TheVariants.{SetGlobal, Global}
+use Rattle.reg_core.specs.Levels.{level_of}
+use Rattle.reg_core.specs.Codes.{status_of, fault_body}
+use Rattle.reg_core.specs.Replies.{answer, fault}
+use Rattle.reg_core.specs.Registry.{new_registry}
+use Rattle.reg_core.specs.Machine.{step, run_commands}
+use Rattle.reg_core.specs.CommandTexts.{command_text}
+
+none_is_a_level : level_of (codes "NONE") ≡ Some Off
+none_is_a_level = refl
+
+lower_case_is_no_level : level_of (codes "full") ≡ None
+lower_case_is_no_level = refl
+
+five_digits_have_a_status : status_of KeyReused ≡ 422
+five_digits_have_a_status = refl
+
+not_found_body : fault_body NotFound ≡ codes "{\"error_code\":404,\"message\":\"Not found\"}"
+unfolding fault_body digits
+not_found_body = refl
+
+key_reused_length : length (fault_body KeyReused) ≡ 71
+unfolding fault_body digits
+key_reused_length = refl
+
+full_is_set : step new_registry (SetGlobal (codes "FULL")) ≡ (record { global = Full }, answer (codes "{\"compatibility\":\"FULL\"}"))
+unfolding step serde_json_on_literals
+full_is_set = refl
+
+other_text_is_refused : step new_registry (SetGlobal (codes "Full")) ≡ (new_registry, fault InvalidLevel)
+unfolding step
+other_text_is_refused = refl
+
+new_level : (step new_registry Global).1 ≡ answer (codes "{\"compatibilityLevel\":\"BACKWARD\"}")
+unfolding step serde_json_on_literals
+new_level = refl
+
+last_level_stays : run_commands new_registry (SetGlobal (codes "FULL") ∷ SetGlobal (codes "x") ∷ Global ∷ []) ≡ record { global = Full }
+unfolding step
+last_level_stays = refl
+
+set_global_text : command_text (SetGlobal (codes "FULL")) ≡ codes "[\"set-global\",\"FULL\"]"
+unfolding command_text serde_json_on_literals
+set_global_text = refl

@@ -1,0 +1,23 @@
+use Rattle.std.proofs.Common.{◌≡◌, codes, rules, ◌∙◌}
+use Rattle.serde_json.specs.Data.{string, array, item, no_items}
+use Rattle.serde_json.specs.View.{view}
+use Rattle.serde_json.specs.declared.value.Value.{the_lemmas}
+use Rattle.serde_json.proofs.OnLiterals.{serde_json_on_literals}
+use Rattle.reg_core.specs.CommandTexts.{command_text}
+use Rattle.reg_core.proofs.Texts.{command_text-injective}
+use Rattle.reg_core.proofs.command.print_of.Goals as goal
+
+pub returns-in_ok-to_string-in-SetGlobal-clause-text : goal.returns-in_ok-to_string-in-SetGlobal-clause-text
+unfolding serde_json_on_literals command_text
+returns-in_ok-to_string-in-SetGlobal-clause-text c =
+    let built : view c.in_ok-json-in-SetGlobal.field-0 ≡ array (item (string (codes "set-global")) (item (string c.in-SetGlobal.level) no_items)) =
+    search (rules, the_lemmas) in
+    search rules
+
+pub returns-in_ok-to_string-in-SetGlobal-clause-one : goal.returns-in_ok-to_string-in-SetGlobal-clause-one
+returns-in_ok-to_string-in-SetGlobal-clause-one c other v w e =
+    command_text-injective other c.args.command.now w v (e ∙ returns-in_ok-to_string-in-SetGlobal-clause-text c)
+
+pub returns-in-Global-clause-text : goal.returns-in-Global-clause-text
+unfolding command_text
+returns-in-Global-clause-text c = search rules

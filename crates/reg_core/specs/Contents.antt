@@ -1,0 +1,14 @@
+-- What a reply holds, and what a client sees of it.
+use Rattle.std.specs.Prelude.{string_bytes}
+use Rattle.reg_core.specs.declared.reply.Content.{Content}
+use Rattle.reg_core.specs.declared.reply.Content.TheVariants.{Written, Fault}
+use Rattle.reg_core.specs.Replies.{Told, fault, IsStatus}
+
+-- this project's choice: a fault is held as its code, and an answer as it was written
+abbrev pub told : Content → Told
+told (Written status body) = record { status = status; body = string_bytes body }
+told (Fault code) = fault code
+
+-- RFC 9110, section 15: the status is one of the nine
+abbrev pub HasStatus : Content → Type 0
+HasStatus content = IsStatus (told content).status

@@ -1,0 +1,12 @@
+-- Retry keys.
+use Rattle.std.specs.Prelude.{ℕ, ◌<◌, ◌≤◌, ◌==◌, ◌||◌, Bool, IsTrue, List, length, codes}
+use Rattle.std.specs.List.{All, list_any}
+use Rattle.std.specs.Char.{is_ascii_alphanumeric}
+
+-- this project's choice: an ASCII letter, a digit, or one of . _ -
+abbrev pub is_key_byte : ℕ → Bool
+is_key_byte c = is_ascii_alphanumeric c || list_any (λ mark. c == mark) (codes "._-")
+
+-- this project's choice: a retry key has 1 to 64 such bytes
+abbrev pub IsKey : List ℕ → Type 0
+IsKey text = (0 < length text) × (length text ≤ 64) × All (λ c. IsTrue (is_key_byte c)) text

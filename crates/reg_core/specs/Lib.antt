@@ -1,0 +1,9 @@
+pub mod Levels
+pub mod Codes
+pub mod Replies
+pub mod Contents
+pub mod Keys
+pub mod Registry
+pub mod Machine
+pub mod CommandTexts
+pub mod Views

@@ -1,0 +1,34 @@
+-- Replies, as a client sees them.
+use Rattle.std.specs.Prelude.{ℕ, ◌==◌, ◌≢◌, List, [], ◌∷◌, IsTrue}
+use Rattle.std.specs.List.{list_any}
+use Rattle.reg_core.specs.declared.code.Code.{Code}
+use Rattle.reg_core.specs.declared.code.Code.TheVariants.{KeyReused}
+use Rattle.reg_core.specs.Codes.{status_of, fault_body}
+
+-- RFC 9110, section 15: a status, and the bytes of the body
+pub record Told : Type 0 where
+  pub status : ℕ
+  pub body : List ℕ
+
+-- RFC 9110, section 15: the nine statuses that a reply may have
+abbrev pub statuses : List ℕ
+statuses = 200 ∷ 400 ∷ 404 ∷ 405 ∷ 409 ∷ 413 ∷ 422 ∷ 500 ∷ 501 ∷ []
+
+-- RFC 9110, section 15: the number is one of these nine
+abbrev pub IsStatus : ℕ → Type 0
+IsStatus n = IsTrue (list_any (λ status. n == status) statuses)
+
+-- RFC 9110, section 15.3.1: what a command answers that isn't refused
+abbrev pub answer : List ℕ → Told
+answer body = record { status = 200; body = body }
+
+-- Schema Registry API reference, errors: the reply for a code
+abbrev pub fault : Code → Told
+fault code = record { status = status_of code; body = fault_body code }
+
+-- This project's choice: a reply that the registry's own rules give has one of the nine statuses, and is neither of the
+-- two faults that come from outside them: want of memory or disk, and a retry key that came with another command.
+pub record IsOwnReply (reply : Told) : Type 0 where
+  pub status : IsStatus reply.status
+  pub no_backend_fault : reply.status ≢ 500
+  pub no_reused_key : reply ≢ fault KeyReused

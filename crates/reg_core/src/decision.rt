@@ -1,0 +1,103 @@
+//! What a command does to the registry, and its reply.
+
+ghost use Rattle.std.specs.Prelude.{◌≡◌, ◌≢◌, [], false, IfOk, string_bytes};
+ghost use Rattle.reg_core.specs.Levels.{level_of};
+ghost use Rattle.reg_core.specs.Machine.{is_write, level_object, set_global, step};
+ghost use Rattle.reg_core.specs.Registry.{Registry};
+ghost use Rattle.reg_core.specs.Replies.{IsOwnReply, answer};
+ghost use Rattle.reg_core.specs.Views.{IsViewOf, changed};
+
+use crate::code::Code;
+use crate::command::Command;
+use crate::error::OutOfMemory;
+use crate::level::Level;
+use crate::reply::Reply;
+use serde_json::json;
+use std::alloc::Global;
+
+/// What a command needs to know of the registry.
+#[derive(Clone, Copy, Debug, PartialEq, Eq)]
+pub struct View {
+    /// The global compatibility level.
+    pub global: Level,
+}
+
+/// One change of the registry.
+#[derive(Clone, Copy, Debug, PartialEq, Eq)]
+pub enum Change {
+    /// The global compatibility level becomes this one.
+    SetGlobal { level: Level },
+}
+
+/// What a command does, and its reply.
+#[derive(Debug, Drop)]
+pub struct Decision {
+    /// The changes, in order.
+    pub changes: Vec<Change>,
+    /// The reply to the command.
+    pub reply: Reply,
+}
+
+/// What the command does to the registry that the view is of, and its reply. It is pure.
+///
+/// # Errors
+///
+/// `OutOfMemory` where room for the changes or for the reply is refused.
+#[tactic(auto, unfolding(crate::specs::Machine::step))]
+pub fn decide(alloc: Global, view: &View, command: &Command) -> Result<Decision, OutOfMemory>
+    ensures reply { IfOk result (λ decision. (g : Registry) → IsViewOf view.now g command.now
+        → decision.reply ≡ (step g command.now).1) }
+    ensures changes { IfOk result (λ decision. (g : Registry) → IsViewOf view.now g command.now
+        → changed decision.changes.items g ≡ (step g command.now).0) }
+
+    // A read changes nothing, and a refusal neither.
+    ensures read { IfOk result (λ decision. is_write command.now ≡ false → decision.changes.items ≡ []) }
+    ensures refusal { IfOk result (λ decision. decision.reply.status ≢ 200 → decision.changes.items ≡ []) }
+
+    // A fault of the backend and a reused key are no reply of the registry's own.
+    ensures own { IfOk result (λ decision. IsOwnReply decision.reply) }
+{
+    match command {
+        Command::SetGlobal { level } => set_global(alloc, level.as_str()),
+        Command::Global => {
+            let reply = level_reply(alloc, "compatibilityLevel", view.global)?;
+            Ok(unchanged(alloc, reply))
+        }
+    }
+}
+
+// A reply that comes with no change.
+fn unchanged(alloc: Global, reply: Reply) -> Decision
+    ensures changes { result.changes.items ≡ [] }
+    ensures reply { result.reply ≡ reply }
+{
+    Decision {
+        changes: Vec::new(alloc),
+        reply,
+    }
+}
+
+// The level becomes the one that the text spells.
+fn set_global(alloc: Global, text: &str) -> Result<Decision, OutOfMemory>
+    ensures reply { IfOk result (λ decision. (g : Registry)
+        → decision.reply ≡ (set_global g (level_of text.now)).1) }
+    ensures changes { IfOk result (λ decision. (g : Registry)
+        → changed decision.changes.items g ≡ (set_global g (level_of text.now)).0) }
+    ensures refusal { IfOk result (λ decision. decision.reply.status ≢ 200 → decision.changes.items ≡ []) }
+{
+    let Some(level) = Level::parse(text) else {
+        return Ok(unchanged(alloc, Reply::fault(Code::InvalidLevel)));
+    };
+    let reply = level_reply(alloc, "compatibility", level)?;
+    let mut changes = Vec::new(alloc);
+    changes.push(Change::SetGlobal { level })?;
+    Ok(Decision { changes, reply })
+}
+
+// An object with one member of this name, whose value is the level's text.
+fn level_reply(alloc: Global, name: &str, level: Level) -> Result<Reply, OutOfMemory>
+    ensures { IfOk result (λ reply. reply ≡ answer (level_object name.now level)) }
+{
+    let object = json!(in alloc; {name: level.text()})?;
+    Ok(Reply::answer(object.to_string(alloc)?))
+}

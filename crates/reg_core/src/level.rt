@@ -1,0 +1,66 @@
+//! Compatibility levels.
+
+ghost use Rattle.std.specs.Prelude.{◌≡◌, IfSome, Some};
+ghost use Rattle.reg_core.specs.Levels.{level_of, level_text};
+
+/// A compatibility level: which earlier schemas of a subject a new one has to resolve with, and
+/// in which direction. (Schema Registry API reference, Config.)
+#[derive(Clone, Copy, Debug, PartialEq, Eq)]
+pub enum Level {
+    /// The new schema reads what the latest one wrote.
+    Backward,
+    /// The new schema reads what each earlier one wrote.
+    BackwardTransitive,
+    /// The latest schema reads what the new one writes.
+    Forward,
+    /// Each earlier schema reads what the new one writes.
+    ForwardTransitive,
+    /// Both directions, with the latest schema.
+    Full,
+    /// Both directions, with each earlier schema.
+    FullTransitive,
+    /// No schema is compared. It is spelt `NONE`.
+    Off,
+}
+
+impl Level {
+    /// The level that is spelt exactly so, in upper case with `_`; every other text is `None`.
+    pub fn parse(text: &str) -> Option<Level>
+        ensures value { result ≡ level_of text.now }
+        ensures spelt_so { IfSome result (λ level. level_text level ≡ text.now) }
+    {
+        if text == "BACKWARD" {
+            Some(Level::Backward)
+        } else if text == "BACKWARD_TRANSITIVE" {
+            Some(Level::BackwardTransitive)
+        } else if text == "FORWARD" {
+            Some(Level::Forward)
+        } else if text == "FORWARD_TRANSITIVE" {
+            Some(Level::ForwardTransitive)
+        } else if text == "FULL" {
+            Some(Level::Full)
+        } else if text == "FULL_TRANSITIVE" {
+            Some(Level::FullTransitive)
+        } else if text == "NONE" {
+            Some(Level::Off)
+        } else {
+            None
+        }
+    }
+
+    /// How the level is spelt.
+    pub fn text(self) -> &'static str
+        ensures value { result.now ≡ level_text self }
+        ensures parses_back { level_of result.now ≡ Some self }
+    {
+        match self {
+            Level::Backward => "BACKWARD",
+            Level::BackwardTransitive => "BACKWARD_TRANSITIVE",
+            Level::Forward => "FORWARD",
+            Level::ForwardTransitive => "FORWARD_TRANSITIVE",
+            Level::Full => "FULL",
+            Level::FullTransitive => "FULL_TRANSITIVE",
+            Level::Off => "NONE",
+        }
+    }
+}

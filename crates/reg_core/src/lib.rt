@@ -1,0 +1,23 @@
+//! The plain registry: levels, codes, replies, retry keys and commands, and what each command
+//! does and answers.
+#![tactic(auto)]
+
+mod code;
+mod command;
+mod decision;
+mod error;
+mod key;
+mod level;
+mod reply;
+#[cfg(test)]
+mod tests;
+mod text;
+
+pub use code::Code;
+pub use command::{Command, print_of};
+pub use decision::{Change, Decision, View, decide};
+pub use error::OutOfMemory;
+pub use key::Key;
+pub use level::Level;
+pub use reply::Reply;
+pub use text::Text;

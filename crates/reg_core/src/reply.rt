@@ -1,0 +1,105 @@
+//! Replies.
+
+ghost use Rattle.std.specs.Prelude.{◌≡◌, SomeIff, IfOk, string_bytes};
+ghost use Rattle.reg_core.specs.Replies.{IsStatus, answer, fault};
+
+use crate::code::Code;
+use crate::error::OutOfMemory;
+use std::marker::Model;
+
+// An answer that was written, or the fault of a code, which takes no memory.
+#[derive(Debug, Drop)]
+enum Content {
+    Written { status: u16, body: String },
+    Fault { code: Code },
+}
+
+/// What a client gets: a status and a body. Contracts see both.
+#[derive(Debug, Drop)]
+pub struct Reply {
+    content: Content,
+}
+
+impl Model for Reply {
+    ghost use Rattle.reg_core.specs.Replies.{Told};
+
+    ghost Value = { Told };
+
+    ghost use Rattle.reg_core.specs.Contents.{told, HasStatus};
+
+    ghost view = { λ reply. told reply.content };
+
+    ghost invariant = { λ reply. HasStatus reply.content };
+}
+
+impl Reply {
+    /// A reply with this status and body, where the status is 200, 400, 404, 405, 409, 413, 422,
+    /// 500 or 501; else `None`. It takes no memory.
+    pub fn new(status: u16, body: String) -> Option<Reply>
+        ensures { SomeIff result (IsStatus status) (record { status = status; body = string_bytes body }) }
+    {
+        match status {
+            200 | 400 | 404 | 405 | 409 | 413 | 422 | 500 | 501 => Some(Reply {
+                content: Content::Written { status, body },
+            }),
+            _ => None,
+        }
+    }
+
+    /// The reply for a code: its status, and `{"error_code":n,"message":"M"}`. It takes no memory.
+    pub fn fault(code: Code) -> Reply
+        ensures { result ≡ fault code }
+    {
+        Reply {
+            content: Content::Fault { code },
+        }
+    }
+
+    // The reply of a command that isn't refused.
+    pub(crate) fn answer(body: String) -> Reply
+        ensures { result ≡ answer (string_bytes body) }
+    {
+        Reply {
+            content: Content::Written { status: 200, body },
+        }
+    }
+
+    /// The HTTP status, one of the nine that a reply may have.
+    pub fn status(&self) -> u16
+        ensures value { result ≡ self.now.status }
+        ensures nine { IsStatus result }
+    {
+        match &self.content {
+            Content::Written { status, .. } => *status,
+            Content::Fault { code } => code.status(),
+        }
+    }
+
+    /// The body.
+    pub fn body(&self) -> &str
+        ensures { result.now ≡ self.now.body }
+    {
+        match &self.content {
+            Content::Written { body, .. } => body.as_str(),
+            Content::Fault { code } => code.fault_body(),
+        }
+    }
+
+    /// A copy. A fault's takes no memory.
+    ///
+    /// # Errors
+    ///
+    /// `OutOfMemory` where room for the body is refused.
+    pub fn try_clone(&self) -> Result<Reply, OutOfMemory>
+        ensures { IfOk result (λ copy. copy ≡ self.now) }
+    {
+        let content = match &self.content {
+            Content::Written { status, body } => Content::Written {
+                status: *status,
+                body: body.clone()?,
+            },
+            Content::Fault { code } => Content::Fault { code: *code },
+        };
+        Ok(Reply { content })
+    }
+}
