@@ -1,0 +1,64 @@
+-- What the definitions say of a few short lists.
+use Rattle.std.proofs.Common.{◌≡◌, ℕ, List, [], ◌∷◌, refl}
+use Rattle.std.specs.Prelude.{Some, None, codes}
+use Rattle.reg_core.specs.declared.code.Code.TheVariants.{InvalidLevel, KeyReused}
+use Rattle.reg_core.specs.declared.command.Command.{Command}
+use Rattle.reg_core.specs.declared.command.Command.TheVariants.{SetGlobal, Global}
+use Rattle.reg_core.specs.Registry.{Registry}
+use Rattle.reg_core.specs.Replies.{Told, fault, answer}
+use Rattle.reg_service.specs.declared.delivery.Delivery.{Delivery}
+use Rattle.reg_service.specs.Deliveries.{nothing_kept, firsts, entry_of, kept_after, IsDue}
+
+abbrev full : Command
+full = SetGlobal (codes "FULL")
+
+abbrev none : Command
+none = SetGlobal (codes "NONE")
+
+abbrev unknown : Command
+unknown = SetGlobal (codes "full")
+
+abbrev keyed : List ℕ → Command → Delivery
+keyed key command = record { key = Some key; command = command }
+
+abbrev keyless : Command → Delivery
+keyless command = record { key = None; command = command }
+
+abbrev done : Told
+done = answer (codes "{\"compatibility\":\"FULL\"}")
+
+-- a repeat is_not first
+repeat_is_not_first : firsts nothing_kept ((keyed (codes "k1") full, done) ∷ (keyed (codes "k1") full, done) ∷ []) ≡ full ∷ []
+repeat_is_not_first = refl
+
+-- nor is another command under the same key
+mismatch_is_not_first : firsts nothing_kept ((keyed (codes "k1") full, done) ∷ (keyed (codes "k1") none, fault KeyReused) ∷ []) ≡ full ∷ []
+mismatch_is_not_first = refl
+
+-- and it leaves what is kept
+mismatch_is_not_kept : kept_after nothing_kept ((keyed (codes "k1") full, done) ∷ (keyed (codes "k1") none, fault KeyReused) ∷ []) (codes "k1")
+    ≡ Some (entry_of (keyed (codes "k1") full, done))
+mismatch_is_not_kept = refl
+
+-- two keys are apart, however their deliveries mix
+keys_are_apart : firsts nothing_kept ((keyed (codes "a") full, done) ∷ (keyed (codes "b") none, done) ∷ (keyed (codes "a") full, done)
+    ∷ (keyed (codes "b") none, done) ∷ []) ≡ full ∷ none ∷ []
+keys_are_apart = refl
+
+-- a write without a key counts anew each time
+keyless_counts_anew : firsts nothing_kept ((keyless full, done) ∷ (keyless full, done) ∷ []) ≡ full ∷ full ∷ []
+keyless_counts_anew = refl
+
+-- the key of a read is ignored
+key_of_read_is_ignored : firsts nothing_kept ((keyed (codes "k1") Global, done) ∷ (keyed (codes "k1") full, done) ∷ []) ≡ full ∷ []
+key_of_read_is_ignored = refl
+
+-- a key that was kept before the list has no first delivery in it
+kept_key_is_not_first : firsts (kept_after nothing_kept ((keyed (codes "k1") full, done) ∷ [])) ((keyed (codes "k1") full, done) ∷ []) ≡ []
+kept_key_is_not_first = refl
+
+-- a refusal is a first reply too: the repeat gets it, whatever came between
+refusal_is_kept : (g : Registry) (reply : Told)
+    → IsDue g nothing_kept ((keyed (codes "k5") unknown, fault InvalidLevel) ∷ (keyless full, done) ∷ []) (keyed (codes "k5") unknown) reply
+    → reply ≡ fault InvalidLevel
+refusal_is_kept g reply due = due.again (codes "k5") (entry_of (keyed (codes "k5") unknown, fault InvalidLevel)) refl refl refl

@@ -1,0 +1,7 @@
+pub mod Together
+pub mod Alone
+pub mod Again
+pub mod Lists
+pub mod Replies
+pub mod Holds
+pub mod Examples

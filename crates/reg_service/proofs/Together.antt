@@ -1,0 +1,175 @@
+-- Exchanges that follow others are served from where the others led.
+use Rattle.std.proofs.Common.{◌≡◌, ℕ, true, false, Bool, not, ◌&&◌, ◌||◌, List, [], ◌∷◌, ◌++◌, refl, sym, ap, ◌∙◌, subst, append_assoc, ◌⊎◌, inl, inr, ⊎_elim}
+use Rattle.std.specs.Prelude.{Option, Some, None, find, option_map, is_none, cond, if◌then◌else◌}
+use Rattle.std.specs.List.{list_any}
+use Rattle.std.specs.Option.{option_or, option_map_or}
+use Rattle.std.proofs.lemmas.List.{append-nil}
+use Rattle.std.proofs.lemmas.List.Folds.{find-append, list_any-append}
+use Rattle.reg_core.specs.declared.command.Command.{Command}
+use Rattle.reg_core.specs.Machine.{is_write, step, run_commands}
+use Rattle.reg_core.specs.Registry.{Registry}
+use Rattle.reg_service.specs.declared.delivery.Delivery.{Delivery}
+use Rattle.reg_service.specs.Deliveries.{Exchange, Kept, key_of, has_key, is_new, is_first, firsts_after, firsts, entry_of, kept_after, reply_after, IsDue, Answers, Serves}
+
+option_or_assoc : {A : Type 0} (a b c : Option A) → option_or (option_or a b) c ≡ option_or a (option_or b c)
+option_or_assoc (Some a) b c = refl
+option_or_assoc None b c = refl
+
+option_map-or : {A B : Type 0} (f : A → B) (a b : Option A) → option_map f (option_or a b) ≡ option_or (option_map f a) (option_map f b)
+option_map-or f (Some a) b = refl
+option_map-or f None b = refl
+
+pub option_or-none : {A : Type 0} (o : Option A) → option_or o None ≡ o
+option_or-none (Some a) = refl
+option_or-none None = refl
+
+-- without exchanges nothing more is kept
+pub kept_after-nil : (k : Kept) → kept_after k [] ≡ k
+kept_after-nil k = λ i key. option_or-none (k key) i
+
+kept_at : (k : Kept) (xs ys : List Exchange) (key : List ℕ) → kept_after k (xs ++ ys) key ≡ kept_after (kept_after k xs) ys key
+kept_at k xs ys key =
+    let p = λ (x : Exchange). has_key key x.0 in
+    ap (λ o. option_or (k key) (option_map entry_of o)) (find-append p xs ys)
+    ∙ (ap (option_or (k key)) (option_map-or entry_of (find p xs) (find p ys))
+    ∙ sym (option_or_assoc (k key) (option_map entry_of (find p xs)) (option_map entry_of (find p ys))))
+
+-- what is kept after both is what the second leave after the first
+pub kept_after-append : (k : Kept) (xs ys : List Exchange) → kept_after k (xs ++ ys) ≡ kept_after (kept_after k xs) ys
+kept_after-append k xs ys = λ i key. kept_at k xs ys key i
+
+-- nothing is found exactly where no element passes
+is_none-find : {A B : Type 0} (f : A → B) (p : A → Bool) (xs : List A) → is_none (option_map f (find p xs)) ≡ not (list_any p xs)
+is_none-find f p [] = refl
+is_none-find {A} f p (x ∷ xs) = by (p x) (is_none-find f p xs)
+  where
+    by : (b : Bool) → is_none (option_map f (find p xs)) ≡ not (list_any p xs)
+        → is_none (option_map f (cond b (Some x) (find p xs))) ≡ not (b || list_any p xs)
+    by true e = refl
+    by false e = e
+
+is_none-or : {A : Type 0} (a b : Option A) → is_none (option_or a b) ≡ is_none a && is_none b
+is_none-or (Some a) b = refl
+is_none-or None b = refl
+
+not-or : (a b c : Bool) → a && not (b || c) ≡ (a && not b) && not c
+not-or true true c = refl
+not-or true false c = refl
+not-or false b c = refl
+
+-- a key is new exactly where nothing is kept under it then
+pub is_none-kept_after : (k : Kept) (xs : List Exchange) (key : List ℕ) → is_none (kept_after k xs key) ≡ is_new k xs key
+is_none-kept_after k xs key =
+    let p = λ (x : Exchange). has_key key x.0 in
+    is_none-or (k key) (option_map entry_of (find p xs)) ∙ ap (λ b. is_none (k key) && b) (is_none-find entry_of p xs)
+
+-- a key is new after both where it is new to the second after the first
+is_new-append : (k : Kept) (xs ys : List Exchange) (key : List ℕ) → is_new k (xs ++ ys) key ≡ is_new (kept_after k xs) ys key
+is_new-append k xs ys key =
+    let p = λ (x : Exchange). has_key key x.0 in
+    ap (λ b. is_none (k key) && not b) (list_any-append p xs ys)
+    ∙ (not-or (is_none (k key)) (list_any p xs) (list_any p ys)
+    ∙ ap (λ b. b && not (list_any p ys)) (sym (is_none-kept_after k xs key)))
+
+-- and so is a delivery first
+pub is_first-append : (k : Kept) (xs ys : List Exchange) (d : Delivery) → is_first k (xs ++ ys) d ≡ is_first (kept_after k xs) ys d
+is_first-append k xs ys d = ap (λ b. is_write d.command && b) (by (key_of d))
+  where
+    by : (o : Option (List ℕ)) → option_map_or (is_new k (xs ++ ys)) o true ≡ option_map_or (is_new (kept_after k xs) ys) o true
+    by None = refl
+    by (Some key) = is_new-append k xs ys key
+
+-- what came before can be counted as kept
+firsts-shift : (k : Kept) (front before xs : List Exchange) → firsts_after k (front ++ before) xs ≡ firsts_after (kept_after k front) before xs
+firsts-shift k front before [] = refl
+firsts-shift k front before (x ∷ xs) =
+    let one = ap (λ (b : Bool). if b then x.0.command ∷ [] else []) (is_first-append k front before x.0) in
+    let rest = ap (λ (ys : List Exchange). firsts_after k ys xs) (append_assoc front before (x ∷ []))
+    ∙ firsts-shift k front (before ++ x ∷ []) xs in
+    λ i. one i ++ rest i
+
+-- the firsts of a rest in two parts
+firsts_after-append : (k : Kept) (before xs ys : List Exchange)
+    → firsts_after k before (xs ++ ys) ≡ firsts_after k before xs ++ firsts_after k (before ++ xs) ys
+firsts_after-append k before [] ys = ap (λ zs. firsts_after k zs ys) (sym (append-nil before))
+firsts_after-append k before (x ∷ xs) ys =
+    let one = if is_first k before x.0 then x.0.command ∷ [] else [] in
+    let rest = firsts_after-append k (before ++ x ∷ []) xs ys in
+    let seam = ap (λ (zs : List Exchange). firsts_after k zs ys) (append_assoc before (x ∷ []) xs) in
+    ap (λ cs. one ++ cs) rest
+    ∙ (sym (append_assoc one (firsts_after k (before ++ x ∷ []) xs) _)
+    ∙ ap (λ cs. (one ++ firsts_after k (before ++ x ∷ []) xs) ++ cs) seam)
+
+-- the firsts of both are those of the first, and those of the second after what is kept then
+pub firsts-append : (k : Kept) (xs ys : List Exchange) → firsts k (xs ++ ys) ≡ firsts k xs ++ firsts (kept_after k xs) ys
+firsts-append k xs ys =
+    firsts_after-append k [] xs ys
+    ∙ ap (λ cs. firsts k xs ++ cs)
+    (ap (λ (zs : List Exchange). firsts_after k zs ys) (sym (append-nil xs)) ∙ firsts-shift k xs [] ys)
+
+-- commands in two parts
+pub run_commands-append : (g : Registry) (a b : List Command) → run_commands g (a ++ b) ≡ run_commands (run_commands g a) b
+run_commands-append g [] b = refl
+run_commands-append g (c ∷ a) b = run_commands-append (step g c).0 a b
+
+-- the registry after both
+pub registry-append : (g : Registry) (k : Kept) (xs ys : List Exchange)
+    → run_commands g (firsts k (xs ++ ys)) ≡ run_commands (run_commands g (firsts k xs)) (firsts (kept_after k xs) ys)
+registry-append g k xs ys = ap (run_commands g) (firsts-append k xs ys) ∙ run_commands-append g (firsts k xs) (firsts (kept_after k xs) ys)
+
+-- what is due among the second is due there in both
+due_later : (g : Registry) (k : Kept) (xs more : List Exchange) (x : Exchange)
+    → IsDue (run_commands g (firsts k xs)) (kept_after k xs) more x.0 x.1 → IsDue g k (xs ++ more) x.0 x.1
+due_later g k xs more x h = record {
+  read = λ f. h.read f ∙ later;
+  first = λ f. h.first (sym (is_first-append k xs more x.0) ∙ f) ∙ later;
+  again = λ key entry some has. h.again key entry some (sym (kept_at k xs more key) ∙ has);
+  other = λ key entry some has. h.other key entry some (sym (kept_at k xs more key) ∙ has);
+}
+  where
+    later : reply_after (run_commands g (firsts k xs)) (kept_after k xs) more x.0.command ≡ reply_after g k (xs ++ more) x.0.command
+    later = ap (λ (state : Registry). (step state x.0.command).1) (sym (registry-append g k xs more))
+
+-- an element of two lists is one of the first or one of the second
+split : {A : Type 0} (xs ys before : List A) (x : A) (after : List A) → xs ++ ys ≡ before ++ x ∷ after
+    → ((rest : List A) × (xs ≡ before ++ x ∷ rest)) ⊎ ((more : List A) × (xs ++ more ≡ before) × (ys ≡ more ++ x ∷ after))
+split [] ys before x after e = inr (before, refl, e)
+split (y ∷ xs) ys [] x after e = let h : y ≡ x = cc in inl (xs, ap (λ z. z ∷ xs) h)
+split {A} (y ∷ xs) ys (b ∷ before) x after e =
+    let h : y ≡ b = cc in
+    let t : xs ++ ys ≡ before ++ x ∷ after = cc in
+    ⊎_elim
+    (λ (u : (rest : List A) × (xs ≡ before ++ x ∷ rest)). inl (u.0, λ i. h i ∷ u.1 i))
+    (λ (u : (more : List A) × (xs ++ more ≡ before) × (ys ≡ more ++ x ∷ after)). inr (u.0, (λ i. h i ∷ u.1 i), u.2))
+    (split xs ys before x after t)
+
+-- replies that are due in each part are due in both
+pub answers-append : (g : Registry) (k : Kept) (xs ys : List Exchange)
+    → Answers g k xs → Answers (run_commands g (firsts k xs)) (kept_after k xs) ys → Answers g k (xs ++ ys)
+answers-append g k xs ys p q before x after e =
+    ⊎_elim
+    (λ (u : (rest : List Exchange) × (xs ≡ before ++ x ∷ rest)). p before x u.0 u.1)
+    (λ (u : (more : List Exchange) × (xs ++ more ≡ before) × (ys ≡ more ++ x ∷ after)).
+    let P : List Exchange → Type 0 = λ zs. IsDue g k zs x.0 x.1 in
+    subst P u.1 (due_later g k xs u.0 x (q u.0 x after u.2)))
+    (split xs ys before x after e)
+
+-- What is served from one registry to a second, and from there to a third, is served from the first to the third.
+pub serves-append : (g g' g'' : Registry) (k k' k'' : Kept) (xs ys : List Exchange)
+    → Serves g k xs g' k' → Serves g' k' ys g'' k'' → Serves g k (xs ++ ys) g'' k''
+serves-append g g' g'' k k' k'' xs ys p q =
+    let P : Registry × Kept → Type 0 = λ s. Serves s.0 s.1 ys g'' k'' in
+    let h = subst P (λ i. (p.registry i, p.kept i)) q in
+    record {
+      registry = h.registry ∙ sym (registry-append g k xs ys);
+      kept = h.kept ∙ sym (kept_after-append k xs ys);
+      replies = answers-append g k xs ys p.replies h.replies;
+    }
+
+-- No exchange leads from a registry to itself.
+pub serves_none : (g g' : Registry) (k k' : Kept) → g' ≡ g → k' ≡ k → Serves g k [] g' k'
+serves_none g g' k k' e f = record { registry = e; kept = f ∙ sym (kept_after-nil k); replies = none }
+  where
+    none : Answers g k []
+    none [] x after h = absurd (cc)
+    none (b ∷ before) x after h = absurd (cc)

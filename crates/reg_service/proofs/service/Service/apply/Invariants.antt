@@ -1,0 +1,10 @@
+use Rattle.std.proofs.Common.{◌≡◌, drop}
+use Rattle.reg_core.specs.Views.{changed}
+use Rattle.reg_service.specs.Services.{registry_in, kept_in}
+use Rattle.reg_service.proofs.service.Service.apply.Given as goal
+
+abbrev pub invariant-loop-change : goal.invariant-loop-change
+invariant-loop-change l = record {
+  registry : changed (drop l.change-index l.changes) (registry_in l.self) ≡ changed l.changes (registry_in l.fn.self);
+  kept : kept_in l.self ≡ kept_in l.fn.self;
+}

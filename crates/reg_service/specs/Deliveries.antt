@@ -1,0 +1,116 @@
+-- Deliveries that may come again: which of them act, and what each is answered. All is said of whole
+-- lists. The Schema Registry API reference knows no retry keys: each definition here is this project's choice.
+use Rattle.std.specs.Prelude.{◌≡◌, ◌≢◌, ℕ, ◌==◌, Bool, true, false, not, ◌&&◌, IsTrue, IsFalse, List, [], ◌∷◌, ◌++◌, filter, find, map, bytes_eq, Option, Some, None, is_none, option_map, if◌then◌else◌}
+use Rattle.std.specs.List.{list_any}
+use Rattle.std.specs.Option.{option_or, option_map_or}
+use Rattle.reg_core.specs.declared.code.Code.TheVariants.{KeyReused, BackendFault}
+use Rattle.reg_core.specs.declared.command.Command.{Command}
+use Rattle.reg_core.specs.CommandTexts.{command_text}
+use Rattle.reg_core.specs.Machine.{is_write, step, run_commands}
+use Rattle.reg_core.specs.Registry.{Registry}
+use Rattle.reg_core.specs.Replies.{Told, fault}
+use Rattle.reg_service.specs.declared.delivery.Delivery.{Delivery}
+
+-- A delivery and the reply to it.
+abbrev pub Exchange : Type 0
+Exchange = Delivery × Told
+
+-- What is kept under a retry key: the text of its command, and its reply.
+pub record Entry : Type 0 where
+  pub text : List ℕ
+  pub reply : Told
+
+-- What is kept, by key.
+abbrev pub Kept : Type 0
+Kept = List ℕ → Option Entry
+
+-- Nothing is kept.
+abbrev pub nothing_kept : Kept
+nothing_kept key = None
+
+-- The retry key of a write, if it has one. A read has none: a key beside it is ignored.
+abbrev pub key_of : Delivery → Option (List ℕ)
+key_of d = if is_write d.command then d.key else None
+
+-- The delivery is a write with this key.
+abbrev pub has_key : List ℕ → Delivery → Bool
+has_key key d = option_map_or (bytes_eq key) (key_of d) false
+
+-- Nothing is kept under the key, and no earlier write has it.
+abbrev pub is_new : Kept → List Exchange → List ℕ → Bool
+is_new k before key = is_none (k key) && not (list_any (λ x. has_key key x.0) before)
+
+-- A delivery that comes after k and the exchanges `before` is first where it is a write whose key
+-- is new, or that has none.
+abbrev pub is_first : Kept → List Exchange → Delivery → Bool
+is_first k before d = is_write d.command && option_map_or (is_new k before) (key_of d) true
+
+-- The commands of the first deliveries of a list that comes after `before`, in order.
+abbrev pub firsts_after : Kept → List Exchange → List Exchange → List Command
+firsts_after k before [] = []
+firsts_after k before (x ∷ xs) =
+    (if is_first k before x.0 then x.0.command ∷ [] else []) ++ firsts_after k (before ++ x ∷ []) xs
+
+-- The commands of the first deliveries of a whole list, in order.
+abbrev pub firsts : Kept → List Exchange → List Command
+firsts k xs = firsts_after k [] xs
+
+-- What an exchange leaves under its key.
+abbrev pub entry_of : Exchange → Entry
+entry_of x = record { text = command_text x.0.command; reply = x.1 }
+
+-- What is kept after the list: what was kept before, and under each other key the text and the
+-- reply of the first write with it.
+abbrev pub kept_after : Kept → List Exchange → Kept
+kept_after k xs key = option_or (k key) (option_map entry_of (find (λ x. has_key key x.0) xs))
+
+-- The plain machine's reply to a command, after the first deliveries among the exchanges `before`.
+abbrev pub reply_after : Registry → Kept → List Exchange → Command → Told
+reply_after g k before command = (step (run_commands g (firsts k before)) command).1
+
+-- The reply that is due to a delivery that comes after the exchanges `before`.
+pub record IsDue (g : Registry) (k : Kept) (before : List Exchange) (d : Delivery) (reply : Told) : Type 0 where
+  -- A read and a first delivery are carried out.
+  pub read : IsFalse (is_write d.command) → reply ≡ reply_after g k before d.command
+  pub first : IsTrue (is_first k before d) → reply ≡ reply_after g k before d.command
+  -- A key that comes with its own command again gets the reply that it has.
+  pub again : (key : List ℕ) (entry : Entry) → key_of d ≡ Some key → kept_after k before key ≡ Some entry
+      → command_text d.command ≡ entry.text → reply ≡ entry.reply
+  -- A key that comes with another command is refused.
+  pub other : (key : List ℕ) (entry : Entry) → key_of d ≡ Some key → kept_after k before key ≡ Some entry
+      → command_text d.command ≢ entry.text → reply ≡ fault KeyReused
+
+-- Each exchange, at its place in the list, has the reply that is due there.
+abbrev pub Answers : Registry → Kept → List Exchange → Type 0
+Answers g k xs = (before : List Exchange) (x : Exchange) (after : List Exchange)
+    → xs ≡ before ++ x ∷ after → IsDue g k before x.0 x.1
+
+-- The exchanges lead from the registry g and the kept replies k to g' and k': the registry is the plain
+-- machine's after the first deliveries, each once; these are kept; and each reply is the one that is due.
+pub record Serves (g : Registry) (k : Kept) (xs : List Exchange) (g' : Registry) (k' : Kept) : Type 0 where
+  pub registry : g' ≡ run_commands g (firsts k xs)
+  pub kept : k' ≡ kept_after k xs
+  pub replies : Answers g k xs
+
+-- The reply is that of the code 50001, status and body.
+abbrev pub is_backend_fault : Told → Bool
+is_backend_fault reply = reply.status == (fault BackendFault).status && bytes_eq reply.body (fault BackendFault).body
+
+-- The exchanges that count: those whose reply isn't that of 50001.
+abbrev pub served : List Exchange → List Exchange
+served xs = filter (λ x. not (is_backend_fault x.1)) xs
+
+-- Two writes with the same key and the same command have the same reply.
+abbrev pub RepeatsAgree : List Exchange → Type 0
+RepeatsAgree xs =
+    (before : List Exchange) (x : Exchange) (between : List Exchange) (y : Exchange) (after : List Exchange) (key : List ℕ)
+    → xs ≡ before ++ x ∷ (between ++ y ∷ after) → key_of x.0 ≡ Some key → key_of y.0 ≡ Some key
+    → command_text x.0.command ≡ command_text y.0.command → x.1 ≡ y.1
+
+-- No other replies to these deliveries would be due.
+abbrev pub NoOtherAnswers : Registry → Kept → List Exchange → Type 0
+NoOtherAnswers g k xs = (ys : List Exchange) → map (λ y. y.0) ys ≡ map (λ x. x.0) xs → Answers g k ys → ys ≡ xs
+
+-- What was kept is kept still.
+abbrev pub KeepsAll : Kept → Kept → Type 0
+KeepsAll k k' = (key : List ℕ) (entry : Entry) → k key ≡ Some entry → k' key ≡ Some entry

@@ -1,0 +1,11 @@
+//! Retry keys: a delivery that comes again is carried out once, and gets its first reply.
+#![tactic(auto)]
+
+mod delivery;
+mod error;
+mod kept;
+mod service;
+
+pub use delivery::Delivery;
+pub use error::OutOfMemory;
+pub use service::Service;
