@@ -1,0 +1,10 @@
+mod Bytes
+mod FieldLemmas
+mod Fronts
+mod Keys
+mod Statuses
+mod Serving
+mod Carrying
+mod Ends
+mod Unique
+mod WorkedRows

@@ -1,0 +1,503 @@
+//! Tests of what no clause says: the rows of bytes, whole and in pieces, and what fails in mid-stream.
+use crate::job::{Job, Opened, do_job};
+use crate::stream::{Ended, run_on};
+use reg_service::Service;
+use std::alloc::{AllocError, Global};
+use std::io::{self, Read, Write};
+use std::process::Abort;
+use std::str;
+use std::test::Fail;
+
+const SET_FULL: &str =
+    "PUT /config HTTP/1.1\r\nHost: x\r\nRegistry-Retry-Key: k1\r\nContent-Length: 24\r\n\r\n{\"compatibility\":\"FULL\"}";
+
+const SET_NONE: &str =
+    "PUT /config HTTP/1.1\r\nHost: x\r\nRegistry-Retry-Key: k1\r\nContent-Length: 24\r\n\r\n{\"compatibility\":\"NONE\"}";
+
+const FULL_SET: &str =
+    "HTTP/1.1 200 OK\r\nContent-Type: application/vnd.schemaregistry.v1+json\r\nContent-Length: 24\r\n\r\n{\"compatibility\":\"FULL\"}";
+
+const KEY_REUSED: &str =
+    "HTTP/1.1 422 Unprocessable Entity\r\nContent-Type: application/vnd.schemaregistry.v1+json\r\nContent-Length: 71\r\n\r\n{\"error_code\":42290,\"message\":\"Retry key was used for another request\"}";
+
+const IS_FULL: &str =
+    "HTTP/1.1 200 OK\r\nContent-Type: application/vnd.schemaregistry.v1+json\r\nContent-Length: 29\r\n\r\n{\"compatibilityLevel\":\"FULL\"}";
+
+const IS_BACKWARD: &str =
+    "HTTP/1.1 200 OK\r\nContent-Type: application/vnd.schemaregistry.v1+json\r\nContent-Length: 33\r\n\r\n{\"compatibilityLevel\":\"BACKWARD\"}";
+
+const NOT_FOUND: &str =
+    "HTTP/1.1 404 Not Found\r\nContent-Type: application/vnd.schemaregistry.v1+json\r\nContent-Length: 40\r\n\r\n{\"error_code\":404,\"message\":\"Not found\"}";
+
+const MALFORMED: &str =
+    "HTTP/1.1 400 Bad Request\r\nContent-Type: application/vnd.schemaregistry.v1+json\r\nContent-Length: 50\r\n\r\n{\"error_code\":40001,\"message\":\"Malformed request\"}";
+
+const MALFORMED_LAST: &str =
+    "HTTP/1.1 400 Bad Request\r\nContent-Type: application/vnd.schemaregistry.v1+json\r\nContent-Length: 50\r\nConnection: close\r\n\r\n{\"error_code\":40001,\"message\":\"Malformed request\"}";
+
+const TOO_LARGE: &str =
+    "HTTP/1.1 413 Payload Too Large\r\nContent-Type: application/vnd.schemaregistry.v1+json\r\nContent-Length: 45\r\nConnection: close\r\n\r\n{\"error_code\":413,\"message\":\"Body too large\"}";
+
+const CODED: &str =
+    "HTTP/1.1 501 Not Implemented\r\nContent-Type: application/vnd.schemaregistry.v1+json\r\nContent-Length: 60\r\nConnection: close\r\n\r\n{\"error_code\":501,\"message\":\"Transfer coding not supported\"}";
+
+const NOT_ALLOWED: &str =
+    "HTTP/1.1 405 Method Not Allowed\r\nContent-Type: application/vnd.schemaregistry.v1+json\r\nAllow: GET, PUT\r\nContent-Length: 49\r\n\r\n{\"error_code\":405,\"message\":\"Method not allowed\"}";
+
+const NO_LEVEL: &str =
+    "HTTP/1.1 422 Unprocessable Entity\r\nContent-Type: application/vnd.schemaregistry.v1+json\r\nContent-Length: 60\r\n\r\n{\"error_code\":42203,\"message\":\"Invalid compatibility level\"}";
+
+/// A reader that gives so many bytes at a time, and fails once its reads are used up.
+#[derive(Drop)]
+struct Pieces<'a> {
+    left: &'a [u8],
+    size: usize,
+    reads: usize,
+}
+
+impl<'a> Read for Pieces<'a> {
+    fn read(&mut self, buf: &mut [u8]) -> io::Result<usize> {
+        if self.reads == 0 {
+            return Err(io::Error::from(io::ErrorKind::BrokenPipe));
+        }
+        self.reads -= 1;
+        let n = self.size.min(self.left.len()).min(buf.len());
+        buf[..n].copy_from_slice(&self.left[..n]);
+        self.left = &self.left[n..];
+        Ok(n)
+    }
+}
+
+fn in_pieces(text: &[u8], size: usize) -> Pieces<'_> {
+    Pieces {
+        left: text,
+        size,
+        reads: usize::MAX,
+    }
+}
+
+/// A writer that takes a byte at a time, and fails or takes nothing once its writes are used up.
+#[derive(Drop)]
+struct Failing {
+    taken: Vec<u8>,
+    writes: usize,
+    takes_nothing: bool,
+}
+
+impl Write for Failing {
+    fn write(&mut self, buf: &[u8]) -> io::Result<usize> {
+        if self.writes == 0 && self.takes_nothing {
+            return Ok(0);
+        }
+        if self.writes == 0 || buf.is_empty() {
+            return Err(io::Error::from(io::ErrorKind::BrokenPipe));
+        }
+        self.writes -= 1;
+        self.taken.extend_from_slice(&buf[..1])?;
+        Ok(1)
+    }
+
+    fn flush(&mut self) -> io::Result<()> {
+        Ok(())
+    }
+}
+
+/// What is written for an input that comes in pieces of so many bytes, and how it ends.
+fn session(alloc: Global, service: &mut Service, input: &[u8], size: usize) -> (Vec<u8>, Ended) {
+    let mut written = Vec::new(alloc);
+    let ended = run_on(alloc, &mut in_pieces(input, size), &mut written, service);
+    (written, ended)
+}
+
+/// The parts, one after the other.
+fn joined(alloc: Global, parts: &[&str]) -> Result<Vec<u8>, AllocError> {
+    let mut text = Vec::new(alloc);
+    for part in parts {
+        text.extend_from_slice(part.as_bytes())?;
+    }
+    Ok(text)
+}
+
+/// A request for a path with a body, and perhaps further fields.
+fn request(alloc: Global, line: &str, fields: &str, body: &str) -> Result<String, AllocError> {
+    let length = body.len();
+    format!(in alloc; "{line} HTTP/1.1\r\n{fields}Content-Length: {length}\r\n\r\n{body}")
+}
+
+/// Holds the input, whole and a byte a read, to the output and the end, each on a new registry.
+fn expect(
+    rt: &(impl Abort + AllocGlobal),
+    input: &[&str],
+    output: &[&str],
+    end: Ended,
+) -> Result<(), Fail> {
+    let input = joined(rt.alloc(), input)?;
+    let output = joined(rt.alloc(), output)?;
+    for size in [1, 3, 64, 1_000_000] {
+        let mut service = Service::new(rt.alloc());
+        let (written, ended) = session(rt.alloc(), &mut service, input.as_slice(), size);
+        assert_eq!(rt;
+            str::from_utf8(written.as_slice()),
+            str::from_utf8(output.as_slice())
+        );
+        assert!(rt; ended == end);
+    }
+    Ok(())
+}
+
+#[test]
+fn a_repeat_gets_its_first_answer(rt: HostRuntime) -> Result<(), Fail> {
+    expect(
+        &rt,
+        &[SET_FULL, SET_FULL],
+        &[FULL_SET, FULL_SET],
+        Ended::Closed,
+    )?;
+    expect(
+        &rt,
+        &[SET_FULL, SET_FULL, SET_NONE, "GET /config HTTP/1.1\r\n\r\n"],
+        &[FULL_SET, FULL_SET, KEY_REUSED, IS_FULL],
+        Ended::Closed,
+    )?;
+    let refused = request(
+        rt.alloc(),
+        "PUT /config",
+        "registry-retry-key: k2\r\n",
+        "{\"compatibility\":\"full\"}",
+    )?;
+    expect(
+        &rt,
+        &[
+            refused.as_str(),
+            SET_FULL,
+            refused.as_str(),
+            "GET /config HTTP/1.1\r\n\r\n",
+        ],
+        &[NO_LEVEL, FULL_SET, NO_LEVEL, IS_FULL],
+        Ended::Closed,
+    )
+}
+
+#[test]
+fn routes_are_told_apart(rt: HostRuntime) -> Result<(), Fail> {
+    let rows = [
+        ("GET /config HTTP/1.1\r\n\r\n", IS_BACKWARD),
+        (
+            "GET /config?defaultToGlobal=true HTTP/1.1\r\n\r\n",
+            IS_BACKWARD,
+        ),
+        ("\r\n\r\nGET /config HTTP/1.0\r\n\r\n", IS_BACKWARD),
+        (
+            "GET /config HTTP/1.1\r\nRegistry-Retry-Key: no key\r\nRegistry-Retry-Key: 2\r\n\r\n",
+            IS_BACKWARD,
+        ),
+        ("GET /nothing HTTP/1.1\r\n\r\n", NOT_FOUND),
+        ("PATCH /nothing HTTP/1.1\r\n\r\n", NOT_FOUND),
+        ("GET /config/ HTTP/1.1\r\n\r\n", NOT_FOUND),
+        ("GET /%63onfig HTTP/1.1\r\n\r\n", NOT_FOUND),
+        ("PATCH /config HTTP/1.1\r\n\r\n", NOT_ALLOWED),
+        ("get /config HTTP/1.1\r\n\r\n", NOT_ALLOWED),
+        ("PUT /config HTTP/1.1\r\n\r\n", MALFORMED),
+    ];
+    for (input, output) in rows {
+        expect(
+            &rt,
+            &[input, "GET /config HTTP/1.1\r\n\r\n"],
+            &[output, IS_BACKWARD],
+            Ended::Closed,
+        )?;
+    }
+    Ok(())
+}
+
+#[test]
+fn bodies_and_keys_are_checked(rt: HostRuntime) -> Result<(), Fail> {
+    let key_of_64 =
+        "Registry-Retry-Key: 0123456789012345678901234567890123456789012345678901234567890.-_\r\n";
+    let key_of_65 =
+        "Registry-Retry-Key: 0123456789012345678901234567890123456789012345678901234567890.-_a\r\n";
+    let rows = [
+        ("", "{\"compatibility\":\"FULL\"}", FULL_SET),
+        (
+            "",
+            "{\"other\":[1.5],\"compatibility\":\"F\\u0055LL\"}",
+            FULL_SET,
+        ),
+        (key_of_64, "{\"compatibility\":\"FULL\"}", FULL_SET),
+        (key_of_65, "{\"compatibility\":\"FULL\"}", MALFORMED),
+        (
+            "Registry-Retry-Key: a\r\nregistry-retry-key: a\r\n",
+            "{\"compatibility\":\"FULL\"}",
+            MALFORMED,
+        ),
+        (
+            "Registry-Retry-Key:\r\n",
+            "{\"compatibility\":\"FULL\"}",
+            MALFORMED,
+        ),
+        (
+            "Registry-Retry-Key: a b\r\n",
+            "{\"compatibility\":\"FULL\"}",
+            MALFORMED,
+        ),
+        ("", "{\"compatibility\":\"NULL\"}", NO_LEVEL),
+        ("", "{\"compatibility\":null}", MALFORMED),
+        ("", "{\"compatibility\":\"FULL\"", MALFORMED),
+        ("", "[]", MALFORMED),
+        ("", "\"compatibility\"", MALFORMED),
+        ("", "", MALFORMED),
+    ];
+    for (fields, body, output) in rows {
+        let input = request(rt.alloc(), "PUT /config", fields, body)?;
+        expect(&rt, &[input.as_str()], &[output], Ended::Closed)?;
+    }
+    let mut service = Service::new(rt.alloc());
+    let (written, ended) = session(
+        rt.alloc(),
+        &mut service,
+        b"PUT /config HTTP/1.1\r\nContent-Length: 22\r\n\r\n{\"compatibility\":\"\xff\xff\"}",
+        7,
+    );
+    assert_eq!(rt; str::from_utf8(written.as_slice()), Ok(MALFORMED));
+    assert!(rt; ended == Ended::Closed);
+    Ok(())
+}
+
+#[test]
+fn what_is_no_message_ends_the_session(rt: HostRuntime) -> Result<(), Fail> {
+    let rows = [
+        (
+            "PUT /config HTTP/1.1\r\nTransfer-Encoding: chunked\r\nContent-Length: 1048577\r\n\r\n",
+            CODED,
+        ),
+        (
+            "PUT /config HTTP/1.1\r\nContent-Length: 1048577\r\ntransfer-encoding: gzip\r\n\r\n",
+            CODED,
+        ),
+        (
+            "PUT /config HTTP/1.1\r\nContent-Length: 1048577\r\n\r\n",
+            TOO_LARGE,
+        ),
+        (
+            "PUT /config HTTP/1.1\r\nContent-Length: 9999999999999999999\r\n\r\n",
+            TOO_LARGE,
+        ),
+        (
+            "PUT /config HTTP/1.1\r\nContent-Length: 99999999999999999999\r\n\r\n",
+            MALFORMED_LAST,
+        ),
+        (
+            "PUT /config HTTP/1.1\r\nContent-Length: 1\r\ncontent-length: 1\r\n\r\n",
+            MALFORMED_LAST,
+        ),
+        (
+            "PUT /config HTTP/1.1\r\nContent-Length: +1\r\n\r\n",
+            MALFORMED_LAST,
+        ),
+        (
+            "PUT /config HTTP/1.1\r\nContent-Length:\r\n\r\n",
+            MALFORMED_LAST,
+        ),
+        ("GET /config HTTP/2\r\n\r\n", MALFORMED_LAST),
+        ("GET (config) HTTP/1.1\r\nno field\r\n\r\n", MALFORMED_LAST),
+    ];
+    for (input, output) in rows {
+        expect(
+            &rt,
+            &[SET_FULL, input, SET_FULL],
+            &[FULL_SET, output],
+            Ended::Malformed,
+        )?;
+    }
+    for cut in [
+        "GET /con",
+        "\r\n",
+        "GET /config HTTP/1.1\r\n",
+        "PUT /config HTTP/1.1\r\nContent-Length: 24\r\n\r\n{\"comp",
+    ] {
+        expect(&rt, &[SET_FULL, cut], &[FULL_SET], Ended::Malformed)?;
+    }
+    expect(&rt, &[], &[], Ended::Closed)
+}
+
+#[test]
+fn a_head_has_16384_bytes(rt: HostRuntime) -> Result<(), Fail> {
+    let begin = "GET /config HTTP/1.1\r\nX: ";
+    for (room, output, end) in [
+        (16_384, IS_BACKWARD, Ended::Closed),
+        (16_385, MALFORMED_LAST, Ended::Malformed),
+    ] {
+        let mut head = joined(rt.alloc(), &[begin])?;
+        for _ in 0..room - 29 {
+            head.push(b'x')?;
+        }
+        head.extend_from_slice(b"\r\n\r\n")?;
+        assert_eq!(rt; head.len(), room);
+        let mut service = Service::new(rt.alloc());
+        let (written, ended) = session(rt.alloc(), &mut service, head.as_slice(), 1000);
+        assert_eq!(rt; str::from_utf8(written.as_slice()), Ok(output));
+        assert!(rt; ended == end);
+    }
+    Ok(())
+}
+
+#[test]
+fn a_body_has_1048576_bytes(rt: HostRuntime) -> Result<(), Fail> {
+    let mut input = joined(
+        rt.alloc(),
+        &["PUT /config HTTP/1.1\r\nContent-Length: 1048576\r\n\r\n{\"compatibility\":\"FULL\"}"],
+    )?;
+    for _ in 24..1_048_576 {
+        input.push(b' ')?;
+    }
+    let mut service = Service::new(rt.alloc());
+    let (written, ended) = session(rt.alloc(), &mut service, input.as_slice(), 5000);
+    assert_eq!(rt; str::from_utf8(written.as_slice()), Ok(FULL_SET));
+    assert!(rt; ended == Ended::Closed);
+    Ok(())
+}
+
+/// How many whole messages of two equal ones are in the first bytes, and whether more stands behind them.
+fn whole_in(n: usize) -> (usize, bool) {
+    let one = SET_FULL.len();
+    if n < one { (0, n != 0) } else { (1, n != one) }
+}
+
+#[test]
+fn each_beginning_of_the_input(rt: HostRuntime) -> Result<(), Fail> {
+    let input = joined(rt.alloc(), &[SET_FULL, SET_FULL])?;
+    for n in 0..input.len() {
+        let mut service = Service::new(rt.alloc());
+        let (written, ended) = session(rt.alloc(), &mut service, &input[..n], 1000);
+        let (answers, more) = whole_in(n);
+        let output = if answers == 0 { "" } else { FULL_SET };
+        assert_eq!(rt; str::from_utf8(written.as_slice()), Ok(output), "{n} bytes");
+        assert!(rt;
+            ended
+                == if more {
+                    Ended::Malformed
+                } else {
+                    Ended::Closed
+                },
+            "{n} bytes"
+        );
+    }
+    Ok(())
+}
+
+#[test]
+fn each_read_fails_in_turn(rt: HostRuntime) -> Result<(), Fail> {
+    let input = joined(rt.alloc(), &[SET_FULL, SET_FULL])?;
+    let output = joined(rt.alloc(), &[FULL_SET, FULL_SET])?;
+    for reads in 0..input.len() {
+        let mut service = Service::new(rt.alloc());
+        let mut written = Vec::new(rt.alloc());
+        let mut reader = Pieces {
+            left: input.as_slice(),
+            size: 1,
+            reads,
+        };
+        let ended = run_on(rt.alloc(), &mut reader, &mut written, &mut service);
+        assert!(rt; ended == Ended::ReadFailed);
+        let answered = if whole_in(reads).0 == 0 { "" } else { FULL_SET };
+        assert_eq!(rt;
+            str::from_utf8(written.as_slice()),
+            Ok(answered),
+            "{reads} reads"
+        );
+        let (again, ended) = session(rt.alloc(), &mut service, input.as_slice(), 1000);
+        assert_eq!(rt; again.as_slice(), output.as_slice());
+        assert!(rt; ended == Ended::Closed);
+    }
+    Ok(())
+}
+
+#[test]
+fn each_write_fails_in_turn(rt: HostRuntime) -> Result<(), Fail> {
+    let input = joined(rt.alloc(), &[SET_FULL, SET_FULL])?;
+    let output = joined(rt.alloc(), &[FULL_SET, FULL_SET])?;
+    for takes_nothing in [false, true] {
+        for writes in 0..output.len() {
+            let mut service = Service::new(rt.alloc());
+            let mut writer = Failing {
+                taken: Vec::new(rt.alloc()),
+                writes,
+                takes_nothing,
+            };
+            let ended = run_on(
+                rt.alloc(),
+                &mut in_pieces(input.as_slice(), 1000),
+                &mut writer,
+                &mut service,
+            );
+            assert!(rt; ended == Ended::WriteFailed);
+            assert_eq!(rt; writer.taken.as_slice(), &output[..writes]);
+            let (again, ended) = session(rt.alloc(), &mut service, input.as_slice(), 1000);
+            assert_eq!(rt; again.as_slice(), output.as_slice());
+            assert!(rt; ended == Ended::Closed);
+        }
+    }
+    Ok(())
+}
+
+#[test]
+fn a_job_has_a_status_and_a_line(rt: HostRuntime) -> Result<(), Fail> {
+    let rows = [
+        (SET_FULL, FULL_SET, 0, ""),
+        ("GET /con", "", 2, "avroreg: malformed input\n"),
+    ];
+    for (input, output, status, line) in rows {
+        let mut written = Vec::new(rt.alloc());
+        let mut told = Vec::new(rt.alloc());
+        let got = do_job(
+            rt.alloc(),
+            Job::Run,
+            Opened::Nothing,
+            &mut input.as_bytes(),
+            &mut written,
+            &mut told,
+        );
+        assert_eq!(rt; str::from_utf8(written.as_slice()), Ok(output));
+        assert_eq!(rt; str::from_utf8(told.as_slice()), Ok(line));
+        assert_eq!(rt; got, status);
+    }
+    let mut told = Vec::new(rt.alloc());
+    let mut reader = Pieces {
+        left: b"",
+        size: 1,
+        reads: 0,
+    };
+    let got = do_job(
+        rt.alloc(),
+        Job::Run,
+        Opened::Nothing,
+        &mut reader,
+        &mut Vec::new(rt.alloc()),
+        &mut told,
+    );
+    assert_eq!(rt;
+        str::from_utf8(told.as_slice()),
+        Ok("avroreg: read failed\n")
+    );
+    assert_eq!(rt; got, 2);
+    let mut writer = Failing {
+        taken: Vec::new(rt.alloc()),
+        writes: 3,
+        takes_nothing: true,
+    };
+    let mut told = Vec::new(rt.alloc());
+    let got = do_job(
+        rt.alloc(),
+        Job::Run,
+        Opened::Nothing,
+        &mut SET_FULL.as_bytes(),
+        &mut writer,
+        &mut told,
+    );
+    assert_eq!(rt;
+        str::from_utf8(told.as_slice()),
+        Ok("avroreg: write failed\n")
+    );
+    assert_eq!(rt; got, 2);
+    Ok(())
+}
