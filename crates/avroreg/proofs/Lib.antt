@@ -8,3 +8,4 @@ mod Carrying
 mod Ends
 mod Unique
 mod WorkedRows
+mod Telling

@@ -8,4 +8,5 @@ pub mod Answers
 pub mod Output
 pub mod Sessions
 pub mod Steps
+pub mod Files
 pub mod Jobs

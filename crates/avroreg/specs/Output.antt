@@ -1,6 +1,7 @@
 -- What is written for messages and their replies, and which replies are due.
-use Rattle.std.specs.Prelude.{◌≡◌, ◌⊎◌, ℕ, List, [], ◌∷◌, ◌++◌, Result, Ok, Err}
+use Rattle.std.specs.Prelude.{◌≡◌, ◌⊎◌, ℕ, List, [], ◌∷◌, ◌++◌, Result, Ok, Err, Option}
 use Rattle.std.specs.List.{flat_map}
+use Rattle.std.specs.Io.KnownBytes.{Appends}
 use Rattle.reg_core.specs.declared.code.Code.{Code}
 use Rattle.reg_core.specs.declared.code.Code.TheVariants.{BackendFault}
 use Rattle.reg_core.specs.Replies.{Told, fault}
@@ -56,6 +57,10 @@ output xs tail = answers xs ++ tail_answer tail
 -- a beginning of it
 abbrev pub IsFront : List ℕ → List ℕ → Type 0
 IsFront front all = (rest : List ℕ) × (front ++ rest ≡ all)
+
+-- a beginning of all was written
+abbrev pub Begins : Option (List ℕ) → Option (List ℕ) → List ℕ → Type 0
+Begins old new all = (part : List ℕ) × IsFront part all × Appends old new part
 
 -- All answers but the last were written, and a beginning of that; or all of them, and a beginning of a fault's.
 abbrev pub IsCutShort : List Answered → List ℕ → List ℕ → Type 0

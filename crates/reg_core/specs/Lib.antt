@@ -7,3 +7,4 @@ pub mod Registry
 pub mod Machine
 pub mod CommandTexts
 pub mod Views
+pub mod Compatibility

@@ -19,3 +19,9 @@ impl<T: Drop> From<AllocFailed<T>> for OutOfMemory {
         OutOfMemory
     }
 }
+
+impl From<avro_resolve::OutOfMemory> for OutOfMemory {
+    fn from(_error: avro_resolve::OutOfMemory) -> OutOfMemory {
+        OutOfMemory
+    }
+}

@@ -4,6 +4,7 @@
 
 mod code;
 mod command;
+mod compatibility;
 mod decision;
 mod error;
 mod key;
@@ -15,6 +16,7 @@ mod text;
 
 pub use code::Code;
 pub use command::{Command, print_of};
+pub use compatibility::admits;
 pub use decision::{Change, Decision, View, decide};
 pub use error::OutOfMemory;
 pub use key::Key;

@@ -1,0 +1,136 @@
+-- What is written for nodes with whole numbers has such numbers alone, and nests no deeper than JSON is read.
+use Rattle.std.proofs.Common.{◌≡◌, ℕ, zero, suc, ◌+◌, ◌≤◌, List, [], ◌∷◌, Bool, true, false, ◌&&◌, nat_le, Option, Some, None, refl, arith, rules, tests}
+use Rattle.std.specs.Prelude.{slice_get, IsTrue}
+use Rattle.std.specs.List.{list_all, AllByRecursion}
+use Rattle.std.proofs.lemmas.Bool.{false≢true}
+use Rattle.serde_json.specs.Data.{Num, negative, float, Data, null, boolean, string, number, unsigned, object, Items, no_items, item, Members, no_members, member, depth, items_depth, members_depth}
+use Rattle.serde_json.specs.Data as json
+use Rattle.serde_json.specs.Find.{is_float}
+use Rattle.serde_json.specs.Written.{has_float, items_have_float, members_have_float}
+use Rattle.avro_nodes.specs.Nodes.{FieldView, NodeView, primitive, array, mapping, union, enumeration, fixed, rec}
+use Rattle.avro_nodes.specs.Identity.{texts, identity_value, max_nesting, members_pass, value_passes, field_passes, node_passes, nodes_pass, nests_within}
+use Rattle.avro_nodes.specs.Whole.{is_whole_number, has_whole_numbers, items_have_whole_numbers, members_have_whole_numbers}
+use Rattle.avro_nodes.proofs.Carried.{AllMembers, AllItems, OfValue, OfField, OfNode, OfNodeAt, spelt_is}
+
+pub both : (a b : Bool) → (a && b) ≡ true → (a ≡ true) × (b ≡ true)
+both true b e = (refl, e)
+both false b e = absurd (false≢true e)
+
+-- ---- what passes a test
+
+module _ (test : Data → Bool) where
+  abbrev Passes : Data → Type 0
+  Passes d = test d ≡ true
+
+  of_members : (ms : Members) → members_pass test ms ≡ true → AllMembers Passes ms
+  of_members no_members e = tt
+  of_members (member k d ms) e = let h = both (test d) (members_pass test ms) e in (h.0, of_members ms h.1)
+
+  of_value : (o : Option Data) → value_passes test o ≡ true → OfValue Passes o
+  of_value None e = tt
+  of_value (Some d) e = e
+
+  of_fields : (fs : List FieldView) → list_all (field_passes test) fs ≡ true → AllByRecursion (OfField Passes) fs
+  of_fields [] e = tt
+  of_fields (f ∷ fs) e =
+      let h = both (field_passes test f) (list_all (field_passes test) fs) e in
+      let g = both (value_passes test f.value) (members_pass test f.extra) h.0 in
+      ((of_value f.value g.0, of_members f.extra g.1), of_fields fs h.1)
+
+  of_node : (node : NodeView) → node_passes test node ≡ true → OfNode Passes node
+  of_node (primitive kind extra) e = of_members extra e
+  of_node (array items extra) e = of_members extra e
+  of_node (mapping values extra) e = of_members extra e
+  of_node (union branches) e = tt
+  of_node (enumeration named symbols fallback extra) e = of_members extra e
+  of_node (fixed named size extra) e = let h = both (test (number (unsigned size))) (members_pass test extra) e in (h.0, of_members extra h.1)
+  of_node (rec named fields extra) e =
+      let h = both (list_all (field_passes test) fields) (members_pass test extra) e in
+      (of_fields fields h.0, of_members extra h.1)
+
+  of_nodes : (nodes : List NodeView) → list_all (node_passes test) nodes ≡ true → (i : ℕ) → OfNodeAt Passes (slice_get nodes i)
+  of_nodes [] e i = tt
+  of_nodes (node ∷ nodes) e zero = of_node node (both (node_passes test node) (list_all (node_passes test) nodes) e).0
+  of_nodes (node ∷ nodes) e (suc i) = of_nodes nodes (both (node_passes test node) (list_all (node_passes test) nodes) e).1 i
+
+  nodes_are : (nodes : List NodeView) → IsTrue (nodes_pass test nodes) → (i : ℕ) → OfNodeAt Passes (slice_get nodes i)
+  unfolding nodes_pass
+  nodes_are nodes e = of_nodes nodes e
+
+-- ---- whole numbers
+
+abbrev Whole : Data → Type 0
+Whole d = has_whole_numbers d ≡ true
+
+whole_members : (ms : Members) → AllMembers Whole ms → members_have_whole_numbers ms ≡ true
+whole_members no_members h = refl
+whole_members (member k d ms) h = rw (h.0) (whole_members ms h.1)
+
+whole_items : (ds : Items) → AllItems Whole ds → items_have_whole_numbers ds ≡ true
+whole_items no_items h = refl
+whole_items (item d ds) h = rw (h.0) (whole_items ds h.1)
+
+whole_texts : (ts : List (List ℕ)) → items_have_whole_numbers (texts ts) ≡ true
+whole_texts [] = refl
+whole_texts (t ∷ ts) = whole_texts ts
+
+pub identity_is_whole : (nodes : List NodeView) → IsTrue (nodes_pass has_whole_numbers nodes) → has_whole_numbers (identity_value nodes) ≡ true
+identity_is_whole nodes e =
+    spelt_is Whole (λ _ d. Whole d) (λ n d h. h) (λ n k d h. h) (λ n. refl) (λ n t. refl) (λ n ts. whole_texts ts) (λ n ds h. whole_items ds h) (λ n ms h. whole_members ms h) max_nesting nodes
+    (nodes_are has_whole_numbers nodes e) [] 0 0
+
+whole_not_float : (n : Num) → is_whole_number n ≡ true → is_float n ≡ false
+whole_not_float (unsigned n) e = refl
+whole_not_float (negative z) e = refl
+whole_not_float (float x) e = absurd (false≢true e)
+
+mutual
+  pub no_float : (d : Data) → has_whole_numbers d ≡ true → has_float d ≡ false
+  no_float null e = refl
+  no_float (boolean b) e = refl
+  no_float (number n) e = whole_not_float n e
+  no_float (string s) e = refl
+  no_float (json.array ds) e = no_float_items ds e
+  no_float (object ms) e = no_float_members ms e
+
+  no_float_items : (ds : Items) → items_have_whole_numbers ds ≡ true → items_have_float ds ≡ false
+  no_float_items no_items e = refl
+  no_float_items (item d ds) e = let h = both (has_whole_numbers d) (items_have_whole_numbers ds) e in rw (no_float d h.0) (no_float_items ds h.1)
+
+  no_float_members : (ms : Members) → members_have_whole_numbers ms ≡ true → members_have_float ms ≡ false
+  no_float_members no_members e = refl
+  no_float_members (member k d ms) e = let h = both (has_whole_numbers d) (members_have_whole_numbers ms) e in rw (no_float d h.0) (no_float_members ms h.1)
+
+pub identity_has_no_float : (nodes : List NodeView) → IsTrue (nodes_pass has_whole_numbers nodes) → has_float (identity_value nodes) ≡ false
+identity_has_no_float nodes e = no_float (identity_value nodes) (identity_is_whole nodes e)
+
+-- ---- nesting
+
+abbrev Nests : ℕ → Data → Type 0
+Nests n d = depth d ≤ n + 24
+
+abbrev Shallow : Data → Type 0
+Shallow d = nests_within 24 d ≡ true
+
+le_is : (m n : ℕ) → nat_le m n ≡ true → m ≤ n
+le_is m n h = search (rules, tests)
+
+shallow : (n : ℕ) (d : Data) → Shallow d → Nests n d
+shallow n d h = omega (arith, le_is (depth d) 24 h)
+
+nest_members : (n : ℕ) (ms : Members) → AllMembers (Nests n) ms → members_depth ms ≤ n + 24
+nest_members n no_members h = omega arith
+nest_members n (member k d ms) h = omega (arith, h.0, nest_members n ms h.1)
+
+nest_items : (n : ℕ) (ds : Items) → AllItems (Nests n) ds → items_depth ds ≤ n + 24
+nest_items n no_items h = omega arith
+nest_items n (item d ds) h = omega (arith, h.0, nest_items n ds h.1)
+
+nest_texts : (ts : List (List ℕ)) → items_depth (texts ts) ≡ 0
+nest_texts [] = refl
+nest_texts (t ∷ ts) = omega (arith, nest_texts ts)
+
+pub identity_nests : (nodes : List NodeView) → IsTrue (nodes_pass (nests_within 24) nodes) → depth (identity_value nodes) ≤ 96
+identity_nests nodes e =
+    spelt_is Shallow Nests (λ n d h. shallow n d h) (λ n k d h. omega (arith, h)) (λ n. omega arith) (λ n t. omega arith) (λ n ts. omega (arith, nest_texts ts)) (λ n ds h. omega (arith, nest_items n ds h))
+    (λ n ms h. omega (arith, nest_members n ms h)) max_nesting nodes (nodes_are (nests_within 24) nodes e) [] 0 0

@@ -1,0 +1,164 @@
+-- The runs of a text, for loops over its bytes.
+use Rattle.std.proofs.Common.{◌≡◌, ℕ, zero, suc, ◌+◌, ◌-◌, ◌<◌, ◌≤◌, ◌⊎◌, inl, inr, List, [], ◌∷◌, ◌++◌, length, take, drop, get_or, Bool, true, false, ◌&&◌, cond, Option, Some, None, refl, sym, ap, ◌∙◌, append_assoc, subst, drop-cons, add-one, length-drop, arith}
+use Rattle.std.proofs.Common.{tests}
+use Rattle.std.specs.List.{prefix_len}
+use Rattle.std.specs.Str.{IsCharBoundary, IsUtf8}
+use Rattle.std.proofs.lemmas.List.Sums.{prefix_len-le-length, prefix_len_passes}
+use Rattle.std.proofs.lemmas.Str.{IsCharBoundary-before_ascii, IsCharBoundary-after_ascii, IsCharBoundary-end}
+use Rattle.std.specs.Prelude.{slice_range, option_and_then, unwrap_or, is_some}
+use Rattle.std.proofs.Math.Seq.{take-suc}
+use Rattle.std.proofs.lemmas.Bool.{false≢true, cases_lt}
+use Rattle.std.proofs.lemmas.List.{drop_all, get_or-drop, drop-drop}
+use Rattle.avro_nodes.specs.declared.plain.Quoting.{Quoting}
+use Rattle.avro_nodes.specs.declared.plain.Quoting.TheVariants.{Outside, Inside, Escaped}
+use Rattle.avro_nodes.specs.Plain.{after, is_number_char, is_outside, run, other, in_run, pieces, joined, before, piece_text, is_whole, whole_part, respelt, respelt_whole, begins_number}
+
+pub drop_from : (xs : List ℕ) (i : ℕ) → i < length xs → drop i xs ≡ get_or xs i 0 ∷ drop (i + 1) xs
+drop_from xs i h = rw (add-one, drop-cons xs i 0)
+
+pub before_before : (a b : List ℕ) (o : Option (List ℕ)) → before a (before b o) ≡ before (a ++ b) o
+before_before a b None = refl
+before_before a b (Some r) = ap (λ (s : List ℕ). Some s) (sym (append_assoc a b r))
+
+pub before_nothing : (o : Option (List ℕ)) → before [] o ≡ o
+before_nothing None = refl
+before_nothing (Some r) = refl
+
+-- ---- outside the runs
+
+other_next : (q : Quoting) (c : ℕ) (cs : List ℕ) → (is_outside q && is_number_char c) ≡ false → joined (pieces q (c ∷ cs)) ≡ before (c ∷ []) (joined (pieces (after q c) cs))
+unfolding pieces joined
+other_next q c cs e = rw e refl
+
+range_more : (xs : List ℕ) (i j : ℕ) → i ≤ j → j < length xs → slice_range xs i (j + 1) ≡ slice_range xs i j ++ get_or xs j 0 ∷ []
+range_more xs i j a b =
+    let one : j + 1 - i ≡ suc (j - i) = omega arith in
+    let there : i + (j - i) ≡ j = omega arith in
+    rw one (take-suc (drop i xs) (j - i) 0 (omega (arith, length-drop i xs)) ∙ ap (λ d. take (j - i) (drop i xs) ++ d ∷ []) (get_or-drop i xs (j - i) 0 ∙ ap (λ k. get_or xs k 0) there))
+
+pub other_more : (bs : List ℕ) (from at : ℕ) (q : Quoting) → from ≤ at → at < length bs → (is_outside q && is_number_char (get_or bs at 0)) ≡ false
+    → before (slice_range bs from (at + 1)) (joined (pieces (after q (get_or bs at 0)) (drop (at + 1) bs))) ≡ before (slice_range bs from at) (joined (pieces q (drop at bs)))
+other_more bs from at q a b e =
+    rw (range_more bs from at a b, drop_from bs at b, other_next q (get_or bs at 0) (drop (at + 1) bs) e)
+    (sym (before_before (slice_range bs from at) (get_or bs at 0 ∷ []) (joined (pieces (after q (get_or bs at 0)) (drop (at + 1) bs)))))
+
+pub from_outside : (q : Quoting) (c : ℕ) → (is_outside q && is_number_char c) ≡ true → (q ≡ Outside) × (is_number_char c ≡ true)
+from_outside Outside c e = (refl, e)
+from_outside Inside c e = absurd (false≢true e)
+from_outside Escaped c e = absurd (false≢true e)
+
+pub nothing_left : (q : Quoting) (bs : List ℕ) (at : ℕ) → length bs ≤ at → joined (pieces q (drop at bs)) ≡ Some []
+unfolding pieces joined
+nothing_left q bs at h = rw (drop_all at bs h) refl
+
+-- ---- a run
+
+pub number_next : (c : ℕ) (cs : List ℕ) → is_number_char c ≡ true → pieces Outside (c ∷ cs) ≡ in_run c (pieces Outside cs)
+unfolding pieces
+number_next c cs e = rw e refl
+
+pub no_number_next : (c : ℕ) (cs : List ℕ) → is_number_char c ≡ false → pieces Outside (c ∷ cs) ≡ other c ∷ pieces (after Outside c) cs
+unfolding pieces
+no_number_next c cs e = rw e refl
+
+abbrev run_len : List ℕ → ℕ
+run_len cs = prefix_len is_number_char cs
+
+-- the first run of a text, and what follows it
+abbrev BeginsRun : List ℕ → ℕ → Type 0
+BeginsRun cs n = pieces Outside cs ≡ run (take n cs) ∷ pieces Outside (drop n cs)
+
+run_on : (c d : ℕ) (ds : List ℕ) (b : Bool) → is_number_char d ≡ b → is_number_char c ≡ true → (is_number_char d ≡ true → BeginsRun (d ∷ ds) (run_len (d ∷ ds))) → BeginsRun (c ∷ d ∷ ds) (1 + run_len (d ∷ ds))
+run_on c d ds true e f more =
+    let one : 1 + run_len (d ∷ ds) ≡ suc (run_len (d ∷ ds)) = omega arith in
+    let P : ℕ → Type 0 = BeginsRun (c ∷ d ∷ ds) in
+    subst P (sym one) (number_next c (d ∷ ds) f ∙ ap (in_run c) (more e))
+run_on c d ds false e f more =
+    let ends : run_len (d ∷ ds) ≡ 0 = rw e refl in
+    let P : ℕ → Type 0 = λ n. BeginsRun (c ∷ d ∷ ds) (1 + n) in
+    subst P (sym ends) (number_next c (d ∷ ds) f ∙ ap (in_run c) (no_number_next d ds e) ∙ ap (λ ps. run (c ∷ []) ∷ ps) (sym (no_number_next d ds e)))
+
+one_of : (c : ℕ) (cs : List ℕ) → is_number_char c ≡ true → run_len (c ∷ cs) ≡ 1 + run_len cs
+one_of c cs e = rw e refl
+
+pub alone : (c : ℕ) → in_run c (pieces Outside []) ≡ run (c ∷ []) ∷ pieces Outside []
+unfolding pieces
+alone c = refl
+
+run_first : (c : ℕ) (cs : List ℕ) → is_number_char c ≡ true → BeginsRun (c ∷ cs) (run_len (c ∷ cs))
+run_first c [] e = let P : ℕ → Type 0 = BeginsRun (c ∷ []) in subst P (sym (one_of c [] e)) (number_next c [] e ∙ alone c)
+run_first c (d ∷ ds) e = let P : ℕ → Type 0 = BeginsRun (c ∷ d ∷ ds) in subst P (sym (one_of c (d ∷ ds) e)) (run_on c d ds (is_number_char d) refl e (λ h. run_first d ds h))
+
+-- what the text gives from a run on, which ends here
+abbrev FromRun : List ℕ → List ℕ → List ℕ → Type 0
+FromRun cs s more = joined (pieces Outside cs) ≡ option_and_then (λ t. before t (joined (pieces Outside more))) (piece_text (run s))
+
+run_then : (cs : List ℕ) (n : ℕ) → BeginsRun cs n → FromRun cs (take n cs) (drop n cs)
+unfolding joined
+run_then cs n e = ap joined e
+
+run_of_none : FromRun [] [] []
+unfolding pieces joined
+run_of_none = refl
+
+run_from : (bs : List ℕ) (start : ℕ) (more : (start < length bs) ⊎ (length bs ≤ start)) → (start < length bs → is_number_char (get_or bs start 0) ≡ true) → FromRun (drop start bs) (take (run_len (drop start bs)) (drop start bs)) (drop (run_len (drop start bs)) (drop start bs))
+run_from bs start (inl h) found = rw (drop_from bs start h) (run_then (get_or bs start 0 ∷ drop (start + 1) bs) (run_len (get_or bs start 0 ∷ drop (start + 1) bs)) (run_first (get_or bs start 0) (drop (start + 1) bs) (found h)))
+run_from bs start (inr h) found = rw (drop_all start bs h) run_of_none
+
+pub run_at : (bs : List ℕ) (start end : ℕ) → (start < length bs → is_number_char (get_or bs start 0) ≡ true) → end ≡ start + prefix_len is_number_char (drop start bs) → FromRun (drop start bs) (slice_range bs start end) (drop end bs)
+run_at bs start end found e =
+    let cs = drop start bs in
+    let n : end - start ≡ run_len cs = omega (arith, e) in
+    let taken : ℕ → Type 0 = λ k. FromRun cs (take k cs) (drop end bs) in
+    let left : List ℕ → Type 0 = λ more. FromRun cs (take (run_len cs) cs) more in
+    subst taken (sym n) (subst left (drop-drop (run_len cs) start bs ∙ ap (λ k. drop k bs) (sym e)) (run_from bs start (cases_lt start (length bs)) found))
+
+-- ---- one turn: what stands before a run is written, and then the run's spelling
+
+module _ (bs out : List ℕ) (total : Option (List ℕ)) (at start end : ℕ) (so_far : before out (joined (pieces Outside (drop at bs))) ≡ total)
+    (skipped : joined (pieces Outside (drop at bs)) ≡ before (slice_range bs at start) (joined (pieces Outside (drop start bs))))
+    (found : start < length bs → is_number_char (get_or bs start 0) ≡ true) (ends : end ≡ start + prefix_len is_number_char (drop start bs)) where
+  turn : (o : Option (List ℕ)) → o ≡ piece_text (run (slice_range bs start end)) → total ≡ before (out ++ slice_range bs at start) (option_and_then (λ t. before t (joined (pieces Outside (drop end bs)))) o)
+  turn o e = rw e (sym so_far ∙ ap (before out) skipped ∙ before_before out (slice_range bs at start) (joined (pieces Outside (drop start bs))) ∙ ap (before (out ++ slice_range bs at start)) (run_at bs start end found ends))
+
+  pub turn_done : (number : List ℕ) → Some number ≡ piece_text (run (slice_range bs start end)) → before ((out ++ slice_range bs at start) ++ number) (joined (pieces Outside (drop end bs))) ≡ total
+  turn_done number e = sym (turn (Some number) e ∙ before_before (out ++ slice_range bs at start) number (joined (pieces Outside (drop end bs))))
+
+  pub turn_fails : None ≡ piece_text (run (slice_range bs start end)) → None ≡ total
+  turn_fails e = sym (turn None e)
+
+-- ---- where a text may be cut
+
+is_ascii : (c : ℕ) → is_number_char c ≡ true → c < 128
+is_ascii c e = grind (arith, tests)
+
+pub start_cut : (bs : List ℕ) (start : ℕ) → start ≤ length bs → (start < length bs → is_number_char (get_or bs start 0) ≡ true) → (start < length bs) ⊎ (length bs ≤ start) → IsCharBoundary bs start
+start_cut bs start in_range found (inl h) = IsCharBoundary-before_ascii bs start h (is_ascii (get_or bs start 0) (found h))
+start_cut bs start in_range found (inr h) = let there : start ≡ length bs = omega arith in rw there (IsCharBoundary-end bs)
+
+end_cut : (bs : List ℕ) (start end n : ℕ) → IsUtf8 bs → start ≤ length bs → IsCharBoundary bs start → prefix_len is_number_char (drop start bs) ≡ n → end ≡ start + n → IsCharBoundary bs end
+end_cut bs start end zero u in_range cut is e = let there : end ≡ start = omega arith in rw there cut
+end_cut bs start end (suc n) u in_range cut is e =
+    let within = prefix_len-le-length is_number_char (drop start bs) in
+    let last : start + n < length bs = omega (arith, length-drop start bs) in
+    let there : end ≡ start + n + 1 = omega arith in
+    let passes = prefix_len_passes is_number_char (drop start bs) n 0 (omega arith) in
+    rw there (IsCharBoundary-after_ascii bs (start + n) u last (is_ascii (get_or bs (start + n) 0) (ap is_number_char (sym (get_or-drop start bs n 0)) ∙ passes)))
+
+pub run_cut : (bs : List ℕ) (start end : ℕ) → IsUtf8 bs → start ≤ length bs → (start < length bs → is_number_char (get_or bs start 0) ≡ true) → end ≡ start + prefix_len is_number_char (drop start bs) → IsCharBoundary bs end
+run_cut bs start end u in_range found e = end_cut bs start end (prefix_len is_number_char (drop start bs)) u in_range (start_cut bs start in_range found (cases_lt start (length bs))) refl e
+
+-- ---- the spelling of a run
+
+pub whole_refused : (s : List ℕ) (b : Bool) → is_whole s ≡ b → None ≡ cond b (Some (whole_part s)) None → None ≡ respelt s
+unfolding respelt
+whole_refused s true e h = absurd (false≢true (ap is_some h))
+whole_refused s false e h = rw e refl
+
+pub whole_respelt : (s w : List ℕ) (b : Bool) → is_whole s ≡ b → Some w ≡ cond b (Some (whole_part s)) None → respelt_whole w ≡ respelt s
+unfolding respelt
+whole_respelt s w true e h = rw e (ap (λ o. respelt_whole (unwrap_or o [])) h)
+whole_respelt s w false e h = absurd (false≢true (sym (ap is_some h)))
+
+pub spelt_number : (s : List ℕ) (b : Bool) (o : Option (List ℕ)) → b ≡ begins_number s → b ≡ true → o ≡ respelt s → o ≡ piece_text (run s)
+spelt_number s b o e f h = rw (sym e ∙ f) h

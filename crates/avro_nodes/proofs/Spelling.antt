@@ -1,0 +1,43 @@
+-- What is written for a place, by its node.
+use Rattle.std.proofs.Common.{◌≡◌, ℕ, suc, ◌-◌, ◌<◌, ◌==◌, List, true, false, Option, refl, ap, ◌∙◌, eq-eqb, arith}
+use Rattle.std.specs.Prelude.{slice_get}
+use Rattle.std.specs.Option.{option_map}
+use Rattle.std.proofs.lemmas.Option.{slice_get-map}
+use Rattle.std.proofs.lemmas.Bool.Decides.{eqb_tells}
+use Rattle.std.proofs.Common.{inl, inr}
+use Rattle.serde_json.specs.Data.{null, string}
+use Rattle.avro_nodes.specs.Nodes.{NodeView, node_view, nodes_view}
+use Rattle.avro_nodes.specs.declared.node.Node.{Node}
+use Rattle.avro_nodes.specs.Identity.{spelt_at, spelt_node, name_of}
+
+pub shape_found : (nodes : List Node) (place : ℕ) (o : Option Node) → slice_get nodes place ≡ o → slice_get (nodes_view nodes) place ≡ option_map node_view o
+shape_found nodes place o e = slice_get-map node_view nodes place ∙ ap (option_map node_view) e
+
+pub same_eqb : (a b : ℕ) → a ≡ b → (a == b) ≡ true
+same_eqb a b e = eq-eqb a b e
+
+pub other_eqb : (a b : ℕ) → (a ≡ b → ⊥) → (a == b) ≡ false
+other_eqb a b other = elim (eqb_tells a b) [ inl p ↦ absurd (other p.1) | inr p ↦ p.0 ]
+
+module _ (n : ℕ) (nodes : List NodeView) (space : List ℕ) (place written : ℕ) where
+  pub spelt_too_deep : n ≡ 0 → spelt_at n nodes space place written ≡ (null, written)
+  unfolding spelt_at
+  spelt_too_deep e = rw e refl
+
+  pub at_suc : (m : ℕ) → place ≡ written → spelt_at (suc m) nodes space place written ≡ spelt_node (spelt_at m nodes) space written (slice_get nodes place)
+  unfolding spelt_at
+  at_suc m e = rw (same_eqb place written e) refl
+
+  pub again_suc : (m : ℕ) → (place ≡ written → ⊥) → spelt_at (suc m) nodes space place written ≡ (string (name_of (slice_get nodes place)), written)
+  unfolding spelt_at
+  again_suc m other = rw (other_eqb place written other) refl
+
+  pub spelt_first : (o : Option NodeView) → 0 < n → place ≡ written → slice_get nodes place ≡ o → spelt_at n nodes space place written ≡ spelt_node (spelt_at (n - 1) nodes) space written o
+  spelt_first o some e found =
+      let m : n ≡ suc (n - 1) = omega arith in
+      ap (λ k. spelt_at k nodes space place written) m ∙ at_suc (n - 1) e ∙ ap (spelt_node (spelt_at (n - 1) nodes) space written) found
+
+  pub spelt_again : 0 < n → (place ≡ written → ⊥) → spelt_at n nodes space place written ≡ (string (name_of (slice_get nodes place)), written)
+  spelt_again some other =
+      let m : n ≡ suc (n - 1) = omega arith in
+      ap (λ k. spelt_at k nodes space place written) m ∙ again_suc (n - 1) other

@@ -1,0 +1,178 @@
+-- The identity text of a schema: one JSON text for its nodes (this project's choice of form; Avro 1.11 specification, Schema
+-- Declaration; RFC 8259).
+use Rattle.std.specs.Prelude.{ℕ, zero, suc, ◌+◌, ◌==◌, ◌&&◌, nat_le, Bool, true, List, [], ◌∷◌, if◌then◌else◌, Option, Some, None, option_map, codes, slice_get}
+use Rattle.std.specs.List.{list_all}
+use Rattle.serde_json.specs.Data.{Data, null, string, number, unsigned, object, Items, no_items, item, Members, no_members, member, put, depth}
+use Rattle.serde_json.specs.Data as json
+use Rattle.serde_json.specs.Written.{compact_text}
+use Rattle.avro_nodes.specs.declared.node.Kind.{Kind}
+use Rattle.avro_nodes.specs.declared.node.Kind.TheVariants.{Null, Boolean, Int, Long, Float, Double, Bytes, Text}
+use Rattle.avro_nodes.specs.declared.node.Order.{Order}
+use Rattle.avro_nodes.specs.declared.node.Order.TheVariants.{Ascending, Descending, Ignore}
+use Rattle.avro_nodes.specs.Names.{has_dot, namespace_of}
+use Rattle.avro_nodes.specs.Nodes.{NamedView, FieldView, NodeView, primitive, array, mapping, union, enumeration, fixed, rec}
+
+-- Avro 1.11 specification, Primitive Types
+abbrev pub kind_text : Kind → List ℕ
+kind_text Null = codes "null"
+kind_text Boolean = codes "boolean"
+kind_text Int = codes "int"
+kind_text Long = codes "long"
+kind_text Float = codes "float"
+kind_text Double = codes "double"
+kind_text Bytes = codes "bytes"
+kind_text Text = codes "string"
+
+-- ---- attributes; each is put among the others, which stand in byte order of their names
+
+abbrev pub texts : List (List ℕ) → Items
+texts [] = no_items
+texts (t ∷ ts) = item (string t) (texts ts)
+
+abbrev pub with_text : List ℕ → List ℕ → Members → Members
+with_text key text others = put key (string text) others
+
+-- an empty list is as good as none, and isn't written
+abbrev pub with_aliases : List (List ℕ) → Members → Members
+with_aliases [] others = others
+with_aliases (t ∷ ts) others = put (codes "aliases") (json.array (texts (t ∷ ts))) others
+
+abbrev pub with_default : Option Data → Members → Members
+with_default None others = others
+with_default (Some d) others = put (codes "default") d others
+
+-- ascending is what holds where nothing is said, and isn't written
+abbrev pub with_order : Order → Members → Members
+with_order Ascending others = others
+with_order Descending others = with_text (codes "order") (codes "descending") others
+with_order Ignore others = with_text (codes "order") (codes "ignore") others
+
+-- a definition in the null namespace says so where it stands inside another one (Avro 1.11 specification, Names)
+abbrev pub with_namespace : List ℕ → List ℕ → Members → Members
+with_namespace [] name others = others
+with_namespace (c ∷ enclosing) name others = if has_dot name then others else with_text (codes "namespace") [] others
+
+-- ---- types (Avro 1.11 specification, Primitive Types, Complex Types)
+
+-- a primitive with no other attribute is its name alone
+abbrev pub primitive_value : Kind → Members → Data
+primitive_value kind no_members = string (kind_text kind)
+primitive_value kind (member k d ms) = object (with_text (codes "type") (kind_text kind) (member k d ms))
+
+abbrev pub array_value : Data → Members → Data
+array_value items extra = object (put (codes "items") items (with_text (codes "type") (codes "array") extra))
+
+abbrev pub map_value : Data → Members → Data
+map_value values extra = object (with_text (codes "type") (codes "map") (put (codes "values") values extra))
+
+abbrev pub enum_value : List ℕ → NamedView → List (List ℕ) → Option (List ℕ) → Members → Data
+enum_value enclosing named symbols fallback extra =
+    object (with_aliases named.aliases (with_default (option_map string fallback) (with_text (codes "name") named.name (with_namespace enclosing named.name
+    (put (codes "symbols") (json.array (texts symbols)) (with_text (codes "type") (codes "enum") extra))))))
+
+abbrev pub fixed_value : List ℕ → NamedView → ℕ → Members → Data
+fixed_value enclosing named size extra =
+    object (with_aliases named.aliases (with_text (codes "name") named.name (with_namespace enclosing named.name
+    (put (codes "size") (number (unsigned size)) (with_text (codes "type") (codes "fixed") extra)))))
+
+abbrev pub record_value : List ℕ → NamedView → Items → Members → Data
+record_value enclosing named fields extra =
+    object (with_aliases named.aliases (put (codes "fields") (json.array fields) (with_text (codes "name") named.name (with_namespace enclosing named.name
+    (with_text (codes "type") (codes "record") extra)))))
+
+-- a field, with the value of its type
+abbrev pub field_value : FieldView → Data → Data
+field_value f type =
+    object (with_aliases f.aliases (with_default f.value (with_text (codes "name") f.name (with_order f.order (put (codes "type") type f.extra)))))
+
+-- ---- places
+
+-- a value, and how many places have been written with it
+abbrev pub Spelt : Type 0 → Type 0
+Spelt A = A × ℕ
+
+-- the value of a place's type, where so many places have been written before it
+abbrev pub Speller : Type 0
+Speller = ℕ → ℕ → Spelt Data
+
+abbrev pub then_items : Data → Spelt Items → Spelt Items
+then_items d more = (item d more.0, more.1)
+
+-- one branch after the other
+unfoldable pub branch_items : Speller → List ℕ → ℕ → Spelt Items
+branch_items one [] written = (no_items, written)
+branch_items one (p ∷ ps) written = then_items (one p written).0 (branch_items one ps (one p written).1)
+
+-- one field after the other
+unfoldable pub field_items : Speller → List FieldView → ℕ → Spelt Items
+field_items one [] written = (no_items, written)
+field_items one (f ∷ fs) written = then_items (field_value f (one f.place written).0) (field_items one fs (one f.place written).1)
+
+-- the full name of a definition
+abbrev pub name_of : Option NodeView → List ℕ
+name_of None = []
+name_of (Some (primitive kind extra)) = []
+name_of (Some (array items extra)) = []
+name_of (Some (mapping values extra)) = []
+name_of (Some (union branches)) = []
+name_of (Some (enumeration named symbols fallback extra)) = named.name
+name_of (Some (fixed named size extra)) = named.name
+name_of (Some (rec named fields extra)) = named.name
+
+-- a type that is written for the first time, in the enclosing namespace
+abbrev pub spelt_node : (List ℕ → Speller) → List ℕ → ℕ → Option NodeView → Spelt Data
+spelt_node types enclosing written None = (null, written)
+spelt_node types enclosing written (Some (primitive kind extra)) = (primitive_value kind extra, written + 1)
+spelt_node types enclosing written (Some (array items extra)) = let i = types enclosing items (written + 1) in (array_value i.0 extra, i.1)
+spelt_node types enclosing written (Some (mapping values extra)) = let v = types enclosing values (written + 1) in (map_value v.0 extra, v.1)
+spelt_node types enclosing written (Some (union branches)) = let bs = branch_items (types enclosing) branches (written + 1) in (json.array bs.0, bs.1)
+spelt_node types enclosing written (Some (enumeration named symbols fallback extra)) = (enum_value enclosing named symbols fallback extra, written + 1)
+spelt_node types enclosing written (Some (fixed named size extra)) = (fixed_value enclosing named size extra, written + 1)
+spelt_node types enclosing written (Some (rec named fields extra)) = let fs = field_items (types (namespace_of named.name)) fields (written + 1) in (record_value enclosing named fs.0 extra, fs.1)
+
+-- The type at a place, nested no deeper than the number. Places are written in their order, so a type is written for the first time
+-- where so many have been written before it. Later it is a reference, by its full name.
+unfoldable pub spelt_at : ℕ → List NodeView → List ℕ → Speller
+spelt_at zero nodes enclosing place written = (null, written)
+spelt_at (suc n) nodes enclosing place written =
+    if place == written then spelt_node (spelt_at n nodes) enclosing written (slice_get nodes place) else (string (name_of (slice_get nodes place)), written)
+
+-- how deep the types of a schema nest, the root being at 1 (this project's choice)
+abbrev pub max_nesting : ℕ
+max_nesting = 24
+
+abbrev pub identity_value : List NodeView → Data
+identity_value nodes = (spelt_at max_nesting nodes [] 0 0).0
+
+-- the JSON text of the value, with no blank
+abbrev pub identity : List NodeView → List ℕ
+identity nodes = compact_text (identity_value nodes)
+
+-- ---- a test of each default, each other attribute and each size, as JSON
+
+abbrev pub members_pass : (Data → Bool) → Members → Bool
+members_pass test no_members = true
+members_pass test (member k d ms) = test d && members_pass test ms
+
+abbrev pub value_passes : (Data → Bool) → Option Data → Bool
+value_passes test None = true
+value_passes test (Some d) = test d
+
+abbrev pub field_passes : (Data → Bool) → FieldView → Bool
+field_passes test f = value_passes test f.value && members_pass test f.extra
+
+abbrev pub node_passes : (Data → Bool) → NodeView → Bool
+node_passes test (primitive kind extra) = members_pass test extra
+node_passes test (array items extra) = members_pass test extra
+node_passes test (mapping values extra) = members_pass test extra
+node_passes test (union branches) = true
+node_passes test (enumeration named symbols fallback extra) = members_pass test extra
+node_passes test (fixed named size extra) = test (number (unsigned size)) && members_pass test extra
+node_passes test (rec named fields extra) = list_all (field_passes test) fields && members_pass test extra
+
+unfoldable pub nodes_pass : (Data → Bool) → List NodeView → Bool
+nodes_pass test nodes = list_all (node_passes test) nodes
+
+-- arrays and objects nest no deeper than the number
+abbrev pub nests_within : ℕ → Data → Bool
+nests_within n d = nat_le (depth d) n

@@ -1,0 +1,5 @@
+pub mod Names
+pub mod Nodes
+pub mod Identity
+pub mod Plain
+pub mod Whole

@@ -1,0 +1,106 @@
+-- The rule for the numbers in a schema text (this project's choice, over RFC 8259, section 6): each is a whole number of 64 bits,
+-- and is respelt in plain decimal digits. It looks at the text alone, before the text is read as JSON.
+use Rattle.std.specs.Prelude.{ℕ, ◌^◌, ◌==◌, ◌&&◌, ◌||◌, not, nat_lt, nat_le, if◌then◌else◌, Bool, true, false, ℤ, pos, neg_ℤ, List, [], ◌∷◌, ◌++◌, length, drop, Option, Some, None, option_map, option_and_then, slice_index, codes}
+use Rattle.std.specs.Char.{is_ascii_digit}
+use Rattle.std.specs.Fmt.{signed_decimal}
+use Rattle.std.specs.List.{list_any, list_all, before_first, after_first, position_or_len}
+use Rattle.std.specs.Str.Parse.{digits_value}
+use Rattle.avro_nodes.specs.declared.plain.Quoting.{Quoting}
+use Rattle.avro_nodes.specs.declared.plain.Quoting.TheVariants.{Outside, Inside, Escaped}
+
+-- ---- the runs of a text
+
+-- where what follows a byte stands: outside the strings, inside one, or inside one behind a backslash (RFC 8259, section 7)
+abbrev pub after : Quoting → ℕ → Quoting
+after Outside c = if c == 34 then Inside else Outside
+after Inside c = if c == 34 then Outside else (if c == 92 then Escaped else Inside)
+after Escaped c = Inside
+
+abbrev pub is_outside : Quoting → Bool
+is_outside Outside = true
+is_outside Inside = false
+is_outside Escaped = false
+
+abbrev pub is_number_char : ℕ → Bool
+is_number_char c = is_ascii_digit c || list_any (λ d. d == c) (codes "+-.eE")
+
+-- a maximal run of number characters outside the strings, or another byte
+pub data Piece : Type 0 where
+  run : List ℕ → Piece
+  other : ℕ → Piece
+
+-- with a number character before them, which goes on with a run
+abbrev pub in_run : ℕ → List Piece → List Piece
+in_run c [] = run (c ∷ []) ∷ []
+in_run c (run s ∷ more) = run (c ∷ s) ∷ more
+in_run c (other d ∷ more) = run (c ∷ []) ∷ other d ∷ more
+
+-- the pieces of a text whose first byte stands there
+unfoldable pub pieces : Quoting → List ℕ → List Piece
+pieces p [] = []
+pieces p (c ∷ cs) = if is_outside p && is_number_char c then in_run c (pieces p cs) else other c ∷ pieces (after p c) cs
+
+-- ---- the number of a run
+
+abbrev pub is_point : ℕ → Bool
+is_point c = c == 46
+
+abbrev pub is_minus : ℕ → Bool
+is_minus c = c == 45
+
+-- all before the first point, with the sign
+abbrev pub whole_part : List ℕ → List ℕ
+whole_part s = before_first is_point s
+
+-- one zero or more
+abbrev pub are_zeros : List ℕ → Bool
+are_zeros ds = not (length ds == 0) && list_all (λ c. c == 48) ds
+
+-- no point, or one with zeros alone after it
+abbrev pub is_whole : List ℕ → Bool
+is_whole s = (position_or_len is_point s == length s) || are_zeros (after_first is_point s)
+
+-- 0, or digits without a leading 0
+abbrev pub are_digits : List ℕ → Bool
+are_digits ds = not (length ds == 0) && list_all is_ascii_digit ds && (not (slice_index ds 0 == 48) || (length ds == 1))
+
+-- whether the number, with a minus or not, is from -2^63 to 2^64 - 1
+abbrev pub in_range : Bool → ℕ → Bool
+in_range negative n = if negative then nat_le n (2 ^ 63) else nat_lt n (2 ^ 64)
+
+abbrev pub signed : Bool → ℕ → ℤ
+signed negative n = if negative then neg_ℤ (pos n) else pos n
+
+-- the digits, with a minus or not, as the number is spelt
+abbrev pub respelt_digits : Bool → List ℕ → Option (List ℕ)
+respelt_digits negative ds = if are_digits ds && in_range negative (digits_value 10 ds) then Some (signed_decimal (signed negative (digits_value 10 ds))) else None
+
+-- the whole part, as the number is spelt
+abbrev pub respelt_whole : List ℕ → Option (List ℕ)
+respelt_whole w = if is_minus (slice_index w 0) then respelt_digits true (drop 1 w) else respelt_digits false w
+
+-- the number of a run, in plain decimal digits, where it is whole and in range
+unfoldable pub respelt : List ℕ → Option (List ℕ)
+respelt s = if is_whole s then respelt_whole (whole_part s) else None
+
+-- a run that begins otherwise than a number does stays as it is: no JSON has one
+abbrev pub begins_number : List ℕ → Bool
+begins_number s = is_ascii_digit (slice_index s 0) || is_minus (slice_index s 0)
+
+abbrev pub piece_text : Piece → Option (List ℕ)
+piece_text (other c) = Some (c ∷ [])
+piece_text (run s) = if begins_number s then respelt s else Some s
+
+-- ---- the text
+
+-- this text, before what the rest gives
+abbrev pub before : List ℕ → Option (List ℕ) → Option (List ℕ)
+before front rest = option_map (λ r. front ++ r) rest
+
+unfoldable pub joined : List Piece → Option (List ℕ)
+joined [] = Some []
+joined (p ∷ ps) = option_and_then (λ s. before s (joined ps)) (piece_text p)
+
+-- the text with its numbers respelt, where each is whole and in range
+abbrev pub plain : List ℕ → Option (List ℕ)
+plain text = joined (pieces Outside text)

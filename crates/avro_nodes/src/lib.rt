@@ -1,0 +1,19 @@
+//! The nodes of an Avro schema, the rule for the numbers in its text, and its identity text.
+#![tactic(auto)]
+
+mod error;
+mod identity;
+mod names;
+mod node;
+mod plain;
+mod whole;
+
+pub use error::OutOfMemory;
+pub use identity::identity_of;
+pub use names::{has_dot, namespace_of};
+pub use node::{Extra, Field, Kind, Named, Node, Order};
+pub use plain::plain_of;
+pub use whole::has_whole_numbers;
+
+#[cfg(test)]
+mod tests;

@@ -1,0 +1,25 @@
+//! Full names and namespaces (Avro 1.11 specification, Names).
+
+ghost use Rattle.std.specs.Prelude.{◌≡◌};
+ghost use Rattle.avro_nodes.specs.Names.{has_dot as has_dot_of, namespace_of as namespace};
+
+/// Whether the name has a dot, as a full name outside the null namespace has.
+#[tactic(auto, unfolding(crate::specs::Names::has_dot))]
+pub fn has_dot(name: &str) -> bool
+    ensures { result ≡ has_dot_of name.now }
+{
+    name.as_bytes().iter().any(|c| *c == b'.')
+}
+
+/// The namespace of a full name: all before its last dot. The null namespace is empty.
+pub fn namespace_of(name: &str) -> &str
+    ensures { result.now ≡ namespace name.now }
+{
+    let mut end = 0;
+    for (i, c) in name.as_bytes().iter().enumerate() {
+        if *c == b'.' {
+            end = i;
+        }
+    }
+    &name[..end]
+}

@@ -1,0 +1,111 @@
+//! The nodes of a schema, as its declaration gives them (Avro 1.11 specification, Schema
+//! Declaration). A schema is a list of nodes, numbered depth first and from left to right; a
+//! place is an index into that list, and the root stands at place 0. A reference to a named type
+//! makes no node: it is the place of the type's definition.
+
+use serde_json::{Map, Value};
+
+/// The attributes without a meaning of their own, such as `doc` and `logicalType`, by name.
+pub type Extra = Map<String, Value>;
+
+/// A primitive type (Avro 1.11 specification, Primitive Types).
+#[derive(Clone, Copy, Debug, PartialEq, Eq)]
+pub enum Kind {
+    /// `null`
+    Null,
+    /// `boolean`
+    Boolean,
+    /// `int`
+    Int,
+    /// `long`
+    Long,
+    /// `float`
+    Float,
+    /// `double`
+    Double,
+    /// `bytes`
+    Bytes,
+    /// `string`
+    Text,
+}
+
+/// How a field counts where records are compared (Avro 1.11 specification, Complex Types,
+/// Records).
+#[derive(Clone, Copy, Debug, PartialEq, Eq)]
+pub enum Order {
+    /// `ascending`, also where a field says nothing
+    Ascending,
+    /// `descending`
+    Descending,
+    /// `ignore`
+    Ignore,
+}
+
+/// The names of a definition, all of them full names (Avro 1.11 specification, Names; Aliases).
+#[derive(Debug, Drop)]
+pub struct Named {
+    /// the full name; a name in the null namespace is without a dot
+    pub name: String,
+    /// the full names of the aliases, as they are declared
+    pub aliases: Vec<String>,
+}
+
+/// A field of a record (Avro 1.11 specification, Complex Types, Records).
+#[derive(Debug, Drop)]
+pub struct Field {
+    /// the simple name
+    pub name: String,
+    /// the place of its type
+    pub place: u32,
+    /// the simple names of the aliases, as they are declared
+    pub aliases: Vec<String>,
+    /// its sort order
+    pub order: Order,
+    /// its default, where it has one
+    pub value: Option<Value>,
+    /// the other attributes
+    pub extra: Extra,
+}
+
+/// A node of a schema: a type, with the places of the types that it is made of.
+#[derive(Debug, Drop)]
+pub enum Node {
+    /// a primitive type
+    Primitive {
+        kind: Kind,
+        extra: Extra,
+    },
+    /// an array, with the place of its items
+    Array {
+        items: u32,
+        extra: Extra,
+    },
+    /// a map, with the place of its values
+    Map {
+        values: u32,
+        extra: Extra,
+    },
+    /// a union, with the places of its branches
+    Union {
+        branches: Vec<u32>,
+    },
+    /// an enum, with its symbols and its default, where it has one
+    Enum {
+        named: Named,
+        symbols: Vec<String>,
+        fallback: Option<String>,
+        extra: Extra,
+    },
+    /// a fixed, of so many bytes
+    Fixed {
+        named: Named,
+        size: u32,
+        extra: Extra,
+    },
+    /// a record, with its fields
+    Rec {
+        named: Named,
+        fields: Vec<Field>,
+        extra: Extra,
+    },
+}

@@ -1,0 +1,199 @@
+//! The rule for the numbers in a schema text: each is a whole number of 64 bits, signed or
+//! unsigned, and is respelt in plain decimal digits (this project's choice, over RFC 8259,
+//! section 6).
+
+ghost use Rattle.std.specs.Prelude.{◌≡◌, ◌+◌, ◌^◌, ◌==◌, ◌<◌, ◌≤◌, ◌&&◌, ◌⊎◌, length, drop, slice_range, slice_index, nat_lt, true, if◌then◌else◌, Some, None, IfOk, option_map, string_bytes};
+ghost use Rattle.avro_nodes.specs.declared.plain.Quoting.TheVariants.{Outside};
+ghost use Rattle.std.specs.Char.{is_ascii_digit};
+ghost use Rattle.std.specs.List.{prefix_len, list_all};
+ghost use Rattle.std.specs.Str.Parse.{digits_value};
+ghost use Rattle.avro_nodes.specs.Plain.{after as after_of, is_number_char as is_number_char_of, is_outside, pieces, joined, before, is_whole, whole_part as whole_part_of, are_digits as are_digits_of, are_zeros as are_zeros_of, respelt_whole, begins_number as begins_number_of, piece_text, run as run_of, plain};
+
+use crate::error::OutOfMemory;
+use std::alloc::Global;
+
+// Where a byte stands: outside the strings, inside one, or in one behind a backslash.
+#[derive(Clone, Copy, Debug)]
+enum Quoting {
+    Outside,
+    Inside,
+    Escaped,
+}
+
+fn after(quoting: Quoting, c: u8) -> Quoting
+    ensures { result ≡ after_of quoting c }
+{
+    match quoting {
+        Quoting::Outside => if c == b'"' {
+            Quoting::Inside
+        } else {
+            Quoting::Outside
+        },
+        Quoting::Inside => {
+            if c == b'"' {
+                Quoting::Outside
+            } else if c == b'\\' {
+                Quoting::Escaped
+            } else {
+                Quoting::Inside
+            }
+        }
+        Quoting::Escaped => Quoting::Inside,
+    }
+}
+
+fn is_number_char(c: u8) -> bool
+    ensures { result ≡ is_number_char_of c }
+{
+    c.is_ascii_digit() || b"+-.eE".contains(&c)
+}
+
+// Whether the byte is a number character outside the strings.
+fn is_in_run(quoting: Quoting, c: u8) -> bool
+    ensures { result ≡ (is_outside quoting && is_number_char_of c) }
+{
+    match quoting {
+        Quoting::Outside => is_number_char(c),
+        Quoting::Inside => false,
+        Quoting::Escaped => false,
+    }
+}
+
+// Where the first number character outside the strings stands, from a byte on that is outside.
+fn run_start(bytes: &[u8], from: usize) -> usize
+    requires { from ≤ length bytes.now }
+    ensures place { (from ≤ result) × (result ≤ length bytes.now) }
+    ensures found { result < length bytes.now → is_number_char_of (slice_index bytes.now result) ≡ true }
+    ensures pieces { joined (pieces Outside (drop from bytes.now))
+        ≡ before (slice_range bytes.now from result) (joined (pieces Outside (drop result bytes.now))) }
+{
+    let mut quoting = Quoting::Outside;
+    for at in from..bytes.len() {
+        if is_in_run(quoting, bytes[at]) {
+            return at;
+        }
+        quoting = after(quoting, bytes[at]);
+    }
+    bytes.len()
+}
+
+// Where the run of number characters ends that begins at `start`.
+fn run_end(bytes: &[u8], start: usize) -> usize
+    requires { start ≤ length bytes.now }
+    ensures { result ≡ start + prefix_len is_number_char_of (drop start bytes.now) }
+{
+    for end in start..bytes.len() {
+        if !is_number_char(bytes[end]) {
+            return end;
+        }
+    }
+    bytes.len()
+}
+
+fn all_zeros(bytes: &[u8]) -> bool
+    ensures { result ≡ list_all (λ c. c == 48) bytes.now }
+{
+    bytes.iter().all(|c| *c == b'0')
+}
+
+fn all_digits(bytes: &[u8]) -> bool
+    ensures { result ≡ list_all is_ascii_digit bytes.now }
+{
+    bytes.iter().all(|c| c.is_ascii_digit())
+}
+
+fn are_zeros(text: &str) -> bool
+    ensures { result ≡ are_zeros_of text.now }
+{
+    !text.is_empty() && all_zeros(text.as_bytes())
+}
+
+// What stands before the point of a whole number, if the run is one.
+fn whole_part(run: &str) -> Option<&str>
+    ensures { option_map (λ s. s.now) result
+        ≡ (if is_whole run.now then Some (whole_part_of run.now) else None) }
+{
+    match run.split_once('.') {
+        None => Some(run),
+        Some((whole, zeros)) => if are_zeros(zeros) { Some(whole) } else { None },
+    }
+}
+
+fn are_digits(text: &str) -> bool
+    ensures { result ≡ are_digits_of text.now }
+{
+    let bytes = text.as_bytes();
+    !bytes.is_empty() && all_digits(bytes) && (bytes[0] != b'0' || bytes.len() == 1)
+}
+
+// The number that the digits spell, if they are digits of a number below 2^64.
+fn magnitude(digits: &str) -> Option<u64>
+    ensures { result ≡ (if are_digits_of digits.now && nat_lt (digits_value 10 digits.now) (2 ^ 64)
+        then Some (digits_value 10 digits.now) else None) }
+{
+    if !are_digits(digits) {
+        return None;
+    }
+    digits.parse::<u64>().ok()
+}
+
+fn respelling(whole: &str) -> Option<&str>
+    ensures { option_map (λ s. s.now) result ≡ respelt_whole whole.now }
+{
+    let Some(digits) = whole.strip_prefix('-') else {
+        let _number = magnitude(whole)?;
+        return Some(whole);
+    };
+    let number = magnitude(digits)?;
+    if number == 0 {
+        Some(digits)
+    } else if number <= 1 << 63 {
+        Some(whole)
+    } else {
+        None
+    }
+}
+
+fn begins_number(run: &str) -> bool
+    ensures { result ≡ begins_number_of run.now }
+{
+    match run.as_bytes().first() {
+        None => false,
+        Some(c) => c.is_ascii_digit() || *c == b'-',
+    }
+}
+
+// What a run is respelt as.
+fn spelling(run: &str) -> Option<&str>
+    ensures { option_map (λ s. s.now) result ≡ piece_text (run_of run.now) }
+{
+    if begins_number(run) {
+        respelling(whole_part(run)?)
+    } else {
+        Some(run)
+    }
+}
+
+/// The text with each of its numbers respelt in plain decimal digits, or `None` where one of them
+/// isn't a whole number from -2^63 to 2^64 - 1 (this project's choice). A number is a maximal run
+/// of the characters `0` to `9`, `+`, `-`, `.`, `e`, `E` outside the strings that begins with a
+/// digit or `-`. It has no leading zero, no exponent, and after its point zeros alone; `-0` is 0.
+/// The error says that memory was refused.
+pub fn plain_of(alloc: Global, text: &str) -> Result<Option<String>, OutOfMemory>
+    ensures { IfOk result (λ o. option_map string_bytes o ≡ plain text.now) }
+{
+    let bytes = text.as_bytes();
+    let mut out = String::with_capacity(alloc, text.len())?;
+    let mut at = 0;
+    while at < bytes.len() {
+        let start = run_start(bytes, at);
+        let end = run_end(bytes, start);
+        let Some(number) = spelling(&text[start..end]) else {
+            return Ok(None);
+        };
+        out.push_str(&text[at..start])?;
+        out.push_str(number)?;
+        at = end;
+    }
+    Ok(Some(out))
+}

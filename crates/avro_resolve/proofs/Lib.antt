@@ -1,0 +1,10 @@
+pub mod NameLemmas
+pub mod FieldLemmas
+pub mod Flags
+pub mod Monotone
+pub mod Members
+pub mod SupportLemmas
+pub mod Strikes
+pub mod Ends
+pub mod Denoted
+pub mod Itself

@@ -1,0 +1,29 @@
+-- Fields, symbols and nodes of the code, and what contracts see of them.
+use Rattle.std.proofs.Common.{◌≡◌, ℕ, ◌<◌, List, [], ◌∷◌, Option, Some, None, Bool, true, false, true≢false, length, map, get_or, is_some, String, Global, string_bytes, refl, sym, ap, subst, ◌∙◌}
+use Rattle.std.specs.Prelude.{All, Contains, IsSome, IsTrue, option_map, slice_get, ◌↔◌}
+use Rattle.std.specs.List.{list_any, list_all}
+use Rattle.std.proofs.lemmas.List.Sums.{AllPass-from_list_all, list_all-from_AllPass}
+use Rattle.std.specs.Str.{bytes_eq}
+use Rattle.std.proofs.Math.ListN.{get_or-map}
+use Rattle.std.proofs.lemmas.List.{length-map}
+use Rattle.std.proofs.lemmas.List.Elements.{All-map, All-weaker}
+use Rattle.std.proofs.lemmas.Option.{slice_get-map}
+use Rattle.avro_nodes.specs.declared.node.Node.{Node}
+use Rattle.avro_nodes.specs.Nodes.{NodeView, node_view, nodes_view, texts_view}
+use Rattle.avro_resolve.proofs.NameLemmas.{has_texts}
+
+-- what holds of each element's view
+pub all_of : {X Y : Type 0} (P : Y → Type 0) (f : X → Y) (xs : List X) → All P (map f xs) → All (λ x. P (f x)) xs
+all_of P f xs h k d l = subst P (get_or-map f xs k d) (h k (f d) (rw length-map l))
+
+-- each of a writer's symbols is one of the reader's
+pub all_symbols : (known symbols : List (String Global)) → IsTrue (list_all (λ s. list_any (λ t. bytes_eq (string_bytes t) (string_bytes s)) known) symbols) ↔ All (Contains (texts_view known)) (texts_view symbols)
+all_symbols known symbols =
+    let test = λ (s : String Global). list_any (λ t. bytes_eq (string_bytes t) (string_bytes s)) known in (
+      (λ h. All-map (Contains (texts_view known)) string_bytes symbols (λ k d l. (has_texts known (string_bytes (get_or symbols k d))).0 (AllPass-from_list_all test symbols h k d l))),
+      (λ h. list_all-from_AllPass test symbols (λ k d l. (has_texts known (string_bytes (get_or symbols k d))).1 (all_of (Contains (texts_view known)) string_bytes symbols h k d l))),
+    )
+
+pub no_fallback : (o : Option (String Global)) (b : Bool) → b ≡ is_some o → b ≡ false → IsSome (option_map string_bytes o) → ⊥
+no_fallback None b e f h = true≢false (sym h)
+no_fallback (Some x) b e f h = true≢false (sym e ∙ f)

@@ -1,0 +1,4 @@
+pub mod Resolution
+pub mod Places
+pub mod Witnesses
+pub mod Left

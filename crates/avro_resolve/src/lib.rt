@@ -1,0 +1,18 @@
+//! Whether a reader's schema can read what a writer's schema wrote (Avro 1.11 specification,
+//! Schema Resolution).
+#![tactic(auto)]
+
+mod error;
+mod fields;
+mod kinds;
+mod names;
+mod resolving;
+mod striking;
+mod support;
+mod table;
+
+pub use error::OutOfMemory;
+pub use resolving::{Verdict, resolves, resolves_itself, resolves_plain};
+
+#[cfg(test)]
+mod tests;

@@ -1,0 +1,55 @@
+//! Whether a writer's schema resolves with a reader's.
+
+ghost use Rattle.std.specs.Prelude.{◌≡◌, ◌<◌, ◌≤◌, ◌↔◌, IsTrue, IfOk, false};
+ghost use Rattle.avro_nodes.specs.Nodes.{nodes_view};
+ghost use Rattle.avro_resolve.specs.Resolution.{Resolves};
+ghost use Rattle.avro_resolve.specs.Witnesses.{HasClosedSet, HasRefutation};
+
+use crate::error::OutOfMemory;
+use crate::striking::largest_closed;
+use avro_schema::Schema;
+use std::alloc::Global;
+
+/// What `resolves` answers.
+#[derive(Clone, Copy, Debug, PartialEq, Eq)]
+pub struct Verdict {
+    /// whether the writer's schema resolves with the reader's
+    pub yes: bool,
+    /// how many pairs of places were looked at; as long as pairs are struck out, all of them
+    pub visits: u128,
+}
+
+/// Whether the writer's schema resolves with the reader's (Avro 1.11 specification, Schema
+/// Resolution), by striking out pairs of places from the set of all pairs.
+pub fn resolves_plain(alloc: Global, writer: &Schema, reader: &Schema) -> Result<bool, OutOfMemory>
+    ensures { IfOk result (λ yes. IsTrue yes ↔ Resolves (nodes_view writer.now) (nodes_view reader.now)) }
+{
+    let left = largest_closed(alloc, writer, reader)?;
+    Ok(left.has(0, 0))
+}
+
+/// Whether the writer's schema resolves with the reader's (Avro 1.11 specification, Schema
+/// Resolution), and how many pairs of places were looked at for it. A small number of them comes
+/// with a small witness: a closed set, or a list of pairs that refutes the roots.
+pub fn resolves(alloc: Global, writer: &Schema, reader: &Schema) -> Result<Verdict, OutOfMemory>
+    ensures yes { IfOk result (λ v. IsTrue v.yes ↔ Resolves (nodes_view writer.now) (nodes_view reader.now)) }
+    ensures at_least { IfOk result (λ v. 1 ≤ v.visits) }
+    ensures closed { IfOk result (λ v. IsTrue v.yes → v.visits < 1000
+        → HasClosedSet (nodes_view writer.now) (nodes_view reader.now) v.visits) }
+    ensures refuted { IfOk result (λ v. v.yes ≡ false → v.visits < 1000
+        → HasRefutation (nodes_view writer.now) (nodes_view reader.now) v.visits) }
+{
+    let left = largest_closed(alloc, writer, reader)?;
+    Ok(Verdict {
+        yes: left.has(0, 0),
+        visits: writer.places() as u128 * reader.places() as u128,
+    })
+}
+
+/// Every schema resolves with itself: a law of the rules, in whose proof the pairs of a place with
+/// itself, and of a branch with its union, are a closed set.
+pub fn resolves_itself(schema: &Schema)
+    ensures { Resolves (nodes_view schema.now) (nodes_view schema.now) }
+{
+    let _places = schema.places();
+}

@@ -1,0 +1,209 @@
+-- What a text denotes, computed and by the rules.
+use Rattle.std.proofs.Common.{Bool, ◌≡◌, ◌≢◌, ℕ, ◌≤◌, List, [], length, true, false, cond, Option, Some, None, refl, sym, ap, subst, ◌∙◌, true≢false, length-append, arith, ◌<◌, ◌+◌, ◌&&◌}
+use Rattle.std.specs.Prelude.{nat_le, IsTrue}
+use Rattle.std.proofs.lemmas.Bool.Decides.{nat_tests}
+use Rattle.std.proofs.lemmas.Option.{same_Some}
+use Rattle.serde_json.specs.Data.{Data, Items}
+use Rattle.serde_json.specs.Read.{read}
+use Rattle.avro_nodes.specs.Nodes.{FieldView, NodeView}
+use Rattle.avro_nodes.specs.Names.{has_dot}
+use Rattle.avro_nodes.specs.Identity.{identity, nodes_pass, nests_within}
+use Rattle.avro_nodes.specs.Plain.{plain}
+use Rattle.avro_nodes.specs.Whole.{has_whole_numbers}
+use Rattle.avro_schema.specs.Names.{Known, none_known, or_else, resolved}
+use Rattle.avro_schema.specs.Parts.{max_places}
+use Rattle.avro_schema.specs.Members.{◌>>=◌, max_nesting}
+use Rattle.avro_schema.specs.Reading.{type_at}
+use Rattle.avro_schema.specs.Defaults.{node_defaults_fit}
+use Rattle.avro_schema.specs.Denotes.{Denotes, a_primitive, a_reference, primitive_type, reference_type, array_type, map_type, fixed_type, enum_type, record_type, union_type, Branches, no_branch, branch, Fields, no_field, field}
+use Rattle.avro_schema.specs.Texts.{max_text, TextDenotes, IsSchema, value_in, typed, checked, denoted}
+use Rattle.avro_schema.specs.Outcome.{Fails, Adds}
+use Rattle.avro_schema.specs.declared.error.SchemaError.{SchemaError}
+use Rattle.avro_schema.specs.declared.error.SchemaError.TheVariants.{NotJson, BadNumber, BadName, Undefined, Redefined, BadShape, BadUnion, BadDefault, TooLarge, OutOfMemory}
+use Rattle.avro_schema.proofs.Inversion.{bind2, guard_some, guard_none}
+use Rattle.avro_schema.proofs.Computes.{computes}
+use Rattle.avro_schema.proofs.Sound.{says}
+use Rattle.avro_schema.proofs.Passing.{denoted_nest, denoted_whole}
+use Rattle.avro_schema.proofs.Fitting.{defaults_say, defaults_compute}
+
+nat_le_yes : (a b : ℕ) → a ≤ b → nat_le a b ≡ true
+nat_le_yes a b h = grind (arith, nat_tests)
+
+nat_le_says : (a b : ℕ) → nat_le a b ≡ true → a ≤ b
+nat_le_says a b h = grind (arith, nat_tests)
+
+-- an error other than of memory says that nothing is given
+pub refused : {A : Type 0} (e : SchemaError) (o : Option A) → e ≢ OutOfMemory → Fails e o → o ≡ None
+refused OutOfMemory o other f = absurd (other refl)
+refused NotJson o other f = f
+refused BadNumber o other f = f
+refused BadName o other f = f
+refused Undefined o other f = f
+refused Redefined o other f = f
+refused BadShape o other f = f
+refused BadUnion o other f = f
+refused BadDefault o other f = f
+refused TooLarge o other f = f
+
+pub typed_is : (text : List ℕ) (d : Data) (p : ℕ) (after : List NodeView) (known2 : Known) → length text ≤ max_text → value_in text ≡ Some d → Adds (type_at max_nesting [] d none_known 0) p [] after known2 → typed text ≡ Some after
+unfolding typed
+typed_is text d p after known2 short e root = rw (nat_le_yes (length text) max_text short, e, root.is, ← root.after_is) refl
+
+value_says : (text : List ℕ) (d : Data) → value_in text ≡ Some d → (respelt : List ℕ) × (plain text ≡ Some respelt) × (read respelt ≡ Some d) × (has_whole_numbers d ≡ true)
+unfolding value_in
+value_says text d e =
+    let q = bind2 (plain text) (λ respelt. read respelt) (λ _ value. cond (has_whole_numbers value) (Some value) None) d e in
+    let g = guard_some (has_whole_numbers q.1) (Some q.1) d q.4 in
+    let same : q.1 ≡ d = same_Some _ _ g.1 in
+    (q.0, q.2, q.3 ∙ ap (λ (x : Data). Some x) same, ap has_whole_numbers (sym same) ∙ g.0)
+
+value_computes : (text respelt : List ℕ) (d : Data) → plain text ≡ Some respelt → read respelt ≡ Some d → has_whole_numbers d ≡ true → value_in text ≡ Some d
+unfolding value_in
+value_computes text respelt d e f g = rw (e, f, g) refl
+
+-- ---- the root stands at place 0
+
+nothing_at : (dot : Bool) (o : Option ℕ) → o ≡ None → cond dot o (or_else o o) ≡ None
+nothing_at true o e = e
+nothing_at false o e = rw e refl
+
+nothing_resolved : (space name : List ℕ) → resolved none_known space name ≡ None
+unfolding resolved
+nothing_resolved space name = nothing_at (has_dot name) None refl
+
+root_place : {n : ℕ} {space : List ℕ} {d : Data} {first place : ℕ} {known known2 : Known} {nodes : List NodeView} → Denotes n space d known first place nodes known2 → known ≡ none_known → place ≡ first
+root_place (a_primitive e h) k = refl
+root_place (a_reference {space = space} {name = name} e f) k = let none = sym f ∙ ap (λ (x : Known). resolved x space name) k ∙ nothing_resolved space name in absurd cc
+root_place (primitive_type s o h) k = refl
+root_place (reference_type {space = space} {name = name} e w o f) k = let none = sym f ∙ ap (λ (x : Known). resolved x space name) k ∙ nothing_resolved space name in absurd cc
+root_place (array_type s i o h inner) k = refl
+root_place (map_type s i o h inner) k = refl
+root_place (fixed_type s n z o h) k = refl
+root_place (enum_type s n e o h) k = refl
+root_place (record_type s n i o h fs d) k = refl
+root_place (union_type h bs d) k = refl
+
+-- ---- no more places than there may be
+
+mutual
+  pub places_below : {n : ℕ} {space : List ℕ} {d : Data} {first place : ℕ} {known known2 : Known} {nodes : List NodeView} → Denotes n space d known first place nodes known2 → first ≤ max_places → first + length nodes ≤ max_places
+  places_below (a_primitive e h) k = omega arith
+  places_below (a_reference e f) k = omega arith
+  places_below (primitive_type s o h) k = omega arith
+  places_below (reference_type e w o f) k = omega arith
+  places_below (array_type s i o h inner) k = let more = places_below inner (omega arith) in omega arith
+  places_below (map_type s i o h inner) k = let more = places_below inner (omega arith) in omega arith
+  places_below (fixed_type s n z o h) k = omega arith
+  places_below (enum_type s n e o h) k = omega arith
+  places_below (record_type s n i o h fs d) k = let more = fields_below fs (omega arith) in omega arith
+  places_below (union_type h bs d) k = let more = branches_below bs (omega arith) in omega arith
+
+  branches_below : {n : ℕ} {space : List ℕ} {ds : Items} {first : ℕ} {known known2 : Known} {branches : List (ℕ × ℕ)} {nodes : List NodeView} → Branches n space ds known first branches nodes known2 → first ≤ max_places → first + length nodes ≤ max_places
+  branches_below no_branch k = omega arith
+  branches_below (branch {nodes = nodes} {more = more} d e rest) k = let here = places_below d k in let others = branches_below rest here in omega (arith, length-append nodes more)
+
+  fields_below : {n : ℕ} {space : List ℕ} {ds : Items} {first : ℕ} {known known2 : Known} {fields : List FieldView} {nodes : List NodeView} → Fields n space ds known first fields nodes known2 → first ≤ max_places → first + length nodes ≤ max_places
+  fields_below no_field k = omega arith
+  fields_below (field {nodes = nodes} {more = more} i t d rest) k = let here = places_below d k in let others = fields_below rest here in omega (arith, length-append nodes more)
+
+-- a schema has at most 4,096 places
+pub few_places : (nodes : List NodeView) → IsSchema nodes → length nodes ≤ max_places
+few_places nodes s = let h = places_below s.1.type_is (omega arith) in omega arith
+
+-- ---- types
+
+-- what the types of a text give, before defaults and identity text are looked at
+pub record Types (text : List ℕ) (nodes : List NodeView) : Type 0 where
+  pub respelt : List ℕ
+  pub value : Data
+  pub known : Known
+  pub short : length text ≤ max_text
+  pub plain_is : plain text ≡ Some respelt
+  pub value_is : read respelt ≡ Some value
+  pub whole : has_whole_numbers value ≡ true
+  pub type_is : Denotes max_nesting [] value none_known 0 0 nodes known
+
+pub typed_says : (text : List ℕ) (nodes : List NodeView) → typed text ≡ Some nodes → Types text nodes
+unfolding typed
+typed_says text nodes e =
+    let g = guard_some (nat_le (length text) max_text) (value_in text >>= λ value. type_at max_nesting [] value none_known 0 >>= λ p. Some p.nodes) nodes e in
+    let q = bind2 (value_in text) (λ value. type_at max_nesting [] value none_known 0) (λ _ p. Some p.nodes) nodes g.1 in
+    let v = value_says text q.0 q.2 in
+    let same : q.1.nodes ≡ nodes = same_Some _ _ q.4 in
+    let root = says max_nesting [] q.0 none_known 0 q.1 q.3 in
+    record {
+      respelt = v.0;
+      value = q.0;
+      known = q.1.known;
+      short = nat_le_says (length text) max_text g.0;
+      plain_is = v.1;
+      value_is = v.2;
+      whole = v.3;
+      type_is = subst (λ (x : List NodeView). Denotes max_nesting [] q.0 none_known 0 0 x q.1.known) same (subst (λ (place : ℕ). Denotes max_nesting [] q.0 none_known 0 place q.1.nodes q.1.known) (root_place root refl) root);
+    }
+
+typed_computes : (text respelt : List ℕ) (value : Data) (known : Known) (nodes : List NodeView) → length text ≤ max_text → plain text ≡ Some respelt → read respelt ≡ Some value → has_whole_numbers value ≡ true
+    → Denotes max_nesting [] value none_known 0 0 nodes known → typed text ≡ Some nodes
+unfolding typed
+typed_computes text respelt value known nodes short p v w t = rw (nat_le_yes (length text) max_text short, value_computes text respelt value p v w, computes t) refl
+
+-- the conditions of the identity text
+pub typed_whole : (text : List ℕ) (nodes : List NodeView) → typed text ≡ Some nodes → IsTrue (nodes_pass has_whole_numbers nodes)
+unfolding nodes_pass
+typed_whole text nodes e = let t = typed_says text nodes e in rw (denoted_whole t.type_is t.whole) refl
+
+pub typed_nest : (text : List ℕ) (nodes : List NodeView) → typed text ≡ Some nodes → IsTrue (nodes_pass (nests_within 24) nodes)
+unfolding nodes_pass
+typed_nest text nodes e = let t = typed_says text nodes e in rw (denoted_nest t.type_is) refl
+
+-- ---- texts
+
+-- what is computed is denoted
+pub denoted_says : (text : List ℕ) (nodes : List NodeView) → typed text ≡ Some nodes → node_defaults_fit nodes nodes ≡ true → length (identity nodes) ≤ max_text → TextDenotes text nodes
+denoted_says text nodes e fit short =
+    let t = typed_says text nodes e in
+    record {
+      respelt = t.respelt;
+      value = t.value;
+      known = t.known;
+      short = t.short;
+      plain_is = t.plain_is;
+      value_is = t.value_is;
+      whole = t.whole;
+      type_is = t.type_is;
+      defaults = defaults_say nodes nodes fit;
+      bounded = short;
+    }
+
+-- what is denoted is computed
+pub denotes_typed : (text : List ℕ) (nodes : List NodeView) → TextDenotes text nodes → typed text ≡ Some nodes
+denotes_typed text nodes t = typed_computes text t.respelt t.value t.known nodes t.short t.plain_is t.value_is t.whole t.type_is
+
+pub denotes_fitting : (text : List ℕ) (nodes : List NodeView) → TextDenotes text nodes → node_defaults_fit nodes nodes ≡ true
+denotes_fitting text nodes t = defaults_compute nodes nodes t.defaults (denoted_nest t.type_is)
+
+pub denotes_computes : (text : List ℕ) (nodes : List NodeView) → TextDenotes text nodes → denoted text ≡ Some nodes
+unfolding denoted checked
+denotes_computes text nodes t = rw (denotes_typed text nodes t, denotes_fitting text nodes t, nat_le_yes (length (identity nodes)) max_text t.bounded) refl
+
+-- a text denotes at most one schema
+pub one_schema : (text : List ℕ) (xs ys : List NodeView) → TextDenotes text xs → TextDenotes text ys → xs ≡ ys
+one_schema text xs ys t u = same_Some _ _ (sym (denotes_typed text xs t) ∙ denotes_typed text ys u)
+
+-- where no types are computed, nothing is denoted
+pub none_typed : (text : List ℕ) → typed text ≡ None → (nodes : List NodeView) → ¬ TextDenotes text nodes
+none_typed text none nodes t = let e = denotes_typed text nodes t in absurd cc
+
+-- where a default does not fit, nothing is denoted
+pub none_fitting : (text : List ℕ) (nodes : List NodeView) → typed text ≡ Some nodes → node_defaults_fit nodes nodes ≡ false → (others : List NodeView) → ¬ TextDenotes text others
+none_fitting text nodes e misfit others t =
+    let same : nodes ≡ others = same_Some _ _ (sym e ∙ denotes_typed text others t) in
+    true≢false (sym (denotes_fitting text others t) ∙ ap (λ (x : List NodeView). node_defaults_fit x x) (sym same) ∙ misfit)
+
+-- where the identity text is too long, nothing is denoted
+pub none_bounded : (text : List ℕ) (nodes : List NodeView) → typed text ≡ Some nodes → max_text < length (identity nodes) → (others : List NodeView) → ¬ TextDenotes text others
+none_bounded text nodes e long others t =
+    let same : nodes ≡ others = same_Some _ _ (sym e ∙ denotes_typed text others t) in
+    let same_length : length (identity nodes) ≡ length (identity others) = ap (λ (x : List NodeView). length (identity x)) same in
+    let short = t.bounded in
+    absurd (omega arith)

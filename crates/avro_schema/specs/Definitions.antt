@@ -1,0 +1,101 @@
+-- What a declaration says beside the types inside it.
+use Rattle.std.specs.Prelude.{ℕ, List, [], ◌∷◌, ◌||◌, if◌then◌else◌, Option, Some, None, option_map, is_some, codes, string_bytes}
+use Rattle.std.specs.List.{list_any}
+use Rattle.std.specs.Str.{bytes_eq}
+use Rattle.serde_json.specs.Data.{Data, Members}
+use Rattle.serde_json.specs.Find.{get_member, as_str}
+use Rattle.serde_json.specs.View.{view}
+use Rattle.avro_nodes.specs.declared.node.Order.{Order}
+use Rattle.avro_nodes.specs.declared.node.Order.TheVariants.{Ascending}
+use Rattle.avro_nodes.specs.Nodes.{NamedView, texts_view, enumeration, fixed}
+use Rattle.avro_schema.specs.declared.definitions.Label.{Label}
+use Rattle.avro_schema.specs.Names.{Known, is_simple, last_part, allowed, full_name, alias_in, defined}
+use Rattle.avro_nodes.specs.Names.{namespace_of}
+use Rattle.avro_schema.specs.Words.{kind_of, order_of}
+use Rattle.avro_schema.specs.Members.{◌>>=◌, without_all, text_in, array_in, text_if_any, texts_in, texts_if_any, bounded, bounded_value, size_of}
+use Rattle.avro_schema.specs.Distinct.{all_differ}
+use Rattle.avro_schema.specs.Parts.{Part, room_at}
+
+-- a full name that may be defined: not known, and its last part no primitive's name
+abbrev pub if_new : Known → List ℕ → Option (List ℕ)
+if_new known full = if is_some (known full) || is_some (kind_of (last_part full)) then None else Some full
+
+-- the full name of a new definition
+unfoldable pub new_name : List ℕ → Members → Known → Option (List ℕ)
+new_name space ms known = do
+  name ← text_in (codes "name") ms
+  attribute ← text_if_any (codes "namespace") (without_all (codes "name" ∷ []) ms)
+  full ← full_name name attribute space
+  if_new known full
+
+-- the keys of a definition's names
+abbrev pub naming : List (List ℕ)
+naming = codes "name" ∷ codes "namespace" ∷ codes "aliases" ∷ []
+
+-- the names of a new definition
+unfoldable pub named_in : List ℕ → Members → Known → Option NamedView
+named_in space ms known = do
+  full ← new_name space ms known
+  aliases ← texts_if_any (alias_in (namespace_of full)) (get_member (codes "aliases") (without_all (codes "name" ∷ codes "namespace" ∷ []) ms))
+  Some (record { name = full; aliases = aliases })
+
+-- one of the symbols
+abbrev pub symbol_in : List (List ℕ) → Data → Option (List ℕ)
+symbol_in symbols d = as_str d >>= λ s. if list_any (λ t. bytes_eq t s) symbols then Some s else None
+
+-- an enum's default, which may be missing
+abbrev pub fallback_in : List (List ℕ) → Option Data → Option (Option (List ℕ))
+fallback_in symbols None = Some None
+fallback_in symbols (Some d) = symbol_in symbols d >>= λ s. Some (Some s)
+
+-- an enum's symbols
+unfoldable pub symbols_in : Members → Option (List (List ℕ))
+symbols_in ms = do
+  items ← array_in (codes "symbols") ms
+  symbols ← texts_in (allowed is_simple) items
+  if all_differ bytes_eq symbols then Some symbols else None
+
+unfoldable pub enum_at : List ℕ → Members → Known → ℕ → Option (Part ℕ)
+enum_at space ms known first = do
+  place ← room_at first
+  named ← named_in space ms known
+  symbols ← symbols_in (without_all naming ms)
+  fallback ← fallback_in symbols (get_member (codes "default") (without_all (codes "symbols" ∷ []) (without_all naming ms)))
+  extra ← bounded (without_all (codes "symbols" ∷ codes "default" ∷ []) (without_all naming ms))
+  Some (record { it = place; nodes = enumeration named symbols fallback extra ∷ []; known = defined known named.name place })
+
+unfoldable pub fixed_at : List ℕ → Members → Known → ℕ → Option (Part ℕ)
+fixed_at space ms known first = do
+  place ← room_at first
+  named ← named_in space ms known
+  size ← size_of (get_member (codes "size") (without_all naming ms))
+  extra ← bounded (without_all (codes "size" ∷ []) (without_all naming ms))
+  Some (record { it = place; nodes = fixed named size extra ∷ []; known = defined known named.name place })
+
+-- a field's order, ascending where it is missing
+abbrev pub order_in : Option Data → Option Order
+order_in None = Some Ascending
+order_in (Some d) = as_str d >>= order_of
+
+-- what a field says beside its type
+pub record LabelView : Type 0 where
+  pub name : List ℕ
+  pub aliases : List (List ℕ)
+  pub order : Order
+  pub value : Option Data
+
+abbrev pub label_view : Label → LabelView
+label_view l = record { name = string_bytes l.name; aliases = texts_view l.aliases.items; order = l.order; value = option_map view l.value }
+
+unfoldable pub label_in : Members → Option LabelView
+label_in ms = do
+  text ← text_in (codes "name") ms
+  name ← allowed is_simple text
+  aliases ← texts_if_any (allowed is_simple) (get_member (codes "aliases") (without_all (codes "name" ∷ []) ms))
+  order ← order_in (get_member (codes "order") (without_all (codes "name" ∷ codes "aliases" ∷ []) ms))
+  value ← bounded_value (get_member (codes "default") (without_all (codes "name" ∷ codes "aliases" ∷ codes "order" ∷ []) ms))
+  Some (record { name = name; aliases = aliases; order = order; value = value })
+
+-- the keys of these
+abbrev pub labelling : List (List ℕ)
+labelling = codes "name" ∷ codes "aliases" ∷ codes "order" ∷ codes "default" ∷ []

@@ -1,0 +1,11 @@
+pub mod Names
+pub mod Words
+pub mod Members
+pub mod Outcome
+pub mod Denotes
+pub mod Distinct
+pub mod Definitions
+pub mod Parts
+pub mod Reading
+pub mod Defaults
+pub mod Texts

@@ -1,0 +1,72 @@
+-- The attributes of a declaration, as the members of a JSON object (Avro 1.11 specification, Schema Declaration).
+use Rattle.std.specs.Prelude.{ℕ, List, [], ◌∷◌, nat_le, nat_lt, if◌then◌else◌, ◌^◌, Option, Some, None, option_map, option_and_then}
+use Rattle.std.specs.Str.{bytes_eq}
+use Rattle.serde_json.specs.Data.{Data, Items, no_items, item, Members, no_members, member, depth, members_depth}
+use Rattle.avro_schema.specs.Names.{allowed, is_simple, alias_in}
+use Rattle.serde_json.specs.Find.{get_member, as_str, as_array, as_number, as_u64}
+
+infixl 10 ◌>>=◌
+abbrev pub ◌>>=◌ : {A B : Type 0} → Option A → (A → Option B) → Option B
+o >>= f = option_and_then f o
+
+-- the members but those of a key
+abbrev pub without : List ℕ → Members → Members
+without k no_members = no_members
+without k (member l d ms) = if bytes_eq k l then without k ms else member l d (without k ms)
+
+-- the members but those of each of these keys
+abbrev pub without_all : List (List ℕ) → Members → Members
+without_all [] ms = ms
+without_all (k ∷ ks) ms = without_all ks (without k ms)
+
+-- an attribute that is a string
+unfoldable pub text_in : List ℕ → Members → Option (List ℕ)
+text_in k ms = option_and_then as_str (get_member k ms)
+
+-- an attribute that is an array
+unfoldable pub array_in : List ℕ → Members → Option Items
+array_in k ms = option_and_then as_array (get_member k ms)
+
+abbrev pub text_of_any : Option Data → Option (Option (List ℕ))
+text_of_any None = Some None
+text_of_any (Some d) = option_map Some (as_str d)
+
+-- an attribute that is a string, and may be missing
+unfoldable pub text_if_any : List ℕ → Members → Option (Option (List ℕ))
+text_if_any k ms = text_of_any (get_member k ms)
+
+-- texts, each as the rule gives it
+unfoldable pub texts_in : (List ℕ → Option (List ℕ)) → Items → Option (List (List ℕ))
+texts_in rule no_items = Some []
+texts_in rule (item d ds) = do
+  text ← as_str d
+  name ← rule text
+  more ← texts_in rule ds
+  Some (name ∷ more)
+
+-- the rule for a name in a list: an alias of a type in the namespace, or else a simple name
+abbrev pub rule_by : Option (List ℕ) → List ℕ → Option (List ℕ)
+rule_by None text = allowed is_simple text
+rule_by (Some space) text = alias_in space text
+
+-- an array of texts, which may be missing
+abbrev pub texts_if_any : (List ℕ → Option (List ℕ)) → Option Data → Option (List (List ℕ))
+texts_if_any rule None = Some []
+texts_if_any rule (Some d) = as_array d >>= λ ds. texts_in rule ds
+
+-- how deep a default and each other attribute may nest, and types too (this project's choice)
+abbrev pub max_nesting : ℕ
+max_nesting = 24
+
+-- other attributes, none of which nests too deep
+unfoldable pub bounded : Members → Option Members
+bounded ms = if nat_le (members_depth ms) max_nesting then Some ms else None
+
+-- a default that does not nest too deep, and may be missing
+abbrev pub bounded_value : Option Data → Option (Option Data)
+bounded_value None = Some None
+bounded_value (Some d) = if nat_le (depth d) max_nesting then Some (Some d) else None
+
+-- a fixed's size: a whole number below 2^31 (this project's choice)
+unfoldable pub size_of : Option Data → Option ℕ
+size_of o = o >>= as_number >>= as_u64 >>= λ n. if nat_lt n (2 ^ 31) then Some n else None

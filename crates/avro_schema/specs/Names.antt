@@ -1,0 +1,81 @@
+-- Names and namespaces, as bytes (Avro 1.11 specification, Names; Aliases). The null namespace is the empty text.
+use Rattle.std.specs.Prelude.{ℕ, List, [], ◌∷◌, ◌++◌, Bool, true, false, not, ◌&&◌, ◌||◌, ◌==◌, nat_le, if◌then◌else◌, Option, Some, None}
+use Rattle.std.specs.List.{list_any}
+use Rattle.std.specs.Map.{update}
+use Rattle.std.specs.Str.{bytes_eq}
+use Rattle.avro_nodes.specs.Names.{is_dot, has_dot}
+
+-- a letter of `A` to `Z` or `a` to `z`, or `_`
+abbrev pub is_start : ℕ → Bool
+is_start c = (nat_le 65 c && nat_le c 90) || (nat_le 97 c && nat_le c 122) || (c == 95)
+
+-- one of those, or a digit
+abbrev pub is_part : ℕ → Bool
+is_part c = is_start c || (nat_le 48 c && nat_le c 57)
+
+-- the rest of simple names joined by dots; the first: whether a simple name begins here
+unfoldable pub is_rest : Bool → List ℕ → Bool
+is_rest fresh [] = not fresh
+is_rest true (c ∷ cs) = is_start c && is_rest false cs
+is_rest false (c ∷ cs) = if is_dot c then is_rest true cs else is_part c && is_rest false cs
+
+-- simple names joined by dots
+abbrev pub is_dotted : List ℕ → Bool
+is_dotted text = is_rest true text
+
+-- a simple name: `[A-Za-z_][A-Za-z0-9_]*`
+unfoldable pub is_simple : List ℕ → Bool
+is_simple text = is_dotted text && not (has_dot text)
+
+-- a namespace: nothing, or simple names joined by dots
+abbrev pub is_space : List ℕ → Bool
+is_space [] = true
+is_space (c ∷ cs) = is_dotted (c ∷ cs)
+
+-- the last part of a full name: all after its last dot
+unfoldable pub last_part : List ℕ → List ℕ
+last_part [] = []
+last_part (c ∷ cs) = if is_dot c || list_any is_dot cs then last_part cs else c ∷ cs
+
+-- the full name that a simple name has in a namespace
+unfoldable pub joined : List ℕ → List ℕ → List ℕ
+joined [] name = name
+joined (c ∷ space) name = c ∷ (space ++ 46 ∷ name)
+
+-- the names that are defined so far: the place of each, and none for any other name
+abbrev pub Known : Type 0
+Known = List ℕ → Option ℕ
+
+abbrev pub none_known : Known
+none_known name = None
+
+-- the names known, and this one for the definition at the place
+abbrev pub defined : Known → List ℕ → ℕ → Known
+defined known full place = update bytes_eq known full (Some place)
+
+abbrev pub or_else : {A : Type 0} → Option A → Option A → Option A
+or_else (Some x) o = Some x
+or_else None o = o
+
+-- The place that a reference names. With a dot it is a full name. Without one it is the name in the enclosing namespace or, where
+-- that is not defined so far, the name in the null namespace (this project's choice).
+unfoldable pub resolved : Known → List ℕ → List ℕ → Option ℕ
+resolved known space name = if has_dot name then known name else or_else (known (joined space name)) (known name)
+
+-- a text, where the test allows it
+abbrev pub allowed : (List ℕ → Bool) → List ℕ → Option (List ℕ)
+allowed test text = if test text then Some text else None
+
+-- a name without a dot in the namespace that is given beside it, or else in the enclosing one
+abbrev pub name_in : Option (List ℕ) → List ℕ → List ℕ → Option (List ℕ)
+name_in (Some space) enclosing name = if is_space space then Some (joined space name) else None
+name_in None enclosing name = Some (joined enclosing name)
+
+-- the full name that a definition's name gives, with the `namespace` attribute beside it and the enclosing namespace; a name with a dot
+-- is a full name, and what stands in `namespace` is then ignored
+unfoldable pub full_name : List ℕ → Option (List ℕ) → List ℕ → Option (List ℕ)
+full_name name attribute enclosing = if is_dotted name then (if has_dot name then Some name else name_in attribute enclosing name) else None
+
+-- the full name of an alias of a type whose namespace is given
+unfoldable pub alias_in : List ℕ → List ℕ → Option (List ℕ)
+alias_in space alias = if is_dotted alias then (if has_dot alias then Some alias else Some (joined space alias)) else None

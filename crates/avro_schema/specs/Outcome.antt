@@ -1,0 +1,41 @@
+-- What a function of the reader answers, beside what the definitions give.
+use Rattle.std.specs.Prelude.{◌≡◌, ℕ, List, ◌++◌, Option, Some, None, Result, Ok, Err, String}
+use Rattle.std.specs.BTreeMap.{BTreeMap, get_by_text}
+use Rattle.std.specs.declared.alloc.Global.{Global}
+use Rattle.avro_nodes.specs.Nodes.{NodeView}
+use Rattle.avro_schema.specs.Names.{Known}
+use Rattle.avro_schema.specs.Parts.{Part}
+use Rattle.avro_schema.specs.declared.error.SchemaError.{SchemaError}
+use Rattle.avro_schema.specs.declared.error.SchemaError.TheVariants.{NotJson, BadNumber, BadName, Undefined, Redefined, BadShape, BadUnion, BadDefault, TooLarge, OutOfMemory}
+
+-- an error other than of memory is given only where there is nothing to read
+abbrev pub Fails : {A : Type 0} → SchemaError → Option A → Type 0
+Fails OutOfMemory o = Unit {0}
+Fails NotJson o = o ≡ None
+Fails BadNumber o = o ≡ None
+Fails BadName o = o ≡ None
+Fails Undefined o = o ≡ None
+Fails Redefined o = o ≡ None
+Fails BadShape o = o ≡ None
+Fails BadUnion o = o ≡ None
+Fails BadDefault o = o ≡ None
+Fails TooLarge o = o ≡ None
+
+-- the value that the definitions give, seen by the first
+abbrev pub Gives : {X A : Type 0} → (X → A) → Result X SchemaError → Option A → Type 0
+Gives shown (Ok x) o = o ≡ Some (shown x)
+Gives shown (Err e) o = Fails e o
+
+-- the part that was read: what it is, the nodes that were added, and the names known now
+pub record Adds {A : Type 0} (o : Option (Part A)) (it : A) (before after : List NodeView) (known : Known) : Type 0 where
+  pub added : List NodeView
+  pub is : o ≡ Some (record { it = it; nodes = added; known = known })
+  pub after_is : after ≡ before ++ added
+
+abbrev pub Reads : {X A : Type 0} → (X → A) → Result X SchemaError → Option (Part A) → List NodeView → List NodeView → Known → Type 0
+Reads shown (Ok x) o before after known = Adds o (shown x) before after known
+Reads shown (Err e) o before after known = Fails e o
+
+-- the table of names as a function
+abbrev pub known_in : BTreeMap (String Global) ℕ → Known
+known_in table = λ name. get_by_text table name

@@ -1,0 +1,148 @@
+-- What a JSON value gives as a type, computed: its place, the nodes that it adds and the names known afterwards. The rules, one for
+-- each form, are those of `Denotes`, which says the same.
+use Rattle.std.specs.Prelude.{ℕ, zero, suc, ◌+◌, List, [], ◌∷◌, map, ◌==◌, if◌then◌else◌, Option, Some, None, option_map, codes}
+use Rattle.std.specs.Str.{bytes_eq}
+use Rattle.serde_json.specs.Data.{Data, string, Items, Members, no_members}
+use Rattle.serde_json.specs.Data as json
+use Rattle.serde_json.specs.Find.{get_member, as_object}
+use Rattle.avro_nodes.specs.declared.node.Kind.{Kind}
+use Rattle.avro_nodes.specs.declared.node.Kind.TheVariants.{Null, Boolean, Int, Long, Float, Double, Bytes, Text}
+use Rattle.avro_nodes.specs.Nodes.{FieldView, NodeView, primitive, array, mapping, union, enumeration, fixed, rec}
+use Rattle.avro_schema.specs.declared.words.Word.{Word}
+use Rattle.avro_schema.specs.declared.words.Word.TheVariants as word
+use Rattle.avro_schema.specs.declared.words.Container.{Container}
+use Rattle.avro_schema.specs.declared.words.Container.TheVariants.{Items as of_items, Values as of_values}
+use Rattle.avro_schema.specs.Names.{Known, resolved, defined}
+use Rattle.avro_nodes.specs.Names.{namespace_of}
+use Rattle.avro_schema.specs.Words.{kind_of, word_of}
+use Rattle.avro_schema.specs.Members.{◌>>=◌, without_all, text_in, array_in, bounded}
+use Rattle.avro_schema.specs.Distinct.{all_differ}
+use Rattle.avro_schema.specs.Definitions.{naming, named_in, enum_at, fixed_at, LabelView, label_in, labelling}
+use Rattle.avro_schema.specs.Parts.{Part, Reader, Types, parts_of, room_at}
+
+-- a reference makes no node
+unfoldable pub reference_to : List ℕ → List ℕ → Known → Option (Part ℕ)
+reference_to space name known = option_map (λ p. record { it = p; nodes = []; known = known }) (resolved known space name)
+
+unfoldable pub primitive_at : Kind → Members → Known → ℕ → Option (Part ℕ)
+primitive_at kind ms known first = do
+  place ← room_at first
+  extra ← bounded ms
+  Some (record { it = place; nodes = primitive kind extra ∷ []; known = known })
+
+abbrev pub kind_or_reference : Option Kind → List ℕ → List ℕ → Known → ℕ → Option (Part ℕ)
+kind_or_reference (Some kind) space name known first = primitive_at kind no_members known first
+kind_or_reference None space name known first = reference_to space name known
+
+-- a primitive's name, or else a reference
+unfoldable pub name_at : List ℕ → List ℕ → Known → ℕ → Option (Part ℕ)
+name_at space name known first = kind_or_reference (kind_of name) space name known first
+
+-- ---- arrays and maps
+
+abbrev pub key_of : Container → List ℕ
+key_of of_items = codes "items"
+key_of of_values = codes "values"
+
+abbrev pub container_node : Container → ℕ → Members → NodeView
+container_node of_items place extra = array place extra
+container_node of_values place extra = mapping place extra
+
+unfoldable pub container_at : Container → Reader ℕ → Members → Known → ℕ → Option (Part ℕ)
+container_at container one ms known first = do
+  place ← room_at first
+  inner ← get_member (key_of container) ms
+  extra ← bounded (without_all (key_of container ∷ []) ms)
+  p ← one inner known (first + 1)
+  Some (record { it = place; nodes = container_node container p.it extra ∷ p.nodes; known = p.known })
+
+-- ---- unions
+
+abbrev pub kind_number : Kind → ℕ
+kind_number Null = 0
+kind_number Boolean = 1
+kind_number Int = 2
+kind_number Long = 3
+kind_number Float = 4
+kind_number Double = 5
+kind_number Bytes = 6
+kind_number Text = 7
+
+-- The kind of a branch at this place that adds these nodes: a number for each primitive type, one for all arrays, one for all maps and one for
+-- each named type. A union is no branch.
+unfoldable pub branch_kind : ℕ → List NodeView → Option ℕ
+branch_kind place [] = Some (10 + place)
+branch_kind place (primitive kind extra ∷ more) = Some (kind_number kind)
+branch_kind place (array items extra ∷ more) = Some 8
+branch_kind place (mapping values extra ∷ more) = Some 9
+branch_kind place (union branches ∷ more) = None
+branch_kind place (enumeration named symbols fallback extra ∷ more) = Some (10 + place)
+branch_kind place (fixed named size extra ∷ more) = Some (10 + place)
+branch_kind place (rec named fields extra ∷ more) = Some (10 + place)
+
+-- a branch: its place and its kind
+unfoldable pub branch_of : Reader ℕ → Reader (ℕ × ℕ)
+branch_of one d known first = do
+  p ← one d known first
+  kind ← branch_kind p.it p.nodes
+  Some (record { it = (p.it, kind); nodes = p.nodes; known = p.known })
+
+unfoldable pub union_at : Reader ℕ → Items → Known → ℕ → Option (Part ℕ)
+union_at one ds known first = do
+  place ← room_at first
+  ps ← parts_of (branch_of one) ds known (first + 1)
+  if all_differ (λ a b. a == b) (map (λ b. b.1) ps.it) then Some (record { it = place; nodes = union (map (λ b. b.0) ps.it) ∷ ps.nodes; known = ps.known }) else None
+
+-- ---- records
+
+abbrev pub field_at : LabelView → ℕ → Members → FieldView
+field_at label place extra = record { name = label.name; place = place; aliases = label.aliases; order = label.order; value = label.value; extra = extra }
+
+unfoldable pub field_of : Reader ℕ → Reader FieldView
+field_of one d known first = do
+  ms ← as_object d
+  label ← label_in ms
+  inner ← get_member (codes "type") (without_all labelling ms)
+  extra ← bounded (without_all (codes "type" ∷ []) (without_all labelling ms))
+  p ← one inner known first
+  Some (record { it = field_at label p.it extra; nodes = p.nodes; known = p.known })
+
+unfoldable pub record_at : Types → List ℕ → Members → Known → ℕ → Option (Part ℕ)
+record_at types space ms known first = do
+  place ← room_at first
+  named ← named_in space ms known
+  items ← array_in (codes "fields") (without_all naming ms)
+  extra ← bounded (without_all (codes "fields" ∷ []) (without_all naming ms))
+  ps ← parts_of (field_of (types (namespace_of named.name))) items (defined known named.name place) (first + 1)
+  if all_differ bytes_eq (map (λ f. f.name) ps.it) then Some (record { it = place; nodes = rec named ps.it extra ∷ ps.nodes; known = ps.known }) else None
+
+-- ---- types
+
+-- an object, by what its `type` says, with its other members
+abbrev pub by_word : Word → List ℕ → Types → List ℕ → Members → Known → ℕ → Option (Part ℕ)
+by_word (word.Primitive kind) name types space ms known first = primitive_at kind ms known first
+by_word word.Array name types space ms known first = container_at of_items (types space) ms known first
+by_word word.Map name types space ms known first = container_at of_values (types space) ms known first
+by_word word.Fixed name types space ms known first = fixed_at space ms known first
+by_word word.Enum name types space ms known first = enum_at space ms known first
+by_word word.Record name types space ms known first = record_at types space ms known first
+by_word word.Reference name types space ms known first = bounded ms >>= λ _. reference_to space name known
+
+unfoldable pub object_at : Types → List ℕ → Members → Known → ℕ → Option (Part ℕ)
+object_at types space ms known first = do
+  name ← text_in (codes "type") ms
+  by_word (word_of name) name types space (without_all (codes "type" ∷ []) ms) known first
+
+-- a type by its form; the first is the reader of the types inside
+abbrev pub form_at : Types → List ℕ → Reader ℕ
+form_at types space (string s) known first = name_at space s known first
+form_at types space (json.array ds) known first = union_at (types space) ds known first
+form_at types space (json.object ms) known first = object_at types space ms known first
+form_at types space json.null known first = None
+form_at types space (json.boolean b) known first = None
+form_at types space (json.number n) known first = None
+
+-- a type, nested no deeper than the number
+unfoldable pub type_at : ℕ → Types
+type_at zero space d known first = None
+type_at (suc n) space d known first = form_at (type_at n) space d known first

@@ -1,0 +1,64 @@
+-- What a text denotes.
+use Rattle.std.specs.Prelude.{◌≡◌, ℕ, ◌≤◌, List, [], length, nat_le, true, ◌&&◌, if◌then◌else◌, Option, Some, None, option_and_then}
+use Rattle.serde_json.specs.Data.{Data}
+use Rattle.serde_json.specs.Read.{read}
+use Rattle.avro_nodes.specs.Nodes.{NodeView}
+use Rattle.avro_nodes.specs.Plain.{plain}
+use Rattle.avro_nodes.specs.Whole.{has_whole_numbers}
+use Rattle.avro_nodes.specs.Identity.{identity, identity_value}
+use Rattle.avro_schema.specs.Names.{Known, none_known}
+use Rattle.avro_schema.specs.Members.{◌>>=◌, max_nesting}
+use Rattle.avro_schema.specs.Reading.{type_at}
+use Rattle.avro_schema.specs.Defaults.{DefaultsFit, node_defaults_fit}
+use Rattle.avro_schema.specs.Denotes.{Denotes}
+
+-- the most bytes of a schema text, as it is sent, and of its identity text (this project's choice)
+abbrev pub max_text : ℕ
+max_text = 1048576
+
+-- The text, whose numbers are whole ones of 64 bits, is read as JSON, and the value denotes these nodes: in the null namespace, with no names known
+-- before, and from place 0 on, where the root is. Each default fits its field, and the identity text is no longer than a text may be. That the value
+-- has whole numbers follows from the rule for the numbers in a text; it is said once more.
+pub record TextDenotes (text : List ℕ) (nodes : List NodeView) : Type 0 where
+  pub respelt : List ℕ
+  pub value : Data
+  pub known : Known
+  pub short : length text ≤ max_text
+  pub plain_is : plain text ≡ Some respelt
+  pub value_is : read respelt ≡ Some value
+  pub whole : has_whole_numbers value ≡ true
+  pub type_is : Denotes max_nesting [] value none_known 0 0 nodes known
+  pub defaults : DefaultsFit nodes
+  pub bounded : length (identity nodes) ≤ max_text
+
+-- some text denotes these nodes
+abbrev pub IsSchema : List NodeView → Type 0
+IsSchema nodes = (text : List ℕ) × TextDenotes text nodes
+
+-- what a schema keeps: its nodes and their identity text
+pub record Keeps (nodes : List NodeView) (text : List ℕ) : Type 0 where
+  pub schema : IsSchema nodes
+  pub text_is : text ≡ identity nodes
+  pub reads : read text ≡ Some (identity_value nodes)
+
+-- ---- the same, computed
+
+-- the JSON value of a text
+unfoldable pub value_in : List ℕ → Option Data
+value_in text = do
+  respelt ← plain text
+  value ← read respelt
+  if has_whole_numbers value then Some value else None
+
+-- the nodes of a text, before their defaults and their identity text are looked at
+unfoldable pub typed : List ℕ → Option (List NodeView)
+typed text = if nat_le (length text) max_text then (do
+  value ← value_in text
+  p ← type_at max_nesting [] value none_known 0
+  Some p.nodes) else None
+
+unfoldable pub checked : List NodeView → Option (List NodeView)
+checked nodes = if node_defaults_fit nodes nodes && nat_le (length (identity nodes)) max_text then Some nodes else None
+
+unfoldable pub denoted : List ℕ → Option (List NodeView)
+denoted text = typed text >>= checked

@@ -1,0 +1,270 @@
+//! What a declaration says beside the types inside it: names, symbols, sizes, orders, defaults.
+ghost use Rattle.std.specs.Prelude.{◌≡◌, length, Some, None, IfOk, OnOk, option_map, string_bytes, codes, ◌∷◌, []};
+ghost use Rattle.std.specs.Str.{bytes_eq};
+ghost use Rattle.std.specs.List.{list_any};
+ghost use Rattle.serde_json.specs.Find.{get_member};
+ghost use Rattle.serde_json.specs.View.{view, members_view};
+ghost use Rattle.avro_nodes.specs.Nodes.{texts_view, named_view, nodes_view};
+ghost use Rattle.avro_schema.specs.Members.{without_all, bounded, bounded_value};
+ghost use Rattle.avro_schema.specs.Definitions.{naming, labelling, if_new, new_name as name_in, named_in, symbols_in, fallback_in, enum_at as enum_in, fixed_at as fixed_in, order_in, label_in, label_view};
+ghost use Rattle.avro_schema.specs.Parts.{room_at};
+ghost use Rattle.avro_schema.specs.Outcome.{Gives, Reads, known_in};
+
+use crate::attributes::{
+    names_if_any, names_of, size_of, take, take_items, take_text, take_text_if_any, text_of,
+};
+use crate::distinct::texts_differ;
+use crate::error::SchemaError;
+use crate::names::{Places, define, full_name, is_simple, last_part, place_of};
+use crate::nesting::{members_within, nests_within};
+use crate::words::{kind_of, order_of};
+use avro_nodes::{Extra, Named, Node, Order, namespace_of};
+use serde_json::Value;
+use std::alloc::Global;
+
+/// The most places of a schema.
+const MAX_PLACES: usize = 4096;
+
+/// How deep a default and each other attribute may nest.
+const MAX_NESTING: u32 = 24;
+
+/// The place of the next node, if there is room.
+#[tactic(auto, unfolding(crate::specs::Parts::room_at))]
+pub fn room(nodes: &Vec<Node>) -> Result<u32, SchemaError>
+    ensures room { Gives (λ p. p) result (room_at (length nodes.now.items)) }
+    ensures place { IfOk result (λ p. p ≡ length nodes.now.items) }
+{
+    if nodes.len() < MAX_PLACES {
+        Ok(nodes.len() as u32)
+    } else {
+        Err(SchemaError::TooLarge)
+    }
+}
+
+/// Whether the other attributes nest within the limit.
+#[tactic(auto, unfolding(crate::specs::Members::bounded))]
+pub fn bound(attributes: &Extra) -> Result<(), SchemaError>
+    ensures { Gives (λ _. members_view attributes.now.entries) result
+        (bounded (members_view attributes.now.entries)) }
+{
+    if members_within(attributes, MAX_NESTING) {
+        Ok(())
+    } else {
+        Err(SchemaError::TooLarge)
+    }
+}
+
+/// The full name, where it may be defined.
+fn if_free(full: String, known: &Places) -> Result<String, SchemaError>
+    ensures { Gives string_bytes result (if_new (known_in known.now) (string_bytes full)) }
+{
+    if place_of(known, full.as_str()).is_some() {
+        return Err(SchemaError::Redefined);
+    }
+    if kind_of(last_part(full.as_str())).is_some() {
+        return Err(SchemaError::BadName);
+    }
+    Ok(full)
+}
+
+/// The full name of a new definition.
+#[tactic(auto, unfolding(crate::specs::Definitions::new_name))]
+fn new_name(
+    alloc: Global,
+    attributes: &mut Extra,
+    space: &str,
+    known: &Places,
+) -> Result<String, SchemaError>
+    ensures name { Gives string_bytes result
+        (name_in space.now (members_view attributes.old.entries) (known_in known.now)) }
+    ensures rest { OnOk result (members_view attributes.new.entries
+        ≡ without_all (codes "name" ∷ codes "namespace" ∷ []) (members_view attributes.old.entries)) }
+{
+    let Some(name) = take_text(attributes, "name") else {
+        return Err(SchemaError::BadShape);
+    };
+    let attribute = take_text_if_any(attributes, "namespace")?;
+    let Some(full) = full_name(alloc, name, attribute, space)? else {
+        return Err(SchemaError::BadName);
+    };
+    if_free(full, known)
+}
+
+/// The names of a new definition.
+#[tactic(auto, unfolding(crate::specs::Definitions::named_in))]
+pub fn named_of(
+    alloc: Global,
+    attributes: &mut Extra,
+    space: &str,
+    known: &Places,
+) -> Result<Named, SchemaError>
+    ensures named { Gives named_view result
+        (named_in space.now (members_view attributes.old.entries) (known_in known.now)) }
+    ensures rest { OnOk result (members_view attributes.new.entries
+        ≡ without_all naming (members_view attributes.old.entries)) }
+{
+    let name = new_name(alloc, attributes, space, known)?;
+    let listed = take(attributes, "aliases");
+    let aliases = names_if_any(alloc, listed, Some(namespace_of(name.as_str())))?;
+    Ok(Named { name, aliases })
+}
+
+/// An enum's symbols.
+#[tactic(auto, unfolding(crate::specs::Definitions::symbols_in))]
+fn symbols_of(alloc: Global, attributes: &mut Extra) -> Result<Vec<String>, SchemaError>
+    ensures symbols { Gives (λ v. texts_view v.items) result
+        (symbols_in (members_view attributes.old.entries)) }
+    ensures rest { members_view attributes.new.entries
+        ≡ without_all (codes "symbols" ∷ []) (members_view attributes.old.entries) }
+{
+    let Some(items) = take_items(attributes, "symbols") else {
+        return Err(SchemaError::BadShape);
+    };
+    let symbols = names_of(alloc, items, None)?;
+    if texts_differ(alloc, &symbols)? {
+        Ok(symbols)
+    } else {
+        Err(SchemaError::Redefined)
+    }
+}
+
+fn has_symbol(symbols: &[String], name: &str) -> bool
+    ensures { result ≡ list_any (λ t. bytes_eq (string_bytes t) name.now) symbols.now }
+{
+    symbols.iter().any(|symbol| symbol.as_str() == name)
+}
+
+/// An enum's default, which may be missing.
+fn fallback_of(attribute: Option<Value>, symbols: &[String]) -> Result<Option<String>, SchemaError>
+    ensures { Gives (option_map string_bytes) result
+        (fallback_in (texts_view symbols.now) (option_map view attribute)) }
+{
+    let Some(value) = attribute else {
+        return Ok(None);
+    };
+    let Some(name) = text_of(value) else {
+        return Err(SchemaError::BadShape);
+    };
+    if has_symbol(symbols, name.as_str()) {
+        Ok(Some(name))
+    } else {
+        Err(SchemaError::BadShape)
+    }
+}
+
+/// Reads an enum, whose other attributes are left.
+#[tactic(auto, unfolding(crate::specs::Definitions::enum_at))]
+pub fn enum_at(
+    alloc: Global,
+    attributes: Extra,
+    space: &str,
+    nodes: &mut Vec<Node>,
+    known: &mut Places,
+) -> Result<u32, SchemaError>
+    ensures { Reads (λ p. p) result
+        (enum_in space.now (members_view attributes.entries) (known_in known.old) (length nodes.old.items))
+        (nodes_view nodes.old.items) (nodes_view nodes.new.items) (known_in known.new) }
+{
+    let mut extra = attributes;
+    let place = room(nodes)?;
+    let named = named_of(alloc, &mut extra, space, known)?;
+    let symbols = symbols_of(alloc, &mut extra)?;
+    let fallback = fallback_of(take(&mut extra, "default"), &symbols)?;
+    bound(&extra)?;
+    define(alloc, known, named.name.as_str(), place)?;
+    nodes.push(Node::Enum {
+        named,
+        symbols,
+        fallback,
+        extra,
+    })?;
+    Ok(place)
+}
+
+/// Reads a fixed, whose other attributes are left.
+#[tactic(auto, unfolding(crate::specs::Definitions::fixed_at))]
+pub fn fixed_at(
+    alloc: Global,
+    attributes: Extra,
+    space: &str,
+    nodes: &mut Vec<Node>,
+    known: &mut Places,
+) -> Result<u32, SchemaError>
+    ensures { Reads (λ p. p) result
+        (fixed_in space.now (members_view attributes.entries) (known_in known.old) (length nodes.old.items))
+        (nodes_view nodes.old.items) (nodes_view nodes.new.items) (known_in known.new) }
+{
+    let mut extra = attributes;
+    let place = room(nodes)?;
+    let named = named_of(alloc, &mut extra, space, known)?;
+    let Some(size) = size_of(take(&mut extra, "size")) else {
+        return Err(SchemaError::BadShape);
+    };
+    bound(&extra)?;
+    define(alloc, known, named.name.as_str(), place)?;
+    nodes.push(Node::Fixed { named, size, extra })?;
+    Ok(place)
+}
+
+/// A field's order, ascending where it is missing.
+fn order_if_any(attribute: Option<Value>) -> Result<Order, SchemaError>
+    ensures { Gives (λ o. o) result (order_in (option_map view attribute)) }
+{
+    let Some(value) = attribute else {
+        return Ok(Order::Ascending);
+    };
+    let Some(name) = text_of(value) else {
+        return Err(SchemaError::BadShape);
+    };
+    match order_of(name.as_str()) {
+        Some(order) => Ok(order),
+        None => Err(SchemaError::BadShape),
+    }
+}
+
+/// A default that nests within the limit, and may be missing.
+fn value_if_any(attribute: Option<Value>) -> Result<Option<Value>, SchemaError>
+    ensures { Gives (option_map view) result (bounded_value (option_map view attribute)) }
+{
+    let Some(value) = attribute else {
+        return Ok(None);
+    };
+    if nests_within(&value, MAX_NESTING) {
+        Ok(Some(value))
+    } else {
+        Err(SchemaError::TooLarge)
+    }
+}
+
+/// What a field says beside its type.
+#[derive(Debug, Drop)]
+pub struct Label {
+    pub name: String,
+    pub aliases: Vec<String>,
+    pub order: Order,
+    pub value: Option<Value>,
+}
+
+/// What a field says beside its type and its other attributes, which are left.
+#[tactic(auto, unfolding(crate::specs::Definitions::label_in))]
+pub fn label_of(alloc: Global, attributes: &mut Extra) -> Result<Label, SchemaError>
+    ensures label { Gives label_view result (label_in (members_view attributes.old.entries)) }
+    ensures rest { OnOk result (members_view attributes.new.entries
+        ≡ without_all labelling (members_view attributes.old.entries)) }
+{
+    let Some(name) = take_text(attributes, "name") else {
+        return Err(SchemaError::BadShape);
+    };
+    if !is_simple(name.as_str()) {
+        return Err(SchemaError::BadName);
+    }
+    let aliases = names_if_any(alloc, take(attributes, "aliases"), None)?;
+    let order = order_if_any(take(attributes, "order"))?;
+    let value = value_if_any(take(attributes, "default"))?;
+    Ok(Label {
+        name,
+        aliases,
+        order,
+        value,
+    })
+}

@@ -1,0 +1,18 @@
+//! Reads the text of an Avro schema exactly where it denotes one.
+#![tactic(auto)]
+
+mod attributes;
+mod defaults;
+mod definitions;
+mod distinct;
+mod error;
+mod names;
+mod nesting;
+mod reading;
+mod schema;
+#[cfg(test)]
+mod tests;
+mod words;
+
+pub use error::SchemaError;
+pub use schema::Schema;

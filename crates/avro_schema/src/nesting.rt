@@ -1,0 +1,45 @@
+//! How deep JSON values nest.
+ghost use Rattle.std.specs.Prelude.{◌≡◌, nat_le};
+ghost use Rattle.serde_json.specs.Data.{depth, items_depth, members_depth};
+ghost use Rattle.serde_json.specs.View.{view, items_view, members_view};
+
+use avro_nodes::Extra;
+use serde_json::Value;
+
+/// Whether the value nests within the limit: 0 for a scalar, and for an array or object 1 more
+/// than the deepest of what it holds.
+#[cycle(nest)]
+pub fn nests_within(value: &Value, limit: u32) -> bool
+    ensures { result ≡ nat_le (depth (view value.now)) limit }
+{
+    match value {
+        Value::Array(items) => limit > 0 && items_within(items, limit - 1),
+        Value::Object(members) => limit > 0 && members_within(members, limit - 1),
+        Value::Null | Value::Bool(_) | Value::Number(_) | Value::String(_) => true,
+    }
+}
+
+#[cycle(nest)]
+fn items_within(items: &Vec<Value>, limit: u32) -> bool
+    ensures { result ≡ nat_le (items_depth (items_view items.now.items)) limit }
+{
+    for item in items {
+        if !nests_within(item, limit) {
+            return false;
+        }
+    }
+    true
+}
+
+/// Whether each member nests within the limit.
+#[cycle(nest)]
+pub fn members_within(members: &Extra, limit: u32) -> bool
+    ensures { result ≡ nat_le (members_depth (members_view members.now.entries)) limit }
+{
+    for (_key, member) in members.iter() {
+        if !nests_within(member, limit) {
+            return false;
+        }
+    }
+    true
+}

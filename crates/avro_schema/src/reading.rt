@@ -1,0 +1,419 @@
+//! From a JSON value to the nodes of a type.
+ghost use Rattle.std.specs.Prelude.{◌≡◌, ◌<◌, length, map, Some, None, option_map, string_bytes, slice_set, true, false};
+ghost use Rattle.serde_json.specs.View.{view, items_view, members_view};
+ghost use Rattle.avro_nodes.specs.Nodes.{field_view, node_view, nodes_view};
+ghost use Rattle.avro_nodes.specs.Names.{namespace_of as namespace};
+ghost use Rattle.avro_schema.specs.Parts.{parts_of};
+ghost use Rattle.avro_schema.specs.Reading.{kind_number as number, branch_kind as kind_at, reference_to as reference_of, primitive_at as primitive_of, name_at as name_of, container_at as container_of, container_node as node_of, key_of as key_in, branch_of, union_at as union_of, field_at as field_in, field_of, record_at as record_of, object_at as object_of, type_at as type_of};
+ghost use Rattle.avro_schema.specs.Definitions.{label_view};
+ghost use Rattle.avro_schema.specs.Outcome.{Reads, known_in};
+
+use crate::attributes::{members_of, take, take_items, take_text};
+use crate::definitions::{Label, bound, enum_at, fixed_at, label_of, named_of, room};
+use crate::distinct::{fields_differ, kinds_differ};
+use crate::error::SchemaError;
+use crate::names::{Places, define, resolve};
+use crate::words::{Container, Word, kind_of, word_of};
+use avro_nodes::{Extra, Field, Kind, Node, namespace_of};
+use serde_json::Value;
+use std::alloc::Global;
+
+/// Reads a primitive type, whose other attributes are left.
+#[tactic(auto, unfolding(crate::specs::Reading::primitive_at))]
+fn primitive_at(
+    kind: Kind,
+    extra: Extra,
+    nodes: &mut Vec<Node>,
+    known: &Places,
+) -> Result<u32, SchemaError>
+    ensures { Reads (λ p. p) result
+        (primitive_of kind (members_view extra.entries) (known_in known.now) (length nodes.old.items))
+        (nodes_view nodes.old.items) (nodes_view nodes.new.items) (known_in known.now) }
+{
+    let place = room(nodes)?;
+    bound(&extra)?;
+    nodes.push(Node::Primitive { kind, extra })?;
+    Ok(place)
+}
+
+/// Finds what a reference names.
+#[tactic(auto, unfolding(crate::specs::Reading::reference_to))]
+fn reference_to(
+    alloc: Global,
+    name: &str,
+    space: &str,
+    nodes: &Vec<Node>,
+    known: &Places,
+) -> Result<u32, SchemaError>
+    ensures { Reads (λ p. p) result (reference_of space.now name.now (known_in known.now))
+        (nodes_view nodes.now.items) (nodes_view nodes.now.items) (known_in known.now) }
+{
+    match resolve(alloc, known, space, name)? {
+        Some(place) => Ok(place),
+        None => Err(SchemaError::Undefined),
+    }
+}
+
+/// Reads a string: a primitive's name, or else a reference.
+#[tactic(auto, unfolding(crate::specs::Reading::name_at))]
+fn name_at(
+    alloc: Global,
+    name: &str,
+    space: &str,
+    nodes: &mut Vec<Node>,
+    known: &Places,
+) -> Result<u32, SchemaError>
+    ensures { Reads (λ p. p) result
+        (name_of space.now name.now (known_in known.now) (length nodes.old.items))
+        (nodes_view nodes.old.items) (nodes_view nodes.new.items) (known_in known.now) }
+{
+    match kind_of(name) {
+        Some(kind) => primitive_at(kind, Extra::new(alloc), nodes, known),
+        None => reference_to(alloc, name, space, nodes, known),
+    }
+}
+
+/// A number for each primitive type.
+fn kind_number(kind: Kind) -> u32
+    ensures { result ≡ number kind }
+{
+    match kind {
+        Kind::Null => 0,
+        Kind::Boolean => 1,
+        Kind::Int => 2,
+        Kind::Long => 3,
+        Kind::Float => 4,
+        Kind::Double => 5,
+        Kind::Bytes => 6,
+        Kind::Text => 7,
+    }
+}
+
+/// The kind of a branch at the place that added these nodes: a number that two branches share
+/// where a union may not hold both.
+#[tactic(auto, unfolding(crate::specs::Reading::branch_kind))]
+fn branch_kind(place: u32, added: &[Node]) -> Option<u64>
+    ensures { result ≡ kind_at place (nodes_view added.now) }
+{
+    match added.first() {
+        None => Some(10 + u64::from(place)),
+        Some(node) => match node {
+            Node::Primitive { kind, .. } => Some(u64::from(kind_number(*kind))),
+            Node::Array { .. } => Some(8),
+            Node::Map { .. } => Some(9),
+            Node::Union { .. } => None,
+            Node::Enum { .. } | Node::Fixed { .. } | Node::Rec { .. } => {
+                Some(10 + u64::from(place))
+            }
+        },
+    }
+}
+
+/// The attribute that holds what an array or a map is of.
+fn key_of(container: Container) -> &'static str
+    ensures { result.now ≡ key_in container }
+{
+    match container {
+        Container::Items => "items",
+        Container::Values => "values",
+    }
+}
+
+fn container_node(container: Container, place: u32, extra: Extra) -> Node
+    ensures { node_view result ≡ node_of container place (members_view extra.entries) }
+{
+    match container {
+        Container::Items => Node::Array {
+            items: place,
+            extra,
+        },
+        Container::Values => Node::Map {
+            values: place,
+            extra,
+        },
+    }
+}
+
+/// A node that stands until the types inside it are read.
+fn blank(alloc: Global) -> Node {
+    Node::Union {
+        branches: Vec::new(alloc),
+    }
+}
+
+/// Puts a node in the place of the one that stands there.
+fn settle(nodes: &mut Vec<Node>, place: u32, node: Node)
+    requires { place < length nodes.old.items }
+    ensures { nodes_view nodes.new.items
+        ≡ slice_set (nodes_view nodes.old.items) place (node_view node) }
+{
+    nodes[place as usize] = node;
+}
+
+fn field_from(label: Label, place: u32, extra: Extra) -> Field
+    ensures { field_view result ≡ field_in (label_view label) place (members_view extra.entries) }
+{
+    let Label {
+        name,
+        aliases,
+        order,
+        value,
+    } = label;
+    Field {
+        name,
+        place,
+        aliases,
+        order,
+        value,
+        extra,
+    }
+}
+
+/// Reads a type, nested no deeper than the number, and answers its place.
+#[cycle(read)]
+pub fn type_at(
+    alloc: Global,
+    value: Value,
+    space: &str,
+    depth: u32,
+    nodes: &mut Vec<Node>,
+    known: &mut Places,
+) -> Result<u32, SchemaError>
+    ensures { Reads (λ p. p) result
+        (type_of depth space.now (view value) (known_in known.old) (length nodes.old.items))
+        (nodes_view nodes.old.items) (nodes_view nodes.new.items) (known_in known.new) }
+{
+    if depth == 0 {
+        return Err(SchemaError::TooLarge);
+    }
+    match value {
+        Value::String(name) => name_at(alloc, name.as_str(), space, nodes, known),
+        Value::Array(items) => union_at(alloc, items, space, depth - 1, nodes, known),
+        Value::Object(attributes) => object_at(alloc, attributes, space, depth - 1, nodes, known),
+        Value::Null => Err(SchemaError::BadShape),
+        Value::Bool(_) => Err(SchemaError::BadShape),
+        Value::Number(_) => Err(SchemaError::BadShape),
+    }
+}
+
+#[cycle(read)]
+fn object_at(
+    alloc: Global,
+    object: Extra,
+    space: &str,
+    depth: u32,
+    nodes: &mut Vec<Node>,
+    known: &mut Places,
+) -> Result<u32, SchemaError>
+    ensures { Reads (λ p. p) result
+        (object_of (type_of depth) space.now (members_view object.entries) (known_in known.old) (length nodes.old.items))
+        (nodes_view nodes.old.items) (nodes_view nodes.new.items) (known_in known.new) }
+{
+    let mut attributes = object;
+    let Some(name) = take_text(&mut attributes, "type") else {
+        return Err(SchemaError::BadShape);
+    };
+    match word_of(name.as_str()) {
+        Word::Primitive(kind) => primitive_at(kind, attributes, nodes, known),
+        Word::Array => container_at(
+            alloc,
+            Container::Items,
+            attributes,
+            space,
+            depth,
+            nodes,
+            known,
+        ),
+        Word::Map => container_at(
+            alloc,
+            Container::Values,
+            attributes,
+            space,
+            depth,
+            nodes,
+            known,
+        ),
+        Word::Fixed => fixed_at(alloc, attributes, space, nodes, known),
+        Word::Enum => enum_at(alloc, attributes, space, nodes, known),
+        Word::Record => record_at(alloc, attributes, space, depth, nodes, known),
+        Word::Reference => {
+            bound(&attributes)?;
+            reference_to(alloc, name.as_str(), space, nodes, known)
+        }
+    }
+}
+
+#[cycle(read)]
+fn container_at(
+    alloc: Global,
+    container: Container,
+    attributes: Extra,
+    space: &str,
+    depth: u32,
+    nodes: &mut Vec<Node>,
+    known: &mut Places,
+) -> Result<u32, SchemaError>
+    ensures { Reads (λ p. p) result
+        (container_of container (type_of depth space.now) (members_view attributes.entries) (known_in known.old) (length nodes.old.items))
+        (nodes_view nodes.old.items) (nodes_view nodes.new.items) (known_in known.new) }
+{
+    let mut extra = attributes;
+    let place = room(nodes)?;
+    let Some(inner) = take(&mut extra, key_of(container)) else {
+        return Err(SchemaError::BadShape);
+    };
+    bound(&extra)?;
+    nodes.push(blank(alloc))?;
+    let within = type_at(alloc, inner, space, depth, nodes, known)?;
+    settle(nodes, place, container_node(container, within, extra));
+    Ok(place)
+}
+
+#[cycle(read)]
+fn union_at(
+    alloc: Global,
+    items: Vec<Value>,
+    space: &str,
+    depth: u32,
+    nodes: &mut Vec<Node>,
+    known: &mut Places,
+) -> Result<u32, SchemaError>
+    ensures { Reads (λ p. p) result
+        (union_of (type_of depth space.now) (items_view items.items) (known_in known.old) (length nodes.old.items))
+        (nodes_view nodes.old.items) (nodes_view nodes.new.items) (known_in known.new) }
+{
+    let place = room(nodes)?;
+    nodes.push(blank(alloc))?;
+    let read = branches_at(alloc, items, space, depth, nodes, known)?;
+    if !kinds_differ(alloc, &read)? {
+        return Err(SchemaError::BadUnion);
+    }
+    let branches = read.iter().map(|b| b.0).collect(alloc)?;
+    settle(nodes, place, Node::Union { branches });
+    Ok(place)
+}
+
+#[cycle(read)]
+fn branches_at(
+    alloc: Global,
+    items: Vec<Value>,
+    space: &str,
+    depth: u32,
+    nodes: &mut Vec<Node>,
+    known: &mut Places,
+) -> Result<Vec<(u32, u64)>, SchemaError>
+    ensures { Reads (λ v. v.items) result
+        (parts_of (branch_of (type_of depth space.now)) (items_view items.items) (known_in known.old) (length nodes.old.items))
+        (nodes_view nodes.old.items) (nodes_view nodes.new.items) (known_in known.new) }
+{
+    let mut branches = Vec::new(alloc);
+    for item in items {
+        branches.push(branch_at(alloc, item, space, depth, nodes, known)?)?;
+    }
+    Ok(branches)
+}
+
+#[cycle(read)]
+fn branch_at(
+    alloc: Global,
+    value: Value,
+    space: &str,
+    depth: u32,
+    nodes: &mut Vec<Node>,
+    known: &mut Places,
+) -> Result<(u32, u64), SchemaError>
+    ensures { Reads (λ b. b) result
+        (branch_of (type_of depth space.now) (view value) (known_in known.old) (length nodes.old.items))
+        (nodes_view nodes.old.items) (nodes_view nodes.new.items) (known_in known.new) }
+{
+    let before = nodes.len();
+    let place = type_at(alloc, value, space, depth, nodes, known)?;
+    let Some(kind) = branch_kind(place, &nodes[before..]) else {
+        return Err(SchemaError::BadUnion);
+    };
+    Ok((place, kind))
+}
+
+#[cycle(read)]
+fn record_at(
+    alloc: Global,
+    attributes: Extra,
+    space: &str,
+    depth: u32,
+    nodes: &mut Vec<Node>,
+    known: &mut Places,
+) -> Result<u32, SchemaError>
+    ensures { Reads (λ p. p) result
+        (record_of (type_of depth) space.now (members_view attributes.entries) (known_in known.old) (length nodes.old.items))
+        (nodes_view nodes.old.items) (nodes_view nodes.new.items) (known_in known.new) }
+{
+    let mut extra = attributes;
+    let place = room(nodes)?;
+    let named = named_of(alloc, &mut extra, space, known)?;
+    let Some(items) = take_items(&mut extra, "fields") else {
+        return Err(SchemaError::BadShape);
+    };
+    bound(&extra)?;
+    nodes.push(blank(alloc))?;
+    define(alloc, known, named.name.as_str(), place)?;
+    let inside = namespace_of(named.name.as_str());
+    let fields = fields_at(alloc, items, inside, depth, nodes, known)?;
+    if !fields_differ(alloc, &fields)? {
+        return Err(SchemaError::Redefined);
+    }
+    settle(
+        nodes,
+        place,
+        Node::Rec {
+            named,
+            fields,
+            extra,
+        },
+    );
+    Ok(place)
+}
+
+#[cycle(read)]
+fn fields_at(
+    alloc: Global,
+    items: Vec<Value>,
+    space: &str,
+    depth: u32,
+    nodes: &mut Vec<Node>,
+    known: &mut Places,
+) -> Result<Vec<Field>, SchemaError>
+    ensures { Reads (λ v. map field_view v.items) result
+        (parts_of (field_of (type_of depth space.now)) (items_view items.items) (known_in known.old) (length nodes.old.items))
+        (nodes_view nodes.old.items) (nodes_view nodes.new.items) (known_in known.new) }
+{
+    let mut fields = Vec::new(alloc);
+    for item in items {
+        fields.push(field_at(alloc, item, space, depth, nodes, known)?)?;
+    }
+    Ok(fields)
+}
+
+#[cycle(read)]
+fn field_at(
+    alloc: Global,
+    value: Value,
+    space: &str,
+    depth: u32,
+    nodes: &mut Vec<Node>,
+    known: &mut Places,
+) -> Result<Field, SchemaError>
+    ensures { Reads field_view result
+        (field_of (type_of depth space.now) (view value) (known_in known.old) (length nodes.old.items))
+        (nodes_view nodes.old.items) (nodes_view nodes.new.items) (known_in known.new) }
+{
+    let Some(mut extra) = members_of(value) else {
+        return Err(SchemaError::BadShape);
+    };
+    let label = label_of(alloc, &mut extra)?;
+    let Some(inner) = take(&mut extra, "type") else {
+        return Err(SchemaError::BadShape);
+    };
+    bound(&extra)?;
+    let place = type_at(alloc, inner, space, depth, nodes, known)?;
+    Ok(field_from(label, place, extra))
+}

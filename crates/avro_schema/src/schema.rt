@@ -1,0 +1,148 @@
+//! A schema, and how it is read.
+ghost use Rattle.std.specs.Prelude.{◌≡◌, ◌≢◌, ◌<◌, ◌≤◌, ◌↔◌, List, Some, length, IsTrue, slice_get, string_bytes, IfOk, IfErr};
+ghost use Rattle.serde_json.specs.View.{view};
+ghost use Rattle.avro_nodes.specs.Identity.{identity};
+ghost use Rattle.avro_nodes.specs.Nodes.{NodeView, nodes_view};
+ghost use Rattle.avro_schema.specs.Texts.{TextDenotes, IsSchema, value_in, typed};
+ghost use Rattle.avro_schema.specs.Outcome.{Gives};
+
+use crate::defaults::defaults_fit;
+use crate::error::SchemaError;
+use crate::names::Places;
+use crate::reading::type_at;
+use avro_nodes::{Node, OutOfMemory, has_whole_numbers, identity_of, plain_of};
+use serde_json::Value;
+use std::alloc::Global;
+use std::marker::Model;
+
+/// The most bytes of a schema text, and of its identity text.
+const MAX_TEXT: usize = 1048576;
+
+/// How deep types may nest.
+const MAX_NESTING: u32 = 24;
+
+/// An Avro schema: the nodes that its text denotes, numbered from the root, which is node 0
+/// (Avro 1.11 specification, Schema Declaration).
+#[derive(Debug, Drop)]
+pub struct Schema {
+    nodes: Vec<Node>,
+    text: String,
+}
+
+impl Model for Schema {
+    ghost use Rattle.std.specs.Prelude.{List, string_bytes};
+    ghost use Rattle.avro_nodes.specs.declared.node.Node.{Node as NodeData};
+    ghost use Rattle.std.specs.Coded.{coded_list};
+    ghost use Rattle.avro_nodes.specs.contracts.node.Node.{the_row as node_row};
+
+    ghost Value = { List NodeData };
+
+    ghost coded = { coded_list node_row.coded };
+
+    ghost use Rattle.avro_nodes.specs.Nodes.{nodes_view};
+    ghost use Rattle.avro_schema.specs.Texts.{Keeps};
+
+    ghost view = { λ s. s.nodes.items };
+
+    ghost invariant = { λ s. Keeps (nodes_view s.nodes.items) (string_bytes s.text) };
+}
+
+/// The JSON value of a text whose numbers are whole.
+#[tactic(auto, unfolding(crate::specs::Texts::value_in))]
+fn value_of(alloc: Global, text: &str) -> Result<Value, SchemaError>
+    ensures { Gives view result (value_in text.now) }
+{
+    let Some(respelt) = plain_of(alloc, text)? else {
+        return Err(SchemaError::BadNumber);
+    };
+    let value = match Value::from_str(alloc, respelt.as_str()) {
+        Ok(value) => value,
+        Err(e) => {
+            return if e.is_memory() {
+                Err(SchemaError::OutOfMemory)
+            } else {
+                Err(SchemaError::NotJson)
+            };
+        }
+    };
+    if has_whole_numbers(&value) {
+        Ok(value)
+    } else {
+        Err(SchemaError::BadNumber)
+    }
+}
+
+/// The nodes of a text, before their defaults and their identity text are looked at.
+#[tactic(auto, unfolding(crate::specs::Texts::typed))]
+fn nodes_of(alloc: Global, text: &str) -> Result<Vec<Node>, SchemaError>
+    ensures { Gives (λ v. nodes_view v.items) result (typed text.now) }
+{
+    if text.len() > MAX_TEXT {
+        return Err(SchemaError::TooLarge);
+    }
+    let value = value_of(alloc, text)?;
+    let mut nodes = Vec::new(alloc);
+    let mut known = Places::new(alloc);
+    type_at(alloc, value, "", MAX_NESTING, &mut nodes, &mut known)?;
+    Ok(nodes)
+}
+
+impl Schema {
+    /// Reads a schema text. It succeeds only where the text denotes a schema, and gives that
+    /// schema. Each error but `OutOfMemory` says that the text denotes none.
+    pub fn read(alloc: Global, text: &str) -> Result<Schema, SchemaError>
+        ensures ok { IfOk result (λ s. TextDenotes text.now (nodes_view s)) }
+        // a text denotes at most one schema
+        ensures alone { IfOk result (λ s. (nodes : List NodeView) → TextDenotes text.now nodes
+            → nodes ≡ nodes_view s) }
+        ensures err { IfErr result (λ e. e ≢ SchemaError.OutOfMemory
+            → (nodes : List NodeView) → ¬ TextDenotes text.now nodes) }
+    {
+        let nodes = nodes_of(alloc, text)?;
+        if !defaults_fit(&nodes) {
+            return Err(SchemaError::BadDefault);
+        }
+        let text = identity_of(alloc, &nodes)?;
+        if text.len() > MAX_TEXT {
+            return Err(SchemaError::TooLarge);
+        }
+        Ok(Schema { nodes, text })
+    }
+
+    /// The identity text: one JSON text for the schema, compact and with its members in byte
+    /// order. It denotes this schema and no other, so reading it gives the schema back.
+    pub fn text(&self, alloc: Global) -> Result<String, OutOfMemory>
+        ensures text { IfOk result (λ s. string_bytes s ≡ identity (nodes_view self.now)) }
+        ensures denotes { IfOk result (λ s. TextDenotes (string_bytes s) (nodes_view self.now)) }
+        ensures alone { IfOk result (λ s. (nodes : List NodeView)
+            → TextDenotes (string_bytes s) nodes → nodes ≡ nodes_view self.now) }
+    {
+        Ok(String::from_str(alloc, self.text.as_str())?)
+    }
+
+    /// Whether the two are the same schema, which they are where their identity texts are equal.
+    pub fn is_same(&self, other: &Schema) -> bool
+        ensures schemas { IsTrue result ↔ (nodes_view self.now ≡ nodes_view other.now) }
+        ensures texts { IsTrue result ↔ (identity (nodes_view self.now)
+            ≡ identity (nodes_view other.now)) }
+    {
+        self.text == other.text
+    }
+
+    /// The number of places, at most 4,096. As for every schema, some text denotes its nodes.
+    pub fn places(&self) -> u32
+        ensures places { result ≡ length self.now }
+        ensures few { result ≤ 4096 }
+        ensures schema { IsSchema (nodes_view self.now) }
+    {
+        self.nodes.len() as u32
+    }
+
+    /// The node at a place.
+    pub fn node(&self, place: u32) -> &Node
+        requires { place < length self.now }
+        ensures { slice_get self.now place ≡ Some result.now }
+    {
+        &self.nodes[place as usize]
+    }
+}

@@ -1,0 +1,98 @@
+//! The words of a declaration.
+ghost use Rattle.std.specs.Prelude.{◌≡◌, Some, None};
+ghost use Rattle.avro_schema.specs.Words.{kind_of as kind_named, word_of as word_named, order_of as order_named};
+
+use avro_nodes::{Kind, Order};
+
+/// What an object's `type` says that it is (Avro 1.11 specification, Schema Declaration).
+#[derive(Clone, Copy, Debug, PartialEq, Eq)]
+pub enum Word {
+    /// a primitive type
+    Primitive(Kind),
+    /// `array`
+    Array,
+    /// `map`
+    Map,
+    /// `fixed`
+    Fixed,
+    /// `enum`
+    Enum,
+    /// `record`
+    Record,
+    /// the name of a type that is defined elsewhere
+    Reference,
+}
+
+/// A type of many values of one other type (Avro 1.11 specification, Arrays; Maps).
+#[derive(Clone, Copy, Debug, PartialEq, Eq)]
+pub enum Container {
+    /// an array, of `items`
+    Items,
+    /// a map, of `values`
+    Values,
+}
+
+/// The primitive type of this name.
+#[tactic(auto, unfolding(crate::specs::Words::kind_of))]
+pub fn kind_of(name: &str) -> Option<Kind>
+    ensures { result ≡ kind_named name.now }
+{
+    if name == "null" {
+        Some(Kind::Null)
+    } else if name == "boolean" {
+        Some(Kind::Boolean)
+    } else if name == "int" {
+        Some(Kind::Int)
+    } else if name == "long" {
+        Some(Kind::Long)
+    } else if name == "float" {
+        Some(Kind::Float)
+    } else if name == "double" {
+        Some(Kind::Double)
+    } else if name == "bytes" {
+        Some(Kind::Bytes)
+    } else if name == "string" {
+        Some(Kind::Text)
+    } else {
+        None
+    }
+}
+
+/// What the word says in an object's `type`.
+#[tactic(auto, unfolding(crate::specs::Words::word_of))]
+pub fn word_of(name: &str) -> Word
+    ensures { result ≡ word_named name.now }
+{
+    if let Some(kind) = kind_of(name) {
+        return Word::Primitive(kind);
+    }
+    if name == "record" {
+        Word::Record
+    } else if name == "enum" {
+        Word::Enum
+    } else if name == "array" {
+        Word::Array
+    } else if name == "map" {
+        Word::Map
+    } else if name == "fixed" {
+        Word::Fixed
+    } else {
+        Word::Reference
+    }
+}
+
+/// The sort order of this name.
+#[tactic(auto, unfolding(crate::specs::Words::order_of))]
+pub fn order_of(name: &str) -> Option<Order>
+    ensures { result ≡ order_named name.now }
+{
+    if name == "ascending" {
+        Some(Order::Ascending)
+    } else if name == "descending" {
+        Some(Order::Descending)
+    } else if name == "ignore" {
+        Some(Order::Ignore)
+    } else {
+        None
+    }
+}

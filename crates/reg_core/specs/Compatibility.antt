@@ -1,0 +1,38 @@
+-- Which earlier versions a level compares a new schema with, and which schemas it admits.
+use Rattle.std.specs.Prelude.{List, [], All, None, option_to_list}
+use Rattle.std.specs.List.{last_or}
+use Rattle.avro_nodes.specs.Nodes.{NodeView}
+use Rattle.avro_resolve.specs.Resolution.{Resolves}
+use Rattle.reg_core.specs.declared.level.Level.{Level}
+use Rattle.reg_core.specs.declared.level.Level.TheVariants.{Backward, BackwardTransitive, Forward, ForwardTransitive, Full, FullTransitive, Off}
+
+-- the last version, if there is one
+abbrev pub latest : {X : Type 0} → List X → List X
+latest live = option_to_list (last_or None live)
+
+-- Schema Registry API reference, Compatibility; Schema Evolution and Compatibility, Compatibility Types: the live versions, in order of number,
+-- that a level compares with: the latest, all for the transitive levels, none for NONE
+abbrev pub named_versions : {X : Type 0} → Level → List X → List X
+named_versions Backward live = latest live
+named_versions BackwardTransitive live = live
+named_versions Forward live = latest live
+named_versions ForwardTransitive live = live
+named_versions Full live = latest live
+named_versions FullTransitive live = live
+named_versions Off live = []
+
+-- Schema Evolution and Compatibility, Compatibility Types: the new schema reads what the earlier one wrote (backward), the earlier one reads what
+-- the new one writes (forward), or both (full)
+abbrev pub Compatible : Level → List NodeView → List NodeView → Type 0
+Compatible Backward earlier new = Resolves earlier new
+Compatible BackwardTransitive earlier new = Resolves earlier new
+Compatible Forward earlier new = Resolves new earlier
+Compatible ForwardTransitive earlier new = Resolves new earlier
+Compatible Full earlier new = Resolves earlier new × Resolves new earlier
+Compatible FullTransitive earlier new = Resolves earlier new × Resolves new earlier
+Compatible Off earlier new = Unit {0}
+
+-- Schema Registry API reference, Compatibility; Schema Evolution and Compatibility, Compatibility Types: the level admits the new schema after
+-- these live versions
+abbrev pub Admits : Level → List (List NodeView) → List NodeView → Type 0
+Admits level live new = All (λ earlier. Compatible level earlier new) (named_versions level live)

@@ -1,0 +1,88 @@
+//! Whether a level admits a new schema after the earlier versions of its subject.
+
+ghost use Rattle.std.specs.Prelude.{◌≡◌, ◌↔◌, IsTrue, IfOk, map};
+ghost use Rattle.avro_nodes.specs.Nodes.{nodes_view};
+ghost use Rattle.avro_resolve.specs.Resolution.{Resolves};
+ghost use Rattle.reg_core.specs.Compatibility.{Admits, Compatible, latest, named_versions};
+
+use crate::error::OutOfMemory;
+use crate::level::Level;
+use avro_resolve::resolves;
+use avro_schema::Schema;
+use std::alloc::Global;
+
+#[cfg(test)]
+mod tests;
+
+/// Whether the level admits the new schema. The earlier schemas are those of the subject's live
+/// versions, in order of number. (Schema Registry API reference, Compatibility; Schema Evolution
+/// and Compatibility, Compatibility Types.)
+///
+/// It ends at the first earlier schema that isn't compatible.
+///
+/// # Errors
+///
+/// `OutOfMemory` where room for a comparison is refused.
+pub fn admits(
+    alloc: Global,
+    level: Level,
+    earlier: &[Schema],
+    new: &Schema,
+) -> Result<bool, OutOfMemory>
+    ensures { IfOk result (λ yes. IsTrue yes
+        ↔ Admits level (map nodes_view earlier.now) (nodes_view new.now)) }
+{
+    let compared = named(level, earlier);
+    for schema in compared {
+        if !is_compatible(alloc, level, schema, new)? {
+            return Ok(false);
+        }
+    }
+    Ok(true)
+}
+
+/// The versions that the level compares a new schema with.
+fn named(level: Level, earlier: &[Schema]) -> &[Schema]
+    ensures { result.now ≡ named_versions level earlier.now }
+{
+    match level {
+        Level::Backward | Level::Forward | Level::Full => latest(earlier),
+        Level::BackwardTransitive | Level::ForwardTransitive | Level::FullTransitive => earlier,
+        Level::Off => &[],
+    }
+}
+
+/// The last of the versions, if there is one.
+fn latest(versions: &[Schema]) -> &[Schema]
+    ensures { result.now ≡ latest versions.now }
+{
+    &versions[versions.len().saturating_sub(1)..]
+}
+
+/// Whether the earlier schema and the new one are compatible in each direction of the level.
+fn is_compatible(
+    alloc: Global,
+    level: Level,
+    earlier: &Schema,
+    new: &Schema,
+) -> Result<bool, OutOfMemory>
+    ensures { IfOk result (λ yes. IsTrue yes
+        ↔ Compatible level (nodes_view earlier.now) (nodes_view new.now)) }
+{
+    match level {
+        Level::Backward | Level::BackwardTransitive => can_read(alloc, earlier, new),
+        Level::Forward | Level::ForwardTransitive => can_read(alloc, new, earlier),
+        Level::Full | Level::FullTransitive => {
+            Ok(can_read(alloc, earlier, new)? && can_read(alloc, new, earlier)?)
+        }
+        Level::Off => Ok(true),
+    }
+}
+
+/// Whether the reader's schema reads what the writer's wrote.
+fn can_read(alloc: Global, writer: &Schema, reader: &Schema) -> Result<bool, OutOfMemory>
+    ensures { IfOk result (λ yes. IsTrue yes
+        ↔ Resolves (nodes_view writer.now) (nodes_view reader.now)) }
+{
+    Ok(resolves(alloc, writer, reader)?.yes)
+}
