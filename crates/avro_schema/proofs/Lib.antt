@@ -10,6 +10,7 @@ pub mod Computes
 pub mod Sound
 pub mod Passing
 pub mod Fitting
+pub mod Covering
 pub mod TextLemmas
 pub mod RoundMembers
 pub mod RoundNames

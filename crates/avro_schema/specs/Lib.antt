@@ -8,4 +8,5 @@ pub mod Definitions
 pub mod Parts
 pub mod Reading
 pub mod Defaults
+pub mod Tables
 pub mod Texts

@@ -134,7 +134,7 @@ pub fn names_of(
     ensures { Gives (λ v. texts_view v.items) result
         (texts_in (rule_by (option_map (λ s. s.now) space.entry)) (items_view items.items)) }
 {
-    let mut names = Vec::new(alloc);
+    let mut names = Vec::with_capacity(alloc, items.len())?;
     for item in items {
         let Some(text) = text_of(item) else {
             return Err(SchemaError::BadShape);

@@ -1,14 +1,18 @@
 //! Which JSON values fit a type as a default.
-ghost use Rattle.std.specs.Prelude.{◌≡◌, ◌&&◌, ◌==◌, length, map, option_map, Some, slice_get, string_bytes};
+ghost use Rattle.std.specs.Prelude.{◌≡◌, ◌&&◌, ◌==◌, length, map, option_map, option_and_then, Some, IfOk, IfSome, slice_get, string_bytes};
+ghost use Rattle.std.specs.List.{list_all};
 ghost use Rattle.std.specs.Str.{chars};
 ghost use Rattle.serde_json.specs.Find.{get_member};
 ghost use Rattle.serde_json.specs.View.{view, items_view, members_view};
 ghost use Rattle.avro_nodes.specs.Nodes.{field_view, node_view, nodes_view};
 ghost use Rattle.avro_schema.specs.Defaults.{is_bytes as spells_bytes, primitive_fits as primitive_takes, items_fit as items_go, members_fit as members_go, field_fits_by, fields_fit as fields_go, node_fits as node_takes, entered as entered_node, fits as goes, field_defaults_fit as field_defaults_go, node_default_fits as node_default_goes, node_defaults_fit as node_defaults_go};
+ghost use Rattle.avro_schema.specs.Tables.{IsTable, IsTableOf, AreTables, fits_if_any, index_fits as index_go, named_fit as named_go, named_in};
 
 use crate::attributes::find;
+use crate::tables::{FieldTable, tables_of};
 use avro_nodes::{Extra, Field, Kind, Node};
 use serde_json::Value;
+use std::alloc::{AllocError, Global};
 
 /// One more than a default may nest.
 const MAX_DEPTH: u32 = 25;
@@ -53,46 +57,88 @@ fn primitive_fits(value: &Value, kind: Kind) -> bool
     }
 }
 
-/// The type at the place, or where that is a union its first branch.
-fn entered(nodes: &[Node], place: u32) -> Option<&Node>
-    ensures { option_map (λ n. node_view n.now) result ≡ entered_node (nodes_view nodes.now) (slice_get (nodes_view nodes.now) place) }
+/// The type at the place, or where that is a union its first branch, with the place where it is.
+fn entered(nodes: &[Node], place: u32) -> Option<(u32, &Node)>
+    ensures node { option_map (λ p. node_view p.1.now) result
+        ≡ entered_node (nodes_view nodes.now) (slice_get (nodes_view nodes.now) place) }
+    ensures place { IfSome result (λ p. slice_get (nodes_view nodes.now) p.0 ≡ Some (node_view p.1.now)) }
 {
     match nodes.get(place as usize) {
-        Some(Node::Union { branches }) => match branches.first() {
-            Some(first) => nodes.get(*first as usize),
-            None => None,
-        },
-        found => found,
+        Some(Node::Union { branches }) => {
+            let first = *branches.first()?;
+            Some((first, nodes.get(first as usize)?))
+        }
+        Some(node) => Some((place, node)),
+        None => None,
+    }
+}
+
+/// The table of the node at the place, where it has one.
+#[tactic(auto, unfolding(crate::specs::Tables::AreTables))]
+fn table_at<'a, 'b>(
+    tables: &'a [Option<FieldTable<'b>>],
+    place: u32,
+    nodes: &[Node],
+    node: &Node,
+) -> Option<&'a FieldTable<'b>>
+    requires tables { AreTables (nodes_view nodes.now) tables.now }
+    requires node { slice_get (nodes_view nodes.now) place ≡ Some (node_view node.now) }
+    ensures { IfSome result (λ t. IsTableOf t.now (node_view node.now)) }
+{
+    match tables.get(place as usize) {
+        Some(Some(table)) => Some(table),
+        Some(None) => None,
+        None => None,
     }
 }
 
 /// Whether the value, which nests less deep than the number, fits the type at the place.
 #[cycle(fit)]
 #[tactic(auto, unfolding(crate::specs::Defaults::fits))]
-fn fits(value: &Value, place: u32, nodes: &[Node], depth: u32) -> bool
+fn fits(
+    value: &Value,
+    place: u32,
+    nodes: &[Node],
+    tables: &[Option<FieldTable>],
+    depth: u32,
+) -> bool
+    requires tables { AreTables (nodes_view nodes.now) tables.now }
     ensures { result ≡ goes depth (nodes_view nodes.now) (view value.now) place }
 {
     if depth == 0 {
         return false;
     }
     match entered(nodes, place) {
-        Some(node) => node_fits(value, node, nodes, depth - 1),
+        Some((at, node)) => {
+            let table = table_at(tables, at, nodes, node);
+            node_fits(value, node, table, nodes, tables, depth - 1)
+        }
         None => false,
     }
 }
 
+/// Whether the value fits the node, whose fields the table has if there is one.
 #[cycle(fit)]
-fn node_fits(value: &Value, node: &Node, nodes: &[Node], depth: u32) -> bool
+fn node_fits(
+    value: &Value,
+    node: &Node,
+    table: Option<&FieldTable>,
+    nodes: &[Node],
+    tables: &[Option<FieldTable>],
+    depth: u32,
+) -> bool
+    requires tables { AreTables (nodes_view nodes.now) tables.now }
+    requires table { IfSome table (λ t. IsTableOf t.now (node_view node.now)) }
     ensures { result ≡ node_takes (goes depth (nodes_view nodes.now)) (view value.now) (Some (node_view node.now)) }
 {
     match node {
         Node::Primitive { kind, .. } => primitive_fits(value, *kind),
         Node::Array { items, .. } => match value.as_array() {
-            Some(values) => items_fit(values, *items, nodes, depth),
+            Some(values) => items_fit(values, *items, nodes, tables, depth),
             None => false,
         },
         Node::Map { values, .. } => match value.as_object() {
-            Some(members) => members_fit(members, *values, nodes, depth),
+            Some(members) => members_fit(members, *values, nodes, tables, depth),
             None => false,
         },
         Node::Union { .. } => false,
@@ -102,18 +148,28 @@ fn node_fits(value: &Value, node: &Node, nodes: &[Node], depth: u32) -> bool
             None => false,
         },
         Node::Rec { fields, .. } => match value.as_object() {
-            Some(members) => fields_fit(members, fields, nodes, depth),
+            Some(members) => match table {
+                Some(table) => table_fits(members, fields, table, nodes, tables, depth),
+                None => fields_fit(members, fields, nodes, tables, depth),
+            },
             None => false,
         },
     }
 }
 
 #[cycle(fit)]
-fn items_fit(values: &Vec<Value>, place: u32, nodes: &[Node], depth: u32) -> bool
+fn items_fit(
+    values: &Vec<Value>,
+    place: u32,
+    nodes: &[Node],
+    tables: &[Option<FieldTable>],
+    depth: u32,
+) -> bool
+    requires tables { AreTables (nodes_view nodes.now) tables.now }
     ensures { result ≡ items_go (goes depth (nodes_view nodes.now)) (items_view values.now.items) place }
 {
     for value in values {
-        if !fits(value, place, nodes, depth) {
+        if !fits(value, place, nodes, tables, depth) {
             return false;
         }
     }
@@ -121,11 +177,18 @@ fn items_fit(values: &Vec<Value>, place: u32, nodes: &[Node], depth: u32) -> boo
 }
 
 #[cycle(fit)]
-fn members_fit(members: &Extra, place: u32, nodes: &[Node], depth: u32) -> bool
+fn members_fit(
+    members: &Extra,
+    place: u32,
+    nodes: &[Node],
+    tables: &[Option<FieldTable>],
+    depth: u32,
+) -> bool
+    requires tables { AreTables (nodes_view nodes.now) tables.now }
     ensures { result ≡ members_go (goes depth (nodes_view nodes.now)) (members_view members.now.entries) place }
 {
     for (_key, value) in members.iter() {
-        if !fits(value, place, nodes, depth) {
+        if !fits(value, place, nodes, tables, depth) {
             return false;
         }
     }
@@ -133,11 +196,56 @@ fn members_fit(members: &Extra, place: u32, nodes: &[Node], depth: u32) -> bool
 }
 
 #[cycle(fit)]
-fn fields_fit(members: &Extra, fields: &Vec<Field>, nodes: &[Node], depth: u32) -> bool
+fn fields_fit(
+    members: &Extra,
+    fields: &Vec<Field>,
+    nodes: &[Node],
+    tables: &[Option<FieldTable>],
+    depth: u32,
+) -> bool
+    requires tables { AreTables (nodes_view nodes.now) tables.now }
     ensures { result ≡ fields_go (goes depth (nodes_view nodes.now)) (members_view members.now.entries) (map field_view fields.now.items) }
 {
     for field in fields {
-        if !field_fits(members, field, nodes, depth) {
+        if !field_fits(members, field, nodes, tables, depth) {
+            return false;
+        }
+    }
+    true
+}
+
+/// The same, where only those fields are looked at that the members name or may not leave out.
+#[cycle(fit)]
+fn table_fits(
+    members: &Extra,
+    fields: &Vec<Field>,
+    table: &FieldTable,
+    nodes: &[Node],
+    tables: &[Option<FieldTable>],
+    depth: u32,
+) -> bool
+    requires tables { AreTables (nodes_view nodes.now) tables.now }
+    requires table { IsTable table.now (map field_view fields.now.items) }
+    ensures { result ≡ fields_go (goes depth (nodes_view nodes.now)) (members_view members.now.entries) (map field_view fields.now.items) }
+{
+    always_fit(members, fields, &table.always, nodes, tables, depth)
+        && named_fit(members, fields, table, nodes, tables, depth)
+}
+
+#[cycle(fit)]
+fn always_fit(
+    members: &Extra,
+    fields: &Vec<Field>,
+    always: &Vec<usize>,
+    nodes: &[Node],
+    tables: &[Option<FieldTable>],
+    depth: u32,
+) -> bool
+    requires tables { AreTables (nodes_view nodes.now) tables.now }
+    ensures { result ≡ list_all (λ i. fits_if_any (goes depth (nodes_view nodes.now)) (members_view members.now.entries) (slice_get (map field_view fields.now.items) i)) always.now.items }
+{
+    for at in always {
+        if !index_fits(members, fields, *at, nodes, tables, depth) {
             return false;
         }
     }
@@ -145,22 +253,89 @@ fn fields_fit(members: &Extra, fields: &Vec<Field>, nodes: &[Node], depth: u32) 
 }
 
 #[cycle(fit)]
-fn field_fits(members: &Extra, field: &Field, nodes: &[Node], depth: u32) -> bool
+fn named_fit(
+    members: &Extra,
+    fields: &Vec<Field>,
+    table: &FieldTable,
+    nodes: &[Node],
+    tables: &[Option<FieldTable>],
+    depth: u32,
+) -> bool
+    requires tables { AreTables (nodes_view nodes.now) tables.now }
+    ensures { result ≡ named_go (goes depth (nodes_view nodes.now)) (members_view members.now.entries) (map field_view fields.now.items) table.now (members_view members.now.entries) }
+{
+    for (key, _value) in members.iter() {
+        if !name_fits(key.as_str(), members, fields, table, nodes, tables, depth) {
+            return false;
+        }
+    }
+    true
+}
+
+/// Whether the field fits that the table has at the name, if there is one.
+#[cycle(fit)]
+fn name_fits(
+    name: &str,
+    members: &Extra,
+    fields: &Vec<Field>,
+    table: &FieldTable,
+    nodes: &[Node],
+    tables: &[Option<FieldTable>],
+    depth: u32,
+) -> bool
+    requires tables { AreTables (nodes_view nodes.now) tables.now }
+    ensures { result ≡ index_go (goes depth (nodes_view nodes.now)) (members_view members.now.entries) (map field_view fields.now.items) (named_in table.now name.now) }
+{
+    match table.by_name.get(name) {
+        Some(at) => index_fits(members, fields, *at, nodes, tables, depth),
+        None => true,
+    }
+}
+
+/// Whether the field at the index fits, if there is one.
+#[cycle(fit)]
+fn index_fits(
+    members: &Extra,
+    fields: &Vec<Field>,
+    at: usize,
+    nodes: &[Node],
+    tables: &[Option<FieldTable>],
+    depth: u32,
+) -> bool
+    requires tables { AreTables (nodes_view nodes.now) tables.now }
+    ensures { result ≡ fits_if_any (goes depth (nodes_view nodes.now)) (members_view members.now.entries) (slice_get (map field_view fields.now.items) at) }
+{
+    match fields.get(at) {
+        Some(field) => field_fits(members, field, nodes, tables, depth),
+        None => true,
+    }
+}
+
+#[cycle(fit)]
+fn field_fits(
+    members: &Extra,
+    field: &Field,
+    nodes: &[Node],
+    tables: &[Option<FieldTable>],
+    depth: u32,
+) -> bool
+    requires tables { AreTables (nodes_view nodes.now) tables.now }
     ensures { result ≡ field_fits_by (goes depth (nodes_view nodes.now)) (field_view field.now) (get_member (string_bytes field.now.name) (members_view members.now.entries)) }
 {
     match find(members, field.name.as_str()) {
-        Some(value) => fits(value, field.place, nodes, depth),
+        Some(value) => fits(value, field.place, nodes, tables, depth),
         None => field.value.is_some(),
     }
 }
 
 /// Whether each default of the fields fits its field.
-fn field_defaults_fit(fields: &[Field], nodes: &[Node]) -> bool
+fn field_defaults_fit(fields: &[Field], nodes: &[Node], tables: &[Option<FieldTable>]) -> bool
+    requires tables { AreTables (nodes_view nodes.now) tables.now }
     ensures { result ≡ field_defaults_go (nodes_view nodes.now) (map field_view fields.now) }
 {
     for field in fields {
         if let Some(value) = &field.value
-            && !fits(value, field.place, nodes, MAX_DEPTH)
+            && !fits(value, field.place, nodes, tables, MAX_DEPTH)
         {
             return false;
         }
@@ -168,11 +343,12 @@ fn field_defaults_fit(fields: &[Field], nodes: &[Node]) -> bool
     true
 }
 
-fn node_default_fits(node: &Node, nodes: &[Node]) -> bool
+fn node_default_fits(node: &Node, nodes: &[Node], tables: &[Option<FieldTable>]) -> bool
+    requires tables { AreTables (nodes_view nodes.now) tables.now }
     ensures { result ≡ node_default_goes (nodes_view nodes.now) (node_view node.now) }
 {
     match node {
-        Node::Rec { fields, .. } => field_defaults_fit(fields, nodes),
+        Node::Rec { fields, .. } => field_defaults_fit(fields, nodes, tables),
         Node::Primitive { .. }
         | Node::Array { .. }
         | Node::Map { .. }
@@ -183,13 +359,18 @@ fn node_default_fits(node: &Node, nodes: &[Node]) -> bool
 }
 
 /// Whether each default fits its field.
-pub fn defaults_fit(nodes: &[Node]) -> bool
-    ensures { result ≡ node_defaults_go (nodes_view nodes.now) (nodes_view nodes.now) }
+///
+/// # Errors
+///
+/// `AllocError` where room for the tables of the fields is refused.
+pub fn defaults_fit(alloc: Global, nodes: &[Node]) -> Result<bool, AllocError>
+    ensures { IfOk result (λ b. b ≡ node_defaults_go (nodes_view nodes.now) (nodes_view nodes.now)) }
 {
+    let tables = tables_of(alloc, nodes)?;
     for node in nodes {
-        if !node_default_fits(node, nodes) {
-            return false;
+        if !node_default_fits(node, nodes, &tables) {
+            return Ok(false);
         }
     }
-    true
+    Ok(true)
 }

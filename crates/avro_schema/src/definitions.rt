@@ -54,6 +54,20 @@ pub fn bound(attributes: &Extra) -> Result<(), SchemaError>
     }
 }
 
+/// The other attributes, which nest within the limit. Where none is left, the map that held what
+/// was taken out is given back, so that a node keeps no room for it.
+pub fn others(alloc: Global, attributes: Extra) -> Result<Extra, SchemaError>
+    ensures { Gives (λ m. members_view m.entries) result
+        (bounded (members_view attributes.entries)) }
+{
+    bound(&attributes)?;
+    if attributes.is_empty() {
+        Ok(Extra::new(alloc))
+    } else {
+        Ok(attributes)
+    }
+}
+
 /// The full name, where it may be defined.
 fn if_free(full: String, known: &Places) -> Result<String, SchemaError>
     ensures { Gives string_bytes result (if_new (known_in known.now) (string_bytes full)) }
@@ -165,12 +179,12 @@ pub fn enum_at(
         (enum_in space.now (members_view attributes.entries) (known_in known.old) (length nodes.old.items))
         (nodes_view nodes.old.items) (nodes_view nodes.new.items) (known_in known.new) }
 {
-    let mut extra = attributes;
+    let mut rest = attributes;
     let place = room(nodes)?;
-    let named = named_of(alloc, &mut extra, space, known)?;
-    let symbols = symbols_of(alloc, &mut extra)?;
-    let fallback = fallback_of(take(&mut extra, "default"), &symbols)?;
-    bound(&extra)?;
+    let named = named_of(alloc, &mut rest, space, known)?;
+    let symbols = symbols_of(alloc, &mut rest)?;
+    let fallback = fallback_of(take(&mut rest, "default"), &symbols)?;
+    let extra = others(alloc, rest)?;
     define(alloc, known, named.name.as_str(), place)?;
     nodes.push(Node::Enum {
         named,
@@ -194,13 +208,13 @@ pub fn fixed_at(
         (fixed_in space.now (members_view attributes.entries) (known_in known.old) (length nodes.old.items))
         (nodes_view nodes.old.items) (nodes_view nodes.new.items) (known_in known.new) }
 {
-    let mut extra = attributes;
+    let mut rest = attributes;
     let place = room(nodes)?;
-    let named = named_of(alloc, &mut extra, space, known)?;
-    let Some(size) = size_of(take(&mut extra, "size")) else {
+    let named = named_of(alloc, &mut rest, space, known)?;
+    let Some(size) = size_of(take(&mut rest, "size")) else {
         return Err(SchemaError::BadShape);
     };
-    bound(&extra)?;
+    let extra = others(alloc, rest)?;
     define(alloc, known, named.name.as_str(), place)?;
     nodes.push(Node::Fixed { named, size, extra })?;
     Ok(place)

@@ -10,6 +10,7 @@ mod names;
 mod nesting;
 mod reading;
 mod schema;
+mod tables;
 #[cfg(test)]
 mod tests;
 mod words;

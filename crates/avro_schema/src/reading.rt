@@ -9,7 +9,7 @@ ghost use Rattle.avro_schema.specs.Definitions.{label_view};
 ghost use Rattle.avro_schema.specs.Outcome.{Reads, known_in};
 
 use crate::attributes::{members_of, take, take_items, take_text};
-use crate::definitions::{Label, bound, enum_at, fixed_at, label_of, named_of, room};
+use crate::definitions::{Label, bound, enum_at, fixed_at, label_of, named_of, others, room};
 use crate::distinct::{fields_differ, kinds_differ};
 use crate::error::SchemaError;
 use crate::names::{Places, define, resolve};
@@ -21,17 +21,18 @@ use std::alloc::Global;
 /// Reads a primitive type, whose other attributes are left.
 #[tactic(auto, unfolding(crate::specs::Reading::primitive_at))]
 fn primitive_at(
+    alloc: Global,
     kind: Kind,
-    extra: Extra,
+    attributes: Extra,
     nodes: &mut Vec<Node>,
     known: &Places,
 ) -> Result<u32, SchemaError>
     ensures { Reads (λ p. p) result
-        (primitive_of kind (members_view extra.entries) (known_in known.now) (length nodes.old.items))
+        (primitive_of kind (members_view attributes.entries) (known_in known.now) (length nodes.old.items))
         (nodes_view nodes.old.items) (nodes_view nodes.new.items) (known_in known.now) }
 {
     let place = room(nodes)?;
-    bound(&extra)?;
+    let extra = others(alloc, attributes)?;
     nodes.push(Node::Primitive { kind, extra })?;
     Ok(place)
 }
@@ -68,7 +69,7 @@ fn name_at(
         (nodes_view nodes.old.items) (nodes_view nodes.new.items) (known_in known.now) }
 {
     match kind_of(name) {
-        Some(kind) => primitive_at(kind, Extra::new(alloc), nodes, known),
+        Some(kind) => primitive_at(alloc, kind, Extra::new(alloc), nodes, known),
         None => reference_to(alloc, name, space, nodes, known),
     }
 }
@@ -214,7 +215,7 @@ fn object_at(
         return Err(SchemaError::BadShape);
     };
     match word_of(name.as_str()) {
-        Word::Primitive(kind) => primitive_at(kind, attributes, nodes, known),
+        Word::Primitive(kind) => primitive_at(alloc, kind, attributes, nodes, known),
         Word::Array => container_at(
             alloc,
             Container::Items,
@@ -257,12 +258,12 @@ fn container_at(
         (container_of container (type_of depth space.now) (members_view attributes.entries) (known_in known.old) (length nodes.old.items))
         (nodes_view nodes.old.items) (nodes_view nodes.new.items) (known_in known.new) }
 {
-    let mut extra = attributes;
+    let mut rest = attributes;
     let place = room(nodes)?;
-    let Some(inner) = take(&mut extra, key_of(container)) else {
+    let Some(inner) = take(&mut rest, key_of(container)) else {
         return Err(SchemaError::BadShape);
     };
-    bound(&extra)?;
+    let extra = others(alloc, rest)?;
     nodes.push(blank(alloc))?;
     let within = type_at(alloc, inner, space, depth, nodes, known)?;
     settle(nodes, place, container_node(container, within, extra));
@@ -306,7 +307,7 @@ fn branches_at(
         (parts_of (branch_of (type_of depth space.now)) (items_view items.items) (known_in known.old) (length nodes.old.items))
         (nodes_view nodes.old.items) (nodes_view nodes.new.items) (known_in known.new) }
 {
-    let mut branches = Vec::new(alloc);
+    let mut branches = Vec::with_capacity(alloc, items.len())?;
     for item in items {
         branches.push(branch_at(alloc, item, space, depth, nodes, known)?)?;
     }
@@ -347,13 +348,13 @@ fn record_at(
         (record_of (type_of depth) space.now (members_view attributes.entries) (known_in known.old) (length nodes.old.items))
         (nodes_view nodes.old.items) (nodes_view nodes.new.items) (known_in known.new) }
 {
-    let mut extra = attributes;
+    let mut rest = attributes;
     let place = room(nodes)?;
-    let named = named_of(alloc, &mut extra, space, known)?;
-    let Some(items) = take_items(&mut extra, "fields") else {
+    let named = named_of(alloc, &mut rest, space, known)?;
+    let Some(items) = take_items(&mut rest, "fields") else {
         return Err(SchemaError::BadShape);
     };
-    bound(&extra)?;
+    let extra = others(alloc, rest)?;
     nodes.push(blank(alloc))?;
     define(alloc, known, named.name.as_str(), place)?;
     let inside = namespace_of(named.name.as_str());
@@ -386,7 +387,7 @@ fn fields_at(
         (parts_of (field_of (type_of depth space.now)) (items_view items.items) (known_in known.old) (length nodes.old.items))
         (nodes_view nodes.old.items) (nodes_view nodes.new.items) (known_in known.new) }
 {
-    let mut fields = Vec::new(alloc);
+    let mut fields = Vec::with_capacity(alloc, items.len())?;
     for item in items {
         fields.push(field_at(alloc, item, space, depth, nodes, known)?)?;
     }
@@ -406,14 +407,14 @@ fn field_at(
         (field_of (type_of depth space.now) (view value) (known_in known.old) (length nodes.old.items))
         (nodes_view nodes.old.items) (nodes_view nodes.new.items) (known_in known.new) }
 {
-    let Some(mut extra) = members_of(value) else {
+    let Some(mut rest) = members_of(value) else {
         return Err(SchemaError::BadShape);
     };
-    let label = label_of(alloc, &mut extra)?;
-    let Some(inner) = take(&mut extra, "type") else {
+    let label = label_of(alloc, &mut rest)?;
+    let Some(inner) = take(&mut rest, "type") else {
         return Err(SchemaError::BadShape);
     };
-    bound(&extra)?;
+    let extra = others(alloc, rest)?;
     let place = type_at(alloc, inner, space, depth, nodes, known)?;
     Ok(field_from(label, place, extra))
 }

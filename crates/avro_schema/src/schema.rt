@@ -99,7 +99,7 @@ impl Schema {
             → (nodes : List NodeView) → ¬ TextDenotes text.now nodes) }
     {
         let nodes = nodes_of(alloc, text)?;
-        if !defaults_fit(&nodes) {
+        if !defaults_fit(alloc, &nodes)? {
             return Err(SchemaError::BadDefault);
         }
         let text = identity_of(alloc, &nodes)?;

@@ -317,6 +317,48 @@ fn deep(alloc: Global, inner: &str) -> Result<[String; 3], AllocError> {
     ])
 }
 
+/// A record whose field is an array of records, of two fields without a default and twenty with
+/// one, and has these items as its default.
+fn listed(alloc: Global, items: &str) -> Result<String, AllocError> {
+    let mut all = String::from_str(
+        alloc,
+        r#"{"type":"record","name":"R","fields":[{"name":"x","type":{"type":"array","items":{"type":"record","name":"S","fields":[{"name":"a","type":"int"},{"name":"b","type":"int"}"#,
+    )?;
+    for i in 0..20 {
+        let field = format!(in alloc; ",{{\"name\":\"f{i}\",\"type\":\"int\",\"default\":0}}")?;
+        all.push_str(field.as_str())?;
+    }
+    all.push_str("]}},\"default\":")?;
+    all.push_str(items)?;
+    all.push_str("}]}")?;
+    Ok(all)
+}
+
+/// Items of that array, and whether they fit it.
+const ITEMS: [(&str, &str); 8] = [
+    ("[]", "read"),
+    (r#"[{"a":1,"b":2},{"b":2,"a":1}]"#, "read"),
+    (r#"[{"a":1,"b":2,"f3":3,"f19":4,"z":null}]"#, "read"),
+    (r#"[{"a":1,"b":2},{"a":1}]"#, "BadDefault"),
+    (r#"[{}]"#, "BadDefault"),
+    (r#"[{"a":1,"b":"2"}]"#, "BadDefault"),
+    (r#"[{"a":1,"b":2,"f3":3,"f19":"4"}]"#, "BadDefault"),
+    (r#"[{"a":1,"b":2},3]"#, "BadDefault"),
+];
+
+#[test]
+fn many_fields(rt: HostRuntime) -> Result<(), Fail> {
+    let alloc = rt.alloc();
+    for (items, want) in ITEMS {
+        assert_eq!(rt;
+            verdict(alloc, listed(alloc, items)?.as_str()),
+            want,
+            "{items}"
+        );
+    }
+    Ok(())
+}
+
 #[test]
 fn nesting(rt: HostRuntime) -> Result<(), Fail> {
     let alloc = rt.alloc();

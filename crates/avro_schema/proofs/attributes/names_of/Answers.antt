@@ -12,7 +12,7 @@ returns-in_default c =
 pub returns-in_err-name_by : goal.returns-in_err-name_by
 returns-in_err-name_by c =
     let at = rw c.in-Some.ensures.steps.0 at c.loop-item.invariant.0 in
-    gives_exit _ _ _ _ c.from_residual.ensures.1
+    gives_exit _ _ _ _ c.from_residual-in_err-name_by.ensures.1
     (rw (← c.into_iter-item-iterator.ensures.into_iter_gives.0) (fails_from _ _ _ (λ none. at ∙ no_name _ _ _ _ _ (sym c.in-Some-text_of.ensures) none) c.in_err-name_by.ensures))
 
 pub loop-item-preserved : goal.loop-item-preserved

@@ -98,12 +98,12 @@ container_at-returns-in_err-place t c = reads_exit _ _ _ _ _ _ _ c.from_residual
 pub container_at-returns-in_default : goal.container_at-returns-in_default
 container_at-returns-in_default t c = nothing_held _ _ _ _ _ _ c.in_ok-place.ensures.room (rw c.key_of.ensures at (sym c.in_default.ensures.value))
 
-pub container_at-returns-in_err-bound : goal.container_at-returns-in_err-bound
-container_at-returns-in_err-bound t c =
+pub container_at-returns-in_err-extra : goal.container_at-returns-in_err-extra
+container_at-returns-in_err-extra t c =
     let holds = rw c.key_of.ensures at (sym c.in-Some.ensures.value) in
     let rest = rw c.key_of.ensures at c.in-Some.ensures.rest in
-    reads_exit _ _ _ _ _ _ _ c.from_residual-in_err-bound.ensures.1
-    (fails_from _ _ _ (container_unbound _ _ _ _ _ _ c.in_ok-place.ensures.room _ holds) (rw rest at c.in_err-bound.ensures))
+    reads_exit _ _ _ _ _ _ _ c.from_residual-in_err-extra.ensures.1
+    (fails_from _ _ _ (container_unbound _ _ _ _ _ _ c.in_ok-place.ensures.room _ holds) (rw rest at c.in_err-extra.ensures))
 
 pub container_at-returns-in_err-within : goal.container_at-returns-in_err-within
 container_at-returns-in_err-within t c =
@@ -111,15 +111,15 @@ container_at-returns-in_err-within t c =
     let rest = rw c.key_of.ensures at c.in-Some.ensures.rest in
     let next = one_more _ _ _ c.in_ok-push.ensures.items in
     reads_exit _ _ _ _ _ _ _ c.from_residual-in_err-within.ensures.1
-    (fails_from _ _ _ (held_fails _ _ _ _ _ _ c.in_ok-place.ensures.room _ holds _ (rw rest at c.in_ok-bound.ensures)) (rw next at c.in_err-within.ensures))
+    (fails_from _ _ _ (held_fails _ _ _ _ _ _ c.in_ok-place.ensures.room _ holds _ (rw rest at c.in_ok-extra.ensures)) (rw next at c.in_err-within.ensures))
 
 pub container_at-returns : goal.container_at-returns
 container_at-returns t c =
     let holds = rw c.key_of.ensures at (sym c.in-Some.ensures.value) in
     let rest = rw c.key_of.ensures at c.in-Some.ensures.rest in
     let next = one_more _ _ _ c.in_ok-push.ensures.items in
-    rw (c.settle.ensures, c.container_node.ensures, rest)
-    (container_done _ _ _ _ _ _ c.in_ok-place.ensures.room _ holds _ (rw rest at c.in_ok-bound.ensures) _ _ _ _ _ _ (c.in_ok-place.ensures.place ∙ sym (length-nodes _)) (nodes_push _ _ _ c.in_ok-push.ensures.items) (rw next at c.in_ok-within.ensures))
+    rw (c.settle.ensures, c.container_node.ensures)
+    (container_done _ _ _ _ _ _ c.in_ok-place.ensures.room _ holds _ (rw rest at c.in_ok-extra.ensures) _ _ _ _ _ _ (c.in_ok-place.ensures.place ∙ sym (length-nodes _)) (nodes_push _ _ _ c.in_ok-push.ensures.items) (rw next at c.in_ok-within.ensures))
 
 -- ---- a union
 
@@ -141,7 +141,7 @@ branch_at-returns t c =
 pub branches_at-returns-in_err-branch_at : goal.branches_at-returns-in_err-branch_at
 branches_at-returns-in_err-branch_at t c =
     let at = rw c.in-Some.ensures.steps.0 at c.loop-item.invariant.0 in
-    reads_exit _ _ _ _ _ _ _ c.from_residual.ensures.1
+    reads_exit _ _ _ _ _ _ _ c.from_residual-in_err-branch_at.ensures.1
     (rw (← c.into_iter-item-iterator.ensures.into_iter_gives.0) (fails_at _ _ _ _ _ _ _ _ _ _ _ _ at c.in_err-branch_at.ensures))
 
 pub branches_at-loop-item-preserved : goal.branches_at-loop-item-preserved
@@ -199,31 +199,31 @@ pub field_at-returns-in_default-take : goal.field_at-returns-in_default-take
 field_at-returns-in_default-take t c =
     no_type _ _ _ _ _ (sym c.in-Some.ensures) _ c.in_ok-label.ensures.label (rw c.in_ok-label.ensures.rest at (sym c.in_default-take.ensures.value))
 
-pub field_at-returns-in_err-bound : goal.field_at-returns-in_err-bound
-field_at-returns-in_err-bound t c =
+pub field_at-returns-in_err-extra : goal.field_at-returns-in_err-extra
+field_at-returns-in_err-extra t c =
     let typed = rw c.in_ok-label.ensures.rest at (sym c.in-Some-take.ensures.value) in
     let rest = rw c.in_ok-label.ensures.rest at c.in-Some-take.ensures.rest in
-    reads_exit _ _ _ _ _ _ _ c.from_residual-in_err-bound.ensures.1
-    (fails_from _ _ _ (field_unbound _ _ _ _ _ (sym c.in-Some.ensures) _ c.in_ok-label.ensures.label _ typed) (rw rest at c.in_err-bound.ensures))
+    reads_exit _ _ _ _ _ _ _ c.from_residual-in_err-extra.ensures.1
+    (fails_from _ _ _ (field_unbound _ _ _ _ _ (sym c.in-Some.ensures) _ c.in_ok-label.ensures.label _ typed) (rw rest at c.in_err-extra.ensures))
 
 pub field_at-returns-in_err-place : goal.field_at-returns-in_err-place
 field_at-returns-in_err-place t c =
     let typed = rw c.in_ok-label.ensures.rest at (sym c.in-Some-take.ensures.value) in
     let rest = rw c.in_ok-label.ensures.rest at c.in-Some-take.ensures.rest in
     reads_exit _ _ _ _ _ _ _ c.from_residual-in_err-place.ensures.1
-    (fails_from _ _ _ (field_fails _ _ _ _ _ (sym c.in-Some.ensures) _ c.in_ok-label.ensures.label _ typed _ (rw rest at c.in_ok-bound.ensures)) c.in_err-place.ensures)
+    (fails_from _ _ _ (field_fails _ _ _ _ _ (sym c.in-Some.ensures) _ c.in_ok-label.ensures.label _ typed _ (rw rest at c.in_ok-extra.ensures)) c.in_err-place.ensures)
 
 pub field_at-returns : goal.field_at-returns
 field_at-returns t c =
     let typed = rw c.in_ok-label.ensures.rest at (sym c.in-Some-take.ensures.value) in
     let rest = rw c.in_ok-label.ensures.rest at c.in-Some-take.ensures.rest in
-    rw (c.field_from.ensures, rest)
-    (field_is _ _ _ _ _ (sym c.in-Some.ensures) _ c.in_ok-label.ensures.label _ typed _ (rw rest at c.in_ok-bound.ensures) _ _ _ _ c.in_ok-place.ensures)
+    rw c.field_from.ensures
+    (field_is _ _ _ _ _ (sym c.in-Some.ensures) _ c.in_ok-label.ensures.label _ typed _ (rw rest at c.in_ok-extra.ensures) _ _ _ _ c.in_ok-place.ensures)
 
 pub fields_at-returns-in_err-field_at : goal.fields_at-returns-in_err-field_at
 fields_at-returns-in_err-field_at t c =
     let at = rw c.in-Some.ensures.steps.0 at c.loop-item.invariant.0 in
-    reads_exit _ _ _ _ _ _ _ c.from_residual.ensures.1
+    reads_exit _ _ _ _ _ _ _ c.from_residual-in_err-field_at.ensures.1
     (rw (← c.into_iter-item-iterator.ensures.into_iter_gives.0) (fails_at _ _ _ _ _ _ _ _ _ _ _ _ at c.in_err-field_at.ensures))
 
 pub fields_at-loop-item-preserved : goal.fields_at-loop-item-preserved
@@ -255,12 +255,12 @@ pub record_at-returns-in_default : goal.record_at-returns-in_default
 record_at-returns-in_default t c =
     no_fields _ _ _ _ _ _ c.in_ok-place.ensures.room _ c.in_ok-named.ensures.named (rw c.in_ok-named.ensures.rest at (sym c.in_default.ensures.items))
 
-pub record_at-returns-in_err-bound : goal.record_at-returns-in_err-bound
-record_at-returns-in_err-bound t c =
+pub record_at-returns-in_err-extra : goal.record_at-returns-in_err-extra
+record_at-returns-in_err-extra t c =
     let listed = rw c.in_ok-named.ensures.rest at (sym c.in-Some.ensures.items) in
     let rest = rw c.in_ok-named.ensures.rest at c.in-Some.ensures.rest in
-    reads_exit _ _ _ _ _ _ _ c.from_residual-in_err-bound.ensures.1
-    (fails_from _ _ _ (record_unbound _ _ _ _ _ _ c.in_ok-place.ensures.room _ c.in_ok-named.ensures.named _ listed) (rw rest at c.in_err-bound.ensures))
+    reads_exit _ _ _ _ _ _ _ c.from_residual-in_err-extra.ensures.1
+    (fails_from _ _ _ (record_unbound _ _ _ _ _ _ c.in_ok-place.ensures.room _ c.in_ok-named.ensures.named _ listed) (rw rest at c.in_err-extra.ensures))
 
 pub record_at-returns-in_err-fields : goal.record_at-returns-in_err-fields
 record_at-returns-in_err-fields t c =
@@ -270,7 +270,7 @@ record_at-returns-in_err-fields t c =
     let inside : c.namespace_of-inside.result.now ≡ namespace_of (string_bytes c.in_ok-named.named.name) = c.namespace_of-inside.ensures ∙ ap namespace_of c.as_str-2.ensures.value in
     let known = rw c.as_str.ensures.value at c.in_ok-define.ensures in
     reads_exit _ _ _ _ _ _ _ c.from_residual-in_err-fields.ensures.1
-    (fails_from _ _ _ (fields_fail _ _ _ _ _ _ c.in_ok-place.ensures.room _ c.in_ok-named.ensures.named _ listed _ (rw rest at c.in_ok-bound.ensures)) (rw (inside, known, next) at c.in_err-fields.ensures))
+    (fails_from _ _ _ (fields_fail _ _ _ _ _ _ c.in_ok-place.ensures.room _ c.in_ok-named.ensures.named _ listed _ (rw rest at c.in_ok-extra.ensures)) (rw (inside, known, next) at c.in_err-fields.ensures))
 
 pub record_at-returns-then-not-branch : goal.record_at-returns-then-not-branch
 record_at-returns-then-not-branch t c =
@@ -280,7 +280,7 @@ record_at-returns-then-not-branch t c =
     let inside : c.namespace_of-inside.result.now ≡ namespace_of (string_bytes c.in_ok-named.named.name) = c.namespace_of-inside.ensures ∙ ap namespace_of c.as_str-2.ensures.value in
     let known = rw c.as_str.ensures.value at c.in_ok-define.ensures in
     let alike = rw c.deref.ensures.value at (sym c.in_ok-fields_differ.ensures ∙ c.if-not-branch.true) in
-    fields_alike _ _ _ _ _ _ c.in_ok-place.ensures.room _ c.in_ok-named.ensures.named _ listed _ (rw rest at c.in_ok-bound.ensures) _ _ _ _ (rw (inside, known, next) at c.in_ok-fields.ensures) (ap (all_differ bytes_eq) (field_names c.in_ok-fields.fields.items) ∙ alike)
+    fields_alike _ _ _ _ _ _ c.in_ok-place.ensures.room _ c.in_ok-named.ensures.named _ listed _ (rw rest at c.in_ok-extra.ensures) _ _ _ _ (rw (inside, known, next) at c.in_ok-fields.ensures) (ap (all_differ bytes_eq) (field_names c.in_ok-fields.fields.items) ∙ alike)
 
 pub record_at-settle-requires : goal.record_at-settle-requires
 record_at-settle-requires t c =
@@ -295,5 +295,5 @@ record_at-returns t c =
     let inside : c.namespace_of-inside.result.now ≡ namespace_of (string_bytes c.in_ok-named.named.name) = c.namespace_of-inside.ensures ∙ ap namespace_of c.as_str-2.ensures.value in
     let known = rw c.as_str.ensures.value at c.in_ok-define.ensures in
     let differ = rw c.deref.ensures.value at (sym c.in_ok-fields_differ.ensures ∙ c.if-not-branch.false) in
-    rw (c.settle.ensures, rest)
-    (record_done _ _ _ _ _ _ c.in_ok-place.ensures.room _ c.in_ok-named.ensures.named _ listed _ (rw rest at c.in_ok-bound.ensures) _ _ _ _ _ _ (c.in_ok-place.ensures.place ∙ sym (length-nodes _)) (nodes_push _ _ _ c.in_ok-push.ensures.items) (rw (inside, known, next) at c.in_ok-fields.ensures) (ap (all_differ bytes_eq) (field_names c.in_ok-fields.fields.items) ∙ differ))
+    rw c.settle.ensures
+    (record_done _ _ _ _ _ _ c.in_ok-place.ensures.room _ c.in_ok-named.ensures.named _ listed _ (rw rest at c.in_ok-extra.ensures) _ _ _ _ _ _ (c.in_ok-place.ensures.place ∙ sym (length-nodes _)) (nodes_push _ _ _ c.in_ok-push.ensures.items) (rw (inside, known, next) at c.in_ok-fields.ensures) (ap (all_differ bytes_eq) (field_names c.in_ok-fields.fields.items) ∙ differ))

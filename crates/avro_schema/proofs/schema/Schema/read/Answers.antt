@@ -12,9 +12,9 @@ returns-in_err-nodes c =
     let p = err_from_is_err_and c.from_residual.result c.from_residual.ensures.1 in
     rw p.1 (record { ok = tt; alone = tt; err = λ other. none_typed _ (refused _ _ (λ is. other (p.2 ∙ is)) c.in_err-nodes.ensures) })
 
-pub returns-then-not-defaults_fit-clause-err : goal.returns-then-not-defaults_fit-clause-err
-returns-then-not-defaults_fit-clause-err c =
-    λ other. none_fitting _ _ c.in_ok-nodes.ensures (rw c.deref.ensures.value at (sym c.defaults_fit.ensures ∙ c.if-not-defaults_fit.true))
+pub returns-then-not-branch-clause-err : goal.returns-then-not-branch-clause-err
+returns-then-not-branch-clause-err c =
+    λ other. none_fitting _ _ c.in_ok-nodes.ensures (rw c.deref.ensures.value at (sym c.in_ok-defaults_fit.ensures ∙ c.if-not-branch.true))
 
 pub returns-then-len-gt-MAX_TEXT-clause-err : goal.returns-then-len-gt-MAX_TEXT-clause-err
 returns-then-len-gt-MAX_TEXT-clause-err c =
@@ -32,7 +32,7 @@ invariant_of-result c =
     let reads = rw c.deref-2.ensures.value at c.in_ok-text.ensures.reads in
     let same = ap length (is whole) in
     let short : length (identity (nodes_view c.in_ok-nodes.nodes.items)) ≤ max_text = omega arith in
-    let fit = rw c.deref.ensures.value at (sym c.defaults_fit.ensures ∙ c.if-not-defaults_fit.false) in
+    let fit = rw c.deref.ensures.value at (sym c.in_ok-defaults_fit.ensures ∙ c.if-not-branch.false) in
     record { schema = (c.args.text.now, denoted_says _ _ c.in_ok-nodes.ensures fit short); text_is = is whole; reads = reads nests }
 
 pub returns : goal.returns
@@ -41,6 +41,6 @@ returns c =
     let is = rw c.deref-2.ensures.value at c.in_ok-text.ensures.text in
     let same = ap length (is whole) in
     let short : length (identity (nodes_view c.in_ok-nodes.nodes.items)) ≤ max_text = omega arith in
-    let fit = rw c.deref.ensures.value at (sym c.defaults_fit.ensures ∙ c.if-not-defaults_fit.false) in
+    let fit = rw c.deref.ensures.value at (sym c.in_ok-defaults_fit.ensures ∙ c.if-not-branch.false) in
     let here = denoted_says _ _ c.in_ok-nodes.ensures fit short in
     record { ok = here; alone = λ nodes t. one_schema _ _ _ t here; err = tt }

@@ -1,0 +1,279 @@
+-- That it is enough to look at the fields that a table says.
+use Rattle.std.proofs.Common.{◌≡◌, ◌⊎◌, inl, inr, ℕ, zero, suc, ◌<◌, ◌≤◌, ◌+◌, ◌≢◌, List, [], ◌∷◌, length, map, get_or, Bool, true, false, ◌&&◌, ◌||◌, ◌++◌, Option, Some, None, Ordering, Less, Equal, Greater, nat_cmp, bytes_eq, refl, sym, ap, subst, ◌∙◌, true≢false, arith}
+use Rattle.std.specs.Prelude.{◌==◌, IfSome, option_map, is_some, slice_get}
+use Rattle.std.specs.Cmp.Lexicographic.{slice_cmp}
+use Rattle.std.specs.List.{list_all, list_any}
+use Rattle.std.proofs.lemmas.Bool.Decides.{nat_tests}
+use Rattle.std.specs.Ordering.{match_ordering, is_eq}
+use Rattle.std.proofs.lemmas.Map.Text.{is_eq-slice_cmp}
+use Rattle.std.proofs.lemmas.Option.{same_Some}
+use Rattle.std.proofs.lemmas.Map.{update_same, update_other}
+use Rattle.std.proofs.lemmas.Slice.Eq.{bytes_eq-Decides}
+use Rattle.std.proofs.lemmas.List.{length-map}
+use Rattle.std.specs.Map.{update}
+use Rattle.serde_json.specs.Data.{Data, Members, no_members, member}
+use Rattle.serde_json.specs.Find.{get_member}
+use Rattle.serde_json.specs.View.{view}
+use Rattle.avro_nodes.specs.declared.node.Field.{Field}
+use Rattle.avro_nodes.specs.declared.node.Node.{Node}
+use Rattle.avro_nodes.specs.Nodes.{NamedView, FieldView, NodeView, primitive, array, mapping, union, enumeration, fixed, rec, field_view, node_view, nodes_view}
+use Rattle.avro_schema.specs.declared.tables.FieldTable.{FieldTable}
+use Rattle.avro_schema.specs.Defaults.{Fitting, field_fits_by, fields_fit}
+use Rattle.avro_schema.specs.Tables.{is_always, IsFound, named_in, CoversFirst, IsTable, IsTableOf, AreTables, fits_if_any, index_fits, named_fit}
+use Rattle.avro_schema.proofs.Inversion.{same_bytes}
+
+and_left : (a b : Bool) → (a && b) ≡ true → a ≡ true
+and_left true b e = refl
+and_left false b e = e
+
+and_right : (a b : Bool) → (a && b) ≡ true → b ≡ true
+and_right true b e = e
+and_right false b e = absurd (true≢false (sym e))
+
+both : (a b : Bool) → a ≡ true → b ≡ true → (a && b) ≡ true
+both a b e f = rw (e, f) refl
+
+or_more : (a b c : Bool) → (b ≡ true → c ≡ true) → (a || b) ≡ true → (a || c) ≡ true
+or_more true b c f h = refl
+or_more false b c f h = f h
+
+or_right : (a b : Bool) → b ≡ true → (a || b) ≡ true
+or_right true b h = refl
+or_right false b h = h
+
+same_tests : (a b : Bool) → (a ≡ true → b ≡ true) → (b ≡ true → a ≡ true) → a ≡ b
+same_tests true true f g = refl
+same_tests true false f g = sym (f refl)
+same_tests false true f g = g refl
+same_tests false false f g = refl
+
+same_index : (i j : ℕ) → (j == i) ≡ true → j ≡ i
+same_index i j h = grind (arith, nat_tests)
+
+index_itself : (i : ℕ) → (i == i) ≡ true
+index_itself i = grind (arith, nat_tests)
+
+among_here : (test : ℕ → Bool) (i j : ℕ) (same : Bool) (rest : Bool) → (j == i) ≡ same → (same || rest) ≡ true → test j ≡ true → (rest ≡ true → test i ≡ true) → test i ≡ true
+among_here test i j true rest is h here later = subst (λ (k : ℕ). test k ≡ true) (same_index i j is) here
+among_here test i j false rest is h here later = later h
+
+among_passes : (test : ℕ → Bool) (xs : List ℕ) (i : ℕ) → list_all test xs ≡ true → is_always xs i ≡ true → test i ≡ true
+among_passes test [] i h among = absurd (true≢false (sym among))
+among_passes test (j ∷ js) i h among =
+    among_here test i j (j == i) (is_always js i) refl among (and_left (test j) (list_all test js) h) (λ later. among_passes test js i (and_right (test j) (list_all test js) h) later)
+
+always_more : (xs : List ℕ) (i j : ℕ) → is_always xs i ≡ true → is_always (xs ++ j ∷ []) i ≡ true
+always_more [] i j h = absurd (true≢false (sym h))
+always_more (x ∷ xs) i j h = or_more (x == i) (is_always xs i) (is_always (xs ++ j ∷ []) i) (λ later. always_more xs i j later) h
+
+always_last : (xs : List ℕ) (j : ℕ) → is_always (xs ++ j ∷ []) j ≡ true
+always_last [] j = rw (index_itself j) refl
+always_last (x ∷ xs) j = or_right (x == j) (is_always (xs ++ j ∷ []) j) (always_last xs j)
+
+all_pass : {A : Type 0} (test : A → Bool) (xs : List A) → ((x : A) → test x ≡ true) → list_all test xs ≡ true
+all_pass test [] each = refl
+all_pass test (x ∷ xs) each = both (test x) (list_all test xs) (each x) (all_pass test xs each)
+
+below : {A : Type 0} (xs : List A) (i : ℕ) (x : A) → slice_get xs i ≡ Some x → i < length xs
+below [] i x e = absurd cc
+below (y ∷ ys) zero x e = omega arith
+below (y ∷ ys) (suc i) x e = omega (arith, below ys i x e)
+
+module _ (one : Fitting) (ms : Members) where
+  abbrev fits_here : FieldView → Bool
+  fits_here f = field_fits_by one f (get_member f.name ms)
+
+  -- ---- where all fields fit
+
+  each_fits : (fields : List FieldView) → fields_fit one ms fields ≡ true → (i : ℕ) → fits_if_any one ms (slice_get fields i) ≡ true
+  each_fits [] h i = refl
+  each_fits (f ∷ fields) h zero = and_left (fits_here f) (fields_fit one ms fields) h
+  each_fits (f ∷ fields) h (suc i) = each_fits fields (and_right (fits_here f) (fields_fit one ms fields) h) i
+
+  index_fits_all : (fields : List FieldView) → fields_fit one ms fields ≡ true → (o : Option ℕ) → index_fits one ms fields o ≡ true
+  index_fits_all fields h None = refl
+  index_fits_all fields h (Some i) = each_fits fields h i
+
+  named_all : (fields : List FieldView) (t : FieldTable) → fields_fit one ms fields ≡ true → (more : Members) → named_fit one ms fields t more ≡ true
+  named_all fields t h no_members = refl
+  named_all fields t h (member k d more) = both (index_fits one ms fields (named_in t k)) (named_fit one ms fields t more) (index_fits_all fields h (named_in t k)) (named_all fields t h more)
+
+  -- ---- where those fit that the table says
+
+  all_fit : (fields : List FieldView) → ((i : ℕ) (f : FieldView) → slice_get fields i ≡ Some f → fits_here f ≡ true) → fields_fit one ms fields ≡ true
+  all_fit [] each = refl
+  all_fit (f ∷ fields) each = both (fits_here f) (fields_fit one ms fields) (each zero f refl) (all_fit fields (λ i g e. each (suc i) g e))
+
+  -- a member that is found is one of those that are looked at
+  found_at : (fields : List FieldView) (t : FieldTable) (k l : List ℕ) (o : Ordering) (d e : Data) (more : Members) → slice_cmp nat_cmp k l ≡ o → match_ordering o (get_member k more) (Some e) (get_member k more) ≡ Some d
+      → index_fits one ms fields (named_in t l) ≡ true → (get_member k more ≡ Some d → index_fits one ms fields (named_in t k) ≡ true) → index_fits one ms fields (named_in t k) ≡ true
+  found_at fields t k l Less d e more is found here later = later found
+  found_at fields t k l Equal d e more is found here later =
+      let same : k ≡ l = same_bytes k l (sym (is_eq-slice_cmp k l) ∙ ap is_eq is) in
+      rw same here
+  found_at fields t k l Greater d e more is found here later = later found
+
+  named_passes : (fields : List FieldView) (t : FieldTable) (k : List ℕ) (d : Data) (more : Members) → get_member k more ≡ Some d → named_fit one ms fields t more ≡ true → index_fits one ms fields (named_in t k) ≡ true
+  named_passes fields t k d no_members found h = absurd cc
+  named_passes fields t k d (member l e more) found h =
+      let here = and_left (index_fits one ms fields (named_in t l)) (named_fit one ms fields t more) h in
+      let rest = and_right (index_fits one ms fields (named_in t l)) (named_fit one ms fields t more) h in
+      found_at fields t k l (slice_cmp nat_cmp k l) d e more refl found here (λ later. named_passes fields t k d more later rest)
+
+  left_out : (fields : List FieldView) (t : FieldTable) (i : ℕ) (f : FieldView) (o : Option Data) → slice_get fields i ≡ Some f → get_member f.name ms ≡ o → is_some f.value ≡ true → named_in t f.name ≡ Some i
+      → named_fit one ms fields t ms ≡ true → fits_here f ≡ true
+  left_out fields t i f None at is has named h = rw is has
+  left_out fields t i f (Some d) at is has named h = rw (named, at) at (named_passes fields t f.name d ms is h)
+
+  one_fits : (fields : List FieldView) (t : FieldTable) (i : ℕ) (f : FieldView) → slice_get fields i ≡ Some f → IsFound t.always.items (named_in t) i f
+      → list_all (λ j. fits_if_any one ms (slice_get fields j)) t.always.items ≡ true → named_fit one ms fields t ms ≡ true → fits_here f ≡ true
+  one_fits fields t i f at (inl among) always named = rw at at (among_passes (λ j. fits_if_any one ms (slice_get fields j)) t.always.items i always among)
+  one_fits fields t i f at (inr found) always named = left_out fields t i f (get_member f.name ms) at refl found.0 found.1 named
+
+  pub table_decides : (fields : List FieldView) (t : FieldTable) → IsTable t fields → (list_all (λ j. fits_if_any one ms (slice_get fields j)) t.always.items && named_fit one ms fields t ms) ≡ fields_fit one ms fields
+  unfolding CoversFirst
+  table_decides fields t is =
+      same_tests (list_all (λ j. fits_if_any one ms (slice_get fields j)) t.always.items && named_fit one ms fields t ms) (fields_fit one ms fields)
+      (λ h. all_fit fields (λ i f at. one_fits fields t i f at (is i f (below fields i f at) at)
+      (and_left (list_all (λ j. fits_if_any one ms (slice_get fields j)) t.always.items) (named_fit one ms fields t ms) h)
+      (and_right (list_all (λ j. fits_if_any one ms (slice_get fields j)) t.always.items) (named_fit one ms fields t ms) h)))
+      (λ h. both (list_all (λ j. fits_if_any one ms (slice_get fields j)) t.always.items) (named_fit one ms fields t ms) (all_pass (λ j. fits_if_any one ms (slice_get fields j)) t.always.items (each_fits fields h)) (named_all fields t h ms))
+
+pub last_decides : (a b c : Bool) → a ≡ true → (a && b) ≡ c → b ≡ c
+last_decides true b c e h = h
+last_decides false b c e h = absurd (true≢false (sym e))
+
+pub first_decides : (a b c : Bool) → a ≡ false → (a && b) ≡ c → a ≡ c
+first_decides true b c e h = absurd (true≢false e)
+first_decides false b c e h = h
+
+-- ---- the tables
+
+pub table_is : (t : FieldTable) (node : NodeView) (named : NamedView) (fields : List FieldView) (extra : Members) → IsTableOf t node → node ≡ rec named fields extra → IsTable t fields
+unfolding IsTableOf
+table_is t node named fields extra is e = is named fields extra e
+
+fields_in : NodeView → List FieldView
+fields_in (primitive kind extra) = []
+fields_in (array items extra) = []
+fields_in (mapping values extra) = []
+fields_in (union branches) = []
+fields_in (enumeration named symbols fallback extra) = []
+fields_in (fixed named size extra) = []
+fields_in (rec named fields extra) = fields
+
+pub table_of_record : (t : FieldTable) (named : NamedView) (fields : List FieldView) (extra : Members) → IsTable t fields → IsTableOf t (rec named fields extra)
+unfolding IsTableOf fields_in
+table_of_record t named fields extra is named2 fields2 extra2 e = subst (λ (fs : List FieldView). IsTable t fs) (ap fields_in e) is
+
+pub no_tables : (nodes : List NodeView) → AreTables nodes []
+unfolding AreTables
+no_tables nodes place t node e f = absurd cc
+
+-- ---- how a table is made
+
+pub covers_none : (named : List ℕ → Option ℕ) (fields : List FieldView) → CoversFirst 0 [] named fields
+unfolding CoversFirst
+covers_none named fields i f h e = absurd (omega arith)
+
+other_index : (i j : ℕ) → (j == i) ≡ false → j ≢ i
+other_index i j h = grind (arith, nat_tests)
+
+same_text : (s : List ℕ) → bytes_eq s s ≡ true
+same_text s = (bytes_eq-Decides s s).1 refl
+
+none_is_no_index : (i : ℕ) → None ≡ Some i → ⊥
+none_is_no_index i e = absurd cc
+
+still_found : (always : List ℕ) (named : List ℕ → Option ℕ) (i n : ℕ) (f : FieldView) → IsFound always named i f → IsFound (always ++ n ∷ []) named i f
+still_found always named i n f (inl among) = inl (always_more always i n among)
+still_found always named i n f (inr found) = inr found
+
+named_still : (always : List ℕ) (named named2 : List ℕ → Option ℕ) (i n : ℕ) (f g : FieldView) (same : Bool) → bytes_eq g.name f.name ≡ same → named g.name ≡ None → named2 f.name ≡ update bytes_eq named g.name (Some n) f.name
+    → IsFound always named i f → IsFound always named2 i f
+named_still always named named2 i n f g same is new more (inl among) = inl among
+named_still always named named2 i n f g true is new more (inr found) = absurd (none_is_no_index i (sym new ∙ ap named (same_bytes g.name f.name is) ∙ found.1))
+named_still always named named2 i n f g false is new more (inr found) = inr (found.0, more ∙ update_other bytes_eq named g.name (Some n) f.name is ∙ found.1)
+
+module _ (n : ℕ) (always : List ℕ) (named : List ℕ → Option ℕ) (fields : List FieldView) (so_far : CoversFirst n always named fields) where
+  pushed_at : (same : Bool) (i : ℕ) (f : FieldView) → (i == n) ≡ same → i < n + 1 → slice_get fields i ≡ Some f → IsFound (always ++ n ∷ []) named i f
+  unfolding CoversFirst
+  pushed_at true i f is h e = inl (subst (λ (k : ℕ). is_always (always ++ n ∷ []) k ≡ true) (sym (same_index n i is)) (always_last always n))
+  pushed_at false i f is h e = still_found always named i n f (so_far i f (omega (arith, other_index n i is)) e)
+
+  -- one that is always asked for
+  pub covers_pushed : CoversFirst (n + 1) (always ++ n ∷ []) named fields
+  unfolding CoversFirst
+  covers_pushed i f h e = pushed_at (i == n) i f refl h e
+
+  module _ (g : FieldView) (named2 : List ℕ → Option ℕ) (here : slice_get fields n ≡ Some g) (has : is_some g.value ≡ true) (new : named g.name ≡ None) (more : (q : List ℕ) → named2 q ≡ update bytes_eq named g.name (Some n) q) where
+    named_at : (same : Bool) (i : ℕ) (f : FieldView) → (i == n) ≡ same → i < n + 1 → slice_get fields i ≡ Some f → IsFound always named2 i f
+    unfolding CoversFirst
+    named_at true i f is h e =
+        let i_is : i ≡ n = same_index n i is in
+        let f_is : g ≡ f = same_Some _ _ (sym here ∙ ap (slice_get fields) (sym i_is) ∙ e) in
+        inr (
+          ap (λ (x : FieldView). is_some x.value) (sym f_is) ∙ has,
+          more f.name ∙ update_same bytes_eq named g.name (Some n) f.name (ap (λ (x : FieldView). bytes_eq g.name x.name) (sym f_is) ∙ same_text g.name) ∙ ap (λ (k : ℕ). Some k) (sym i_is),
+        )
+    named_at false i f is h e = named_still always named named2 i n f g (bytes_eq g.name f.name) refl new (more f.name) (so_far i f (omega (arith, other_index n i is)) e)
+
+    -- one with a default, whose name is new
+    pub covers_named : CoversFirst (n + 1) always named2 fields
+    unfolding CoversFirst
+    covers_named i f h e = named_at (i == n) i f refl h e
+
+pub covers_all : (n : ℕ) (always : List ℕ) (named : List ℕ → Option ℕ) (fields : List Field) → length fields ≤ n → CoversFirst n always named (map field_view fields)
+    → CoversFirst (length (map field_view fields)) always named (map field_view fields)
+unfolding CoversFirst
+covers_all n always named fields h so_far i f within e = so_far i f (omega (arith, length-map fields field_view)) e
+
+pub field_here : (fields : List Field) (n : ℕ) (x d : Field) → n < length fields → x ≡ get_or fields n d → slice_get (map field_view fields) n ≡ Some (field_view x)
+field_here [] n x d h is = absurd (omega arith)
+field_here (f ∷ fields) zero x d h is = rw is refl
+field_here (f ∷ fields) (suc n) x d h is = field_here fields n x d (omega arith) is
+
+pub is_absent : {A : Type 0} (o : Option A) → is_some o ≡ false → o ≡ None
+is_absent None h = refl
+is_absent (Some x) h = absurd (true≢false h)
+
+some_view : {A B : Type 0} (f : A → B) (o : Option A) → is_some o ≡ true → is_some (option_map f o) ≡ true
+some_view f None h = h
+some_view f (Some x) h = refl
+
+pub shown_some : (x : Field) → is_some x.value ≡ true → is_some (field_view x).value ≡ true
+shown_some x h = some_view view x.value h
+
+pub both_ways : (b : Bool) → b ≡ true → b ≡ false → ⊥
+both_ways b e f = true≢false (sym e ∙ f)
+
+one_further : {A : Type 0} (x : A) (xs : List A) (y z : A) (i : ℕ) → (slice_get xs i ≡ Some z) ⊎ ((i ≡ length xs) × (y ≡ z)) → (slice_get (x ∷ xs) (suc i) ≡ Some z) ⊎ ((suc i ≡ length (x ∷ xs)) × (y ≡ z))
+one_further x xs y z i (inl e) = inl e
+one_further x xs y z i (inr e) = inr (ap suc e.0, e.1)
+
+got_before : {A : Type 0} (xs : List A) (y z : A) (i : ℕ) → slice_get (xs ++ y ∷ []) i ≡ Some z → (slice_get xs i ≡ Some z) ⊎ ((i ≡ length xs) × (y ≡ z))
+got_before [] y z zero e = inr (refl, same_Some _ _ e)
+got_before [] y z (suc i) e = absurd cc
+got_before (x ∷ xs) y z zero e = inl e
+got_before (x ∷ xs) y z (suc i) e = one_further x xs y z i (got_before xs y z i e)
+
+table_there : (nodes : List NodeView) (o : Option FieldTable) (node other : NodeView) (n place : ℕ) (t : FieldTable) → slice_get nodes n ≡ Some node → place ≡ n → slice_get nodes place ≡ Some other → o ≡ Some t → IfSome o (λ s. IsTableOf s node) → IsTableOf t other
+table_there nodes None node other n place t here at f is given = absurd cc
+table_there nodes (Some s) node other n place t here at f is given =
+    let node_is : node ≡ other = same_Some _ _ (sym here ∙ ap (slice_get nodes) (sym at) ∙ f) in
+    subst (λ (x : NodeView). IsTableOf t x) node_is (subst (λ (x : FieldTable). IsTableOf x node) (same_Some _ _ is) given)
+
+table_one_of : (nodes : List NodeView) (tables : List (Option FieldTable)) (o : Option FieldTable) (node other : NodeView) (place : ℕ) (t : FieldTable) → AreTables nodes tables → slice_get nodes (length tables) ≡ Some node → IfSome o (λ s. IsTableOf s node)
+    → slice_get nodes place ≡ Some other → (slice_get tables place ≡ Some (Some t)) ⊎ ((place ≡ length tables) × (o ≡ Some t)) → IsTableOf t other
+unfolding AreTables
+table_one_of nodes tables o node other place t so_far here given f (inl e) = so_far place t other e f
+table_one_of nodes tables o node other place t so_far here given f (inr e) = table_there nodes o node other (length tables) place t here e.0 f e.1 given
+
+pub tables_more : (nodes : List NodeView) (tables : List (Option FieldTable)) (o : Option FieldTable) (node : NodeView) → AreTables nodes tables → slice_get nodes (length tables) ≡ Some node → IfSome o (λ t. IsTableOf t node) → AreTables nodes (tables ++ o ∷ [])
+unfolding AreTables
+tables_more nodes tables o node so_far here is place t other e f = table_one_of nodes tables o node other place t so_far here is f (got_before tables o (Some t) place e)
+
+pub node_here : (nodes : List Node) (n : ℕ) (x d : Node) → n < length nodes → x ≡ get_or nodes n d → slice_get (nodes_view nodes) n ≡ Some (node_view x)
+node_here [] n x d h is = absurd (omega arith)
+node_here (f ∷ nodes) zero x d h is = rw is refl
+node_here (f ∷ nodes) (suc n) x d h is = node_here nodes n x d (omega arith) is

@@ -1,0 +1,9 @@
+use Rattle.std.proofs.Common.{map, nat_cmp}
+use Rattle.std.specs.BTreeMap.{get_by}
+use Rattle.std.specs.Cmp.Lexicographic.{slice_cmp}
+use Rattle.avro_nodes.specs.Nodes.{field_view}
+use Rattle.avro_schema.specs.Tables.{CoversFirst}
+use Rattle.avro_schema.proofs.tables.table_of.Given as goal
+
+abbrev pub invariant-loop-at : goal.invariant-loop-at
+invariant-loop-at l = CoversFirst l.at l.always.items (λ q. get_by (λ k. slice_cmp nat_cmp q k.now) l.by_name) (map field_view l.fields)

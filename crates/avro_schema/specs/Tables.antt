@@ -1,0 +1,54 @@
+-- Which fields of a record every default is asked for, and which only a default that names them (this project's choice).
+use Rattle.std.specs.Prelude.{◌≡◌, ◌==◌, ◌<◌, ℕ, List, length, Bool, true, ◌&&◌, ◌⊎◌, Option, Some, None, is_some, slice_get}
+use Rattle.std.specs.Ordering.{nat_cmp}
+use Rattle.std.specs.BTreeMap.{get_by}
+use Rattle.std.specs.Cmp.Lexicographic.{slice_cmp}
+use Rattle.std.specs.List.{list_any}
+use Rattle.serde_json.specs.Data.{Data, Members, no_members, member}
+use Rattle.serde_json.specs.Find.{get_member}
+use Rattle.avro_nodes.specs.Nodes.{NamedView, FieldView, NodeView, rec}
+use Rattle.avro_schema.specs.declared.tables.FieldTable.{FieldTable}
+use Rattle.avro_schema.specs.Defaults.{Fitting, field_fits_by}
+
+-- the index that the table has at a name
+abbrev pub named_in : FieldTable → List ℕ → Option ℕ
+named_in t name = get_by (λ k. slice_cmp nat_cmp name k.now) t.by_name
+
+-- whether the field at the index is always asked for
+abbrev pub is_always : List ℕ → ℕ → Bool
+is_always always i = list_any (λ j. j == i) always
+
+-- the field at the index is always asked for, or has a default and is found by its name
+abbrev pub IsFound : List ℕ → (List ℕ → Option ℕ) → ℕ → FieldView → Type 0
+IsFound always named i f = (is_always always i ≡ true) ⊎ ((is_some f.value ≡ true) × (named f.name ≡ Some i))
+
+-- so is each of the first n fields
+unfoldable pub CoversFirst : ℕ → List ℕ → (List ℕ → Option ℕ) → List FieldView → Type 0
+CoversFirst n always named fields = (i : ℕ) (f : FieldView) → i < n → slice_get fields i ≡ Some f → IsFound always named i f
+
+-- so is each field of the table
+abbrev pub IsTable : FieldTable → List FieldView → Type 0
+IsTable t fields = CoversFirst (length fields) t.always.items (named_in t) fields
+
+-- the table is that of the fields, where the node is a record
+unfoldable pub IsTableOf : FieldTable → NodeView → Type 0
+IsTableOf t node = (named : NamedView) (fields : List FieldView) (extra : Members) → node ≡ rec named fields extra → IsTable t fields
+
+-- each table is that of the node at its place
+unfoldable pub AreTables : List NodeView → List (Option FieldTable) → Type 0
+AreTables nodes tables = (place : ℕ) (t : FieldTable) (node : NodeView) → slice_get tables place ≡ Some (Some t) → slice_get nodes place ≡ Some node → IsTableOf t node
+
+-- whether the field at an index fits, if there is one
+abbrev pub fits_if_any : Fitting → Members → Option FieldView → Bool
+fits_if_any one ms None = true
+fits_if_any one ms (Some f) = field_fits_by one f (get_member f.name ms)
+
+-- whether the index fits, if there is one
+abbrev pub index_fits : Fitting → Members → List FieldView → Option ℕ → Bool
+index_fits one ms fields None = true
+index_fits one ms fields (Some i) = fits_if_any one ms (slice_get fields i)
+
+-- whether the fields fit that these members name
+abbrev pub named_fit : Fitting → Members → List FieldView → FieldTable → Members → Bool
+named_fit one ms fields t no_members = true
+named_fit one ms fields t (member k d more) = index_fits one ms fields (named_in t k) && named_fit one ms fields t more
