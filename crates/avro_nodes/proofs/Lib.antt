@@ -6,3 +6,4 @@ pub mod Spelling
 pub mod Carried
 pub mod Plainness
 pub mod Unchanged
+pub mod Lengths

@@ -74,10 +74,10 @@ hex_stays a b e f =
     (stays_both (48 ∷ []) (48 ∷ a ∷ b ∷ []) (stays_byte 48 refl) (stays_both (48 ∷ []) (a ∷ b ∷ []) (stays_byte 48 refl) (stays_both (a ∷ []) (b ∷ []) (stays_byte a e) (stays_byte b f))))
 
 -- a byte of a string, as `serde_json` writes it
-abbrev letter_of : ℕ → ℕ
+abbrev pub letter_of : ℕ → ℕ
 letter_of x = cond ((x == 34) || (x == 92)) x (cond (x == 8) 98 (cond (x == 12) 102 (cond (x == 10) 110 (cond (x == 13) 114 (cond (x == 9) 116 0)))))
 
-abbrev escaped : ℕ → List ℕ
+abbrev pub escaped : ℕ → List ℕ
 escaped x = cond (nat_lt 0 (letter_of x)) (92 ∷ letter_of x ∷ []) (cond (nat_lt x 32) (92 ∷ 117 ∷ 48 ∷ 48 ∷ digit_char (x / 16) ∷ digit_char (x % 16) ∷ []) (x ∷ []))
 
 inside_still : (c : ℕ) → (c ≡ 34 → ⊥) → (c ≡ 92 → ⊥) → after Inside c ≡ Inside
@@ -112,10 +112,10 @@ escaped_stays : (s : List ℕ) → Stays (flat_map escaped s)
 escaped_stays [] = stays_nothing
 escaped_stays (x ∷ xs) = stays_both (escaped x) (flat_map escaped xs) (escape_stays x (nat_lt 0 (letter_of x)) (nat_lt x 32) refl refl) (escaped_stays xs)
 
-abbrev quoted : List ℕ → List ℕ
+abbrev pub quoted : List ℕ → List ℕ
 quoted s = compact_text (string s)
 
-quoted_is : (s : List ℕ) → quoted s ≡ 34 ∷ (flat_map escaped s ++ 34 ∷ [])
+pub quoted_is : (s : List ℕ) → quoted s ≡ 34 ∷ (flat_map escaped s ++ 34 ∷ [])
 unfolding serde_json_on_literals
 quoted_is s = refl
 

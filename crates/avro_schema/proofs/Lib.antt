@@ -15,5 +15,7 @@ pub mod TextLemmas
 pub mod RoundMembers
 pub mod RoundNames
 pub mod RoundDeclarations
+pub mod Sizes
+pub mod WeightLemmas
 pub mod RoundTrip
 pub mod RoundText

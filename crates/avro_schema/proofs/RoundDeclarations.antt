@@ -322,13 +322,18 @@ module _ (space : List ℕ) (known : Known) (named : NamedView) (size : ℕ) (ms
       typed word.Fixed (codes "fixed") fixed_members word_fixed
       (fixed_past (codes "type") refl refl ∙ past_namespace (codes "type") space named.name fixed_inner refl ∙ past_put (codes "type") (codes "size") (number (unsigned size)) (Typed (codes "fixed") extra) refl ∙ type_found (codes "fixed") extra)
 
+  pub fixed_titled : get_member (codes "name") fixed_members ≡ Some (string named.name)
+  fixed_titled = past_aliases (codes "name") named.aliases (with_text (codes "name") named.name fixed_named) refl ∙ get_member-put (codes "name") (string named.name) fixed_named
+
+  pub fixed_listed : get_member (codes "aliases") fixed_members ≡ aliases_due named.aliases
+  fixed_listed =
+      aliases_found named.aliases (with_text (codes "name") named.name fixed_named)
+      (past_put (codes "aliases") (codes "name") (string named.name) fixed_named refl ∙ past_namespace (codes "aliases") space named.name fixed_inner refl ∙ fixed_lacks (codes "aliases") refl refl refl)
+
   pub fixed_name : IsNamed space fixed_members known named
   fixed_name =
-      named_again space ms fixed_members known named good n
-      (past_aliases (codes "name") named.aliases (with_text (codes "name") named.name fixed_named) refl ∙ get_member-put (codes "name") (string named.name) fixed_named)
-      (fixed_past (codes "namespace") refl refl ∙ namespace_found space named.name fixed_inner (fixed_lacks (codes "namespace") refl refl refl))
-      (aliases_found named.aliases (with_text (codes "name") named.name fixed_named)
-      (past_put (codes "aliases") (codes "name") (string named.name) fixed_named refl ∙ past_namespace (codes "aliases") space named.name fixed_inner refl ∙ fixed_lacks (codes "aliases") refl refl refl))
+      named_again space ms fixed_members known named good n fixed_titled
+      (fixed_past (codes "namespace") refl refl ∙ namespace_found space named.name fixed_inner (fixed_lacks (codes "namespace") refl refl refl)) fixed_listed
 
   pub fixed_size : get_member (codes "size") fixed_members ≡ Some (number (unsigned size))
   fixed_size = fixed_past (codes "size") refl refl ∙ past_namespace (codes "size") space named.name fixed_inner refl ∙ get_member-put (codes "size") (number (unsigned size)) (Typed (codes "fixed") extra)
@@ -378,13 +383,18 @@ module _ (space : List ℕ) (known : Known) (named : NamedView) (symbols : List 
       typed word.Enum (codes "enum") enum_members word_enum
       (enum_past (codes "type") refl refl ∙ enum_within (codes "type") refl refl ∙ past_put (codes "type") (codes "symbols") (json.array (texts symbols)) (Typed (codes "enum") extra) refl ∙ type_found (codes "enum") extra)
 
+  pub enum_titled : get_member (codes "name") enum_members ≡ Some (string named.name)
+  enum_titled = enum_past (codes "name") refl refl ∙ get_member-put (codes "name") (string named.name) enum_named
+
+  pub enum_listed : get_member (codes "aliases") enum_members ≡ aliases_due named.aliases
+  enum_listed =
+      aliases_found named.aliases enum_chosen (past_default (codes "aliases") (option_map string fallback) enum_called refl ∙ enum_within (codes "aliases") refl refl ∙ enum_lacks (codes "aliases") refl refl refl)
+
   pub enum_name : IsNamed space enum_members known named
   enum_name =
-      named_again space ms enum_members known named good n
-      (enum_past (codes "name") refl refl ∙ get_member-put (codes "name") (string named.name) enum_named)
+      named_again space ms enum_members known named good n enum_titled
       (enum_past (codes "namespace") refl refl ∙ past_put (codes "namespace") (codes "name") (string named.name) enum_named refl ∙ namespace_found space named.name enum_inner (enum_lacks (codes "namespace") refl refl refl))
-      (aliases_found named.aliases enum_chosen
-      (past_default (codes "aliases") (option_map string fallback) enum_called refl ∙ enum_within (codes "aliases") refl refl ∙ enum_lacks (codes "aliases") refl refl refl))
+      enum_listed
 
   enum_symbols : get_member (codes "symbols") enum_members ≡ Some (json.array (texts symbols))
   enum_symbols = enum_past (codes "symbols") refl refl ∙ enum_within (codes "symbols") refl refl ∙ get_member-put (codes "symbols") (json.array (texts symbols)) (Typed (codes "enum") extra)
@@ -439,18 +449,25 @@ module _ (space : List ℕ) (known : Known) (named : NamedView) (fields : Items)
   pub record_says : Says record_members word.Record
   record_says = typed word.Record (codes "record") record_members word_record (record_past (codes "type") refl refl ∙ record_within (codes "type") refl refl ∙ type_found (codes "record") extra)
 
+  pub record_titled : get_member (codes "name") record_members ≡ Some (string named.name)
+  record_titled = record_past (codes "name") refl refl ∙ get_member-put (codes "name") (string named.name) record_named
+
+  pub record_listed : get_member (codes "aliases") record_members ≡ aliases_due named.aliases
+  record_listed =
+      aliases_found named.aliases record_filled
+      (past_put (codes "aliases") (codes "fields") (json.array fields) record_called refl ∙ record_within (codes "aliases") refl refl ∙ record_lacks (codes "aliases") refl refl)
+
   pub record_name : IsNamed space record_members known named
   record_name =
-      named_again space ms record_members known named good n
-      (record_past (codes "name") refl refl ∙ get_member-put (codes "name") (string named.name) record_named)
+      named_again space ms record_members known named good n record_titled
       (record_past (codes "namespace") refl refl ∙ past_put (codes "namespace") (codes "name") (string named.name) record_named refl ∙ namespace_found space named.name record_inner (record_lacks (codes "namespace") refl refl))
-      (aliases_found named.aliases record_filled
-      (past_put (codes "aliases") (codes "fields") (json.array fields) record_called refl ∙ record_within (codes "aliases") refl refl ∙ record_lacks (codes "aliases") refl refl))
+      record_listed
+
+  pub record_held : get_member (codes "fields") record_members ≡ Some (json.array fields)
+  record_held = past_aliases (codes "fields") named.aliases record_filled refl ∙ get_member-put (codes "fields") (json.array fields) record_called
 
   pub record_fields : array_in (codes "fields") record_members ≡ Some fields
-  record_fields =
-      items_found (codes "fields") fields record_members
-      (past_aliases (codes "fields") named.aliases record_filled refl ∙ get_member-put (codes "fields") (json.array fields) record_called)
+  record_fields = items_found (codes "fields") fields record_members record_held
 
   pub record_others : Others record_keys record_members extra
   record_others =

@@ -29,7 +29,7 @@ or_false : (a b : Bool) → (a || b) ≡ false → b ≡ false
 or_false true b e = absurd (true≢false e)
 or_false false b e = e
 
-or_true : (b : Bool) → (b || true) ≡ true
+pub or_true : (b : Bool) → (b || true) ≡ true
 or_true true = refl
 or_true false = refl
 
@@ -85,7 +85,7 @@ unfolding namespace_of
 cut_rest fresh [] e f = absurd (true≢false (sym f))
 cut_rest fresh (c ∷ cs) e f = cut_at fresh (list_any is_dot cs) c cs (λ inner h a. cut_rest inner cs h a) refl e f
 
-no_namespace : (s : List ℕ) → list_any is_dot s ≡ false → namespace_of s ≡ []
+pub no_namespace : (s : List ℕ) → list_any is_dot s ≡ false → namespace_of s ≡ []
 unfolding namespace_of
 no_namespace [] e = refl
 no_namespace (c ∷ cs) e = rw (or_false (is_dot c) (list_any is_dot cs) e) refl

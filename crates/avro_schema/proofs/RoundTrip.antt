@@ -10,7 +10,8 @@ use Rattle.serde_json.specs.Find.{get_member}
 use Rattle.avro_nodes.specs.declared.node.Kind.{Kind}
 use Rattle.avro_nodes.specs.Names.{namespace_of}
 use Rattle.avro_nodes.specs.Nodes.{NamedView, FieldView, NodeView, primitive, array, mapping, union, enumeration, fixed, rec}
-use Rattle.avro_nodes.specs.Identity.{primitive_value, array_value, map_value, enum_value, fixed_value, record_value, field_value, kind_text, Spelt, then_items, branch_items, field_items, name_of, spelt_node, spelt_at, identity_value}
+use Rattle.avro_nodes.specs.Identity.{primitive_value, array_value, map_value, enum_value, fixed_value, record_value, field_value, kind_text, Spelt, then_items, branch_items, field_items, name_of, spelt_node, spelt_at, identity, identity_value}
+use Rattle.avro_nodes.proofs.Lengths.{data_size, items_size, text_long}
 use Rattle.avro_nodes.proofs.Spelling.{at_suc, again_suc}
 use Rattle.avro_schema.specs.declared.words.Word.{Word}
 use Rattle.avro_schema.specs.declared.words.Word.TheVariants as word
@@ -18,6 +19,7 @@ use Rattle.avro_schema.specs.Names.{Known, none_known, is_space, defined, resolv
 use Rattle.avro_schema.specs.Words.{kind_of, word_of, kind_or_other}
 use Rattle.avro_schema.specs.Members.{max_nesting, size_of}
 use Rattle.avro_schema.specs.Parts.{Part, max_places}
+use Rattle.avro_schema.specs.Weight.{names_size}
 use Rattle.avro_schema.specs.Reading.{branch_kind, type_at}
 use Rattle.avro_schema.specs.Denotes.{Others, IsNamed, IsEnum, IsField, Denotes, a_primitive, a_reference, primitive_type, reference_type, array_type, map_type, fixed_type, enum_type, record_type, union_type}
 use Rattle.avro_schema.specs.Denotes.{Branches, no_branch, branch, Fields, no_field, field, array_keys, map_keys, fixed_keys, enum_keys, record_keys, AllDiffer}
@@ -26,6 +28,8 @@ use Rattle.avro_schema.proofs.Sound.{says}
 use Rattle.avro_schema.proofs.Inversion.{same_bytes}
 use Rattle.avro_schema.proofs.RoundNames.{kind_again, refers, good_namespace}
 use Rattle.avro_schema.proofs.RoundDeclarations.{good_named, primitive_says, primitive_others, array_says, array_items, array_others, map_says, map_values, map_others, fixed_says, fixed_name, fixed_size, fixed_others, size_again, enum_says, enum_name, enum_again, enum_others, record_says, record_name, record_fields, record_others, field_type, field_again}
+use Rattle.avro_schema.proofs.RoundDeclarations.{array_members, map_members, fixed_members, fixed_titled, fixed_listed, enum_members, enum_titled, enum_listed, record_members, record_titled, record_listed, record_held, field_members}
+use Rattle.avro_schema.proofs.Sizes.{one_found, named_found, record_found, names_append}
 
 -- the names known are those of definitions at places before
 pub record Knows (all : List NodeView) (first : ℕ) (known : Known) : Type 0 where
@@ -38,18 +42,21 @@ pub record Trip (n : ℕ) (all : List NodeView) (space : List ℕ) (known : Know
   pub again : Denotes n space value known first place nodes known2
   pub knows : Knows all (first + length nodes) known2
   pub within : place ≤ first
+  pub bound : names_size nodes ≤ data_size value
 
 pub record BranchesTrip (n : ℕ) (all : List NodeView) (space : List ℕ) (known : Known) (first : ℕ) (branches : List (ℕ × ℕ)) (nodes : List NodeView) (known2 : Known) : Type 0 where
   pub value : Items
   pub spelt : branch_items (spelt_at n all space) (map (λ b. b.0) branches) first ≡ (value, first + length nodes)
   pub again : Branches n space value known first branches nodes known2
   pub knows : Knows all (first + length nodes) known2
+  pub bound : names_size nodes ≤ items_size value
 
 pub record FieldsTrip (n : ℕ) (all : List NodeView) (space : List ℕ) (known : Known) (first : ℕ) (fields : List FieldView) (nodes : List NodeView) (known2 : Known) : Type 0 where
   pub value : Items
   pub spelt : field_items (spelt_at n all space) fields first ≡ (value, first + length nodes)
   pub again : Fields n space value known first fields nodes known2
   pub knows : Knows all (first + length nodes) known2
+  pub bound : names_size nodes ≤ items_size value
 
 -- ---- what is known
 
@@ -97,6 +104,7 @@ module _ (m : ℕ) (all before after : List NodeView) (space : List ℕ) (known 
     again = a_primitive (kind_again kind) room;
     knows = later all first 1 known k;
     within = omega arith;
+    bound = omega arith;
   }
 
   primitive_trip : (kind : Kind) (ms extra : Members) → Others (codes "type" ∷ []) ms extra → first < max_places → all ≡ before ++ primitive kind extra ∷ after → Trip (suc m) all space known first first (primitive kind extra ∷ []) known
@@ -107,6 +115,7 @@ module _ (m : ℕ) (all before after : List NodeView) (space : List ℕ) (known 
     again = primitive_type (primitive_says kind (member l d extra)) (primitive_others kind ms (member l d extra) o) room;
     knows = later all first 1 known k;
     within = omega arith;
+    bound = omega arith;
   }
 
   reference_trip : (name : List ℕ) (place : ℕ) → kind_of name ≡ None → resolved known space name ≡ Some place → Trip (suc m) all space known first place [] known
@@ -121,6 +130,7 @@ module _ (m : ℕ) (all before after : List NodeView) (space : List ℕ) (known 
         again = a_reference r.no_kind r.again;
         knows = later all first 0 known k;
         within = omega (arith, at.0);
+        bound = omega arith;
       }
 
   array_trip : (ms extra : Members) (place : ℕ) (nodes : List NodeView) (known2 : Known) → Others array_keys ms extra → first < max_places → Trip m all space known (first + 1) place nodes known2
@@ -133,6 +143,7 @@ module _ (m : ℕ) (all before after : List NodeView) (space : List ℕ) (known 
         again = array_type (array_says t.value extra) (array_items t.value extra) (array_others t.value ms extra o) room t.again;
         knows = subst (λ (w : ℕ). Knows all w known2) sum t.knows;
         within = omega arith;
+        bound = omega (arith, t.bound, one_found (codes "items") t.value (array_members t.value extra) (array_items t.value extra));
       }
 
   map_trip : (ms extra : Members) (place : ℕ) (nodes : List NodeView) (known2 : Known) → Others map_keys ms extra → first < max_places → Trip m all space known (first + 1) place nodes known2
@@ -145,6 +156,7 @@ module _ (m : ℕ) (all before after : List NodeView) (space : List ℕ) (known 
         again = map_type (map_says t.value extra) (map_values t.value extra) (map_others t.value ms extra o) room t.again;
         knows = subst (λ (w : ℕ). Knows all w known2) sum t.knows;
         within = omega arith;
+        bound = omega (arith, t.bound, one_found (codes "values") t.value (map_members t.value extra) (map_values t.value extra));
       }
 
   union_trip : (branches : List (ℕ × ℕ)) (nodes : List NodeView) (known2 : Known) → first < max_places → AllDiffer (map (λ b. b.1) branches) → BranchesTrip m all space known (first + 1) branches nodes known2
@@ -157,6 +169,7 @@ module _ (m : ℕ) (all before after : List NodeView) (space : List ℕ) (known 
         again = union_type room t.again d;
         knows = subst (λ (w : ℕ). Knows all w known2) sum t.knows;
         within = omega arith;
+        bound = omega (arith, t.bound);
       }
 
   module _ (good : is_space space ≡ true) where
@@ -169,6 +182,10 @@ module _ (m : ℕ) (all before after : List NodeView) (space : List ℕ) (known 
           (ap size_of (fixed_size space known named size ms extra good n o) ∙ size_again (get_member (codes "size") ms) size z) (fixed_others space known named size ms extra good n o) room;
       knows = knows_more all first known named.name k (ap name_of (at_first all before after (fixed named size extra) first all_is first_is));
       within = omega arith;
+      bound = omega (
+        arith,
+        named_found named (fixed_members space known named size ms extra good n o) (fixed_titled space known named size ms extra good n o) (fixed_listed space known named size ms extra good n o),
+      );
     }
 
     enum_trip : (ms extra : Members) (named : NamedView) (symbols : List (List ℕ)) (fallback : Option (List ℕ)) → IsNamed space ms known named → IsEnum ms symbols fallback → Others enum_keys ms extra → first < max_places
@@ -180,6 +197,10 @@ module _ (m : ℕ) (all before after : List NodeView) (space : List ℕ) (known 
           (enum_again space known named symbols fallback ms extra good n o e) (enum_others space known named symbols fallback ms extra good n o) room;
       knows = knows_more all first known named.name k (ap name_of (at_first all before after (enumeration named symbols fallback extra) first all_is first_is));
       within = omega arith;
+      bound = omega (
+        arith,
+        named_found named (enum_members space known named symbols fallback ms extra good n o) (enum_titled space known named symbols fallback ms extra good n o) (enum_listed space known named symbols fallback ms extra good n o),
+      );
     }
 
     record_trip : (ms extra : Members) (named : NamedView) (fields : List FieldView) (nodes : List NodeView) (known2 : Known) → IsNamed space ms known named → Others record_keys ms extra → first < max_places → AllDiffer (map (λ f. f.name) fields)
@@ -194,6 +215,12 @@ module _ (m : ℕ) (all before after : List NodeView) (space : List ℕ) (known 
               (record_others space known named t.value ms extra good n o) room t.again d;
           knows = subst (λ (w : ℕ). Knows all w known2) sum t.knows;
           within = omega arith;
+          bound = omega (
+            arith,
+            t.bound,
+            record_found named (record_members space known named t.value ms extra good n o) (record_titled space known named t.value ms extra good n o) (record_listed space known named t.value ms extra good n o) t.value
+                (record_held space known named t.value ms extra good n o),
+          );
         }
 
 -- ---- what is no primitive's name
@@ -216,6 +243,7 @@ module _ (m : ℕ) (all : List NodeView) (space : List ℕ) where
     spelt = ap (λ (w : ℕ). (no_items, w)) (omega arith);
     again = no_branch;
     knows = later all first 0 known k;
+    bound = omega arith;
   }
 
   branch_more : (known known2 known3 : Known) (first place kind : ℕ) (branches : List (ℕ × ℕ)) (nodes more : List NodeView) → branch_kind place nodes ≡ Some kind → Trip m all space known first place nodes known2
@@ -228,6 +256,7 @@ module _ (m : ℕ) (all : List NodeView) (space : List ℕ) where
         spelt = ap (λ (x : Spelt Data). then_items x.0 (branch_items (spelt_at m all space) (map (λ b. b.0) branches) x.1)) t.spelt ∙ ap (then_items t.value) rest.spelt ∙ ap (λ (w : ℕ). (item t.value rest.value, w)) sum;
         again = branch t.again is rest.again;
         knows = subst (λ (w : ℕ). Knows all w known3) sum rest.knows;
+        bound = omega (arith, t.bound, rest.bound, names_append nodes more);
       }
 
   no_fields : (known : Known) (first : ℕ) → Knows all first known → FieldsTrip m all space known first [] [] known
@@ -237,6 +266,7 @@ module _ (m : ℕ) (all : List NodeView) (space : List ℕ) where
     spelt = ap (λ (w : ℕ). (no_items, w)) (omega arith);
     again = no_field;
     knows = later all first 0 known k;
+    bound = omega arith;
   }
 
   field_more : (known known2 known3 : Known) (first : ℕ) (ms : Members) (f : FieldView) (fields : List FieldView) (nodes more : List NodeView) → IsField ms f → Trip m all space known first f.place nodes known2
@@ -250,6 +280,7 @@ module _ (m : ℕ) (all : List NodeView) (space : List ℕ) where
             ∙ ap (λ (w : ℕ). (item (field_value f t.value) rest.value, w)) sum;
         again = field (field_again ms f t.value i) (field_type ms f t.value i) t.again rest.again;
         knows = subst (λ (w : ℕ). Knows all w known3) sum rest.knows;
+        bound = omega (arith, t.bound, rest.bound, names_append nodes more, one_found (codes "type") t.value (field_members ms f t.value i) (field_type ms f t.value i));
       }
 
 -- ---- all types
@@ -326,3 +357,11 @@ pub root_is_first : (d : Data) (place : ℕ) (nodes : List NodeView) (known : Kn
 root_is_first d place nodes known given =
     let t = trips given nodes [] [] (sym (append-nil nodes)) refl (nothing_known nodes 0) refl in
     omega (arith, t.within)
+
+-- the identity text holds each full name and each full alias
+pub names_bounded : (d : Data) (place : ℕ) (nodes : List NodeView) (known : Known) → Denotes max_nesting [] d none_known 0 place nodes known → names_size nodes ≤ length (identity nodes)
+names_bounded d place nodes known given =
+    let t = trips given nodes [] [] (sym (append-nil nodes)) refl (nothing_known nodes 0) refl in
+    let root : place ≡ 0 = omega (arith, t.within) in
+    let written : t.value ≡ identity_value nodes = ap (λ (x : Spelt Data). x.0) (sym (ap (λ (q : ℕ). spelt_at max_nesting nodes [] q 0) (sym root) ∙ t.spelt)) in
+    omega (arith, t.bound, text_long (identity_value nodes), ap data_size written)

@@ -16,7 +16,8 @@ use Rattle.avro_schema.specs.Members.{◌>>=◌, max_nesting}
 use Rattle.avro_schema.specs.Reading.{type_at}
 use Rattle.avro_schema.specs.Defaults.{node_defaults_fit}
 use Rattle.avro_schema.specs.Denotes.{Denotes, a_primitive, a_reference, primitive_type, reference_type, array_type, map_type, fixed_type, enum_type, record_type, union_type, Branches, no_branch, branch, Fields, no_field, field}
-use Rattle.avro_schema.specs.Texts.{max_text, TextDenotes, IsSchema, value_in, typed, checked, denoted}
+use Rattle.avro_schema.specs.Texts.{max_text, TextDenotes, IsSchema, value_in, root_in, typed, checked, denoted}
+use Rattle.avro_schema.specs.Weight.{weight}
 use Rattle.avro_schema.specs.Outcome.{Fails, Adds}
 use Rattle.avro_schema.specs.declared.error.SchemaError.{SchemaError}
 use Rattle.avro_schema.specs.declared.error.SchemaError.TheVariants.{NotJson, BadNumber, BadName, Undefined, Redefined, BadShape, BadUnion, BadDefault, TooLarge, OutOfMemory}
@@ -25,6 +26,8 @@ use Rattle.avro_schema.proofs.Computes.{computes}
 use Rattle.avro_schema.proofs.Sound.{says}
 use Rattle.avro_schema.proofs.Passing.{denoted_nest, denoted_whole}
 use Rattle.avro_schema.proofs.Fitting.{defaults_say, defaults_compute}
+use Rattle.avro_schema.proofs.RoundTrip.{names_bounded}
+use Rattle.avro_schema.proofs.WeightLemmas.{weighs}
 
 nat_le_yes : (a b : ℕ) → a ≤ b → nat_le a b ≡ true
 nat_le_yes a b h = grind (arith, nat_tests)
@@ -45,9 +48,10 @@ refused BadUnion o other f = f
 refused BadDefault o other f = f
 refused TooLarge o other f = f
 
-pub typed_is : (text : List ℕ) (d : Data) (p : ℕ) (after : List NodeView) (known2 : Known) → length text ≤ max_text → value_in text ≡ Some d → Adds (type_at max_nesting [] d none_known 0) p [] after known2 → typed text ≡ Some after
-unfolding typed
-typed_is text d p after known2 short e root = rw (nat_le_yes (length text) max_text short, e, root.is, ← root.after_is) refl
+pub typed_is : (text : List ℕ) (d : Data) (p : ℕ) (after : List NodeView) (known2 : Known) → length text ≤ max_text → value_in text ≡ Some d → nat_le (weight max_nesting [] d) max_text ≡ true
+    → Adds (type_at max_nesting [] d none_known 0) p [] after known2 → typed text ≡ Some after
+unfolding typed root_in
+typed_is text d p after known2 short e light root = rw (nat_le_yes (length text) max_text short, e, light, root.is, ← root.after_is) refl
 
 value_says : (text : List ℕ) (d : Data) → value_in text ≡ Some d → (respelt : List ℕ) × (plain text ≡ Some respelt) × (read respelt ≡ Some d) × (has_whole_numbers d ≡ true)
 unfolding value_in
@@ -124,13 +128,14 @@ pub record Types (text : List ℕ) (nodes : List NodeView) : Type 0 where
   pub type_is : Denotes max_nesting [] value none_known 0 0 nodes known
 
 pub typed_says : (text : List ℕ) (nodes : List NodeView) → typed text ≡ Some nodes → Types text nodes
-unfolding typed
+unfolding typed root_in
 typed_says text nodes e =
-    let g = guard_some (nat_le (length text) max_text) (value_in text >>= λ value. type_at max_nesting [] value none_known 0 >>= λ p. Some p.nodes) nodes e in
-    let q = bind2 (value_in text) (λ value. type_at max_nesting [] value none_known 0) (λ _ p. Some p.nodes) nodes g.1 in
+    let g = guard_some (nat_le (length text) max_text) (value_in text >>= λ value. root_in value >>= λ p. Some p.nodes) nodes e in
+    let q = bind2 (value_in text) (λ value. root_in value) (λ _ p. Some p.nodes) nodes g.1 in
     let v = value_says text q.0 q.2 in
     let same : q.1.nodes ≡ nodes = same_Some _ _ q.4 in
-    let root = says max_nesting [] q.0 none_known 0 q.1 q.3 in
+    let light = guard_some (nat_le (weight max_nesting [] q.0) max_text) (type_at max_nesting [] q.0 none_known 0) q.1 q.3 in
+    let root = says max_nesting [] q.0 none_known 0 q.1 light.1 in
     record {
       respelt = v.0;
       value = q.0;
@@ -143,9 +148,11 @@ typed_says text nodes e =
     }
 
 typed_computes : (text respelt : List ℕ) (value : Data) (known : Known) (nodes : List NodeView) → length text ≤ max_text → plain text ≡ Some respelt → read respelt ≡ Some value → has_whole_numbers value ≡ true
-    → Denotes max_nesting [] value none_known 0 0 nodes known → typed text ≡ Some nodes
-unfolding typed
-typed_computes text respelt value known nodes short p v w t = rw (nat_le_yes (length text) max_text short, value_computes text respelt value p v w, computes t) refl
+    → Denotes max_nesting [] value none_known 0 0 nodes known → length (identity nodes) ≤ max_text → typed text ≡ Some nodes
+unfolding typed root_in
+typed_computes text respelt value known nodes short p v w t bounded =
+    let light : weight max_nesting [] value ≤ max_text = omega (arith, weighs t, names_bounded value 0 nodes known t, bounded) in
+    rw (nat_le_yes (length text) max_text short, value_computes text respelt value p v w, nat_le_yes (weight max_nesting [] value) max_text light, computes t) refl
 
 -- the conditions of the identity text
 pub typed_whole : (text : List ℕ) (nodes : List NodeView) → typed text ≡ Some nodes → IsTrue (nodes_pass has_whole_numbers nodes)
@@ -177,7 +184,7 @@ denoted_says text nodes e fit short =
 
 -- what is denoted is computed
 pub denotes_typed : (text : List ℕ) (nodes : List NodeView) → TextDenotes text nodes → typed text ≡ Some nodes
-denotes_typed text nodes t = typed_computes text t.respelt t.value t.known nodes t.short t.plain_is t.value_is t.whole t.type_is
+denotes_typed text nodes t = typed_computes text t.respelt t.value t.known nodes t.short t.plain_is t.value_is t.whole t.type_is t.bounded
 
 pub denotes_fitting : (text : List ℕ) (nodes : List NodeView) → TextDenotes text nodes → node_defaults_fit nodes nodes ≡ true
 denotes_fitting text nodes t = defaults_compute nodes nodes t.defaults (denoted_nest t.type_is)

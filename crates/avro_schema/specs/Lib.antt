@@ -9,4 +9,5 @@ pub mod Parts
 pub mod Reading
 pub mod Defaults
 pub mod Tables
+pub mod Weight
 pub mod Texts

@@ -8,6 +8,8 @@ use Rattle.avro_nodes.specs.Whole.{has_whole_numbers}
 use Rattle.avro_nodes.specs.Identity.{identity, identity_value}
 use Rattle.avro_schema.specs.Names.{Known, none_known}
 use Rattle.avro_schema.specs.Members.{◌>>=◌, max_nesting}
+use Rattle.avro_schema.specs.Parts.{Part}
+use Rattle.avro_schema.specs.Weight.{weight}
 use Rattle.avro_schema.specs.Reading.{type_at}
 use Rattle.avro_schema.specs.Defaults.{DefaultsFit, node_defaults_fit}
 use Rattle.avro_schema.specs.Denotes.{Denotes}
@@ -50,11 +52,15 @@ value_in text = do
   value ← read respelt
   if has_whole_numbers value then Some value else None
 
+-- The root of a value. The names of its definitions stand in the identity text, so that they are no longer than it may be.
+unfoldable pub root_in : Data → Option (Part ℕ)
+root_in value = if nat_le (weight max_nesting [] value) max_text then type_at max_nesting [] value none_known 0 else None
+
 -- the nodes of a text, before their defaults and their identity text are looked at
 unfoldable pub typed : List ℕ → Option (List NodeView)
 typed text = if nat_le (length text) max_text then (do
   value ← value_in text
-  p ← type_at max_nesting [] value none_known 0
+  p ← root_in value
   Some p.nodes) else None
 
 unfoldable pub checked : List NodeView → Option (List NodeView)

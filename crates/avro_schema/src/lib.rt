@@ -13,6 +13,7 @@ mod schema;
 mod tables;
 #[cfg(test)]
 mod tests;
+mod weight;
 mod words;
 
 pub use error::SchemaError;

@@ -10,6 +10,7 @@ use crate::defaults::defaults_fit;
 use crate::error::SchemaError;
 use crate::names::Places;
 use crate::reading::type_at;
+use crate::weight::names_fit;
 use avro_nodes::{Node, OutOfMemory, has_whole_numbers, identity_of, plain_of};
 use serde_json::Value;
 use std::alloc::Global;
@@ -73,7 +74,7 @@ fn value_of(alloc: Global, text: &str) -> Result<Value, SchemaError>
 }
 
 /// The nodes of a text, before their defaults and their identity text are looked at.
-#[tactic(auto, unfolding(crate::specs::Texts::typed))]
+#[tactic(auto, unfolding(crate::specs::Texts::typed, crate::specs::Texts::root_in))]
 fn nodes_of(alloc: Global, text: &str) -> Result<Vec<Node>, SchemaError>
     ensures { Gives (λ v. nodes_view v.items) result (typed text.now) }
 {
@@ -81,6 +82,9 @@ fn nodes_of(alloc: Global, text: &str) -> Result<Vec<Node>, SchemaError>
         return Err(SchemaError::TooLarge);
     }
     let value = value_of(alloc, text)?;
+    if !names_fit(&value) {
+        return Err(SchemaError::TooLarge);
+    }
     let mut nodes = Vec::new(alloc);
     let mut known = Places::new(alloc);
     type_at(alloc, value, "", MAX_NESTING, &mut nodes, &mut known)?;

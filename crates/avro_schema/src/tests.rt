@@ -1,7 +1,9 @@
 //! Expected texts are those of the project's profile, written out.
 
+use crate::weight::names_fit;
 use crate::{Schema, SchemaError};
 use avro_nodes::Node;
+use serde_json::Value;
 use std::alloc::{AllocError, Global};
 use std::process::Abort;
 use std::test::Fail;
@@ -303,6 +305,16 @@ fn repeated(alloc: Global, count: usize) -> Result<String, AllocError> {
     Ok(all)
 }
 
+/// A fixed in a namespace of 1,022 letters, with an alias and so many more: each full name has
+/// 1,024 bytes.
+fn aliased(alloc: Global, count: usize) -> Result<String, AllocError> {
+    let space = repeat(alloc, "n", 1022)?;
+    let more = repeat(alloc, r#","a""#, count)?;
+    format!(in alloc;
+        "{{\"type\":\"fixed\",\"name\":\"F\",\"namespace\":\"{space}\",\"size\":1,\"aliases\":[\"a\"{more}]}}"
+    )
+}
+
 /// Texts that nest so deep in their types, in an attribute and in a default, where the text is
 /// so many brackets.
 fn deep(alloc: Global, inner: &str) -> Result<[String; 3], AllocError> {
@@ -396,6 +408,24 @@ fn sizes(rt: HostRuntime) -> Result<(), Fail> {
             want,
             "identity"
         );
+    }
+    for (count, want) in [(1000, "read"), (1100, "TooLarge"), (100000, "TooLarge")] {
+        assert_eq!(rt;
+            verdict(alloc, aliased(alloc, count)?.as_str()),
+            want,
+            "names"
+        );
+    }
+    Ok(())
+}
+
+#[test]
+fn names_of_a_value(rt: HostRuntime) -> Result<(), Fail> {
+    let alloc = rt.alloc();
+    for (count, want) in [(1022, true), (1023, false)] {
+        let text = aliased(alloc, count)?;
+        let value = Value::from_str(alloc, text.as_str())?;
+        assert_eq!(rt; names_fit(&value), want);
     }
     Ok(())
 }

@@ -1,0 +1,100 @@
+-- How many bytes the names of definitions take, once they are full names (Avro 1.11 specification, Names; Aliases): in nodes, and in a JSON
+-- value before any node is made of it.
+use Rattle.std.specs.Prelude.{ℕ, zero, suc, ◌+◌, List, [], ◌∷◌, length, if◌then◌else◌, Option, Some, None, option_and_then, unwrap_or, codes}
+use Rattle.serde_json.specs.Data.{Data, string, Items, no_items, item, Members}
+use Rattle.serde_json.specs.Data as json
+use Rattle.serde_json.specs.Find.{get_member, as_str, as_object}
+use Rattle.avro_nodes.specs.Names.{has_dot, namespace_of}
+use Rattle.avro_nodes.specs.Nodes.{NamedView, NodeView, primitive, array, mapping, union, enumeration, fixed, rec}
+use Rattle.avro_schema.specs.declared.words.Word.{Word}
+use Rattle.avro_schema.specs.declared.words.Word.TheVariants as word
+use Rattle.avro_schema.specs.Names.{joined}
+use Rattle.avro_schema.specs.Words.{word_of}
+use Rattle.avro_schema.specs.Members.{text_in, array_in}
+
+abbrev pub texts_size : List (List ℕ) → ℕ
+texts_size [] = 0
+texts_size (t ∷ ts) = length t + texts_size ts
+
+abbrev pub named_size : NamedView → ℕ
+named_size named = length named.name + texts_size named.aliases
+
+abbrev pub node_size : NodeView → ℕ
+node_size (primitive kind extra) = 0
+node_size (array place extra) = 0
+node_size (mapping place extra) = 0
+node_size (union branches) = 0
+node_size (enumeration named symbols fallback extra) = named_size named
+node_size (fixed named size extra) = named_size named
+node_size (rec named fields extra) = named_size named
+
+-- the names and aliases of the nodes
+abbrev pub names_size : List NodeView → ℕ
+names_size [] = 0
+names_size (node ∷ nodes) = node_size node + names_size nodes
+
+-- ---- the same of the nodes that a JSON value denotes, and any number where it denotes none
+
+abbrev pub if_any : {A : Type 0} → (A → ℕ) → Option A → ℕ
+if_any one None = 0
+if_any one (Some x) = one x
+
+abbrev pub items_weight : (Data → ℕ) → Items → ℕ
+items_weight one no_items = 0
+items_weight one (item d ds) = one d + items_weight one ds
+
+-- the full name that a name has in a namespace; with a dot it is one
+unfoldable pub full_in : List ℕ → List ℕ → List ℕ
+full_in space name = if has_dot name then name else joined space name
+
+abbrev pub alias_weight : List ℕ → Data → ℕ
+alias_weight space d = if_any (λ alias. length (full_in space alias)) (as_str d)
+
+-- the namespace of a definition of this name, inside an enclosing one
+unfoldable pub space_in : List ℕ → List ℕ → Members → List ℕ
+space_in enclosing name ms = if has_dot name then namespace_of name else unwrap_or (text_in (codes "namespace") ms) enclosing
+
+-- the name and the aliases of a definition in the namespace
+unfoldable pub names_weight : List ℕ → List ℕ → Members → ℕ
+names_weight space name ms = length (full_in space name) + if_any (items_weight (alias_weight space)) (array_in (codes "aliases") ms)
+
+unfoldable pub definition_weight : List ℕ → Members → ℕ
+definition_weight space ms = if_any (λ name. names_weight (space_in space name ms) name ms) (text_in (codes "name") ms)
+
+-- a type, in a namespace
+abbrev pub Weigher : Type 0
+Weigher = List ℕ → Data → ℕ
+
+abbrev pub field_weight : (Data → ℕ) → Data → ℕ
+field_weight one d = if_any one (option_and_then (get_member (codes "type")) (as_object d))
+
+unfoldable pub record_weight : Weigher → List ℕ → Members → ℕ
+record_weight types space ms =
+    if_any (λ name. names_weight (space_in space name ms) name ms + if_any (items_weight (field_weight (types (space_in space name ms)))) (array_in (codes "fields") ms))
+    (text_in (codes "name") ms)
+
+-- an object, by what its `type` says
+abbrev pub by_word : Word → Weigher → List ℕ → Members → ℕ
+by_word (word.Primitive kind) types space ms = 0
+by_word word.Array types space ms = if_any (types space) (get_member (codes "items") ms)
+by_word word.Map types space ms = if_any (types space) (get_member (codes "values") ms)
+by_word word.Fixed types space ms = definition_weight space ms
+by_word word.Enum types space ms = definition_weight space ms
+by_word word.Record types space ms = record_weight types space ms
+by_word word.Reference types space ms = 0
+
+unfoldable pub object_weight : Weigher → List ℕ → Members → ℕ
+object_weight types space ms = if_any (λ name. by_word (word_of name) types space ms) (text_in (codes "type") ms)
+
+abbrev pub form_weight : Weigher → Weigher
+form_weight types space (json.array ds) = items_weight (types space) ds
+form_weight types space (json.object ms) = object_weight types space ms
+form_weight types space (string s) = 0
+form_weight types space json.null = 0
+form_weight types space (json.boolean b) = 0
+form_weight types space (json.number n) = 0
+
+-- a type, nested no deeper than the number
+unfoldable pub weight : ℕ → Weigher
+weight zero space d = 0
+weight (suc n) space d = form_weight (weight n) space d

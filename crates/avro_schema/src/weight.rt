@@ -1,0 +1,211 @@
+//! How many bytes the names of a value's definitions will take. A short name or alias takes its
+//! namespace on, so nodes may hold far more bytes than the text that they are read from.
+ghost use Rattle.std.specs.Prelude.{◌≡◌, ◌-◌, length, option_map, nat_le, codes, []};
+ghost use Rattle.serde_json.specs.Find.{get_member};
+ghost use Rattle.serde_json.specs.View.{view, items_view, members_view};
+ghost use Rattle.avro_schema.specs.Members.{text_in, array_in, max_nesting};
+ghost use Rattle.avro_schema.specs.Texts.{max_text};
+ghost use Rattle.avro_schema.specs.Weight.{if_any, items_weight, full_in, alias_weight, space_in, names_weight, definition_weight, field_weight, record_weight, object_weight, weight};
+
+use crate::attributes::find;
+use crate::words::{Word, word_of};
+use avro_nodes::{Extra, has_dot, namespace_of};
+use serde_json::Value;
+
+/// The most bytes of the names: they stand in the identity text, which may not be longer.
+const MAX_NAMES: usize = 1048576;
+
+/// How deep types may nest.
+const MAX_NESTING: u32 = 24;
+
+/// The attribute of this name, if it is a string.
+#[tactic(auto, unfolding(crate::specs::Members::text_in))]
+fn text_at<'a>(members: &'a Extra, key: &str) -> Option<&'a str>
+    ensures { option_map (λ s. s.now) result ≡ text_in key.now (members_view members.now.entries) }
+{
+    match find(members, key) {
+        Some(value) => value.as_str(),
+        None => None,
+    }
+}
+
+/// The attribute of this name, if it is an array.
+#[tactic(auto, unfolding(crate::specs::Members::array_in))]
+fn items_at<'a>(members: &'a Extra, key: &str) -> Option<&'a Vec<Value>>
+    ensures { option_map (λ v. items_view v.now.items) result
+        ≡ array_in key.now (members_view members.now.entries) }
+{
+    match find(members, key) {
+        Some(value) => value.as_array(),
+        None => None,
+    }
+}
+
+/// What is left of a number of bytes after the full name that the name has in the namespace. As
+/// everywhere here, nothing is left where the bytes do not suffice.
+#[tactic(auto, unfolding(crate::specs::Weight::full_in, crate::specs::Names::joined))]
+fn after_name(left: usize, name: &str, space: &str) -> usize
+    ensures { result ≡ left - length (full_in space.now name.now) }
+{
+    let rest = left.saturating_sub(name.len());
+    if has_dot(name) || space.is_empty() {
+        rest
+    } else {
+        rest.saturating_sub(space.len()).saturating_sub(1)
+    }
+}
+
+/// What is left after an alias of a type in the namespace.
+fn after_alias(left: usize, alias: &Value, space: &str) -> usize
+    ensures { result ≡ left - alias_weight space.now (view alias.now) }
+{
+    match alias.as_str() {
+        Some(name) => after_name(left, name, space),
+        None => left,
+    }
+}
+
+fn after_aliases(left: usize, aliases: &Vec<Value>, space: &str) -> usize
+    ensures { result ≡ left - items_weight (alias_weight space.now) (items_view aliases.now.items) }
+{
+    let mut rest = left;
+    for alias in aliases {
+        rest = after_alias(rest, alias, space);
+    }
+    rest
+}
+
+/// The namespace of a definition of this name, inside an enclosing one.
+#[tactic(auto, unfolding(crate::specs::Weight::space_in))]
+fn space_of<'a>(members: &'a Extra, name: &'a str, enclosing: &'a str) -> &'a str
+    ensures { result.now ≡ space_in enclosing.now name.now (members_view members.now.entries) }
+{
+    if has_dot(name) {
+        return namespace_of(name);
+    }
+    match text_at(members, "namespace") {
+        Some(space) => space,
+        None => enclosing,
+    }
+}
+
+/// What is left after the name and the aliases of a definition in the namespace.
+#[tactic(auto, unfolding(crate::specs::Weight::names_weight))]
+fn after_names(left: usize, members: &Extra, name: &str, space: &str) -> usize
+    ensures { result ≡ left - names_weight space.now name.now (members_view members.now.entries) }
+{
+    let rest = after_name(left, name, space);
+    match items_at(members, "aliases") {
+        Some(aliases) => after_aliases(rest, aliases, space),
+        None => rest,
+    }
+}
+
+/// What is left after a definition that has no types inside.
+#[tactic(auto, unfolding(crate::specs::Weight::definition_weight))]
+fn after_definition(left: usize, members: &Extra, enclosing: &str) -> usize
+    ensures { result ≡ left - definition_weight enclosing.now (members_view members.now.entries) }
+{
+    match text_at(members, "name") {
+        Some(name) => after_names(left, members, name, space_of(members, name, enclosing)),
+        None => left,
+    }
+}
+
+/// What is left after the definitions of a type, nested no deeper than the number.
+#[cycle(weigh)]
+#[tactic(auto, unfolding(crate::specs::Weight::weight))]
+fn after_type(left: usize, value: &Value, space: &str, depth: u32) -> usize
+    ensures { result ≡ left - weight depth space.now (view value.now) }
+{
+    if depth == 0 {
+        return left;
+    }
+    match value {
+        Value::Array(items) => after_branches(left, items, space, depth - 1),
+        Value::Object(members) => after_object(left, members, space, depth - 1),
+        Value::Null | Value::Bool(_) | Value::Number(_) | Value::String(_) => left,
+    }
+}
+
+#[cycle(weigh)]
+fn after_type_if_any(left: usize, value: Option<&Value>, space: &str, depth: u32) -> usize
+    ensures { result ≡ left - if_any (weight depth space.now) (option_map (λ v. view v.now) value.entry) }
+{
+    match value {
+        Some(value) => after_type(left, value, space, depth),
+        None => left,
+    }
+}
+
+#[cycle(weigh)]
+fn after_branches(left: usize, items: &Vec<Value>, space: &str, depth: u32) -> usize
+    ensures { result ≡ left - items_weight (weight depth space.now) (items_view items.now.items) }
+{
+    let mut rest = left;
+    for item in items {
+        rest = after_type(rest, item, space, depth);
+    }
+    rest
+}
+
+#[cycle(weigh)]
+#[tactic(auto, unfolding(crate::specs::Weight::object_weight))]
+fn after_object(left: usize, members: &Extra, space: &str, depth: u32) -> usize
+    ensures { result ≡ left - object_weight (weight depth) space.now (members_view members.now.entries) }
+{
+    let Some(name) = text_at(members, "type") else {
+        return left;
+    };
+    match word_of(name) {
+        Word::Primitive(_) | Word::Reference => left,
+        Word::Array => after_type_if_any(left, find(members, "items"), space, depth),
+        Word::Map => after_type_if_any(left, find(members, "values"), space, depth),
+        Word::Fixed | Word::Enum => after_definition(left, members, space),
+        Word::Record => after_record(left, members, space, depth),
+    }
+}
+
+#[cycle(weigh)]
+#[tactic(auto, unfolding(crate::specs::Weight::record_weight))]
+fn after_record(left: usize, members: &Extra, enclosing: &str, depth: u32) -> usize
+    ensures { result ≡ left - record_weight (weight depth) enclosing.now (members_view members.now.entries) }
+{
+    let Some(name) = text_at(members, "name") else {
+        return left;
+    };
+    let space = space_of(members, name, enclosing);
+    let rest = after_names(left, members, name, space);
+    match items_at(members, "fields") {
+        Some(fields) => after_fields(rest, fields, space, depth),
+        None => rest,
+    }
+}
+
+#[cycle(weigh)]
+fn after_fields(left: usize, fields: &Vec<Value>, space: &str, depth: u32) -> usize
+    ensures { result ≡ left - items_weight (field_weight (weight depth space.now)) (items_view fields.now.items) }
+{
+    let mut rest = left;
+    for field in fields {
+        rest = after_field(rest, field, space, depth);
+    }
+    rest
+}
+
+#[cycle(weigh)]
+fn after_field(left: usize, field: &Value, space: &str, depth: u32) -> usize
+    ensures { result ≡ left - field_weight (weight depth space.now) (view field.now) }
+{
+    match field.as_object() {
+        Some(members) => after_type_if_any(left, find(members, "type"), space, depth),
+        None => left,
+    }
+}
+
+/// Whether the names of the value's definitions, as full names, keep to their limit.
+pub fn names_fit(value: &Value) -> bool
+    ensures { result ≡ nat_le (weight max_nesting [] (view value.now)) max_text }
+{
+    after_type(MAX_NAMES + 1, value, "", MAX_NESTING) > 0
+}
