@@ -7,3 +7,8 @@ pub mod Carried
 pub mod Plainness
 pub mod Unchanged
 pub mod Lengths
+pub mod Merged
+pub mod Digits
+pub mod Written
+pub mod Forms
+pub mod Printed

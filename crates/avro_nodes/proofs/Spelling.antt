@@ -1,14 +1,16 @@
 -- What is written for a place, by its node.
-use Rattle.std.proofs.Common.{◌≡◌, ℕ, suc, ◌-◌, ◌<◌, ◌==◌, List, true, false, Option, refl, ap, ◌∙◌, eq-eqb, arith}
+use Rattle.std.proofs.Common.{◌≡◌, ℕ, suc, ◌-◌, ◌<◌, ◌==◌, List, true, false, Option, refl, sym, ap, subst, ◌∙◌, eq-eqb, arith}
 use Rattle.std.specs.Prelude.{slice_get}
 use Rattle.std.specs.Option.{option_map}
 use Rattle.std.proofs.lemmas.Option.{slice_get-map}
 use Rattle.std.proofs.lemmas.Bool.Decides.{eqb_tells}
 use Rattle.std.proofs.Common.{inl, inr}
-use Rattle.serde_json.specs.Data.{null, string}
+use Rattle.json.specs.Token.{Token}
+use Rattle.serde_json.specs.Data.{Data, null, string}
 use Rattle.avro_nodes.specs.Nodes.{NodeView, node_view, nodes_view}
 use Rattle.avro_nodes.specs.declared.node.Node.{Node}
-use Rattle.avro_nodes.specs.Identity.{spelt_at, spelt_node, name_of}
+use Rattle.avro_nodes.specs.Identity.{Spelt, spelt_at, spelt_node, name_of}
+use Rattle.avro_nodes.specs.Objects.{WritesSpelt}
 
 pub shape_found : (nodes : List Node) (place : ℕ) (o : Option Node) → slice_get nodes place ≡ o → slice_get (nodes_view nodes) place ≡ option_map node_view o
 shape_found nodes place o e = slice_get-map node_view nodes place ∙ ap (option_map node_view) e
@@ -41,3 +43,6 @@ module _ (n : ℕ) (nodes : List NodeView) (space : List ℕ) (place written : �
   spelt_again some other =
       let m : n ≡ suc (n - 1) = omega arith in
       ap (λ k. spelt_at k nodes space place written) m ∙ again_suc (n - 1) other
+
+pub spelt_as : (s r : Spelt Data) (old new : List Token) (written : ℕ) → s ≡ r → WritesSpelt r old new written → WritesSpelt s old new written
+spelt_as s r old new written e w = subst (λ (q : Spelt Data). WritesSpelt q old new written) (sym e) w

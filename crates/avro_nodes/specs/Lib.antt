@@ -1,5 +1,6 @@
 pub mod Names
 pub mod Nodes
 pub mod Identity
+pub mod Objects
 pub mod Plain
 pub mod Whole

@@ -1,11 +1,14 @@
 //! The nodes of an Avro schema, the rule for the numbers in its text, and its identity text.
 #![tactic(auto)]
 
+mod attributes;
+mod compact;
 mod error;
 mod identity;
 mod names;
 mod node;
 mod plain;
+mod value;
 mod whole;
 
 pub use error::OutOfMemory;

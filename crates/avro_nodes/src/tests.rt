@@ -254,6 +254,40 @@ fn records(rt: HostRuntime) -> Result<(), Fail> {
     Ok(())
 }
 
+// What no clause says: a float stands as `serde_json` writes it.
+#[test]
+fn floats(rt: HostRuntime) -> Result<(), Fail> {
+    let alloc = rt.alloc();
+    let json = "[1.5,-0.0,1e30,2.5e-7,123456789012345680000]";
+    let fields = vec![in alloc; with_default(alloc, "x", 1, json)?]?;
+    let nodes = [record(alloc, "R", fields)?, primitive(alloc, Kind::Double)];
+    let written = Value::from_str(alloc, json)?.to_string(alloc)?;
+    assert_eq!(rt;
+        identity_of(alloc, &nodes)?,
+        format!(in alloc;
+            "{{\"fields\":[{{\"default\":{written},\"name\":\"x\",\"type\":\"double\"}}],\"name\":\"R\",\"type\":\"record\"}}"
+        )?
+    );
+    Ok(())
+}
+
+// An attribute without a meaning of its own that has the name of one that is written gives way.
+#[test]
+fn other_attributes(rt: HostRuntime) -> Result<(), Fail> {
+    let alloc = rt.alloc();
+    let json = r#"{"A":1,"aliases":2,"b":3,"name":4,"nane":5,"size":6,"type":7,"zz":8}"#;
+    let fixed = Node::Fixed {
+        named: named(alloc, "F", &[])?,
+        size: 9,
+        extra: extra(alloc, json)?,
+    };
+    assert_eq!(rt;
+        identity_of(alloc, &[fixed])?.as_str(),
+        r#"{"A":1,"aliases":2,"b":3,"name":"F","nane":5,"size":9,"type":"fixed","zz":8}"#
+    );
+    Ok(())
+}
+
 fn ordered(alloc: Global, name: &str, place: u32, json: &str, order: Order) -> Result<Field, Fail> {
     let mut field = with_default(alloc, name, place, json)?;
     field.order = order;

@@ -1,97 +1,117 @@
-use Rattle.std.proofs.Common.{◌≡◌, ◌+◌, Some, None, string_bytes, sym, ap, ◌∙◌, arith, rules}
-use Rattle.std.proofs.lemmas.Result.{IfOk-weaker}
-use Rattle.serde_json.specs.Data.{Data, Items, null, array, string}
-use Rattle.serde_json.specs.declared.value.Value.{Null, the_lemmas}
-use Rattle.serde_json.specs.View.{view, members_view}
-use Rattle.serde_json.proofs.Views.{view-Array}
+use Rattle.std.proofs.Common.{◌≡◌, Some, None, string_bytes, refl, sym, ap, ◌∙◌, subst, arith}
+use Rattle.std.proofs.lemmas.Result.{on_ok_weaker}
+use Rattle.serde_json.specs.Written.{WritesItems}
+use Rattle.serde_json.specs.Data.{Items}
 use Rattle.avro_nodes.specs.declared.node.Node.{Node}
 use Rattle.avro_nodes.specs.Names.{namespace_of}
-use Rattle.avro_nodes.specs.Nodes.{node_view, nodes_view, named_view}
-use Rattle.avro_nodes.specs.Identity.{Spelt, array_value, map_value, record_value}
-use Rattle.avro_nodes.proofs.Lists.{branch_on, branches_over, field_on, fields_over}
-use Rattle.avro_nodes.proofs.Spelling.{spelt_too_deep, spelt_first, spelt_again}
+use Rattle.avro_nodes.specs.Nodes.{node_view, nodes_view}
+use Rattle.avro_nodes.specs.Identity.{Spelt, spelt_at}
+use Rattle.avro_nodes.proofs.Lists.{branch_on, branch_count, branches_over, field_on, field_count, fields_over}
+use Rattle.avro_nodes.proofs.Spelling.{spelt_too_deep, spelt_first, spelt_again, spelt_as}
+use Rattle.avro_nodes.proofs.Written.{null_written, string_written, items_ended, array_ended}
 use Rattle.avro_nodes.proofs.identity.+spell.Goals as goal
 
-pub branch_items-loop-place-preserved : goal.branch_items-loop-place-preserved
-branch_items-loop-place-preserved t c = record {
-  bound = c.spelt_at.ensures.bound;
-  value = rw c.in_ok-push.ensures.items (branch_on _ _ _ _ _ _ _ _ c.loop-place-test.true c.loop-place.invariant.value c.in_ok-value.ensures.value);
-}
+pub write_at-returns-then-depth-eq0-clause-value : goal.write_at-returns-then-depth-eq0-clause-value
+write_at-returns-then-depth-eq0-clause-value t c =
+    let is = spelt_too_deep c.args.depth (nodes_view c.args.nodes.now) c.args.enclosing.now c.args.place c.args.written.now c.if-depth-eq0.true in
+    on_ok_weaker c.null.result (λ e. spelt_as _ _ _ _ _ is (null_written _ _ e, refl)) c.null.ensures
 
-pub branch_items-returns-clause-value : goal.branch_items-returns-clause-value
-branch_items-returns-clause-value t c = branches_over _ _ _ _ _ _ c.loop-place-test.false c.loop-place.invariant.value
-
-pub field_items-loop-field-preserved : goal.field_items-loop-field-preserved
-field_items-loop-field-preserved t c = record {
-  bound = c.spelt_at.ensures.bound;
-  value = rw c.in_ok-push.ensures.items
-      (field_on _ _ _ _ _ _ _ _ _ _ c.loop-field-test.true c.field-item.is c.loop-field.invariant.value c.in_ok-inner.ensures.value c.in_ok-value.ensures);
-}
-
-pub field_items-returns-clause-value : goal.field_items-returns-clause-value
-field_items-returns-clause-value t c = fields_over _ _ _ _ _ _ c.loop-field-test.false c.loop-field.invariant.value
-
-pub spelt_at-returns-then-depth-eq0-clause-value : goal.spelt_at-returns-then-depth-eq0-clause-value
-spelt_at-returns-then-depth-eq0-clause-value t c =
-    let seen : view Null ≡ null = search (rules, the_lemmas) in
-    ap (λ (d : Data). (d, c.args.written.now)) seen ∙ sym (spelt_too_deep c.args.depth (nodes_view c.args.nodes.now) c.args.enclosing.now c.args.place c.args.written.now c.if-depth-eq0.true)
-
-pub spelt_at-returns-then-at-written-clause-value : goal.spelt_at-returns-then-at-written-clause-value
-spelt_at-returns-then-at-written-clause-value t c =
+pub write_at-returns-then-at-written-clause-value : goal.write_at-returns-then-at-written-clause-value
+write_at-returns-then-at-written-clause-value t c =
     let is = spelt_again c.args.depth (nodes_view c.args.nodes.now) c.args.enclosing.now c.args.place c.args.written.now (omega arith) c.if-at-written.true in
-    IfOk-weaker c.try_from_str.result _ _ (λ v e. ap (λ (d : Data). (d, c.args.written.now)) (e ∙ ap string c.name_of.ensures) ∙ sym is) c.try_from_str.ensures
+    on_ok_weaker c.string.result (λ e. spelt_as _ _ _ _ _ is (string_written _ _ _ (rw c.name_of.ensures at e), refl)) c.string.ensures
 
-pub spelt_at-returns-in_default-clause-value : goal.spelt_at-returns-in_default-clause-value
-spelt_at-returns-in_default-clause-value t c =
-    let seen : view Null ≡ null = search (rules, the_lemmas) in
-    ap (λ (d : Data). (d, c.args.written.now)) seen
-    ∙ sym (spelt_first c.args.depth (nodes_view c.args.nodes.now) c.args.enclosing.now c.args.place c.args.written.now None (omega arith) c.if-at-written.false (sym c.in_default.ensures))
+pub write_at-returns-in_default-clause-value : goal.write_at-returns-in_default-clause-value
+write_at-returns-in_default-clause-value t c =
+    let is = spelt_first c.args.depth (nodes_view c.args.nodes.now) c.args.enclosing.now c.args.place c.args.written.now None (omega arith) c.if-at-written.false (sym c.in_default.ensures.value) in
+    on_ok_weaker c.null-in_default.result (λ e. spelt_as _ _ _ _ _ is (null_written _ _ e, refl)) c.null-in_default.ensures
 
-pub spelt_at-returns-in-Primitive-clause-value : goal.spelt_at-returns-in-Primitive-clause-value
-spelt_at-returns-in-Primitive-clause-value t c =
-    let found = sym c.in-Some.ensures ∙ ap (λ (x : Node). Some (node_view x)) c.in-Primitive.is in
+pub write_at-returns-in-Primitive-clause-value : goal.write_at-returns-in-Primitive-clause-value
+write_at-returns-in-Primitive-clause-value t c =
+    let found = sym c.in-Some.ensures.value ∙ ap (λ (x : Node). Some (node_view x)) c.in-Primitive.is in
     let is = spelt_first c.args.depth (nodes_view c.args.nodes.now) c.args.enclosing.now c.args.place c.args.written.now _ (omega arith) c.if-at-written.false found in
-    IfOk-weaker c.primitive_value.result _ _ (λ v e. ap (λ (d : Data). (d, c.args.written.now + 1)) e ∙ sym is) c.primitive_value.ensures
+    on_ok_weaker c.write_primitive.result (λ w. spelt_as _ _ _ _ _ is (w, refl)) c.write_primitive.ensures
 
-pub spelt_at-returns-in_ok-value-in-Array-clause-value : goal.spelt_at-returns-in_ok-value-in-Array-clause-value
-spelt_at-returns-in_ok-value-in-Array-clause-value t c =
-    let found = sym c.in-Some.ensures ∙ ap (λ (x : Node). Some (node_view x)) c.in-Array.is in
+pub write_at-returns-in-Enum-clause-value : goal.write_at-returns-in-Enum-clause-value
+write_at-returns-in-Enum-clause-value t c =
+    let found = sym c.in-Some.ensures.value ∙ ap (λ (x : Node). Some (node_view x)) c.in-Enum.is in
     let is = spelt_first c.args.depth (nodes_view c.args.nodes.now) c.args.enclosing.now c.args.place c.args.written.now _ (omega arith) c.if-at-written.false found in
-    IfOk-weaker c.array_value.result _ _
-    (λ v e. ap (λ (d : Data). (d, c.spelt_at.new.written)) e ∙ ap (λ (p : Spelt Data). (array_value p.0 (members_view c.in-Array.extra.entries), p.1)) c.in_ok-value-in-Array.ensures.value ∙ sym is) c.array_value.ensures
+    on_ok_weaker c.write_enum.result (λ w. spelt_as _ _ _ _ _ is (w, refl)) (rw c.deref-in-Enum.ensures.value at c.write_enum.ensures)
 
-pub spelt_at-returns-in_ok-value-in-Map-clause-value : goal.spelt_at-returns-in_ok-value-in-Map-clause-value
-spelt_at-returns-in_ok-value-in-Map-clause-value t c =
-    let found = sym c.in-Some.ensures ∙ ap (λ (x : Node). Some (node_view x)) c.in-Map.is in
+pub write_at-returns-in-Fixed-clause-value : goal.write_at-returns-in-Fixed-clause-value
+write_at-returns-in-Fixed-clause-value t c =
+    let found = sym c.in-Some.ensures.value ∙ ap (λ (x : Node). Some (node_view x)) c.in-Fixed.is in
     let is = spelt_first c.args.depth (nodes_view c.args.nodes.now) c.args.enclosing.now c.args.place c.args.written.now _ (omega arith) c.if-at-written.false found in
-    IfOk-weaker c.map_value.result _ _
-    (λ v e. ap (λ (d : Data). (d, c.spelt_at-in-Map.new.written)) e ∙ ap (λ (p : Spelt Data). (map_value p.0 (members_view c.in-Map.extra.entries), p.1)) c.in_ok-value-in-Map.ensures.value ∙ sym is) c.map_value.ensures
+    on_ok_weaker c.write_fixed.result (λ w. spelt_as _ _ _ _ _ is (w, refl)) c.write_fixed.ensures
 
-pub spelt_at-returns-in_ok-values-in-Union-clause-value : goal.spelt_at-returns-in_ok-values-in-Union-clause-value
-spelt_at-returns-in_ok-values-in-Union-clause-value t c =
-    let found = sym c.in-Some.ensures ∙ ap (λ (x : Node). Some (node_view x)) c.in-Union.is in
+pub write_at-returns-in_ok-write_at-in-Array-clause-value : goal.write_at-returns-in_ok-write_at-in-Array-clause-value
+write_at-returns-in_ok-write_at-in-Array-clause-value t c =
+    let found = sym c.in-Some.ensures.value ∙ ap (λ (x : Node). Some (node_view x)) c.in-Array.is in
     let is = spelt_first c.args.depth (nodes_view c.args.nodes.now) c.args.enclosing.now c.args.place c.args.written.now _ (omega arith) c.if-at-written.false found in
-    let spelt = rw c.deref.ensures.value at c.in_ok-values-in-Union.ensures.value in
-    ap (λ (d : Data). (d, c.branch_items.new.written)) (view-Array c.in_ok-values-in-Union.values) ∙ ap (λ (p : Spelt Items). (array p.0, p.1)) spelt ∙ sym is
+    let inner = c.in_ok-write_at-in-Array.ensures.value in
+    on_ok_weaker c.end_array.result (λ rest. spelt_as _ _ _ _ _ is (c.in_ok-others-in-Array.ensures _ _ c.end_array.new.out inner.0 rest, inner.1)) c.end_array.ensures
 
-pub spelt_at-returns-in-Enum-clause-value : goal.spelt_at-returns-in-Enum-clause-value
-spelt_at-returns-in-Enum-clause-value t c =
-    let found = sym c.in-Some.ensures ∙ ap (λ (x : Node). Some (node_view x)) c.in-Enum.is in
+pub write_at-returns-in_ok-write_at-in-Map-clause-value : goal.write_at-returns-in_ok-write_at-in-Map-clause-value
+write_at-returns-in_ok-write_at-in-Map-clause-value t c =
+    let found = sym c.in-Some.ensures.value ∙ ap (λ (x : Node). Some (node_view x)) c.in-Map.is in
     let is = spelt_first c.args.depth (nodes_view c.args.nodes.now) c.args.enclosing.now c.args.place c.args.written.now _ (omega arith) c.if-at-written.false found in
-    IfOk-weaker c.enum_value.result _ _ (λ v e. ap (λ (d : Data). (d, c.args.written.now + 1)) e ∙ sym is) (rw c.deref-in-Enum.ensures.value at c.enum_value.ensures)
+    let inner = c.in_ok-write_at-in-Map.ensures.value in
+    on_ok_weaker c.write_rest.result (λ rest. spelt_as _ _ _ _ _ is (c.in_ok-others-in-Map.ensures _ _ c.write_rest.new.out inner.0 rest, inner.1)) c.write_rest.ensures
 
-pub spelt_at-returns-in-Fixed-clause-value : goal.spelt_at-returns-in-Fixed-clause-value
-spelt_at-returns-in-Fixed-clause-value t c =
-    let found = sym c.in-Some.ensures ∙ ap (λ (x : Node). Some (node_view x)) c.in-Fixed.is in
+pub write_at-returns-in-Union-clause-value : goal.write_at-returns-in-Union-clause-value
+write_at-returns-in-Union-clause-value t c =
+    let found = sym c.in-Some.ensures.value ∙ ap (λ (x : Node). Some (node_view x)) c.in-Union.is in
     let is = spelt_first c.args.depth (nodes_view c.args.nodes.now) c.args.enclosing.now c.args.place c.args.written.now _ (omega arith) c.if-at-written.false found in
-    IfOk-weaker c.fixed_value.result _ _ (λ v e. ap (λ (d : Data). (d, c.args.written.now + 1)) e ∙ sym is) c.fixed_value.ensures
+    on_ok_weaker c.write_branches.result (λ w. spelt_as _ _ _ _ _ is w) (rw c.deref.ensures.value at c.write_branches.ensures.value)
 
-pub spelt_at-returns-in_ok-values-in-Rec-clause-value : goal.spelt_at-returns-in_ok-values-in-Rec-clause-value
-spelt_at-returns-in_ok-values-in-Rec-clause-value t c =
-    let found = sym c.in-Some.ensures ∙ ap (λ (x : Node). Some (node_view x)) c.in-Rec.is in
+pub write_at-returns-in_ok-write_fields-in-Rec-clause-value : goal.write_at-returns-in_ok-write_fields-in-Rec-clause-value
+write_at-returns-in_ok-write_fields-in-Rec-clause-value t c =
+    let found = sym c.in-Some.ensures.value ∙ ap (λ (x : Node). Some (node_view x)) c.in-Rec.is in
     let is = spelt_first c.args.depth (nodes_view c.args.nodes.now) c.args.enclosing.now c.args.place c.args.written.now _ (omega arith) c.if-at-written.false found in
-    let inside : c.namespace_of-inside.result.now ≡ namespace_of (string_bytes c.in-Rec.named.name) = c.namespace_of-inside.ensures ∙ ap namespace_of c.as_str.ensures.value in
-    let spelt = rw (inside, c.deref-in-Rec.ensures.value) at c.in_ok-values-in-Rec.ensures.value in
-    IfOk-weaker c.record_value.result _ _
-    (λ v e. ap (λ (d : Data). (d, c.field_items.new.written)) e
-    ∙ ap (λ (p : Spelt Items). (record_value c.args.enclosing.now (named_view c.in-Rec.named) p.0 (members_view c.in-Rec.extra.entries), p.1)) spelt ∙ sym is) c.record_value.ensures
+    let inside : c.namespace_of.result.now ≡ namespace_of (string_bytes c.in-Rec.named.name) = c.namespace_of.ensures ∙ ap namespace_of c.as_str-name.ensures.value in
+    let inner = rw (inside, c.deref-in-Rec.ensures.value) at c.in_ok-write_fields-in-Rec.ensures.value in
+    let tail = rw c.as_str-name.ensures.value at c.end_record.ensures in
+    on_ok_weaker c.end_record.result (λ rest. spelt_as _ _ _ _ _ is (c.in_ok-others-in-Rec.ensures c.args.enclosing.now _ _ c.end_record.new.out inner.0 rest, inner.1)) tail
+
+pub write_branches-loop-place-preserved : goal.write_branches-loop-place-preserved
+write_branches-loop-place-preserved t c =
+    let l = c.loop-place in
+    let one = spelt_at c.args.depth (nodes_view c.args.nodes.now) c.args.enclosing.now in
+    let spelt = c.in_ok-write_at.ensures.value in
+    record {
+      bound = c.write_at.ensures.bound;
+      ends = λ end rest. l.invariant.ends end (branch_on one c.args.places.now l.place-index l.written c.write_at.new.written c.loop-place-test.true l.out c.write_at.new.out end spelt rest);
+      count = branch_count one c.args.places.now l.place-index l.written c.write_at.new.written c.loop-place-test.true spelt.1 ∙ l.invariant.count;
+    }
+
+pub write_branches-returns-clause-value : goal.write_branches-returns-clause-value
+write_branches-returns-clause-value t c =
+    let l = c.loop-place in
+    let one = spelt_at c.args.depth (nodes_view c.args.nodes.now) c.args.enclosing.now in
+    let over = branches_over one c.args.places.now l.place-index l.written c.loop-place-test.false in
+    on_ok_weaker c.end_array.result (λ e. (
+      array_ended _ _ _ _ c.in_ok-begin_array.ensures (l.invariant.ends _ (subst (λ (s : Spelt Items). WritesItems s.0 l.out c.end_array.new.self) (sym over) (items_ended _ _ e))),
+      ap (λ (s : Spelt Items). s.1) (sym over) ∙ l.invariant.count,
+    )) c.end_array.ensures
+
+pub write_fields-loop-field-preserved : goal.write_fields-loop-field-preserved
+write_fields-loop-field-preserved t c =
+    let l = c.loop-field in
+    let one = spelt_at c.args.depth (nodes_view c.args.nodes.now) c.args.enclosing.now in
+    let spelt = c.in_ok-write_at.ensures.value in
+    let value = c.in_ok-others.ensures _ _ c.write_rest.new.out spelt.0 c.in_ok-write_rest.ensures in
+    record {
+      bound = c.write_at.ensures.bound;
+      ends = λ end rest. l.invariant.ends end (field_on one c.args.fields.now l.field-index l.written c.write_at.new.written c.field-item.result c.loop-field-test.true c.field-item.is l.out c.write_rest.new.out end value spelt.1 rest);
+      count = field_count one c.args.fields.now l.field-index l.written c.write_at.new.written c.field-item.result c.loop-field-test.true c.field-item.is spelt.1 ∙ l.invariant.count;
+    }
+
+pub write_fields-returns-clause-value : goal.write_fields-returns-clause-value
+write_fields-returns-clause-value t c =
+    let l = c.loop-field in
+    let one = spelt_at c.args.depth (nodes_view c.args.nodes.now) c.args.enclosing.now in
+    let over = fields_over one c.args.fields.now l.field-index l.written c.loop-field-test.false in
+    on_ok_weaker c.end_array.result (λ e. (
+      array_ended _ _ _ _ c.in_ok-begin_array.ensures (l.invariant.ends _ (subst (λ (s : Spelt Items). WritesItems s.0 l.out c.end_array.new.self) (sym over) (items_ended _ _ e))),
+      ap (λ (s : Spelt Items). s.1) (sym over) ∙ l.invariant.count,
+    )) c.end_array.ensures

@@ -1,28 +1,32 @@
-use Rattle.std.proofs.Common.{◌≡◌, ◌+◌, ◌*◌, ◌≤◌, length, drop, map}
+use Rattle.std.proofs.Common.{◌≡◌, ◌+◌, ◌*◌, ◌≤◌, List, length, drop, map}
+use Rattle.json.specs.Token.{Token}
+use Rattle.serde_json.specs.Written.{WritesItems}
 use Rattle.avro_nodes.specs.Nodes.{field_view, nodes_view}
 use Rattle.avro_nodes.specs.Identity.{spelt_at, branch_items, field_items}
-use Rattle.avro_nodes.proofs.Lists.{onto}
 use Rattle.avro_nodes.proofs.identity.+spell.Given as goal
 
-abbrev pub decreases-spelt_at : goal.decreases-spelt_at
-decreases-spelt_at l = 2 * l.depth
+abbrev pub decreases-write_at : goal.decreases-write_at
+decreases-write_at l = 2 * l.depth
 
-abbrev pub decreases-branch_items : goal.decreases-branch_items
-decreases-branch_items l = 2 * l.depth + 1
+abbrev pub decreases-write_branches : goal.decreases-write_branches
+decreases-write_branches l = 2 * l.depth + 1
 
-abbrev pub decreases-field_items : goal.decreases-field_items
-decreases-field_items l = 2 * l.depth + 1
+abbrev pub decreases-write_fields : goal.decreases-write_fields
+decreases-write_fields l = 2 * l.depth + 1
 
-abbrev pub invariant-branch_items-loop-place : goal.invariant-branch_items-loop-place
-invariant-branch_items-loop-place l =
+-- whatever ends the array from here ends it from its start, and the count goes on as it does from there
+abbrev pub invariant-write_branches-loop-place : goal.invariant-write_branches-loop-place
+invariant-write_branches-loop-place l =
     record {
       bound : l.written ≤ length l.nodes;
-      value : onto l.values.items (branch_items (spelt_at l.depth (nodes_view l.nodes) l.enclosing) (drop l.place-index l.places) l.written) ≡ branch_items (spelt_at l.depth (nodes_view l.nodes) l.enclosing) l.places l.initial.written;
+      ends : (end : List Token) → WritesItems (branch_items (spelt_at l.depth (nodes_view l.nodes) l.enclosing) (drop l.place-index l.places) l.written).0 l.out end → WritesItems (branch_items (spelt_at l.depth (nodes_view l.nodes) l.enclosing) l.places l.initial.written).0 l.initial.out end;
+      count : (branch_items (spelt_at l.depth (nodes_view l.nodes) l.enclosing) (drop l.place-index l.places) l.written).1 ≡ (branch_items (spelt_at l.depth (nodes_view l.nodes) l.enclosing) l.places l.initial.written).1;
     }
 
-abbrev pub invariant-field_items-loop-field : goal.invariant-field_items-loop-field
-invariant-field_items-loop-field l =
+abbrev pub invariant-write_fields-loop-field : goal.invariant-write_fields-loop-field
+invariant-write_fields-loop-field l =
     record {
       bound : l.written ≤ length l.nodes;
-      value : onto l.values.items (field_items (spelt_at l.depth (nodes_view l.nodes) l.enclosing) (map field_view (drop l.field-index l.fields)) l.written) ≡ field_items (spelt_at l.depth (nodes_view l.nodes) l.enclosing) (map field_view l.fields) l.initial.written;
+      ends : (end : List Token) → WritesItems (field_items (spelt_at l.depth (nodes_view l.nodes) l.enclosing) (map field_view (drop l.field-index l.fields)) l.written).0 l.out end → WritesItems (field_items (spelt_at l.depth (nodes_view l.nodes) l.enclosing) (map field_view l.fields) l.initial.written).0 l.initial.out end;
+      count : (field_items (spelt_at l.depth (nodes_view l.nodes) l.enclosing) (map field_view (drop l.field-index l.fields)) l.written).1 ≡ (field_items (spelt_at l.depth (nodes_view l.nodes) l.enclosing) (map field_view l.fields) l.initial.written).1;
     }

@@ -1,0 +1,148 @@
+//! The attributes of a type or a field, written among the others of its object: all members of an
+//! object stand in byte order of their names, so what is written here takes the others before it
+//! along.
+
+ghost use Rattle.std.specs.Prelude.{◌≡◌, OnOk, Some, option_map, codes, string_bytes};
+ghost use Rattle.serde_json.specs.Data.{string, array};
+ghost use Rattle.serde_json.specs.View.{view, members_view};
+ghost use Rattle.serde_json.specs.Written.{WritesValue};
+ghost use Rattle.avro_nodes.specs.Nodes.{texts_view};
+ghost use Rattle.avro_nodes.specs.Identity.{texts};
+ghost use Rattle.avro_nodes.specs.Objects.{WritesBefore, WritesName, WritesPart, some_texts, order_text, null_namespace};
+
+use crate::compact::Compact;
+use crate::names::has_dot;
+use crate::node::Order;
+use crate::value::{Others, write_member, write_value};
+use serde_json::Value;
+use std::alloc::AllocError;
+use std::cmp::Ordering;
+
+// An attribute among the others that has the key itself is left out.
+fn write_before(out: &mut Compact, others: &mut Others<'_>, key: &str) -> Result<(), AllocError>
+    ensures { OnOk result (WritesBefore key.now (members_view others.old)
+        (members_view others.new) out.old out.new) }
+{
+    for (name, value) in others.clone()? {
+        match key.cmp(name.as_str()) {
+            Ordering::Less => return Ok(()),
+            Ordering::Equal => {
+                others.next();
+                return Ok(());
+            }
+            Ordering::Greater => write_member(out, name.as_str(), value)?,
+        }
+        others.next();
+    }
+    Ok(())
+}
+
+// The name of an attribute, of which the value is to be written next.
+pub(crate) fn write_name(
+    out: &mut Compact,
+    others: &mut Others<'_>,
+    key: &str,
+) -> Result<(), AllocError>
+    ensures { OnOk result (WritesName key.now (members_view others.old)
+        (members_view others.new) out.old out.new) }
+{
+    write_before(out, others, key)?;
+    out.key(key)
+}
+
+pub(crate) fn write_text(
+    out: &mut Compact,
+    others: &mut Others<'_>,
+    key: &str,
+    text: &str,
+) -> Result<(), AllocError>
+    ensures { OnOk result (WritesPart (key.now, Some (string text.now))
+        (members_view others.old) (members_view others.new) out.old out.new) }
+{
+    write_name(out, others, key)?;
+    out.string(text)
+}
+
+pub(crate) fn write_texts(out: &mut Compact, list: &[String]) -> Result<(), AllocError>
+    ensures { OnOk result (WritesValue (array (texts (texts_view list.now))) out.old out.new) }
+{
+    out.begin_array()?;
+    for text in list {
+        out.string(text.as_str())?;
+    }
+    out.end_array()
+}
+
+pub(crate) fn write_aliases(
+    out: &mut Compact,
+    others: &mut Others<'_>,
+    aliases: &[String],
+) -> Result<(), AllocError>
+    ensures { OnOk result (WritesPart (codes "aliases", some_texts (texts_view aliases.now))
+        (members_view others.old) (members_view others.new) out.old out.new) }
+{
+    if aliases.is_empty() {
+        return Ok(());
+    }
+    write_name(out, others, "aliases")?;
+    write_texts(out, aliases)
+}
+
+pub(crate) fn write_default(
+    out: &mut Compact,
+    others: &mut Others<'_>,
+    value: &Option<Value>,
+) -> Result<(), AllocError>
+    ensures { OnOk result (WritesPart (codes "default", option_map view value.now)
+        (members_view others.old) (members_view others.new) out.old out.new) }
+{
+    let Some(value) = value else {
+        return Ok(());
+    };
+    write_name(out, others, "default")?;
+    write_value(out, value)
+}
+
+pub(crate) fn write_fallback(
+    out: &mut Compact,
+    others: &mut Others<'_>,
+    fallback: &Option<String>,
+) -> Result<(), AllocError>
+    ensures { OnOk result (WritesPart (codes "default", option_map string (option_map string_bytes fallback.now))
+        (members_view others.old) (members_view others.new) out.old out.new) }
+{
+    match fallback {
+        None => Ok(()),
+        Some(symbol) => write_text(out, others, "default", symbol.as_str()),
+    }
+}
+
+pub(crate) fn write_order(
+    out: &mut Compact,
+    others: &mut Others<'_>,
+    order: Order,
+) -> Result<(), AllocError>
+    ensures { OnOk result (WritesPart (codes "order", order_text order)
+        (members_view others.old) (members_view others.new) out.old out.new) }
+{
+    match order {
+        Order::Ascending => Ok(()),
+        Order::Descending => write_text(out, others, "order", "descending"),
+        Order::Ignore => write_text(out, others, "order", "ignore"),
+    }
+}
+
+pub(crate) fn write_namespace(
+    out: &mut Compact,
+    others: &mut Others<'_>,
+    enclosing: &str,
+    name: &str,
+) -> Result<(), AllocError>
+    ensures { OnOk result (WritesPart (codes "namespace", null_namespace enclosing.now name.now)
+        (members_view others.old) (members_view others.new) out.old out.new) }
+{
+    if enclosing.is_empty() || has_dot(name) {
+        return Ok(());
+    }
+    write_text(out, others, "namespace", "")
+}

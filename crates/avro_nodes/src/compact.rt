@@ -1,0 +1,120 @@
+//! Compact JSON, written a token at a time.
+
+ghost use Rattle.std.specs.Prelude.{◌≡◌, ◌∷◌, ◌++◌, [], OnOk, IfOk, string_bytes, decimal, Some, ℕ, List};
+ghost use Rattle.json.specs.Token.{begin_object, end_object, begin_array, end_array, key, string, number, boolean, null};
+ghost use Rattle.json.specs.Print.{print};
+ghost use Rattle.json.specs.Lex.{tokens};
+ghost use Rattle.serde_json.specs.Read.{number_of};
+ghost use Rattle.serde_json.specs.Written.{number_text, unless_float};
+ghost use Rattle.serde_json.specs.View.{number_view};
+
+use json::Writer;
+use serde_json::Number;
+use std::alloc::{AllocError, Global};
+use std::marker::Model;
+
+// The text so far. Clauses see its tokens.
+#[derive(Drop)]
+pub(crate) struct Compact {
+    out: Writer,
+}
+
+impl Model for Compact {
+    ghost use Rattle.std.specs.Prelude.{◌≡◌, List, []};
+    ghost use Rattle.json.specs.Token.{Token, tokens_code};
+
+    ghost Value = { List Token };
+
+    ghost coded = { tokens_code };
+
+    ghost view = { λ c. c.out.tokens };
+
+    ghost invariant = { λ c. c.out.before ≡ [] };
+}
+
+impl Compact {
+    pub(crate) fn new(alloc: Global) -> Result<Compact, AllocError>
+        ensures { IfOk result (λ c. c ≡ []) }
+    {
+        Ok(Compact {
+            out: Writer::new(Vec::with_capacity(alloc, 128)?),
+        })
+    }
+
+    pub(crate) fn into_string(self) -> String
+        ensures text { string_bytes result ≡ print self }
+        ensures reads_back { tokens (print self) ≡ self }
+    {
+        let Compact { out } = self;
+        String::from_utf8(out.into_inner()).unwrap()
+    }
+
+    pub(crate) fn begin_object(&mut self) -> Result<(), AllocError>
+        ensures { OnOk result (self.new ≡ self.old ++ begin_object ∷ []) }
+    {
+        self.out.begin_object()
+    }
+
+    pub(crate) fn end_object(&mut self) -> Result<(), AllocError>
+        ensures { OnOk result (self.new ≡ self.old ++ end_object ∷ []) }
+    {
+        self.out.end_object()
+    }
+
+    pub(crate) fn begin_array(&mut self) -> Result<(), AllocError>
+        ensures { OnOk result (self.new ≡ self.old ++ begin_array ∷ []) }
+    {
+        self.out.begin_array()
+    }
+
+    pub(crate) fn end_array(&mut self) -> Result<(), AllocError>
+        ensures { OnOk result (self.new ≡ self.old ++ end_array ∷ []) }
+    {
+        self.out.end_array()
+    }
+
+    pub(crate) fn key(&mut self, name: &str) -> Result<(), AllocError>
+        ensures { OnOk result (self.new ≡ self.old ++ key name.now ∷ []) }
+    {
+        self.out.key(name)
+    }
+
+    pub(crate) fn string(&mut self, text: &str) -> Result<(), AllocError>
+        ensures { OnOk result (self.new ≡ self.old ++ string text.now ∷ []) }
+    {
+        self.out.string(text)
+    }
+
+    pub(crate) fn boolean(&mut self, b: bool) -> Result<(), AllocError>
+        ensures { OnOk result (self.new ≡ self.old ++ boolean b ∷ []) }
+    {
+        self.out.boolean(b)
+    }
+
+    pub(crate) fn null(&mut self) -> Result<(), AllocError>
+        ensures { OnOk result (self.new ≡ self.old ++ null ∷ []) }
+    {
+        self.out.null()
+    }
+
+    pub(crate) fn unsigned(&mut self, n: u64) -> Result<(), AllocError>
+        ensures { OnOk result (self.new ≡ self.old ++ number (decimal n) ∷ []) }
+    {
+        self.out.u64(n)
+    }
+
+    pub(crate) fn number(&mut self, n: &Number) -> Result<(), AllocError>
+        ensures { OnOk result ((s : List ℕ)
+            × (self.new ≡ self.old ++ number s ∷ [])
+            × (number_of s ≡ Some (number_view n.now))
+            × (unless_float s ≡ number_text (number_view n.now))) }
+    {
+        if let Some(whole) = n.as_u64() {
+            return self.out.u64(whole);
+        }
+        if let Some(below) = n.as_i64() {
+            return self.out.i64(below);
+        }
+        self.out.float_with_plus(n.as_f64().unwrap())
+    }
+}
