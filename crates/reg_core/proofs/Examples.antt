@@ -1,5 +1,6 @@
 -- The definitions, computed on a few examples.
-use Rattle.std.proofs.Common.{◌≡◌, ◌∷◌, [], codes, length, refl}
+use Rattle.std.proofs.Common.{◌≡◌, ◌&&◌, ◌∷◌, [], Bool, true, false, codes, length, refl}
+use Rattle.std.specs.Str.{chars, is_utf8}
 use Rattle.std.specs.Prelude.{None, Some}
 use Rattle.std.specs.Fmt.{digits}
 use Rattle.serde_json.proofs.OnLiterals.{serde_json_on_literals}
@@ -12,6 +13,7 @@ use Rattle.reg_core.specs.Replies.{answer, fault}
 use Rattle.reg_core.specs.Registry.{new_registry}
 use Rattle.reg_core.specs.Machine.{step, run_commands}
 use Rattle.reg_core.specs.CommandTexts.{command_text}
+use Rattle.reg_core.specs.Subjects.{is_subject}
 
 none_is_a_level : level_of (codes "NONE") ≡ Some Off
 none_is_a_level = refl
@@ -49,3 +51,19 @@ last_level_stays = refl
 set_global_text : command_text (SetGlobal (codes "FULL")) ≡ codes "[\"set-global\",\"FULL\"]"
 unfolding command_text serde_json_on_literals
 set_global_text = refl
+
+last_is_false : (b : Bool) → b && false ≡ false
+last_is_false true = refl
+last_is_false false = refl
+
+control_is_in_no_subject : is_subject (97 ∷ 31 ∷ []) ≡ false
+unfolding is_subject chars
+control_is_in_no_subject = last_is_false _
+
+delete_is_in_no_subject : is_subject (97 ∷ 127 ∷ []) ≡ false
+unfolding is_subject chars
+delete_is_in_no_subject = last_is_false _
+
+no_text_is_no_subject : is_subject [] ≡ false
+unfolding is_subject is_utf8 chars
+no_text_is_no_subject = refl

@@ -3,6 +3,7 @@ pub mod Codes
 pub mod Replies
 pub mod Contents
 pub mod Keys
+pub mod Subjects
 pub mod Registry
 pub mod Machine
 pub mod CommandTexts

@@ -10,6 +10,7 @@ mod error;
 mod key;
 mod level;
 mod reply;
+mod subject;
 #[cfg(test)]
 mod tests;
 mod text;
@@ -22,4 +23,5 @@ pub use error::OutOfMemory;
 pub use key::Key;
 pub use level::Level;
 pub use reply::Reply;
+pub use subject::Subject;
 pub use text::Text;

@@ -1,6 +1,8 @@
 //! Expected values are those of the registry's profile, written out.
 
-use crate::{Change, Code, Command, Decision, Key, Level, Reply, Text, View, decide, print_of};
+use crate::{
+    Change, Code, Command, Decision, Key, Level, Reply, Subject, Text, View, decide, print_of,
+};
 use std::test::Fail;
 
 const SPELLINGS: [(&str, Level); 7] = [
@@ -259,6 +261,46 @@ fn texts(rt: HostRuntime) -> Result<(), Fail> {
     assert_eq!(rt; text.as_str(), "FULL");
     let string = text.into_string();
     assert_eq!(rt; string.as_str(), "FULL");
+    Ok(())
+}
+
+#[test]
+fn subjects(rt: HostRuntime) -> Result<(), Fail> {
+    let letters = "s".repeat(rt.alloc(), 255)?;
+    let code_points = "ä".repeat(rt.alloc(), 127)?;
+    for text in [
+        letters.as_str(),
+        code_points.as_str(),
+        "a",
+        "a/b",
+        "ä",
+        " ",
+        "~",
+        "\u{80}",
+        "\u{10ffff}",
+    ] {
+        let subject = Subject::new(String::from_str(rt.alloc(), text)?).ok_or("a subject")?;
+        assert_eq!(rt; subject.as_str(), text);
+        let copy = subject.try_clone()?;
+        assert_eq!(rt; copy.as_str(), text);
+    }
+    let too_many_letters = "s".repeat(rt.alloc(), 256)?;
+    let too_many_bytes = "ä".repeat(rt.alloc(), 128)?;
+    for text in [
+        too_many_letters.as_str(),
+        too_many_bytes.as_str(),
+        "",
+        "\u{0}",
+        "\u{1f}",
+        "\u{7f}",
+        "a\n",
+        "a\u{7f}b",
+    ] {
+        assert!(rt;
+            Subject::new(String::from_str(rt.alloc(), text)?).is_none(),
+            "{text}"
+        );
+    }
     Ok(())
 }
 
