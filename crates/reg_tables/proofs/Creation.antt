@@ -1,0 +1,77 @@
+-- What the making of the tables leaves.
+use Rattle.std.proofs.Common.{◌≡◌, ℕ, List, [], ◌∷◌, ◌++◌, None, false, Ok, sym, ap, subst, ◌∙◌}
+use Rattle.std.specs.List.{AllByRecursion}
+use Rattle.std.specs.Ordering.{nat_cmp}
+use Rattle.std.specs.FinMap.{empty, get}
+use Rattle.sqlite.specs.Tree.{Trees}
+use Rattle.sqlite.specs.Table.{Table}
+use Rattle.sqlite.specs.Schema.{Schema}
+use Rattle.sqlite.specs.Change.{created, indexed, next_tree, KeepsRows}
+use Rattle.sqlite.specs.Command.TheVariants.{CreateTable, CreateIndex}
+use Rattle.sqlite.specs.Does.{Tally, Does, lacks_sequence}
+use Rattle.sqlite.specs.Effect.{Database}
+use Rattle.sqlite.specs.State.{State, Executes, Writes, mode_of}
+use Rattle.sqlite.proofs.Callers.{runs_as}
+use Rattle.reg_tables.specs.Layout.{begun, layout, versions, versions_of_id, IsBare}
+use Rattle.reg_tables.specs.TableMaps.{ShowsMap}
+use Rattle.reg_tables.specs.Contents.{text_cmp, version_cmp, text_form, version_form, pair_form, kept_form, Holds}
+use Rattle.reg_tables.specs.Changes.{no_contents}
+use Rattle.reg_tables.proofs.RowLemmas.{shows_empty}
+use Rattle.reg_tables.proofs.Statements.{MakesTable, make_versions_of_id, makes_versions_of_id}
+use Rattle.reg_tables.proofs.Writes.{went, same_value}
+
+still_empty : (tables : List Table) (old new : Trees) → KeepsRows tables old new → AllByRecursion (λ t. old t.tree ≡ []) tables → AllByRecursion (λ t. new t.tree ≡ []) tables
+still_empty [] old new same none = tt
+still_empty (t ∷ tables) old new same none = (same.0 ∙ none.0, still_empty tables old new same.1 none.1)
+
+and_one : {X : Type 0} (P : X → Type 0) (xs : List X) (x : X) → AllByRecursion P xs → P x → AllByRecursion P (xs ++ x ∷ [])
+and_one P [] x all h = (h, tt)
+and_one P (y ∷ xs) x all h = (all.0, and_one P xs x all.1 h)
+
+-- one more table is there, with no row
+pub makes_bare : (sql : List ℕ) (before : Schema) (table : Table) (after : Schema) → MakesTable sql before table after → (old new : State) (count : ℕ) → IsBare before old.now → Executes sql [] old new (Ok count) → IsBare after new.now
+makes_bare sql before table after m old new count bare h =
+    let w = subst (λ t. Writes old new None CreateTable t [] count) m.text (runs_as sql [] old new before bare.declared CreateTable m.command.is m.command.plain count h) in
+    let all = went w.changed in
+    let first = went all.1 in
+    let made = first.1 in
+    let both : Ok made.table ≡ Ok table = sym made.defined ∙ m.defined in
+    let same : made.table ≡ table = cc in
+    let schema : first.0.schema ≡ created before table = made.is ∙ ap (λ s. created s made.table) bare.declared ∙ ap (created before) same in
+    let plain : lacks_sequence first.0.schema ≡ false = ap lacks_sequence (schema ∙ m.is) ∙ m.whole in
+    let now : new.now ≡ first.0 = ap (λ (p : Tally × Database). p.1) (same_value all.2) ∙ same_value (rw plain at first.2) in
+    let kept = subst (λ (s : Schema). KeepsRows s.tables old.now.trees first.0.trees) bare.declared made.others in
+    let last = subst (λ s. first.0.trees (next_tree s) ≡ []) bare.declared made.empty in
+    let empty : AllByRecursion (λ t. first.0.trees t.tree ≡ []) (created before table).tables =
+    and_one (λ (t : Table). first.0.trees t.tree ≡ []) before.tables (record table { tree = next_tree before }) (still_empty before.tables old.now.trees first.0.trees kept bare.empty) last in
+    record {
+      declared = ap (λ (d : Database). d.schema) now ∙ schema ∙ m.is;
+      empty = subst (λ (d : Database). AllByRecursion (λ t. d.trees t.tree ≡ []) after.tables) (sym now) (subst (λ (s : Schema). AllByRecursion (λ t. first.0.trees t.tree ≡ []) s.tables) m.is empty);
+    }
+
+-- the index is there too
+pub indexes_bare : (old new : State) (count : ℕ) → IsBare (begun 5) old.now → Executes make_versions_of_id [] old new (Ok count) → IsBare layout new.now
+indexes_bare old new count bare h =
+    let m = makes_versions_of_id in
+    let w = subst (λ t. Writes old new None (CreateIndex 1) t [] count) m.text (runs_as make_versions_of_id [] old new (begun 5) bare.declared (CreateIndex 1) m.command.is m.command.plain count h) in
+    let done = subst (λ s. Does old.step_limit (mode_of old) [] (record old.now { schema = s }) make_versions_of_id None (CreateIndex 1) (Ok (w.tally, new.now))) bare.declared w.changed in
+    let all = went done in
+    let made = all.1 in
+    let both : Ok made.index ≡ Ok (record versions_of_id { tree = 0 }) = sym made.defined ∙ m.defined in
+    let same : made.index ≡ record versions_of_id { tree = 0 } = cc in
+    let now : new.now ≡ all.0 = ap (λ (p : Tally × Database). p.1) (same_value all.2) in
+    record {
+      declared = ap (λ (d : Database). d.schema) now ∙ made.is ∙ ap (indexed (begun 5) versions) same ∙ m.is;
+      empty = subst (λ (d : Database). AllByRecursion (λ t. d.trees t.tree ≡ []) layout.tables) (sym now) (still_empty layout.tables old.now.trees all.0.trees made.rows bare.empty);
+    }
+
+-- tables with no row hold nothing
+pub holds_nothing : (db : Database) → IsBare layout db → Holds db no_contents
+holds_nothing db bare = record {
+  declared = bare.declared;
+  texts = subst (λ rows. ShowsMap text_form rows (get {R = nat_cmp} empty)) (sym bare.empty.0) (shows_empty nat_cmp text_form);
+  versions = subst (λ rows. ShowsMap version_form rows (get {R = version_cmp} empty)) (sym bare.empty.1.0) (shows_empty version_cmp version_form);
+  levels = subst (λ rows. ShowsMap pair_form rows (get {R = text_cmp} empty)) (sym bare.empty.1.1.0) (shows_empty text_cmp pair_form);
+  kept = subst (λ rows. ShowsMap kept_form rows (get {R = text_cmp} empty)) (sym bare.empty.1.1.1.0) (shows_empty text_cmp kept_form);
+  meta = subst (λ rows. ShowsMap pair_form rows (get {R = text_cmp} empty)) (sym bare.empty.1.1.1.1.0) (shows_empty text_cmp pair_form);
+}

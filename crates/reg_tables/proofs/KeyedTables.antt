@@ -1,0 +1,186 @@
+-- What the statements of one table make of the map that it shows, by the key of its rows.
+use Rattle.std.proofs.Common.{◌≡◌, ◌≢◌, inl, ◌&&◌, ◌==◌, ℕ, ℤ, length, List, [], ◌∷◌, ◌/◌, Option, Some, None, Bool, true, false, cond, Ok, MatchOption, slice_get, refl, sym, ap, subst, ◌∙◌}
+use Rattle.std.specs.List.{AllByRecursion}
+use Rattle.std.specs.Ordering.{is_eq}
+use Rattle.std.specs.FinMap.{FinMap, get, insert, remove, slice_cmp-IsAntisymmetric, nat_cmp-IsAntisymmetric}
+use Rattle.std.proofs.Common.{Ordering, nat_le, ◌^◌}
+use Rattle.std.proofs.lemmas.Cmp.{nat_list_cmp_total}
+use Rattle.std.proofs.lemmas.Bool.{and_parts, not-true}
+use Rattle.sqlite.specs.declared.types.Value.{Value}
+use Rattle.sqlite.specs.declared.types.Value.TheVariants.{Null, Int, Text}
+use Rattle.sqlite.specs.Order.{Row, column}
+use Rattle.sqlite.specs.Tree.{Trees, put_row, rowid}
+use Rattle.sqlite.specs.View.{is_int}
+use Rattle.sqlite.specs.Kind.TheVariants.{Integer}
+use Rattle.sqlite.specs.Ops.{unary}
+use Rattle.sqlite.specs.Cast.{cast}
+use Rattle.sqlite.specs.Edit.{edit_of, is_taken, put_all, are_fresh}
+use Rattle.sqlite.specs.Rowids.TheVariants.{Chosen}
+use Rattle.sqlite.specs.Term.{Term, col, eval_all}
+use Rattle.sqlite.specs.Table.{Table}
+use Rattle.sqlite.specs.Query.{IsAnswer}
+use Rattle.sqlite.specs.Program.{overlay}
+use Rattle.sqlite.specs.Command.TheVariants.{Insert, Delete, Select}
+use Rattle.sqlite.specs.Source.TheVariants.{Values}
+use Rattle.sqlite.specs.Effect.{Database, value_rows}
+use Rattle.sqlite.specs.Rows.{stamped}
+use Rattle.sqlite.specs.State.{State, Executes, Shown}
+use Rattle.sqlite.specs.Listing.{understood}
+use Rattle.sqlite.proofs.Callers.{statement_of, runs_as, reads_as}
+use Rattle.sqlite_value.proofs.OrderLemmas.{value_cmp-Text}
+use Rattle.sqlite_sql.specs.Ops.{binary, is_true, from_truth}
+use Rattle.sqlite_schema.specs.declared.schema.Action.TheVariants.{NoAction}
+use Rattle.sqlite_schema.specs.declared.schema.Keys.TheVariants.{Enforced}
+use Rattle.sqlite_schema.specs.declared.program.Program.{Program}
+use Rattle.sqlite_rules.specs.Action.{works}
+use Rattle.sqlite_rules.specs.Lists.{Has}
+use Rattle.reg_tables.specs.Layout.{layout}
+use Rattle.reg_tables.specs.TableMaps.{Form, ShowsMap}
+use Rattle.reg_tables.specs.Contents.{text_cmp, text_cells}
+use Rattle.reg_tables.proofs.Queries.{plain_query, passes, answer_has, has_answer}
+use Rattle.reg_tables.proofs.MapLemmas.{IsKeyOrder, same_key, tied_key}
+use Rattle.reg_tables.proofs.RowLemmas.{FindsRowids, shows_inserted, shows_removed}
+use Rattle.reg_tables.proofs.Statements.{IsCommand, IsQuery, by_key}
+use Rattle.reg_tables.proofs.Writes.{inserted, deleted}
+
+-- ---- values that a column keeps as they are
+
+either : (b : Bool) (x : Value) → cond b x x ≡ x
+either true x = refl
+either false x = refl
+
+pub cast-Null : cast Integer Null ≡ Null
+unfolding unary
+cast-Null = either _ Null
+
+pub cast-Int : (n : ℤ) → cast Integer (Int n) ≡ Int n
+unfolding unary
+cast-Int n = either _ (Int n)
+
+-- ---- text keys
+
+pub text_order : IsKeyOrder text_cmp
+text_order = record { total = nat_list_cmp_total; antisymmetric = slice_cmp-IsAntisymmetric nat_cmp-IsAntisymmetric }
+
+pub distinct_texts : (a b : List ℕ) → text_cells a ≡ text_cells b → a ≡ b
+distinct_texts a b h = cc
+
+-- a row passes by its key
+pub by_key_test : (row : Row) (k q : List ℕ) → column row 1 ∷ [] ≡ text_cells q → passes by_key (Text k ∷ []) row ≡ is_eq (text_cmp q k)
+unfolding binary
+by_key_test row k q is = let its : column row 1 ≡ Text q = cc in rw (its, value_cmp-Text q k) (truth (is_eq (text_cmp q k)))
+  where
+    truth : (b : Bool) → (is_true (from_truth (Some b)) && true) ≡ b
+    truth true = refl
+    truth false = refl
+
+-- ---- one table
+
+-- no foreign key of the layout acts
+pub idle : (tree : ℕ) (olds news : List Row) → works layout Enforced 0 tree olds news ≡ []
+idle tree olds news = rw (no_action (length news == 0))
+  where
+    no_action : (b : Bool) → cond b NoAction NoAction ≡ NoAction
+    no_action true = refl
+    no_action false = refl
+
+-- a query with no WITH reads the tables as they are
+with_nothing : (db : Trees) (tree : ℕ) → overlay db [] tree ≡ db tree
+with_nothing db tree = rw (no_table (nat_le (2 ^ 31) tree))
+  where
+    no_table : (b : Bool) → ◌≡◌ {A = Option (List Row)} (cond b None None) None
+    no_table true = refl
+    no_table false = refl
+
+-- the tables but one have the rows that they had
+abbrev pub KeepsOthers : ℕ → Database → Database → Type 0
+KeepsOthers tree old new = AllByRecursion (λ t. t.tree ≢ tree → new.trees t.tree ≡ old.trees t.tree) layout.tables
+
+-- the table shows another map, and that is all
+pub record TurnsTable {K V : Type 0} (form : Form K V) (tree : ℕ) (old new : Database) (value_at : K → Option V) : Type 0 where
+  pub declared : new.schema ≡ layout
+  pub rows : ShowsMap form (new.trees tree) value_at
+  pub others : KeepsOthers tree old new
+
+-- what a row that is put in has
+pub record IsRowOf {K V : Type 0} (form : Form K V) (row : Row) (key : K) (value : V) : Type 0 where
+  pub has_id : is_int (rowid row) ≡ true
+  pub has_key : form.key_of row ≡ form.key_cells key
+  pub has_value : form.value_of row ≡ form.value_cells value
+
+module _ {K V : Type 0} (form : Form K V) (R : K → K → Ordering) (order : IsKeyOrder R) (distinct : (a b : K) → form.key_cells a ≡ form.key_cells b → a ≡ b) (at : ℕ) (table : Table)
+    (there : slice_get layout.tables at ≡ Some table) (old new : State) (declared : old.now.schema ≡ layout) (m : FinMap R V) (shows : ShowsMap form (old.now.trees table.tree) (get m)) (k : K) (sql : List ℕ) (params : Row) (count : ℕ) where
+  pub inserts : (terms : List Term) (width : ℕ) (new_row : Row) (v : V) → table.is_counted ≡ false → IsCommand layout sql (Insert at (Values terms width))
+      → (edit_of old.now.trees table [] Chosen 0 (value_rows (stamped table params) width (length terms / width) terms)).news ≡ new_row ∷ [] → IsRowOf form new_row k v → get m k ≡ None
+      → Executes sql params old new (Ok count) → TurnsTable form table.tree old.now new.now (get (insert m k v))
+  inserts terms width new_row v uncounted it news is free h =
+      let db = old.now.trees in
+      let w = runs_as sql params old new layout declared (Insert at (Values terms width)) it.is it.plain count h in
+      let step = inserted layout idle at table there old new declared (statement_of sql (understood layout sql)) params count terms width uncounted w in
+      let rows : new.now.trees table.tree ≡ put_row new_row (db table.tree) = step.applies.rows ∙ ap (put_all (db table.tree)) news in
+      let fresh : is_taken (db table.tree) new_row ≡ false = not-true _ (and_parts _ _ (ap (are_fresh (db table.tree)) (sym news) ∙ step.applies.fresh)).0 in
+      record {
+        declared = step.same;
+        rows = subst (λ r. ShowsMap form r (get (insert m k v))) (sym rows) (shows_inserted form R order distinct (db table.tree) m k shows v new_row free is.has_key is.has_value is.has_id fresh);
+        others = step.applies.tables;
+      }
+
+  -- the query of the DELETE tests the key
+  pub removes : (tests : List Term) → IsCommand layout sql (Delete at (record { lets = []; body = plain_query table.tree tests (col 1 0 ∷ []) }))
+      → ((row : Row) (q : K) → form.key_of row ≡ form.key_cells q → passes tests params row ≡ is_eq (R q k)) → Executes sql params old new (Ok count)
+      → TurnsTable form table.tree old.now new.now (get (remove m k))
+  removes tests it test h =
+      let db = old.now.trees in
+      let q : Program = record { lets = []; body = plain_query table.tree tests (col 1 0 ∷ []) } in
+      let w = runs_as sql params old new layout declared (Delete at q) it.is it.plain count h in
+      let cut = deleted layout idle at table there old new declared (statement_of sql (understood layout sql)) params count q w in
+      let found = cut.0 in
+      let answer : IsAnswer q.body (overlay db []) params found = cut.1.answer Null in
+      let step = cut.2 in
+      let finds : FindsRowids (passes tests params) (db table.tree) found = record {
+        sound = λ x there. let r = answer_has tests params table.tree (col 1 0 ∷ []) (overlay db []) found answer x there in (r.0, subst (λ l. Has l r.0) (with_nothing db table.tree) r.1, r.2, r.3);
+        complete = λ row there. has_answer tests params table.tree (col 1 0 ∷ []) (overlay db []) found answer row (subst (λ l. Has l row) (sym (with_nothing db table.tree)) there);
+      } in
+      record {
+        declared = step.same;
+        rows = subst (λ r. ShowsMap form r (get (remove m k))) (sym step.applies.rows) (shows_removed form R order distinct (db table.tree) m k shows (passes tests params) found finds test);
+        others = step.applies.tables;
+      }
+
+-- ---- a look-up by the key
+
+-- the rows that a look-up shows are the value of the key, if it has one
+pub record FindsValue {K V : Type 0} (form : Form K V) (value : Option V) (found : List Row) : Type 0 where
+  pub sound : (x : Row) → Has found x → (v : V) × (value ≡ Some v) × (x ≡ form.value_cells v)
+  pub complete : (v : V) → value ≡ Some v → Has found (form.value_cells v)
+
+pub finds : {K V : Type 0} (form : Form K V) (R : K → K → Ordering) → IsKeyOrder R → (tree : ℕ) (old new : State) (value_at : K → Option V) (k : K) (sql : List ℕ) (params : Row) (tests shown : List Term) (names : List (List ℕ)) (found : List Row)
+    → old.now.schema ≡ layout → ShowsMap form (old.now.trees tree) value_at → IsQuery sql tree tests shown names → ((row : Row) (q : K) → form.key_of row ≡ form.key_cells q → passes tests params row ≡ is_eq (R q k))
+    → ((row : Row) → eval_all shown (params ∷ row ∷ []) ≡ form.value_of row) → Shown sql params old new found → FindsValue form (value_at k) found
+finds form R order tree old new value_at k sql params tests shown names found declared shows it test whole h =
+    let db = old.now.trees in
+    let q : Program = record { lets = []; body = plain_query tree tests shown } in
+    let read = reads_as sql params old new layout declared (Select q names) it.command.is it.command.plain it.unlisted found h in
+    let answer : IsAnswer (plain_query tree tests shown) (overlay db []) params found = read.answer Null in
+    record {
+      sound = λ x there.
+          let r = answer_has tests params tree shown (overlay db []) found answer x there in
+          let entry = shows.sound r.0 (subst (λ l. Has l r.0) (with_nothing db tree) r.1) in
+          let same = same_key R order entry.0 k (sym (test r.0 entry.0 entry.3.0) ∙ r.2) in
+          (entry.1, ap value_at (sym same) ∙ entry.2, r.3 ∙ whole r.0 ∙ entry.3.1);
+      complete = λ v is.
+          let r = shows.complete k v is in
+          subst (Has found) (whole r.0 ∙ r.2.1) (has_answer tests params tree shown (overlay db []) found answer r.0 (subst (λ l. Has l r.0) (sym (with_nothing db tree)) r.1) (test r.0 k r.2.0 ∙ tied_key R order k k refl));
+    }
+
+pub none_of : {X : Type 0} (o : Option X) → ((x : X) → o ≡ Some x → ⊥) → o ≡ None
+none_of None f = refl
+none_of (Some x) f = absurd (f x refl)
+
+-- by the first of the rows
+pub first_found : {K V : Type 0} (form : Form K V) (value : Option V) (found : List Row) → FindsValue form value found → (o : Option Row) → o ≡ slice_get found 0
+    → MatchOption o (value ≡ None) (λ row. (v : V) × (value ≡ Some v) × (row ≡ form.value_cells v))
+first_found form value [] f None is = none_of value (λ v there. f.complete v there)
+first_found form value (r ∷ found) f None is = absurd (cc)
+first_found form value [] f (Some row) is = absurd (cc)
+first_found form value (r ∷ found) f (Some row) is = let same : row ≡ r = cc in f.sound row (inl same)

@@ -1,0 +1,11 @@
+pub mod Members
+pub mod Queries
+pub mod MapLemmas
+pub mod RowLemmas
+pub mod Writes
+pub mod Statements
+pub mod KeyedTables
+pub mod Creation
+pub mod TableWrites
+pub mod TableReads
+pub mod Transactions

@@ -1,0 +1,84 @@
+-- What a query on one table answers: the rows that pass, each shown.
+use Rattle.std.proofs.Common.{◌≡◌, inl, inr, ℕ, pos, negsuc, List, [], ◌∷◌, ◌++◌, map, flat_map, Bool, true, false, cond, None, refl, sym, ap, subst, ◌∙◌}
+use Rattle.std.specs.List.{list_all}
+use Rattle.std.specs.List.Sorted.{IsPermutation}
+use Rattle.std.proofs.lemmas.List.Sorted.{IsPermutation-sym, IsPermutation-map}
+use Rattle.sqlite.specs.declared.types.Value.TheVariants.{Int}
+use Rattle.sqlite.specs.Order.{Row}
+use Rattle.sqlite.specs.Tree.{Trees}
+use Rattle.sqlite.specs.Term.{Term, Env, lit, eval_all, holds}
+use Rattle.sqlite.specs.Query.{Query, Output, inner, end, IsAnswer, output}
+use Rattle.sqlite_rules.specs.Lists.{Has}
+use Rattle.reg_tables.proofs.Members.{has_mapped, maps_had, has_permuted}
+
+-- SELECT of terms from one table, with no ORDER BY
+abbrev pub plain_query : ℕ → List Term → List Term → Query
+plain_query tree tests shown = record {
+  from = inner tree end;
+  filter = tests;
+  group = None;
+  project = shown;
+  distinct = false;
+  collations = [];
+  order = [];
+  limit = lit (Int (negsuc 0));
+  offset = lit (Int (pos 0));
+}
+
+module _ (tests : List Term) (params : Row) where
+  abbrev pub passes : Row → Bool
+  passes row = list_all (holds (params ∷ row ∷ [])) tests
+
+  abbrev passing : List Row → List Env
+  passing rows = flat_map (λ row. cond (passes row) ((params ∷ row ∷ []) ∷ []) []) rows
+
+  passing_has : (rows : List Row) (e : Env) → Has (passing rows) e → (row : Row) × Has rows row × (passes row ≡ true) × (e ≡ params ∷ row ∷ [])
+  passing_has [] e h = absurd h
+  passing_has (r ∷ rows) e h = go (passes r) refl h (passing_has rows e)
+    where
+      go : (b : Bool) → passes r ≡ b → Has (cond b ((params ∷ r ∷ []) ∷ []) [] ++ passing rows) e → (Has (passing rows) e → (s : Row) × Has rows s × (passes s ≡ true) × (e ≡ params ∷ s ∷ []))
+          → (s : Row) × Has (r ∷ rows) s × (passes s ≡ true) × (e ≡ params ∷ s ∷ [])
+      go true is (inl same) later = (r, inl refl, is, same)
+      go true is (inr more) later = let found = later more in (found.0, inr found.1, found.2, found.3)
+      go false is more later = let found = later more in (found.0, inr found.1, found.2, found.3)
+
+  has_passing : (rows : List Row) (row : Row) → Has rows row → passes row ≡ true → Has (passing rows) (params ∷ row ∷ [])
+  has_passing [] r h is = absurd h
+  has_passing (s ∷ rows) r (inl same) is = rw (← same, is) (inl refl)
+  has_passing (s ∷ rows) r (inr later) is =
+      elim (passes s) as (λ b. Has (cond b ((params ∷ s ∷ []) ∷ []) [] ++ passing rows) (params ∷ r ∷ [])) [ true ↦ inr (has_passing rows r later is) | false ↦ has_passing rows r later is ]
+
+  module _ (tree : ℕ) (shown : List Term) (db : Trees) (found : List Row) (a : IsAnswer (plain_query tree tests shown) db params found) where
+    abbrev outputs : List Output
+    outputs = map (output (plain_query tree tests shown)) (passing (db tree))
+
+    staged : a.kept ≡ outputs
+    staged = a.distinct ∙ ap (map (output (plain_query tree tests shown))) a.grouped
+
+    pub answer_has : (x : Row) → Has found x → (row : Row) × Has (db tree) row × (passes row ≡ true) × (x ≡ eval_all shown (params ∷ row ∷ []))
+    answer_has x h =
+        let o = has_mapped (λ (o : Output). o.1) a.ordered x (subst (λ l. Has l x) a.shown h) in
+        let back : IsPermutation a.ordered outputs = IsPermutation-sym outputs a.ordered (subst (λ k. IsPermutation k a.ordered) staged a.same) in
+        let e = has_mapped (output (plain_query tree tests shown)) (passing (db tree)) o.0 (has_permuted a.ordered outputs o.0 back o.1) in
+        let r = passing_has (db tree) e.0 e.1 in
+        (r.0, r.1, r.2, o.2 ∙ ap (λ (p : Output). p.1) e.2 ∙ ap (eval_all shown) r.3)
+
+    pub has_answer : (row : Row) → Has (db tree) row → passes row ≡ true → Has found (eval_all shown (params ∷ row ∷ []))
+    has_answer r h is =
+        let e = maps_had (output (plain_query tree tests shown)) (passing (db tree)) (params ∷ r ∷ []) (has_passing (db tree) r h is) in
+        let o = has_permuted outputs a.ordered _ (subst (λ k. IsPermutation k a.ordered) staged a.same) e in
+        subst (λ l. Has l (eval_all shown (params ∷ r ∷ []))) (sym a.shown) (maps_had (λ (p : Output). p.1) a.ordered _ o)
+
+-- with no test, the answer has each row, shown
+module _ (params : Row) (tree : ℕ) (shown : List Term) (db : Trees) (found : List Row) (a : IsAnswer (plain_query tree [] shown) db params found) where
+  outputs_are : (rows : List Row) → map (λ (o : Output). o.1) (map (output (plain_query tree [] shown)) (passing [] params rows)) ≡ map (λ row. eval_all shown (params ∷ row ∷ [])) rows
+  outputs_are [] = refl
+  outputs_are (r ∷ rows) = ap (λ l. eval_all shown (params ∷ r ∷ []) ∷ l) (outputs_are rows)
+
+  pub answer_all : IsPermutation (map (λ row. eval_all shown (params ∷ row ∷ [])) (db tree)) found
+  answer_all =
+      let q = plain_query tree [] shown in
+      let kept : a.kept ≡ map (output q) (passing [] params (db tree)) = a.distinct ∙ ap (map (output q)) a.grouped in
+      let moved = IsPermutation-map (λ (o : Output). o.1) _ _ (subst (λ k. IsPermutation k a.ordered) kept a.same) in
+      subst (IsPermutation (map (λ row. eval_all shown (params ∷ row ∷ [])) (db tree))) (sym a.shown)
+      (subst (λ l. IsPermutation l (map (λ (o : Output). o.1) a.ordered)) (outputs_are (db tree)) moved)

@@ -1,0 +1,198 @@
+-- What the text of each statement means under the layout.
+use Rattle.std.proofs.Common.{◌≡◌, ℕ, List, [], ◌∷◌, codes, false, Ok, refl}
+use Rattle.sqlite.specs.declared.types.Value.TheVariants.{Null}
+use Rattle.sqlite.specs.Term.{Term, lit, col, op2}
+use Rattle.sqlite.specs.Collation.TheVariants.{Binary}
+use Rattle.sqlite.specs.Source.TheVariants.{Values}
+use Rattle.sqlite.specs.Command.{Command}
+use Rattle.sqlite.specs.Command.TheVariants.{Insert, Select, CreateTable, CreateIndex, Delete}
+use Rattle.sqlite.specs.Compile.{table_defined_by, index_defined_by}
+use Rattle.sqlite.specs.Change.{created, indexed}
+use Rattle.sqlite.specs.Does.{lacks_sequence}
+use Rattle.sqlite.specs.Table.{Table}
+use Rattle.sqlite.specs.Schema.{Schema}
+use Rattle.sqlite.specs.Listing.{understood, reads_listing}
+use Rattle.sqlite.proofs.Callers.{IsPlain, command_of, statement_of}
+use Rattle.sqlite_sql.specs.declared.ops.BinaryOp.TheVariants.{Compare}
+use Rattle.sqlite_sql.specs.declared.ops.CompareOp.TheVariants.{Eq}
+use Rattle.sqlite_tied.specs.Compute.{everything}
+use Rattle.reg_tables.specs.Layout.{no_schema, begun, layout, texts, versions, levels, kept, meta, versions_of_id}
+use Rattle.reg_tables.proofs.Queries.{plain_query}
+
+-- the text is one command, plainly
+pub record IsCommand (schema : Schema) (sql : List ℕ) (command : Command) : Type 0 where
+  pub is : command_of (understood schema sql) ≡ command
+  pub plain : IsPlain (understood schema sql)
+
+-- ---- the tables are made in this order
+
+-- what a CREATE TABLE makes of a schema
+pub record MakesTable (sql : List ℕ) (schema : Schema) (table : Table) (after : Schema) : Type 0 where
+  pub command : IsCommand schema sql CreateTable
+  pub text : statement_of sql (understood schema sql) ≡ sql
+  pub defined : table_defined_by sql ≡ Ok table
+  pub is : created schema table ≡ after
+  pub whole : lacks_sequence after ≡ false
+
+abbrev pub make_texts : List ℕ
+make_texts = codes "CREATE TABLE texts (id INTEGER PRIMARY KEY, text TEXT NOT NULL UNIQUE) STRICT"
+
+pub makes_texts : MakesTable make_texts no_schema texts (begun 1)
+unfolding understood everything
+makes_texts = record { command = record { is = refl; plain = (refl, refl) }; text = refl; defined = refl; is = refl; whole = refl }
+
+abbrev pub make_versions : List ℕ
+make_versions = codes "CREATE TABLE versions (subject TEXT NOT NULL, version INTEGER NOT NULL, id INTEGER NOT NULL REFERENCES texts (id), deleted INTEGER NOT NULL CHECK (deleted = 0 OR deleted = 1), PRIMARY KEY (subject, version)) STRICT"
+
+pub makes_versions : MakesTable make_versions (begun 1) (record versions { tree = 0 }) (begun 2)
+unfolding understood everything
+makes_versions = record { command = record { is = refl; plain = (refl, refl) }; text = refl; defined = refl; is = refl; whole = refl }
+
+abbrev pub make_levels : List ℕ
+make_levels = codes "CREATE TABLE levels (subject TEXT NOT NULL PRIMARY KEY, level TEXT NOT NULL) STRICT"
+
+pub makes_levels : MakesTable make_levels (begun 2) (record levels { tree = 0 }) (begun 3)
+unfolding understood everything
+makes_levels = record { command = record { is = refl; plain = (refl, refl) }; text = refl; defined = refl; is = refl; whole = refl }
+
+abbrev pub make_kept : List ℕ
+make_kept = codes "CREATE TABLE kept (key TEXT NOT NULL PRIMARY KEY, command TEXT NOT NULL, status INTEGER NOT NULL, body TEXT NOT NULL) STRICT"
+
+pub makes_kept : MakesTable make_kept (begun 3) (record kept { tree = 0 }) (begun 4)
+unfolding understood everything
+makes_kept = record { command = record { is = refl; plain = (refl, refl) }; text = refl; defined = refl; is = refl; whole = refl }
+
+abbrev pub make_meta : List ℕ
+make_meta = codes "CREATE TABLE meta (name TEXT NOT NULL PRIMARY KEY, value TEXT NOT NULL) STRICT"
+
+pub makes_meta : MakesTable make_meta (begun 4) (record meta { tree = 0 }) (begun 5)
+unfolding understood everything
+makes_meta = record { command = record { is = refl; plain = (refl, refl) }; text = refl; defined = refl; is = refl; whole = refl }
+
+abbrev pub make_versions_of_id : List ℕ
+make_versions_of_id = codes "CREATE INDEX versions_of_id ON versions (id)"
+
+-- what the CREATE INDEX makes of the five tables
+pub record MakesIndex : Type 0 where
+  pub command : IsCommand (begun 5) make_versions_of_id (CreateIndex 1)
+  pub text : statement_of make_versions_of_id (understood (begun 5) make_versions_of_id) ≡ make_versions_of_id
+  pub defined : index_defined_by versions make_versions_of_id ≡ Ok (record versions_of_id { tree = 0 })
+  pub is : indexed (begun 5) versions (record versions_of_id { tree = 0 }) ≡ layout
+
+pub makes_versions_of_id : MakesIndex
+unfolding understood everything
+makes_versions_of_id = record { command = record { is = refl; plain = (refl, refl) }; text = refl; defined = refl; is = refl }
+
+-- ---- rows that go in and out by a text key
+
+-- the rowid is SQLite's choice, and the columns are the parameters
+abbrev pub two_terms : List Term
+two_terms = lit Null ∷ col 0 0 ∷ col 0 1 ∷ []
+
+abbrev pub four_terms : List Term
+four_terms = lit Null ∷ col 0 0 ∷ col 0 1 ∷ col 0 2 ∷ col 0 3 ∷ []
+
+-- the first column is the parameter
+abbrev pub by_key : List Term
+by_key = op2 (Compare Eq Binary) (col 1 1) (col 0 0) ∷ []
+
+abbrev pub drops_by_key : ℕ → ℕ → Command
+drops_by_key at tree = Delete at (record { lets = []; body = plain_query tree by_key (col 1 0 ∷ []) })
+
+abbrev pub put_level : List ℕ
+put_level = codes "INSERT INTO levels (subject, level) VALUES (?1, ?2)"
+
+pub put_level_is : IsCommand layout put_level (Insert 2 (Values two_terms 3))
+unfolding understood everything
+put_level_is = record { is = refl; plain = (refl, refl) }
+
+abbrev pub drop_level : List ℕ
+drop_level = codes "DELETE FROM levels WHERE subject = ?1"
+
+pub drop_level_is : IsCommand layout drop_level (drops_by_key 2 4)
+unfolding understood everything
+drop_level_is = record { is = refl; plain = (refl, refl) }
+
+abbrev pub put_kept : List ℕ
+put_kept = codes "INSERT INTO kept (key, command, status, body) VALUES (?1, ?2, ?3, ?4)"
+
+pub put_kept_is : IsCommand layout put_kept (Insert 3 (Values four_terms 5))
+unfolding understood everything
+put_kept_is = record { is = refl; plain = (refl, refl) }
+
+abbrev pub put_meta : List ℕ
+put_meta = codes "INSERT INTO meta (name, value) VALUES (?1, ?2)"
+
+pub put_meta_is : IsCommand layout put_meta (Insert 4 (Values two_terms 3))
+unfolding understood everything
+put_meta_is = record { is = refl; plain = (refl, refl) }
+
+abbrev pub drop_meta : List ℕ
+drop_meta = codes "DELETE FROM meta WHERE name = ?1"
+
+pub drop_meta_is : IsCommand layout drop_meta (drops_by_key 4 8)
+unfolding understood everything
+drop_meta_is = record { is = refl; plain = (refl, refl) }
+
+-- ---- queries
+
+-- the text shows these terms of the rows of a table that pass, and reads no list of the tables
+pub record IsQuery (sql : List ℕ) (tree : ℕ) (tests shown : List Term) (names : List (List ℕ)) : Type 0 where
+  pub command : IsCommand layout sql (Select (record { lets = []; body = plain_query tree tests shown }) names)
+  pub unlisted : reads_listing layout sql ≡ false
+
+abbrev pub find_level : List ℕ
+find_level = codes "SELECT level FROM levels WHERE subject = ?1"
+
+pub find_level_is : IsQuery find_level 4 by_key (col 1 2 ∷ []) (codes "level" ∷ [])
+unfolding understood everything
+find_level_is = record { command = record { is = refl; plain = (refl, refl) }; unlisted = refl }
+
+abbrev pub find_meta : List ℕ
+find_meta = codes "SELECT value FROM meta WHERE name = ?1"
+
+pub find_meta_is : IsQuery find_meta 8 by_key (col 1 2 ∷ []) (codes "value" ∷ [])
+unfolding understood everything
+find_meta_is = record { command = record { is = refl; plain = (refl, refl) }; unlisted = refl }
+
+abbrev pub find_kept : List ℕ
+find_kept = codes "SELECT command, status, body FROM kept WHERE key = ?1"
+
+pub find_kept_is : IsQuery find_kept 6 by_key (col 1 2 ∷ col 1 3 ∷ col 1 4 ∷ []) (codes "command" ∷ codes "status" ∷ codes "body" ∷ [])
+unfolding understood everything
+find_kept_is = record { command = record { is = refl; plain = (refl, refl) }; unlisted = refl }
+
+abbrev pub all_texts : List ℕ
+all_texts = codes "SELECT id, text FROM texts"
+
+pub all_texts_is : IsQuery all_texts 0 [] (col 1 0 ∷ col 1 2 ∷ []) (codes "id" ∷ codes "text" ∷ [])
+unfolding understood everything
+all_texts_is = record { command = record { is = refl; plain = (refl, refl) }; unlisted = refl }
+
+abbrev pub all_versions : List ℕ
+all_versions = codes "SELECT rowid, subject, version, id, deleted FROM versions"
+
+pub all_versions_is : IsQuery all_versions 2 [] (col 1 0 ∷ col 1 1 ∷ col 1 2 ∷ col 1 3 ∷ col 1 4 ∷ []) (codes "rowid" ∷ codes "subject" ∷ codes "version" ∷ codes "id" ∷ codes "deleted" ∷ [])
+unfolding understood everything
+all_versions_is = record { command = record { is = refl; plain = (refl, refl) }; unlisted = refl }
+
+abbrev pub all_levels : List ℕ
+all_levels = codes "SELECT rowid, subject, level FROM levels"
+
+pub all_levels_is : IsQuery all_levels 4 [] (col 1 0 ∷ col 1 1 ∷ col 1 2 ∷ []) (codes "rowid" ∷ codes "subject" ∷ codes "level" ∷ [])
+unfolding understood everything
+all_levels_is = record { command = record { is = refl; plain = (refl, refl) }; unlisted = refl }
+
+abbrev pub all_kept : List ℕ
+all_kept = codes "SELECT rowid, key, command, status, body FROM kept"
+
+pub all_kept_is : IsQuery all_kept 6 [] (col 1 0 ∷ col 1 1 ∷ col 1 2 ∷ col 1 3 ∷ col 1 4 ∷ []) (codes "rowid" ∷ codes "key" ∷ codes "command" ∷ codes "status" ∷ codes "body" ∷ [])
+unfolding understood everything
+all_kept_is = record { command = record { is = refl; plain = (refl, refl) }; unlisted = refl }
+
+abbrev pub all_meta : List ℕ
+all_meta = codes "SELECT rowid, name, value FROM meta"
+
+pub all_meta_is : IsQuery all_meta 8 [] (col 1 0 ∷ col 1 1 ∷ col 1 2 ∷ []) (codes "rowid" ∷ codes "name" ∷ codes "value" ∷ [])
+unfolding understood everything
+all_meta_is = record { command = record { is = refl; plain = (refl, refl) }; unlisted = refl }

@@ -1,0 +1,32 @@
+-- What a look-up by its key shows of the contents.
+use Rattle.std.proofs.Common.{◌≡◌, ℕ, List, [], ◌∷◌, Option, None, Some, MatchOption, slice_get, codes, refl, sym, ap, ◌∙◌}
+use Rattle.std.specs.FinMap.{get}
+use Rattle.sqlite.specs.declared.types.Value.TheVariants.{Text}
+use Rattle.sqlite.specs.Order.{Row, column}
+use Rattle.sqlite.specs.Term.{col}
+use Rattle.sqlite.specs.State.{State, Shown}
+use Rattle.reg_tables.specs.Layout.{levels, kept, meta}
+use Rattle.reg_tables.specs.Contents.{text_cmp, KeptRow, Contents, text_cells, kept_cells, pair_form, kept_form, Holds}
+use Rattle.reg_tables.proofs.KeyedTables.{text_order, by_key_test, finds, first_found}
+use Rattle.reg_tables.proofs.Statements.{by_key, find_level, find_level_is, find_kept, find_kept_is, find_meta, find_meta_is}
+
+-- the text that was read is the row's
+pub read_back : (row : Row) (text read : List ℕ) → row ≡ text_cells text → column row 0 ≡ Text read → text ≡ read
+read_back row text read is got = let same : Text text ≡ Text read = sym (ap (λ (r : Row). column r 0) is) ∙ got in cc
+
+module _ (old new : State) (contents : Contents) (h : Holds old.now contents) (k : List ℕ) (found : List Row) (o : Option Row) (first : o ≡ slice_get found 0) where
+  pub finds_level : Shown find_level (Text k ∷ []) old new found → MatchOption o (get contents.levels k ≡ None) (λ row. (level : List ℕ) × (get contents.levels k ≡ Some level) × (row ≡ text_cells level))
+  finds_level shown =
+      first_found pair_form (get contents.levels k) found
+      (finds pair_form text_cmp text_order levels.tree old new (get contents.levels) k find_level (Text k ∷ []) by_key (col 1 2 ∷ []) (codes "level" ∷ []) found h.declared h.levels find_level_is (λ row q is. by_key_test row k q is) (λ row. refl) shown) o first
+
+  pub finds_meta : Shown find_meta (Text k ∷ []) old new found → MatchOption o (get contents.meta k ≡ None) (λ row. (value : List ℕ) × (get contents.meta k ≡ Some value) × (row ≡ text_cells value))
+  finds_meta shown =
+      first_found pair_form (get contents.meta k) found
+      (finds pair_form text_cmp text_order meta.tree old new (get contents.meta) k find_meta (Text k ∷ []) by_key (col 1 2 ∷ []) (codes "value" ∷ []) found h.declared h.meta find_meta_is (λ row q is. by_key_test row k q is) (λ row. refl) shown) o first
+
+  pub finds_kept : Shown find_kept (Text k ∷ []) old new found → MatchOption o (get contents.kept k ≡ None) (λ row. (reply : KeptRow) × (get contents.kept k ≡ Some reply) × (row ≡ kept_cells reply))
+  finds_kept shown =
+      first_found kept_form (get contents.kept k) found
+      (finds kept_form text_cmp text_order kept.tree old new (get contents.kept) k find_kept (Text k ∷ []) by_key (col 1 2 ∷ col 1 3 ∷ col 1 4 ∷ []) (codes "command" ∷ codes "status" ∷ codes "body" ∷ []) found h.declared h.kept find_kept_is
+      (λ row q is. by_key_test row k q is) (λ row. refl) shown) o first

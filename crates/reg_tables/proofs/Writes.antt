@@ -1,0 +1,101 @@
+-- What one write makes of a table.
+use Rattle.std.proofs.Common.{◌≡◌, ◌⊎◌, inl, inr, ℕ, ◌/◌, length, List, [], slice_get, Bool, true, false, Some, None, Ok, Err, Option, Result, sym, ap, subst, ◌∙◌}
+use Rattle.std.specs.Prelude.{if◌then◌else◌, MatchBool}
+use Rattle.sqlite.specs.Order.{Row}
+use Rattle.sqlite.specs.Term.{Term}
+use Rattle.sqlite.specs.Table.{Table}
+use Rattle.sqlite.specs.Schema.{Schema}
+use Rattle.sqlite.specs.Source.{Source}
+use Rattle.sqlite.specs.Source.TheVariants.{Values}
+use Rattle.sqlite.specs.Command.{Command}
+use Rattle.sqlite.specs.Command.TheVariants.{Insert, Delete}
+use Rattle.sqlite.specs.Edit.{Edit, edit_of, taken_by, Applies}
+use Rattle.sqlite.specs.Rowids.{Rowids}
+use Rattle.sqlite.specs.Rowids.TheVariants.{Chosen, Above, Given}
+use Rattle.sqlite.specs.Does.{Tally, Does, WritesRows}
+use Rattle.sqlite.specs.Rows.{Written, Task, stamped, rowids_for, count_of}
+use Rattle.sqlite.specs.Effect.{Database, Answers, value_rows}
+use Rattle.sqlite.specs.State.{State, mode_of, Writes}
+use Rattle.sqlite.specs.declared.error.Error.{Error}
+use Rattle.sqlite.proofs.Callers.{one_step}
+use Rattle.sqlite_schema.specs.declared.schema.Keys.TheVariants.{Enforced}
+use Rattle.sqlite_schema.specs.declared.program.Program.{Program}
+use Rattle.sqlite_rules.specs.Action.{works}
+use Rattle.sqlite_rules.specs.Action as action
+use Rattle.sqlite_rules.specs.Calls.{ids_of}
+
+-- a part that gave a value did not stop on the way
+pub went : {B E R : Type 0} {b : B} {Stops : E → Type 0} → ((stop : E) × Stops stop × (Ok b ≡ Err stop)) ⊎ R → R
+went (inl stopped) = absurd (let e = stopped.2 in cc)
+went (inr on) = on
+
+pub same_value : {B E : Type 0} {a b : B} → ◌≡◌ {A = Result B E} (Ok a) (Ok b) → a ≡ b
+same_value e = cc
+
+uncounts : (b x : Bool) (P Q : Type 0) → b ≡ false → MatchBool (if b then x else false) P Q → Q
+uncounts true x P Q is h = absurd (cc)
+uncounts false x P Q is h = h
+
+-- the schema stays, and the edit is all that is done
+pub record IsStep (schema : Schema) (old new : State) (edit : Edit) : Type 0 where
+  pub same : new.now.schema ≡ schema
+  pub applies : Applies schema Enforced old.now.trees edit new.now.trees
+
+module _ (schema : Schema) (idle : (tree : ℕ) (olds news : List Row) → works schema Enforced 0 tree olds news ≡ []) (at : ℕ) (table : Table) (there : slice_get schema.tables at ≡ Some table)
+    (old new : State) (has : old.now.schema ≡ schema) (text : List ℕ) (params : Row) (count : ℕ) where
+  abbrev task : Task
+  task = record { limit = old.step_limit; keys = Enforced; schema = schema; table = table; params = params }
+
+  abbrev Wrote : Command → Type 0
+  Wrote command = (w : Written) × WritesRows task old.now.trees command (Ok w) × (new.now ≡ record { schema = schema; trees = w.trees })
+
+  insert_wrote : (from : Source) → Writes old new None (Insert at from) text params count → Wrote (Insert at from)
+  insert_wrote from w =
+      let done = subst (λ s. Does old.step_limit (mode_of old) params (record old.now { schema = s }) text None (Insert at from) (Ok (w.tally, new.now))) has w.changed in
+      let ran = went (rw there at done) in
+      let tested = went ran.2 in
+      let shown = went tested.2 in
+      (ran.0, ran.1, ap (λ (p : Tally × Database). p.1) (same_value {E = Option Error} shown.2))
+
+  pub inserted : (terms : List Term) (width : ℕ) → table.is_counted ≡ false → Writes old new None (Insert at (Values terms width)) text params count
+      → IsStep schema old new (edit_of old.now.trees table [] Chosen 0 (value_rows (stamped table params) width (length terms / width) terms))
+  inserted terms width uncounted w =
+      let wrote = insert_wrote (Values terms width) w in
+      let given = went wrote.1 in
+      let counter = went given.2 in
+      let put = went counter.2 in
+      let counted = went put.2 in
+      let db = old.now.trees in
+      let rows = value_rows (stamped table params) width (length terms / width) terms in
+      let edit = edit_of db table [] Chosen 0 given.0 in
+      let top = count_of counter.0 in
+      let chosen : rowids_for table top ≡ Chosen = ap (λ b. if b then Above top else Chosen) uncounted in
+      let steps = subst (λ (r : Rowids). action.Writes schema Enforced db (edit_of db table [] r 0 given.0) (Ok put.0)) chosen put.1 in
+      let step : Applies schema Enforced db edit put.0 = one_step schema Enforced db put.0 edit (idle edit.table.tree (taken_by db edit) edit.news) steps in
+      let end : put.0 ≡ wrote.0.trees = sym (ap (λ (it : Written). it.trees) (same_value counted.2) ∙ same_value (uncounts table.is_counted _ _ _ uncounted counted.1)) in
+      let now : put.0 ≡ new.now.trees = end ∙ ap (λ (d : Database). d.trees) (sym wrote.2) in
+      record {
+        same = ap (λ (d : Database). d.schema) wrote.2;
+        applies = subst (Applies schema Enforced db (edit_of db table [] Chosen 0 rows)) now (subst (λ r. Applies schema Enforced db (edit_of db table [] Chosen 0 r) put.0) given.1.1 step);
+      }
+
+  delete_wrote : (q : Program) → Writes old new None (Delete at q) text params count → Wrote (Delete at q)
+  delete_wrote q w =
+      let done = subst (λ s. Does old.step_limit (mode_of old) params (record old.now { schema = s }) text None (Delete at q) (Ok (w.tally, new.now))) has w.changed in
+      let ran = went (rw there at done) in
+      let tested = went ran.2 in
+      let shown = went tested.2 in
+      (ran.0, ran.1, ap (λ (p : Tally × Database). p.1) (same_value {E = Option Error} shown.2))
+
+  -- the query gives the rowids
+  pub deleted : (q : Program) → Writes old new None (Delete at q) text params count
+      → (found : List Row) × Answers (record { schema = schema; trees = old.now.trees }) q params found × IsStep schema old new (edit_of old.now.trees table (ids_of found) Given 0 [])
+  deleted q w =
+      let wrote = delete_wrote q w in
+      let asked = went wrote.1 in
+      let cut = went asked.2 in
+      let db = old.now.trees in
+      let edit = edit_of db table (ids_of asked.0) Given 0 [] in
+      let step : Applies schema Enforced db edit cut.0 = one_step schema Enforced db cut.0 edit (idle edit.table.tree (taken_by db edit) edit.news) cut.1 in
+      let now : cut.0 ≡ new.now.trees = sym (ap (λ (it : Written). it.trees) (same_value cut.2)) ∙ ap (λ (d : Database). d.trees) (sym wrote.2) in
+      (asked.0, asked.1, record { same = ap (λ (d : Database). d.schema) wrote.2; applies = subst (Applies schema Enforced db edit) now step })

@@ -1,0 +1,25 @@
+use Rattle.std.proofs.Common.{◌≡◌, ◌∙◌, None, arith, codes}
+use Rattle.std.specs.FinMap.{get, insert, empty, get-empty, get-insert}
+use Rattle.std.proofs.lemmas.Cmp.{nat_list_cmp_total}
+use Rattle.sqlite.specs.Held.{state}
+use Rattle.sqlite.specs.State.{HasCleanDisk}
+use Rattle.reg_tables.specs.Contents.{text_cmp}
+use Rattle.reg_tables.specs.Changes.{no_contents}
+use Rattle.reg_tables.proofs.Transactions.{on_ok}
+use Rattle.reg_tables.proofs.layout.create.Goals as goal
+
+pub returns-clause-made : goal.returns-clause-made
+returns-clause-made g c clean =
+    let clean_three : HasCleanDisk (state g.S.Store c.put_meta-2.new.tx.conn.now) = omega (arith, c.put_meta-3.ensures.survives.clean) in
+    let clean_two : HasCleanDisk (state g.S.Store c.put_meta.new.tx.conn.now) = omega (arith, c.put_meta-2.ensures.survives.clean) in
+    let clean_one : HasCleanDisk (state g.S.Store c.make_tables.new.tx.conn.now) = omega (arith, c.put_meta.ensures.survives.clean) in
+    let first = insert {R = text_cmp} empty (codes "format") (codes "avroreg") in
+    let second = insert first (codes "layout") (codes "1") in
+    let lacks_layout : get first (codes "layout") ≡ None = get-insert nat_list_cmp_total empty (codes "format") (codes "avroreg") (codes "layout") ∙ get-empty text_cmp (codes "layout") in
+    let first_lacks : get first (codes "global") ≡ None = get-insert nat_list_cmp_total empty (codes "format") (codes "avroreg") (codes "global") ∙ get-empty text_cmp (codes "global") in
+    let lacks_global : get second (codes "global") ≡ None = get-insert nat_list_cmp_total first (codes "layout") (codes "1") (codes "global") ∙ first_lacks in
+    on_ok c.put_meta-3.result (λ put none.
+    let bare = c.in_ok-make_tables.ensures.made clean_one none in
+    let with_format = c.in_ok-put_meta.ensures.put clean_two no_contents bare (get-empty text_cmp (codes "format")) in
+    let with_layout = c.in_ok-put_meta-2.ensures.put clean_three (record no_contents { meta = first }) with_format lacks_layout in
+    put (record no_contents { meta = second }) with_layout lacks_global) (c.put_meta-3.ensures.put clean)

@@ -1,0 +1,40 @@
+-- What the statements make of the contents.
+use Rattle.std.specs.Prelude.{ℕ, List, codes}
+use Rattle.std.specs.FinMap.{insert, remove, empty}
+use Rattle.sqlite.specs.State.{State}
+use Rattle.reg_tables.specs.Contents.{TextMap, KeptRow, Contents, Holds}
+
+-- the tables held some contents, and now hold what the change makes of them
+abbrev pub Changes : State → State → (Contents → Contents) → Type 0
+Changes old new change = (contents : Contents) → Holds old.now contents → Holds new.now (change contents)
+
+abbrev pub with_meta : List ℕ → List ℕ → Contents → Contents
+with_meta name value contents = record contents { meta = insert contents.meta name value }
+
+abbrev pub without_meta : List ℕ → Contents → Contents
+without_meta name contents = record contents { meta = remove contents.meta name }
+
+abbrev pub with_global : List ℕ → Contents → Contents
+with_global level = with_meta (codes "global") level
+
+abbrev pub with_level : List ℕ → List ℕ → Contents → Contents
+with_level subject level contents = record contents { levels = insert contents.levels subject level }
+
+abbrev pub without_level : List ℕ → Contents → Contents
+without_level subject contents = record contents { levels = remove contents.levels subject }
+
+abbrev pub with_kept : List ℕ → KeptRow → Contents → Contents
+with_kept key reply contents = record contents { kept = insert contents.kept key reply }
+
+-- ---- a new registry
+
+abbrev pub no_contents : Contents
+no_contents = record { texts = empty; versions = empty; levels = empty; kept = empty; meta = empty }
+
+-- the rows of `meta` in layout 1
+abbrev pub meta_of : List ℕ → TextMap (List ℕ)
+meta_of level = insert (insert (insert empty (codes "format") (codes "avroreg")) (codes "layout") (codes "1")) (codes "global") level
+
+-- Schema Registry API reference, Config: a new registry's level is BACKWARD
+abbrev pub new_contents : Contents
+new_contents = record no_contents { meta = meta_of (codes "BACKWARD") }

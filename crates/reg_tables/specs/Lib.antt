@@ -1,0 +1,6 @@
+pub mod Layout
+pub mod TableMaps
+pub mod Contents
+pub mod Changes
+pub mod Reading
+pub mod Replies

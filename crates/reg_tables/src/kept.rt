@@ -1,0 +1,83 @@
+//! What is kept under retry keys.
+
+ghost use Rattle.std.specs.Prelude.{◌≡◌, None, Some, OnOk, IfOk, IsTrue, MatchOption, false};
+ghost use Rattle.std.specs.FinMap.{get};
+ghost use Rattle.sqlite.specs.Held.{state};
+ghost use Rattle.sqlite.specs.State.{HasCleanDisk, Survives, KeepsCommit};
+ghost use Rattle.reg_tables.specs.Contents.{KeptRow, Contents, kept_cells, Holds};
+ghost use Rattle.reg_tables.specs.Changes.{with_kept};
+ghost use Rattle.reg_tables.specs.Reading.{OnlyReads};
+ghost use Rattle.reg_tables.specs.Replies.{kept_row};
+
+use crate::statement::{ask, run};
+use sqlite::{Alter, Connection, Error, Row, Transaction, params};
+
+/// A command's text and its reply, as they are kept under a retry key.
+#[derive(Debug, Drop)]
+pub struct KeptReply {
+    pub command: String,
+    /// An HTTP status code. (RFC 9110, section 15.)
+    pub status: u32,
+    pub body: String,
+}
+
+/// Keeps a command's text and its reply under a retry key that has none. Under a key that has one
+/// it fails.
+pub fn keep_reply<S: Alter>(
+    tx: &mut Transaction<'_, S>,
+    key: &str,
+    command: &str,
+    status: u32,
+    body: &str,
+) -> Result<(), Error>
+    ensures same_reference { tx.new.conn.ghost_name ≡ tx.old.conn.ghost_name }
+    ensures put { HasCleanDisk (state S.Store tx.new.conn.now) → OnOk result ((contents : Contents)
+        → Holds (state S.Store tx.old.conn.now).now contents → get contents.kept key.now ≡ None
+        → Holds (state S.Store tx.new.conn.now).now (with_kept key.now
+        (record { command = command.now; status = status; body = body.now }) contents)) }
+    ensures kept { HasCleanDisk (state S.Store tx.new.conn.now)
+        → KeepsCommit (state S.Store tx.old.conn.now) (state S.Store tx.new.conn.now) }
+    ensures survives { Survives (state S.Store tx.old.conn.now) (state S.Store tx.new.conn.now)
+        (λ _. ⊥) }
+{
+    run(
+        tx,
+        "INSERT INTO kept (key, command, status, body) VALUES (?1, ?2, ?3, ?4)",
+        params![key, command, status, body],
+    )
+}
+
+fn reply_in(row: &Row) -> Result<KeptReply, Error>
+    ensures { IfOk result (λ reply. (kept : KeptRow) → row.now ≡ kept_cells kept → kept_row reply ≡ kept) }
+{
+    Ok(KeptReply {
+        command: row.get(0)?,
+        status: row.get(1)?,
+        body: row.get(2)?,
+    })
+}
+
+/// What is kept under a retry key, if something is.
+pub fn kept_reply<S: Alter>(conn: &mut Connection<S>, key: &str) -> Result<Option<KeptReply>, Error>
+    requires idle { conn.old.in_transaction ≡ false }
+    ensures idle { conn.new.in_transaction ≡ false }
+    ensures found { HasCleanDisk (state S.Store conn.new) → IfOk result (λ found.
+        (contents : Contents) → Holds (state S.Store conn.old).now contents
+        → MatchOption found (get contents.kept key.now ≡ None)
+        (λ reply. get contents.kept key.now ≡ Some (kept_row reply))) }
+    ensures was_open { HasCleanDisk (state S.Store conn.new)
+        → OnOk result (IsTrue (state S.Store conn.old).is_open) }
+    ensures only_reads { HasCleanDisk (state S.Store conn.new)
+        → OnlyReads (state S.Store conn.old) (state S.Store conn.new) }
+    ensures survives { Survives (state S.Store conn.old) (state S.Store conn.new) (λ _. ⊥) }
+{
+    let rows = ask(
+        conn,
+        "SELECT command, status, body FROM kept WHERE key = ?1",
+        params![key],
+    )?;
+    match rows.first() {
+        None => Ok(None),
+        Some(row) => Ok(Some(reply_in(row)?)),
+    }
+}

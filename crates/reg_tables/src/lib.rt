@@ -1,0 +1,19 @@
+//! The registry's tables: how they are made, what they hold, and one call for each statement that
+//! changes or reads them.
+//!
+//! A call that changes the tables takes a transaction. On `Ok` the contents are changed as its
+//! clause says, and whatever it answers nothing is committed: that is the caller's commit.
+//! A call that only reads takes a connection outside a transaction. What a call says of the
+//! contents holds where the disk has returned what was written to it (`HasCleanDisk`).
+#![tactic(auto)]
+
+mod kept;
+mod layout;
+mod levels;
+mod meta;
+mod statement;
+
+pub use kept::{KeptReply, keep_reply, kept_reply};
+pub use layout::create;
+pub use levels::{drop_level, own_level, set_level};
+pub use meta::{global_level, set_global};
