@@ -85,7 +85,7 @@ idle tree olds news = rw (no_action (length news == 0))
     no_action false = refl
 
 -- a query with no WITH reads the tables as they are
-with_nothing : (db : Trees) (tree : ℕ) → overlay db [] tree ≡ db tree
+pub with_nothing : (db : Trees) (tree : ℕ) → overlay db [] tree ≡ db tree
 with_nothing db tree = rw (no_table (nat_le (2 ^ 31) tree))
   where
     no_table : (b : Bool) → ◌≡◌ {A = Option (List Row)} (cond b None None) None

@@ -8,4 +8,5 @@ pub mod KeyedTables
 pub mod Creation
 pub mod TableWrites
 pub mod TableReads
+pub mod TableLines
 pub mod Transactions

@@ -163,9 +163,9 @@ unfolding understood everything
 find_kept_is = record { command = record { is = refl; plain = (refl, refl) }; unlisted = refl }
 
 abbrev pub all_texts : List ℕ
-all_texts = codes "SELECT id, text FROM texts"
+all_texts = codes "SELECT rowid, id, text FROM texts"
 
-pub all_texts_is : IsQuery all_texts 0 [] (col 1 0 ∷ col 1 2 ∷ []) (codes "id" ∷ codes "text" ∷ [])
+pub all_texts_is : IsQuery all_texts 0 [] (col 1 0 ∷ col 1 0 ∷ col 1 2 ∷ []) (codes "id" ∷ codes "id" ∷ codes "text" ∷ [])
 unfolding understood everything
 all_texts_is = record { command = record { is = refl; plain = (refl, refl) }; unlisted = refl }
 

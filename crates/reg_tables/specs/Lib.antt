@@ -4,3 +4,4 @@ pub mod Contents
 pub mod Changes
 pub mod Reading
 pub mod Replies
+pub mod Listings

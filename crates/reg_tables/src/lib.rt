@@ -10,10 +10,15 @@
 mod kept;
 mod layout;
 mod levels;
+mod lines;
 mod meta;
 mod statement;
 
 pub use kept::{KeptReply, keep_reply, kept_reply};
 pub use layout::create;
 pub use levels::{drop_level, own_level, set_level};
+pub use lines::{
+    KeptLine, LevelLine, MetaLine, TextLine, VersionLine, kept_lines, level_lines, meta_lines,
+    text_lines, version_lines,
+};
 pub use meta::{global_level, set_global};

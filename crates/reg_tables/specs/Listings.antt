@@ -1,0 +1,62 @@
+-- When a list has each row of a table once, in any order.
+use Rattle.std.specs.Prelude.{ℕ, ℤ, pos, List, ◌∷◌, map, string_bytes, IsPermutation}
+use Rattle.sqlite.specs.declared.types.Value.{Value}
+use Rattle.sqlite.specs.declared.types.Value.TheVariants.{Int}
+use Rattle.sqlite.specs.Order.{Row}
+use Rattle.sqlite.specs.Tree.{rowid}
+use Rattle.sqlite.specs.Effect.{Database}
+use Rattle.reg_tables.specs.declared.lines.TextLine.{TextLine}
+use Rattle.reg_tables.specs.declared.lines.VersionLine.{VersionLine}
+use Rattle.reg_tables.specs.declared.lines.LevelLine.{LevelLine}
+use Rattle.reg_tables.specs.declared.lines.KeptLine.{KeptLine}
+use Rattle.reg_tables.specs.declared.lines.MetaLine.{MetaLine}
+use Rattle.reg_tables.specs.Layout.{texts, versions, levels, kept, meta}
+use Rattle.reg_tables.specs.TableMaps.{Form}
+use Rattle.reg_tables.specs.Contents.{VersionRow, KeptRow, text_form, version_form, pair_form, kept_form}
+use Rattle.reg_tables.specs.Replies.{kept_row}
+
+-- a rowid, and the columns of a key and of a value
+abbrev pub Parts : Type 0
+Parts = Value × Row × Row
+
+abbrev pub parts_of : {K V : Type 0} → Form K V → Row → Parts
+parts_of form row = (rowid row, form.key_of row, form.value_of row)
+
+-- what a row has for a rowid, a key and a value
+abbrev pub entry_parts : {K V : Type 0} → Form K V → ℤ × K × V → Parts
+entry_parts form entry = (Int entry.0, form.key_cells entry.1, form.value_cells entry.2)
+
+abbrev pub Lists : {K V : Type 0} → Form K V → List Row → List (ℤ × K × V) → Type 0
+Lists form rows entries = IsPermutation (map (parts_of form) rows) (map (entry_parts form) entries)
+
+-- ---- the lines of the five tables
+
+abbrev pub text_entry : TextLine → ℤ × ℕ × List ℕ
+text_entry line = (pos line.id, line.id, string_bytes line.text)
+
+abbrev pub version_entry : VersionLine → ℤ × (List ℕ × ℕ) × VersionRow
+version_entry line = (line.rowid, (string_bytes line.subject, line.version), record { id = line.id; deleted = line.deleted })
+
+abbrev pub level_entry : LevelLine → ℤ × List ℕ × List ℕ
+level_entry line = (line.rowid, string_bytes line.subject, string_bytes line.level)
+
+abbrev pub kept_entry : KeptLine → ℤ × List ℕ × KeptRow
+kept_entry line = (line.rowid, string_bytes line.key, kept_row line.reply)
+
+abbrev pub meta_entry : MetaLine → ℤ × List ℕ × List ℕ
+meta_entry line = (line.rowid, string_bytes line.name, string_bytes line.value)
+
+abbrev pub ListsTexts : Database → List TextLine → Type 0
+ListsTexts db lines = Lists text_form (db.trees texts.tree) (map text_entry lines)
+
+abbrev pub ListsVersions : Database → List VersionLine → Type 0
+ListsVersions db lines = Lists version_form (db.trees versions.tree) (map version_entry lines)
+
+abbrev pub ListsLevels : Database → List LevelLine → Type 0
+ListsLevels db lines = Lists pair_form (db.trees levels.tree) (map level_entry lines)
+
+abbrev pub ListsKept : Database → List KeptLine → Type 0
+ListsKept db lines = Lists kept_form (db.trees kept.tree) (map kept_entry lines)
+
+abbrev pub ListsMeta : Database → List MetaLine → Type 0
+ListsMeta db lines = Lists pair_form (db.trees meta.tree) (map meta_entry lines)
