@@ -9,4 +9,6 @@ pub mod Creation
 pub mod TableWrites
 pub mod TableReads
 pub mod TableLines
+pub mod ListingLemmas
+pub mod Opening
 pub mod Transactions

@@ -1,5 +1,5 @@
 -- What a query of all rows of a table lists.
-use Rattle.std.proofs.Common.{◌≡◌, ℕ, ℤ, List, [], ◌∷◌, map, sym, ap, subst, ◌∙◌}
+use Rattle.std.proofs.Common.{◌≡◌, ℕ, ℤ, List, [], ◌∷◌, map, sym, subst, ◌∙◌}
 use Rattle.std.specs.List.Sorted.{IsPermutation}
 use Rattle.std.proofs.lemmas.List.Sorted.{IsPermutation-map}
 use Rattle.sqlite.specs.declared.types.Value.TheVariants.{Null}
@@ -13,7 +13,7 @@ use Rattle.sqlite.proofs.Callers.{reads_as}
 use Rattle.sqlite_schema.specs.declared.program.Program.{Program}
 use Rattle.reg_tables.specs.Layout.{layout}
 use Rattle.reg_tables.specs.TableMaps.{Form}
-use Rattle.reg_tables.specs.Listings.{Parts, parts_of, entry_parts, Lists}
+use Rattle.reg_tables.specs.Listings.{parts_of, entry_parts, Lists}
 use Rattle.reg_tables.proofs.Members.{map-map}
 use Rattle.reg_tables.proofs.Queries.{plain_query, answer_all}
 use Rattle.reg_tables.proofs.KeyedTables.{with_nothing}

@@ -1,5 +1,9 @@
 -- When a list has each row of a table once, in any order.
-use Rattle.std.specs.Prelude.{ℕ, ℤ, pos, List, ◌∷◌, map, string_bytes, IsPermutation}
+use Rattle.std.specs.Prelude.{ℕ, ℤ, pos, List, map, string_bytes, IsPermutation}
+use Rattle.std.specs.declared.cmp.Ordering.{Ordering}
+use Rattle.std.specs.Ordering.{nat_cmp, int_cmp, eq_by_cmp}
+use Rattle.std.specs.List.{IsDistinct}
+use Rattle.std.specs.FinMap.{from_entries}
 use Rattle.sqlite.specs.declared.types.Value.{Value}
 use Rattle.sqlite.specs.declared.types.Value.TheVariants.{Int}
 use Rattle.sqlite.specs.Order.{Row}
@@ -12,7 +16,7 @@ use Rattle.reg_tables.specs.declared.lines.KeptLine.{KeptLine}
 use Rattle.reg_tables.specs.declared.lines.MetaLine.{MetaLine}
 use Rattle.reg_tables.specs.Layout.{texts, versions, levels, kept, meta}
 use Rattle.reg_tables.specs.TableMaps.{Form}
-use Rattle.reg_tables.specs.Contents.{VersionRow, KeptRow, text_form, version_form, pair_form, kept_form}
+use Rattle.reg_tables.specs.Contents.{text_cmp, version_cmp, VersionRow, KeptRow, Contents, text_form, version_form, pair_form, kept_form}
 use Rattle.reg_tables.specs.Replies.{kept_row}
 
 -- a rowid, and the columns of a key and of a value
@@ -28,6 +32,14 @@ entry_parts form entry = (Int entry.0, form.key_cells entry.1, form.value_cells 
 
 abbrev pub Lists : {K V : Type 0} → Form K V → List Row → List (ℤ × K × V) → Type 0
 Lists form rows entries = IsPermutation (map (parts_of form) rows) (map (entry_parts form) entries)
+
+-- no rowid and no key comes twice
+pub record HasNoTwins {K V : Type 0} (R : K → K → Ordering) (entries : List (ℤ × K × V)) : Type 0 where
+  pub rowids : IsDistinct (eq_by_cmp int_cmp) (map (λ entry. entry.0) entries)
+  pub keys : IsDistinct (eq_by_cmp R) (map (λ entry. entry.1) entries)
+
+abbrev pub without_rowid : {K V : Type 0} → ℤ × K × V → K × V
+without_rowid entry = (entry.1, entry.2)
 
 -- ---- the lines of the five tables
 
@@ -60,3 +72,36 @@ ListsKept db lines = Lists kept_form (db.trees kept.tree) (map kept_entry lines)
 
 abbrev pub ListsMeta : Database → List MetaLine → Type 0
 ListsMeta db lines = Lists pair_form (db.trees meta.tree) (map meta_entry lines)
+
+-- ---- all five
+
+pub record Lines : Type 0 where
+  pub texts : List TextLine
+  pub versions : List VersionLine
+  pub levels : List LevelLine
+  pub kept : List KeptLine
+  pub meta : List MetaLine
+
+pub record ListsAll (db : Database) (lines : Lines) : Type 0 where
+  pub texts : ListsTexts db lines.texts
+  pub versions : ListsVersions db lines.versions
+  pub levels : ListsLevels db lines.levels
+  pub kept : ListsKept db lines.kept
+  pub meta : ListsMeta db lines.meta
+
+pub record HaveNoTwins (lines : Lines) : Type 0 where
+  pub texts : HasNoTwins nat_cmp (map text_entry lines.texts)
+  pub versions : HasNoTwins version_cmp (map version_entry lines.versions)
+  pub levels : HasNoTwins text_cmp (map level_entry lines.levels)
+  pub kept : HasNoTwins text_cmp (map kept_entry lines.kept)
+  pub meta : HasNoTwins text_cmp (map meta_entry lines.meta)
+
+-- what tables of these lines hold
+abbrev pub contents_of : Lines → Contents
+contents_of lines = record {
+  texts = from_entries (map without_rowid (map text_entry lines.texts));
+  versions = from_entries (map without_rowid (map version_entry lines.versions));
+  levels = from_entries (map without_rowid (map level_entry lines.levels));
+  kept = from_entries (map without_rowid (map kept_entry lines.kept));
+  meta = from_entries (map without_rowid (map meta_entry lines.meta));
+}

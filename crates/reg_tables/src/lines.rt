@@ -175,16 +175,15 @@ pub fn text_lines<S: Alter>(alloc: Global, conn: &mut Connection<S>) -> Result<V
         → OnlyReads (state S.Store conn.old) (state S.Store conn.new) }
     ensures survives { Survives (state S.Store conn.old) (state S.Store conn.new) (λ _. ⊥) }
 {
-    let rows = ask(
-        conn,
-        "SELECT rowid, id, text FROM texts",
-        &[],
-    )?;
+    let rows = ask(conn, "SELECT rowid, id, text FROM texts", &[])?;
     lines_in(alloc, rows.as_slice())
 }
 
 /// All rows of `versions`, in any order. It fails too where a row holds what the line can't.
-pub fn version_lines<S: Alter>(alloc: Global, conn: &mut Connection<S>) -> Result<Vec<VersionLine>, Error>
+pub fn version_lines<S: Alter>(
+    alloc: Global,
+    conn: &mut Connection<S>,
+) -> Result<Vec<VersionLine>, Error>
     requires idle { conn.old.in_transaction ≡ false }
     ensures idle { conn.new.in_transaction ≡ false }
     ensures listed { HasCleanDisk (state S.Store conn.new) → IfOk result (λ lines.
@@ -205,7 +204,10 @@ pub fn version_lines<S: Alter>(alloc: Global, conn: &mut Connection<S>) -> Resul
 }
 
 /// All rows of `levels`, in any order. It fails too where a row holds what the line can't.
-pub fn level_lines<S: Alter>(alloc: Global, conn: &mut Connection<S>) -> Result<Vec<LevelLine>, Error>
+pub fn level_lines<S: Alter>(
+    alloc: Global,
+    conn: &mut Connection<S>,
+) -> Result<Vec<LevelLine>, Error>
     requires idle { conn.old.in_transaction ≡ false }
     ensures idle { conn.new.in_transaction ≡ false }
     ensures listed { HasCleanDisk (state S.Store conn.new) → IfOk result (λ lines.
@@ -217,11 +219,7 @@ pub fn level_lines<S: Alter>(alloc: Global, conn: &mut Connection<S>) -> Result<
         → OnlyReads (state S.Store conn.old) (state S.Store conn.new) }
     ensures survives { Survives (state S.Store conn.old) (state S.Store conn.new) (λ _. ⊥) }
 {
-    let rows = ask(
-        conn,
-        "SELECT rowid, subject, level FROM levels",
-        &[],
-    )?;
+    let rows = ask(conn, "SELECT rowid, subject, level FROM levels", &[])?;
     lines_in(alloc, rows.as_slice())
 }
 
@@ -259,10 +257,6 @@ pub fn meta_lines<S: Alter>(alloc: Global, conn: &mut Connection<S>) -> Result<V
         → OnlyReads (state S.Store conn.old) (state S.Store conn.new) }
     ensures survives { Survives (state S.Store conn.old) (state S.Store conn.new) (λ _. ⊥) }
 {
-    let rows = ask(
-        conn,
-        "SELECT rowid, name, value FROM meta",
-        &[],
-    )?;
+    let rows = ask(conn, "SELECT rowid, name, value FROM meta", &[])?;
     lines_in(alloc, rows.as_slice())
 }

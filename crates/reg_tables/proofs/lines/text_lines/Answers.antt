@@ -1,4 +1,4 @@
-use Rattle.std.proofs.Common.{◌≡◌, ◌∙◌, true, refl, sym, ap, map, codes, [], ◌∷◌}
+use Rattle.std.proofs.Common.{◌∙◌, true, refl, sym, ap, map, codes, [], ◌∷◌}
 use Rattle.sqlite.specs.Held.{state}
 use Rattle.sqlite.specs.Term.{col}
 use Rattle.reg_tables.specs.Layout.{texts}
