@@ -23,5 +23,5 @@ pub use error::OutOfMemory;
 pub use key::Key;
 pub use level::Level;
 pub use reply::Reply;
-pub use subject::Subject;
+pub use subject::{Subject, is_subject};
 pub use text::Text;

@@ -39,8 +39,8 @@ fn has_control(text: &str) -> bool
     text.chars().any(|c| is_control(c))
 }
 
-// Whether a subject may have this text.
-fn is_subject(text: &str) -> bool
+/// Whether a subject may have this text.
+pub fn is_subject(text: &str) -> bool
     ensures { result ≡ is_subject text.now }
 {
     if text.is_empty() || text.len() > 255 {

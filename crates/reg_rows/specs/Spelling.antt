@@ -1,0 +1,78 @@
+-- Which rows of the five tables hold a registry, and what is kept beside it (this project's choice, but where a public
+-- document is named). That no key of a table stands twice, and that each id is that of a text, is the tables' own matter.
+use Rattle.std.specs.Prelude.{◌≡◌, ℕ, ◌==◌, ◌&&◌, ◌||◌, Bool, false, IsTrue, List, [], ◌∷◌, codes, map, bytes_eq, if◌then◌else◌, Option, None, Some, is_some, String, string_bytes}
+use Rattle.std.specs.declared.alloc.Global.{Global}
+use Rattle.std.specs.List.{All, list_any, list_all}
+use Rattle.reg_core.specs.Keys.{IsKey}
+use Rattle.reg_core.specs.Levels.{level_of}
+use Rattle.reg_core.specs.Subjects.{is_subject}
+use Rattle.reg_rows.specs.declared.tables.Tables.{Tables}
+
+-- a text, as a row has it
+abbrev pub Text : Type 0
+Text = String Global
+
+-- ---- levels
+
+-- Schema Registry API reference, Config: a subject, and how one of the seven levels is spelt
+abbrev pub is_level_row : List ℕ → List ℕ → Bool
+is_level_row subject level = is_subject subject && is_some (level_of level)
+
+-- ---- kept replies
+
+-- RFC 9110, section 15: what a write is answered, and refusals of it
+abbrev pub kept_statuses : List ℕ
+kept_statuses = 200 ∷ 404 ∷ 409 ∷ 422 ∷ []
+
+abbrev pub is_kept_status : ℕ → Bool
+is_kept_status status = list_any (λ s. status == s) kept_statuses
+
+-- a retry key, and a status; the command and the body may be any texts
+pub record IsKeptRow (key : List ℕ) (status : ℕ) : Type 0 where
+  pub is_key : IsKey key
+  pub is_kept : IsTrue (is_kept_status status)
+
+-- ---- what the database is
+
+-- a name and its value
+abbrev pub Pair : Type 0
+Pair = List ℕ × List ℕ
+
+abbrev pub pair_of : Text × Text → Pair
+pair_of row = (string_bytes row.0, string_bytes row.1)
+
+-- the value of the first row of the name
+abbrev pub value_at : List ℕ → List Pair → Option (List ℕ)
+value_at name [] = None
+value_at name (row ∷ rows) = if bytes_eq row.0 name then Some row.1 else value_at name rows
+
+abbrev pub names : List (List ℕ)
+names = codes "format" ∷ codes "layout" ∷ codes "global" ∷ []
+
+abbrev pub is_name : List ℕ → Bool
+is_name name = list_any (bytes_eq name) names
+
+abbrev pub names_known : List Pair → Bool
+names_known rows = list_all (λ row. is_name row.0) rows
+
+abbrev pub has_value : List ℕ → Option (List ℕ) → Bool
+has_value text None = false
+has_value text (Some value) = bytes_eq value text
+
+abbrev pub has_level : Option (List ℕ) → Bool
+has_level None = false
+has_level (Some value) = is_some (level_of value)
+
+-- the format, the layout's number and the global level, and no other row
+abbrev pub is_meta : List Pair → Bool
+is_meta rows = has_value (codes "avroreg") (value_at (codes "format") rows) && has_value (codes "1") (value_at (codes "layout") rows) && has_level (value_at (codes "global") rows) && names_known rows
+
+-- ---- all five
+
+-- No command of today makes a text or a version, so tables with a row of either hold no registry.
+pub record IsSpelling (t : Tables) : Type 0 where
+  pub texts : t.texts.items ≡ []
+  pub versions : t.versions.items ≡ []
+  pub levels : All (λ row. IsTrue (is_level_row (string_bytes row.0) (string_bytes row.1))) t.levels.items
+  pub kept : All (λ row. IsKeptRow (string_bytes row.0) row.2) t.kept.items
+  pub meta : IsTrue (is_meta (map pair_of t.meta.items))

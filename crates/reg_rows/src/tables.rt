@@ -1,0 +1,41 @@
+//! The rows of all five tables.
+
+ghost use Rattle.std.specs.Prelude.{IsTrue, ◌↔◌, map};
+ghost use Rattle.reg_rows.specs.Spelling.{IsSpelling};
+
+use crate::meta::is_meta;
+use crate::rows::{is_kept_row, is_level_row};
+
+/// The rows of the five tables of layout 1, those of each in any order.
+#[derive(Debug, Drop)]
+pub struct Tables {
+    /// an id, and its text
+    pub texts: Vec<(u32, String)>,
+    /// a subject, a version's number, its id, and whether it is deleted
+    pub versions: Vec<(String, u32, u32, bool)>,
+    /// a subject, and its own level
+    pub levels: Vec<(String, String)>,
+    /// a retry key, its command's text, and the status and the body of its reply
+    pub kept: Vec<(String, String, u32, String)>,
+    /// a name, and its value
+    pub meta: Vec<(String, String)>,
+}
+
+/// Whether the rows hold a registry of layout 1 and what is kept beside it. It takes no memory.
+pub fn spells(tables: &Tables) -> bool
+    ensures { IsTrue result ↔ IsSpelling tables.now }
+{
+    if !tables.texts.is_empty() {
+        return false;
+    }
+    if !tables.versions.is_empty() {
+        return false;
+    }
+    if !tables.levels.iter().all(|row| is_level_row(row)) {
+        return false;
+    }
+    if !tables.kept.iter().all(|row| is_kept_row(row)) {
+        return false;
+    }
+    is_meta(&tables.meta)
+}
