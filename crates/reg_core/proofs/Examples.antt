@@ -5,12 +5,12 @@ use Rattle.std.specs.Prelude.{None, Some}
 use Rattle.std.specs.Fmt.{digits}
 use Rattle.serde_json.proofs.OnLiterals.{serde_json_on_literals}
 use Rattle.reg_core.specs.declared.level.Level.TheVariants.{Full, Off}
-use Rattle.reg_core.specs.declared.code.Code.TheVariants.{InvalidLevel, KeyReused, NotFound}
-use Rattle.reg_core.specs.declared.command.Command.TheVariants.{SetGlobal, Global}
+use Rattle.reg_core.specs.declared.code.Code.TheVariants.{InvalidLevel, KeyReused, NoOwnLevel, NotFound}
+use Rattle.reg_core.specs.declared.command.Command.TheVariants.{SetGlobal, SetLevel, Global, LevelOf}
 use Rattle.reg_core.specs.Levels.{level_of}
 use Rattle.reg_core.specs.Codes.{status_of, fault_body}
 use Rattle.reg_core.specs.Replies.{answer, fault}
-use Rattle.reg_core.specs.Registry.{new_registry}
+use Rattle.reg_core.specs.Registry.{Registry, new_registry, no_own_levels}
 use Rattle.reg_core.specs.Machine.{step, run_commands}
 use Rattle.reg_core.specs.CommandTexts.{command_text}
 use Rattle.reg_core.specs.Subjects.{is_subject}
@@ -32,7 +32,7 @@ key_reused_length : length (fault_body KeyReused) ≡ 71
 unfolding fault_body digits
 key_reused_length = refl
 
-full_is_set : step new_registry (SetGlobal (codes "FULL")) ≡ (record { global = Full }, answer (codes "{\"compatibility\":\"FULL\"}"))
+full_is_set : step new_registry (SetGlobal (codes "FULL")) ≡ (record { global = Full; own = no_own_levels }, answer (codes "{\"compatibility\":\"FULL\"}"))
 unfolding step serde_json_on_literals
 full_is_set = refl
 
@@ -44,13 +44,40 @@ new_level : (step new_registry Global).1 ≡ answer (codes "{\"compatibilityLeve
 unfolding step serde_json_on_literals
 new_level = refl
 
-last_level_stays : run_commands new_registry (SetGlobal (codes "FULL") ∷ SetGlobal (codes "x") ∷ Global ∷ []) ≡ record { global = Full }
+last_level_stays : run_commands new_registry (SetGlobal (codes "FULL") ∷ SetGlobal (codes "x") ∷ Global ∷ []) ≡ record { global = Full; own = no_own_levels }
 unfolding step
 last_level_stays = refl
 
 set_global_text : command_text (SetGlobal (codes "FULL")) ≡ codes "[\"set-global\",\"FULL\"]"
 unfolding command_text serde_json_on_literals
 set_global_text = refl
+
+forward_of_s : Registry
+forward_of_s = (step new_registry (SetLevel (codes "s") (codes "FORWARD"))).0
+
+own_level_is_answered : (step new_registry (SetLevel (codes "s") (codes "FORWARD"))).1 ≡ answer (codes "{\"compatibility\":\"FORWARD\"}")
+unfolding step serde_json_on_literals
+own_level_is_answered = refl
+
+own_level_is_shown : (step forward_of_s (LevelOf (codes "s") false)).1 ≡ answer (codes "{\"compatibilityLevel\":\"FORWARD\"}")
+unfolding forward_of_s step serde_json_on_literals
+own_level_is_shown = refl
+
+other_subject_has_none : (step forward_of_s (LevelOf (codes "t") false)).1 ≡ fault NoOwnLevel
+unfolding forward_of_s step
+other_subject_has_none = refl
+
+global_level_is_shown : (step forward_of_s (LevelOf (codes "t") true)).1 ≡ answer (codes "{\"compatibilityLevel\":\"BACKWARD\"}")
+unfolding forward_of_s step serde_json_on_literals
+global_level_is_shown = refl
+
+own_level_is_no_global_one : (step forward_of_s Global).1 ≡ answer (codes "{\"compatibilityLevel\":\"BACKWARD\"}")
+unfolding forward_of_s step serde_json_on_literals
+own_level_is_no_global_one = refl
+
+set_level_text : command_text (SetLevel (codes "a/b") (codes "FULL")) ≡ codes "[\"set-level\",\"a/b\",\"FULL\"]"
+unfolding command_text serde_json_on_literals
+set_level_text = refl
 
 last_is_false : (b : Bool) → b && false ≡ false
 last_is_false true = refl

@@ -304,14 +304,36 @@ fn subjects(rt: HostRuntime) -> Result<(), Fail> {
     Ok(())
 }
 
+fn text_of(rt: &HostRuntime, text: &str) -> Result<Text, Fail> {
+    Ok(Text::from(String::from_str(rt.alloc(), text)?))
+}
+
+fn subject_of(rt: &HostRuntime, text: &str) -> Result<Subject, Fail> {
+    Ok(Subject::new(String::from_str(rt.alloc(), text)?).ok_or("a subject")?)
+}
+
 fn set_global(rt: &HostRuntime, level: &str) -> Result<Command, Fail> {
     Ok(Command::SetGlobal {
-        level: Text::from(String::from_str(rt.alloc(), level)?),
+        level: text_of(rt, level)?,
+    })
+}
+
+fn set_level(rt: &HostRuntime, subject: &str, level: &str) -> Result<Command, Fail> {
+    Ok(Command::SetLevel {
+        subject: subject_of(rt, subject)?,
+        level: text_of(rt, level)?,
+    })
+}
+
+fn level_of(rt: &HostRuntime, subject: &str, default_to_global: bool) -> Result<Command, Fail> {
+    Ok(Command::LevelOf {
+        subject: subject_of(rt, subject)?,
+        default_to_global,
     })
 }
 
 fn decided(rt: &HostRuntime, global: Level, command: &Command) -> Result<Decision, Fail> {
-    Ok(decide(rt.alloc(), &View { global }, command)?)
+    Ok(decide(rt.alloc(), &View { own: None, global }, command)?)
 }
 
 #[test]
@@ -319,8 +341,10 @@ fn set_global_sets_a_level(rt: HostRuntime) -> Result<(), Fail> {
     for (text, level) in SPELLINGS {
         let decision = decided(&rt, Level::Backward, &set_global(&rt, text)?)?;
         assert_eq!(rt; decision.changes.len(), 1, "{text}");
-        let Change::SetGlobal { level: set } = decision.changes[0];
-        assert_eq!(rt; set, level);
+        match &decision.changes[0] {
+            Change::SetGlobal { level: set } => assert_eq!(rt; *set, level),
+            Change::SetLevel { .. } => panic!(rt; "no subject's level"),
+        }
         assert_eq!(rt; decision.reply.status(), 200, "{text}");
     }
     let decision = decided(&rt, Level::Backward, &set_global(&rt, "FULL")?)?;
@@ -329,16 +353,41 @@ fn set_global_sets_a_level(rt: HostRuntime) -> Result<(), Fail> {
 }
 
 #[test]
-fn set_global_refuses_other_texts(rt: HostRuntime) -> Result<(), Fail> {
+fn set_level_sets_a_subjects_level(rt: HostRuntime) -> Result<(), Fail> {
+    for (text, level) in SPELLINGS {
+        let command = set_level(&rt, "a/b", text)?;
+        let decision = decided(&rt, Level::Backward, &command)?;
+        assert_eq!(rt; decision.changes.len(), 1, "{text}");
+        match &decision.changes[0] {
+            Change::SetLevel {
+                subject,
+                level: set,
+            } => {
+                assert_eq!(rt; subject.as_str(), "a/b");
+                assert_eq!(rt; *set, level);
+            }
+            Change::SetGlobal { .. } => panic!(rt; "not the global level"),
+        }
+        assert_eq!(rt; decision.reply.status(), 200, "{text}");
+    }
+    let decision = decided(&rt, Level::Backward, &set_level(&rt, "s", "FORWARD")?)?;
+    assert_eq!(rt; decision.reply.body(), "{\"compatibility\":\"FORWARD\"}");
+    Ok(())
+}
+
+#[test]
+fn other_texts_are_refused(rt: HostRuntime) -> Result<(), Fail> {
     for text in NO_LEVELS {
-        let decision = decided(&rt, Level::Full, &set_global(&rt, text)?)?;
-        assert!(rt; decision.changes.is_empty(), "{text}");
-        assert_eq!(rt; decision.reply.status(), 422, "{text}");
-        assert_eq!(rt;
-            decision.reply.body(),
-            "{\"error_code\":42203,\"message\":\"Invalid compatibility level\"}",
-            "{text}"
-        );
+        for command in [set_global(&rt, text)?, set_level(&rt, "s", text)?] {
+            let decision = decided(&rt, Level::Full, &command)?;
+            assert!(rt; decision.changes.is_empty(), "{text}");
+            assert_eq!(rt; decision.reply.status(), 422, "{text}");
+            assert_eq!(rt;
+                decision.reply.body(),
+                "{\"error_code\":42203,\"message\":\"Invalid compatibility level\"}",
+                "{text}"
+            );
+        }
     }
     Ok(())
 }
@@ -354,6 +403,62 @@ fn global_answers_the_level(rt: HostRuntime) -> Result<(), Fail> {
     );
     let decision = decided(&rt, Level::Off, &Command::Global)?;
     assert_eq!(rt; decision.reply.body(), "{\"compatibilityLevel\":\"NONE\"}");
+    Ok(())
+}
+
+// The own level of the command's subject, whether the global one is asked for, and the answer.
+const LEVELS_SHOWN: [(Option<Level>, bool, u16, &str); 4] = [
+    (
+        Some(Level::Forward),
+        false,
+        200,
+        "{\"compatibilityLevel\":\"FORWARD\"}",
+    ),
+    (
+        Some(Level::Forward),
+        true,
+        200,
+        "{\"compatibilityLevel\":\"FORWARD\"}",
+    ),
+    (
+        None,
+        false,
+        404,
+        "{\"error_code\":40408,\"message\":\"Subject has no level of its own\"}",
+    ),
+    (None, true, 200, "{\"compatibilityLevel\":\"FULL\"}"),
+];
+
+#[test]
+fn level_of_answers_the_subjects_level(rt: HostRuntime) -> Result<(), Fail> {
+    for (own, default_to_global, status, body) in LEVELS_SHOWN {
+        let view = View {
+            own,
+            global: Level::Full,
+        };
+        let command = level_of(&rt, "s", default_to_global)?;
+        let decision = decide(rt.alloc(), &view, &command)?;
+        assert!(rt; decision.changes.is_empty());
+        assert_eq!(rt; decision.reply.status(), status);
+        assert_eq!(rt; decision.reply.body(), body);
+    }
+    Ok(())
+}
+
+// The subject of the command, if it is about one.
+fn subject_in(command: &Command) -> Option<&str> {
+    match command.subject() {
+        Some(subject) => Some(subject.as_str()),
+        None => None,
+    }
+}
+
+#[test]
+fn commands_are_about_subjects(rt: HostRuntime) -> Result<(), Fail> {
+    assert_eq!(rt; subject_in(&set_level(&rt, "s", "x")?), Some("s"));
+    assert_eq!(rt; subject_in(&level_of(&rt, "t", true)?), Some("t"));
+    assert_eq!(rt; subject_in(&set_global(&rt, "x")?), None);
+    assert_eq!(rt; subject_in(&Command::Global), None);
     Ok(())
 }
 
@@ -375,8 +480,14 @@ fn command_texts(rt: HostRuntime) -> Result<(), Fail> {
         let text = print_of(rt.alloc(), &command)?;
         assert_eq!(rt; text.as_str(), want);
     }
-    assert!(rt; !Command::Global.is_write());
-    let text = print_of(rt.alloc(), &Command::Global)?;
-    assert_eq!(rt; text.as_str(), "");
+    let command = set_level(&rt, "a/b", "FULL")?;
+    assert!(rt; command.is_write());
+    let text = print_of(rt.alloc(), &command)?;
+    assert_eq!(rt; text.as_str(), "[\"set-level\",\"a/b\",\"FULL\"]");
+    for read in [Command::Global, level_of(&rt, "s", true)?] {
+        assert!(rt; !read.is_write());
+        let text = print_of(rt.alloc(), &read)?;
+        assert_eq!(rt; text.as_str(), "");
+    }
     Ok(())
 }

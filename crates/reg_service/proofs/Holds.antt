@@ -6,7 +6,7 @@ use Rattle.std.specs.Map.{update}
 use Rattle.reg_service.specs.declared.kept.KeptReply.{KeptReply}
 use Rattle.reg_service.specs.declared.service.Service.{Service}
 use Rattle.reg_service.specs.Deliveries.{Entry}
-use Rattle.reg_service.specs.Services.{kept_in, entry_in, kept_with}
+use Rattle.reg_service.specs.Services.{kept_in, entry_in, kept_with, IsUnchanged as Still}
 
 pub kept_in-insert : (old new : Service) (key : List ℕ) (row : KeptReply) (entry : Entry)
     → ((q : List ℕ) → get_by_text new.kept q ≡ update bytes_eq (get_by_text old.kept) key (Some row) q)
@@ -27,3 +27,7 @@ pub kept_in-found : (s : Service) (key text : List ℕ) (found : Option KeptRepl
     → found ≡ get_by_text s.kept text → text ≡ key → kept_in s key ≡ option_map entry_in found
 unfolding kept_in
 kept_in-found s key text found look_up same = ap (λ t. option_map entry_in (get_by_text s.kept t)) (sym same) ∙ ap (option_map entry_in) (sym look_up)
+
+-- what is unchanged twice is unchanged
+pub IsUnchanged-then : (a b c : Service) → Still a b → Still b c → Still a c
+IsUnchanged-then a b c first second = record { registry = second.registry ∙ first.registry; kept = second.kept ∙ first.kept }

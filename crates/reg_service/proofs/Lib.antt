@@ -4,4 +4,5 @@ pub mod Again
 pub mod Lists
 pub mod Replies
 pub mod Holds
+pub mod Placed
 pub mod Examples

@@ -1,14 +1,17 @@
 -- What a service holds.
 use Rattle.std.specs.Prelude.{◌≡◌, ℕ, List, bytes_eq, Some, option_map, string_bytes, if◌then◌else◌}
 use Rattle.std.specs.BTreeMap.{get_by_text}
+use Rattle.reg_core.specs.declared.decision.Change.{Change}
+use Rattle.reg_core.specs.declared.decision.Change.TheVariants.{SetGlobal, SetLevel}
 use Rattle.reg_core.specs.Registry.{Registry}
 use Rattle.reg_service.specs.declared.kept.KeptReply.{KeptReply}
 use Rattle.reg_service.specs.declared.service.Service.{Service}
 use Rattle.reg_service.specs.Deliveries.{Kept, Entry}
+use Rattle.reg_service.specs.Places.{levels_in, HasPlace}
 
 -- The registry that the service holds.
 unfoldable pub registry_in : Service → Registry
-registry_in s = record { global = s.global }
+registry_in s = record { global = s.global; own = levels_in s.own }
 
 -- what a kept reply says
 abbrev pub entry_in : KeptReply → Entry
@@ -26,3 +29,12 @@ kept_with k key entry q = if bytes_eq key q then Some entry else k q
 pub record IsUnchanged (old new : Service) : Type 0 where
   pub registry : registry_in new ≡ registry_in old
   pub kept : kept_in new ≡ kept_in old
+
+-- The service makes the change without more memory.
+abbrev pub HasRoom : Service → Change → Type 0
+HasRoom s (SetGlobal level) = Unit {0}
+HasRoom s (SetLevel subject level) = HasPlace s.own subject
+
+-- Each change that had room has it still.
+abbrev pub KeepsRoom : Service → Service → Type 0
+KeepsRoom old new = (change : Change) → HasRoom old change → HasRoom new change

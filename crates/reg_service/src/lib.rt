@@ -4,6 +4,7 @@
 mod delivery;
 mod error;
 mod kept;
+mod own_levels;
 mod service;
 
 pub use delivery::Delivery;

@@ -1,15 +1,16 @@
-ghost use Rattle.std.specs.Prelude.{◌≡◌, ◌≢◌, [], ◌∷◌, false, zip, length, string_bytes, vec_len, IfOk, OnOk, OnErr};
+ghost use Rattle.std.specs.Prelude.{◌≡◌, ◌≢◌, [], ◌∷◌, false, zip, length, string_bytes, vec_len, option_and_then, All, IfOk, OnOk, OnErr};
 ghost use Rattle.reg_core.specs.CommandTexts.{command_text};
-ghost use Rattle.reg_core.specs.Machine.{is_write, step};
+ghost use Rattle.reg_core.specs.Machine.{is_write, step, subject_of};
 ghost use Rattle.reg_core.specs.Registry.{new_registry};
 ghost use Rattle.reg_core.specs.Replies.{fault};
 ghost use Rattle.reg_core.specs.Views.{changed, changed_once};
 ghost use Rattle.reg_service.specs.Deliveries.{Serves, served, nothing_kept, RepeatsAgree, NoOtherAnswers, KeepsAll};
-ghost use Rattle.reg_service.specs.Services.{registry_in, kept_in, kept_with, IsUnchanged};
+ghost use Rattle.reg_service.specs.Services.{registry_in, kept_in, kept_with, HasRoom, IsUnchanged, KeepsRoom};
 
 use crate::delivery::Delivery;
 use crate::error::OutOfMemory;
 use crate::kept::KeptReply;
+use crate::own_levels::OwnLevels;
 use reg_core::{Change, Code, Command, Decision, Key, Level, Reply, View, decide, print_of};
 use std::alloc::Global;
 use std::collections::BTreeMap;
@@ -22,6 +23,7 @@ mod tests;
 pub struct Service {
     alloc: Global,
     global: Level,
+    own: OwnLevels,
     kept: BTreeMap<String, KeptReply>,
 }
 
@@ -35,6 +37,7 @@ impl Service {
         Service {
             alloc,
             global: Level::Backward,
+            own: OwnLevels::new(alloc),
             kept: BTreeMap::new(alloc),
         }
     }
@@ -110,6 +113,7 @@ impl Service {
         ensures err { OnErr result (registry_in self.new ≡ registry_in self.old) }
     {
         let Decision { changes, reply } = self.decision(command)?;
+        self.make_room(&changes)?;
         self.apply(&changes);
         Ok(reply)
     }
@@ -129,6 +133,7 @@ impl Service {
         ensures err { OnErr result (IsUnchanged self.old self.new) }
     {
         let Decision { changes, reply } = self.decision(command)?;
+        self.make_room(&changes)?;
         self.keep(key, text, &reply)?;
         self.apply(&changes);
         Ok(reply)
@@ -140,6 +145,7 @@ impl Service {
         ensures kept { OnOk result (kept_in self.new
             ≡ kept_with (kept_in self.old) key.now (record { text = string_bytes text; reply = reply.now })) }
         ensures registry { registry_in self.new ≡ registry_in self.old }
+        ensures room { KeepsRoom self.old self.new }
         ensures err { OnErr result (kept_in self.new ≡ kept_in self.old) }
     {
         let reply = reply.try_clone()?;
@@ -158,13 +164,50 @@ impl Service {
         ensures no_fault { IfOk result (λ d. d.reply.status ≢ 500) }
     {
         let view = View {
+            own: self.own_level(command),
             global: self.global,
         };
         Ok(decide(self.alloc, &view, command)?)
     }
 
-    // Makes the changes, in order.
+    // The own level of the command's subject, if it is about one that has.
+    #[tactic(auto, unfolding(crate::specs::Services::registry_in))]
+    fn own_level(&self, command: &Command) -> Option<Level>
+        ensures { result ≡ option_and_then (registry_in self.now).own (subject_of command.now) }
+    {
+        match command.subject() {
+            Some(subject) => self.own.level_of(subject),
+            None => None,
+        }
+    }
+
+    // Makes room for the changes, which then need no more memory.
+    fn make_room(&mut self, changes: &[Change]) -> Result<(), OutOfMemory>
+        ensures room { OnOk result (All (HasRoom self.new) changes.now) }
+        ensures unchanged { IsUnchanged self.old self.new }
+    {
+        for change in changes {
+            self.make_room_for(change)?;
+        }
+        Ok(())
+    }
+
+    // Makes room for one change.
+    #[tactic(auto, unfolding(crate::specs::Services::registry_in, crate::specs::Services::kept_in))]
+    fn make_room_for(&mut self, change: &Change) -> Result<(), OutOfMemory>
+        ensures room { OnOk result (HasRoom self.new change.now) }
+        ensures others { KeepsRoom self.old self.new }
+        ensures unchanged { IsUnchanged self.old self.new }
+    {
+        match change {
+            Change::SetGlobal { .. } => Ok(()),
+            Change::SetLevel { subject, .. } => self.own.make_place(self.alloc, subject),
+        }
+    }
+
+    // Makes the changes, in order. It takes no memory.
     fn apply(&mut self, changes: &[Change])
+        requires { All (HasRoom self.old) changes.now }
         ensures registry { registry_in self.new ≡ changed changes.now (registry_in self.old) }
         ensures kept { kept_in self.new ≡ kept_in self.old }
     {
@@ -173,14 +216,17 @@ impl Service {
         }
     }
 
-    // Makes one change.
+    // Makes one change. It takes no memory.
     #[tactic(auto, unfolding(crate::specs::Services::registry_in, crate::specs::Services::kept_in))]
     fn apply_one(&mut self, change: &Change)
+        requires { HasRoom self.old change.now }
         ensures registry { registry_in self.new ≡ changed_once change.now (registry_in self.old) }
+        ensures room { KeepsRoom self.old self.new }
         ensures kept { kept_in self.new ≡ kept_in self.old }
     {
         match change {
             Change::SetGlobal { level } => self.global = *level,
+            Change::SetLevel { subject, level } => self.own.set(subject, *level),
         }
     }
 }

@@ -1,4 +1,6 @@
 use Rattle.std.proofs.Common.{◌≡◌, codes, rules, ◌∙◌}
+use Rattle.std.specs.Prelude.{IfOk, string_bytes}
+use Rattle.std.proofs.lemmas.Result.{IfOk-weaker}
 use Rattle.serde_json.specs.Data.{string, array, item, no_items}
 use Rattle.serde_json.specs.View.{view}
 use Rattle.serde_json.specs.declared.value.Value.{the_lemmas}
@@ -17,6 +19,11 @@ returns-in_ok-to_string-in-SetGlobal-clause-text c =
 pub returns-in_ok-to_string-in-SetGlobal-clause-one : goal.returns-in_ok-to_string-in-SetGlobal-clause-one
 returns-in_ok-to_string-in-SetGlobal-clause-one c other v w e =
     command_text-injective other c.args.command.now w v (e ∙ returns-in_ok-to_string-in-SetGlobal-clause-text c)
+
+pub returns-in-SetLevel-clause-one : goal.returns-in-SetLevel-clause-one
+returns-in-SetLevel-clause-one c =
+    let text : IfOk c.set_level_text.result (λ text. string_bytes text ≡ command_text c.args.command.now) = search rules in
+    IfOk-weaker c.set_level_text.result _ _ (λ text h other v w e. command_text-injective other c.args.command.now w v (e ∙ h)) text
 
 pub returns-in-Global-clause-text : goal.returns-in-Global-clause-text
 unfolding command_text
