@@ -1,5 +1,5 @@
 -- What is written for a declaration, beside the types inside it, reads as that declaration.
-use Rattle.std.proofs.Common.{◌≡◌, ◌≢◌, ℕ, ◌<◌, ◌≤◌, List, [], ◌∷◌, Bool, true, false, cond, Option, Some, None, option_map, codes, bytes_eq, refl, sym, ap, subst, ◌∙◌}
+use Rattle.std.proofs.Common.{◌≡◌, ℕ, List, [], ◌∷◌, Bool, true, false, cond, Option, Some, None, option_map, codes, bytes_eq, refl, sym, ap, subst, ◌∙◌}
 use Rattle.std.specs.List.{list_any}
 use Rattle.std.specs.Prelude.{nat_lt, ◌^◌}
 use Rattle.std.proofs.lemmas.Option.{same_Some}
@@ -15,12 +15,12 @@ use Rattle.avro_nodes.specs.Nodes.{NamedView, FieldView}
 use Rattle.avro_nodes.specs.Identity.{kind_text, texts, with_text, with_aliases, with_default, with_order, with_namespace}
 use Rattle.avro_schema.specs.declared.words.Word.{Word}
 use Rattle.avro_schema.specs.declared.words.Word.TheVariants as word
-use Rattle.avro_schema.specs.Names.{Known, is_simple, is_dotted, is_space, last_part, allowed, full_name, alias_in}
+use Rattle.avro_schema.specs.Names.{Known, is_simple, is_dotted, is_space, allowed, full_name, alias_in}
 use Rattle.avro_schema.specs.Words.{kind_of, word_of, order_of}
-use Rattle.avro_schema.specs.Members.{◌>>=◌, without_all, text_in, array_in, text_if_any, texts_in, texts_if_any, max_nesting, size_of}
+use Rattle.avro_schema.specs.Members.{◌>>=◌, without_all, text_in, array_in, text_if_any, texts_in, texts_if_any, size_of}
 use Rattle.avro_schema.specs.Definitions.{symbol_in, fallback_in, order_in}
-use Rattle.avro_schema.specs.Denotes.{Others, IsNamed, IsEnum, IsField, Says, array_keys, map_keys, fixed_keys, enum_keys, record_keys, AllDiffer}
-use Rattle.avro_schema.proofs.Inversion.{bind_some, bind3, guard_some, map_some, not_same}
+use Rattle.avro_schema.specs.Denotes.{Others, IsNamed, IsEnum, IsField, Says, array_keys, map_keys, fixed_keys, enum_keys, record_keys}
+use Rattle.avro_schema.proofs.Inversion.{bind_some, bind3, guard_some, not_same}
 use Rattle.avro_schema.proofs.RoundMembers.{is_among, without-put, without_twice, none_without}
 use Rattle.avro_schema.proofs.RoundNames.{good_name, good_namespace, full_again_dot, full_again_null, full_again_said, alias_again, allowed_says, kind_again}
 

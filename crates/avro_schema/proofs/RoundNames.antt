@@ -1,6 +1,5 @@
 -- Full names are well formed, and so are their namespaces.
-use Rattle.std.proofs.Common.{◌≡◌, ◌≢◌, ℕ, List, [], ◌∷◌, ◌++◌, Bool, true, false, not, cond, ◌&&◌, ◌||◌, Option, Some, None, codes, bytes_eq, refl, sym, ap, subst, ◌∙◌, true≢false, inl, inr}
-use Rattle.std.specs.Prelude.{◌==◌}
+use Rattle.std.proofs.Common.{◌≡◌, ℕ, List, [], ◌∷◌, ◌++◌, Bool, true, false, cond, ◌&&◌, ◌||◌, Option, Some, None, codes, bytes_eq, refl, sym, ap, subst, ◌∙◌, true≢false, inl, inr}
 use Rattle.std.specs.List.{list_any}
 use Rattle.std.proofs.lemmas.List.Folds.{list_any-append}
 use Rattle.std.proofs.lemmas.Option.{same_Some}
@@ -9,7 +8,7 @@ use Rattle.avro_nodes.specs.declared.node.Kind.{Kind}
 use Rattle.avro_nodes.specs.declared.node.Kind.TheVariants.{Null, Boolean, Int, Long, Float, Double, Bytes, Text}
 use Rattle.avro_nodes.specs.Identity.{kind_text}
 use Rattle.avro_nodes.specs.Names.{is_dot, has_dot, namespace_of}
-use Rattle.avro_schema.specs.Names.{Known, is_start, is_part, is_rest, is_dotted, is_simple, is_space, joined, name_in, full_name, alias_in, allowed, or_else, resolved}
+use Rattle.avro_schema.specs.Names.{Known, is_start, is_part, is_rest, is_dotted, is_space, joined, name_in, full_name, alias_in, allowed, or_else, resolved}
 use Rattle.avro_schema.specs.Words.{kind_of}
 use Rattle.avro_schema.proofs.Inversion.{guard_some, differ}
 

@@ -1,7 +1,6 @@
 -- What is written for a type is read as that type.
-use Rattle.std.proofs.Common.{◌≡◌, ◌≢◌, ℕ, zero, suc, ◌+◌, ◌<◌, ◌≤◌, List, [], ◌∷◌, ◌++◌, length, map, Bool, true, false, Option, Some, None, codes, bytes_eq, refl, sym, ap, subst, ◌∙◌, append_assoc, append-nil, length-append, arith}
+use Rattle.std.proofs.Common.{◌≡◌, ℕ, suc, ◌+◌, ◌<◌, ◌≤◌, List, [], ◌∷◌, ◌++◌, length, map, Bool, true, false, Option, Some, None, codes, bytes_eq, refl, sym, ap, subst, ◌∙◌, append_assoc, append-nil, length-append, arith}
 use Rattle.std.specs.Prelude.{slice_get}
-use Rattle.std.specs.Map.{update}
 use Rattle.std.proofs.lemmas.Map.{update_same, update_other}
 use Rattle.std.proofs.lemmas.Option.{same_Some}
 use Rattle.serde_json.specs.Data.{Data, string, Items, no_items, item, Members, no_members, member}
@@ -13,13 +12,13 @@ use Rattle.avro_nodes.specs.Nodes.{NamedView, FieldView, NodeView, primitive, ar
 use Rattle.avro_nodes.specs.Identity.{primitive_value, array_value, map_value, enum_value, fixed_value, record_value, field_value, kind_text, Spelt, then_items, branch_items, field_items, name_of, spelt_node, spelt_at, identity, identity_value}
 use Rattle.avro_nodes.proofs.Lengths.{data_size, items_size, text_long}
 use Rattle.avro_nodes.proofs.Spelling.{at_suc, again_suc}
-use Rattle.avro_schema.specs.declared.words.Word.{Word}
 use Rattle.avro_schema.specs.declared.words.Word.TheVariants as word
 use Rattle.avro_schema.specs.Names.{Known, none_known, is_space, defined, resolved}
 use Rattle.avro_schema.specs.Words.{kind_of, word_of, kind_or_other}
 use Rattle.avro_schema.specs.Members.{max_nesting, size_of}
 use Rattle.avro_schema.specs.Parts.{Part, max_places}
 use Rattle.avro_schema.specs.Weight.{names_size}
+use Rattle.avro_schema.specs.Mentions.{mention, places_mentions, fields_mentions, mentions}
 use Rattle.avro_schema.specs.Reading.{branch_kind, type_at}
 use Rattle.avro_schema.specs.Denotes.{Others, IsNamed, IsEnum, IsField, Denotes, a_primitive, a_reference, primitive_type, reference_type, array_type, map_type, fixed_type, enum_type, record_type, union_type}
 use Rattle.avro_schema.specs.Denotes.{Branches, no_branch, branch, Fields, no_field, field, array_keys, map_keys, fixed_keys, enum_keys, record_keys, AllDiffer}
@@ -29,7 +28,7 @@ use Rattle.avro_schema.proofs.Inversion.{same_bytes}
 use Rattle.avro_schema.proofs.RoundNames.{kind_again, refers, good_namespace}
 use Rattle.avro_schema.proofs.RoundDeclarations.{good_named, primitive_says, primitive_others, array_says, array_items, array_others, map_says, map_values, map_others, fixed_says, fixed_name, fixed_size, fixed_others, size_again, enum_says, enum_name, enum_again, enum_others, record_says, record_name, record_fields, record_others, field_type, field_again}
 use Rattle.avro_schema.proofs.RoundDeclarations.{array_members, map_members, fixed_members, fixed_titled, fixed_listed, enum_members, enum_titled, enum_listed, record_members, record_titled, record_listed, record_held, field_members}
-use Rattle.avro_schema.proofs.Sizes.{one_found, named_found, record_found, names_append}
+use Rattle.avro_schema.proofs.Sizes.{one_found, named_found, record_found, names_append, mentions_append}
 
 -- the names known are those of definitions at places before
 pub record Knows (all : List NodeView) (first : ℕ) (known : Known) : Type 0 where
@@ -43,6 +42,7 @@ pub record Trip (n : ℕ) (all : List NodeView) (space : List ℕ) (known : Know
   pub knows : Knows all (first + length nodes) known2
   pub within : place ≤ first
   pub bound : names_size nodes ≤ data_size value
+  pub mentioned : mention all place + mentions all nodes ≤ data_size value
 
 pub record BranchesTrip (n : ℕ) (all : List NodeView) (space : List ℕ) (known : Known) (first : ℕ) (branches : List (ℕ × ℕ)) (nodes : List NodeView) (known2 : Known) : Type 0 where
   pub value : Items
@@ -50,6 +50,7 @@ pub record BranchesTrip (n : ℕ) (all : List NodeView) (space : List ℕ) (know
   pub again : Branches n space value known first branches nodes known2
   pub knows : Knows all (first + length nodes) known2
   pub bound : names_size nodes ≤ items_size value
+  pub mentioned : places_mentions all (map (λ b. b.0) branches) + mentions all nodes ≤ items_size value
 
 pub record FieldsTrip (n : ℕ) (all : List NodeView) (space : List ℕ) (known : Known) (first : ℕ) (fields : List FieldView) (nodes : List NodeView) (known2 : Known) : Type 0 where
   pub value : Items
@@ -57,6 +58,7 @@ pub record FieldsTrip (n : ℕ) (all : List NodeView) (space : List ℕ) (known 
   pub again : Fields n space value known first fields nodes known2
   pub knows : Knows all (first + length nodes) known2
   pub bound : names_size nodes ≤ items_size value
+  pub mentioned : fields_mentions all fields + mentions all nodes ≤ items_size value
 
 -- ---- what is known
 
@@ -90,12 +92,19 @@ one_on before rest node all e = e ∙ sym (append_assoc before (node ∷ []) res
 longer : (before : List NodeView) (node : NodeView) (first : ℕ) → first ≡ length before → first + 1 ≡ length (before ++ node ∷ [])
 longer before node first e = omega (arith, e, length-append before (node ∷ []))
 
+mention_is : (all : List NodeView) (place : ℕ) → mention all place ≡ length (name_of (slice_get all place))
+unfolding mention
+mention_is all place = refl
+
 -- ---- the forms
 
 module _ (m : ℕ) (all before after : List NodeView) (space : List ℕ) (known : Known) (first : ℕ) (first_is : first ≡ length before) (k : Knows all first known) where
   -- a node that is written whole
   first_time : (node : NodeView) (rest : List NodeView) → all ≡ before ++ node ∷ rest → spelt_at (suc m) all space first first ≡ spelt_node (spelt_at m all) space first (Some node)
   first_time node rest all_is = at_suc (suc m) all space first first m refl ∙ ap (spelt_node (spelt_at m all) space first) (at_first all before rest node first all_is first_is)
+
+  named_at : (node : NodeView) (rest : List NodeView) → all ≡ before ++ node ∷ rest → mention all first ≡ length (name_of (Some node))
+  named_at node rest all_is = mention_is all first ∙ ap (λ (o : Option NodeView). length (name_of o)) (at_first all before rest node first all_is first_is)
 
   plain_trip : (kind : Kind) → first < max_places → all ≡ before ++ primitive kind no_members ∷ after → Trip (suc m) all space known first first (primitive kind no_members ∷ []) known
   plain_trip kind room all_is = record {
@@ -105,6 +114,7 @@ module _ (m : ℕ) (all before after : List NodeView) (space : List ℕ) (known 
     knows = later all first 1 known k;
     within = omega arith;
     bound = omega arith;
+    mentioned = omega (arith, named_at (primitive kind no_members) after all_is);
   }
 
   primitive_trip : (kind : Kind) (ms extra : Members) → Others (codes "type" ∷ []) ms extra → first < max_places → all ≡ before ++ primitive kind extra ∷ after → Trip (suc m) all space known first first (primitive kind extra ∷ []) known
@@ -116,6 +126,7 @@ module _ (m : ℕ) (all before after : List NodeView) (space : List ℕ) (known 
     knows = later all first 1 known k;
     within = omega arith;
     bound = omega arith;
+    mentioned = omega (arith, named_at (primitive kind (member l d extra)) after all_is);
   }
 
   reference_trip : (name : List ℕ) (place : ℕ) → kind_of name ≡ None → resolved known space name ≡ Some place → Trip (suc m) all space known first place [] known
@@ -131,6 +142,7 @@ module _ (m : ℕ) (all before after : List NodeView) (space : List ℕ) (known 
         knows = later all first 0 known k;
         within = omega (arith, at.0);
         bound = omega arith;
+        mentioned = omega (arith, mention_is all place, ap length at.1);
       }
 
   array_trip : (ms extra : Members) (place : ℕ) (nodes : List NodeView) (known2 : Known) → Others array_keys ms extra → first < max_places → Trip m all space known (first + 1) place nodes known2
@@ -144,6 +156,7 @@ module _ (m : ℕ) (all before after : List NodeView) (space : List ℕ) (known 
         knows = subst (λ (w : ℕ). Knows all w known2) sum t.knows;
         within = omega arith;
         bound = omega (arith, t.bound, one_found (codes "items") t.value (array_members t.value extra) (array_items t.value extra));
+        mentioned = omega (arith, t.mentioned, named_at (array place extra) (nodes ++ after) all_is, one_found (codes "items") t.value (array_members t.value extra) (array_items t.value extra));
       }
 
   map_trip : (ms extra : Members) (place : ℕ) (nodes : List NodeView) (known2 : Known) → Others map_keys ms extra → first < max_places → Trip m all space known (first + 1) place nodes known2
@@ -157,6 +170,7 @@ module _ (m : ℕ) (all before after : List NodeView) (space : List ℕ) (known 
         knows = subst (λ (w : ℕ). Knows all w known2) sum t.knows;
         within = omega arith;
         bound = omega (arith, t.bound, one_found (codes "values") t.value (map_members t.value extra) (map_values t.value extra));
+        mentioned = omega (arith, t.mentioned, named_at (mapping place extra) (nodes ++ after) all_is, one_found (codes "values") t.value (map_members t.value extra) (map_values t.value extra));
       }
 
   union_trip : (branches : List (ℕ × ℕ)) (nodes : List NodeView) (known2 : Known) → first < max_places → AllDiffer (map (λ b. b.1) branches) → BranchesTrip m all space known (first + 1) branches nodes known2
@@ -170,44 +184,46 @@ module _ (m : ℕ) (all before after : List NodeView) (space : List ℕ) (known 
         knows = subst (λ (w : ℕ). Knows all w known2) sum t.knows;
         within = omega arith;
         bound = omega (arith, t.bound);
+        mentioned = omega (arith, t.mentioned, named_at (union (map (λ b. b.0) branches)) (nodes ++ after) all_is);
       }
 
   module _ (good : is_space space ≡ true) where
     fixed_trip : (ms extra : Members) (named : NamedView) (size : ℕ) → IsNamed space ms known named → size_of (get_member (codes "size") ms) ≡ Some size → Others fixed_keys ms extra → first < max_places
         → all ≡ before ++ fixed named size extra ∷ after → Trip (suc m) all space known first first (fixed named size extra ∷ []) (defined known named.name first)
-    fixed_trip ms extra named size n z o room all_is = record {
-      value = fixed_value space named size extra;
-      spelt = first_time (fixed named size extra) after all_is;
-      again = fixed_type (fixed_says space known named size ms extra good n o) (fixed_name space known named size ms extra good n o)
-          (ap size_of (fixed_size space known named size ms extra good n o) ∙ size_again (get_member (codes "size") ms) size z) (fixed_others space known named size ms extra good n o) room;
-      knows = knows_more all first known named.name k (ap name_of (at_first all before after (fixed named size extra) first all_is first_is));
-      within = omega arith;
-      bound = omega (
-        arith,
-        named_found named (fixed_members space known named size ms extra good n o) (fixed_titled space known named size ms extra good n o) (fixed_listed space known named size ms extra good n o),
-      );
-    }
+    fixed_trip ms extra named size n z o room all_is =
+        let held = named_found named (fixed_members space known named size ms extra good n o) (fixed_titled space known named size ms extra good n o) (fixed_listed space known named size ms extra good n o) in
+        record {
+          value = fixed_value space named size extra;
+          spelt = first_time (fixed named size extra) after all_is;
+          again = fixed_type (fixed_says space known named size ms extra good n o) (fixed_name space known named size ms extra good n o)
+              (ap size_of (fixed_size space known named size ms extra good n o) ∙ size_again (get_member (codes "size") ms) size z) (fixed_others space known named size ms extra good n o) room;
+          knows = knows_more all first known named.name k (ap name_of (at_first all before after (fixed named size extra) first all_is first_is));
+          within = omega arith;
+          bound = omega (arith, held);
+          mentioned = omega (arith, named_at (fixed named size extra) after all_is, held);
+        }
 
     enum_trip : (ms extra : Members) (named : NamedView) (symbols : List (List ℕ)) (fallback : Option (List ℕ)) → IsNamed space ms known named → IsEnum ms symbols fallback → Others enum_keys ms extra → first < max_places
         → all ≡ before ++ enumeration named symbols fallback extra ∷ after → Trip (suc m) all space known first first (enumeration named symbols fallback extra ∷ []) (defined known named.name first)
-    enum_trip ms extra named symbols fallback n e o room all_is = record {
-      value = enum_value space named symbols fallback extra;
-      spelt = first_time (enumeration named symbols fallback extra) after all_is;
-      again = enum_type (enum_says space known named symbols fallback ms extra good n o) (enum_name space known named symbols fallback ms extra good n o)
-          (enum_again space known named symbols fallback ms extra good n o e) (enum_others space known named symbols fallback ms extra good n o) room;
-      knows = knows_more all first known named.name k (ap name_of (at_first all before after (enumeration named symbols fallback extra) first all_is first_is));
-      within = omega arith;
-      bound = omega (
-        arith,
-        named_found named (enum_members space known named symbols fallback ms extra good n o) (enum_titled space known named symbols fallback ms extra good n o) (enum_listed space known named symbols fallback ms extra good n o),
-      );
-    }
+    enum_trip ms extra named symbols fallback n e o room all_is =
+        let held = named_found named (enum_members space known named symbols fallback ms extra good n o) (enum_titled space known named symbols fallback ms extra good n o) (enum_listed space known named symbols fallback ms extra good n o) in
+        record {
+          value = enum_value space named symbols fallback extra;
+          spelt = first_time (enumeration named symbols fallback extra) after all_is;
+          again = enum_type (enum_says space known named symbols fallback ms extra good n o) (enum_name space known named symbols fallback ms extra good n o)
+              (enum_again space known named symbols fallback ms extra good n o e) (enum_others space known named symbols fallback ms extra good n o) room;
+          knows = knows_more all first known named.name k (ap name_of (at_first all before after (enumeration named symbols fallback extra) first all_is first_is));
+          within = omega arith;
+          bound = omega (arith, held);
+          mentioned = omega (arith, named_at (enumeration named symbols fallback extra) after all_is, held);
+        }
 
     record_trip : (ms extra : Members) (named : NamedView) (fields : List FieldView) (nodes : List NodeView) (known2 : Known) → IsNamed space ms known named → Others record_keys ms extra → first < max_places → AllDiffer (map (λ f. f.name) fields)
         → FieldsTrip m all (namespace_of named.name) (defined known named.name first) (first + 1) fields nodes known2
         → all ≡ before ++ rec named fields extra ∷ (nodes ++ after) → Trip (suc m) all space known first first (rec named fields extra ∷ nodes) known2
     record_trip ms extra named fields nodes known2 n o room d t all_is =
         let sum : first + 1 + length nodes ≡ first + suc (length nodes) = omega arith in
+        let held = record_found named (record_members space known named t.value ms extra good n o) (record_titled space known named t.value ms extra good n o) (record_listed space known named t.value ms extra good n o) t.value (record_held space known named t.value ms extra good n o) in
         record {
           value = record_value space named t.value extra;
           spelt = first_time (rec named fields extra) (nodes ++ after) all_is ∙ ap (λ (x : Spelt Items). (record_value space named x.0 extra, x.1)) t.spelt ∙ ap (λ (w : ℕ). (record_value space named t.value extra, w)) sum;
@@ -215,12 +231,8 @@ module _ (m : ℕ) (all before after : List NodeView) (space : List ℕ) (known 
               (record_others space known named t.value ms extra good n o) room t.again d;
           knows = subst (λ (w : ℕ). Knows all w known2) sum t.knows;
           within = omega arith;
-          bound = omega (
-            arith,
-            t.bound,
-            record_found named (record_members space known named t.value ms extra good n o) (record_titled space known named t.value ms extra good n o) (record_listed space known named t.value ms extra good n o) t.value
-                (record_held space known named t.value ms extra good n o),
-          );
+          bound = omega (arith, t.bound, held);
+          mentioned = omega (arith, t.mentioned, named_at (rec named fields extra) (nodes ++ after) all_is, held);
         }
 
 -- ---- what is no primitive's name
@@ -244,6 +256,7 @@ module _ (m : ℕ) (all : List NodeView) (space : List ℕ) where
     again = no_branch;
     knows = later all first 0 known k;
     bound = omega arith;
+    mentioned = omega arith;
   }
 
   branch_more : (known known2 known3 : Known) (first place kind : ℕ) (branches : List (ℕ × ℕ)) (nodes more : List NodeView) → branch_kind place nodes ≡ Some kind → Trip m all space known first place nodes known2
@@ -257,6 +270,7 @@ module _ (m : ℕ) (all : List NodeView) (space : List ℕ) where
         again = branch t.again is rest.again;
         knows = subst (λ (w : ℕ). Knows all w known3) sum rest.knows;
         bound = omega (arith, t.bound, rest.bound, names_append nodes more);
+        mentioned = omega (arith, t.mentioned, rest.mentioned, mentions_append all nodes more);
       }
 
   no_fields : (known : Known) (first : ℕ) → Knows all first known → FieldsTrip m all space known first [] [] known
@@ -267,6 +281,7 @@ module _ (m : ℕ) (all : List NodeView) (space : List ℕ) where
     again = no_field;
     knows = later all first 0 known k;
     bound = omega arith;
+    mentioned = omega arith;
   }
 
   field_more : (known known2 known3 : Known) (first : ℕ) (ms : Members) (f : FieldView) (fields : List FieldView) (nodes more : List NodeView) → IsField ms f → Trip m all space known first f.place nodes known2
@@ -281,6 +296,7 @@ module _ (m : ℕ) (all : List NodeView) (space : List ℕ) where
         again = field (field_again ms f t.value i) (field_type ms f t.value i) t.again rest.again;
         knows = subst (λ (w : ℕ). Knows all w known3) sum rest.knows;
         bound = omega (arith, t.bound, rest.bound, names_append nodes more, one_found (codes "type") t.value (field_members ms f t.value i) (field_type ms f t.value i));
+        mentioned = omega (arith, t.mentioned, rest.mentioned, mentions_append all nodes more, one_found (codes "type") t.value (field_members ms f t.value i) (field_type ms f t.value i));
       }
 
 -- ---- all types
@@ -358,10 +374,19 @@ root_is_first d place nodes known given =
     let t = trips given nodes [] [] (sym (append-nil nodes)) refl (nothing_known nodes 0) refl in
     omega (arith, t.within)
 
--- the identity text holds each full name and each full alias
-pub names_bounded : (d : Data) (place : ℕ) (nodes : List NodeView) (known : Known) → Denotes max_nesting [] d none_known 0 place nodes known → names_size nodes ≤ length (identity nodes)
-names_bounded d place nodes known given =
-    let t = trips given nodes [] [] (sym (append-nil nodes)) refl (nothing_known nodes 0) refl in
-    let root : place ≡ 0 = omega (arith, t.within) in
-    let written : t.value ≡ identity_value nodes = ap (λ (x : Spelt Data). x.0) (sym (ap (λ (q : ℕ). spelt_at max_nesting nodes [] q 0) (sym root) ∙ t.spelt)) in
-    omega (arith, t.bound, text_long (identity_value nodes), ap data_size written)
+module _ (d : Data) (place : ℕ) (nodes : List NodeView) (known : Known) (given : Denotes max_nesting [] d none_known 0 place nodes known) where
+  abbrev root_trip : Trip max_nesting nodes [] none_known 0 place nodes known
+  root_trip = trips given nodes [] [] (sym (append-nil nodes)) refl (nothing_known nodes 0) refl
+
+  value_written : root_trip.value ≡ identity_value nodes
+  value_written =
+      let root : place ≡ 0 = omega (arith, root_trip.within) in
+      ap (λ (x : Spelt Data). x.0) (sym (ap (λ (q : ℕ). spelt_at max_nesting nodes [] q 0) (sym root) ∙ root_trip.spelt))
+
+  -- the identity text holds each full name and each full alias
+  pub names_bounded : names_size nodes ≤ length (identity nodes)
+  names_bounded = omega (arith, root_trip.bound, text_long (identity_value nodes), ap data_size value_written)
+
+  -- and the name of each type that a node is made of
+  pub mentions_bounded : mentions nodes nodes ≤ length (identity nodes)
+  mentions_bounded = omega (arith, root_trip.mentioned, text_long (identity_value nodes), ap data_size value_written)

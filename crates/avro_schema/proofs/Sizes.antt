@@ -9,7 +9,8 @@ use Rattle.avro_nodes.specs.Nodes.{NamedView, NodeView}
 use Rattle.avro_nodes.specs.Identity.{texts}
 use Rattle.avro_nodes.proofs.Lengths.{data_size, items_size, members_size}
 use Rattle.avro_schema.specs.Members.{without}
-use Rattle.avro_schema.specs.Weight.{texts_size, named_size, node_size, names_size}
+use Rattle.avro_schema.specs.Weight.{texts_size, named_size, names_size}
+use Rattle.avro_schema.specs.Mentions.{mentions}
 use Rattle.avro_schema.proofs.Inversion.{get-without}
 use Rattle.avro_schema.proofs.RoundDeclarations.{aliases_due}
 
@@ -71,3 +72,7 @@ module _ (named : NamedView) (ms : Members) (name : get_member (codes "name") ms
 pub names_append : (nodes more : List NodeView) → names_size (nodes ++ more) ≡ names_size nodes + names_size more
 names_append [] more = omega arith
 names_append (node ∷ nodes) more = omega (arith, names_append nodes more)
+
+pub mentions_append : (all nodes more : List NodeView) → mentions all (nodes ++ more) ≡ mentions all nodes + mentions all more
+mentions_append all [] more = omega arith
+mentions_append all (node ∷ nodes) more = omega (arith, mentions_append all nodes more)

@@ -1,5 +1,5 @@
 -- What a text denotes, computed and by the rules.
-use Rattle.std.proofs.Common.{Bool, ◌≡◌, ◌≢◌, ℕ, ◌≤◌, List, [], length, true, false, cond, Option, Some, None, refl, sym, ap, subst, ◌∙◌, true≢false, length-append, arith, ◌<◌, ◌+◌, ◌&&◌}
+use Rattle.std.proofs.Common.{Bool, ◌≡◌, ◌≢◌, ℕ, ◌≤◌, List, [], length, true, false, cond, Option, Some, None, refl, sym, ap, subst, ◌∙◌, true≢false, length-append, arith, ◌<◌, ◌+◌}
 use Rattle.std.specs.Prelude.{nat_le, IsTrue}
 use Rattle.std.proofs.lemmas.Bool.Decides.{nat_tests}
 use Rattle.std.proofs.lemmas.Option.{same_Some}
@@ -18,15 +18,16 @@ use Rattle.avro_schema.specs.Defaults.{node_defaults_fit}
 use Rattle.avro_schema.specs.Denotes.{Denotes, a_primitive, a_reference, primitive_type, reference_type, array_type, map_type, fixed_type, enum_type, record_type, union_type, Branches, no_branch, branch, Fields, no_field, field}
 use Rattle.avro_schema.specs.Texts.{max_text, TextDenotes, IsSchema, value_in, root_in, typed, checked, denoted}
 use Rattle.avro_schema.specs.Weight.{weight}
+use Rattle.avro_schema.specs.Mentions.{mentions}
 use Rattle.avro_schema.specs.Outcome.{Fails, Adds}
 use Rattle.avro_schema.specs.declared.error.SchemaError.{SchemaError}
 use Rattle.avro_schema.specs.declared.error.SchemaError.TheVariants.{NotJson, BadNumber, BadName, Undefined, Redefined, BadShape, BadUnion, BadDefault, TooLarge, OutOfMemory}
-use Rattle.avro_schema.proofs.Inversion.{bind2, guard_some, guard_none}
+use Rattle.avro_schema.proofs.Inversion.{bind2, guard_some}
 use Rattle.avro_schema.proofs.Computes.{computes}
 use Rattle.avro_schema.proofs.Sound.{says}
 use Rattle.avro_schema.proofs.Passing.{denoted_nest, denoted_whole}
 use Rattle.avro_schema.proofs.Fitting.{defaults_say, defaults_compute}
-use Rattle.avro_schema.proofs.RoundTrip.{names_bounded}
+use Rattle.avro_schema.proofs.RoundTrip.{names_bounded, mentions_bounded}
 use Rattle.avro_schema.proofs.WeightLemmas.{weighs}
 
 nat_le_yes : (a b : ℕ) → a ≤ b → nat_le a b ≡ true
@@ -206,6 +207,13 @@ pub none_fitting : (text : List ℕ) (nodes : List NodeView) → typed text ≡ 
 none_fitting text nodes e misfit others t =
     let same : nodes ≡ others = same_Some _ _ (sym e ∙ denotes_typed text others t) in
     true≢false (sym (denotes_fitting text others t) ∙ ap (λ (x : List NodeView). node_defaults_fit x x) (sym same) ∙ misfit)
+
+-- where the names of the types that nodes are made of are too long, nothing is denoted
+pub none_mentioned : (text : List ℕ) (nodes : List NodeView) → typed text ≡ Some nodes → nat_le (mentions nodes nodes) max_text ≡ false → (others : List NodeView) → ¬ TextDenotes text others
+none_mentioned text nodes e long others t =
+    let same : nodes ≡ others = same_Some _ _ (sym e ∙ denotes_typed text others t) in
+    let fit : mentions others others ≤ max_text = omega (arith, mentions_bounded t.value 0 others t.known t.type_is, t.bounded) in
+    true≢false (sym (nat_le_yes (mentions others others) max_text fit) ∙ ap (λ (x : List NodeView). nat_le (mentions x x) max_text) (sym same) ∙ long)
 
 -- where the identity text is too long, nothing is denoted
 pub none_bounded : (text : List ℕ) (nodes : List NodeView) → typed text ≡ Some nodes → max_text < length (identity nodes) → (others : List NodeView) → ¬ TextDenotes text others

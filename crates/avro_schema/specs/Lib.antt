@@ -10,4 +10,5 @@ pub mod Reading
 pub mod Defaults
 pub mod Tables
 pub mod Weight
+pub mod Mentions
 pub mod Texts

@@ -6,6 +6,7 @@ mod defaults;
 mod definitions;
 mod distinct;
 mod error;
+mod mentions;
 mod names;
 mod nesting;
 mod reading;

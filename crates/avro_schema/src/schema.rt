@@ -8,6 +8,7 @@ ghost use Rattle.avro_schema.specs.Outcome.{Gives};
 
 use crate::defaults::defaults_fit;
 use crate::error::SchemaError;
+use crate::mentions::mentions_fit;
 use crate::names::Places;
 use crate::reading::type_at;
 use crate::weight::names_fit;
@@ -103,6 +104,9 @@ impl Schema {
             → (nodes : List NodeView) → ¬ TextDenotes text.now nodes) }
     {
         let nodes = nodes_of(alloc, text)?;
+        if !mentions_fit(&nodes) {
+            return Err(SchemaError::TooLarge);
+        }
         if !defaults_fit(alloc, &nodes)? {
             return Err(SchemaError::BadDefault);
         }

@@ -1,8 +1,9 @@
 //! Expected texts are those of the project's profile, written out.
 
+use crate::mentions::mentions_fit;
 use crate::weight::names_fit;
 use crate::{Schema, SchemaError};
-use avro_nodes::Node;
+use avro_nodes::{Extra, Named, Node};
 use serde_json::Value;
 use std::alloc::{AllocError, Global};
 use std::process::Abort;
@@ -402,7 +403,7 @@ fn sizes(rt: HostRuntime) -> Result<(), Fail> {
         text.push_str(r#""int""#)?;
         assert_eq!(rt; verdict(alloc, text.as_str()), want, "text");
     }
-    for (count, want) in [(1000, "read"), (1100, "TooLarge")] {
+    for (count, want) in [(1000, "read"), (1100, "TooLarge"), (20000, "TooLarge")] {
         assert_eq!(rt;
             verdict(alloc, repeated(alloc, count)?.as_str()),
             want,
@@ -426,6 +427,31 @@ fn names_of_a_value(rt: HostRuntime) -> Result<(), Fail> {
         let text = aliased(alloc, count)?;
         let value = Value::from_str(alloc, text.as_str())?;
         assert_eq!(rt; names_fit(&value), want);
+    }
+    Ok(())
+}
+
+#[test]
+fn mentions_of_nodes(rt: HostRuntime) -> Result<(), Fail> {
+    let alloc = rt.alloc();
+    for (count, want) in [(524288, true), (524289, false)] {
+        let named = Named {
+            name: repeat(alloc, "n", count)?,
+            aliases: Vec::new(alloc),
+        };
+        let mut nodes = Vec::new(alloc);
+        nodes.push(Node::Fixed {
+            named,
+            size: 1,
+            extra: Extra::new(alloc),
+        })?;
+        for items in [0, 0, 1] {
+            nodes.push(Node::Array {
+                items,
+                extra: Extra::new(alloc),
+            })?;
+        }
+        assert_eq!(rt; mentions_fit(&nodes), want);
     }
     Ok(())
 }

@@ -1,0 +1,83 @@
+//! How many bytes the names of the types that nodes are made of will take in the identity text. It
+//! refers to a type by its full name, so that it may be far longer than the nodes are large.
+ghost use Rattle.std.specs.Prelude.{◌≡◌, ◌-◌, length, map, nat_le};
+ghost use Rattle.avro_nodes.specs.Nodes.{field_view, node_view, nodes_view};
+ghost use Rattle.avro_schema.specs.Texts.{max_text};
+ghost use Rattle.avro_schema.specs.Mentions.{mention, places_mentions, fields_mentions, node_mentions, mentions};
+
+use avro_nodes::{Field, Node};
+
+/// The most bytes of these names: they stand in the identity text, which may not be longer.
+const MAX_MENTIONS: usize = 1048576;
+
+/// How long the full name of the type at the place is.
+#[tactic(auto, unfolding(crate::specs::Mentions::mention))]
+fn name_length(nodes: &[Node], place: u32) -> usize
+    ensures { result ≡ mention (nodes_view nodes.now) place }
+{
+    match nodes.get(place as usize) {
+        Some(Node::Enum { named, .. }) => named.name.len(),
+        Some(Node::Fixed { named, .. }) => named.name.len(),
+        Some(Node::Rec { named, .. }) => named.name.len(),
+        Some(Node::Primitive { .. } | Node::Array { .. } | Node::Map { .. } | Node::Union { .. })
+        | None => 0,
+    }
+}
+
+/// What is left of a number of bytes after the name of the type at the place, and nothing where
+/// they do not suffice.
+fn after_place(left: usize, place: u32, nodes: &[Node]) -> usize
+    ensures { result ≡ left - mention (nodes_view nodes.now) place }
+{
+    left.saturating_sub(name_length(nodes, place))
+}
+
+fn after_places(left: usize, places: &Vec<u32>, nodes: &[Node]) -> usize
+    ensures { result ≡ left - places_mentions (nodes_view nodes.now) places.now.items }
+{
+    let mut rest = left;
+    for place in places {
+        rest = after_place(rest, *place, nodes);
+    }
+    rest
+}
+
+fn after_fields(left: usize, fields: &Vec<Field>, nodes: &[Node]) -> usize
+    ensures { result ≡ left - fields_mentions (nodes_view nodes.now) (map field_view fields.now.items) }
+{
+    let mut rest = left;
+    for field in fields {
+        rest = after_place(rest, field.place, nodes);
+    }
+    rest
+}
+
+/// What is left after the names of the types that a node is made of.
+fn after_node(left: usize, node: &Node, nodes: &[Node]) -> usize
+    ensures { result ≡ left - node_mentions (nodes_view nodes.now) (node_view node.now) }
+{
+    match node {
+        Node::Array { items, .. } => after_place(left, *items, nodes),
+        Node::Map { values, .. } => after_place(left, *values, nodes),
+        Node::Union { branches } => after_places(left, branches, nodes),
+        Node::Rec { fields, .. } => after_fields(left, fields, nodes),
+        Node::Primitive { .. } | Node::Enum { .. } | Node::Fixed { .. } => left,
+    }
+}
+
+fn after_nodes(left: usize, nodes: &[Node]) -> usize
+    ensures { result ≡ left - mentions (nodes_view nodes.now) (nodes_view nodes.now) }
+{
+    let mut rest = left;
+    for node in nodes {
+        rest = after_node(rest, node, nodes);
+    }
+    rest
+}
+
+/// Whether the names of the types that the nodes are made of keep to their limit.
+pub fn mentions_fit(nodes: &[Node]) -> bool
+    ensures { result ≡ nat_le (mentions (nodes_view nodes.now) (nodes_view nodes.now)) max_text }
+{
+    after_nodes(MAX_MENTIONS + 1, nodes) > 0
+}
