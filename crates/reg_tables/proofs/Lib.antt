@@ -7,6 +7,7 @@ pub mod Statements
 pub mod KeyedTables
 pub mod Creation
 pub mod TableWrites
+pub mod Faults
 pub mod TableReads
 pub mod TableLines
 pub mod ListingLemmas

@@ -1,5 +1,11 @@
 -- What a look-up by its key shows of the contents.
-use Rattle.std.proofs.Common.{◌≡◌, ℕ, List, [], ◌∷◌, Option, None, Some, MatchOption, slice_get, codes, refl, sym, ap, ◌∙◌}
+use Rattle.std.proofs.Common.{◌≡◌, ◌≢◌, ◌<◌, ℕ, List, [], ◌∷◌, length, Option, None, Some, MatchOption, slice_get, codes, refl, sym, ap, ◌∙◌, arith}
+use Rattle.std.specs.Prelude.{IsUtf8}
+use Rattle.sqlite.specs.declared.error.ErrorCode.TheVariants as code
+use Rattle.sqlite.specs.declared.error.Error.{Error}
+use Rattle.sqlite.specs.declared.error.Error.TheVariants.{SqliteFailure}
+use Rattle.sqlite.specs.Reading.{IsReadError}
+use Rattle.reg_tables.proofs.Faults.{memory_if_readable}
 use Rattle.std.specs.FinMap.{get}
 use Rattle.sqlite.specs.declared.types.Value.TheVariants.{Text}
 use Rattle.sqlite.specs.Order.{Row, column}
@@ -30,3 +36,10 @@ module _ (old new : State) (contents : Contents) (h : Holds old.now contents) (k
       first_found kept_form (get contents.kept k) found
       (finds kept_form text_cmp text_order kept.tree old new (get contents.kept) k find_kept (Text k ∷ []) by_key (col 1 2 ∷ col 1 3 ∷ col 1 4 ∷ []) (codes "command" ∷ codes "status" ∷ codes "body" ∷ []) found h.declared h.kept find_kept_is
       (λ row q is. by_key_test row k q is) (λ row. refl) shown) o first
+
+-- a text that a `String` holds is read, but for want of memory
+pub text_read : (row : Row) (text : List ℕ) (e : Error) → row ≡ text_cells text → IsUtf8 text → IsReadError 0 (column row 0) e
+    → (e ≢ SqliteFailure code.OutOfMemory → 0 < length row → ¬ ((t : List ℕ) × (column row 0 ≡ Text t) × IsUtf8 t)) → e ≡ SqliteFailure code.OutOfMemory
+text_read row text e is utf8 named kind =
+    let within : 0 < length row = rw is (omega arith) in
+    memory_if_readable 0 (column row 0) e ((t : List ℕ) × (column row 0 ≡ Text t) × IsUtf8 t) (text, ap (λ (r : Row). column r 0) is, utf8) named (λ other. kind other within)

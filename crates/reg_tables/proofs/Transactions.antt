@@ -70,3 +70,7 @@ if_ok (Err e) f h = tt
 pub on_if_ok : {X E : Type 0} {P : X → Type 0} {Q : Type 0} (r : Result X E) → ((x : X) → P x → Q) → IfOk r P → OnOk r Q
 on_if_ok (Ok x) f h = f x h
 on_if_ok (Err e) f h = tt
+
+pub if_err : {X E : Type 0} {P Q : E → Type 0} (r : Result X E) → ((e : E) → P e → Q e) → IfErr r P → IfErr r Q
+if_err (Ok x) f h = tt
+if_err (Err e) f h = f e h

@@ -1,5 +1,5 @@
 -- What the tables hold, as finite maps. Texts are lists of bytes.
-use Rattle.std.specs.Prelude.{◌≡◌, ℕ, pos, Bool, true, false, List, [], ◌∷◌}
+use Rattle.std.specs.Prelude.{◌≡◌, ℕ, ◌<◌, ◌^◌, pos, Bool, true, false, List, [], ◌∷◌, Some, IsUtf8}
 use Rattle.std.specs.declared.cmp.Ordering.{Ordering}
 use Rattle.std.specs.Ordering.{nat_cmp, on, then_cmp}
 use Rattle.std.specs.Cmp.Lexicographic.{slice_cmp}
@@ -96,3 +96,17 @@ pub record Holds (db : Database) (contents : Contents) : Type 0 where
   pub levels : ShowsMap pair_form (db.trees levels.tree) (get contents.levels)
   pub kept : ShowsMap kept_form (db.trees kept.tree) (get contents.kept)
   pub meta : ShowsMap pair_form (db.trees meta.tree) (get contents.meta)
+
+-- texts are UTF-8, and the status is below 2^32
+pub record IsReadableReply (reply : KeptRow) : Type 0 where
+  pub command : IsUtf8 reply.command
+  pub status : reply.status < 2 ^ 32
+  pub body : IsUtf8 reply.body
+
+-- each text is UTF-8, and each number is below 2^32, as a `String` and a `u32` hold them
+pub record AreReadable (contents : Contents) : Type 0 where
+  pub texts : (id : ℕ) (text : List ℕ) → get contents.texts id ≡ Some text → (id < 2 ^ 32) × IsUtf8 text
+  pub versions : (key : List ℕ × ℕ) (version : VersionRow) → get contents.versions key ≡ Some version → IsUtf8 key.0 × (key.1 < 2 ^ 32) × (version.id < 2 ^ 32)
+  pub levels : (subject level : List ℕ) → get contents.levels subject ≡ Some level → IsUtf8 subject × IsUtf8 level
+  pub kept : (key : List ℕ) (reply : KeptRow) → get contents.kept key ≡ Some reply → IsUtf8 key × IsReadableReply reply
+  pub meta : (name value : List ℕ) → get contents.meta name ≡ Some value → IsUtf8 name × IsUtf8 value

@@ -1,16 +1,16 @@
 //! What is kept under retry keys.
 
-ghost use Rattle.std.specs.Prelude.{◌≡◌, None, Some, OnOk, IfOk, IsTrue, MatchOption, false};
+ghost use Rattle.std.specs.Prelude.{◌≡◌, None, Some, OnOk, IfOk, IfErr, IsTrue, MatchOption, false};
 ghost use Rattle.std.specs.FinMap.{get};
 ghost use Rattle.sqlite.specs.Held.{state};
 ghost use Rattle.sqlite.specs.State.{HasCleanDisk, Survives, KeepsCommit};
-ghost use Rattle.reg_tables.specs.Contents.{KeptRow, Contents, kept_cells, Holds};
+ghost use Rattle.reg_tables.specs.Contents.{KeptRow, Contents, kept_cells, IsReadableReply, AreReadable, Holds};
 ghost use Rattle.reg_tables.specs.Changes.{with_kept};
-ghost use Rattle.reg_tables.specs.Reading.{OnlyReads};
+ghost use Rattle.reg_tables.specs.Reading.{IsFault, OnlyReads};
 ghost use Rattle.reg_tables.specs.Replies.{kept_row};
 
 use crate::statement::{ask, run};
-use sqlite::{Alter, Connection, Error, Row, Transaction, params};
+use sqlite::{Alter, Connection, Error, ErrorCode, Row, Transaction, params};
 
 /// A command's text and its reply, as they are kept under a retry key.
 #[derive(Debug, Drop)]
@@ -48,7 +48,10 @@ pub fn keep_reply<S: Alter>(
 }
 
 fn reply_in(row: &Row) -> Result<KeptReply, Error>
-    ensures { IfOk result (λ reply. (kept : KeptRow) → row.now ≡ kept_cells kept → kept_row reply ≡ kept) }
+    ensures ok { IfOk result (λ reply. (kept : KeptRow) → row.now ≡ kept_cells kept
+        → kept_row reply ≡ kept) }
+    ensures err { IfErr result (λ e. (kept : KeptRow) → row.now ≡ kept_cells kept
+        → IsReadableReply kept → e ≡ Error.SqliteFailure ErrorCode.OutOfMemory) }
 {
     Ok(KeptReply {
         command: row.get(0)?,
@@ -65,6 +68,9 @@ pub fn kept_reply<S: Alter>(conn: &mut Connection<S>, key: &str) -> Result<Optio
         (contents : Contents) → Holds (state S.Store conn.old).now contents
         → MatchOption found (get contents.kept key.now ≡ None)
         (λ reply. get contents.kept key.now ≡ Some (kept_row reply))) }
+    ensures fault { HasCleanDisk (state S.Store conn.new) → IfErr result (λ e.
+        (contents : Contents) → Holds (state S.Store conn.old).now contents
+        → AreReadable contents → IsFault (state S.Store conn.old) e) }
     ensures was_open { HasCleanDisk (state S.Store conn.new)
         → OnOk result (IsTrue (state S.Store conn.old).is_open) }
     ensures only_reads { HasCleanDisk (state S.Store conn.new)

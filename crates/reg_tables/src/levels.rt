@@ -1,12 +1,12 @@
 //! The own levels of subjects. (Schema Registry API reference, Config.)
 
-ghost use Rattle.std.specs.Prelude.{◌≡◌, None, Some, OnOk, IfOk, IsTrue, MatchOption, false, string_bytes};
+ghost use Rattle.std.specs.Prelude.{◌≡◌, None, Some, OnOk, IfOk, IfErr, IsTrue, MatchOption, false, string_bytes};
 ghost use Rattle.std.specs.FinMap.{get};
 ghost use Rattle.sqlite.specs.Held.{state};
 ghost use Rattle.sqlite.specs.State.{HasCleanDisk, Survives, KeepsCommit};
-ghost use Rattle.reg_tables.specs.Contents.{Contents, Holds};
+ghost use Rattle.reg_tables.specs.Contents.{Contents, AreReadable, Holds};
 ghost use Rattle.reg_tables.specs.Changes.{Changes, with_level, without_level};
-ghost use Rattle.reg_tables.specs.Reading.{OnlyReads};
+ghost use Rattle.reg_tables.specs.Reading.{IsFault, OnlyReads};
 
 use crate::statement::{ask, run};
 use sqlite::{Alter, Connection, Error, Transaction, params};
@@ -74,6 +74,9 @@ pub fn own_level<S: Alter>(conn: &mut Connection<S>, subject: &str) -> Result<Op
         (contents : Contents) → Holds (state S.Store conn.old).now contents
         → MatchOption found (get contents.levels subject.now ≡ None)
         (λ level. get contents.levels subject.now ≡ Some (string_bytes level))) }
+    ensures fault { HasCleanDisk (state S.Store conn.new) → IfErr result (λ e.
+        (contents : Contents) → Holds (state S.Store conn.old).now contents
+        → AreReadable contents → IsFault (state S.Store conn.old) e) }
     ensures was_open { HasCleanDisk (state S.Store conn.new)
         → OnOk result (IsTrue (state S.Store conn.old).is_open) }
     ensures only_reads { HasCleanDisk (state S.Store conn.new)

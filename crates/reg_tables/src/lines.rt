@@ -1,13 +1,13 @@
 //! All rows of each table, with their rowids, as the test of a database needs them.
 
-ghost use Rattle.std.specs.Prelude.{◌≡◌, OnOk, IfOk, IsTrue, false, map};
+ghost use Rattle.std.specs.Prelude.{◌≡◌, OnOk, IfOk, IfErr, IsTrue, false, map};
 ghost use Rattle.sqlite.specs.Order.{Row as SqlRow, column};
 ghost use Rattle.sqlite.specs.Held.{state};
 ghost use Rattle.sqlite.specs.State.{HasCleanDisk, Survives};
 ghost use Rattle.reg_tables.specs.Layout.{layout};
-ghost use Rattle.reg_tables.specs.Contents.{flag_cell, text_form, version_form, pair_form, kept_form};
+ghost use Rattle.reg_tables.specs.Contents.{Contents, AreReadable, Holds, flag_cell, text_form, version_form, pair_form, kept_form};
 ghost use Rattle.reg_tables.specs.Listings.{Parts, parts_of, entry_parts, text_entry, version_entry, level_entry, kept_entry, meta_entry, ListsTexts, ListsVersions, ListsLevels, ListsKept, ListsMeta};
-ghost use Rattle.reg_tables.specs.Reading.{OnlyReads};
+ghost use Rattle.reg_tables.specs.Reading.{IsFault, OnlyReads};
 
 use crate::kept::KeptReply;
 use crate::statement::ask;

@@ -1,8 +1,8 @@
 //! One statement: a write in a transaction, or a query in a transaction of its own.
 
-ghost use Rattle.std.specs.Prelude.{◌≡◌, ◌⊎◌, ℕ, Ok, OnOk, IfOk, IsTrue, true, false};
+ghost use Rattle.std.specs.Prelude.{◌≡◌, ◌⊎◌, ℕ, Ok, IfErr, OnOk, IfOk, IsTrue, true, false};
 ghost use Rattle.sqlite.specs.Held.{Held, state};
-ghost use Rattle.sqlite.specs.State.{HasCleanDisk, Survives, KeepsCommit, ExecutesInside, Shown};
+ghost use Rattle.sqlite.specs.State.{HasCleanDisk, Survives, KeepsCommit, ExecutesInside, Shown, FailsToQuery, IsTooLate};
 ghost use Rattle.sqlite.specs.Values.{bound};
 ghost use Rattle.reg_tables.specs.Reading.{OnlyReads};
 
@@ -39,6 +39,11 @@ pub(crate) fn ask<S: Alter>(
     ensures shown { HasCleanDisk (state S.Store conn.new) → IfOk result (λ rows. (last : Held S)
         × Shown sql.now (bound values.now) (state S.Store (record conn.old { in_transaction = true }))
         (state S.Store last) rows.items) }
+    ensures failed { HasCleanDisk (state S.Store conn.new) → IfErr result (λ e. (last : Held S)
+        × (FailsToQuery sql.now (bound values.now) (state S.Store (record conn.old { in_transaction = true }))
+                (state S.Store last) e
+            ⊎ IsTooLate sql.now (bound values.now) (state S.Store (record conn.old { in_transaction = true }))
+                (state S.Store last) e)) }
     ensures was_open { HasCleanDisk (state S.Store conn.new)
         → OnOk result (IsTrue (state S.Store conn.old).is_open) }
     ensures only_reads { HasCleanDisk (state S.Store conn.new)

@@ -2,7 +2,7 @@ use Rattle.std.proofs.Common.{◌≡◌, ◌∙◌, sym, ap, subst, arith, rules
 use Rattle.sqlite.specs.Held.{Held, state}
 use Rattle.sqlite.specs.State.{HasCleanDisk, KeepsCommit}
 use Rattle.reg_tables.specs.Reading.{OnlyReads}
-use Rattle.reg_tables.proofs.Transactions.{keeps_then, keeps_if_undone, asked_keeps, shown_open, if_ok, on_if_ok}
+use Rattle.reg_tables.proofs.Transactions.{keeps_then, keeps_if_undone, asked_keeps, shown_open, if_ok, if_err, on_if_ok}
 use Rattle.reg_tables.proofs.statement.ask.Goals as goal
 
 pub returns-clause-shown : goal.returns-clause-shown
@@ -12,6 +12,14 @@ returns-clause-shown g c clean =
     let late : HasCleanDisk (state g.S.Store end) = search rules in
     let early : HasCleanDisk (state g.S.Store c.query_all-rows.new.self.conn.now) = omega (arith, c.rollback.ensures.survives.clean) in
     if_ok c.query_all-rows.result (λ rows shown. (c.query_all-rows.new.self.conn.now, rw c.transaction-tx.ensures.begun at shown)) (c.query_all-rows.ensures.ok early)
+
+pub returns-clause-failed : goal.returns-clause-failed
+returns-clause-failed g c clean =
+    let end = c.rollback.new.self.0 in
+    let same : end ≡ c.conn-1.given.0 = search rules in
+    let late : HasCleanDisk (state g.S.Store end) = search rules in
+    let early : HasCleanDisk (state g.S.Store c.query_all-rows.new.self.conn.now) = omega (arith, c.rollback.ensures.survives.clean) in
+    if_err c.query_all-rows.result (λ e failed. (c.query_all-rows.new.self.conn.now, rw c.transaction-tx.ensures.begun at failed)) (c.query_all-rows.ensures.err early)
 
 pub returns-clause-was_open : goal.returns-clause-was_open
 returns-clause-was_open g c clean =
