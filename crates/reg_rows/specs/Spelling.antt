@@ -1,8 +1,8 @@
 -- Which rows of the five tables hold a registry, and what is kept beside it (this project's choice, but where a public
 -- document is named). That no key of a table stands twice, and that each id is that of a text, is the tables' own matter.
-use Rattle.std.specs.Prelude.{◌≡◌, ℕ, ◌==◌, ◌&&◌, ◌||◌, Bool, false, IsTrue, List, [], ◌∷◌, codes, map, bytes_eq, if◌then◌else◌, Option, None, Some, is_some, String, string_bytes}
+use Rattle.std.specs.Prelude.{◌≡◌, ℕ, ◌==◌, ◌&&◌, Bool, false, IsTrue, List, [], ◌∷◌, codes, map, bytes_eq, if◌then◌else◌, Option, None, Some, is_some, String, string_bytes}
 use Rattle.std.specs.declared.alloc.Global.{Global}
-use Rattle.std.specs.List.{All, list_any, list_all}
+use Rattle.std.specs.List.{AllByRecursion, list_any, list_all}
 use Rattle.reg_core.specs.Keys.{IsKey}
 use Rattle.reg_core.specs.Levels.{level_of}
 use Rattle.reg_core.specs.Subjects.{is_subject}
@@ -15,8 +15,8 @@ Text = String Global
 -- ---- levels
 
 -- Schema Registry API reference, Config: a subject, and how one of the seven levels is spelt
-abbrev pub is_level_row : List ℕ → List ℕ → Bool
-is_level_row subject level = is_subject subject && is_some (level_of level)
+abbrev pub IsLevelRow : Text × Text → Type 0
+IsLevelRow row = IsTrue (is_subject (string_bytes row.0)) × IsTrue (is_some (level_of (string_bytes row.1)))
 
 -- ---- kept replies
 
@@ -28,9 +28,8 @@ abbrev pub is_kept_status : ℕ → Bool
 is_kept_status status = list_any (λ s. status == s) kept_statuses
 
 -- a retry key, and a status; the command and the body may be any texts
-pub record IsKeptRow (key : List ℕ) (status : ℕ) : Type 0 where
-  pub is_key : IsKey key
-  pub is_kept : IsTrue (is_kept_status status)
+abbrev pub IsKeptRow : Text × Text × ℕ × Text → Type 0
+IsKeptRow row = IsKey (string_bytes row.0) × IsTrue (is_kept_status row.2)
 
 -- ---- what the database is
 
@@ -73,6 +72,6 @@ is_meta rows = has_value (codes "avroreg") (value_at (codes "format") rows) && h
 pub record IsSpelling (t : Tables) : Type 0 where
   pub texts : t.texts.items ≡ []
   pub versions : t.versions.items ≡ []
-  pub levels : All (λ row. IsTrue (is_level_row (string_bytes row.0) (string_bytes row.1))) t.levels.items
-  pub kept : All (λ row. IsKeptRow (string_bytes row.0) row.2) t.kept.items
+  pub levels : AllByRecursion IsLevelRow t.levels.items
+  pub kept : AllByRecursion IsKeptRow t.kept.items
   pub meta : IsTrue (is_meta (map pair_of t.meta.items))

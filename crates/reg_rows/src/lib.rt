@@ -5,5 +5,7 @@
 mod meta;
 mod rows;
 mod tables;
+#[cfg(test)]
+mod tests;
 
 pub use tables::{Tables, spells};

@@ -1,15 +1,28 @@
 //! The rows of `levels` and `kept`.
 
-ghost use Rattle.std.specs.Prelude.{IsTrue, ◌↔◌, ◌≡◌, string_bytes};
-ghost use Rattle.reg_rows.specs.Spelling.{is_level_row, is_kept_status, IsKeptRow};
+ghost use Rattle.std.specs.Prelude.{IsTrue, ◌↔◌, ◌≡◌};
+ghost use Rattle.std.specs.List.{AllByRecursion};
+ghost use Rattle.reg_rows.specs.Spelling.{IsLevelRow, is_kept_status, IsKeptRow};
 
 use reg_core::{Key, Level, is_subject};
 
 /// Whether a row of `levels` has a subject and a level.
-pub fn is_level_row(row: &(String, String)) -> bool
-    ensures { result ≡ is_level_row (string_bytes row.now.0) (string_bytes row.now.1) }
+fn is_level_row(row: &(String, String)) -> bool
+    ensures { IsTrue result ↔ IsLevelRow row.now }
 {
     is_subject(row.0.as_str()) && Level::parse(row.1.as_str()).is_some()
+}
+
+/// Whether each row of `levels` has a subject and a level.
+pub fn are_level_rows(rows: &[(String, String)]) -> bool
+    ensures { IsTrue result ↔ AllByRecursion IsLevelRow rows.now }
+{
+    for row in rows {
+        if !is_level_row(row) {
+            return false;
+        }
+    }
+    true
 }
 
 /// Whether a reply of this status is ever kept.
@@ -23,8 +36,20 @@ fn is_kept_status(status: u32) -> bool
 }
 
 /// Whether a row of `kept` has a retry key, and the status of a reply that is kept.
-pub fn is_kept_row(row: &(String, String, u32, String)) -> bool
-    ensures { IsTrue result ↔ IsKeptRow (string_bytes row.now.0) row.now.2 }
+fn is_kept_row(row: &(String, String, u32, String)) -> bool
+    ensures { IsTrue result ↔ IsKeptRow row.now }
 {
     Key::parse(row.0.as_str()).is_some() && is_kept_status(row.2)
+}
+
+/// Whether each row of `kept` is one that is kept.
+pub fn are_kept_rows(rows: &[(String, String, u32, String)]) -> bool
+    ensures { IsTrue result ↔ AllByRecursion IsKeptRow rows.now }
+{
+    for row in rows {
+        if !is_kept_row(row) {
+            return false;
+        }
+    }
+    true
 }

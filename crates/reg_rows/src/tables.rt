@@ -4,7 +4,7 @@ ghost use Rattle.std.specs.Prelude.{IsTrue, ◌↔◌, map};
 ghost use Rattle.reg_rows.specs.Spelling.{IsSpelling};
 
 use crate::meta::is_meta;
-use crate::rows::{is_kept_row, is_level_row};
+use crate::rows::{are_kept_rows, are_level_rows};
 
 /// The rows of the five tables of layout 1, those of each in any order.
 #[derive(Debug, Drop)]
@@ -31,10 +31,10 @@ pub fn spells(tables: &Tables) -> bool
     if !tables.versions.is_empty() {
         return false;
     }
-    if !tables.levels.iter().all(|row| is_level_row(row)) {
+    if !are_level_rows(&tables.levels) {
         return false;
     }
-    if !tables.kept.iter().all(|row| is_kept_row(row)) {
+    if !are_kept_rows(&tables.kept) {
         return false;
     }
     is_meta(&tables.meta)

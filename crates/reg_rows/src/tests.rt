@@ -1,0 +1,125 @@
+//! Rows that hold a registry, and rows that just don't.
+
+use crate::{Tables, spells};
+use std::alloc::{AllocError, Global};
+use std::test::Fail;
+
+/// Rows of `levels`, a subject before its level, and whether they pass.
+const LEVELS: &str = "s FULL true
+a/b NONE true
+s full false
+s LATEST false
+\u{7f} FULL false";
+
+/// Rows of `kept`, a key and a status, and whether they pass.
+const KEPT: &str = "k1 200 true
+a.b_c- 404 true
+k 409 true
+k 422 true
+k 400 false
+k 500 false
+k! 200 false";
+
+/// Further rows of `meta`, or other values, and whether they pass.
+const META: &str = "avroreg 1 FULL global true
+avroreg 1 NONE global true
+avro 1 FULL global false
+avroreg 2 FULL global false
+avroreg 01 FULL global false
+avroreg 1 full global false
+avroreg 1 FULL mode false";
+
+fn text(alloc: Global, text: &str) -> Result<String, AllocError> {
+    String::from_str(alloc, text)
+}
+
+/// The rows of a new registry.
+fn new_tables(alloc: Global) -> Result<Tables, Fail> {
+    let mut meta = Vec::new(alloc);
+    meta.push((text(alloc, "format")?, text(alloc, "avroreg")?))?;
+    meta.push((text(alloc, "layout")?, text(alloc, "1")?))?;
+    meta.push((text(alloc, "global")?, text(alloc, "BACKWARD")?))?;
+    Ok(Tables {
+        texts: Vec::new(alloc),
+        versions: Vec::new(alloc),
+        levels: Vec::new(alloc),
+        kept: Vec::new(alloc),
+        meta,
+    })
+}
+
+#[test]
+fn a_new_registry(rt: HostRuntime) -> Result<(), Fail> {
+    let alloc = rt.alloc();
+    assert!(rt; spells(&new_tables(alloc)?));
+    let mut with_text = new_tables(alloc)?;
+    with_text.texts.push((1, text(alloc, "\"int\"")?))?;
+    assert!(rt; !spells(&with_text));
+    let mut with_version = new_tables(alloc)?;
+    with_version
+        .versions
+        .push((text(alloc, "s")?, 1, 1, false))?;
+    assert!(rt; !spells(&with_version));
+    let mut short = new_tables(alloc)?;
+    short.meta.pop();
+    assert!(rt; !spells(&short));
+    Ok(())
+}
+
+#[test]
+fn levels(rt: HostRuntime) -> Result<(), Fail> {
+    let alloc = rt.alloc();
+    for row in LEVELS.lines() {
+        let mut parts = row.split(' ');
+        let subject = parts.next().ok_or("no subject")?;
+        let level = parts.next().ok_or("no level")?;
+        let mut tables = new_tables(alloc)?;
+        tables
+            .levels
+            .push((text(alloc, subject)?, text(alloc, level)?))?;
+        assert_eq!(rt; spells(&tables), parts.next() == Some("true"), "{row}");
+    }
+    Ok(())
+}
+
+#[test]
+fn kept_replies(rt: HostRuntime) -> Result<(), Fail> {
+    let alloc = rt.alloc();
+    for row in KEPT.lines() {
+        let mut parts = row.split(' ');
+        let key = parts.next().ok_or("no key")?;
+        let status = parts.next().ok_or("no status")?;
+        let Ok(status) = status.parse::<u32>() else {
+            return Err("no number".into());
+        };
+        let mut tables = new_tables(alloc)?;
+        tables.kept.push((
+            text(alloc, key)?,
+            text(alloc, "")?,
+            status,
+            text(alloc, "")?,
+        ))?;
+        assert_eq!(rt; spells(&tables), parts.next() == Some("true"), "{row}");
+    }
+    Ok(())
+}
+
+#[test]
+fn what_the_database_is(rt: HostRuntime) -> Result<(), Fail> {
+    let alloc = rt.alloc();
+    for row in META.lines() {
+        let mut parts = row.split(' ');
+        let mut tables = new_tables(alloc)?;
+        tables.meta.clear();
+        for name in ["format", "layout", "global"] {
+            let value = parts.next().ok_or("no value")?;
+            tables.meta.push((text(alloc, name)?, text(alloc, value)?))?;
+        }
+        let name = parts.next().ok_or("no name")?;
+        if name != "global" {
+            tables.meta.push((text(alloc, name)?, text(alloc, "")?))?;
+        }
+        assert_eq!(rt; spells(&tables), parts.next() == Some("true"), "{row}");
+    }
+    Ok(())
+}
