@@ -1,5 +1,5 @@
 -- What is left at the end, and what was struck out, as witnesses.
-use Rattle.std.proofs.Common.{◌≡◌, ℕ, zero, suc, ◌+◌, ◌*◌, ◌<◌, ◌≤◌, List, [], ◌∷◌, ◌++◌, Bool, true, false, cond, not, length, refl, sym, ap, subst, ◌∙◌, arith, true≢false, inl, inr, length-append}
+use Rattle.std.proofs.Common.{◌≡◌, ℕ, zero, suc, ◌+◌, ◌*◌, ◌<◌, ◌≤◌, List, [], ◌∷◌, ◌++◌, Bool, true, false, cond, not, length, refl, sym, subst, ◌∙◌, arith, true≢false, inl, inr, length-append}
 use Rattle.std.specs.Prelude.{IsTrue, ◌⊎◌, ◌↔◌}
 use Rattle.std.proofs.lemmas.Bool.{cases_lt}
 use Rattle.avro_nodes.specs.Nodes.{NodeView}
@@ -11,7 +11,7 @@ use Rattle.avro_resolve.specs.Left.{left, IsLeft}
 use Rattle.avro_schema.specs.Texts.{IsSchema}
 use Rattle.avro_resolve.proofs.Denoted.{some_node, is_whole}
 use Rattle.avro_resolve.proofs.Monotone.{supports_below, supported_in}
-use Rattle.avro_resolve.proofs.Members.{member-nil, member-cons, member_head, member_tail, member_cases, member_front, refuted}
+use Rattle.avro_resolve.proofs.Members.{member-nil, member_head, member_tail, member_cases, member_front, refuted}
 
 -- ---- the pairs of a set, listed
 

@@ -1,6 +1,6 @@
 -- Every schema resolves with itself.
-use Rattle.std.proofs.Common.{◌≡◌, ◌≢◌, ℕ, ◌+◌, ◌<◌, ◌≤◌, List, [], ◌∷◌, Option, Some, None, Bool, true, false, cond, ◌||◌, ◌&&◌, length, get_or, refl, sym, ap, subst, ◌∙◌, true≢false, inl, inr, arith}
-use Rattle.std.specs.Prelude.{IsTrue, ◌⊎◌, ◌==◌, nat_eq, nat_lt, All, Any, MatchOption, IsSome, slice_get}
+use Rattle.std.proofs.Common.{◌≡◌, ℕ, ◌<◌, List, Option, Some, None, Bool, true, false, ◌||◌, ◌&&◌, length, get_or, refl, sym, subst, ◌∙◌, true≢false, inl, inr, arith}
+use Rattle.std.specs.Prelude.{IsTrue, ◌⊎◌, ◌==◌, nat_lt, All, Any, MatchOption, IsSome, slice_get}
 use Rattle.std.specs.List.{list_any}
 use Rattle.std.proofs.lemmas.List.{get_or_default}
 use Rattle.std.proofs.lemmas.List.Elements.{All-contains_itself}
@@ -13,7 +13,7 @@ use Rattle.avro_nodes.specs.declared.node.Kind.{Kind}
 use Rattle.avro_nodes.specs.declared.node.Kind.TheVariants.{Null, Boolean, Int, Long, Float, Double, Bytes, Text}
 use Rattle.avro_nodes.specs.Nodes.{FieldView, NodeView, primitive, array, mapping, union, enumeration, fixed, rec}
 use Rattle.avro_schema.specs.Texts.{IsSchema}
-use Rattle.avro_resolve.specs.Resolution.{Pairs, Promotes, source, Readable, Fits, Supports, Closed, Resolves}
+use Rattle.avro_resolve.specs.Resolution.{Pairs, Promotes, source, Fits, Supports, Resolves}
 use Rattle.avro_resolve.specs.Places.{Names, IsWhole}
 use Rattle.avro_resolve.proofs.Denoted.{IsNoUnion, NoUnionAt, IsPlain, some_node, is_whole, is_plain}
 use Rattle.avro_resolve.proofs.Monotone.{supports_at, at_place}

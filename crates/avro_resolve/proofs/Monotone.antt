@@ -1,12 +1,12 @@
 -- A larger set supports what a smaller one does.
-use Rattle.std.proofs.Common.{◌≡◌, ℕ, ◌<◌, List, [], ◌∷◌, Option, Some, None, Bool, true, false, cond, length, get_or, refl, sym, ap, subst, ◌∙◌}
+use Rattle.std.proofs.Common.{◌≡◌, ℕ, ◌<◌, List, [], ◌∷◌, Option, Some, None, Bool, true, false, cond, length, get_or, refl, subst}
 use Rattle.std.specs.Prelude.{All, Any, MatchOption, IsSome, find, slice_get, IsTrue, ◌↔◌}
 use Rattle.std.specs.Option.{option_or}
 use Rattle.std.specs.Str.{bytes_eq}
 use Rattle.std.proofs.lemmas.List.Elements.{All-head, All-tail}
 use Rattle.std.proofs.lemmas.Option.{slice_get_within, get_or_from_slice_get}
-use Rattle.avro_nodes.specs.Nodes.{NamedView, FieldView, NodeView, primitive, array, mapping, union, enumeration, fixed, rec}
-use Rattle.avro_resolve.specs.Resolution.{Pairs, first_named, source, Readable, Fits, Supports}
+use Rattle.avro_nodes.specs.Nodes.{FieldView, NodeView, primitive, array, mapping, union, enumeration, fixed, rec}
+use Rattle.avro_resolve.specs.Resolution.{Pairs, first_named, source, Fits, Supports}
 use Rattle.avro_resolve.specs.Places.{Names, IsWhole}
 
 -- each pair of the one set is one of the other

@@ -1,13 +1,11 @@
 -- Texts among texts, and the part of a name after its last dot.
-use Rattle.std.proofs.Common.{◌≡◌, ℕ, ◌+◌, ◌-◌, ◌<◌, ◌≤◌, List, [], ◌∷◌, Bool, true, false, not, length, take, drop, map, get_or, String, Global, string_bytes, refl, sym, ap, ◌∙◌, arith}
+use Rattle.std.proofs.Common.{◌≡◌, ℕ, List, [], ◌∷◌, true, String, Global, string_bytes, refl, sym, ◌∙◌}
 use Rattle.std.specs.Prelude.{IsTrue, Contains, Any, ◌↔◌}
-use Rattle.std.specs.List.{list_any, suffix_len, after_last}
+use Rattle.std.specs.List.{list_any}
 use Rattle.std.specs.Str.{bytes_eq}
 use Rattle.std.proofs.lemmas.List.Folds.{Any-from_list_any, list_any-from_Any}
 use Rattle.std.proofs.lemmas.Slice.Eq.{bytes_eq-Decides}
-use Rattle.avro_nodes.specs.Names.{is_dot}
 use Rattle.avro_nodes.specs.Nodes.{texts_view}
-use Rattle.avro_resolve.specs.Resolution.{last_part}
 
 list_any-texts : (texts : List (String Global)) (text : List ℕ) → list_any (λ t. bytes_eq (string_bytes t) text) texts ≡ list_any (λ t. bytes_eq t text) (texts_view texts)
 list_any-texts [] text = refl

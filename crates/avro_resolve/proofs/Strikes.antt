@@ -1,12 +1,12 @@
 -- Striking out one pair, and one after another.
-use Rattle.std.proofs.Common.{◌≡◌, ℕ, ◌+◌, ◌*◌, ◌<◌, ◌≤◌, List, [], ◌∷◌, ◌++◌, Bool, true, false, ◌&&◌, ◌||◌, not, length, map, refl, sym, ap, subst, ◌∙◌, arith, true≢false, length-append}
-use Rattle.std.specs.Prelude.{nat_eq, ◌==◌, if◌then◌else◌, IsTrue}
+use Rattle.std.proofs.Common.{◌≡◌, ℕ, ◌+◌, ◌*◌, ◌<◌, List, [], ◌∷◌, ◌++◌, Bool, true, false, ◌&&◌, ◌||◌, not, length, refl, sym, ap, subst, ◌∙◌, arith, true≢false, length-append}
+use Rattle.std.specs.Prelude.{◌==◌, if◌then◌else◌}
 use Rattle.std.specs.List.{list_any}
 use Rattle.std.proofs.lemmas.Bool.Decides.{nat_tests}
 use Rattle.std.proofs.lemmas.List.Folds.{list_any-append}
 use Rattle.avro_nodes.specs.Nodes.{NodeView}
 use Rattle.avro_resolve.specs.declared.table.Table.{Table}
-use Rattle.avro_resolve.specs.Resolution.{Pairs, Closed, Supports}
+use Rattle.avro_resolve.specs.Resolution.{Supports}
 use Rattle.avro_resolve.specs.Places.{IsWhole}
 use Rattle.avro_resolve.specs.Witnesses.{Pair, member, without, RefutesAfter, Differ}
 use Rattle.avro_resolve.specs.Left.{left, count_left, SameShape, IsLeft, Shrinks}

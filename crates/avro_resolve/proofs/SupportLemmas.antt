@@ -1,15 +1,13 @@
 -- Fields, symbols and nodes of the code, and what contracts see of them.
-use Rattle.std.proofs.Common.{◌≡◌, ℕ, ◌<◌, List, [], ◌∷◌, Option, Some, None, Bool, true, false, true≢false, length, map, get_or, is_some, String, Global, string_bytes, refl, sym, ap, subst, ◌∙◌}
-use Rattle.std.specs.Prelude.{All, Contains, IsSome, IsTrue, option_map, slice_get, ◌↔◌}
+use Rattle.std.proofs.Common.{◌≡◌, List, Option, Some, None, Bool, false, true≢false, map, get_or, is_some, String, Global, string_bytes, sym, subst, ◌∙◌}
+use Rattle.std.specs.Prelude.{All, Contains, IsSome, IsTrue, option_map, ◌↔◌}
 use Rattle.std.specs.List.{list_any, list_all}
 use Rattle.std.proofs.lemmas.List.Sums.{AllPass-from_list_all, list_all-from_AllPass}
 use Rattle.std.specs.Str.{bytes_eq}
 use Rattle.std.proofs.Math.ListN.{get_or-map}
 use Rattle.std.proofs.lemmas.List.{length-map}
-use Rattle.std.proofs.lemmas.List.Elements.{All-map, All-weaker}
-use Rattle.std.proofs.lemmas.Option.{slice_get-map}
-use Rattle.avro_nodes.specs.declared.node.Node.{Node}
-use Rattle.avro_nodes.specs.Nodes.{NodeView, node_view, nodes_view, texts_view}
+use Rattle.std.proofs.lemmas.List.Elements.{All-map}
+use Rattle.avro_nodes.specs.Nodes.{texts_view}
 use Rattle.avro_resolve.proofs.NameLemmas.{has_texts}
 
 -- what holds of each element's view

@@ -1,6 +1,6 @@
 -- The places that a node names (this project's choice: a schema is a list of nodes, a place an index).
 use Rattle.std.specs.Prelude.{ℕ, ◌<◌, List, All, length}
-use Rattle.avro_nodes.specs.Nodes.{FieldView, NodeView, primitive, array, mapping, union, enumeration, fixed, rec}
+use Rattle.avro_nodes.specs.Nodes.{NodeView, primitive, array, mapping, union, enumeration, fixed, rec}
 
 -- the places that a node names are below the number
 abbrev pub Names : ℕ → NodeView → Type 0

@@ -1,5 +1,5 @@
 -- What it means that a reader's schema can read what a writer's schema wrote (Avro 1.11 specification, Schema Resolution).
-use Rattle.std.specs.Prelude.{◌≡◌, ℕ, ◌⊎◌, Bool, Option, Some, None, option_map, IsSome, MatchOption, List, [], ◌∷◌, All, Any, Contains, find, slice_get, IsTrue}
+use Rattle.std.specs.Prelude.{◌≡◌, ℕ, ◌⊎◌, Bool, Option, None, IsSome, MatchOption, List, [], ◌∷◌, All, Any, Contains, find, slice_get, IsTrue}
 use Rattle.std.specs.List.{after_last}
 use Rattle.std.specs.Option.{option_or}
 use Rattle.std.specs.Str.{bytes_eq}

@@ -1,5 +1,5 @@
 -- Which defaults fit, computed and by the rules.
-use Rattle.std.proofs.Common.{◌≡◌, ℕ, zero, suc, ◌+◌, ◌<◌, ◌≤◌, max, List, [], ◌∷◌, length, Bool, true, false, ◌&&◌, ◌==◌, ℤ, Option, Some, None, Ordering, Less, Equal, Greater, nat_cmp, refl, sym, ap, subst, ◌∙◌, true≢false, arith}
+use Rattle.std.proofs.Common.{◌≡◌, ℕ, zero, suc, ◌<◌, ◌≤◌, max, List, [], ◌∷◌, length, Bool, true, false, ◌&&◌, ◌==◌, ℤ, Option, Some, None, Ordering, Less, Equal, Greater, nat_cmp, refl, sym, ap, subst, ◌∙◌, true≢false, arith}
 use Rattle.std.specs.Prelude.{nat_le, is_some, slice_get}
 use Rattle.std.specs.List.{list_all}
 use Rattle.std.specs.Str.{chars}
@@ -12,12 +12,12 @@ use Rattle.serde_json.specs.Data as json
 use Rattle.serde_json.specs.Find.{get_member, as_i64}
 use Rattle.avro_nodes.specs.declared.node.Kind.{Kind}
 use Rattle.avro_nodes.specs.declared.node.Kind.TheVariants.{Null, Boolean, Int, Long, Float, Double, Bytes, Text}
-use Rattle.avro_nodes.specs.Nodes.{NamedView, FieldView, NodeView, primitive, array, mapping, union, enumeration, fixed, rec}
+use Rattle.avro_nodes.specs.Nodes.{FieldView, NodeView, primitive, array, mapping, union, enumeration, fixed, rec}
 use Rattle.avro_nodes.specs.Identity.{members_pass, value_passes, field_passes, node_passes, nests_within}
 use Rattle.avro_schema.specs.Members.{max_nesting}
 use Rattle.avro_schema.specs.Defaults.{is_int, is_bytes, FitsDefault, fits_type, fits_union, FitsNode, fits_null, fits_boolean, fits_int, fits_long, fits_float, fits_double, fits_bytes, fits_string, fits_enum, fits_fixed, fits_array, fits_map, fits_record}
-use Rattle.avro_schema.specs.Defaults.{ItemsFit, no_item_left, item_fits, MembersFit, no_member_left, member_fits, FieldsFit, no_field_left, field_fits, field_missing, ValueFits, FieldDefaultsFit, NodeDefaultsFit, DefaultsFit}
-use Rattle.avro_schema.specs.Defaults.{whole_fits, primitive_fits, items_fit, members_fit, field_fits_by, fields_fit, node_fits, entered, fits, value_fits, field_defaults_fit, node_default_fits, node_defaults_fit}
+use Rattle.avro_schema.specs.Defaults.{ItemsFit, no_item_left, item_fits, MembersFit, no_member_left, member_fits, FieldsFit, no_field_left, field_fits, field_missing, ValueFits, FieldDefaultsFit, NodeDefaultsFit}
+use Rattle.avro_schema.specs.Defaults.{whole_fits, primitive_fits, items_fit, members_fit, field_fits_by, fields_fit, node_fits, entered, fits, value_fits, field_defaults_fit, node_defaults_fit}
 
 and_left : (a b : Bool) → (a && b) ≡ true → a ≡ true
 and_left true b e = refl

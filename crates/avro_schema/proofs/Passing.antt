@@ -1,5 +1,5 @@
 -- What holds of a value holds of the defaults, the other attributes and the sizes in the nodes that it denotes.
-use Rattle.std.proofs.Common.{◌≡◌, ℕ, zero, suc, ◌+◌, ◌<◌, ◌≤◌, ◌^◌, max, List, [], ◌∷◌, ◌++◌, Bool, true, false, cond, ◌&&◌, Option, Some, None, option_and_then, codes, bytes_eq, Ordering, Less, Equal, Greater, nat_cmp, refl, sym, ap, subst, ◌∙◌, true≢false, arith}
+use Rattle.std.proofs.Common.{◌≡◌, ℕ, ◌<◌, ◌≤◌, ◌^◌, List, [], ◌∷◌, ◌++◌, Bool, true, false, cond, ◌&&◌, Option, Some, None, codes, bytes_eq, Ordering, Less, Equal, Greater, nat_cmp, refl, sym, ap, subst, ◌∙◌, true≢false, arith}
 use Rattle.std.specs.Prelude.{nat_le, nat_lt}
 use Rattle.std.specs.List.{list_all}
 use Rattle.std.proofs.lemmas.Bool.{ltb-true, lt-ltb}
@@ -10,8 +10,8 @@ use Rattle.std.specs.Ordering.{match_ordering}
 use Rattle.serde_json.specs.Data.{Data, string, number, unsigned, negative, float, Items, no_items, item, Members, no_members, member, depth, members_depth}
 use Rattle.serde_json.specs.Data as json
 use Rattle.serde_json.specs.Find.{get_member, as_array, as_number, as_u64}
-use Rattle.avro_nodes.specs.Nodes.{NamedView, FieldView, NodeView}
-use Rattle.avro_nodes.specs.Identity.{members_pass, value_passes, field_passes, node_passes, nodes_pass, nests_within}
+use Rattle.avro_nodes.specs.Nodes.{FieldView, NodeView}
+use Rattle.avro_nodes.specs.Identity.{members_pass, value_passes, field_passes, node_passes, nests_within}
 use Rattle.avro_nodes.specs.Whole.{has_whole_numbers, items_have_whole_numbers, members_have_whole_numbers}
 use Rattle.avro_schema.specs.Names.{Known}
 use Rattle.avro_schema.specs.Members.{◌>>=◌, without, without_all, array_in, size_of, max_nesting}

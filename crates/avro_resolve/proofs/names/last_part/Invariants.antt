@@ -1,4 +1,4 @@
-use Rattle.std.proofs.Common.{◌≡◌, ℕ, ◌+◌, ◌≤◌, length, take, not}
+use Rattle.std.proofs.Common.{◌≡◌, ◌+◌, ◌≤◌, length, take, not}
 use Rattle.std.specs.List.{suffix_len}
 use Rattle.avro_nodes.specs.Names.{is_dot}
 use Rattle.avro_resolve.proofs.names.last_part.Given as goal

@@ -1,4 +1,4 @@
-use Rattle.std.proofs.Common.{◌<◌, sym, ◌∙◌, arith}
+use Rattle.std.proofs.Common.{sym, ◌∙◌, arith}
 use Rattle.avro_nodes.specs.Nodes.{nodes_view}
 use Rattle.avro_resolve.proofs.Denoted.{some_node}
 use Rattle.avro_resolve.proofs.Ends.{ends}

@@ -1,4 +1,4 @@
-use Rattle.std.proofs.Common.{◌∙◌, ◌*◌, ap, true}
+use Rattle.std.proofs.Common.{◌∙◌, ◌*◌, ap}
 use Rattle.avro_resolve.specs.Left.{ups}
 use Rattle.avro_resolve.proofs.Flags.{flag_all, ups_all}
 use Rattle.avro_resolve.proofs.table.Table.all.Goals as goal

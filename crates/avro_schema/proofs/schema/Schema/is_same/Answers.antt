@@ -1,4 +1,4 @@
-use Rattle.std.proofs.Common.{◌≡◌, string_bytes, sym, ◌∙◌}
+use Rattle.std.proofs.Common.{string_bytes, sym, ◌∙◌}
 use Rattle.std.proofs.lemmas.Slice.Eq.{bytes_eq-Decides}
 use Rattle.avro_schema.proofs.RoundText.{same_kept, kept_same}
 use Rattle.avro_schema.proofs.schema.Schema.is_same.Goals as goal

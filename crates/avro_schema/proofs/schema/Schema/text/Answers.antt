@@ -1,4 +1,3 @@
-use Rattle.std.proofs.Common.{◌≡◌}
 use Rattle.avro_schema.proofs.TextLemmas.{one_schema}
 use Rattle.avro_schema.proofs.RoundText.{kept_denotes}
 use Rattle.avro_schema.proofs.schema.Schema.text.Goals as goal
