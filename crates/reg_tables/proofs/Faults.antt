@@ -1,5 +1,5 @@
 -- How a query of the declared tables fails: for the store, or at the limit on steps.
-use Rattle.std.proofs.Common.{◌≡◌, ◌≢◌, ◌⊎◌, inl, inr, ℕ, List, [], ◌∷◌, length, ◌≤◌, append-nil, codes, lit≤, Some, None, Bool, true, false, Ok, Err, Result, refl, sym, ap, subst, ◌∙◌}
+use Rattle.std.proofs.Common.{◌≡◌, ◌≢◌, ◌⊎◌, inl, inr, ℕ, List, [], ◌∷◌, length, ◌≤◌, append-nil, lit≤, true, Ok, Err, Result, refl, sym, ap, subst, ◌∙◌}
 use Rattle.std.specs.Prelude.{IsSome, IfErr, IsErrAnd}
 use Rattle.std.proofs.lemmas.Bool.{both_ways}
 use Rattle.sqlite.specs.declared.types.Value.{Value}
@@ -126,3 +126,9 @@ FailsByFault old r = IfErr r (λ e. (contents : Contents) → Holds old.now cont
 pub passed_on : {X : Type 0} (old : State) (r : Result X Error) (first : Error) → IsErrAnd r (λ e. e ≡ first) → ((contents : Contents) → Holds old.now contents → AreReadable contents → IsFault old first) → FailsByFault old r
 passed_on old (Ok x) first is h = tt
 passed_on old (Err e) first is h = λ contents holds readable. subst (IsFault old) (sym is) (h contents holds readable)
+
+-- an error that comes of memory alone where the rows are readable
+pub fails_by_memory : {X : Type 0} (old : State) (r : Result X Error) (Readable : Type 0) → ((contents : Contents) → Holds old.now contents → AreReadable contents → Readable)
+    → IfErr r (λ e. Readable → e ≡ SqliteFailure code.OutOfMemory) → FailsByFault old r
+fails_by_memory old (Ok x) Readable each h = tt
+fails_by_memory old (Err e) Readable each h = λ contents holds readable. memory_is_fault old e (h (each contents holds readable))

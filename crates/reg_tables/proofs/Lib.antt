@@ -10,6 +10,7 @@ pub mod TableWrites
 pub mod Faults
 pub mod TableReads
 pub mod TableLines
+pub mod ReadableRows
 pub mod ListingLemmas
 pub mod Opening
 pub mod Transactions

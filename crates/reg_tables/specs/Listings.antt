@@ -1,11 +1,11 @@
 -- When a list has each row of a table once, in any order.
-use Rattle.std.specs.Prelude.{ℕ, ℤ, pos, List, map, string_bytes, IsPermutation}
+use Rattle.std.specs.Prelude.{◌≡◌, ℕ, ◌<◌, ◌^◌, ℤ, pos, List, [], ◌∷◌, map, string_bytes, IsUtf8, IsPermutation}
 use Rattle.std.specs.declared.cmp.Ordering.{Ordering}
 use Rattle.std.specs.Ordering.{nat_cmp, int_cmp, eq_by_cmp}
 use Rattle.std.specs.List.{IsDistinct}
 use Rattle.std.specs.FinMap.{from_entries}
 use Rattle.sqlite.specs.declared.types.Value.{Value}
-use Rattle.sqlite.specs.declared.types.Value.TheVariants.{Int}
+use Rattle.sqlite.specs.declared.types.Value.TheVariants.{Int, Text}
 use Rattle.sqlite.specs.Order.{Row}
 use Rattle.sqlite.specs.Tree.{rowid}
 use Rattle.sqlite.specs.Effect.{Database}
@@ -16,7 +16,7 @@ use Rattle.reg_tables.specs.declared.lines.KeptLine.{KeptLine}
 use Rattle.reg_tables.specs.declared.lines.MetaLine.{MetaLine}
 use Rattle.reg_tables.specs.Layout.{texts, versions, levels, kept, meta}
 use Rattle.reg_tables.specs.TableMaps.{Form}
-use Rattle.reg_tables.specs.Contents.{text_cmp, version_cmp, VersionRow, KeptRow, Contents, text_form, version_form, pair_form, kept_form}
+use Rattle.reg_tables.specs.Contents.{text_cmp, version_cmp, VersionRow, KeptRow, version_cells, kept_cells, IsReadableReply, Contents, text_form, version_form, pair_form, kept_form}
 use Rattle.reg_tables.specs.Replies.{kept_row}
 
 -- a rowid, and the columns of a key and of a value
@@ -40,6 +40,41 @@ pub record HasNoTwins {K V : Type 0} (R : K → K → Ordering) (entries : List 
 
 abbrev pub without_rowid : {K V : Type 0} → ℤ × K × V → K × V
 without_rowid entry = (entry.1, entry.2)
+
+-- ---- rows that a line holds, as a query shows them
+
+pub record IsReadableText (row : Row) : Type 0 where
+  pub id : ℕ
+  pub text : List ℕ
+  pub is : row ≡ Int (pos id) ∷ Int (pos id) ∷ Text text ∷ []
+  pub low : id < 2 ^ 32
+  pub utf8 : IsUtf8 text
+
+pub record IsReadableVersion (row : Row) : Type 0 where
+  pub rowid : ℤ
+  pub subject : List ℕ
+  pub number : ℕ
+  pub version : VersionRow
+  pub is : row ≡ Int rowid ∷ Text subject ∷ Int (pos number) ∷ version_cells version
+  pub utf8 : IsUtf8 subject
+  pub low : number < 2 ^ 32
+  pub low_id : version.id < 2 ^ 32
+
+pub record IsReadablePair (row : Row) : Type 0 where
+  pub rowid : ℤ
+  pub key : List ℕ
+  pub value : List ℕ
+  pub is : row ≡ Int rowid ∷ Text key ∷ Text value ∷ []
+  pub key_utf8 : IsUtf8 key
+  pub value_utf8 : IsUtf8 value
+
+pub record IsReadableKept (row : Row) : Type 0 where
+  pub rowid : ℤ
+  pub key : List ℕ
+  pub reply : KeptRow
+  pub is : row ≡ Int rowid ∷ Text key ∷ kept_cells reply
+  pub utf8 : IsUtf8 key
+  pub readable : IsReadableReply reply
 
 -- ---- the lines of the five tables
 

@@ -1,17 +1,17 @@
 //! All rows of each table, with their rowids, as the test of a database needs them.
 
-ghost use Rattle.std.specs.Prelude.{◌≡◌, OnOk, IfOk, IfErr, IsTrue, false, map};
+ghost use Rattle.std.specs.Prelude.{◌≡◌, ◌<◌, Bool, length, OnOk, IfOk, IfErr, IsTrue, All, false, map};
 ghost use Rattle.sqlite.specs.Order.{Row as SqlRow, column};
 ghost use Rattle.sqlite.specs.Held.{state};
 ghost use Rattle.sqlite.specs.State.{HasCleanDisk, Survives};
 ghost use Rattle.reg_tables.specs.Layout.{layout};
 ghost use Rattle.reg_tables.specs.Contents.{Contents, AreReadable, Holds, flag_cell, text_form, version_form, pair_form, kept_form};
-ghost use Rattle.reg_tables.specs.Listings.{Parts, parts_of, entry_parts, text_entry, version_entry, level_entry, kept_entry, meta_entry, ListsTexts, ListsVersions, ListsLevels, ListsKept, ListsMeta};
+ghost use Rattle.reg_tables.specs.Listings.{Parts, parts_of, entry_parts, text_entry, version_entry, level_entry, kept_entry, meta_entry, ListsTexts, ListsVersions, ListsLevels, ListsKept, ListsMeta, IsReadableText, IsReadableVersion, IsReadablePair, IsReadableKept};
 ghost use Rattle.reg_tables.specs.Reading.{IsFault, OnlyReads};
 
 use crate::kept::KeptReply;
 use crate::statement::ask;
-use sqlite::{Alter, Connection, Error, Row};
+use sqlite::{Alter, Connection, Error, ErrorCode, Row};
 use std::alloc::Global;
 
 /// A row of `texts`.
@@ -61,13 +61,21 @@ trait Line: Sized {
 
     ghost parts: { Self → Parts };
 
+    // A row that the line holds.
+    ghost is_readable: { SqlRow → Type 0 };
+
     fn read(row: &Row) -> Result<Self, Error>
-        ensures { IfOk result (λ line. shown row.now ≡ parts line) };
+        ensures ok { IfOk result (λ line. shown row.now ≡ parts line) }
+        ensures err { IfErr result (λ e. is_readable row.now
+            → e ≡ Error.SqliteFailure ErrorCode.OutOfMemory) };
 }
 
 /// Whether a column that is 0 or 1 is 1.
 fn flag_in(row: &Row, at: usize) -> Result<bool, Error>
-    ensures { IfOk result (λ flag. column row.now at ≡ flag_cell flag) }
+    ensures ok { IfOk result (λ flag. column row.now at ≡ flag_cell flag) }
+    ensures err { IfErr result (λ e. at < length row.now
+        → (flag : Bool) → column row.now at ≡ flag_cell flag
+        → e ≡ Error.SqliteFailure ErrorCode.OutOfMemory) }
 {
     let number: u32 = row.get(at)?;
     match number {
@@ -82,6 +90,8 @@ impl Line for TextLine {
 
     ghost parts = { λ line. entry_parts text_form (text_entry line) };
 
+    ghost is_readable = { IsReadableText };
+
     fn read(row: &Row) -> Result<TextLine, Error> {
         Ok(TextLine {
             id: row.get(0)?,
@@ -94,6 +104,8 @@ impl Line for VersionLine {
     ghost shown = { parts_of version_form };
 
     ghost parts = { λ line. entry_parts version_form (version_entry line) };
+
+    ghost is_readable = { IsReadableVersion };
 
     fn read(row: &Row) -> Result<VersionLine, Error> {
         Ok(VersionLine {
@@ -111,6 +123,8 @@ impl Line for LevelLine {
 
     ghost parts = { λ line. entry_parts pair_form (level_entry line) };
 
+    ghost is_readable = { IsReadablePair };
+
     fn read(row: &Row) -> Result<LevelLine, Error> {
         Ok(LevelLine {
             rowid: row.get(0)?,
@@ -124,6 +138,8 @@ impl Line for KeptLine {
     ghost shown = { parts_of kept_form };
 
     ghost parts = { λ line. entry_parts kept_form (kept_entry line) };
+
+    ghost is_readable = { IsReadableKept };
 
     fn read(row: &Row) -> Result<KeptLine, Error> {
         Ok(KeptLine {
@@ -143,6 +159,8 @@ impl Line for MetaLine {
 
     ghost parts = { λ line. entry_parts pair_form (meta_entry line) };
 
+    ghost is_readable = { IsReadablePair };
+
     fn read(row: &Row) -> Result<MetaLine, Error> {
         Ok(MetaLine {
             rowid: row.get(0)?,
@@ -153,7 +171,9 @@ impl Line for MetaLine {
 }
 
 fn lines_in<L: Line + Drop>(alloc: Global, rows: &[Row]) -> Result<Vec<L>, Error>
-    ensures { IfOk result (λ lines. map L.shown rows.now ≡ map L.parts lines.items) }
+    ensures ok { IfOk result (λ lines. map L.shown rows.now ≡ map L.parts lines.items) }
+    ensures err { IfErr result (λ e. All L.is_readable rows.now
+        → e ≡ Error.SqliteFailure ErrorCode.OutOfMemory) }
 {
     let mut lines = Vec::new(alloc);
     for row in rows {
@@ -169,6 +189,9 @@ pub fn text_lines<S: Alter>(alloc: Global, conn: &mut Connection<S>) -> Result<V
     ensures listed { HasCleanDisk (state S.Store conn.new) → IfOk result (λ lines.
         (state S.Store conn.old).now.schema ≡ layout
         → ListsTexts (state S.Store conn.old).now lines.items) }
+    ensures fault { HasCleanDisk (state S.Store conn.new) → IfErr result (λ e.
+        (contents : Contents) → Holds (state S.Store conn.old).now contents
+        → AreReadable contents → IsFault (state S.Store conn.old) e) }
     ensures was_open { HasCleanDisk (state S.Store conn.new)
         → OnOk result (IsTrue (state S.Store conn.old).is_open) }
     ensures only_reads { HasCleanDisk (state S.Store conn.new)
@@ -189,6 +212,9 @@ pub fn version_lines<S: Alter>(
     ensures listed { HasCleanDisk (state S.Store conn.new) → IfOk result (λ lines.
         (state S.Store conn.old).now.schema ≡ layout
         → ListsVersions (state S.Store conn.old).now lines.items) }
+    ensures fault { HasCleanDisk (state S.Store conn.new) → IfErr result (λ e.
+        (contents : Contents) → Holds (state S.Store conn.old).now contents
+        → AreReadable contents → IsFault (state S.Store conn.old) e) }
     ensures was_open { HasCleanDisk (state S.Store conn.new)
         → OnOk result (IsTrue (state S.Store conn.old).is_open) }
     ensures only_reads { HasCleanDisk (state S.Store conn.new)
@@ -213,6 +239,9 @@ pub fn level_lines<S: Alter>(
     ensures listed { HasCleanDisk (state S.Store conn.new) → IfOk result (λ lines.
         (state S.Store conn.old).now.schema ≡ layout
         → ListsLevels (state S.Store conn.old).now lines.items) }
+    ensures fault { HasCleanDisk (state S.Store conn.new) → IfErr result (λ e.
+        (contents : Contents) → Holds (state S.Store conn.old).now contents
+        → AreReadable contents → IsFault (state S.Store conn.old) e) }
     ensures was_open { HasCleanDisk (state S.Store conn.new)
         → OnOk result (IsTrue (state S.Store conn.old).is_open) }
     ensures only_reads { HasCleanDisk (state S.Store conn.new)
@@ -230,6 +259,9 @@ pub fn kept_lines<S: Alter>(alloc: Global, conn: &mut Connection<S>) -> Result<V
     ensures listed { HasCleanDisk (state S.Store conn.new) → IfOk result (λ lines.
         (state S.Store conn.old).now.schema ≡ layout
         → ListsKept (state S.Store conn.old).now lines.items) }
+    ensures fault { HasCleanDisk (state S.Store conn.new) → IfErr result (λ e.
+        (contents : Contents) → Holds (state S.Store conn.old).now contents
+        → AreReadable contents → IsFault (state S.Store conn.old) e) }
     ensures was_open { HasCleanDisk (state S.Store conn.new)
         → OnOk result (IsTrue (state S.Store conn.old).is_open) }
     ensures only_reads { HasCleanDisk (state S.Store conn.new)
@@ -251,6 +283,9 @@ pub fn meta_lines<S: Alter>(alloc: Global, conn: &mut Connection<S>) -> Result<V
     ensures listed { HasCleanDisk (state S.Store conn.new) → IfOk result (λ lines.
         (state S.Store conn.old).now.schema ≡ layout
         → ListsMeta (state S.Store conn.old).now lines.items) }
+    ensures fault { HasCleanDisk (state S.Store conn.new) → IfErr result (λ e.
+        (contents : Contents) → Holds (state S.Store conn.old).now contents
+        → AreReadable contents → IsFault (state S.Store conn.old) e) }
     ensures was_open { HasCleanDisk (state S.Store conn.new)
         → OnOk result (IsTrue (state S.Store conn.old).is_open) }
     ensures only_reads { HasCleanDisk (state S.Store conn.new)

@@ -41,9 +41,9 @@ pub(crate) fn ask<S: Alter>(
         (state S.Store last) rows.items) }
     ensures failed { HasCleanDisk (state S.Store conn.new) → IfErr result (λ e. (last : Held S)
         × (FailsToQuery sql.now (bound values.now) (state S.Store (record conn.old { in_transaction = true }))
-                (state S.Store last) e
-            ⊎ IsTooLate sql.now (bound values.now) (state S.Store (record conn.old { in_transaction = true }))
-                (state S.Store last) e)) }
+        (state S.Store last) e
+        ⊎ IsTooLate sql.now (bound values.now) (state S.Store (record conn.old { in_transaction = true }))
+        (state S.Store last) e)) }
     ensures was_open { HasCleanDisk (state S.Store conn.new)
         → OnOk result (IsTrue (state S.Store conn.old).is_open) }
     ensures only_reads { HasCleanDisk (state S.Store conn.new)

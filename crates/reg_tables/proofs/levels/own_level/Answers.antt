@@ -1,4 +1,4 @@
-use Rattle.std.proofs.Common.{◌≡◌, ◌∙◌, None, Some, sym, ap, slice_get, List, [], ◌∷◌, true, codes}
+use Rattle.std.proofs.Common.{◌∙◌, None, Some, ap, slice_get, List, [], ◌∷◌, true, codes}
 use Rattle.sqlite.specs.Order.{Row}
 use Rattle.sqlite.specs.Held.{state}
 use Rattle.reg_tables.proofs.TableReads.{finds_level, read_back, text_read}
