@@ -1,0 +1,64 @@
+-- What a transaction that was committed, or failed, leaves.
+use Rattle.std.proofs.Common.{◌≡◌, ◌⊎◌, inl, inr, Ok, Err, Result, refl, sym, ap, subst, ◌∙◌}
+use Rattle.std.specs.Prelude.{IfErr, OnErr, IsTrue, is_ok}
+use Rattle.std.specs.FinMap.{get-empty}
+use Rattle.sqlite.specs.Tree.{Trees}
+use Rattle.sqlite.specs.Effect.{Database}
+use Rattle.sqlite.specs.Steps.{FailsToCommit}
+use Rattle.sqlite.specs.declared.error.Error.{Error}
+use Rattle.sqlite.specs.State.{State, KeepsCommit, Survives, HasCleanDisk}
+use Rattle.reg_core.specs.Registry.{Registry, new_registry}
+use Rattle.reg_tables.specs.Layout.{layout}
+use Rattle.reg_tables.specs.Contents.{text_cmp, Holds}
+use Rattle.reg_tables.specs.Changes.{new_contents}
+use Rattle.reg_tables.proofs.Transactions.{keeps_if_unchanged, keeps_if_undone}
+use Rattle.reg_store.specs.Replies.{Kept, nothing_kept}
+use Rattle.reg_store.specs.Spells.{Spells, Leaves, IsOpenOver, SpellsWhileOpen}
+
+-- a commit that fails leaves the last commit
+pub keeps_if_failed : (a b : State) (e : Error) → FailsToCommit a b e → KeepsCommit a b
+keeps_if_failed a b e (inl h) = keeps_if_undone a b h.3
+keeps_if_failed a b e (inr h) = keeps_if_unchanged a b h.2
+
+pub on_err : {X : Type 0} {P : Error → Type 0} {Q : Type 0} (r : Result X Error) → ((e : Error) → P e → Q) → IfErr r P → OnErr r Q
+on_err (Ok x) f h = tt
+on_err (Err e) f h = f e h
+
+pub leaves_if_spelled : (db : Trees) (now : Database) (g : Registry) (k : Kept) → db ≡ now.trees → Spells now g k → Leaves db g k
+leaves_if_spelled db now g k is s =
+    subst (λ d. Spells (record { schema = layout; trees = d }) g k) (sym is) (subst (λ x. Spells (record { schema = x; trees = now.trees }) g k) s.holds.declared s)
+
+-- the tables of a new registry spell it
+pub spells_new : (now : Database) → Holds now new_contents → Spells now new_registry nothing_kept
+spells_new now h = record {
+  contents = new_contents;
+  holds = h;
+  spelled = record {
+    texts = refl;
+    versions = refl;
+    meta = refl;
+    levels = λ subject. get-empty text_cmp subject;
+    subjects = λ subject level some. absurd (cc);
+    kept = λ key. get-empty text_cmp key;
+    keys = λ key entry some. absurd (cc);
+  };
+}
+
+-- what keeps the last commit, and shows it, spells what it spelled
+pub still_spells : (old new : State) (g : Registry) (k : Kept) → KeepsCommit old new → (IsTrue new.is_open → new.now ≡ new.committed) → SpellsWhileOpen old g k → SpellsWhileOpen new g k
+still_spells old new g k keeps settled s is_open =
+    let before = s (keeps.was_open is_open) in
+    let same : new.now ≡ old.now = settled is_open ∙ keeps.committed is_open ∙ before.settled in
+    record { is_open = is_open; settled = sym (settled is_open); spells = subst (λ d. Spells d g k) (sym same) before.spells }
+
+-- what a crash leaves is the database of before, or what the call commits
+pub left : (old new : State) (P : Trees → Type 0) (g : Registry) (k : Kept) → ((db : Trees) → old.may_leave db → db ≡ old.committed.trees) → IsOpenOver old g k → Survives old new P → HasCleanDisk new → (db : Trees) → new.may_leave db → Leaves db g k ⊎ P db
+left old new P g k only over s clean db it =
+    elim (s.crash clean db it) [ inl was ↦ inl (leaves_if_spelled db old.now g k (only db was ∙ ap (λ (d : Database). d.trees) over.settled) over.spells) | inr made ↦ inr made ]
+
+-- what holds where one result is an error holds where the other is one
+pub on_err_same : {X Y E F P Q : Type 0} (r : Result X E) (s : Result Y F) → is_ok s ≡ is_ok r → (P → Q) → OnErr r P → OnErr s Q
+on_err_same (Ok x) (Ok y) same f h = tt
+on_err_same (Ok x) (Err e) same f h = absurd (cc)
+on_err_same (Err e) (Ok y) same f h = tt
+on_err_same (Err e) (Err d) same f h = f h

@@ -1,0 +1,4 @@
+pub mod Maps
+pub mod Spelling
+pub mod Reading
+pub mod Committing

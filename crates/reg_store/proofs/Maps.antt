@@ -1,0 +1,30 @@
+-- A finite map beside a function that says the same of each key.
+use Rattle.std.proofs.Common.{◌≡◌, ◌≢◌, inl, inr, List, ℕ, Option, Some, true, false, cond, refl, sym, ap, ◌∙◌}
+use Rattle.std.specs.Prelude.{option_map, bytes_eq}
+use Rattle.std.specs.FinMap.{get, insert, same_map}
+use Rattle.std.proofs.lemmas.Slice.Eq.{bytes_eq-Decides}
+use Rattle.std.proofs.lemmas.Bool.{false_from_ne_true}
+use Rattle.reg_tables.specs.Contents.{text_cmp, TextMap}
+use Rattle.reg_tables.proofs.MapLemmas.{get-insert-same, get-insert-other, same_or_not}
+use Rattle.reg_tables.proofs.KeyedTables.{text_order}
+
+pub same_bytes : (a : List ℕ) → bytes_eq a a ≡ true
+same_bytes a = (bytes_eq-Decides a a).1 refl
+
+pub other_bytes : (a b : List ℕ) → b ≢ a → bytes_eq a b ≡ false
+other_bytes a b other = false_from_ne_true _ (λ h. other (sym ((bytes_eq-Decides a b).0 h)))
+
+-- the map has at each key what the function has, written so, and still does with one more entry on both sides
+pub insert_both : {V W : Type 0} (write : V → W) (m : TextMap W) (look : List ℕ → Option V) (k : List ℕ) (v : V) → ((q : List ℕ) → get m q ≡ option_map write (look q))
+    → (q : List ℕ) → get (insert m k (write v)) q ≡ option_map write (cond (bytes_eq k q) (Some v) (look q))
+insert_both write m look k v same q = elim (same_or_not text_cmp text_order q k) [
+  | inl e ↦ ap (get (insert m k (write v))) e ∙ get-insert-same text_cmp text_order m k (write v) ∙ sym (ap (λ b. option_map write (cond b (Some v) (look q))) (ap (bytes_eq k) e ∙ same_bytes k))
+  | inr other ↦ get-insert-other text_cmp text_order m k (write v) q other ∙ same q ∙ sym (ap (λ b. option_map write (cond b (Some v) (look q))) (other_bytes k q other))
+]
+
+-- what is put in place of another value
+pub insert-insert : {W : Type 0} (m : TextMap W) (k : List ℕ) (v w : W) → insert (insert m k v) k w ≡ insert m k w
+insert-insert m k v w = same_map text_order.total text_order.antisymmetric _ _ (λ q. elim (same_or_not text_cmp text_order q k) [
+  | inl e ↦ ap (get (insert (insert m k v) k w)) e ∙ get-insert-same text_cmp text_order (insert m k v) k w ∙ sym (get-insert-same text_cmp text_order m k w) ∙ ap (get (insert m k w)) (sym e)
+  | inr other ↦ get-insert-other text_cmp text_order (insert m k v) k w q other ∙ get-insert-other text_cmp text_order m k v q other ∙ sym (get-insert-other text_cmp text_order m k w q other)
+])

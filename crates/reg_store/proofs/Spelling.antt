@@ -1,0 +1,91 @@
+-- What a change of the tables makes of what they spell.
+use Rattle.std.proofs.Common.{◌≡◌, ℕ, ◌+◌, ◌<◌, List, [], ◌∷◌, ◌++◌, length, take, get_or, Option, Some, None, Bool, true, false, cond, codes, refl, ap, subst, ◌∙◌}
+use Rattle.std.specs.Prelude.{option_map, bytes_eq, IsTrue}
+use Rattle.std.specs.FinMap.{get, insert}
+use Rattle.std.proofs.lemmas.List.{take_more}
+use Rattle.std.proofs.lemmas.Slice.Eq.{bytes_eq-Decides}
+use Rattle.sqlite.specs.State.{State}
+use Rattle.reg_core.specs.declared.decision.Change.{Change}
+use Rattle.reg_core.specs.Views.{changed, changed_once}
+use Rattle.reg_core.specs.declared.level.Level.{Level}
+use Rattle.reg_core.specs.Levels.{level_text}
+use Rattle.reg_core.specs.Keys.{IsKey}
+use Rattle.reg_core.specs.Subjects.{is_subject}
+use Rattle.reg_core.specs.Registry.{Registry, own_with}
+use Rattle.reg_tables.specs.Contents.{Contents, Holds}
+use Rattle.reg_tables.specs.Changes.{Changes, with_global, with_level, with_kept}
+use Rattle.reg_store.specs.Replies.{Entry, Kept, kept_with, IsKeptStatus}
+use Rattle.reg_store.specs.Spells.{IsSpelled, Spells, row_of}
+use Rattle.reg_store.specs.Changes.{Respells}
+use Rattle.reg_store.proofs.Maps.{insert_both, insert-insert}
+
+-- what holds of each entry holds with one more
+each_entry : {V : Type 0} (P : List ℕ → V → Type 0) (look : List ℕ → Option V) (k : List ℕ) (v : V) → P k v → ((q : List ℕ) (w : V) → look q ≡ Some w → P q w)
+    → (q : List ℕ) (w : V) → cond (bytes_eq k q) (Some v) (look q) ≡ Some w → P q w
+each_entry P look k v here others q w = go (bytes_eq k q) refl
+  where
+    go : (b : Bool) → bytes_eq k q ≡ b → cond b (Some v) (look q) ≡ Some w → P q w
+    go true is some = let value : v ≡ w = cc in subst (λ l. P l w) ((bytes_eq-Decides k q).0 is) (subst (P k) value here)
+    go false is some = others q w some
+
+module _ (contents : Contents) (g : Registry) (k : Kept) (s : IsSpelled contents g k) where
+  pub spelled_global : (level : Level) → IsSpelled (with_global (level_text level) contents) (record g { global = level }) k
+  spelled_global level = record {
+    texts = s.texts;
+    versions = s.versions;
+    meta = ap (λ m. insert m (codes "global") (level_text level)) s.meta ∙ insert-insert _ (codes "global") (level_text g.global) (level_text level);
+    levels = s.levels;
+    subjects = s.subjects;
+    kept = s.kept;
+    keys = s.keys;
+  }
+
+  pub spelled_level : (subject : List ℕ) (level : Level) → IsTrue (is_subject subject) → IsSpelled (with_level subject (level_text level) contents) (record g { own = own_with g.own subject level }) k
+  spelled_level subject level within = record {
+    texts = s.texts;
+    versions = s.versions;
+    meta = s.meta;
+    levels = insert_both level_text contents.levels g.own subject level s.levels;
+    subjects = each_entry (λ q _. IsTrue (is_subject q)) g.own subject level within s.subjects;
+    kept = s.kept;
+    keys = s.keys;
+  }
+
+  pub spelled_kept : (key : List ℕ) (entry : Entry) → IsKey key → IsKeptStatus entry.reply.status → IsSpelled (with_kept key (row_of entry) contents) g (kept_with k key entry)
+  spelled_kept key entry is_key status = record {
+    texts = s.texts;
+    versions = s.versions;
+    meta = s.meta;
+    levels = s.levels;
+    subjects = s.subjects;
+    kept = insert_both row_of contents.kept k key entry s.kept;
+    keys = each_entry (λ q e. IsKey q × IsKeptStatus e.reply.status) k key entry (is_key, status) s.keys;
+  }
+
+-- ---- the tables
+
+module _ (old new : State) where
+  pub respells_global : (level : Level) → Changes old new (with_global (level_text level)) → Respells old new (λ g. record g { global = level }) (λ k. k)
+  respells_global level changes g k s = record { contents = with_global (level_text level) s.contents; holds = changes s.contents s.holds; spelled = spelled_global s.contents g k s.spelled level }
+
+  pub respells_level : (subject : List ℕ) (level : Level) → IsTrue (is_subject subject) → Changes old new (with_level subject (level_text level)) → Respells old new (λ g. record g { own = own_with g.own subject level }) (λ k. k)
+  respells_level subject level within changes g k s =
+      record { contents = with_level subject (level_text level) s.contents; holds = changes s.contents s.holds; spelled = spelled_level s.contents g k s.spelled subject level within }
+
+  pub respells_kept : (key : List ℕ) (entry : Entry) → IsKey key → IsKeptStatus entry.reply.status
+      → ((contents : Contents) → Holds old.now contents → get contents.kept key ≡ None → Holds new.now (with_kept key (row_of entry) contents))
+      → (g : Registry) (k : Kept) → Spells old.now g k → k key ≡ None → Spells new.now g (kept_with k key entry)
+  respells_kept key entry is_key status puts g k s fresh = record {
+    contents = with_kept key (row_of entry) s.contents;
+    holds = puts s.contents s.holds (s.spelled.kept key ∙ ap (option_map row_of) fresh);
+    spelled = spelled_kept s.contents g k s.spelled key entry is_key status;
+  }
+
+-- ---- several changes
+
+changed-append : (changes : List Change) (change : Change) (g : Registry) → changed (changes ++ change ∷ []) g ≡ changed_once change (changed changes g)
+changed-append [] change g = refl
+changed-append (c ∷ cs) change g = changed-append cs change (changed_once c g)
+
+pub changed_more : (changes : List Change) (i : ℕ) (change : Change) (g : Registry) → i < length changes → changed (take (i + 1) changes) g ≡ changed_once (get_or changes i change) (changed (take i changes) g)
+changed_more changes i change g lt = ap (λ l. changed l g) (take_more changes i change lt) ∙ changed-append (take i changes) (get_or changes i change) g

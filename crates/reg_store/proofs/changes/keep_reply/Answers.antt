@@ -1,0 +1,16 @@
+use Rattle.sqlite.specs.Held.{state}
+use Rattle.std.proofs.Common.{subst}
+use Rattle.std.specs.Prelude.{IfSome}
+use Rattle.reg_store.specs.Changes.{entry_of, IsKeepable}
+use Rattle.reg_tables.proofs.Transactions.{on_ok}
+use Rattle.reg_store.proofs.Spelling.{respells_kept}
+use Rattle.reg_store.proofs.changes.keep_reply.Goals as goal
+
+pub returns-in-Some-clause-put : goal.returns-in-Some-clause-put
+returns-in-Some-clause-put g c clean =
+    let keep = c.in-Some.keep in
+    let keepable : IsKeepable keep = subst (λ o. IfSome o IsKeepable) c.in-Some.is c.requires in
+    rw c.in-Some.is
+    (on_ok c.keep_reply.result
+    (respells_kept (state g.S.Store c.args.tx.now.conn.now) (state g.S.Store c.keep_reply.new.tx.conn.now) keep.key.now (entry_of keep) (rw c.as_str.ensures.text at c.as_str.ensures.key) keepable)
+    (rw (c.as_str.ensures.text, c.from.ensures, c.status.ensures.value, c.body.ensures) at (c.keep_reply.ensures.put clean)))

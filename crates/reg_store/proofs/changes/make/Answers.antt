@@ -1,0 +1,17 @@
+use Rattle.sqlite.specs.Held.{state}
+use Rattle.reg_tables.proofs.Transactions.{on_ok}
+use Rattle.reg_store.proofs.Spelling.{respells_global, respells_level}
+use Rattle.reg_store.proofs.changes.make.Goals as goal
+
+pub returns-in-SetGlobal-clause-made : goal.returns-in-SetGlobal-clause-made
+returns-in-SetGlobal-clause-made g c clean =
+    rw c.in-SetGlobal.is
+    (on_ok c.set_global.result (respells_global (state g.S.Store c.args.tx.now.conn.now) (state g.S.Store c.set_global.new.tx.conn.now) c.in-SetGlobal.level)
+    (rw c.text.ensures.value at (c.set_global.ensures.set clean)))
+
+pub returns-in-SetLevel-clause-made : goal.returns-in-SetLevel-clause-made
+returns-in-SetLevel-clause-made g c clean =
+    rw c.in-SetLevel.is
+    (on_ok c.set_level.result
+    (respells_level (state g.S.Store c.args.tx.now.conn.now) (state g.S.Store c.set_level.new.tx.conn.now) c.in-SetLevel.subject c.in-SetLevel.level (rw c.as_str.ensures.text at c.as_str.ensures.subject))
+    (rw (c.as_str.ensures.text, c.text-in-SetLevel.ensures.value) at (c.set_level.ensures.set clean)))

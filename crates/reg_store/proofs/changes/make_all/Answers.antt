@@ -1,0 +1,35 @@
+use Rattle.std.proofs.Common.{◌∙◌, sym, ap, subst, arith, take}
+use Rattle.std.proofs.lemmas.List.{take_all}
+use Rattle.sqlite.specs.Held.{state}
+use Rattle.sqlite.specs.State.{HasCleanDisk}
+use Rattle.reg_core.specs.Views.{changed, changed_once}
+use Rattle.reg_store.specs.Spells.{Spells}
+use Rattle.reg_tables.proofs.Transactions.{keeps_then, survives_both}
+use Rattle.reg_store.proofs.Spelling.{changed_more}
+use Rattle.reg_store.proofs.changes.make_all.Goals as goal
+
+pub loop-change-preserved : goal.loop-change-preserved
+loop-change-preserved g c =
+    let old = state g.S.Store c.args.tx.now.conn.now in
+    let mid = state g.S.Store c.loop-change.tx.conn.now in
+    let new = state g.S.Store c.make.new.tx.conn.now in
+    let it = c.in_ok-make.ensures in
+    let before = c.loop-change.invariant in
+    let changes = c.args.changes.now in
+    let i = c.loop-change.change-index in
+    let item = c.change-item.result in
+    let early = λ (clean : HasCleanDisk new). (let e : HasCleanDisk mid = omega (arith, it.survives.clean) in e) in
+    record {
+      same = it.same_reference ∙ before.same;
+      made = λ clean registry k s.
+          let before_this = changed (take i changes) registry in
+          let step = it.made clean before_this k (before.made (early clean) registry k s) in
+          let more = ap (λ d. changed_once d before_this) c.change-item.is ∙ sym (changed_more changes i item registry (omega arith)) in
+          subst (λ x. Spells new.now x k) more step;
+      kept = λ clean. keeps_then old mid new (before.kept (early clean)) (it.kept clean);
+      survives = survives_both old mid new before.survives it.survives;
+    }
+
+pub returns-clause-made : goal.returns-clause-made
+returns-clause-made g c clean registry k s =
+    subst (λ l. Spells (state g.S.Store c.loop-change.tx.conn.now).now (changed l registry) k) (take_all c.loop-change.change-index c.args.changes.now (omega arith)) (c.loop-change.invariant.made clean registry k s)

@@ -1,0 +1,17 @@
+use Rattle.std.proofs.Common.{◌≡◌, take}
+use Rattle.sqlite.specs.Held.{state}
+use Rattle.sqlite.specs.State.{HasCleanDisk, Survives, KeepsCommit}
+use Rattle.reg_core.specs.Views.{changed}
+use Rattle.reg_store.specs.Changes.{Respells}
+use Rattle.reg_store.proofs.changes.make_all.Given as goal
+
+abbrev pub invariant-loop-change : goal.invariant-loop-change
+invariant-loop-change g l =
+    let old = state g.S.Store l.initial.tx.conn.now in
+    let now = state g.S.Store l.tx.conn.now in
+    record {
+      same : l.tx.conn.ghost_name ≡ l.initial.tx.conn.ghost_name;
+      made : HasCleanDisk now → Respells old now (changed (take l.change-index l.changes)) (λ k. k);
+      kept : HasCleanDisk now → KeepsCommit old now;
+      survives : Survives old now (λ _. ⊥);
+    }

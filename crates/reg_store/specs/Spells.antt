@@ -1,0 +1,51 @@
+-- What the tables say of a registry and of the replies that it keeps.
+use Rattle.std.specs.Prelude.{◌≡◌, ℕ, List, Some, IsTrue, option_map}
+use Rattle.std.specs.FinMap.{get, empty}
+use Rattle.sqlite.specs.Tree.{Trees}
+use Rattle.sqlite.specs.Effect.{Database}
+use Rattle.sqlite.specs.State.{State}
+use Rattle.reg_core.specs.declared.level.Level.{Level}
+use Rattle.reg_core.specs.Levels.{level_text}
+use Rattle.reg_core.specs.Keys.{IsKey}
+use Rattle.reg_core.specs.Subjects.{is_subject}
+use Rattle.reg_core.specs.Registry.{Registry}
+use Rattle.reg_tables.specs.Layout.{layout}
+use Rattle.reg_tables.specs.Contents.{KeptRow, Contents, Holds}
+use Rattle.reg_tables.specs.Changes.{meta_of}
+use Rattle.reg_store.specs.Replies.{Entry, Kept, IsKeptStatus}
+
+-- this project's choice: a row of `kept` has the command's text, and the status and the body of its reply
+abbrev pub row_of : Entry → KeptRow
+row_of entry = record { command = entry.text; status = entry.reply.status; body = entry.reply.body }
+
+-- this project's choice: what the tables hold spells this registry and these kept replies
+pub record IsSpelled (contents : Contents) (g : Registry) (k : Kept) : Type 0 where
+  -- no command registers a schema yet
+  pub texts : contents.texts ≡ empty
+  pub versions : contents.versions ≡ empty
+  -- the format, the layout and the global level, and no more
+  pub meta : contents.meta ≡ meta_of (level_text g.global)
+  pub levels : (subject : List ℕ) → get contents.levels subject ≡ option_map level_text (g.own subject)
+  pub subjects : (subject : List ℕ) (level : Level) → g.own subject ≡ Some level → IsTrue (is_subject subject)
+  pub kept : (key : List ℕ) → get contents.kept key ≡ option_map row_of (k key)
+  pub keys : (key : List ℕ) (entry : Entry) → k key ≡ Some entry → IsKey key × IsKeptStatus entry.reply.status
+
+-- this project's choice: the tables of the database are those of layout 1, and they spell this registry and these kept replies
+pub record Spells (db : Database) (g : Registry) (k : Kept) : Type 0 where
+  pub contents : Contents
+  pub holds : Holds db contents
+  pub spelled : IsSpelled contents g k
+
+-- this project's choice: the database that a crash leaves spells them
+abbrev pub Leaves : Trees → Registry → Kept → Type 0
+Leaves db g k = Spells (record { schema = layout; trees = db }) g k
+
+-- SQLite, transactions: the connection is open outside a transaction, and its last commit spells them
+pub record IsOpenOver (s : State) (g : Registry) (k : Kept) : Type 0 where
+  pub is_open : IsTrue s.is_open
+  pub settled : s.committed ≡ s.now
+  pub spells : Spells s.now g k
+
+-- SQLite, transactions: as long as the connection is open, it is open over them; a fault may shut it
+abbrev pub SpellsWhileOpen : State → Registry → Kept → Type 0
+SpellsWhileOpen s g k = IsTrue s.is_open → IsOpenOver s g k

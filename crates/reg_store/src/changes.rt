@@ -1,0 +1,80 @@
+//! Changes of the tables, in a transaction. Whatever a call answers, nothing is committed.
+
+ghost use Rattle.std.specs.Prelude.{◌≡◌, OnOk, IfSome};
+ghost use Rattle.sqlite.specs.Held.{state};
+ghost use Rattle.sqlite.specs.State.{HasCleanDisk, Survives, KeepsCommit};
+ghost use Rattle.reg_core.specs.Views.{changed, changed_once};
+ghost use Rattle.reg_store.specs.Changes.{with_reply, IsNewTo, IsKeepable, Respells};
+ghost use Rattle.reg_store.specs.Replies.{Kept};
+ghost use Rattle.reg_store.specs.Spells.{Spells};
+ghost use Rattle.reg_core.specs.Registry.{Registry};
+
+use crate::keep::Keep;
+use reg_core::Change;
+use reg_tables::{keep_reply as keep_row, set_global, set_level};
+use sqlite::{Alter, Error, Transaction};
+
+/// Makes one change.
+fn make<S: Alter>(tx: &mut Transaction<'_, S>, change: &Change) -> Result<(), Error>
+    ensures same_reference { tx.new.conn.ghost_name ≡ tx.old.conn.ghost_name }
+    ensures made { HasCleanDisk (state S.Store tx.new.conn.now)
+        → OnOk result (Respells (state S.Store tx.old.conn.now) (state S.Store tx.new.conn.now)
+        (changed_once change.now) (λ k. k)) }
+    ensures kept { HasCleanDisk (state S.Store tx.new.conn.now)
+        → KeepsCommit (state S.Store tx.old.conn.now) (state S.Store tx.new.conn.now) }
+    ensures survives { Survives (state S.Store tx.old.conn.now) (state S.Store tx.new.conn.now)
+        (λ _. ⊥) }
+{
+    match change {
+        Change::SetGlobal { level } => set_global(tx, level.text()),
+        Change::SetLevel { subject, level } => set_level(tx, subject.as_str(), level.text()),
+    }
+}
+
+/// Makes the changes, in order.
+pub(crate) fn make_all<S: Alter>(
+    tx: &mut Transaction<'_, S>,
+    changes: &[Change],
+) -> Result<(), Error>
+    ensures same_reference { tx.new.conn.ghost_name ≡ tx.old.conn.ghost_name }
+    ensures made { HasCleanDisk (state S.Store tx.new.conn.now)
+        → OnOk result (Respells (state S.Store tx.old.conn.now) (state S.Store tx.new.conn.now)
+        (changed changes.now) (λ k. k)) }
+    ensures kept { HasCleanDisk (state S.Store tx.new.conn.now)
+        → KeepsCommit (state S.Store tx.old.conn.now) (state S.Store tx.new.conn.now) }
+    ensures survives { Survives (state S.Store tx.old.conn.now) (state S.Store tx.new.conn.now)
+        (λ _. ⊥) }
+{
+    for change in changes {
+        make(tx, change)?;
+    }
+    Ok(())
+}
+
+/// Keeps a reply, if there is one to keep.
+pub(crate) fn keep_reply<S: Alter>(
+    tx: &mut Transaction<'_, S>,
+    keep: Option<Keep<'_>>,
+) -> Result<(), Error>
+    requires { IfSome keep IsKeepable }
+    ensures same_reference { tx.new.conn.ghost_name ≡ tx.old.conn.ghost_name }
+    ensures put { HasCleanDisk (state S.Store tx.new.conn.now)
+        → OnOk result ((g : Registry) (k : Kept) → Spells (state S.Store tx.old.conn.now).now g k
+        → IsNewTo k keep.entry
+        → Spells (state S.Store tx.new.conn.now).now g (with_reply keep.entry k)) }
+    ensures kept { HasCleanDisk (state S.Store tx.new.conn.now)
+        → KeepsCommit (state S.Store tx.old.conn.now) (state S.Store tx.new.conn.now) }
+    ensures survives { Survives (state S.Store tx.old.conn.now) (state S.Store tx.new.conn.now)
+        (λ _. ⊥) }
+{
+    match keep {
+        None => Ok(()),
+        Some(keep) => keep_row(
+            tx,
+            keep.key.as_str(),
+            keep.command,
+            u32::from(keep.reply.status()),
+            keep.reply.body(),
+        ),
+    }
+}

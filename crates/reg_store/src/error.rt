@@ -1,0 +1,59 @@
+//! Why a call of the store fails.
+
+ghost use Rattle.std.specs.Prelude.{◌≡◌};
+ghost use Rattle.sqlite.specs.declared.error.Error.TheVariants.{SqliteFailure};
+ghost use Rattle.reg_store.specs.Failures.{failure_of};
+
+use sqlite::ErrorCode;
+use thiserror::Error;
+
+/// Why a call of the store fails. It changed nothing then.
+#[derive(Clone, Copy, Debug, PartialEq, Eq, Error)]
+pub enum StoreError {
+    /// Memory was refused. The store goes on.
+    #[error("out of memory")]
+    Memory,
+    /// The disk failed, or what was to be written is past a limit of the file. The store answers
+    /// this to every later call.
+    #[error("the disk failed")]
+    Disk,
+    /// A table or a column is missing, or the rows don't spell a registry.
+    #[error("not a registry")]
+    NotARegistry,
+    /// The database has an older layout, of this number.
+    #[error("layout {0} is older than this program's")]
+    OldLayout(u32),
+    /// The database has a newer layout, of this number.
+    #[error("layout {0} is newer than this program's")]
+    NewerLayout(u32),
+}
+
+impl From<sqlite::Error> for StoreError {
+    ghost use Rattle.std.specs.Prelude.{◌≡◌};
+    ghost use Rattle.reg_store.specs.Failures.{failure_of};
+
+    ghost from_gives = { λ error failure. failure ≡ failure_of error };
+
+    fn from(error: sqlite::Error) -> StoreError {
+        match error {
+            sqlite::Error::SqliteFailure(code) => failure_with(code),
+            _ => StoreError::NotARegistry,
+        }
+    }
+}
+
+// The failure that a code of `sqlite` is.
+fn failure_with(code: ErrorCode) -> StoreError
+    ensures { result ≡ failure_of (SqliteFailure code) }
+{
+    match code {
+        ErrorCode::OutOfMemory => StoreError::Memory,
+        ErrorCode::SystemIoFailure
+        | ErrorCode::DatabaseCorrupt
+        | ErrorCode::DiskFull
+        | ErrorCode::TooBig
+        | ErrorCode::NoRowid
+        | ErrorCode::Closed => StoreError::Disk,
+        _ => StoreError::NotARegistry,
+    }
+}

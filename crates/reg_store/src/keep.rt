@@ -1,0 +1,11 @@
+//! Replies to keep.
+
+use reg_core::{Key, Reply};
+
+/// A reply to keep under a retry key, with the text of its command.
+#[derive(Clone, Copy, Debug)]
+pub struct Keep<'a> {
+    pub key: &'a Key<'a>,
+    pub command: &'a str,
+    pub reply: &'a Reply,
+}

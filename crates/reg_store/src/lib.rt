@@ -1,0 +1,14 @@
+//! A registry and its kept replies in a database: made, read and changed in whole transactions.
+//!
+//! What a call says of the tables holds where the disk has returned what was written to it
+//! (`HasCleanDisk`).
+#![tactic(auto)]
+
+mod changes;
+mod error;
+mod keep;
+mod store;
+
+pub use error::StoreError;
+pub use keep::Keep;
+pub use store::Store;

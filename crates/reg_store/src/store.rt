@@ -1,0 +1,21 @@
+//! The store.
+
+ghost use Rattle.std.specs.Prelude.{◌≡◌, None, false};
+
+use sqlite::{Alter, Connection};
+use std::alloc::Global;
+
+mod applying;
+mod making;
+mod reading;
+
+/// A registry and its kept replies in a database. Contracts see what its connection shows
+/// (`state_of`), and whether the disk has failed (`has_failed`).
+#[derive(Drop)]
+pub struct Store<S: Alter> {
+    alloc: Global,
+    conn: Connection<S>,
+    failed: bool,
+    ghost idle: { conn.in_transaction ≡ false },
+    ghost unlimited: { conn.step_limit ≡ None },
+}

@@ -1,0 +1,87 @@
+//! Changes of the registry, and the replies that are kept with them.
+
+ghost use Rattle.std.specs.Prelude.{◌≡◌, ◌⊎◌, ◌↔◌, IfSome, OnOk, OnErr, Err, IsTrue, false};
+ghost use Rattle.sqlite.specs.Tree.{Trees};
+ghost use Rattle.sqlite.specs.Held.{state};
+ghost use Rattle.sqlite.specs.State.{HasCleanDisk, Survives, KeepsCommit};
+ghost use Rattle.reg_core.specs.Registry.{Registry};
+ghost use Rattle.reg_core.specs.Views.{changed};
+ghost use Rattle.reg_tables.specs.Reading.{OnlyReads};
+ghost use Rattle.reg_store.specs.Replies.{Kept};
+ghost use Rattle.reg_store.specs.Spells.{Leaves, IsOpenOver, SpellsWhileOpen};
+ghost use Rattle.reg_store.specs.Changes.{with_reply, IsNewTo, IsKeepable};
+ghost use Rattle.reg_store.specs.Stores.{state_of, has_failed};
+
+use crate::changes::{keep_reply, make_all};
+use crate::error::StoreError;
+use crate::keep::Keep;
+use crate::store::Store;
+use reg_core::Change;
+use sqlite::{Alter, Connection, Error};
+
+// Makes the changes and keeps the reply in one transaction.
+fn commit_all<S: Alter>(
+    conn: &mut Connection<S>,
+    changes: &[Change],
+    keep: Option<Keep<'_>>,
+) -> Result<(), Error>
+    requires idle { conn.old.in_transaction ≡ false }
+    requires keepable { IfSome keep IsKeepable }
+    ensures idle { conn.new.in_transaction ≡ false }
+    ensures done { HasCleanDisk (state S.Store conn.new) → OnOk result ((g : Registry) (k : Kept)
+        → SpellsWhileOpen (state S.Store conn.old) g k → IsNewTo k keep.entry
+        → IsOpenOver (state S.Store conn.new) (changed changes.now g) (with_reply keep.entry k)) }
+    ensures nothing { HasCleanDisk (state S.Store conn.new)
+        → OnErr result (KeepsCommit (state S.Store conn.old) (state S.Store conn.new)) }
+    ensures survives { Survives (state S.Store conn.old) (state S.Store conn.new) (λ db.
+        (g : Registry) (k : Kept)
+        → SpellsWhileOpen (state S.Store conn.old) g k → IsNewTo k keep.entry
+        → IsTrue (state S.Store conn.old).is_open
+        → Leaves db (changed changes.now g) (with_reply keep.entry k)) }
+{
+    let mut tx = conn.transaction();
+    make_all(&mut tx, changes)?;
+    keep_reply(&mut tx, keep)?;
+    tx.commit()
+}
+
+impl<S: Alter> Store<S> {
+    /// Makes the changes in order, and keeps the reply if there is one, in one transaction: all or
+    /// nothing. The reply's status is 200, 404, 409 or 422, and nothing is kept under its key yet.
+    ///
+    /// # Errors
+    ///
+    /// `Memory`, `Disk`, and `NotARegistry` where the tables no longer are those of one, or
+    /// something is kept under the key. Nothing is changed then; but after `Disk` a crash may leave
+    /// the database with all of the changes and the reply.
+    pub fn apply(&mut self, changes: &[Change], keep: Option<Keep<'_>>) -> Result<(), StoreError>
+        requires { IfSome keep IsKeepable }
+        ensures failed_before { IsTrue (has_failed self.old)
+            → (result ≡ Err StoreError.Disk) × (self.new ≡ self.old) }
+        ensures failed_now { (result ≡ Err StoreError.Disk) ↔ IsTrue (has_failed self.new) }
+        ensures done { HasCleanDisk (state_of self.new) → OnOk result ((g : Registry) (k : Kept)
+            → SpellsWhileOpen (state_of self.old) g k → IsNewTo k keep.entry
+            → IsOpenOver (state_of self.new) (changed changes.now g) (with_reply keep.entry k)) }
+        ensures nothing { HasCleanDisk (state_of self.new) → OnErr result ((g : Registry) (k : Kept)
+            → SpellsWhileOpen (state_of self.old) g k → SpellsWhileOpen (state_of self.new) g k) }
+
+        // A crash leaves the database before the call, or the one after it.
+        ensures crash { HasCleanDisk (state_of self.new) → (g : Registry) (k : Kept)
+            → IsOpenOver (state_of self.old) g k → IsNewTo k keep.entry
+            → (db : Trees) → (state_of self.new).may_leave db
+            → Leaves db g k ⊎ Leaves db (changed changes.now g) (with_reply keep.entry k) }
+
+        // While the connection is open, a crash leaves what the tables spell.
+        ensures settled { (g : Registry) (k : Kept) → IsOpenOver (state_of self.new) g k
+            → (db : Trees) → (state_of self.new).may_leave db → Leaves db g k }
+    {
+        if self.failed {
+            return Err(StoreError::Disk);
+        }
+        let done = commit_all(&mut self.conn, changes, keep);
+        let _idle = self.conn.is_autocommit();
+        let done = done.map_err(StoreError::from);
+        self.failed = matches!(done, Err(StoreError::Disk));
+        done
+    }
+}

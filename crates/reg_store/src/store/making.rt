@@ -1,0 +1,109 @@
+//! How a store is made, and taken apart again.
+
+ghost use Rattle.std.specs.Prelude.{◌≡◌, ◌≢◌, ◌⊎◌, ◌↔◌, IfOk, IfErr, OnOk, OnErr, IsErrAnd, IsTrue, None, false};
+ghost use Rattle.sqlite.specs.Tree.{Trees};
+ghost use Rattle.sqlite.specs.Held.{state};
+ghost use Rattle.sqlite.specs.State.{HasCleanDisk, Survives, KeepsCommit};
+ghost use Rattle.reg_core.specs.Registry.{new_registry};
+ghost use Rattle.reg_tables.specs.Layout.{no_schema};
+ghost use Rattle.reg_tables.specs.Reading.{OnlyReads};
+ghost use Rattle.reg_store.specs.Replies.{nothing_kept};
+ghost use Rattle.reg_store.specs.Spells.{Leaves, IsOpenOver};
+ghost use Rattle.reg_store.specs.Stores.{connection_of, state_of, has_failed};
+
+use crate::error::StoreError;
+use crate::store::Store;
+use sqlite::{Alter, Connection, Error};
+use sqlite_schema::schema::Schema;
+use std::alloc::Global;
+
+impl<S: Alter> Store<S> {
+    /// Makes a new registry, which keeps no reply, in an empty database. The connection is outside
+    /// a transaction, and is given back where that fails.
+    ///
+    /// # Errors
+    ///
+    /// `NotARegistry` where the database isn't empty, `Memory` and `Disk`. The database is as
+    /// before then; but after `Disk` a crash may leave the new registry too.
+    pub fn create(
+        alloc: Global,
+        mut connection: Connection<S>,
+    ) -> Result<Store<S>, (StoreError, Connection<S>)>
+        requires { connection.in_transaction ≡ false }
+        ensures done { IfOk result (λ store. HasCleanDisk (state_of store)
+            → IsOpenOver (state_of store) new_registry nothing_kept) }
+        ensures unfailed { IfOk result (λ store. has_failed store ≡ false) }
+        ensures full { (state S.Store connection).now.schema ≢ no_schema
+            → IsErrAnd result (λ e. e.0 ≡ StoreError.NotARegistry) }
+        ensures idle { IfErr result (λ e. e.1.in_transaction ≡ false) }
+        ensures nothing { IfErr result (λ e. HasCleanDisk (state S.Store e.1)
+            → OnlyReads (state S.Store connection) (state S.Store e.1)) }
+
+        // A crash leaves the new registry, or where the call failed perhaps what it left before.
+        ensures crash_after { IfOk result (λ store. HasCleanDisk (state_of store) → (db : Trees)
+            → (state_of store).may_leave db → Leaves db new_registry nothing_kept) }
+        ensures crash { IfErr result (λ e. HasCleanDisk (state S.Store e.1) → (db : Trees)
+            → (state S.Store e.1).may_leave db
+            → (state S.Store connection).may_leave db ⊎ Leaves db new_registry nothing_kept) }
+    {
+        connection.set_step_limit(None);
+        if !is_empty(connection.schema()) {
+            let _idle = connection.is_autocommit();
+            return Err((StoreError::NotARegistry, connection));
+        }
+        let made = make_in(&mut connection);
+        let _idle = connection.is_autocommit();
+        match made {
+            Ok(()) => Ok(Store {
+                alloc,
+                conn: connection,
+                failed: false,
+            }),
+            Err(error) => Err((StoreError::from(error), connection)),
+        }
+    }
+
+    /// Whether the store has answered `Disk`, which it then answers to every call.
+    pub fn failed(&self) -> bool
+        ensures { result ≡ has_failed self.now }
+    {
+        self.failed
+    }
+
+    /// The connection, outside a transaction.
+    pub fn into_connection(self) -> Connection<S>
+        ensures same { result ≡ connection_of self }
+        ensures idle { result.in_transaction ≡ false }
+    {
+        let Store {
+            alloc: _,
+            conn,
+            failed: _,
+        } = self;
+        conn
+    }
+}
+
+// Whether a database of this schema has no table, no index and no view.
+fn is_empty(schema: &Schema) -> bool
+    ensures { IsTrue result ↔ (schema.now ≡ no_schema) }
+{
+    schema.tables.is_empty() && schema.indexes.is_empty() && schema.views.is_empty()
+}
+
+// Makes the tables of a new registry in one transaction.
+fn make_in<S: Alter>(conn: &mut Connection<S>) -> Result<(), Error>
+    requires { conn.old.in_transaction ≡ false }
+    ensures idle { conn.new.in_transaction ≡ false }
+    ensures done { HasCleanDisk (state S.Store conn.new)
+        → OnOk result ((state S.Store conn.old).now.schema ≡ no_schema
+        → IsOpenOver (state S.Store conn.new) new_registry nothing_kept) }
+    ensures nothing { HasCleanDisk (state S.Store conn.new)
+        → OnErr result (KeepsCommit (state S.Store conn.old) (state S.Store conn.new)) }
+    ensures survives { Survives (state S.Store conn.old) (state S.Store conn.new) (λ db.
+        (state S.Store conn.old).now.schema ≡ no_schema → Leaves db new_registry nothing_kept) }
+{
+    let mut tx = conn.transaction();
+    reg_tables::create(&mut tx)?;
+    tx.commit()
+}

@@ -1,0 +1,178 @@
+//! What a command needs to know of the registry, and what is kept under a key.
+
+ghost use Rattle.std.specs.Prelude.{◌≡◌, ◌↔◌, ℕ, List, Some, Err, IfOk, OnOk, IsTrue, false, option_map, option_and_then, option_copied, string_bytes};
+ghost use Rattle.sqlite.specs.Tree.{Trees};
+ghost use Rattle.sqlite.specs.Held.{state};
+ghost use Rattle.sqlite.specs.State.{HasCleanDisk, Survives};
+ghost use Rattle.reg_core.specs.Levels.{level_of};
+ghost use Rattle.reg_core.specs.Registry.{Registry};
+ghost use Rattle.reg_core.specs.Views.{IsViewOf};
+ghost use Rattle.reg_core.specs.Machine.{subject_of};
+ghost use Rattle.reg_tables.specs.Reading.{OnlyReads};
+ghost use Rattle.reg_tables.specs.Replies.{kept_row};
+ghost use Rattle.reg_store.specs.Replies.{Kept, entry_told};
+ghost use Rattle.reg_store.specs.Spells.{SpellsWhileOpen, row_of};
+ghost use Rattle.reg_store.specs.Stores.{state_of, has_failed};
+
+use crate::error::StoreError;
+use crate::store::Store;
+use reg_core::{Command, Key, Level, Reply, Subject, View};
+use reg_tables::{KeptReply, global_level, kept_reply, own_level};
+use sqlite::{Alter, Connection};
+
+impl<S: Alter> Store<S> {
+    /// The text and the reply that are kept under the key, if something is.
+    ///
+    /// # Errors
+    ///
+    /// `Memory`, `Disk`, and `NotARegistry` where the tables no longer spell one. Whatever is
+    /// answered, nothing is changed.
+    pub fn kept(&mut self, key: &Key<'_>) -> Result<Option<(String, Reply)>, StoreError>
+        ensures failed_before { IsTrue (has_failed self.old)
+            → (result ≡ Err StoreError.Disk) × (self.new ≡ self.old) }
+        ensures failed_now { (result ≡ Err StoreError.Disk) ↔ IsTrue (has_failed self.new) }
+        ensures found { HasCleanDisk (state_of self.new) → IfOk result (λ found.
+            (g : Registry) (k : Kept) → SpellsWhileOpen (state_of self.old) g k
+            → k key.now ≡ option_map (λ kept. entry_told (string_bytes kept.0) kept.1) found) }
+        ensures same { HasCleanDisk (state_of self.new) → (g : Registry) (k : Kept)
+            → SpellsWhileOpen (state_of self.old) g k → SpellsWhileOpen (state_of self.new) g k }
+        ensures crash { HasCleanDisk (state_of self.new) → (db : Trees)
+            → (state_of self.new).may_leave db → (state_of self.old).may_leave db }
+    {
+        if self.failed {
+            return Err(StoreError::Disk);
+        }
+        let found = kept_under(&mut self.conn, key);
+        self.failed = matches!(found, Err(StoreError::Disk));
+        found
+    }
+
+    /// The view of the registry that the command needs.
+    ///
+    /// # Errors
+    ///
+    /// `Memory`, `Disk`, and `NotARegistry` where the tables no longer spell one. Whatever is
+    /// answered, nothing is changed.
+    pub fn view(&mut self, command: &Command) -> Result<View, StoreError>
+        ensures failed_before { IsTrue (has_failed self.old)
+            → (result ≡ Err StoreError.Disk) × (self.new ≡ self.old) }
+        ensures failed_now { (result ≡ Err StoreError.Disk) ↔ IsTrue (has_failed self.new) }
+        ensures view { HasCleanDisk (state_of self.new) → IfOk result (λ view.
+            (g : Registry) (k : Kept) → SpellsWhileOpen (state_of self.old) g k
+            → IsViewOf view g command.now) }
+        ensures same { HasCleanDisk (state_of self.new) → (g : Registry) (k : Kept)
+            → SpellsWhileOpen (state_of self.old) g k → SpellsWhileOpen (state_of self.new) g k }
+        ensures crash { HasCleanDisk (state_of self.new) → (db : Trees)
+            → (state_of self.new).may_leave db → (state_of self.old).may_leave db }
+    {
+        if self.failed {
+            return Err(StoreError::Disk);
+        }
+        let view = view_for(&mut self.conn, command);
+        self.failed = matches!(view, Err(StoreError::Disk));
+        view
+    }
+}
+
+// What is kept under the key.
+fn kept_under<S: Alter>(
+    conn: &mut Connection<S>,
+    key: &Key<'_>,
+) -> Result<Option<(String, Reply)>, StoreError>
+    requires idle { conn.old.in_transaction ≡ false }
+    ensures idle { conn.new.in_transaction ≡ false }
+    ensures found { HasCleanDisk (state S.Store conn.new) → IfOk result (λ found.
+        (g : Registry) (k : Kept) → SpellsWhileOpen (state S.Store conn.old) g k
+        → k key.now ≡ option_map (λ kept. entry_told (string_bytes kept.0) kept.1) found) }
+    ensures only_reads { HasCleanDisk (state S.Store conn.new)
+        → OnlyReads (state S.Store conn.old) (state S.Store conn.new) }
+    ensures survives { Survives (state S.Store conn.old) (state S.Store conn.new) (λ _. ⊥) }
+{
+    match kept_reply(conn, key.as_str())? {
+        None => Ok(None),
+        Some(row) => Ok(Some(told_in(row)?)),
+    }
+}
+
+// The text and the reply of a row, if the reply is one.
+fn told_in(row: KeptReply) -> Result<(String, Reply), StoreError>
+    ensures { IfOk result (λ kept. kept_row row ≡ row_of (entry_told (string_bytes kept.0) kept.1)) }
+{
+    let KeptReply {
+        command,
+        status,
+        body,
+    } = row;
+    let Ok(status) = u16::try_from(status) else {
+        return Err(StoreError::NotARegistry);
+    };
+    match Reply::new(status, body) {
+        Some(reply) => Ok((command, reply)),
+        None => Err(StoreError::NotARegistry),
+    }
+}
+
+// The view that the command needs.
+fn view_for<S: Alter>(conn: &mut Connection<S>, command: &Command) -> Result<View, StoreError>
+    requires idle { conn.old.in_transaction ≡ false }
+    ensures idle { conn.new.in_transaction ≡ false }
+    ensures view { HasCleanDisk (state S.Store conn.new) → IfOk result (λ view.
+        (g : Registry) (k : Kept) → SpellsWhileOpen (state S.Store conn.old) g k
+        → IsViewOf view g command.now) }
+    ensures only_reads { HasCleanDisk (state S.Store conn.new)
+        → OnlyReads (state S.Store conn.old) (state S.Store conn.new) }
+    ensures survives { Survives (state S.Store conn.old) (state S.Store conn.new) (λ _. ⊥) }
+{
+    let own = match command.subject() {
+        Some(subject) => own(conn, subject)?,
+        None => None,
+    };
+    let global = global(conn)?;
+    Ok(View { own, global })
+}
+
+// The level that the subject has of its own, if it has one.
+fn own<S: Alter>(conn: &mut Connection<S>, subject: &Subject) -> Result<Option<Level>, StoreError>
+    requires idle { conn.old.in_transaction ≡ false }
+    ensures idle { conn.new.in_transaction ≡ false }
+    ensures found { HasCleanDisk (state S.Store conn.new) → IfOk result (λ own.
+        (g : Registry) (k : Kept) → SpellsWhileOpen (state S.Store conn.old) g k
+        → own ≡ g.own subject.now) }
+    ensures only_reads { HasCleanDisk (state S.Store conn.new)
+        → OnlyReads (state S.Store conn.old) (state S.Store conn.new) }
+    ensures survives { Survives (state S.Store conn.old) (state S.Store conn.new) (λ _. ⊥) }
+{
+    match own_level(conn, subject.as_str())? {
+        None => Ok(None),
+        Some(text) => Ok(Some(level_in(text.as_str())?)),
+    }
+}
+
+// The global level.
+fn global<S: Alter>(conn: &mut Connection<S>) -> Result<Level, StoreError>
+    requires idle { conn.old.in_transaction ≡ false }
+    ensures idle { conn.new.in_transaction ≡ false }
+    ensures found { HasCleanDisk (state S.Store conn.new) → IfOk result (λ level.
+        (g : Registry) (k : Kept) → SpellsWhileOpen (state S.Store conn.old) g k
+        → level ≡ g.global) }
+    ensures was_open { HasCleanDisk (state S.Store conn.new)
+        → OnOk result (IsTrue (state S.Store conn.old).is_open) }
+    ensures only_reads { HasCleanDisk (state S.Store conn.new)
+        → OnlyReads (state S.Store conn.old) (state S.Store conn.new) }
+    ensures survives { Survives (state S.Store conn.old) (state S.Store conn.new) (λ _. ⊥) }
+{
+    match global_level(conn)? {
+        None => Err(StoreError::NotARegistry),
+        Some(text) => level_in(text.as_str()),
+    }
+}
+
+// The level that a row spells.
+fn level_in(text: &str) -> Result<Level, StoreError>
+    ensures { IfOk result (λ level. level_of text.now ≡ Some level) }
+{
+    match Level::parse(text) {
+        None => Err(StoreError::NotARegistry),
+        Some(level) => Ok(level),
+    }
+}
