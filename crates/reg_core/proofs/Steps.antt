@@ -20,11 +20,13 @@ pub set_level-IsOwnReply : (g : Registry) (s : Option (List ℕ)) (o : Option Le
 unfolding fault_body digits
 set_level-IsOwnReply g s None = record {
   status = refl;
+  kept = refl;
   no_backend_fault = eqb-false 422 500 refl;
   no_reused_key = λ e. eqb-false 48 57 refl (ap (λ (t : Told). get_or t.body 17 0) e);
 }
 set_level-IsOwnReply g s (Some level) = record {
   status = refl;
+  kept = refl;
   no_backend_fault = eqb-false 200 500 refl;
   no_reused_key = other_status _ _ (eqb-false 200 422 refl);
 }
@@ -32,11 +34,13 @@ set_level-IsOwnReply g s (Some level) = record {
 pub shown-IsOwnReply : (o : Option Level) → IsOwnReply (shown o)
 shown-IsOwnReply None = record {
   status = refl;
+  kept = refl;
   no_backend_fault = eqb-false 404 500 refl;
   no_reused_key = other_status _ _ (eqb-false 404 422 refl);
 }
 shown-IsOwnReply (Some level) = record {
   status = refl;
+  kept = refl;
   no_backend_fault = eqb-false 200 500 refl;
   no_reused_key = other_status _ _ (eqb-false 200 422 refl);
 }
@@ -48,6 +52,7 @@ step-IsOwnReply g (SetLevel subject text) = set_level-IsOwnReply g (Some subject
 step-IsOwnReply g (LevelOf subject default) = shown-IsOwnReply (level_shown (g.own subject) g.global default)
 step-IsOwnReply g Global = record {
   status = refl;
+  kept = refl;
   no_backend_fault = eqb-false 200 500 refl;
   no_reused_key = other_status _ _ (eqb-false 200 422 refl);
 }

@@ -18,6 +18,14 @@ statuses = 200 ∷ 400 ∷ 404 ∷ 405 ∷ 409 ∷ 413 ∷ 422 ∷ 500 ∷ 501 �
 abbrev pub IsStatus : ℕ → Type 0
 IsStatus n = IsTrue (list_any (λ status. n == status) statuses)
 
+-- this project's choice: what a command is answered, which is carried out or refused; such replies are kept
+abbrev pub kept_statuses : List ℕ
+kept_statuses = 200 ∷ 404 ∷ 409 ∷ 422 ∷ []
+
+-- this project's choice: the number is one of these four
+abbrev pub IsKeptStatus : ℕ → Type 0
+IsKeptStatus n = IsTrue (list_any (λ status. n == status) kept_statuses)
+
 -- RFC 9110, section 15.3.1: what a command answers that isn't refused
 abbrev pub answer : List ℕ → Told
 answer body = record { status = 200; body = body }
@@ -26,9 +34,10 @@ answer body = record { status = 200; body = body }
 abbrev pub fault : Code → Told
 fault code = record { status = status_of code; body = fault_body code }
 
--- This project's choice: a reply that the registry's own rules give has one of the nine statuses, and is neither of the
+-- This project's choice: a reply that the registry's own rules give has one of the four statuses, and is neither of the
 -- two faults that come from outside them: want of memory or disk, and a retry key that came with another command.
 pub record IsOwnReply (reply : Told) : Type 0 where
   pub status : IsStatus reply.status
+  pub kept : IsKeptStatus reply.status
   pub no_backend_fault : reply.status ≢ 500
   pub no_reused_key : reply ≢ fault KeyReused

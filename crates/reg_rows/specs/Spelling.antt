@@ -5,6 +5,7 @@ use Rattle.std.specs.declared.alloc.Global.{Global}
 use Rattle.std.specs.List.{AllByRecursion, list_any, list_all}
 use Rattle.reg_core.specs.Keys.{IsKey}
 use Rattle.reg_core.specs.Levels.{level_of}
+use Rattle.reg_core.specs.Replies.{IsKeptStatus}
 use Rattle.reg_core.specs.Subjects.{is_subject}
 use Rattle.reg_rows.specs.declared.tables.Tables.{Tables}
 
@@ -20,16 +21,9 @@ IsLevelRow row = IsTrue (is_subject (string_bytes row.0)) × IsTrue (is_some (le
 
 -- ---- kept replies
 
--- RFC 9110, section 15: what a write is answered, and refusals of it
-abbrev pub kept_statuses : List ℕ
-kept_statuses = 200 ∷ 404 ∷ 409 ∷ 422 ∷ []
-
-abbrev pub is_kept_status : ℕ → Bool
-is_kept_status status = list_any (λ s. status == s) kept_statuses
-
 -- a retry key, and a status; the command and the body may be any texts
 abbrev pub IsKeptRow : Text × Text × ℕ × Text → Type 0
-IsKeptRow row = IsKey (string_bytes row.0) × IsTrue (is_kept_status row.2)
+IsKeptRow row = IsKey (string_bytes row.0) × IsKeptStatus row.2
 
 -- ---- what the database is
 

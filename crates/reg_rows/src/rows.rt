@@ -2,7 +2,8 @@
 
 ghost use Rattle.std.specs.Prelude.{IsTrue, ◌↔◌, ◌≡◌};
 ghost use Rattle.std.specs.List.{AllByRecursion};
-ghost use Rattle.reg_rows.specs.Spelling.{IsLevelRow, is_kept_status, IsKeptRow};
+ghost use Rattle.reg_core.specs.Replies.{IsKeptStatus};
+ghost use Rattle.reg_rows.specs.Spelling.{IsLevelRow, IsKeptRow};
 
 use reg_core::{Key, Level, is_subject};
 
@@ -27,7 +28,7 @@ pub fn are_level_rows(rows: &[(String, String)]) -> bool
 
 /// Whether a reply of this status is ever kept.
 fn is_kept_status(status: u32) -> bool
-    ensures { result ≡ is_kept_status status }
+    ensures { IsTrue result ↔ IsKeptStatus status }
 {
     match status {
         200 | 404 | 409 | 422 => true,

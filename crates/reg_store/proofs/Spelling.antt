@@ -11,10 +11,11 @@ use Rattle.reg_core.specs.declared.level.Level.{Level}
 use Rattle.reg_core.specs.Levels.{level_text}
 use Rattle.reg_core.specs.Keys.{IsKey}
 use Rattle.reg_core.specs.Subjects.{is_subject}
+use Rattle.reg_core.specs.Replies.{IsKeptStatus}
 use Rattle.reg_core.specs.Registry.{Registry, own_with}
 use Rattle.reg_tables.specs.Contents.{Contents, Holds}
 use Rattle.reg_tables.specs.Changes.{Changes, with_global, with_level, with_kept}
-use Rattle.reg_store.specs.Replies.{Entry, Kept, kept_with, IsKeptStatus}
+use Rattle.reg_store.specs.Replies.{Entry, Kept, kept_with}
 use Rattle.reg_store.specs.Spells.{IsSpelled, Spells, row_of}
 use Rattle.reg_store.specs.Changes.{Respells}
 use Rattle.reg_store.proofs.Maps.{insert_both, insert-insert}

@@ -1,9 +1,10 @@
 -- What a call makes of a registry and of the kept replies.
 use Rattle.std.specs.Prelude.{◌≡◌, Option, None, Some, ⊤}
 use Rattle.sqlite.specs.State.{State}
+use Rattle.reg_core.specs.Replies.{IsKeptStatus}
 use Rattle.reg_core.specs.Registry.{Registry}
 use Rattle.reg_store.specs.declared.keep.Keep.{Keep}
-use Rattle.reg_store.specs.Replies.{Entry, Kept, kept_with, IsKeptStatus}
+use Rattle.reg_store.specs.Replies.{Entry, Kept, kept_with}
 use Rattle.reg_store.specs.Spells.{Spells}
 
 -- this project's choice: what is kept of a command and its reply

@@ -20,14 +20,6 @@ nothing_kept key = None
 abbrev pub kept_with : Kept → List ℕ → Entry → Kept
 kept_with k key entry q = if bytes_eq key q then Some entry else k q
 
--- The statuses of the replies that are kept.
-abbrev pub kept_statuses : List ℕ
-kept_statuses = 200 ∷ 404 ∷ 409 ∷ 422 ∷ []
-
--- The number is one of these four.
-abbrev pub IsKeptStatus : ℕ → Type 0
-IsKeptStatus n = IsTrue (list_any (λ status. n == status) kept_statuses)
-
 -- What a text and a reply that were kept say.
 abbrev pub entry_told : List ℕ → Told → Entry
 entry_told text reply = record { text = text; reply = reply }

@@ -8,11 +8,12 @@ use Rattle.reg_core.specs.declared.level.Level.{Level}
 use Rattle.reg_core.specs.Levels.{level_text}
 use Rattle.reg_core.specs.Keys.{IsKey}
 use Rattle.reg_core.specs.Subjects.{is_subject}
+use Rattle.reg_core.specs.Replies.{IsKeptStatus}
 use Rattle.reg_core.specs.Registry.{Registry}
 use Rattle.reg_tables.specs.Layout.{layout}
 use Rattle.reg_tables.specs.Contents.{KeptRow, Contents, Holds}
 use Rattle.reg_tables.specs.Changes.{meta_of}
-use Rattle.reg_store.specs.Replies.{Entry, Kept, IsKeptStatus}
+use Rattle.reg_store.specs.Replies.{Entry, Kept}
 
 -- this project's choice: a row of `kept` has the command's text, and the status and the body of its reply
 abbrev pub row_of : Entry → KeptRow

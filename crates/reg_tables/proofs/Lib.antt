@@ -13,4 +13,5 @@ pub mod TableLines
 pub mod ReadableRows
 pub mod ListingLemmas
 pub mod Opening
+pub mod CheckLemmas
 pub mod Transactions

@@ -5,3 +5,4 @@ pub mod Changes
 pub mod Reading
 pub mod Replies
 pub mod Listings
+pub mod Checks

@@ -7,6 +7,7 @@
 //! contents holds where the disk has returned what was written to it (`HasCleanDisk`).
 #![tactic(auto)]
 
+mod declared;
 mod kept;
 mod layout;
 mod levels;
@@ -14,6 +15,7 @@ mod lines;
 mod meta;
 mod statement;
 
+pub use declared::{has_layout, has_no_tables};
 pub use kept::{KeptReply, keep_reply, kept_reply};
 pub use layout::create;
 pub use levels::{drop_level, own_level, set_level};

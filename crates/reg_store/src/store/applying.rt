@@ -59,6 +59,7 @@ impl<S: Alter> Store<S> {
         ensures failed_before { IsTrue (has_failed self.old)
             → (result ≡ Err StoreError.Disk) × (self.new ≡ self.old) }
         ensures failed_now { (result ≡ Err StoreError.Disk) ↔ IsTrue (has_failed self.new) }
+        ensures clean { HasCleanDisk (state_of self.new) → HasCleanDisk (state_of self.old) }
         ensures done { HasCleanDisk (state_of self.new) → OnOk result ((g : Registry) (k : Kept)
             → SpellsWhileOpen (state_of self.old) g k → IsNewTo k keep.entry
             → IsOpenOver (state_of self.new) (changed changes.now g) (with_reply keep.entry k)) }

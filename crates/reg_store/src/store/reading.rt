@@ -31,6 +31,7 @@ impl<S: Alter> Store<S> {
         ensures failed_before { IsTrue (has_failed self.old)
             → (result ≡ Err StoreError.Disk) × (self.new ≡ self.old) }
         ensures failed_now { (result ≡ Err StoreError.Disk) ↔ IsTrue (has_failed self.new) }
+        ensures clean { HasCleanDisk (state_of self.new) → HasCleanDisk (state_of self.old) }
         ensures found { HasCleanDisk (state_of self.new) → IfOk result (λ found.
             (g : Registry) (k : Kept) → SpellsWhileOpen (state_of self.old) g k
             → k key.now ≡ option_map (λ kept. entry_told (string_bytes kept.0) kept.1) found) }
@@ -57,6 +58,7 @@ impl<S: Alter> Store<S> {
         ensures failed_before { IsTrue (has_failed self.old)
             → (result ≡ Err StoreError.Disk) × (self.new ≡ self.old) }
         ensures failed_now { (result ≡ Err StoreError.Disk) ↔ IsTrue (has_failed self.new) }
+        ensures clean { HasCleanDisk (state_of self.new) → HasCleanDisk (state_of self.old) }
         ensures view { HasCleanDisk (state_of self.new) → IfOk result (λ view.
             (g : Registry) (k : Kept) → SpellsWhileOpen (state_of self.old) g k
             → IsViewOf view g command.now) }
