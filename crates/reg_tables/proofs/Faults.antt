@@ -1,9 +1,9 @@
 -- How a query of the declared tables fails: for the store, or at the limit on steps.
-use Rattle.std.proofs.Common.{◌≡◌, ◌≢◌, ◌⊎◌, inl, inr, ℕ, List, [], ◌∷◌, length, ◌≤◌, append-nil, lit≤, true, Ok, Err, Result, refl, sym, ap, subst, ◌∙◌}
+use Rattle.std.proofs.Common.{pos, ◌≡◌, ◌≢◌, ◌⊎◌, inl, inr, ℕ, List, [], ◌∷◌, length, ◌≤◌, append-nil, lit≤, true, Ok, Err, Result, refl, sym, ap, subst, ◌∙◌}
 use Rattle.std.specs.Prelude.{IsSome, IfErr, IsErrAnd}
 use Rattle.std.proofs.lemmas.Bool.{both_ways}
 use Rattle.sqlite.specs.declared.types.Value.{Value}
-use Rattle.sqlite.specs.declared.types.Value.TheVariants.{Text}
+use Rattle.sqlite.specs.declared.types.Value.TheVariants.{Int, Text}
 use Rattle.sqlite.specs.Order.{Row}
 use Rattle.sqlite.specs.Term.{Term, col}
 use Rattle.sqlite.specs.Command.TheVariants.{Select}
@@ -26,7 +26,7 @@ use Rattle.reg_tables.specs.Layout.{layout}
 use Rattle.reg_tables.specs.Contents.{Contents, AreReadable, Holds}
 use Rattle.reg_tables.specs.Reading.{IsFault}
 use Rattle.reg_tables.proofs.Queries.{plain_query}
-use Rattle.reg_tables.proofs.Statements.{IsQuery, by_key, find_level, find_meta, find_kept, all_texts, all_versions, all_levels, all_kept, all_meta}
+use Rattle.reg_tables.proofs.Statements.{IsQuery, by_key, by_id, find_text, find_level, find_meta, find_kept, all_texts, all_versions, all_levels, all_kept, all_meta}
 
 -- the text is one statement, with so many parameters
 abbrev IsWhole : List ℕ → ℕ → Result Compiled CompileError → Type 0
@@ -41,6 +41,10 @@ pub record Takes (sql : List ℕ) (tree : ℕ) (tests shown : List Term) (params
 pub takes_level : (k : List ℕ) → Takes find_level 4 by_key (col 1 2 ∷ []) (Text k ∷ [])
 unfolding understood everything
 takes_level k = record { whole = (lit≤ tt, refl); typed = refl }
+
+pub takes_text : (id : ℕ) → Takes find_text 0 by_id (col 1 2 ∷ []) (Int (pos id) ∷ [])
+unfolding understood everything
+takes_text id = record { whole = (lit≤ tt, refl); typed = refl }
 
 pub takes_meta : (k : List ℕ) → Takes find_meta 8 by_key (col 1 2 ∷ []) (Text k ∷ [])
 unfolding understood everything

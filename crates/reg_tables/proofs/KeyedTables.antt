@@ -1,11 +1,11 @@
 -- What the statements of one table make of the map that it shows, by the key of its rows.
-use Rattle.std.proofs.Common.{◌≡◌, ◌≢◌, inl, ◌&&◌, ◌==◌, ℕ, ℤ, length, List, [], ◌∷◌, ◌/◌, Option, Some, None, Bool, true, false, cond, Ok, MatchOption, slice_get, refl, sym, ap, subst, ◌∙◌}
+use Rattle.std.proofs.Common.{◌≡◌, ◌≢◌, inl, inr, ◌&&◌, ◌==◌, ℕ, ℤ, length, List, [], ◌∷◌, ◌/◌, Option, Some, None, Bool, true, false, cond, Ok, MatchOption, slice_get, refl, sym, ap, subst, ◌∙◌}
 use Rattle.std.specs.List.{AllByRecursion}
-use Rattle.std.specs.Ordering.{is_eq}
-use Rattle.std.specs.FinMap.{FinMap, get, insert, remove, slice_cmp-IsAntisymmetric, nat_cmp-IsAntisymmetric}
-use Rattle.std.proofs.Common.{Ordering, nat_le, ◌^◌}
-use Rattle.std.proofs.lemmas.Cmp.{nat_list_cmp_total}
-use Rattle.std.proofs.lemmas.Bool.{and_parts, not-true}
+use Rattle.std.specs.Ordering.{is_eq, nat_cmp, int_cmp, ordering_then}
+use Rattle.std.specs.FinMap.{FinMap, get, insert, remove, slice_cmp-IsAntisymmetric, nat_cmp-IsAntisymmetric, int_cmp-IsAntisymmetric, IsAntisymmetric}
+use Rattle.std.proofs.Common.{Ordering, Less, Equal, Greater, pos, nat_le, ◌^◌}
+use Rattle.std.proofs.lemmas.Cmp.{nat_list_cmp_total, nat_cmp_total, int_cmp_total, on_total, then_total}
+use Rattle.std.proofs.lemmas.Bool.{and_parts, not-true, cases_Bool, both_ways, false_from_ne_true}
 use Rattle.sqlite.specs.declared.types.Value.{Value}
 use Rattle.sqlite.specs.declared.types.Value.TheVariants.{Null, Int, Text}
 use Rattle.sqlite.specs.Order.{Row, column}
@@ -27,7 +27,7 @@ use Rattle.sqlite.specs.Rows.{stamped}
 use Rattle.sqlite.specs.State.{State, Executes, Shown}
 use Rattle.sqlite.specs.Listing.{understood}
 use Rattle.sqlite.proofs.Callers.{statement_of, runs_as, reads_as}
-use Rattle.sqlite_value.proofs.OrderLemmas.{value_cmp-Text}
+use Rattle.sqlite_value.proofs.OrderLemmas.{value_cmp-Text, value_cmp-Int}
 use Rattle.sqlite_sql.specs.Ops.{binary, is_true, from_truth}
 use Rattle.sqlite_schema.specs.declared.schema.Action.TheVariants.{NoAction}
 use Rattle.sqlite_schema.specs.declared.schema.Keys.TheVariants.{Enforced}
@@ -36,11 +36,11 @@ use Rattle.sqlite_rules.specs.Action.{works}
 use Rattle.sqlite_rules.specs.Lists.{Has}
 use Rattle.reg_tables.specs.Layout.{layout}
 use Rattle.reg_tables.specs.TableMaps.{Form, ShowsMap}
-use Rattle.reg_tables.specs.Contents.{text_cmp, text_cells}
+use Rattle.reg_tables.specs.Contents.{version_cmp, number_cells, version_key_cells, flag_cell, text_cmp, text_cells}
 use Rattle.reg_tables.proofs.Queries.{plain_query, passes, answer_has, has_answer}
 use Rattle.reg_tables.proofs.MapLemmas.{IsKeyOrder, same_key, tied_key}
 use Rattle.reg_tables.proofs.RowLemmas.{FindsRowids, shows_inserted, shows_removed}
-use Rattle.reg_tables.proofs.Statements.{IsCommand, IsQuery, by_key}
+use Rattle.reg_tables.proofs.Statements.{IsCommand, IsQuery, by_key, by_id, by_version}
 use Rattle.reg_tables.proofs.Writes.{inserted, deleted}
 
 -- ---- values that a column keeps as they are
@@ -73,6 +73,74 @@ by_key_test row k q is = let its : column row 1 ≡ Text q = cc in rw (its, valu
     truth : (b : Bool) → (is_true (from_truth (Some b)) && true) ≡ b
     truth true = refl
     truth false = refl
+
+-- ---- numbers, and versions
+
+pub number_order : IsKeyOrder nat_cmp
+number_order = record { total = nat_cmp_total; antisymmetric = nat_cmp-IsAntisymmetric }
+
+pub distinct_numbers : (a b : ℕ) → number_cells a ≡ number_cells b → a ≡ b
+distinct_numbers a b h = cc
+
+same_versions : IsAntisymmetric version_cmp
+same_versions a b h = go (text_cmp a.0 b.0) refl h
+  where
+    go : (o : Ordering) → text_cmp a.0 b.0 ≡ o → ordering_then o (nat_cmp a.1 b.1) ≡ Equal → a ≡ b
+    go Less e h = absurd (cc)
+    go Equal e h = let subject = text_order.antisymmetric a.0 b.0 e in let number = nat_cmp-IsAntisymmetric a.1 b.1 h in λ i. (subject i, number i)
+    go Greater e h = absurd (cc)
+
+pub version_order : IsKeyOrder version_cmp
+version_order = record { total = then_total (on_total (λ (key : List ℕ × ℕ). key.0) nat_list_cmp_total) (on_total (λ (key : List ℕ × ℕ). key.1) nat_cmp_total); antisymmetric = same_versions }
+
+pub distinct_versions : (a b : List ℕ × ℕ) → version_key_cells a ≡ version_key_cells b → a ≡ b
+distinct_versions a b h =
+    let subject : a.0 ≡ b.0 = cc in
+    let number : a.1 ≡ b.1 = cc in
+    λ i. (subject i, number i)
+
+pub cast-flag : (b : Bool) → cast Integer (flag_cell b) ≡ flag_cell b
+cast-flag b = cast-Int (cond b (pos 1) (pos 0))
+
+number_code_order : IsKeyOrder int_cmp
+number_code_order = record { total = int_cmp_total; antisymmetric = int_cmp-IsAntisymmetric }
+
+same_pos : (q k : ℕ) → is_eq (int_cmp (pos q) (pos k)) ≡ is_eq (nat_cmp q k)
+same_pos q k = elim (cases_Bool (is_eq (nat_cmp q k))) [
+  | inl same ↦ tied_key int_cmp number_code_order (pos q) (pos k) (ap pos (same_key nat_cmp number_order q k same)) ∙ sym same
+  | inr other ↦ false_from_ne_true _ (λ tie.
+      let codes_tie : pos q ≡ pos k = same_key int_cmp number_code_order (pos q) (pos k) tie in
+      let same : q ≡ k = cc in
+      both_ways _ other (tied_key nat_cmp number_order q k same)) ∙ sym other
+]
+
+-- a row passes by its rowid
+pub by_id_test : (row : Row) (k q : ℕ) → rowid row ∷ [] ≡ number_cells q → passes by_id (Int (pos k) ∷ []) row ≡ is_eq (nat_cmp q k)
+unfolding binary
+by_id_test row k q is = let its : rowid row ≡ Int (pos q) = cc in rw (its, value_cmp-Int (pos q) (pos k), same_pos q k) (truth (is_eq (nat_cmp q k)))
+  where
+    truth : (b : Bool) → (is_true (from_truth (Some b)) && true) ≡ b
+    truth true = refl
+    truth false = refl
+
+-- a row passes by its subject and its number
+pub by_version_test : (row : Row) (k q : List ℕ × ℕ) → column row 1 ∷ column row 2 ∷ [] ≡ version_key_cells q → passes by_version (Text k.0 ∷ Int (pos k.1) ∷ []) row ≡ is_eq (version_cmp q k)
+unfolding binary
+by_version_test row k q is =
+    let subject : column row 1 ≡ Text q.0 = cc in
+    let number : column row 2 ≡ Int (pos q.1) = cc in
+    rw (subject, number, value_cmp-Text q.0 k.0, value_cmp-Int (pos q.1) (pos k.1), same_pos q.1 k.1) (truth (text_cmp q.0 k.0) (nat_cmp q.1 k.1))
+  where
+    truth : (a b : Ordering) → (is_true (from_truth (Some (is_eq a))) && (is_true (from_truth (Some (is_eq b))) && true)) ≡ is_eq (ordering_then a b)
+    truth Less Less = refl
+    truth Less Equal = refl
+    truth Less Greater = refl
+    truth Equal Less = refl
+    truth Equal Equal = refl
+    truth Equal Greater = refl
+    truth Greater Less = refl
+    truth Greater Equal = refl
+    truth Greater Greater = refl
 
 -- ---- one table
 

@@ -1,40 +1,14 @@
 -- The lists of the five tables say what the database holds.
-use Rattle.std.proofs.Common.{◌≡◌, ℕ, List, map, Bool, true, false, Ordering, Less, Equal, Greater, refl}
-use Rattle.std.specs.Ordering.{nat_cmp, ordering_then}
-use Rattle.std.specs.FinMap.{nat_cmp-IsAntisymmetric, IsAntisymmetric}
-use Rattle.std.proofs.lemmas.Cmp.{nat_cmp_total, nat_list_cmp_total, on_total, then_total}
+use Rattle.std.proofs.Common.{◌≡◌, map, Bool, true, false, refl}
+use Rattle.std.specs.Ordering.{nat_cmp}
 use Rattle.sqlite.specs.Effect.{Database}
 use Rattle.reg_tables.specs.Layout.{layout, texts, versions, levels, kept, meta}
-use Rattle.reg_tables.specs.Contents.{text_cmp, version_cmp, Contents, VersionRow, KeptRow, number_cells, flag_cell, version_key_cells, version_cells, kept_cells, text_form, version_form, pair_form, kept_form, Holds}
+use Rattle.reg_tables.specs.Contents.{text_cmp, version_cmp, Contents, VersionRow, KeptRow, flag_cell, version_cells, kept_cells, text_form, version_form, pair_form, kept_form, Holds}
 use Rattle.reg_tables.specs.Listings.{text_entry, version_entry, level_entry, kept_entry, meta_entry, Lines, ListsAll, HaveNoTwins, contents_of}
-use Rattle.reg_tables.proofs.MapLemmas.{IsKeyOrder}
-use Rattle.reg_tables.proofs.KeyedTables.{text_order, distinct_texts}
+use Rattle.reg_tables.proofs.KeyedTables.{text_order, distinct_texts, number_order, distinct_numbers, version_order, distinct_versions}
 use Rattle.reg_tables.proofs.ListingLemmas.{shows_if_listed, listed_if_shown}
 
 -- ---- keys and values are told apart by their cells
-
-pub number_order : IsKeyOrder nat_cmp
-number_order = record { total = nat_cmp_total; antisymmetric = nat_cmp-IsAntisymmetric }
-
-pub distinct_numbers : (a b : ℕ) → number_cells a ≡ number_cells b → a ≡ b
-distinct_numbers a b h = cc
-
-same_versions : IsAntisymmetric version_cmp
-same_versions a b h = go (text_cmp a.0 b.0) refl h
-  where
-    go : (o : Ordering) → text_cmp a.0 b.0 ≡ o → ordering_then o (nat_cmp a.1 b.1) ≡ Equal → a ≡ b
-    go Less e h = absurd (cc)
-    go Equal e h = let subject = text_order.antisymmetric a.0 b.0 e in let number = nat_cmp-IsAntisymmetric a.1 b.1 h in λ i. (subject i, number i)
-    go Greater e h = absurd (cc)
-
-pub version_order : IsKeyOrder version_cmp
-version_order = record { total = then_total (on_total (λ (key : List ℕ × ℕ). key.0) nat_list_cmp_total) (on_total (λ (key : List ℕ × ℕ). key.1) nat_cmp_total); antisymmetric = same_versions }
-
-pub distinct_versions : (a b : List ℕ × ℕ) → version_key_cells a ≡ version_key_cells b → a ≡ b
-distinct_versions a b h =
-    let subject : a.0 ≡ b.0 = cc in
-    let number : a.1 ≡ b.1 = cc in
-    λ i. (subject i, number i)
 
 distinct_flags : (a b : Bool) → flag_cell a ≡ flag_cell b → a ≡ b
 distinct_flags true true h = refl

@@ -99,6 +99,39 @@ by_key = op2 (Compare Eq Binary) (col 1 1) (col 0 0) ∷ []
 abbrev pub drops_by_key : ℕ → ℕ → Command
 drops_by_key at tree = Delete at (record { lets = []; body = plain_query tree by_key (col 1 0 ∷ []) })
 
+-- the id is the rowid, and the column that stands for it is empty
+abbrev pub text_terms : List Term
+text_terms = col 0 0 ∷ lit Null ∷ col 0 1 ∷ []
+
+abbrev pub put_text : List ℕ
+put_text = codes "INSERT INTO texts (id, text) VALUES (?1, ?2)"
+
+pub put_text_is : IsCommand layout put_text (Insert 0 (Values text_terms 3))
+unfolding understood everything
+put_text_is = record { is = refl; plain = (refl, refl) }
+
+abbrev pub put_version : List ℕ
+put_version = codes "INSERT INTO versions (subject, version, id, deleted) VALUES (?1, ?2, ?3, ?4)"
+
+pub put_version_is : IsCommand layout put_version (Insert 1 (Values four_terms 5))
+unfolding understood everything
+put_version_is = record { is = refl; plain = (refl, refl) }
+
+-- the first two columns are the parameters
+abbrev pub by_version : List Term
+by_version = op2 (Compare Eq Binary) (col 1 1) (col 0 0) ∷ op2 (Compare Eq Binary) (col 1 2) (col 0 1) ∷ []
+
+abbrev pub drop_version : List ℕ
+drop_version = codes "DELETE FROM versions WHERE subject = ?1 AND version = ?2"
+
+pub drop_version_is : IsCommand layout drop_version (Delete 1 (record { lets = []; body = plain_query 2 by_version (col 1 0 ∷ []) }))
+unfolding understood everything
+drop_version_is = record { is = refl; plain = (refl, refl) }
+
+-- the rowid is the parameter
+abbrev pub by_id : List Term
+by_id = op2 (Compare Eq Binary) (col 1 0) (col 0 0) ∷ []
+
 abbrev pub put_level : List ℕ
 put_level = codes "INSERT INTO levels (subject, level) VALUES (?1, ?2)"
 
@@ -140,6 +173,13 @@ drop_meta_is = record { is = refl; plain = (refl, refl) }
 pub record IsQuery (sql : List ℕ) (tree : ℕ) (tests shown : List Term) (names : List (List ℕ)) : Type 0 where
   pub command : IsCommand layout sql (Select (record { lets = []; body = plain_query tree tests shown }) names)
   pub unlisted : reads_listing layout sql ≡ false
+
+abbrev pub find_text : List ℕ
+find_text = codes "SELECT text FROM texts WHERE id = ?1"
+
+pub find_text_is : IsQuery find_text 0 by_id (col 1 2 ∷ []) (codes "text" ∷ [])
+unfolding understood everything
+find_text_is = record { command = record { is = refl; plain = (refl, refl) }; unlisted = refl }
 
 abbrev pub find_level : List ℕ
 find_level = codes "SELECT level FROM levels WHERE subject = ?1"

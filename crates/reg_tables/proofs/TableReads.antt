@@ -1,20 +1,21 @@
 -- What a look-up by its key shows of the contents.
-use Rattle.std.proofs.Common.{◌≡◌, ◌≢◌, ◌<◌, ℕ, List, [], ◌∷◌, length, Option, None, Some, MatchOption, slice_get, codes, refl, sym, ap, ◌∙◌, arith}
+use Rattle.std.proofs.Common.{pos, ◌≡◌, ◌≢◌, ◌<◌, ℕ, List, [], ◌∷◌, length, Option, None, Some, MatchOption, slice_get, codes, refl, sym, ap, ◌∙◌, arith}
 use Rattle.std.specs.Prelude.{IsUtf8}
 use Rattle.sqlite.specs.declared.error.ErrorCode.TheVariants as code
 use Rattle.sqlite.specs.declared.error.Error.{Error}
 use Rattle.sqlite.specs.declared.error.Error.TheVariants.{SqliteFailure}
 use Rattle.sqlite.specs.Reading.{IsReadError}
 use Rattle.reg_tables.proofs.Faults.{memory_if_readable}
+use Rattle.std.specs.Ordering.{nat_cmp}
 use Rattle.std.specs.FinMap.{get}
-use Rattle.sqlite.specs.declared.types.Value.TheVariants.{Text}
+use Rattle.sqlite.specs.declared.types.Value.TheVariants.{Int, Text}
 use Rattle.sqlite.specs.Order.{Row, column}
 use Rattle.sqlite.specs.Term.{col}
 use Rattle.sqlite.specs.State.{State, Shown}
-use Rattle.reg_tables.specs.Layout.{levels, kept, meta}
-use Rattle.reg_tables.specs.Contents.{text_cmp, KeptRow, Contents, text_cells, kept_cells, pair_form, kept_form, Holds}
-use Rattle.reg_tables.proofs.KeyedTables.{text_order, by_key_test, finds, first_found}
-use Rattle.reg_tables.proofs.Statements.{by_key, find_level, find_level_is, find_kept, find_kept_is, find_meta, find_meta_is}
+use Rattle.reg_tables.specs.Layout.{texts, levels, kept, meta}
+use Rattle.reg_tables.specs.Contents.{text_cmp, KeptRow, Contents, text_cells, kept_cells, text_form, pair_form, kept_form, Holds}
+use Rattle.reg_tables.proofs.KeyedTables.{text_order, number_order, by_key_test, by_id_test, finds, first_found}
+use Rattle.reg_tables.proofs.Statements.{by_key, by_id, find_text, find_text_is, find_level, find_level_is, find_kept, find_kept_is, find_meta, find_meta_is}
 
 -- the text that was read is the row's
 pub read_back : (row : Row) (text read : List ℕ) → row ≡ text_cells text → column row 0 ≡ Text read → text ≡ read
@@ -36,6 +37,12 @@ module _ (old new : State) (contents : Contents) (h : Holds old.now contents) (k
       first_found kept_form (get contents.kept k) found
       (finds kept_form text_cmp text_order kept.tree old new (get contents.kept) k find_kept (Text k ∷ []) by_key (col 1 2 ∷ col 1 3 ∷ col 1 4 ∷ []) (codes "command" ∷ codes "status" ∷ codes "body" ∷ []) found h.declared h.kept find_kept_is
       (λ row q is. by_key_test row k q is) (λ row. refl) shown) o first
+
+pub finds_text : (old new : State) (contents : Contents) → Holds old.now contents → (id : ℕ) (found : List Row) (o : Option Row) → o ≡ slice_get found 0 → Shown find_text (Int (pos id) ∷ []) old new found
+    → MatchOption o (get contents.texts id ≡ None) (λ row. (text : List ℕ) × (get contents.texts id ≡ Some text) × (row ≡ text_cells text))
+finds_text old new contents h id found o first shown =
+    first_found text_form (get contents.texts id) found
+    (finds text_form nat_cmp number_order texts.tree old new (get contents.texts) id find_text (Int (pos id) ∷ []) by_id (col 1 2 ∷ []) (codes "text" ∷ []) found h.declared h.texts find_text_is (λ row q is. by_id_test row id q is) (λ row. refl) shown) o first
 
 -- a text that a `String` holds is read, but for want of memory
 pub text_read : (row : Row) (text : List ℕ) (e : Error) → row ≡ text_cells text → IsUtf8 text → IsReadError 0 (column row 0) e

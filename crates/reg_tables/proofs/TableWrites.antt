@@ -1,22 +1,43 @@
 -- What each statement makes of the contents.
 use Rattle.std.proofs.Common.{◌≡◌, ℕ, pos, List, [], ◌∷◌, None, Ok, refl, sym, subst, arith}
-use Rattle.std.specs.FinMap.{get, insert, remove}
-use Rattle.sqlite.specs.declared.types.Value.TheVariants.{Int, Text}
+use Rattle.std.specs.Ordering.{nat_cmp}
+use Rattle.std.specs.FinMap.{FinMap, get, insert, remove}
+use Rattle.sqlite.specs.declared.types.Value.TheVariants.{Null, Int, Text}
 use Rattle.sqlite.specs.Order.{Row}
 use Rattle.sqlite.specs.Edit.{next_rowid}
 use Rattle.sqlite.specs.Effect.{Database}
 use Rattle.sqlite.specs.State.{State, Executes}
-use Rattle.reg_tables.specs.Layout.{levels, kept, meta}
+use Rattle.reg_tables.specs.Layout.{texts, versions, levels, kept, meta}
 use Rattle.reg_tables.specs.TableMaps.{Form, ShowsMap}
-use Rattle.reg_tables.specs.Contents.{text_cmp, TextMap, KeptRow, Contents, kept_cells, pair_form, kept_form, Holds}
-use Rattle.reg_tables.specs.Changes.{with_level, without_level, with_kept, with_meta, without_meta}
-use Rattle.reg_tables.proofs.Statements.{two_terms, four_terms, by_key, put_level, put_level_is, drop_level, drop_level_is, put_kept, put_kept_is, put_meta, put_meta_is, drop_meta, drop_meta_is}
-use Rattle.reg_tables.proofs.KeyedTables.{cast-Null, cast-Int, text_order, distinct_texts, by_key_test, TurnsTable, inserts, removes}
+use Rattle.reg_tables.specs.Contents.{text_cmp, version_cmp, TextMap, VersionRow, KeptRow, Contents, flag_cell, kept_cells, text_form, version_form, pair_form, kept_form, Holds}
+use Rattle.reg_tables.specs.Changes.{with_text, with_version, without_version, with_level, without_level, with_kept, with_meta, without_meta}
+use Rattle.reg_tables.proofs.Statements.{text_terms, put_text, put_text_is, put_version, put_version_is, by_version, drop_version, drop_version_is, two_terms, four_terms, by_key, put_level, put_level_is, drop_level, drop_level_is, put_kept, put_kept_is, put_meta, put_meta_is, drop_meta, drop_meta_is}
+use Rattle.reg_tables.proofs.KeyedTables.{number_order, distinct_numbers, version_order, distinct_versions, by_version_test, cast-flag, cast-Null, cast-Int, text_order, distinct_texts, by_key_test, TurnsTable, inserts, removes}
 
 same_rows : {K V : Type 0} {form : Form K V} {value_at : K → _} {old new : List Row} → new ≡ old → ShowsMap form old value_at → ShowsMap form new value_at
 same_rows {form = form} {value_at = value_at} e shows = subst (λ rows. ShowsMap form rows value_at) (sym e) shows
 
 module _ (old new : Database) (contents : Contents) (h : Holds old contents) where
+  pub texts_turned : (later : FinMap nat_cmp (List ℕ)) → TurnsTable text_form texts.tree old new (get later) → Holds new (record contents { texts = later })
+  texts_turned later t = record {
+    declared = t.declared;
+    texts = t.rows;
+    versions = same_rows (t.others.1.0 (λ e. omega (arith, e))) h.versions;
+    levels = same_rows (t.others.1.1.0 (λ e. omega (arith, e))) h.levels;
+    kept = same_rows (t.others.1.1.1.0 (λ e. omega (arith, e))) h.kept;
+    meta = same_rows (t.others.1.1.1.1.0 (λ e. omega (arith, e))) h.meta;
+  }
+
+  pub versions_turned : (later : FinMap version_cmp VersionRow) → TurnsTable version_form versions.tree old new (get later) → Holds new (record contents { versions = later })
+  versions_turned later t = record {
+    declared = t.declared;
+    texts = same_rows (t.others.0 (λ e. omega (arith, e))) h.texts;
+    versions = t.rows;
+    levels = same_rows (t.others.1.1.0 (λ e. omega (arith, e))) h.levels;
+    kept = same_rows (t.others.1.1.1.0 (λ e. omega (arith, e))) h.kept;
+    meta = same_rows (t.others.1.1.1.1.0 (λ e. omega (arith, e))) h.meta;
+  }
+
   pub levels_turned : (later : TextMap (List ℕ)) → TurnsTable pair_form levels.tree old new (get later) → Holds new (record contents { levels = later })
   levels_turned later t = record {
     declared = t.declared;
@@ -48,6 +69,27 @@ module _ (old new : Database) (contents : Contents) (h : Holds old contents) whe
   }
 
 module _ (old new : State) (count : ℕ) (contents : Contents) (h : Holds old.now contents) where
+  pub puts_text : (id : ℕ) (text : List ℕ) → get contents.texts id ≡ None → Executes put_text (Int (pos id) ∷ Text text ∷ []) old new (Ok count) → Holds new.now (with_text id text contents)
+  puts_text id text free ran =
+      texts_turned old.now new.now contents h (insert contents.texts id text)
+      (inserts text_form nat_cmp number_order distinct_numbers 0 texts refl old new h.declared contents.texts h.texts id put_text (Int (pos id) ∷ Text text ∷ []) count text_terms 3
+      (Int (pos id) ∷ Null ∷ Text text ∷ []) text refl put_text_is (rw (cast-Null, cast-Int (pos id))) (record { has_id = refl; has_key = refl; has_value = refl }) free ran)
+
+  pub puts_version : (key : List ℕ × ℕ) (version : VersionRow) → get contents.versions key ≡ None
+      → Executes put_version (Text key.0 ∷ Int (pos key.1) ∷ Int (pos version.id) ∷ flag_cell version.deleted ∷ []) old new (Ok count) → Holds new.now (with_version key version contents)
+  puts_version key version free ran =
+      versions_turned old.now new.now contents h (insert contents.versions key version)
+      (inserts version_form version_cmp version_order distinct_versions 1 versions refl old new h.declared contents.versions h.versions key put_version
+      (Text key.0 ∷ Int (pos key.1) ∷ Int (pos version.id) ∷ flag_cell version.deleted ∷ []) count four_terms 5
+      (Int (next_rowid (old.now.trees versions.tree)) ∷ Text key.0 ∷ Int (pos key.1) ∷ Int (pos version.id) ∷ flag_cell version.deleted ∷ []) version refl put_version_is
+      (rw (cast-Null, cast-Int (pos key.1), cast-Int (pos version.id), cast-flag version.deleted)) (record { has_id = refl; has_key = refl; has_value = refl }) free ran)
+
+  pub drops_version : (key : List ℕ × ℕ) → Executes drop_version (Text key.0 ∷ Int (pos key.1) ∷ []) old new (Ok count) → Holds new.now (without_version key contents)
+  drops_version key ran =
+      versions_turned old.now new.now contents h (remove contents.versions key)
+      (removes version_form version_cmp version_order distinct_versions 1 versions refl old new h.declared contents.versions h.versions key drop_version (Text key.0 ∷ Int (pos key.1) ∷ []) count by_version drop_version_is
+      (λ row q is. by_version_test row key q is) ran)
+
   pub puts_level : (subject level : List ℕ) → get contents.levels subject ≡ None → Executes put_level (Text subject ∷ Text level ∷ []) old new (Ok count) → Holds new.now (with_level subject level contents)
   puts_level subject level free ran =
       levels_turned old.now new.now contents h (insert contents.levels subject level)

@@ -2,7 +2,7 @@
 use Rattle.std.specs.Prelude.{ℕ, List, codes}
 use Rattle.std.specs.FinMap.{insert, remove, empty}
 use Rattle.sqlite.specs.State.{State}
-use Rattle.reg_tables.specs.Contents.{TextMap, KeptRow, Contents, Holds}
+use Rattle.reg_tables.specs.Contents.{TextMap, VersionRow, KeptRow, Contents, Holds}
 
 -- the tables held some contents, and now hold what the change makes of them
 abbrev pub Changes : State → State → (Contents → Contents) → Type 0
@@ -25,6 +25,15 @@ without_level subject contents = record contents { levels = remove contents.leve
 
 abbrev pub with_kept : List ℕ → KeptRow → Contents → Contents
 with_kept key reply contents = record contents { kept = insert contents.kept key reply }
+
+abbrev pub with_text : ℕ → List ℕ → Contents → Contents
+with_text id text contents = record contents { texts = insert contents.texts id text }
+
+abbrev pub with_version : List ℕ × ℕ → VersionRow → Contents → Contents
+with_version key version contents = record contents { versions = insert contents.versions key version }
+
+abbrev pub without_version : List ℕ × ℕ → Contents → Contents
+without_version key contents = record contents { versions = remove contents.versions key }
 
 -- ---- a new registry
 

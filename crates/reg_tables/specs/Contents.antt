@@ -1,5 +1,5 @@
 -- What the tables hold, as finite maps. Texts are lists of bytes.
-use Rattle.std.specs.Prelude.{◌≡◌, ℕ, ◌<◌, ◌^◌, pos, Bool, true, false, List, [], ◌∷◌, Some, IsUtf8}
+use Rattle.std.specs.Prelude.{◌≡◌, ℕ, ◌<◌, ◌^◌, pos, Bool, if◌then◌else◌, List, [], ◌∷◌, Some, IsUtf8}
 use Rattle.std.specs.declared.cmp.Ordering.{Ordering}
 use Rattle.std.specs.Ordering.{nat_cmp, on, then_cmp}
 use Rattle.std.specs.Cmp.Lexicographic.{slice_cmp}
@@ -51,8 +51,7 @@ abbrev pub number_cells : ℕ → Row
 number_cells number = Int (pos number) ∷ []
 
 abbrev pub flag_cell : Bool → Value
-flag_cell true = Int (pos 1)
-flag_cell false = Int (pos 0)
+flag_cell flag = Int (if flag then pos 1 else pos 0)
 
 abbrev pub version_key_cells : List ℕ × ℕ → Row
 version_key_cells key = Text key.0 ∷ Int (pos key.1) ∷ []

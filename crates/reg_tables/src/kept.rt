@@ -21,8 +21,7 @@ pub struct KeptReply {
     pub body: String,
 }
 
-/// Keeps a command's text and its reply under a retry key that has none. Under a key that has one
-/// it fails.
+/// Keeps a command's text and its reply under a retry key, which the caller has seen to have none.
 pub fn keep_reply<S: Alter>(
     tx: &mut Transaction<'_, S>,
     key: &str,

@@ -78,8 +78,8 @@ fn make_tables<S: Alter>(tx: &mut Transaction<'_, S>) -> Result<(), Error>
     run(tx, "CREATE INDEX versions_of_id ON versions (id)", &[])
 }
 
-/// Makes the tables of a new registry in an empty database, where the global level is BACKWARD.
-/// (Schema Registry API reference, Config.) It fails where one of the tables is there.
+/// Makes the tables of a new registry in a database that has none (`has_no_tables`), with the global
+/// level BACKWARD. (Schema Registry API reference, Config.)
 pub fn create<S: Alter>(tx: &mut Transaction<'_, S>) -> Result<(), Error>
     ensures same_reference { tx.new.conn.ghost_name ≡ tx.old.conn.ghost_name }
     ensures made { HasCleanDisk (state S.Store tx.new.conn.now)

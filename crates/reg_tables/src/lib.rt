@@ -4,7 +4,8 @@
 //! A call that changes the tables takes a transaction. On `Ok` the contents are changed as its
 //! clause says, and whatever it answers nothing is committed: that is the caller's commit.
 //! A call that only reads takes a connection outside a transaction. What a call says of the
-//! contents holds where the disk has returned what was written to it (`HasCleanDisk`).
+//! contents holds where the disk has returned what was written to it (`HasCleanDisk`). Errors are
+//! `sqlite`'s.
 #![tactic(auto)]
 
 mod declared;
@@ -14,6 +15,8 @@ mod levels;
 mod lines;
 mod meta;
 mod statement;
+mod texts;
+mod versions;
 
 pub use declared::{has_layout, has_no_tables};
 pub use kept::{KeptReply, keep_reply, kept_reply};
@@ -24,3 +27,5 @@ pub use lines::{
     text_lines, version_lines,
 };
 pub use meta::{global_level, set_global};
+pub use texts::{put_text, text_of};
+pub use versions::{drop_version, put_version, set_version};
