@@ -17,7 +17,8 @@ pub enum Command {
     SetGlobal {
         level: Text,
     },
-    /// Sets the compatibility level that the subject has of its own.
+    /// Sets the compatibility level that the subject has of its own. (Schema Registry API reference,
+    /// Config.)
     SetLevel {
         subject: Subject,
         level: Text,
@@ -25,7 +26,7 @@ pub enum Command {
     /// Answers the global compatibility level.
     Global,
     /// Answers the level that the subject has of its own; where it has none, and that is asked for,
-    /// the global one.
+    /// the global one. (Schema Registry API reference, Config, `defaultToGlobal`.)
     LevelOf {
         subject: Subject,
         default_to_global: bool,

@@ -19,7 +19,7 @@ use std::alloc::Global;
 /// What a command needs to know of the registry.
 #[derive(Clone, Copy, Debug, PartialEq, Eq)]
 pub struct View {
-    /// The level that the command's subject has of its own, if it is about one that has.
+    /// The level that the command's subject has of its own, if it is about one that has a level.
     pub own: Option<Level>,
     /// The global compatibility level.
     pub global: Level,

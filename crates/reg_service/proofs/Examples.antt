@@ -1,11 +1,15 @@
 -- What the definitions say of a few short lists.
-use Rattle.std.proofs.Common.{◌≡◌, ℕ, List, [], ◌∷◌, refl}
-use Rattle.std.specs.Prelude.{Some, None, codes}
+use Rattle.std.proofs.Common.{◌≡◌, ℕ, List, [], ◌∷◌, refl, ap, get_or}
+use Rattle.std.proofs.lemmas.Bool.{eqb-false}
+use Rattle.std.specs.Prelude.{Some, None, unwrap_or, codes}
 use Rattle.reg_core.specs.declared.code.Code.TheVariants.{InvalidLevel, KeyReused}
 use Rattle.reg_core.specs.declared.command.Command.{Command}
-use Rattle.reg_core.specs.declared.command.Command.TheVariants.{SetGlobal, Global}
+use Rattle.reg_core.specs.declared.command.Command.TheVariants.{SetGlobal, SetLevel, Global}
+use Rattle.reg_core.specs.CommandTexts.{command_text}
+use Rattle.reg_core.specs.Machine.{subject_of}
 use Rattle.reg_core.specs.Registry.{Registry}
 use Rattle.reg_core.specs.Replies.{Told, fault, answer}
+use Rattle.reg_core.proofs.Texts.{command_text-injective}
 use Rattle.reg_service.specs.declared.delivery.Delivery.{Delivery}
 use Rattle.reg_service.specs.Deliveries.{nothing_kept, firsts, entry_of, kept_after, IsDue}
 
@@ -62,3 +66,19 @@ refusal_is_kept : (g : Registry) (reply : Told)
     → IsDue g nothing_kept ((keyed (codes "k5") unknown, fault InvalidLevel) ∷ (keyless full, done) ∷ []) (keyed (codes "k5") unknown) reply
     → reply ≡ fault InvalidLevel
 refusal_is_kept g reply due = due.again (codes "k5") (entry_of (keyed (codes "k5") unknown, fault InvalidLevel)) refl refl refl
+
+abbrev full_of_s : Command
+full_of_s = SetLevel (codes "s") (codes "FULL")
+
+abbrev full_of_t : Command
+full_of_t = SetLevel (codes "t") (codes "FULL")
+
+other_texts : command_text full_of_t ≡ command_text full_of_s → ⊥
+other_texts e =
+    let same : full_of_t ≡ full_of_s = command_text-injective full_of_t full_of_s refl refl e in
+    eqb-false 116 115 refl (ap (λ (command : Command). get_or (unwrap_or (subject_of command) []) 0 0) same)
+
+-- the key of one subject's level with another subject is refused
+other_subject_is_refused : (g : Registry) (reply : Told)
+    → IsDue g nothing_kept ((keyed (codes "k1") full_of_s, done) ∷ []) (keyed (codes "k1") full_of_t) reply → reply ≡ fault KeyReused
+other_subject_is_refused g reply due = due.other (codes "k1") (entry_of (keyed (codes "k1") full_of_s, done)) refl refl other_texts
