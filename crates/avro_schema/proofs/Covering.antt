@@ -20,18 +20,8 @@ use Rattle.avro_nodes.specs.Nodes.{NamedView, FieldView, NodeView, primitive, ar
 use Rattle.avro_schema.specs.declared.tables.FieldTable.{FieldTable}
 use Rattle.avro_schema.specs.Defaults.{Fitting, field_fits_by, fields_fit}
 use Rattle.avro_schema.specs.Tables.{is_always, IsFound, named_in, CoversFirst, IsTable, IsTableOf, AreTables, fits_if_any, index_fits, named_fit}
+use Rattle.avro_schema.proofs.Fitting.{and_left, and_right, both, same_number, number_itself}
 use Rattle.avro_schema.proofs.Inversion.{same_bytes}
-
-and_left : (a b : Bool) → (a && b) ≡ true → a ≡ true
-and_left true b e = refl
-and_left false b e = e
-
-and_right : (a b : Bool) → (a && b) ≡ true → b ≡ true
-and_right true b e = e
-and_right false b e = absurd (true≢false (sym e))
-
-both : (a b : Bool) → a ≡ true → b ≡ true → (a && b) ≡ true
-both a b e f = rw (e, f) refl
 
 or_more : (a b c : Bool) → (b ≡ true → c ≡ true) → (a || b) ≡ true → (a || c) ≡ true
 or_more true b c f h = refl
@@ -47,14 +37,8 @@ same_tests true false f g = sym (f refl)
 same_tests false true f g = g refl
 same_tests false false f g = refl
 
-same_index : (i j : ℕ) → (j == i) ≡ true → j ≡ i
-same_index i j h = grind (arith, nat_tests)
-
-index_itself : (i : ℕ) → (i == i) ≡ true
-index_itself i = grind (arith, nat_tests)
-
 among_here : (test : ℕ → Bool) (i j : ℕ) (same : Bool) (rest : Bool) → (j == i) ≡ same → (same || rest) ≡ true → test j ≡ true → (rest ≡ true → test i ≡ true) → test i ≡ true
-among_here test i j true rest is h here later = subst (λ (k : ℕ). test k ≡ true) (same_index i j is) here
+among_here test i j true rest is h here later = subst (λ (k : ℕ). test k ≡ true) (same_number j i is) here
 among_here test i j false rest is h here later = later h
 
 among_passes : (test : ℕ → Bool) (xs : List ℕ) (i : ℕ) → list_all test xs ≡ true → is_always xs i ≡ true → test i ≡ true
@@ -67,7 +51,7 @@ always_more [] i j h = absurd (true≢false (sym h))
 always_more (x ∷ xs) i j h = or_more (x == i) (is_always xs i) (is_always (xs ++ j ∷ []) i) (λ later. always_more xs i j later) h
 
 always_last : (xs : List ℕ) (j : ℕ) → is_always (xs ++ j ∷ []) j ≡ true
-always_last [] j = rw (index_itself j) refl
+always_last [] j = rw (number_itself j) refl
 always_last (x ∷ xs) j = or_right (x == j) (is_always (xs ++ j ∷ []) j) (always_last xs j)
 
 all_pass : {A : Type 0} (test : A → Bool) (xs : List A) → ((x : A) → test x ≡ true) → list_all test xs ≡ true
@@ -198,7 +182,7 @@ named_still always named named2 i n f g false is new more (inr found) = inr (fou
 module _ (n : ℕ) (always : List ℕ) (named : List ℕ → Option ℕ) (fields : List FieldView) (so_far : CoversFirst n always named fields) where
   pushed_at : (same : Bool) (i : ℕ) (f : FieldView) → (i == n) ≡ same → i < n + 1 → slice_get fields i ≡ Some f → IsFound (always ++ n ∷ []) named i f
   unfolding CoversFirst
-  pushed_at true i f is h e = inl (subst (λ (k : ℕ). is_always (always ++ n ∷ []) k ≡ true) (sym (same_index n i is)) (always_last always n))
+  pushed_at true i f is h e = inl (subst (λ (k : ℕ). is_always (always ++ n ∷ []) k ≡ true) (sym (same_number i n is)) (always_last always n))
   pushed_at false i f is h e = still_found always named i n f (so_far i f (omega (arith, other_index n i is)) e)
 
   -- one that is always asked for
@@ -210,7 +194,7 @@ module _ (n : ℕ) (always : List ℕ) (named : List ℕ → Option ℕ) (fields
     named_at : (same : Bool) (i : ℕ) (f : FieldView) → (i == n) ≡ same → i < n + 1 → slice_get fields i ≡ Some f → IsFound always named2 i f
     unfolding CoversFirst
     named_at true i f is h e =
-        let i_is : i ≡ n = same_index n i is in
+        let i_is : i ≡ n = same_number i n is in
         let f_is : g ≡ f = same_Some _ _ (sym here ∙ ap (slice_get fields) (sym i_is) ∙ e) in
         inr (
           ap (λ (x : FieldView). is_some x.value) (sym f_is) ∙ has,

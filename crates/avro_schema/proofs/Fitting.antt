@@ -19,24 +19,24 @@ use Rattle.avro_schema.specs.Defaults.{is_int, is_bytes, FitsDefault, fits_type,
 use Rattle.avro_schema.specs.Defaults.{ItemsFit, no_item_left, item_fits, MembersFit, no_member_left, member_fits, FieldsFit, no_field_left, field_fits, field_missing, ValueFits, FieldDefaultsFit, NodeDefaultsFit}
 use Rattle.avro_schema.specs.Defaults.{whole_fits, primitive_fits, items_fit, members_fit, field_fits_by, fields_fit, node_fits, entered, fits, value_fits, field_defaults_fit, node_defaults_fit}
 
-and_left : (a b : Bool) → (a && b) ≡ true → a ≡ true
+pub and_left : (a b : Bool) → (a && b) ≡ true → a ≡ true
 and_left true b e = refl
 and_left false b e = e
 
-and_right : (a b : Bool) → (a && b) ≡ true → b ≡ true
+pub and_right : (a b : Bool) → (a && b) ≡ true → b ≡ true
 and_right true b e = e
 and_right false b e = absurd (true≢false (sym e))
 
-both : (a b : Bool) → a ≡ true → b ≡ true → (a && b) ≡ true
+pub both : (a b : Bool) → a ≡ true → b ≡ true → (a && b) ≡ true
 both a b e f = rw (e, f) refl
 
 nat_le_says : (a b : ℕ) → nat_le a b ≡ true → a ≤ b
 nat_le_says a b h = grind (arith, nat_tests)
 
-same_number : (a b : ℕ) → (a == b) ≡ true → a ≡ b
+pub same_number : (a b : ℕ) → (a == b) ≡ true → a ≡ b
 same_number a b h = grind (arith, nat_tests)
 
-number_itself : (a : ℕ) → (a == a) ≡ true
+pub number_itself : (a : ℕ) → (a == a) ≡ true
 number_itself a = grind (arith, nat_tests)
 
 found_at : (o : Ordering) (d e : Data) (ms : Members) (rest : Option Data) → ((x : Data) → rest ≡ Some x → depth x ≤ members_depth ms) → match_ordering o rest (Some e) rest ≡ Some d → depth d ≤ max (depth e) (members_depth ms)
