@@ -1,11 +1,10 @@
--- How a query of the declared tables fails: for the store, or at the limit on steps.
-use Rattle.std.proofs.Common.{pos, ◌≡◌, ◌≢◌, ◌⊎◌, inl, inr, ℕ, List, [], ◌∷◌, length, ◌≤◌, append-nil, lit≤, true, Ok, Err, Result, refl, sym, ap, subst, ◌∙◌}
-use Rattle.std.specs.Prelude.{IsSome, IfErr, IsErrAnd}
+-- How a query of the five tables fails: for the store, or at the limit on steps.
+use Rattle.std.proofs.Common.{pos, ◌≡◌, ◌≢◌, ◌⊎◌, inl, inr, ℕ, List, [], ◌∷◌, length, ◌≤◌, append-nil, lit≤, true, Option, None, Some, Ok, Err, Result, refl, sym, ap, subst, ◌∙◌}
+use Rattle.std.specs.Prelude.{IsSome, IfErr, IsErrAnd, IsTrue}
 use Rattle.std.proofs.lemmas.Bool.{both_ways}
 use Rattle.sqlite.specs.declared.types.Value.{Value}
 use Rattle.sqlite.specs.declared.types.Value.TheVariants.{Int, Text}
 use Rattle.sqlite.specs.Order.{Row}
-use Rattle.sqlite.specs.Term.{Term, col}
 use Rattle.sqlite.specs.Command.TheVariants.{Select}
 use Rattle.sqlite.specs.declared.error.ErrorCode.TheVariants as code
 use Rattle.sqlite.specs.declared.error.Error.{Error}
@@ -14,94 +13,110 @@ use Rattle.sqlite.specs.Reading.{IsReadError}
 use Rattle.sqlite.specs.Values.{type_of}
 use Rattle.sqlite_trees.specs.declared.error.StoreError.TheVariants.{OutOfMemory}
 use Rattle.sqlite.specs.Effect.{Database, RefusesToRead}
-use Rattle.sqlite.specs.Listing.{understood, reads_listing, IsSourceOf}
-use Rattle.sqlite.specs.State.{State, FailsToQuery, IsNotRun, IsTooLate}
+use Rattle.sqlite.specs.Listing.{understood, IsSourceOf}
+use Rattle.sqlite.specs.State.{State, FailsToQuery, FailsToShow, IsStatement, IsNotRun, IsTooLate}
+use Rattle.sqlite.specs.Clock.{timed}
 use Rattle.sqlite.proofs.Callers.{IsPlain, command_of}
+use Rattle.sqlite_schema.specs.declared.command.Returning.{Returning}
 use Rattle.sqlite_resolve.specs.declared.compiled.Compiled.{Compiled}
 use Rattle.sqlite_resolve.specs.declared.error.CompileError.{CompileError}
 use Rattle.sqlite_typing.specs.Types.{accepts_program}
 use Rattle.sqlite_rules.proofs.ListLemmas.{any_has}
 use Rattle.sqlite_tied.specs.Compute.{everything}
-use Rattle.reg_tables.specs.Layout.{layout}
-use Rattle.reg_tables.specs.Contents.{Contents, AreReadable, Holds}
-use Rattle.reg_tables.specs.Reading.{IsFault}
-use Rattle.reg_tables.proofs.Queries.{plain_query}
-use Rattle.reg_tables.proofs.Statements.{IsQuery, by_key, by_id, find_text, find_level, find_meta, find_kept, all_texts, all_versions, all_levels, all_kept, all_meta}
+use Rattle.reg_tables.specs.Layout.{IsLayout}
+use Rattle.reg_tables.specs.Reading.{CanBeRead, IsFault}
+use Rattle.sqlite.specs.Schema.{Schema}
+use Rattle.reg_tables.proofs.Statements.{TableQuery, body_of, program_of, IsQuery, laid_out, in_layouts, find_text, find_level, find_meta, find_kept, all_texts, all_versions, all_levels, all_kept, all_meta}
 
 -- the text is one statement, with so many parameters
 abbrev IsWhole : List ℕ → ℕ → Result Compiled CompileError → Type 0
 IsWhole sql count (Ok c) = (length sql ≤ c.tail) × (length c.names ≡ count)
 IsWhole sql count (Err e) = ⊥
 
--- the query takes these parameters
-pub record Takes (sql : List ℕ) (tree : ℕ) (tests shown : List Term) (params : Row) : Type 0 where
-  pub whole : IsWhole sql (length params) (understood layout sql)
-  pub typed : accepts_program layout [] (plain_query tree tests shown) params ≡ true
+-- in this schema the query takes these parameters
+pub record Takes (q : TableQuery) (params : Row) (schema : Schema) : Type 0 where
+  pub whole : IsWhole q.sql (length params) (understood schema q.sql)
+  pub typed : accepts_program schema [] (body_of q) params ≡ true
 
-pub takes_level : (k : List ℕ) → Takes find_level 4 by_key (col 1 2 ∷ []) (Text k ∷ [])
+pub takes_level : (k : List ℕ) → (schema : Schema) → IsLayout schema → Takes find_level (Text k ∷ []) schema
 unfolding understood everything
-takes_level k = record { whole = (lit≤ tt, refl); typed = refl }
+takes_level k = in_layouts (Takes find_level (Text k ∷ [])) (record { whole = (lit≤ tt, refl); typed = refl }) (record { whole = (lit≤ tt, refl); typed = refl })
 
-pub takes_text : (id : ℕ) → Takes find_text 0 by_id (col 1 2 ∷ []) (Int (pos id) ∷ [])
+pub takes_text : (id : ℕ) → (schema : Schema) → IsLayout schema → Takes find_text (Int (pos id) ∷ []) schema
 unfolding understood everything
-takes_text id = record { whole = (lit≤ tt, refl); typed = refl }
+takes_text id = in_layouts (Takes find_text (Int (pos id) ∷ [])) (record { whole = (lit≤ tt, refl); typed = refl }) (record { whole = (lit≤ tt, refl); typed = refl })
 
-pub takes_meta : (k : List ℕ) → Takes find_meta 8 by_key (col 1 2 ∷ []) (Text k ∷ [])
+pub takes_meta : (k : List ℕ) → (schema : Schema) → IsLayout schema → Takes find_meta (Text k ∷ []) schema
 unfolding understood everything
-takes_meta k = record { whole = (lit≤ tt, refl); typed = refl }
+takes_meta k = in_layouts (Takes find_meta (Text k ∷ [])) (record { whole = (lit≤ tt, refl); typed = refl }) (record { whole = (lit≤ tt, refl); typed = refl })
 
-pub takes_kept : (k : List ℕ) → Takes find_kept 6 by_key (col 1 2 ∷ col 1 3 ∷ col 1 4 ∷ []) (Text k ∷ [])
+pub takes_kept : (k : List ℕ) → (schema : Schema) → IsLayout schema → Takes find_kept (Text k ∷ []) schema
 unfolding understood everything
-takes_kept k = record { whole = (lit≤ tt, refl); typed = refl }
+takes_kept k = in_layouts (Takes find_kept (Text k ∷ [])) (record { whole = (lit≤ tt, refl); typed = refl }) (record { whole = (lit≤ tt, refl); typed = refl })
 
-pub takes_all_texts : Takes all_texts 0 [] (col 1 0 ∷ col 1 0 ∷ col 1 2 ∷ []) []
+pub takes_all_texts : (schema : Schema) → IsLayout schema → Takes all_texts [] schema
 unfolding understood everything
-takes_all_texts = record { whole = (lit≤ tt, refl); typed = refl }
+takes_all_texts = in_layouts (Takes all_texts []) (record { whole = (lit≤ tt, refl); typed = refl }) (record { whole = (lit≤ tt, refl); typed = refl })
 
-pub takes_all_versions : Takes all_versions 2 [] (col 1 0 ∷ col 1 1 ∷ col 1 2 ∷ col 1 3 ∷ col 1 4 ∷ []) []
+pub takes_all_versions : (schema : Schema) → IsLayout schema → Takes all_versions [] schema
 unfolding understood everything
-takes_all_versions = record { whole = (lit≤ tt, refl); typed = refl }
+takes_all_versions = in_layouts (Takes all_versions []) (record { whole = (lit≤ tt, refl); typed = refl }) (record { whole = (lit≤ tt, refl); typed = refl })
 
-pub takes_all_levels : Takes all_levels 4 [] (col 1 0 ∷ col 1 1 ∷ col 1 2 ∷ []) []
+pub takes_all_levels : (schema : Schema) → IsLayout schema → Takes all_levels [] schema
 unfolding understood everything
-takes_all_levels = record { whole = (lit≤ tt, refl); typed = refl }
+takes_all_levels = in_layouts (Takes all_levels []) (record { whole = (lit≤ tt, refl); typed = refl }) (record { whole = (lit≤ tt, refl); typed = refl })
 
-pub takes_all_kept : Takes all_kept 6 [] (col 1 0 ∷ col 1 1 ∷ col 1 2 ∷ col 1 3 ∷ col 1 4 ∷ []) []
+pub takes_all_kept : (schema : Schema) → IsLayout schema → Takes all_kept [] schema
 unfolding understood everything
-takes_all_kept = record { whole = (lit≤ tt, refl); typed = refl }
+takes_all_kept = in_layouts (Takes all_kept []) (record { whole = (lit≤ tt, refl); typed = refl }) (record { whole = (lit≤ tt, refl); typed = refl })
 
-pub takes_all_meta : Takes all_meta 8 [] (col 1 0 ∷ col 1 1 ∷ col 1 2 ∷ []) []
+pub takes_all_meta : (schema : Schema) → IsLayout schema → Takes all_meta [] schema
 unfolding understood everything
-takes_all_meta = record { whole = (lit≤ tt, refl); typed = refl }
+takes_all_meta = in_layouts (Takes all_meta []) (record { whole = (lit≤ tt, refl); typed = refl }) (record { whole = (lit≤ tt, refl); typed = refl })
 
-module _ (sql : List ℕ) (tree : ℕ) (tests shown : List Term) (names : List (List ℕ)) (it : IsQuery sql tree tests shown names) (params : Row) (takes : Takes sql tree tests shown params) (old new : State) (has : old.now.schema ≡ layout) where
-  fails : (e : Error) → FailsToQuery sql params old new e → IsFault old e
+module _ (q : TableQuery) (is : (schema : Schema) → IsLayout schema → IsQuery q schema) (params : Row) (fits : (schema : Schema) → IsLayout schema → Takes q params schema) (old new : State) (can : CanBeRead old) where
+  laid : IsTrue old.is_open → IsLayout old.now.schema
+  laid is_open = let there = can is_open in laid_out there.holds there.is_layout
+
+  its : IsTrue old.is_open → IsQuery q old.now.schema
+  its is_open = is old.now.schema (laid is_open)
+
+  -- a connection that is shut has no other error than the store's
+  open_or_fault : (c : Compiled) (values : Row) (e : Error) (o : Option Returning) → FailsToShow old new q.sql c values e o → IsTrue old.is_open ⊎ IsFault old e
+  open_or_fault c values e None s = inl s.3.0.was_open
+  open_or_fault c values e (Some what) (inl s) = inl s.1.0.was_open
+  open_or_fault c values e (Some what) (inr s) = inr (inl (s.0, s.1))
+
+  fails : (e : Error) → FailsToQuery q.sql params old new e → IsFault old e
   unfolding FailsToQuery IsNotRun
   fails e (inl (inr store)) = inl (store.0, store.1)
-  fails e (inl (inl (inl fault, same))) = absurd (subst IsPlain (sym (ap (λ s. understood s sql) has) ∙ fault.1) it.command.plain)
+  fails e (inl (inl (inl fault, same))) = absurd (subst IsPlain fault.1 (its same.0.was_open).command.plain)
   fails e (inl (inl (inr wrong, same))) =
-      let known = sym (ap (λ s. understood s sql) has) ∙ wrong.1 in
-      let fits = subst (IsWhole sql (length params)) known takes.whole in
-      let bare = subst IsPlain known it.command.plain in
-      absurd (elim wrong.2 [ inl tail ↦ tail.0 fits.0 | inr rest ↦ elim rest [ inl given ↦ given.0 (sym fits.1) | inr clock ↦ clock.0 bare.1 ] ])
-  fails e (inr shows) =
-      let known = sym (ap (λ s. understood s sql) has) ∙ shows.1.is in
-      let bare = subst IsPlain known it.command.plain in
-      let read = rw (bare.0, bare.1, append-nil params) at shows.2 in
-      let db : read.0 ≡ old.now = subst (λ b. IsSourceOf b old.now read.0) (ap (λ s. reads_listing s sql) has ∙ it.unlisted) read.1 in
-      let command : shows.0.command ≡ Select (record { lets = []; body = plain_query tree tests shown }) names = ap command_of (sym known) ∙ it.command.is in
-      let refused = subst (λ k. RefusesToRead old.step_limit k read.0 params e) command read.2 in
-      let typed : accepts_program read.0.schema [] (plain_query tree tests shown) params ≡ true =
-      ap (λ (d : Database). accepts_program d.schema [] (plain_query tree tests shown) params) db ∙ ap (λ s. accepts_program s [] (plain_query tree tests shown) params) has ∙ takes.typed in
-      elim refused [
-        | inl ill ↦ absurd (both_ways _ ill.1 typed)
-        | inr rest ↦ elim rest [ inl over ↦ absurd (elim over.1 [ inl none ↦ none | inr some ↦ (any_has _ _ some).2 ]) | inr stopped ↦ inr stopped ]
-      ]
+      let takes = fits old.now.schema (laid same.0.was_open) in
+      let given = subst (IsWhole q.sql (length params)) wrong.1 takes.whole in
+      let bare = subst IsPlain wrong.1 (its same.0.was_open).command.plain in
+      absurd (elim wrong.2 [ inl tail ↦ tail.0 given.0 | inr rest ↦ elim rest [ inl other ↦ other.0 (sym given.1) | inr clock ↦ clock.0 bare.1 ] ])
+  fails e (inr shows) = elim (open_or_fault shows.0 (timed params shows.0.formats shows.1.now) e shows.0.returning shows.2) [ inl is_open ↦ shown_faults e (laid is_open) shows | inr fault ↦ fault ]
+    where
+      shown_faults : (e : Error) → IsLayout old.now.schema → (shows : (c : Compiled) × (given : IsStatement old q.sql params c) × FailsToShow old new q.sql c (timed params c.formats given.now) e c.returning) → IsFault old e
+      shown_faults e here shows =
+          let it = is old.now.schema here in
+          let known = shows.1.is in
+          let bare = subst IsPlain known it.command.plain in
+          let read = rw (bare.0, bare.1, append-nil params) at shows.2 in
+          let db : read.0 ≡ old.now = subst (λ b. IsSourceOf b old.now read.0) it.unlisted read.1 in
+          let command : shows.0.command ≡ Select (program_of q) q.names = ap command_of (sym known) ∙ it.command.is in
+          let refused = subst (λ k. RefusesToRead old.step_limit k read.0 params e) command read.2 in
+          let typed : accepts_program read.0.schema [] (body_of q) params ≡ true = ap (λ (d : Database). accepts_program d.schema [] (body_of q) params) db ∙ (fits old.now.schema here).typed in
+          elim refused [
+            | inl ill ↦ absurd (both_ways _ ill.1 typed)
+            | inr rest ↦ elim rest [ inl over ↦ absurd (elim over.1 [ inl none ↦ none | inr some ↦ (any_has _ _ some).2 ]) | inr stopped ↦ inr stopped ]
+          ]
 
-  pub query_faults : (e : Error) → FailsToQuery sql params old new e ⊎ IsTooLate sql params old new e → IsFault old e
+  pub query_faults : (e : Error) → FailsToQuery q.sql params old new e ⊎ IsTooLate q.sql params old new e → IsFault old e
   query_faults e (inl failed) = fails e failed
   query_faults e (inr late) =
-      let bare = subst IsPlain (sym (ap (λ s. understood s sql) has) ∙ late.1.is) it.command.plain in
+      let bare = subst IsPlain late.1.is (its late.5.0.was_open).command.plain in
       absurd (let none = subst IsSome bare.0 late.2 in cc)
 
 -- what can be read is read, but for want of memory
@@ -124,15 +139,9 @@ memory_is_fault old e is = inl (OutOfMemory, is)
 
 -- of readable contents a read fails with a fault alone
 abbrev pub FailsByFault : {X : Type 0} → State → Result X Error → Type 0
-FailsByFault old r = IfErr r (λ e. (contents : Contents) → Holds old.now contents → AreReadable contents → IsFault old e)
+FailsByFault old r = IfErr r (λ e. CanBeRead old → IsFault old e)
 
 -- an error that `?` passes on
-pub passed_on : {X : Type 0} (old : State) (r : Result X Error) (first : Error) → IsErrAnd r (λ e. e ≡ first) → ((contents : Contents) → Holds old.now contents → AreReadable contents → IsFault old first) → FailsByFault old r
+pub passed_on : {X : Type 0} (old : State) (r : Result X Error) (first : Error) → IsErrAnd r (λ e. e ≡ first) → (CanBeRead old → IsFault old first) → FailsByFault old r
 passed_on old (Ok x) first is h = tt
-passed_on old (Err e) first is h = λ contents holds readable. subst (IsFault old) (sym is) (h contents holds readable)
-
--- an error that comes of memory alone where the rows are readable
-pub fails_by_memory : {X : Type 0} (old : State) (r : Result X Error) (Readable : Type 0) → ((contents : Contents) → Holds old.now contents → AreReadable contents → Readable)
-    → IfErr r (λ e. Readable → e ≡ SqliteFailure code.OutOfMemory) → FailsByFault old r
-fails_by_memory old (Ok x) Readable each h = tt
-fails_by_memory old (Err e) Readable each h = λ contents holds readable. memory_is_fault old e (h (each contents holds readable))
+passed_on old (Err e) first is h = λ can. subst (IsFault old) (sym is) (h can)

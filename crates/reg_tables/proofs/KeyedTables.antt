@@ -1,5 +1,5 @@
 -- What the statements of one table make of the map that it shows, by the key of its rows.
-use Rattle.std.proofs.Common.{◌≡◌, ◌≢◌, inl, inr, ◌&&◌, ◌==◌, ℕ, ℤ, length, List, [], ◌∷◌, ◌/◌, Option, Some, None, Bool, true, false, cond, Ok, MatchOption, slice_get, refl, sym, ap, subst, ◌∙◌}
+use Rattle.std.proofs.Common.{◌≡◌, ◌≢◌, inl, inr, ◌&&◌, ◌==◌, ℕ, ℤ, length, map, drop, List, [], ◌∷◌, ◌/◌, Option, Some, None, Bool, true, false, cond, Ok, MatchOption, slice_get, refl, sym, ap, subst, ◌∙◌}
 use Rattle.std.specs.List.{AllByRecursion}
 use Rattle.std.specs.Ordering.{is_eq, nat_cmp, int_cmp, ordering_then}
 use Rattle.std.specs.FinMap.{FinMap, get, insert, remove, slice_cmp-IsAntisymmetric, nat_cmp-IsAntisymmetric, int_cmp-IsAntisymmetric, IsAntisymmetric}
@@ -13,16 +13,17 @@ use Rattle.sqlite.specs.Tree.{Trees, put_row, rowid}
 use Rattle.sqlite.specs.View.{is_int}
 use Rattle.sqlite.specs.Kind.TheVariants.{Integer}
 use Rattle.sqlite.specs.Ops.{unary}
-use Rattle.sqlite.specs.Cast.{cast}
-use Rattle.sqlite.specs.Edit.{edit_of, is_taken, put_all, are_fresh}
-use Rattle.sqlite.specs.Rowids.TheVariants.{Chosen}
+use Rattle.sqlite.specs.Cast.{cast, cast_row}
+use Rattle.sqlite_rules.specs.Calls.{ids_of}
+use Rattle.sqlite.specs.Edit.{edit_of, is_taken, put_all, are_fresh, have_rowids, without_all, numbered}
+use Rattle.sqlite.specs.Rowids.TheVariants.{Chosen, Given}
 use Rattle.sqlite.specs.Term.{Term, col, eval_all}
 use Rattle.sqlite.specs.Table.{Table}
 use Rattle.sqlite.specs.Query.{IsAnswer}
 use Rattle.sqlite.specs.Program.{overlay}
-use Rattle.sqlite.specs.Command.TheVariants.{Insert, Delete, Select}
+use Rattle.sqlite.specs.Command.TheVariants.{Insert, Update, Delete, Select}
 use Rattle.sqlite.specs.Source.TheVariants.{Values}
-use Rattle.sqlite.specs.Effect.{Database, value_rows}
+use Rattle.sqlite.specs.Effect.{Database, IsDatabase, value_rows}
 use Rattle.sqlite.specs.Rows.{stamped}
 use Rattle.sqlite.specs.State.{State, Executes, Shown}
 use Rattle.sqlite.specs.Listing.{understood}
@@ -35,13 +36,15 @@ use Rattle.sqlite_schema.specs.declared.program.Program.{Program}
 use Rattle.sqlite_rules.specs.Action.{works}
 use Rattle.sqlite_rules.specs.Lists.{Has}
 use Rattle.reg_tables.specs.Layout.{layout}
-use Rattle.reg_tables.specs.TableMaps.{Form, ShowsMap}
+use Rattle.reg_tables.specs.TableMaps.{Form, IsEntry, ShowsMap}
+use Rattle.reg_tables.specs.Changes.{altered}
+use Rattle.reg_tables.proofs.Members.{has_mapped, maps_had}
 use Rattle.reg_tables.specs.Contents.{version_cmp, number_cells, version_key_cells, flag_cell, text_cmp, text_cells}
 use Rattle.reg_tables.proofs.Queries.{plain_query, passes, answer_has, has_answer}
 use Rattle.reg_tables.proofs.MapLemmas.{IsKeyOrder, same_key, tied_key}
-use Rattle.reg_tables.proofs.RowLemmas.{FindsRowids, shows_inserted, shows_removed}
-use Rattle.reg_tables.proofs.Statements.{IsCommand, IsQuery, by_key, by_id, by_version}
-use Rattle.reg_tables.proofs.Writes.{inserted, deleted}
+use Rattle.reg_tables.proofs.RowLemmas.{FindsRowids, shows_inserted, shows_removed, shows_altered}
+use Rattle.reg_tables.proofs.Statements.{IsCommand, TableQuery, body_of, program_of, IsQuery, by_key, by_id, by_version}
+use Rattle.reg_tables.proofs.Writes.{inserted, updated, deleted}
 
 -- ---- values that a column keeps as they are
 
@@ -160,6 +163,11 @@ with_nothing db tree = rw (no_table (nat_le (2 ^ 31) tree))
     no_table true = refl
     no_table false = refl
 
+-- a row that has its rowid keeps it
+given_as_is : (rows news : List Row) → numbered Given rows news ≡ news
+given_as_is rows [] = refl
+given_as_is rows (r ∷ news) = ap (λ l. r ∷ l) (given_as_is (put_row r rows) news)
+
 -- the tables but one have the rows that they had
 abbrev pub KeepsOthers : ℕ → Database → Database → Type 0
 KeepsOthers tree old new = AllByRecursion (λ t. t.tree ≢ tree → new.trees t.tree ≡ old.trees t.tree) layout.tables
@@ -167,6 +175,7 @@ KeepsOthers tree old new = AllByRecursion (λ t. t.tree ≢ tree → new.trees t
 -- the table shows another map, and that is all
 pub record TurnsTable {K V : Type 0} (form : Form K V) (tree : ℕ) (old new : Database) (value_at : K → Option V) : Type 0 where
   pub declared : new.schema ≡ layout
+  pub sound : IsDatabase new
   pub rows : ShowsMap form (new.trees tree) value_at
   pub others : KeepsOthers tree old new
 
@@ -189,6 +198,7 @@ module _ {K V : Type 0} (form : Form K V) (R : K → K → Ordering) (order : Is
       let fresh : is_taken (db table.tree) new_row ≡ false = not-true _ (and_parts _ _ (ap (are_fresh (db table.tree)) (sym news) ∙ step.applies.fresh)).0 in
       record {
         declared = step.same;
+        sound = w.sound;
         rows = subst (λ r. ShowsMap form r (get (insert m k v))) (sym rows) (shows_inserted form R order distinct (db table.tree) m k shows v new_row free is.has_key is.has_value is.has_id fresh);
         others = step.applies.tables;
       }
@@ -205,13 +215,50 @@ module _ {K V : Type 0} (form : Form K V) (R : K → K → Ordering) (order : Is
       let found = cut.0 in
       let answer : IsAnswer q.body (overlay db []) params found = cut.1.answer Null in
       let step = cut.2 in
-      let finds : FindsRowids (passes tests params) (db table.tree) found = record {
+      let finds : FindsRowids (passes tests params) (λ row. []) (db table.tree) found = record {
         sound = λ x there. let r = answer_has tests params table.tree (col 1 0 ∷ []) (overlay db []) found answer x there in (r.0, subst (λ l. Has l r.0) (with_nothing db table.tree) r.1, r.2, r.3);
         complete = λ row there. has_answer tests params table.tree (col 1 0 ∷ []) (overlay db []) found answer row (subst (λ l. Has l row) (sym (with_nothing db table.tree)) there);
       } in
       record {
         declared = step.same;
-        rows = subst (λ r. ShowsMap form r (get (remove m k))) (sym step.applies.rows) (shows_removed form R order distinct (db table.tree) m k shows (passes tests params) found finds test);
+        sound = w.sound;
+        rows = subst (λ r. ShowsMap form r (get (remove m k))) (sym step.applies.rows) (shows_removed form R order distinct (db table.tree) m k shows (passes tests params) (λ row. []) found finds test);
+        others = step.applies.tables;
+      }
+
+  -- the query of the UPDATE tests the key, and shows the rowid and then the new row
+  pub alters : (tests shown : List Term) (change : V → V) → IsCommand layout sql (Update at (record { lets = []; body = plain_query table.tree tests (col 1 0 ∷ shown) }))
+      → ((row : Row) (q : K) → form.key_of row ≡ form.key_cells q → passes tests params row ≡ is_eq (R q k))
+      → ((row : Row) (v : V) → IsEntry form row k v → IsEntry form (cast_row table (eval_all shown (params ∷ row ∷ []))) k (change v)) → Executes sql params old new (Ok count)
+      → TurnsTable form table.tree old.now new.now (get (altered m k change))
+  alters tests shown change it test turns h =
+      let db = old.now.trees in
+      let q : Program = record { lets = []; body = plain_query table.tree tests (col 1 0 ∷ shown) } in
+      let w = runs_as sql params old new layout declared (Update at q) it.is it.plain count h in
+      let put = updated layout idle at table there old new declared (statement_of sql (understood layout sql)) params count q w in
+      let found = put.0 in
+      let answer : IsAnswer q.body (overlay db []) params found = put.1.answer Null in
+      let step = put.2 in
+      let rest = λ (row : Row). eval_all shown (params ∷ row ∷ []) in
+      let finds : FindsRowids (passes tests params) rest (db table.tree) found = record {
+        sound = λ x there. let r = answer_has tests params table.tree (col 1 0 ∷ shown) (overlay db []) found answer x there in (r.0, subst (λ l. Has l r.0) (with_nothing db table.tree) r.1, r.2, r.3);
+        complete = λ row there. has_answer tests params table.tree (col 1 0 ∷ shown) (overlay db []) found answer row (subst (λ l. Has l row) (sym (with_nothing db table.tree)) there);
+      } in
+      let left = without_all (db table.tree) (ids_of found) in
+      let source = λ (s : Row). cast_row table (drop 1 s) in
+      let news = map source found in
+      let as_given : numbered Given left news ≡ news = given_as_is left news in
+      let from : (x : Row) → Has news x → (row : Row) × Has (db table.tree) row × (passes tests params row ≡ true) × (x ≡ cast_row table (rest row)) = λ x there.
+      let s = has_mapped source found x there in
+      let r = finds.sound s.0 s.1 in
+      (r.0, r.1, r.2, s.2 ∙ ap source r.3) in
+      let gives = λ (row : Row) (there : Has (db table.tree) row) (is : passes tests params row ≡ true). maps_had source found (rowid row ∷ rest row) (finds.complete row there is) in
+      record {
+        declared = step.same;
+        sound = w.sound;
+        rows = subst (λ r. ShowsMap form r (get (altered m k change))) (sym (step.applies.rows ∙ ap (put_all left) as_given))
+            (shows_altered form R order distinct (db table.tree) m k shows (passes tests params) rest found finds test change (λ row. cast_row table (rest row)) turns news from gives
+            (ap have_rowids (sym as_given) ∙ step.applies.keyed) (ap (are_fresh left) (sym as_given) ∙ step.applies.fresh));
         others = step.applies.tables;
       }
 
@@ -222,24 +269,23 @@ pub record FindsValue {K V : Type 0} (form : Form K V) (value : Option V) (found
   pub sound : (x : Row) → Has found x → (v : V) × (value ≡ Some v) × (x ≡ form.value_cells v)
   pub complete : (v : V) → value ≡ Some v → Has found (form.value_cells v)
 
-pub finds : {K V : Type 0} (form : Form K V) (R : K → K → Ordering) → IsKeyOrder R → (tree : ℕ) (old new : State) (value_at : K → Option V) (k : K) (sql : List ℕ) (params : Row) (tests shown : List Term) (names : List (List ℕ)) (found : List Row)
-    → old.now.schema ≡ layout → ShowsMap form (old.now.trees tree) value_at → IsQuery sql tree tests shown names → ((row : Row) (q : K) → form.key_of row ≡ form.key_cells q → passes tests params row ≡ is_eq (R q k))
-    → ((row : Row) → eval_all shown (params ∷ row ∷ []) ≡ form.value_of row) → Shown sql params old new found → FindsValue form (value_at k) found
-finds form R order tree old new value_at k sql params tests shown names found declared shows it test whole h =
-    let db = old.now.trees in
-    let q : Program = record { lets = []; body = plain_query tree tests shown } in
-    let read = reads_as sql params old new layout declared (Select q names) it.command.is it.command.plain it.unlisted found h in
-    let answer : IsAnswer (plain_query tree tests shown) (overlay db []) params found = read.answer Null in
-    record {
-      sound = λ x there.
-          let r = answer_has tests params tree shown (overlay db []) found answer x there in
-          let entry = shows.sound r.0 (subst (λ l. Has l r.0) (with_nothing db tree) r.1) in
-          let same = same_key R order entry.0 k (sym (test r.0 entry.0 entry.3.0) ∙ r.2) in
-          (entry.1, ap value_at (sym same) ∙ entry.2, r.3 ∙ whole r.0 ∙ entry.3.1);
-      complete = λ v is.
-          let r = shows.complete k v is in
-          subst (Has found) (whole r.0 ∙ r.2.1) (has_answer tests params tree shown (overlay db []) found answer r.0 (subst (λ l. Has l r.0) (sym (with_nothing db tree)) r.1) (test r.0 k r.2.0 ∙ tied_key R order k k refl));
-    }
+module _ {K V : Type 0} (form : Form K V) (R : K → K → Ordering) (order : IsKeyOrder R) (q : TableQuery) (params : Row) (old new : State) (it : IsQuery q old.now.schema) (value_at : K → Option V) (shows : ShowsMap form (old.now.trees q.tree) value_at) where
+  pub finds : (k : K) (found : List Row) → ((row : Row) (key : K) → form.key_of row ≡ form.key_cells key → passes q.tests params row ≡ is_eq (R key k)) → ((row : Row) → eval_all q.shown (params ∷ row ∷ []) ≡ form.value_of row)
+      → Shown q.sql params old new found → FindsValue form (value_at k) found
+  finds k found test whole h =
+      let db = old.now.trees in
+      let read = reads_as q.sql params old new old.now.schema refl (Select (program_of q) q.names) it.command.is it.command.plain it.unlisted found h in
+      let answer : IsAnswer (body_of q) (overlay db []) params found = read.answer Null in
+      record {
+        sound = λ x there.
+            let r = answer_has q.tests params q.tree q.shown (overlay db []) found answer x there in
+            let entry = shows.sound r.0 (subst (λ l. Has l r.0) (with_nothing db q.tree) r.1) in
+            let same = same_key R order entry.0 k (sym (test r.0 entry.0 entry.3.0) ∙ r.2) in
+            (entry.1, ap value_at (sym same) ∙ entry.2, r.3 ∙ whole r.0 ∙ entry.3.1);
+        complete = λ v is.
+            let r = shows.complete k v is in
+            subst (Has found) (whole r.0 ∙ r.2.1) (has_answer q.tests params q.tree q.shown (overlay db []) found answer r.0 (subst (λ l. Has l r.0) (sym (with_nothing db q.tree)) r.1) (test r.0 k r.2.0 ∙ tied_key R order k k refl));
+      }
 
 pub none_of : {X : Type 0} (o : Option X) → ((x : X) → o ≡ Some x → ⊥) → o ≡ None
 none_of None f = refl

@@ -72,7 +72,7 @@ module _ {K V : Type 0} (R : K → K → Ordering) (order : IsKeyOrder R) where
   same_by_key (x ∷ es) e f apart (inr a) (inl b) same = absurd (other_entry es x e apart.0 a (ap (λ (y : ℤ × K × V). y.1) (sym b) ∙ sym same))
   same_by_key (x ∷ es) e f apart (inr a) (inr b) same = same_by_key es e f apart.1 a b same
 
-  found_first : (es : List (ℤ × K × V)) (e : ℤ × K × V) → IsDistinct (eq_by_cmp R) (map (λ x. x.1) es) → Has es e → find R e.1 (map without_rowid es) ≡ Some e.2
+  pub found_first : (es : List (ℤ × K × V)) (e : ℤ × K × V) → IsDistinct (eq_by_cmp R) (map (λ x. x.1) es) → Has es e → find R e.1 (map without_rowid es) ≡ Some e.2
   unfolding IsDistinct
   found_first [] e apart h = absurd h
   found_first (x ∷ es) e apart (inl same) =
@@ -80,7 +80,7 @@ module _ {K V : Type 0} (R : K → K → Ordering) (order : IsKeyOrder R) where
   found_first (x ∷ es) e apart (inr later) =
       ap (λ b. cond b (Some x.2) (find R e.1 (map without_rowid es))) (other_key R order e.1 x.1 (λ h. other_entry es x e apart.0 later (sym h))) ∙ found_first es e apart.1 later
 
-  find_had : (es : List (ℤ × K × V)) (k : K) (v : V) → find R k (map without_rowid es) ≡ Some v → (e : ℤ × K × V) × Has es e × (e.1 ≡ k) × (e.2 ≡ v)
+  pub find_had : (es : List (ℤ × K × V)) (k : K) (v : V) → find R k (map without_rowid es) ≡ Some v → (e : ℤ × K × V) × Has es e × (e.1 ≡ k) × (e.2 ≡ v)
   find_had [] k v h = absurd (cc)
   find_had (x ∷ es) k v h = elim (cases_Bool (is_eq (R k x.1))) [
     | inl here ↦ let value : x.2 ≡ v = (let e = rw here at h in cc) in (x, inl refl, sym (same_key R order k x.1 here), value)
@@ -88,7 +88,7 @@ module _ {K V : Type 0} (R : K → K → Ordering) (order : IsKeyOrder R) where
   ]
 
   -- keys are distinct where ids are, and a key has one id
-  keys_distinct : (es : List (ℤ × K × V)) → ((e f : ℤ × K × V) → Has es e → Has es f → e.1 ≡ f.1 → e.0 ≡ f.0) → IsDistinct (eq_by_cmp int_cmp) (map (λ e. e.0) es) → IsDistinct (eq_by_cmp R) (map (λ e. e.1) es)
+  pub keys_distinct : (es : List (ℤ × K × V)) → ((e f : ℤ × K × V) → Has es e → Has es f → e.1 ≡ f.1 → e.0 ≡ f.0) → IsDistinct (eq_by_cmp int_cmp) (map (λ e. e.0) es) → IsDistinct (eq_by_cmp R) (map (λ e. e.1) es)
   unfolding IsDistinct
   keys_distinct [] one ids = tt
   keys_distinct (x ∷ es) one ids = (
@@ -108,7 +108,7 @@ module _ {K V : Type 0} (form : Form K V) (R : K → K → Ordering) (order : Is
   listed row h =
       has_mapped (entry_parts form) es (parts_of form row) (has_permuted (map (parts_of form) rows) (map (entry_parts form) es) (parts_of form row) lists (maps_had (parts_of form) rows row h))
 
-  stored : (e : ℤ × K × V) → Has es e → (row : Row) × Has rows row × (entry_parts form e ≡ parts_of form row)
+  pub stored : (e : ℤ × K × V) → Has es e → (row : Row) × Has rows row × (entry_parts form e ≡ parts_of form row)
   stored e h =
       has_mapped (parts_of form) rows (entry_parts form e)
       (has_permuted (map (entry_parts form) es) (map (parts_of form) rows) (entry_parts form e) (IsPermutation-sym (map (parts_of form) rows) (map (entry_parts form) es) lists) (maps_had (entry_parts form) es e h))

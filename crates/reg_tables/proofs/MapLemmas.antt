@@ -1,9 +1,11 @@
--- What an insertion and a removal make of a finite map, key by key.
-use Rattle.std.proofs.Common.{◌≡◌, ◌≢◌, ◌⊎◌, inl, inr, Some, None, true, false, cond, Ordering, Less, Equal, Greater, refl, sym, ap, ◌∙◌}
+-- What an insertion, a removal and another value make of a finite map, key by key.
+use Rattle.std.proofs.Common.{◌≡◌, ◌≢◌, ◌⊎◌, inl, inr, Option, Some, None, option_map, true, false, cond, Ordering, Less, Equal, Greater, refl, sym, ap, ◌∙◌}
+use Rattle.std.specs.Prelude.{unwrap_or}
 use Rattle.std.specs.Ordering.{is_eq}
 use Rattle.std.specs.FinMap.{FinMap, get, insert, remove, get-insert, get-remove, same_map, IsAntisymmetric}
 use Rattle.std.specs.Cmp.{IsTotalOrder}
 use Rattle.std.proofs.lemmas.Cmp.{tied_itself}
+use Rattle.reg_tables.specs.Changes.{altered}
 use Rattle.std.proofs.lemmas.Bool.{cases_Bool, both_ways, false_from_ne_true}
 
 pub equal_of : (o : Ordering) → is_eq o ≡ true → o ≡ Equal
@@ -35,6 +37,20 @@ module _ {K : Type 0} (R : K → K → Ordering) (order : IsKeyOrder R) where
 
     pub get-insert-other : (v : V) (q : K) → q ≢ k → get (insert m k v) q ≡ get m q
     get-insert-other v q other = get-insert order.total m k v q ∙ ap (λ b. cond b (Some v) (get m q)) (other_key q k other)
+
+    pub get-altered-same : (change : V → V) → get (altered m k change) k ≡ option_map change (get m k)
+    get-altered-same change = go (get m k) refl
+      where
+        go : (o : Option V) → get m k ≡ o → get (unwrap_or (option_map (λ v. insert m k (change v)) o) m) k ≡ option_map change o
+        go None is = is
+        go (Some v) is = get-insert-same (change v)
+
+    pub get-altered-other : (change : V → V) (q : K) → q ≢ k → get (altered m k change) q ≡ get m q
+    get-altered-other change q other = go (get m k)
+      where
+        go : (o : Option V) → get (unwrap_or (option_map (λ v. insert m k (change v)) o) m) q ≡ get m q
+        go None = refl
+        go (Some v) = get-insert-other (change v) q other
 
     pub get-remove-same : get (remove m k) k ≡ None
     get-remove-same = get-remove order.total m k k ∙ ap (λ b. cond b None (get m k)) (tied_key k k refl)

@@ -1,22 +1,26 @@
--- What the text of each statement means under the layout.
-use Rattle.std.proofs.Common.{◌≡◌, ℕ, List, [], ◌∷◌, codes, false, Ok, refl}
-use Rattle.sqlite.specs.declared.types.Value.TheVariants.{Null}
+-- What the text of each statement means in a database that is laid out so.
+use Rattle.std.proofs.Common.{◌≡◌, inl, inr, sym, subst, pos, ℕ, List, [], ◌∷◌, codes, false, Ok, refl}
+use Rattle.sqlite.specs.declared.types.Value.TheVariants.{Null, Int}
 use Rattle.sqlite.specs.Term.{Term, lit, col, op2}
 use Rattle.sqlite.specs.Collation.TheVariants.{Binary}
+use Rattle.sqlite.specs.Query.{Query}
+use Rattle.sqlite_schema.specs.declared.program.Program.{Program}
 use Rattle.sqlite.specs.Source.TheVariants.{Values}
 use Rattle.sqlite.specs.Command.{Command}
-use Rattle.sqlite.specs.Command.TheVariants.{Insert, Select, CreateTable, CreateIndex, Delete}
+use Rattle.sqlite.specs.Command.TheVariants.{Insert, Select, CreateTable, CreateIndex, Update, Delete}
 use Rattle.sqlite.specs.Compile.{table_defined_by, index_defined_by}
 use Rattle.sqlite.specs.Change.{created, indexed}
 use Rattle.sqlite.specs.Does.{lacks_sequence}
 use Rattle.sqlite.specs.Table.{Table}
 use Rattle.sqlite.specs.Schema.{Schema}
+use Rattle.sqlite.specs.Effect.{Database}
+use Rattle.reg_tables.specs.Contents.{Contents, HoldsIn}
 use Rattle.sqlite.specs.Listing.{understood, reads_listing}
 use Rattle.sqlite.proofs.Callers.{IsPlain, command_of, statement_of}
 use Rattle.sqlite_sql.specs.declared.ops.BinaryOp.TheVariants.{Compare}
 use Rattle.sqlite_sql.specs.declared.ops.CompareOp.TheVariants.{Eq}
 use Rattle.sqlite_tied.specs.Compute.{everything}
-use Rattle.reg_tables.specs.Layout.{no_schema, begun, layout, texts, versions, levels, kept, meta, versions_of_id}
+use Rattle.reg_tables.specs.Layout.{no_schema, begun, layout, unindexed, IsLayout, texts, versions, levels, kept, meta, versions_of_id}
 use Rattle.reg_tables.proofs.Queries.{plain_query}
 
 -- the text is one command, plainly
@@ -74,10 +78,10 @@ make_versions_of_id = codes "CREATE INDEX versions_of_id ON versions (id)"
 
 -- what the CREATE INDEX makes of the five tables
 pub record MakesIndex : Type 0 where
-  pub command : IsCommand (begun 5) make_versions_of_id (CreateIndex 1)
-  pub text : statement_of make_versions_of_id (understood (begun 5) make_versions_of_id) ≡ make_versions_of_id
+  pub command : IsCommand unindexed make_versions_of_id (CreateIndex 1)
+  pub text : statement_of make_versions_of_id (understood unindexed make_versions_of_id) ≡ make_versions_of_id
   pub defined : index_defined_by versions make_versions_of_id ≡ Ok (record versions_of_id { tree = 0 })
-  pub is : indexed (begun 5) versions (record versions_of_id { tree = 0 }) ≡ layout
+  pub is : indexed unindexed versions (record versions_of_id { tree = 0 }) ≡ layout
 
 pub makes_versions_of_id : MakesIndex
 unfolding understood everything
@@ -128,6 +132,17 @@ pub drop_version_is : IsCommand layout drop_version (Delete 1 (record { lets = [
 unfolding understood everything
 drop_version_is = record { is = refl; plain = (refl, refl) }
 
+-- the row with another last column, after its rowid
+abbrev pub with_flag : List Term
+with_flag = col 1 0 ∷ col 1 1 ∷ col 1 2 ∷ col 1 3 ∷ lit (Int (pos 1)) ∷ []
+
+abbrev pub mark_version : List ℕ
+mark_version = codes "UPDATE versions SET deleted = 1 WHERE subject = ?1 AND version = ?2"
+
+pub mark_version_is : IsCommand layout mark_version (Update 1 (record { lets = []; body = plain_query 2 by_version (col 1 0 ∷ with_flag) }))
+unfolding understood everything
+mark_version_is = record { is = refl; plain = (refl, refl) }
+
 -- the rowid is the parameter
 abbrev pub by_id : List Term
 by_id = op2 (Compare Eq Binary) (col 1 0) (col 0 0) ∷ []
@@ -169,70 +184,92 @@ drop_meta_is = record { is = refl; plain = (refl, refl) }
 
 -- ---- queries
 
--- the text shows these terms of the rows of a table that pass, and reads no list of the tables
-pub record IsQuery (sql : List ℕ) (tree : ℕ) (tests shown : List Term) (names : List (List ℕ)) : Type 0 where
-  pub command : IsCommand layout sql (Select (record { lets = []; body = plain_query tree tests shown }) names)
-  pub unlisted : reads_listing layout sql ≡ false
+-- the text shows these terms of the rows of a table that pass
+pub record TableQuery : Type 0 where
+  pub sql : List ℕ
+  pub tree : ℕ
+  pub tests : List Term
+  pub shown : List Term
+  pub names : List (List ℕ)
 
-abbrev pub find_text : List ℕ
-find_text = codes "SELECT text FROM texts WHERE id = ?1"
+abbrev pub body_of : TableQuery → Query
+body_of q = plain_query q.tree q.tests q.shown
 
-pub find_text_is : IsQuery find_text 0 by_id (col 1 2 ∷ []) (codes "text" ∷ [])
+abbrev pub program_of : TableQuery → Program
+program_of q = record { lets = []; body = body_of q }
+
+-- in this schema the text is that query, and reads no list of the tables
+pub record IsQuery (q : TableQuery) (schema : Schema) : Type 0 where
+  pub command : IsCommand schema q.sql (Select (program_of q) q.names)
+  pub unlisted : reads_listing schema q.sql ≡ false
+
+pub laid_out : {schema : Schema} {db : Database} {contents : Contents} → HoldsIn schema db contents → IsLayout schema → IsLayout db.schema
+laid_out holds is_layout = subst IsLayout (sym holds.declared) is_layout
+
+-- what is so in each layout
+pub in_layouts : (P : Schema → Type 0) → P layout → P unindexed → (schema : Schema) → IsLayout schema → P schema
+in_layouts P whole bare schema (inl is) = subst P (sym is) whole
+in_layouts P whole bare schema (inr is) = subst P (sym is) bare
+
+abbrev pub find_text : TableQuery
+find_text = record { sql = codes "SELECT text FROM texts WHERE id = ?1"; tree = 0; tests = by_id; shown = col 1 2 ∷ []; names = codes "text" ∷ [] }
+
+pub find_text_is : (schema : Schema) → IsLayout schema → IsQuery find_text schema
 unfolding understood everything
-find_text_is = record { command = record { is = refl; plain = (refl, refl) }; unlisted = refl }
+find_text_is = in_layouts (IsQuery find_text) (record { command = record { is = refl; plain = (refl, refl) }; unlisted = refl }) (record { command = record { is = refl; plain = (refl, refl) }; unlisted = refl })
 
-abbrev pub find_level : List ℕ
-find_level = codes "SELECT level FROM levels WHERE subject = ?1"
+abbrev pub find_level : TableQuery
+find_level = record { sql = codes "SELECT level FROM levels WHERE subject = ?1"; tree = 4; tests = by_key; shown = col 1 2 ∷ []; names = codes "level" ∷ [] }
 
-pub find_level_is : IsQuery find_level 4 by_key (col 1 2 ∷ []) (codes "level" ∷ [])
+pub find_level_is : (schema : Schema) → IsLayout schema → IsQuery find_level schema
 unfolding understood everything
-find_level_is = record { command = record { is = refl; plain = (refl, refl) }; unlisted = refl }
+find_level_is = in_layouts (IsQuery find_level) (record { command = record { is = refl; plain = (refl, refl) }; unlisted = refl }) (record { command = record { is = refl; plain = (refl, refl) }; unlisted = refl })
 
-abbrev pub find_meta : List ℕ
-find_meta = codes "SELECT value FROM meta WHERE name = ?1"
+abbrev pub find_meta : TableQuery
+find_meta = record { sql = codes "SELECT value FROM meta WHERE name = ?1"; tree = 8; tests = by_key; shown = col 1 2 ∷ []; names = codes "value" ∷ [] }
 
-pub find_meta_is : IsQuery find_meta 8 by_key (col 1 2 ∷ []) (codes "value" ∷ [])
+pub find_meta_is : (schema : Schema) → IsLayout schema → IsQuery find_meta schema
 unfolding understood everything
-find_meta_is = record { command = record { is = refl; plain = (refl, refl) }; unlisted = refl }
+find_meta_is = in_layouts (IsQuery find_meta) (record { command = record { is = refl; plain = (refl, refl) }; unlisted = refl }) (record { command = record { is = refl; plain = (refl, refl) }; unlisted = refl })
 
-abbrev pub find_kept : List ℕ
-find_kept = codes "SELECT command, status, body FROM kept WHERE key = ?1"
+abbrev pub find_kept : TableQuery
+find_kept = record { sql = codes "SELECT command, status, body FROM kept WHERE key = ?1"; tree = 6; tests = by_key; shown = col 1 2 ∷ col 1 3 ∷ col 1 4 ∷ []; names = codes "command" ∷ codes "status" ∷ codes "body" ∷ [] }
 
-pub find_kept_is : IsQuery find_kept 6 by_key (col 1 2 ∷ col 1 3 ∷ col 1 4 ∷ []) (codes "command" ∷ codes "status" ∷ codes "body" ∷ [])
+pub find_kept_is : (schema : Schema) → IsLayout schema → IsQuery find_kept schema
 unfolding understood everything
-find_kept_is = record { command = record { is = refl; plain = (refl, refl) }; unlisted = refl }
+find_kept_is = in_layouts (IsQuery find_kept) (record { command = record { is = refl; plain = (refl, refl) }; unlisted = refl }) (record { command = record { is = refl; plain = (refl, refl) }; unlisted = refl })
 
-abbrev pub all_texts : List ℕ
-all_texts = codes "SELECT rowid, id, text FROM texts"
+abbrev pub all_texts : TableQuery
+all_texts = record { sql = codes "SELECT rowid, id, text FROM texts"; tree = 0; tests = []; shown = col 1 0 ∷ col 1 0 ∷ col 1 2 ∷ []; names = codes "id" ∷ codes "id" ∷ codes "text" ∷ [] }
 
-pub all_texts_is : IsQuery all_texts 0 [] (col 1 0 ∷ col 1 0 ∷ col 1 2 ∷ []) (codes "id" ∷ codes "id" ∷ codes "text" ∷ [])
+pub all_texts_is : (schema : Schema) → IsLayout schema → IsQuery all_texts schema
 unfolding understood everything
-all_texts_is = record { command = record { is = refl; plain = (refl, refl) }; unlisted = refl }
+all_texts_is = in_layouts (IsQuery all_texts) (record { command = record { is = refl; plain = (refl, refl) }; unlisted = refl }) (record { command = record { is = refl; plain = (refl, refl) }; unlisted = refl })
 
-abbrev pub all_versions : List ℕ
-all_versions = codes "SELECT rowid, subject, version, id, deleted FROM versions"
+abbrev pub all_versions : TableQuery
+all_versions = record { sql = codes "SELECT rowid, subject, version, id, deleted FROM versions"; tree = 2; tests = []; shown = col 1 0 ∷ col 1 1 ∷ col 1 2 ∷ col 1 3 ∷ col 1 4 ∷ []; names = codes "rowid" ∷ codes "subject" ∷ codes "version" ∷ codes "id" ∷ codes "deleted" ∷ [] }
 
-pub all_versions_is : IsQuery all_versions 2 [] (col 1 0 ∷ col 1 1 ∷ col 1 2 ∷ col 1 3 ∷ col 1 4 ∷ []) (codes "rowid" ∷ codes "subject" ∷ codes "version" ∷ codes "id" ∷ codes "deleted" ∷ [])
+pub all_versions_is : (schema : Schema) → IsLayout schema → IsQuery all_versions schema
 unfolding understood everything
-all_versions_is = record { command = record { is = refl; plain = (refl, refl) }; unlisted = refl }
+all_versions_is = in_layouts (IsQuery all_versions) (record { command = record { is = refl; plain = (refl, refl) }; unlisted = refl }) (record { command = record { is = refl; plain = (refl, refl) }; unlisted = refl })
 
-abbrev pub all_levels : List ℕ
-all_levels = codes "SELECT rowid, subject, level FROM levels"
+abbrev pub all_levels : TableQuery
+all_levels = record { sql = codes "SELECT rowid, subject, level FROM levels"; tree = 4; tests = []; shown = col 1 0 ∷ col 1 1 ∷ col 1 2 ∷ []; names = codes "rowid" ∷ codes "subject" ∷ codes "level" ∷ [] }
 
-pub all_levels_is : IsQuery all_levels 4 [] (col 1 0 ∷ col 1 1 ∷ col 1 2 ∷ []) (codes "rowid" ∷ codes "subject" ∷ codes "level" ∷ [])
+pub all_levels_is : (schema : Schema) → IsLayout schema → IsQuery all_levels schema
 unfolding understood everything
-all_levels_is = record { command = record { is = refl; plain = (refl, refl) }; unlisted = refl }
+all_levels_is = in_layouts (IsQuery all_levels) (record { command = record { is = refl; plain = (refl, refl) }; unlisted = refl }) (record { command = record { is = refl; plain = (refl, refl) }; unlisted = refl })
 
-abbrev pub all_kept : List ℕ
-all_kept = codes "SELECT rowid, key, command, status, body FROM kept"
+abbrev pub all_kept : TableQuery
+all_kept = record { sql = codes "SELECT rowid, key, command, status, body FROM kept"; tree = 6; tests = []; shown = col 1 0 ∷ col 1 1 ∷ col 1 2 ∷ col 1 3 ∷ col 1 4 ∷ []; names = codes "rowid" ∷ codes "key" ∷ codes "command" ∷ codes "status" ∷ codes "body" ∷ [] }
 
-pub all_kept_is : IsQuery all_kept 6 [] (col 1 0 ∷ col 1 1 ∷ col 1 2 ∷ col 1 3 ∷ col 1 4 ∷ []) (codes "rowid" ∷ codes "key" ∷ codes "command" ∷ codes "status" ∷ codes "body" ∷ [])
+pub all_kept_is : (schema : Schema) → IsLayout schema → IsQuery all_kept schema
 unfolding understood everything
-all_kept_is = record { command = record { is = refl; plain = (refl, refl) }; unlisted = refl }
+all_kept_is = in_layouts (IsQuery all_kept) (record { command = record { is = refl; plain = (refl, refl) }; unlisted = refl }) (record { command = record { is = refl; plain = (refl, refl) }; unlisted = refl })
 
-abbrev pub all_meta : List ℕ
-all_meta = codes "SELECT rowid, name, value FROM meta"
+abbrev pub all_meta : TableQuery
+all_meta = record { sql = codes "SELECT rowid, name, value FROM meta"; tree = 8; tests = []; shown = col 1 0 ∷ col 1 1 ∷ col 1 2 ∷ []; names = codes "rowid" ∷ codes "name" ∷ codes "value" ∷ [] }
 
-pub all_meta_is : IsQuery all_meta 8 [] (col 1 0 ∷ col 1 1 ∷ col 1 2 ∷ []) (codes "rowid" ∷ codes "name" ∷ codes "value" ∷ [])
+pub all_meta_is : (schema : Schema) → IsLayout schema → IsQuery all_meta schema
 unfolding understood everything
-all_meta_is = record { command = record { is = refl; plain = (refl, refl) }; unlisted = refl }
+all_meta_is = in_layouts (IsQuery all_meta) (record { command = record { is = refl; plain = (refl, refl) }; unlisted = refl }) (record { command = record { is = refl; plain = (refl, refl) }; unlisted = refl })

@@ -1,42 +1,91 @@
--- What a query of all rows of a table lists.
-use Rattle.std.proofs.Common.{◌≡◌, ℕ, ℤ, List, [], ◌∷◌, map, sym, subst, ◌∙◌}
+-- What a query of all rows of a table lists, and how it fails.
+use Rattle.std.proofs.Common.{◌≡◌, ◌⊎◌, inl, inr, ℤ, zero, suc, List, [], ◌∷◌, map, All, refl, sym, subst, ◌∙◌, arith}
 use Rattle.std.specs.List.Sorted.{IsPermutation}
 use Rattle.std.proofs.lemmas.List.Sorted.{IsPermutation-map}
+use Rattle.sqlite.specs.declared.error.ErrorCode.TheVariants as code
+use Rattle.sqlite.specs.declared.error.Error.{Error}
+use Rattle.sqlite.specs.declared.error.Error.TheVariants.{SqliteFailure}
 use Rattle.sqlite.specs.declared.types.Value.TheVariants.{Null}
 use Rattle.sqlite.specs.Order.{Row}
-use Rattle.sqlite.specs.Term.{Term, eval_all}
+use Rattle.sqlite.specs.Term.{eval_all}
+use Rattle.sqlite.specs.Schema.{Schema}
+use Rattle.sqlite.specs.Effect.{Database}
 use Rattle.sqlite.specs.Query.{IsAnswer}
 use Rattle.sqlite.specs.Program.{overlay}
 use Rattle.sqlite.specs.Command.TheVariants.{Select}
-use Rattle.sqlite.specs.State.{State, Shown}
+use Rattle.sqlite.specs.State.{State, Shown, FailsToQuery, IsTooLate}
 use Rattle.sqlite.proofs.Callers.{reads_as}
-use Rattle.sqlite_schema.specs.declared.program.Program.{Program}
-use Rattle.reg_tables.specs.Layout.{layout}
+use Rattle.sqlite_rules.specs.Lists.{Has}
+use Rattle.reg_tables.specs.Layout.{IsLayout}
+use Rattle.reg_tables.specs.Reading.{HoldsReadable, CanBeRead, IsFault}
 use Rattle.reg_tables.specs.TableMaps.{Form}
-use Rattle.reg_tables.specs.Listings.{parts_of, entry_parts, Lists}
+use Rattle.reg_tables.specs.Contents.{text_form, version_form, pair_form, kept_form}
+use Rattle.reg_tables.specs.Listings.{parts_of, entry_parts, Lists, IsReadableText, IsReadableVersion, IsReadablePair, IsReadableKept}
 use Rattle.reg_tables.proofs.Members.{map-map}
-use Rattle.reg_tables.proofs.Queries.{plain_query, answer_all}
+use Rattle.reg_tables.proofs.Queries.{plain_query, answer_has, answer_all}
 use Rattle.reg_tables.proofs.KeyedTables.{with_nothing}
-use Rattle.reg_tables.proofs.Statements.{IsQuery}
+use Rattle.reg_tables.proofs.Statements.{TableQuery, program_of, IsQuery, laid_out, all_texts, all_texts_is, all_versions, all_versions_is, all_levels, all_levels_is, all_kept, all_kept_is, all_meta, all_meta_is}
+use Rattle.reg_tables.proofs.Faults.{Takes, takes_all_texts, takes_all_versions, takes_all_levels, takes_all_kept, takes_all_meta, query_faults, memory_is_fault}
+use Rattle.reg_tables.proofs.Transactions.{shown_open}
+use Rattle.reg_tables.proofs.ReadableRows.{readable_text, readable_version, readable_level, readable_kept, readable_meta}
 
-module _ {K V : Type 0} (form : Form K V) where
-  -- what is shown of a row has its parts in the same places
-  shown_parts : (tree : ℕ) (sql : List ℕ) (shown : List Term) (names : List (List ℕ)) (old new : State) (found : List Row) → IsQuery sql tree [] shown names
-      → ((row : Row) → parts_of form (eval_all shown ([] ∷ row ∷ [])) ≡ parts_of form row) → old.now.schema ≡ layout → Shown sql [] old new found
-      → IsPermutation (map (parts_of form) (old.now.trees tree)) (map (parts_of form) found)
-  shown_parts tree sql shown names old new found it whole declared h =
-      let q : Program = record { lets = []; body = plain_query tree [] shown } in
-      let read = reads_as sql [] old new layout declared (Select q names) it.command.is it.command.plain it.unlisted found h in
-      let answer : IsAnswer (plain_query tree [] shown) (overlay old.now.trees []) [] found = read.answer Null in
-      let show = λ (row : Row). eval_all shown ([] ∷ row ∷ []) in
-      let rows = old.now.trees tree in
-      let all : IsPermutation (map show rows) found = subst (λ l. IsPermutation (map show l) found) (with_nothing old.now.trees tree) (answer_all [] tree shown (overlay old.now.trees []) found answer) in
-      let same : map (parts_of form) (map show rows) ≡ map (parts_of form) rows = map-map (parts_of form) show rows ∙ (λ i. map (λ (row : Row). whole row i) rows) in
-      subst (λ l. IsPermutation l (map (parts_of form) found)) same (IsPermutation-map (parts_of form) (map show rows) found all)
+-- in each layout the query shows all rows of its table, each with its parts in the same places
+pub record ShowsTable {K V : Type 0} (form : Form K V) (is_readable : Row → Type 0) (q : TableQuery) : Type 0 where
+  pub is : (schema : Schema) → IsLayout schema → IsQuery q schema
+  pub takes : (schema : Schema) → IsLayout schema → Takes q [] schema
+  pub untested : q.tests ≡ []
+  pub whole : (row : Row) → parts_of form (eval_all q.shown ([] ∷ row ∷ [])) ≡ parts_of form row
+  pub readable : (db : Database) → HoldsReadable db → (row : Row) → Has (db.trees q.tree) row → is_readable (eval_all q.shown ([] ∷ row ∷ []))
+
+pub shows_texts : ShowsTable text_form IsReadableText all_texts
+shows_texts = record { is = all_texts_is; takes = takes_all_texts; untested = refl; whole = λ row. refl; readable = readable_text }
+
+pub shows_versions : ShowsTable version_form IsReadableVersion all_versions
+shows_versions = record { is = all_versions_is; takes = takes_all_versions; untested = refl; whole = λ row. refl; readable = readable_version }
+
+pub shows_levels : ShowsTable pair_form IsReadablePair all_levels
+shows_levels = record { is = all_levels_is; takes = takes_all_levels; untested = refl; whole = λ row. refl; readable = readable_level }
+
+pub shows_kept : ShowsTable kept_form IsReadableKept all_kept
+shows_kept = record { is = all_kept_is; takes = takes_all_kept; untested = refl; whole = λ row. refl; readable = readable_kept }
+
+pub shows_meta : ShowsTable pair_form IsReadablePair all_meta
+shows_meta = record { is = all_meta_is; takes = takes_all_meta; untested = refl; whole = λ row. refl; readable = readable_meta }
+
+all_if_each : {X : Type 0} (P : X → Type 0) (xs : List X) → ((x : X) → Has xs x → P x) → All P xs
+all_if_each P [] each k d low = absurd (omega arith)
+all_if_each P (x ∷ xs) each zero d low = each x (inl refl)
+all_if_each P (x ∷ xs) each (suc k) d low = all_if_each P xs (λ y h. each y (inr h)) k d (omega (arith, low))
+
+module _ {K V : Type 0} {form : Form K V} {is_readable : Row → Type 0} {q : TableQuery} (table : ShowsTable form is_readable q) (old new : State) where
+  module _ (laid : IsLayout old.now.schema) (found : List Row) (h : Shown q.sql [] old new found) where
+    answer : IsAnswer (plain_query q.tree [] q.shown) (overlay old.now.trees []) [] found
+    answer =
+        let it = table.is old.now.schema laid in
+        let read = reads_as q.sql [] old new old.now.schema refl (Select (program_of q) q.names) it.command.is it.command.plain it.unlisted found h in
+        subst (λ tests. IsAnswer (plain_query q.tree tests q.shown) (overlay old.now.trees []) [] found) table.untested (read.answer Null)
+
+    shown_parts : IsPermutation (map (parts_of form) (old.now.trees q.tree)) (map (parts_of form) found)
+    shown_parts =
+        let show = λ (row : Row). eval_all q.shown ([] ∷ row ∷ []) in
+        let rows = old.now.trees q.tree in
+        let all : IsPermutation (map show rows) found = subst (λ l. IsPermutation (map show l) found) (with_nothing old.now.trees q.tree) (answer_all [] q.tree q.shown (overlay old.now.trees []) found answer) in
+        let same : map (parts_of form) (map show rows) ≡ map (parts_of form) rows = map-map (parts_of form) show rows ∙ (λ i. map (λ (row : Row). table.whole row i) rows) in
+        subst (λ l. IsPermutation l (map (parts_of form) found)) same (IsPermutation-map (parts_of form) (map show rows) found all)
+
+    shown_readable : HoldsReadable old.now → All is_readable found
+    shown_readable there = all_if_each is_readable found (λ x has.
+        let r = answer_has [] [] q.tree q.shown (overlay old.now.trees []) found answer x has in
+        subst is_readable (sym r.3) (table.readable old.now there r.0 (subst (λ l. Has l r.0) (with_nothing old.now.trees q.tree) r.1)))
 
   -- the lines that were read from what is shown list the table
-  pub lists_lines : {L : Type 0} (entry : L → ℤ × K × V) (tree : ℕ) (sql : List ℕ) (shown : List Term) (names : List (List ℕ)) (old new : State) (found : List Row) (lines : List L) → IsQuery sql tree [] shown names
-      → ((row : Row) → parts_of form (eval_all shown ([] ∷ row ∷ [])) ≡ parts_of form row) → map (parts_of form) found ≡ map (λ line. entry_parts form (entry line)) lines → old.now.schema ≡ layout → Shown sql [] old new found
-      → Lists form (old.now.trees tree) (map entry lines)
-  lists_lines entry tree sql shown names old new found lines it whole read declared h =
-      subst (IsPermutation (map (parts_of form) (old.now.trees tree))) (read ∙ sym (map-map (entry_parts form) entry lines)) (shown_parts tree sql shown names old new found it whole declared h)
+  pub lists_lines : {L : Type 0} (entry : L → ℤ × K × V) (lines : List L) → ((found : List Row) × Shown q.sql [] old new found × (map (parts_of form) found ≡ map (λ line. entry_parts form (entry line)) lines)) → IsLayout old.now.schema
+      → Lists form (old.now.trees q.tree) (map entry lines)
+  lists_lines entry lines read laid = subst (IsPermutation (map (parts_of form) (old.now.trees q.tree))) (read.2 ∙ sym (map-map (entry_parts form) entry lines)) (shown_parts laid read.0 read.1)
+
+  -- of readable contents the lines fail with a fault alone
+  pub lines_fault : (e : Error) → (FailsToQuery q.sql [] old new e ⊎ IsTooLate q.sql [] old new e) ⊎ ((found : List Row) × Shown q.sql [] old new found × (All is_readable found → e ≡ SqliteFailure code.OutOfMemory)) → CanBeRead old → IsFault old e
+  lines_fault e (inl failed) can = query_faults q table.is [] table.takes old new can e failed
+  lines_fault e (inr read) can =
+      let there = can (shown_open q.sql [] old new read.0 read.1) in
+      memory_is_fault old e (read.2 (shown_readable (laid_out there.holds there.is_layout) read.0 read.1 there))

@@ -1,5 +1,5 @@
 -- What a look-up by its key shows of the contents.
-use Rattle.std.proofs.Common.{pos, ◌≡◌, ◌≢◌, ◌<◌, ℕ, List, [], ◌∷◌, length, Option, None, Some, MatchOption, slice_get, codes, refl, sym, ap, ◌∙◌, arith}
+use Rattle.std.proofs.Common.{pos, ◌≡◌, ◌≢◌, ◌<◌, ℕ, List, [], ◌∷◌, length, Option, None, Some, MatchOption, slice_get, refl, sym, ap, ◌∙◌, arith}
 use Rattle.std.specs.Prelude.{IsUtf8}
 use Rattle.sqlite.specs.declared.error.ErrorCode.TheVariants as code
 use Rattle.sqlite.specs.declared.error.Error.{Error}
@@ -10,39 +10,44 @@ use Rattle.std.specs.Ordering.{nat_cmp}
 use Rattle.std.specs.FinMap.{get}
 use Rattle.sqlite.specs.declared.types.Value.TheVariants.{Int, Text}
 use Rattle.sqlite.specs.Order.{Row, column}
-use Rattle.sqlite.specs.Term.{col}
 use Rattle.sqlite.specs.State.{State, Shown}
-use Rattle.reg_tables.specs.Layout.{texts, levels, kept, meta}
-use Rattle.reg_tables.specs.Contents.{text_cmp, KeptRow, Contents, text_cells, kept_cells, text_form, pair_form, kept_form, Holds}
+use Rattle.sqlite.specs.Schema.{Schema}
+use Rattle.reg_tables.specs.Layout.{IsLayout}
+use Rattle.reg_tables.specs.Contents.{text_cmp, KeptRow, Contents, text_cells, kept_cells, text_form, pair_form, kept_form, HoldsIn}
 use Rattle.reg_tables.proofs.KeyedTables.{text_order, number_order, by_key_test, by_id_test, finds, first_found}
-use Rattle.reg_tables.proofs.Statements.{by_key, by_id, find_text, find_text_is, find_level, find_level_is, find_kept, find_kept_is, find_meta, find_meta_is}
+use Rattle.reg_tables.proofs.Statements.{laid_out, find_text, find_text_is, find_level, find_level_is, find_kept, find_kept_is, find_meta, find_meta_is}
 
 -- the text that was read is the row's
 pub read_back : (row : Row) (text read : List ℕ) → row ≡ text_cells text → column row 0 ≡ Text read → text ≡ read
 read_back row text read is got = let same : Text text ≡ Text read = sym (ap (λ (r : Row). column r 0) is) ∙ got in cc
 
-module _ (old new : State) (contents : Contents) (h : Holds old.now contents) (k : List ℕ) (found : List Row) (o : Option Row) (first : o ≡ slice_get found 0) where
-  pub finds_level : Shown find_level (Text k ∷ []) old new found → MatchOption o (get contents.levels k ≡ None) (λ row. (level : List ℕ) × (get contents.levels k ≡ Some level) × (row ≡ text_cells level))
-  finds_level shown =
+module _ (old new : State) (schema : Schema) (contents : Contents) (h : HoldsIn schema old.now contents) (is_layout : IsLayout schema) where
+  laid : IsLayout old.now.schema
+  laid = laid_out h is_layout
+
+  pub finds_level : (k : List ℕ) (found : List Row) (o : Option Row) → o ≡ slice_get found 0 → Shown find_level.sql (Text k ∷ []) old new found
+      → MatchOption o (get contents.levels k ≡ None) (λ row. (level : List ℕ) × (get contents.levels k ≡ Some level) × (row ≡ text_cells level))
+  finds_level k found o first shown =
       first_found pair_form (get contents.levels k) found
-      (finds pair_form text_cmp text_order levels.tree old new (get contents.levels) k find_level (Text k ∷ []) by_key (col 1 2 ∷ []) (codes "level" ∷ []) found h.declared h.levels find_level_is (λ row q is. by_key_test row k q is) (λ row. refl) shown) o first
+      (finds pair_form text_cmp text_order find_level (Text k ∷ []) old new (find_level_is old.now.schema laid) (get contents.levels) h.levels k found (λ row q is. by_key_test row k q is) (λ row. refl) shown) o first
 
-  pub finds_meta : Shown find_meta (Text k ∷ []) old new found → MatchOption o (get contents.meta k ≡ None) (λ row. (value : List ℕ) × (get contents.meta k ≡ Some value) × (row ≡ text_cells value))
-  finds_meta shown =
+  pub finds_meta : (k : List ℕ) (found : List Row) (o : Option Row) → o ≡ slice_get found 0 → Shown find_meta.sql (Text k ∷ []) old new found
+      → MatchOption o (get contents.meta k ≡ None) (λ row. (value : List ℕ) × (get contents.meta k ≡ Some value) × (row ≡ text_cells value))
+  finds_meta k found o first shown =
       first_found pair_form (get contents.meta k) found
-      (finds pair_form text_cmp text_order meta.tree old new (get contents.meta) k find_meta (Text k ∷ []) by_key (col 1 2 ∷ []) (codes "value" ∷ []) found h.declared h.meta find_meta_is (λ row q is. by_key_test row k q is) (λ row. refl) shown) o first
+      (finds pair_form text_cmp text_order find_meta (Text k ∷ []) old new (find_meta_is old.now.schema laid) (get contents.meta) h.meta k found (λ row q is. by_key_test row k q is) (λ row. refl) shown) o first
 
-  pub finds_kept : Shown find_kept (Text k ∷ []) old new found → MatchOption o (get contents.kept k ≡ None) (λ row. (reply : KeptRow) × (get contents.kept k ≡ Some reply) × (row ≡ kept_cells reply))
-  finds_kept shown =
+  pub finds_kept : (k : List ℕ) (found : List Row) (o : Option Row) → o ≡ slice_get found 0 → Shown find_kept.sql (Text k ∷ []) old new found
+      → MatchOption o (get contents.kept k ≡ None) (λ row. (reply : KeptRow) × (get contents.kept k ≡ Some reply) × (row ≡ kept_cells reply))
+  finds_kept k found o first shown =
       first_found kept_form (get contents.kept k) found
-      (finds kept_form text_cmp text_order kept.tree old new (get contents.kept) k find_kept (Text k ∷ []) by_key (col 1 2 ∷ col 1 3 ∷ col 1 4 ∷ []) (codes "command" ∷ codes "status" ∷ codes "body" ∷ []) found h.declared h.kept find_kept_is
-      (λ row q is. by_key_test row k q is) (λ row. refl) shown) o first
+      (finds kept_form text_cmp text_order find_kept (Text k ∷ []) old new (find_kept_is old.now.schema laid) (get contents.kept) h.kept k found (λ row q is. by_key_test row k q is) (λ row. refl) shown) o first
 
-pub finds_text : (old new : State) (contents : Contents) → Holds old.now contents → (id : ℕ) (found : List Row) (o : Option Row) → o ≡ slice_get found 0 → Shown find_text (Int (pos id) ∷ []) old new found
-    → MatchOption o (get contents.texts id ≡ None) (λ row. (text : List ℕ) × (get contents.texts id ≡ Some text) × (row ≡ text_cells text))
-finds_text old new contents h id found o first shown =
-    first_found text_form (get contents.texts id) found
-    (finds text_form nat_cmp number_order texts.tree old new (get contents.texts) id find_text (Int (pos id) ∷ []) by_id (col 1 2 ∷ []) (codes "text" ∷ []) found h.declared h.texts find_text_is (λ row q is. by_id_test row id q is) (λ row. refl) shown) o first
+  pub finds_text : (id : ℕ) (found : List Row) (o : Option Row) → o ≡ slice_get found 0 → Shown find_text.sql (Int (pos id) ∷ []) old new found
+      → MatchOption o (get contents.texts id ≡ None) (λ row. (text : List ℕ) × (get contents.texts id ≡ Some text) × (row ≡ text_cells text))
+  finds_text id found o first shown =
+      first_found text_form (get contents.texts id) found
+      (finds text_form nat_cmp number_order find_text (Int (pos id) ∷ []) old new (find_text_is old.now.schema laid) (get contents.texts) h.texts id found (λ row q is. by_id_test row id q is) (λ row. refl) shown) o first
 
 -- a text that a `String` holds is read, but for want of memory
 pub text_read : (row : Row) (text : List ℕ) (e : Error) → row ≡ text_cells text → IsUtf8 text → IsReadError 0 (column row 0) e

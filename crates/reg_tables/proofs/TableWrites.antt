@@ -1,26 +1,27 @@
 -- What each statement makes of the contents.
-use Rattle.std.proofs.Common.{◌≡◌, ℕ, pos, List, [], ◌∷◌, None, Ok, refl, sym, subst, arith}
+use Rattle.std.proofs.Common.{◌≡◌, ℕ, pos, List, [], ◌∷◌, None, Ok, refl, arith}
 use Rattle.std.specs.Ordering.{nat_cmp}
 use Rattle.std.specs.FinMap.{FinMap, get, insert, remove}
 use Rattle.sqlite.specs.declared.types.Value.TheVariants.{Null, Int, Text}
-use Rattle.sqlite.specs.Order.{Row}
 use Rattle.sqlite.specs.Edit.{next_rowid}
+use Rattle.sqlite.specs.Order.{Row, column}
+use Rattle.sqlite.specs.Tree.{rowid}
+use Rattle.sqlite.specs.Cast.{cast_row}
 use Rattle.sqlite.specs.Effect.{Database}
 use Rattle.sqlite.specs.State.{State, Executes}
 use Rattle.reg_tables.specs.Layout.{texts, versions, levels, kept, meta}
-use Rattle.reg_tables.specs.TableMaps.{Form, ShowsMap}
 use Rattle.reg_tables.specs.Contents.{text_cmp, version_cmp, TextMap, VersionRow, KeptRow, Contents, flag_cell, kept_cells, text_form, version_form, pair_form, kept_form, Holds}
-use Rattle.reg_tables.specs.Changes.{with_text, with_version, without_version, with_level, without_level, with_kept, with_meta, without_meta}
-use Rattle.reg_tables.proofs.Statements.{text_terms, put_text, put_text_is, put_version, put_version_is, by_version, drop_version, drop_version_is, two_terms, four_terms, by_key, put_level, put_level_is, drop_level, drop_level_is, put_kept, put_kept_is, put_meta, put_meta_is, drop_meta, drop_meta_is}
-use Rattle.reg_tables.proofs.KeyedTables.{number_order, distinct_numbers, version_order, distinct_versions, by_version_test, cast-flag, cast-Null, cast-Int, text_order, distinct_texts, by_key_test, TurnsTable, inserts, removes}
-
-same_rows : {K V : Type 0} {form : Form K V} {value_at : K → _} {old new : List Row} → new ≡ old → ShowsMap form old value_at → ShowsMap form new value_at
-same_rows {form = form} {value_at = value_at} e shows = subst (λ rows. ShowsMap form rows value_at) (sym e) shows
+use Rattle.reg_tables.specs.TableMaps.{IsEntry}
+use Rattle.reg_tables.specs.Changes.{altered, as_deleted, with_deleted, with_text, with_version, without_version, with_level, without_level, with_kept, with_meta, without_meta}
+use Rattle.reg_tables.proofs.RowLemmas.{same_rows}
+use Rattle.reg_tables.proofs.Statements.{text_terms, put_text, put_text_is, put_version, put_version_is, by_version, drop_version, drop_version_is, with_flag, mark_version, mark_version_is, two_terms, four_terms, by_key, put_level, put_level_is, drop_level, drop_level_is, put_kept, put_kept_is, put_meta, put_meta_is, drop_meta, drop_meta_is}
+use Rattle.reg_tables.proofs.KeyedTables.{number_order, distinct_numbers, version_order, distinct_versions, by_version_test, cast-flag, cast-Null, cast-Int, text_order, distinct_texts, by_key_test, TurnsTable, inserts, removes, alters}
 
 module _ (old new : Database) (contents : Contents) (h : Holds old contents) where
   pub texts_turned : (later : FinMap nat_cmp (List ℕ)) → TurnsTable text_form texts.tree old new (get later) → Holds new (record contents { texts = later })
   texts_turned later t = record {
     declared = t.declared;
+    sound = t.sound;
     texts = t.rows;
     versions = same_rows (t.others.1.0 (λ e. omega (arith, e))) h.versions;
     levels = same_rows (t.others.1.1.0 (λ e. omega (arith, e))) h.levels;
@@ -31,6 +32,7 @@ module _ (old new : Database) (contents : Contents) (h : Holds old contents) whe
   pub versions_turned : (later : FinMap version_cmp VersionRow) → TurnsTable version_form versions.tree old new (get later) → Holds new (record contents { versions = later })
   versions_turned later t = record {
     declared = t.declared;
+    sound = t.sound;
     texts = same_rows (t.others.0 (λ e. omega (arith, e))) h.texts;
     versions = t.rows;
     levels = same_rows (t.others.1.1.0 (λ e. omega (arith, e))) h.levels;
@@ -41,6 +43,7 @@ module _ (old new : Database) (contents : Contents) (h : Holds old contents) whe
   pub levels_turned : (later : TextMap (List ℕ)) → TurnsTable pair_form levels.tree old new (get later) → Holds new (record contents { levels = later })
   levels_turned later t = record {
     declared = t.declared;
+    sound = t.sound;
     texts = same_rows (t.others.0 (λ e. omega (arith, e))) h.texts;
     versions = same_rows (t.others.1.0 (λ e. omega (arith, e))) h.versions;
     levels = t.rows;
@@ -51,6 +54,7 @@ module _ (old new : Database) (contents : Contents) (h : Holds old contents) whe
   pub kept_turned : (later : TextMap KeptRow) → TurnsTable kept_form kept.tree old new (get later) → Holds new (record contents { kept = later })
   kept_turned later t = record {
     declared = t.declared;
+    sound = t.sound;
     texts = same_rows (t.others.0 (λ e. omega (arith, e))) h.texts;
     versions = same_rows (t.others.1.0 (λ e. omega (arith, e))) h.versions;
     levels = same_rows (t.others.1.1.0 (λ e. omega (arith, e))) h.levels;
@@ -61,12 +65,21 @@ module _ (old new : Database) (contents : Contents) (h : Holds old contents) whe
   pub meta_turned : (later : TextMap (List ℕ)) → TurnsTable pair_form meta.tree old new (get later) → Holds new (record contents { meta = later })
   meta_turned later t = record {
     declared = t.declared;
+    sound = t.sound;
     texts = same_rows (t.others.0 (λ e. omega (arith, e))) h.texts;
     versions = same_rows (t.others.1.0 (λ e. omega (arith, e))) h.versions;
     levels = same_rows (t.others.1.1.0 (λ e. omega (arith, e))) h.levels;
     kept = same_rows (t.others.1.1.1.0 (λ e. omega (arith, e))) h.kept;
     meta = t.rows;
   }
+
+-- the row of a version with the flag is that of the version as deleted
+marked_entry : (row : Row) (key : List ℕ × ℕ) (version : VersionRow) → IsEntry version_form row key version → IsEntry version_form (cast_row versions (rowid row ∷ column row 1 ∷ column row 2 ∷ column row 3 ∷ Int (pos 1) ∷ [])) key (as_deleted version)
+marked_entry row key version is =
+    let subject : column row 1 ≡ Text key.0 = cc in
+    let number : column row 2 ≡ Int (pos key.1) = cc in
+    let id : column row 3 ≡ Int (pos version.id) = cc in
+    (rw (subject, number, cast-Int (pos key.1)) refl, rw (id, cast-Int (pos version.id), cast-Int (pos 1)) refl)
 
 module _ (old new : State) (count : ℕ) (contents : Contents) (h : Holds old.now contents) where
   pub puts_text : (id : ℕ) (text : List ℕ) → get contents.texts id ≡ None → Executes put_text (Int (pos id) ∷ Text text ∷ []) old new (Ok count) → Holds new.now (with_text id text contents)
@@ -89,6 +102,12 @@ module _ (old new : State) (count : ℕ) (contents : Contents) (h : Holds old.no
       versions_turned old.now new.now contents h (remove contents.versions key)
       (removes version_form version_cmp version_order distinct_versions 1 versions refl old new h.declared contents.versions h.versions key drop_version (Text key.0 ∷ Int (pos key.1) ∷ []) count by_version drop_version_is
       (λ row q is. by_version_test row key q is) ran)
+
+  pub marks_version : (key : List ℕ × ℕ) → Executes mark_version (Text key.0 ∷ Int (pos key.1) ∷ []) old new (Ok count) → Holds new.now (with_deleted key contents)
+  marks_version key ran =
+      versions_turned old.now new.now contents h (altered contents.versions key as_deleted)
+      (alters version_form version_cmp version_order distinct_versions 1 versions refl old new h.declared contents.versions h.versions key mark_version (Text key.0 ∷ Int (pos key.1) ∷ []) count by_version with_flag as_deleted mark_version_is
+      (λ row q is. by_version_test row key q is) (λ row version is. marked_entry row key version is) ran)
 
   pub puts_level : (subject level : List ℕ) → get contents.levels subject ≡ None → Executes put_level (Text subject ∷ Text level ∷ []) old new (Ok count) → Holds new.now (with_level subject level contents)
   puts_level subject level free ran =

@@ -1,6 +1,6 @@
 -- Several statements in one transaction, and a query in a transaction of its own.
-use Rattle.std.proofs.Common.{◌≡◌, ◌⊎◌, inl, inr, ℕ, List, Option, Some, None, Ok, Err, Result, ap, ◌∙◌}
-use Rattle.std.specs.Prelude.{IfOk, IfErr, OnOk, Vec, IsTrue, true, if◌then◌else◌}
+use Rattle.std.proofs.Common.{◌≡◌, ◌⊎◌, inl, inr, ℕ, List, Option, Some, None, Ok, Err, Result, sym, subst, ap, ◌∙◌}
+use Rattle.std.specs.Prelude.{IfOk, IfErr, IsErrAnd, OnOk, Vec, IsTrue, true, if◌then◌else◌}
 use Rattle.std.specs.declared.alloc.Global.{Global}
 use Rattle.sqlite.specs.Order.{Row}
 use Rattle.sqlite.specs.Clock.{timed}
@@ -74,3 +74,8 @@ on_if_ok (Err e) f h = tt
 pub if_err : {X E : Type 0} {P Q : E → Type 0} (r : Result X E) → ((e : E) → P e → Q e) → IfErr r P → IfErr r Q
 if_err (Ok x) f h = tt
 if_err (Err e) f h = f e h
+
+-- an error that `?` passes on
+pub if_err_is : {X E : Type 0} (r : Result X E) (P : E → Type 0) (first : E) → IsErrAnd r (λ e. e ≡ first) → P first → IfErr r P
+if_err_is (Ok x) P first is h = tt
+if_err_is (Err e) P first is h = subst P (sym is) h

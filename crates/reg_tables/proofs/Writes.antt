@@ -8,7 +8,7 @@ use Rattle.sqlite.specs.Schema.{Schema}
 use Rattle.sqlite.specs.Source.{Source}
 use Rattle.sqlite.specs.Source.TheVariants.{Values}
 use Rattle.sqlite.specs.Command.{Command}
-use Rattle.sqlite.specs.Command.TheVariants.{Insert, Delete}
+use Rattle.sqlite.specs.Command.TheVariants.{Insert, Update, Delete}
 use Rattle.sqlite.specs.Edit.{Edit, edit_of, taken_by, Applies}
 use Rattle.sqlite.specs.Rowids.{Rowids}
 use Rattle.sqlite.specs.Rowids.TheVariants.{Chosen, Above, Given}
@@ -98,4 +98,25 @@ module _ (schema : Schema) (idle : (tree : ℕ) (olds news : List Row) → works
       let edit = edit_of db table (ids_of asked.0) Given 0 [] in
       let step : Applies schema Enforced db edit cut.0 = one_step schema Enforced db cut.0 edit (idle edit.table.tree (taken_by db edit) edit.news) cut.1 in
       let now : cut.0 ≡ new.now.trees = sym (ap (λ (it : Written). it.trees) (same_value cut.2)) ∙ ap (λ (d : Database). d.trees) (sym wrote.2) in
+      (asked.0, asked.1, record { same = ap (λ (d : Database). d.schema) wrote.2; applies = subst (Applies schema Enforced db edit) now step })
+
+  update_wrote : (q : Program) → Writes old new None (Update at q) text params count → Wrote (Update at q)
+  update_wrote q w =
+      let done = subst (λ s. Does old.step_limit (mode_of old) params (record old.now { schema = s }) text None (Update at q) (Ok (w.tally, new.now))) has w.changed in
+      let ran = went (rw there at done) in
+      let tested = went ran.2 in
+      let shown = went tested.2 in
+      (ran.0, ran.1, ap (λ (p : Tally × Database). p.1) (same_value {E = Option Error} shown.2))
+
+  -- the query gives the rowids, and the rows that take their places
+  pub updated : (q : Program) → Writes old new None (Update at q) text params count
+      → (found : List Row) × Answers (record { schema = schema; trees = old.now.trees }) q params found × IsStep schema old new (edit_of old.now.trees table (ids_of found) Given 1 found)
+  updated q w =
+      let wrote = update_wrote q w in
+      let asked = went wrote.1 in
+      let put = went asked.2 in
+      let db = old.now.trees in
+      let edit = edit_of db table (ids_of asked.0) Given 1 asked.0 in
+      let step : Applies schema Enforced db edit put.0 = one_step schema Enforced db put.0 edit (idle edit.table.tree (taken_by db edit) edit.news) put.1 in
+      let now : put.0 ≡ new.now.trees = sym (ap (λ (it : Written). it.trees) (same_value put.2)) ∙ ap (λ (d : Database). d.trees) (sym wrote.2) in
       (asked.0, asked.1, record { same = ap (λ (d : Database). d.schema) wrote.2; applies = subst (Applies schema Enforced db edit) now step })

@@ -1,6 +1,7 @@
 -- What the statements make of the contents.
-use Rattle.std.specs.Prelude.{ℕ, List, codes}
-use Rattle.std.specs.FinMap.{insert, remove, empty}
+use Rattle.std.specs.Prelude.{ℕ, true, List, option_map, unwrap_or, codes}
+use Rattle.std.specs.declared.cmp.Ordering.{Ordering}
+use Rattle.std.specs.FinMap.{FinMap, get, insert, remove, empty}
 use Rattle.sqlite.specs.State.{State}
 use Rattle.reg_tables.specs.Contents.{TextMap, VersionRow, KeptRow, Contents, Holds}
 
@@ -34,6 +35,18 @@ with_version key version contents = record contents { versions = insert contents
 
 abbrev pub without_version : List ℕ × ℕ → Contents → Contents
 without_version key contents = record contents { versions = remove contents.versions key }
+
+-- the map with another value in place of the key's, if it has one
+abbrev pub altered : {K V : Type 0} {R : K → K → Ordering} → FinMap R V → K → (V → V) → FinMap R V
+altered m key change = unwrap_or (option_map (λ value. insert m key (change value)) (get m key)) m
+
+-- the version, marked as deleted
+abbrev pub as_deleted : VersionRow → VersionRow
+as_deleted version = record version { deleted = true }
+
+-- the version is marked as deleted, if there is one
+abbrev pub with_deleted : List ℕ × ℕ → Contents → Contents
+with_deleted key contents = record contents { versions = altered contents.versions key as_deleted }
 
 -- ---- a new registry
 

@@ -7,7 +7,8 @@ use Rattle.std.specs.FinMap.{FinMap, get}
 use Rattle.sqlite.specs.declared.types.Value.{Value}
 use Rattle.sqlite.specs.declared.types.Value.TheVariants.{Int, Text}
 use Rattle.sqlite.specs.Order.{Row, column}
-use Rattle.sqlite.specs.Effect.{Database}
+use Rattle.sqlite.specs.Schema.{Schema}
+use Rattle.sqlite.specs.Effect.{Database, IsDatabase}
 use Rattle.reg_tables.specs.Layout.{layout, texts, versions, levels, kept, meta}
 use Rattle.reg_tables.specs.TableMaps.{Form, ShowsMap}
 
@@ -87,14 +88,20 @@ kept_form = keyed_by_text (λ row. column row 2 ∷ column row 3 ∷ column row 
 
 -- ---- the tables
 
--- the database has the five tables as layout 1 declares them, and these hold the contents
-pub record Holds (db : Database) (contents : Contents) : Type 0 where
-  pub declared : db.schema ≡ layout
+-- the database has this schema, and its five tables hold the contents
+pub record HoldsIn (schema : Schema) (db : Database) (contents : Contents) : Type 0 where
+  pub declared : db.schema ≡ schema
+  -- the database lists its schema, which an open of it finds, and obeys it
+  pub sound : IsDatabase db
   pub texts : ShowsMap text_form (db.trees texts.tree) (get contents.texts)
   pub versions : ShowsMap version_form (db.trees versions.tree) (get contents.versions)
   pub levels : ShowsMap pair_form (db.trees levels.tree) (get contents.levels)
   pub kept : ShowsMap kept_form (db.trees kept.tree) (get contents.kept)
   pub meta : ShowsMap pair_form (db.trees meta.tree) (get contents.meta)
+
+-- the database has the five tables and the index as layout 1 declares them, and these hold the contents
+abbrev pub Holds : Database → Contents → Type 0
+Holds = HoldsIn layout
 
 -- texts are UTF-8, and the status is below 2^32
 pub record IsReadableReply (reply : KeptRow) : Type 0 where

@@ -6,3 +6,5 @@ pub mod Reading
 pub mod Replies
 pub mod Listings
 pub mod Checks
+pub mod Frames
+pub mod Forms

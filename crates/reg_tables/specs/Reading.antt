@@ -1,16 +1,41 @@
--- What a call that only reads leaves of a connection, and why it fails.
-use Rattle.std.specs.Prelude.{◌≡◌, ◌⊎◌, IsTrue, IsSome}
+-- What a call that only reads leaves of a connection, and why a read or a write fails.
+use Rattle.std.specs.Prelude.{◌≡◌, ◌⊎◌, IsTrue, IsSome, false}
 use Rattle.sqlite.specs.State.{State, KeepsCommit, store_error}
 use Rattle.sqlite.specs.declared.error.ErrorCode.TheVariants as code
 use Rattle.sqlite.specs.declared.error.Error.{Error}
 use Rattle.sqlite.specs.declared.error.Error.TheVariants.{SqliteFailure}
+use Rattle.sqlite_schema.specs.declared.schema.Constraint.TheVariants.{PrimaryKey}
 use Rattle.sqlite_trees.specs.declared.error.StoreError.{StoreError}
+use Rattle.sqlite.specs.Schema.{Schema}
+use Rattle.sqlite.specs.Effect.{Database}
+use Rattle.reg_tables.specs.Layout.{IsLayout}
+use Rattle.reg_tables.specs.Contents.{Contents, AreReadable, HoldsIn}
 
 -- nothing is committed, and while the connection is open it shows the last commit
 pub record OnlyReads (old new : State) : Type 0 where
   pub kept : KeepsCommit old new
   pub settled : IsTrue new.is_open → new.now ≡ new.committed
 
+-- the five tables are there, with or without the index, and hold what can be read
+pub record HoldsReadable (db : Database) : Type 0 where
+  pub schema : Schema
+  pub is_layout : IsLayout schema
+  pub contents : Contents
+  pub holds : HoldsIn schema db contents
+  pub readable : AreReadable contents
+
+-- while the connection is open, its tables hold what can be read
+abbrev pub CanBeRead : State → Type 0
+CanBeRead s = IsTrue s.is_open → HoldsReadable s.now
+
 -- the store failed or memory ran out, or the connection's limit on steps was met
 abbrev pub IsFault : State → Error → Type 0
 IsFault old e = ((cause : StoreError) × (e ≡ store_error cause)) ⊎ ((e ≡ SqliteFailure code.OperationInterrupted) × IsSome old.step_limit)
+
+-- the same, or a failure had ended the transaction
+abbrev pub IsWriteFault : State → Error → Type 0
+IsWriteFault old e = IsFault old e ⊎ ((e ≡ SqliteFailure code.TransactionState) × (old.in_transaction ≡ false))
+
+-- The same, or no row can be put in at the rowid that SQLite chooses, one above the last row's: it is past the greatest, or else taken, where the rows do not stand in the order of their rowids.
+abbrev pub IsInsertFault : State → Error → Type 0
+IsInsertFault old e = IsWriteFault old e ⊎ ((e ≡ SqliteFailure code.NoRowid) ⊎ (e ≡ SqliteFailure (code.ConstraintViolation PrimaryKey)))

@@ -1,12 +1,13 @@
 //! Whether the tables of a database are declared as layout 1 says.
 
-ghost use Rattle.std.specs.Prelude.{◌≡◌, ◌↔◌, [], ◌∷◌, IsTrue, None, true, false, codes};
+ghost use Rattle.std.specs.Prelude.{◌≡◌, ◌↔◌, ◌<◌, ◌^◌, map, [], ◌∷◌, IsTrue, None, true, false};
 ghost use Rattle.sqlite.specs.declared.types.Value.TheVariants.{Null, Int};
 ghost use Rattle.sqlite.specs.Collation.TheVariants.{Binary};
 ghost use Rattle.sqlite.specs.Kind.TheVariants.{Integer, Text};
 ghost use Rattle.sqlite_schema.specs.declared.code.Op.TheVariants.{Column as ColumnNode, Literal as LiteralNode};
 ghost use Rattle.sqlite.specs.Held.{state};
-ghost use Rattle.reg_tables.specs.Layout.{required, to_texts, automatic_index, versions_of_id, layout, no_schema, texts, versions, levels, kept, meta};
+ghost use Rattle.reg_tables.specs.Layout.{to_texts, versions_of_id, layout, unindexed, no_schema, versions};
+ghost use Rattle.reg_tables.specs.Forms.{column_of, table_of, index_of};
 ghost use Rattle.reg_tables.specs.Checks.{node_at, IsTestAt, IsCheckAt};
 
 use sqlite::{Alter, Connection};
@@ -17,11 +18,109 @@ use sqlite_sql::ops::{BinaryOp, CompareOp};
 use sqlite_value::keys::{Collation, Order};
 use sqlite_value::value::{Bytes, Value};
 
+/// How a column of a STRICT table is declared: its name and its type.
+enum ColumnForm {
+    Nullable(&'static [u8], Kind),
+    /// NOT NULL.
+    Required(&'static [u8], Kind),
+}
+
+/// How a table with one key is declared, but for its checks and its references.
+struct TableForm {
+    name: &'static [u8],
+    /// The number of the tree that has the rows. The next tree is the key's index.
+    tree: u32,
+    /// The name that SQLite gives to the key's index.
+    index: &'static [u8],
+    /// The place of the column that stands for the rowid.
+    key: Option<usize>,
+    primary: &'static [usize],
+    unique: &'static [usize],
+    columns: &'static [ColumnForm],
+}
+
+const TEXTS: TableForm = TableForm {
+    name: b"texts",
+    tree: 0,
+    index: b"sqlite_autoindex_texts_1",
+    key: Some(0),
+    primary: &[0],
+    unique: &[2],
+    columns: &[
+        ColumnForm::Nullable(b"id", Kind::Integer),
+        ColumnForm::Required(b"text", Kind::Text),
+    ],
+};
+
+const VERSIONS: TableForm = TableForm {
+    name: b"versions",
+    tree: 2,
+    index: b"sqlite_autoindex_versions_1",
+    key: None,
+    primary: &[1, 2],
+    unique: &[1, 2],
+    columns: &[
+        ColumnForm::Required(b"subject", Kind::Text),
+        ColumnForm::Required(b"version", Kind::Integer),
+        ColumnForm::Required(b"id", Kind::Integer),
+        ColumnForm::Required(b"deleted", Kind::Integer),
+    ],
+};
+
+const LEVELS: TableForm = TableForm {
+    name: b"levels",
+    tree: 4,
+    index: b"sqlite_autoindex_levels_1",
+    key: None,
+    primary: &[1],
+    unique: &[1],
+    columns: &[
+        ColumnForm::Required(b"subject", Kind::Text),
+        ColumnForm::Required(b"level", Kind::Text),
+    ],
+};
+
+const KEPT: TableForm = TableForm {
+    name: b"kept",
+    tree: 6,
+    index: b"sqlite_autoindex_kept_1",
+    key: None,
+    primary: &[1],
+    unique: &[1],
+    columns: &[
+        ColumnForm::Required(b"key", Kind::Text),
+        ColumnForm::Required(b"command", Kind::Text),
+        ColumnForm::Required(b"status", Kind::Integer),
+        ColumnForm::Required(b"body", Kind::Text),
+    ],
+};
+
+const META: TableForm = TableForm {
+    name: b"meta",
+    tree: 8,
+    index: b"sqlite_autoindex_meta_1",
+    key: None,
+    primary: &[1],
+    unique: &[1],
+    columns: &[
+        ColumnForm::Required(b"name", Kind::Text),
+        ColumnForm::Required(b"value", Kind::Text),
+    ],
+};
+
 /// Whether the tables of the database are those of layout 1, declared as `create` declares them.
 pub fn has_layout<S: Alter>(conn: &Connection<S>) -> bool
     ensures { IsTrue result ↔ ((state S.Store conn.now).now.schema ≡ layout) }
 {
     is_layout(conn.schema())
+}
+
+/// Whether the tables of the database are those of layout 1, and its one index beside SQLite's own
+/// is not there, as `index_versions` asks.
+pub fn is_unindexed<S: Alter>(conn: &Connection<S>) -> bool
+    ensures { IsTrue result ↔ ((state S.Store conn.now).now.schema ≡ unindexed) }
+{
+    lacks_index(conn.schema())
 }
 
 /// Whether the database has no table, index or view, as `create` asks.
@@ -45,154 +144,112 @@ fn is_layout(schema: &Schema) -> bool
     are_tables(&schema.tables) && are_indexes(&schema.indexes) && schema.views.as_slice().is_empty()
 }
 
+fn lacks_index(schema: &Schema) -> bool
+    ensures { IsTrue result ↔ (schema.now ≡ unindexed) }
+{
+    are_tables(&schema.tables)
+        && are_automatic_indexes(&schema.indexes)
+        && schema.views.as_slice().is_empty()
+}
+
 fn are_tables(tables: &Items<Table>) -> bool
     ensures { IsTrue result ↔ (tables.now ≡ layout.tables) }
 {
     match tables.as_slice() {
         [first, second, third, fourth, fifth] => {
-            is_texts(first)
-                && is_versions(second)
-                && is_levels(third)
-                && is_kept(fourth)
-                && is_meta(fifth)
+            are_five_tables(first, second, third, fourth, fifth)
         }
         _ => false,
     }
 }
 
-fn is_texts(table: &Table) -> bool
-    ensures { IsTrue result ↔ (table.now ≡ texts) }
+fn are_five_tables(
+    first: &Table,
+    second: &Table,
+    third: &Table,
+    fourth: &Table,
+    fifth: &Table,
+) -> bool
+    ensures { IsTrue result ↔ (first.now ∷ second.now ∷ third.now ∷ fourth.now ∷ fifth.now ∷ []
+        ≡ layout.tables) }
 {
-    is_keyed(table, b"texts", 0, &[0], &[2])
-        && table.key == Some(0)
-        && are_none(&table.checks)
-        && table.references.as_slice().is_empty()
-        && are_text_columns(&table.columns)
+    is_table(first, &TEXTS)
+        && is_versions(second)
+        && is_table(third, &LEVELS)
+        && is_table(fourth, &KEPT)
+        && is_table(fifth, &META)
+}
+
+fn is_table(table: &Table, form: &TableForm) -> bool
+    ensures { IsTrue result ↔ (table.now ≡ table_of form.now) }
+{
+    has_form(table, form) && are_none(&table.checks) && table.references.as_slice().is_empty()
 }
 
 fn is_versions(table: &Table) -> bool
     ensures { IsTrue result ↔ (table.now ≡ versions) }
 {
-    is_keyed(table, b"versions", 2, &[1, 2], &[1, 2])
-        && table.key.is_none()
+    has_form(table, &VERSIONS)
         && are_version_checks(&table.checks)
         && is_one_reference(&table.references)
-        && are_version_columns(&table.columns)
 }
 
-fn is_levels(table: &Table) -> bool
-    ensures { IsTrue result ↔ (table.now ≡ levels) }
+/// What a table has beside its checks and its references.
+fn has_form(table: &Table, form: &TableForm) -> bool
+    ensures { IsTrue result ↔ (table.now ≡ record (table_of form.now) {
+      checks = table.now.checks;
+      references = table.now.references;
+    }) }
 {
-    is_keyed(table, b"levels", 4, &[1], &[1])
-        && is_bare(table)
-        && are_pair_columns(&table.columns, b"subject", b"level")
+    is_name(&table.name, form.name)
+        && table.tree == form.tree
+        && table.key == form.key
+        && are_places(&table.primary, form.primary)
+        && is_one_key(&table.uniques, form.unique)
+        && is_one_order(&table.orders)
+        && has_no_extras(table)
+        && are_columns(table.columns.as_slice(), form.columns)
 }
 
-fn is_kept(table: &Table) -> bool
-    ensures { IsTrue result ↔ (table.now ≡ kept) }
-{
-    is_keyed(table, b"kept", 6, &[1], &[1]) && is_bare(table) && are_kept_columns(&table.columns)
-}
-
-fn is_meta(table: &Table) -> bool
-    ensures { IsTrue result ↔ (table.now ≡ meta) }
-{
-    is_keyed(table, b"meta", 8, &[1], &[1])
-        && is_bare(table)
-        && are_pair_columns(&table.columns, b"name", b"value")
-}
-
-/// What a table has beside its columns, its rowid's column, its checks and its references.
-fn is_keyed(table: &Table, name: &[u8], tree: u32, primary: &[usize], unique: &[usize]) -> bool
+/// Whether a table has no computed column, no default that reads the time, and no AUTOINCREMENT.
+fn has_no_extras(table: &Table) -> bool
     ensures { IsTrue result ↔ (table.now ≡ record table.now {
-      name = name.now;
-      tree = tree;
-      primary = primary.now;
-      uniques = unique.now ∷ [];
-      orders = (record { digits = 0 }) ∷ [];
       computed = [];
       stamps = record { places = []; terms = []; formats = [] };
       is_counted = false;
     }) }
 {
-    is_name(&table.name, name)
-        && table.tree == tree
-        && are_places(&table.primary, primary)
-        && is_one_key(&table.uniques, unique)
-        && is_one_order(&table.orders)
-        && table.computed.as_slice().is_empty()
-        && has_no_stamps(&table.stamps)
-        && !table.is_counted
+    table.computed.as_slice().is_empty() && has_no_stamps(&table.stamps) && !table.is_counted
 }
 
-fn is_bare(table: &Table) -> bool
-    ensures { IsTrue result ↔ (table.now
-        ≡ record table.now { key = None; checks = []; references = [] }) }
+fn are_columns(columns: &[Column], forms: &[ColumnForm]) -> bool
+    ensures { IsTrue result ↔ (columns.now ≡ map column_of forms.now) }
 {
-    table.key.is_none() && are_none(&table.checks) && table.references.as_slice().is_empty()
-}
-
-fn are_text_columns(columns: &Items<Column>) -> bool
-    ensures { IsTrue result ↔ (columns.now ≡ texts.columns) }
-{
-    match columns.as_slice() {
-        [id, text] => {
-            is_column(id, b"id", Kind::Integer, false) && is_required(text, b"text", Kind::Text)
+    if columns.len() != forms.len() {
+        return false;
+    }
+    for (at, form) in forms.iter().enumerate() {
+        if !is_column(&columns[at], form) {
+            return false;
         }
-        _ => false,
+    }
+    true
+}
+
+fn is_column(column: &Column, form: &ColumnForm) -> bool
+    ensures { IsTrue result ↔ (column.now ≡ column_of form.now) }
+{
+    match form {
+        ColumnForm::Nullable(name, kind) => has_type(column, name, *kind) && !column.not_null,
+        ColumnForm::Required(name, kind) => has_type(column, name, *kind) && column.not_null,
     }
 }
 
-fn are_version_columns(columns: &Items<Column>) -> bool
-    ensures { IsTrue result ↔ (columns.now ≡ versions.columns) }
-{
-    match columns.as_slice() {
-        [subject, version, id, deleted] => {
-            is_required(subject, b"subject", Kind::Text)
-                && is_required(version, b"version", Kind::Integer)
-                && is_required(id, b"id", Kind::Integer)
-                && is_required(deleted, b"deleted", Kind::Integer)
-        }
-        _ => false,
-    }
-}
-
-fn are_pair_columns(columns: &Items<Column>, first: &[u8], second: &[u8]) -> bool
-    ensures { IsTrue result ↔ (columns.now
-        ≡ required first.now Text ∷ required second.now Text ∷ []) }
-{
-    match columns.as_slice() {
-        [one, two] => is_required(one, first, Kind::Text) && is_required(two, second, Kind::Text),
-        _ => false,
-    }
-}
-
-fn are_kept_columns(columns: &Items<Column>) -> bool
-    ensures { IsTrue result ↔ (columns.now ≡ kept.columns) }
-{
-    match columns.as_slice() {
-        [key, command, status, body] => {
-            is_required(key, b"key", Kind::Text)
-                && is_required(command, b"command", Kind::Text)
-                && is_required(status, b"status", Kind::Integer)
-                && is_required(body, b"body", Kind::Text)
-        }
-        _ => false,
-    }
-}
-
-fn is_required(column: &Column, name: &[u8], kind: Kind) -> bool
-    ensures { IsTrue result ↔ (column.now ≡ required name.now kind) }
-{
-    is_column(column, name, kind, true)
-}
-
-fn is_column(column: &Column, name: &[u8], kind: Kind, not_null: bool) -> bool
-    ensures { IsTrue result ↔ (column.now ≡ record {
+fn has_type(column: &Column, name: &[u8], kind: Kind) -> bool
+    ensures { IsTrue result ↔ (column.now ≡ record column.now {
       name = name.now;
       kind = kind;
       is_strict = true;
-      not_null = not_null;
       default = Null;
       collation = Binary;
     }) }
@@ -200,7 +257,6 @@ fn is_column(column: &Column, name: &[u8], kind: Kind, not_null: bool) -> bool
     column.name.as_slice() == name
         && column.kind == kind
         && column.is_strict
-        && column.not_null == not_null
         && matches!(column.default, Value::Null)
         && column.collation == Collation::Binary
 }
@@ -279,50 +335,53 @@ fn are_indexes(indexes: &Items<Index>) -> bool
 {
     match indexes.as_slice() {
         [first, second, third, fourth, fifth, sixth] => {
-            is_texts_index(first)
-                && is_versions_index(second)
-                && is_levels_index(third)
-                && is_kept_index(fourth)
-                && is_meta_index(fifth)
-                && is_versions_of_id(sixth)
+            are_key_indexes(first, second, third, fourth, fifth) && is_versions_of_id(sixth)
         }
         _ => false,
     }
 }
 
-fn is_texts_index(index: &Index) -> bool
-    ensures { IsTrue result ↔ (index.now
-        ≡ automatic_index (codes "sqlite_autoindex_texts_1") 0 (2 ∷ [])) }
+fn are_automatic_indexes(indexes: &Items<Index>) -> bool
+    ensures { IsTrue result ↔ (indexes.now ≡ unindexed.indexes) }
 {
-    is_index(index, b"sqlite_autoindex_texts_1", 1, 0, &[2], true)
+    match indexes.as_slice() {
+        [first, second, third, fourth, fifth] => {
+            are_key_indexes(first, second, third, fourth, fifth)
+        }
+        _ => false,
+    }
 }
 
-fn is_versions_index(index: &Index) -> bool
-    ensures { IsTrue result ↔ (index.now
-        ≡ automatic_index (codes "sqlite_autoindex_versions_1") 2 (1 ∷ 2 ∷ [])) }
+/// Whether these are the indexes that SQLite makes for the keys of the five tables.
+fn are_key_indexes(
+    first: &Index,
+    second: &Index,
+    third: &Index,
+    fourth: &Index,
+    fifth: &Index,
+) -> bool
+    ensures { IsTrue result ↔ (first.now ∷ second.now ∷ third.now ∷ fourth.now ∷ fifth.now ∷ []
+        ≡ unindexed.indexes) }
 {
-    is_index(index, b"sqlite_autoindex_versions_1", 3, 2, &[1, 2], true)
+    is_key_index(first, &TEXTS)
+        && is_key_index(second, &VERSIONS)
+        && is_key_index(third, &LEVELS)
+        && is_key_index(fourth, &KEPT)
+        && is_key_index(fifth, &META)
 }
 
-fn is_levels_index(index: &Index) -> bool
-    ensures { IsTrue result ↔ (index.now
-        ≡ automatic_index (codes "sqlite_autoindex_levels_1") 4 (1 ∷ [])) }
+fn is_key_index(index: &Index, form: &TableForm) -> bool
+    requires { form.now.tree < 2 ^ 31 }
+    ensures { IsTrue result ↔ (index.now ≡ index_of form.now) }
 {
-    is_index(index, b"sqlite_autoindex_levels_1", 5, 4, &[1], true)
-}
-
-fn is_kept_index(index: &Index) -> bool
-    ensures { IsTrue result ↔ (index.now
-        ≡ automatic_index (codes "sqlite_autoindex_kept_1") 6 (1 ∷ [])) }
-{
-    is_index(index, b"sqlite_autoindex_kept_1", 7, 6, &[1], true)
-}
-
-fn is_meta_index(index: &Index) -> bool
-    ensures { IsTrue result ↔ (index.now
-        ≡ automatic_index (codes "sqlite_autoindex_meta_1") 8 (1 ∷ [])) }
-{
-    is_index(index, b"sqlite_autoindex_meta_1", 9, 8, &[1], true)
+    is_index(
+        index,
+        form.index,
+        form.tree + 1,
+        form.tree,
+        form.unique,
+        true,
+    )
 }
 
 fn is_versions_of_id(index: &Index) -> bool

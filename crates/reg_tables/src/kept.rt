@@ -1,12 +1,13 @@
 //! What is kept under retry keys.
 
-ghost use Rattle.std.specs.Prelude.{◌≡◌, None, Some, OnOk, IfOk, IfErr, IsTrue, MatchOption, false};
+ghost use Rattle.std.specs.Prelude.{◌≡◌, None, Some, OnOk, IfOk, IfErr, MatchOption, false};
 ghost use Rattle.std.specs.FinMap.{get};
 ghost use Rattle.sqlite.specs.Held.{state};
-ghost use Rattle.sqlite.specs.State.{HasCleanDisk, Survives, KeepsCommit};
-ghost use Rattle.reg_tables.specs.Contents.{KeptRow, Contents, kept_cells, IsReadableReply, AreReadable, Holds};
+ghost use Rattle.reg_tables.specs.Frames.{state_in, StaysInside, StaysIdle};
+ghost use Rattle.sqlite.specs.State.{HasCleanDisk};
+ghost use Rattle.reg_tables.specs.Contents.{KeptRow, Contents, kept_cells, IsReadableReply, Holds};
 ghost use Rattle.reg_tables.specs.Changes.{with_kept};
-ghost use Rattle.reg_tables.specs.Reading.{IsFault, OnlyReads};
+ghost use Rattle.reg_tables.specs.Reading.{CanBeRead, IsFault, IsInsertFault};
 ghost use Rattle.reg_tables.specs.Replies.{kept_row};
 
 use crate::statement::{ask, run};
@@ -29,15 +30,14 @@ pub fn keep_reply<S: Alter>(
     status: u32,
     body: &str,
 ) -> Result<(), Error>
-    ensures same_reference { tx.new.conn.ghost_name ≡ tx.old.conn.ghost_name }
-    ensures put { HasCleanDisk (state S.Store tx.new.conn.now) → OnOk result ((contents : Contents)
-        → Holds (state S.Store tx.old.conn.now).now contents → get contents.kept key.now ≡ None
-        → Holds (state S.Store tx.new.conn.now).now (with_kept key.now
+    ensures frame { StaysInside S.Store tx.old tx.new result }
+    ensures put { HasCleanDisk (state_in S.Store tx.new) → OnOk result ((contents : Contents)
+        → Holds (state_in S.Store tx.old).now contents → get contents.kept key.now ≡ None
+        → Holds (state_in S.Store tx.new).now (with_kept key.now
         (record { command = command.now; status = status; body = body.now }) contents)) }
-    ensures kept { HasCleanDisk (state S.Store tx.new.conn.now)
-        → KeepsCommit (state S.Store tx.old.conn.now) (state S.Store tx.new.conn.now) }
-    ensures survives { Survives (state S.Store tx.old.conn.now) (state S.Store tx.new.conn.now)
-        (λ _. ⊥) }
+    ensures fault { HasCleanDisk (state_in S.Store tx.new) → IfErr result (λ e.
+        (contents : Contents) → Holds (state_in S.Store tx.old).now contents
+        → get contents.kept key.now ≡ None → IsInsertFault (state_in S.Store tx.old) e) }
 {
     run(
         tx,
@@ -62,19 +62,13 @@ fn reply_in(row: &Row) -> Result<KeptReply, Error>
 /// What is kept under a retry key, if something is.
 pub fn kept_reply<S: Alter>(conn: &mut Connection<S>, key: &str) -> Result<Option<KeptReply>, Error>
     requires idle { conn.old.in_transaction ≡ false }
-    ensures idle { conn.new.in_transaction ≡ false }
+    ensures frame { StaysIdle S.Store conn.old conn.new result }
     ensures found { HasCleanDisk (state S.Store conn.new) → IfOk result (λ found.
         (contents : Contents) → Holds (state S.Store conn.old).now contents
         → MatchOption found (get contents.kept key.now ≡ None)
         (λ reply. get contents.kept key.now ≡ Some (kept_row reply))) }
     ensures fault { HasCleanDisk (state S.Store conn.new) → IfErr result (λ e.
-        (contents : Contents) → Holds (state S.Store conn.old).now contents
-        → AreReadable contents → IsFault (state S.Store conn.old) e) }
-    ensures was_open { HasCleanDisk (state S.Store conn.new)
-        → OnOk result (IsTrue (state S.Store conn.old).is_open) }
-    ensures only_reads { HasCleanDisk (state S.Store conn.new)
-        → OnlyReads (state S.Store conn.old) (state S.Store conn.new) }
-    ensures survives { Survives (state S.Store conn.old) (state S.Store conn.new) (λ _. ⊥) }
+        CanBeRead (state S.Store conn.old) → IsFault (state S.Store conn.old) e) }
 {
     let rows = ask(
         conn,

@@ -1,10 +1,11 @@
 //! How the tables are made.
 
-ghost use Rattle.std.specs.Prelude.{◌≡◌, OnOk};
-ghost use Rattle.sqlite.specs.Held.{state};
-ghost use Rattle.sqlite.specs.State.{HasCleanDisk, Survives, KeepsCommit};
-ghost use Rattle.reg_tables.specs.Layout.{no_schema, begun, layout, IsBare};
-ghost use Rattle.reg_tables.specs.Contents.{Holds};
+ghost use Rattle.std.specs.Prelude.{◌≡◌, OnOk, IfErr};
+ghost use Rattle.reg_tables.specs.Frames.{state_in, StaysInside};
+ghost use Rattle.sqlite.specs.State.{HasCleanDisk};
+ghost use Rattle.reg_tables.specs.Layout.{no_schema, begun, unindexed, IsBare};
+ghost use Rattle.reg_tables.specs.Contents.{Contents, HoldsIn, Holds};
+ghost use Rattle.reg_tables.specs.Reading.{IsWriteFault, IsInsertFault};
 ghost use Rattle.reg_tables.specs.Changes.{no_contents, new_contents};
 
 use crate::meta::put_meta;
@@ -13,14 +14,12 @@ use sqlite::{Alter, Error, Transaction};
 
 /// Makes `texts` and `versions`.
 fn make_schema_tables<S: Alter>(tx: &mut Transaction<'_, S>) -> Result<(), Error>
-    ensures same_reference { tx.new.conn.ghost_name ≡ tx.old.conn.ghost_name }
-    ensures made { HasCleanDisk (state S.Store tx.new.conn.now)
-        → OnOk result ((state S.Store tx.old.conn.now).now.schema ≡ no_schema
-        → IsBare (begun 2) (state S.Store tx.new.conn.now).now) }
-    ensures kept { HasCleanDisk (state S.Store tx.new.conn.now)
-        → KeepsCommit (state S.Store tx.old.conn.now) (state S.Store tx.new.conn.now) }
-    ensures survives { Survives (state S.Store tx.old.conn.now) (state S.Store tx.new.conn.now)
-        (λ _. ⊥) }
+    ensures frame { StaysInside S.Store tx.old tx.new result }
+    ensures made { HasCleanDisk (state_in S.Store tx.new)
+        → OnOk result ((state_in S.Store tx.old).now.schema ≡ no_schema
+        → IsBare (begun 2) (state_in S.Store tx.new).now) }
+    ensures fault { HasCleanDisk (state_in S.Store tx.new) → IfErr result (λ e.
+        (state_in S.Store tx.old).now.schema ≡ no_schema → IsWriteFault (state_in S.Store tx.old) e) }
 {
     run(
         tx,
@@ -36,14 +35,12 @@ fn make_schema_tables<S: Alter>(tx: &mut Transaction<'_, S>) -> Result<(), Error
 
 /// Makes `levels`, `kept` and `meta`.
 fn make_other_tables<S: Alter>(tx: &mut Transaction<'_, S>) -> Result<(), Error>
-    ensures same_reference { tx.new.conn.ghost_name ≡ tx.old.conn.ghost_name }
-    ensures made { HasCleanDisk (state S.Store tx.new.conn.now)
-        → OnOk result (IsBare (begun 2) (state S.Store tx.old.conn.now).now
-        → IsBare (begun 5) (state S.Store tx.new.conn.now).now) }
-    ensures kept { HasCleanDisk (state S.Store tx.new.conn.now)
-        → KeepsCommit (state S.Store tx.old.conn.now) (state S.Store tx.new.conn.now) }
-    ensures survives { Survives (state S.Store tx.old.conn.now) (state S.Store tx.new.conn.now)
-        (λ _. ⊥) }
+    ensures frame { StaysInside S.Store tx.old tx.new result }
+    ensures made { HasCleanDisk (state_in S.Store tx.new)
+        → OnOk result (IsBare (begun 2) (state_in S.Store tx.old).now
+        → HoldsIn unindexed (state_in S.Store tx.new).now no_contents) }
+    ensures fault { HasCleanDisk (state_in S.Store tx.new) → IfErr result (λ e.
+        IsBare (begun 2) (state_in S.Store tx.old).now → IsWriteFault (state_in S.Store tx.old) e) }
 {
     run(
         tx,
@@ -62,33 +59,42 @@ fn make_other_tables<S: Alter>(tx: &mut Transaction<'_, S>) -> Result<(), Error>
     )
 }
 
+/// Makes the index of `versions`, which tables that another program made may lack (`is_unindexed`).
+pub fn index_versions<S: Alter>(tx: &mut Transaction<'_, S>) -> Result<(), Error>
+    ensures frame { StaysInside S.Store tx.old tx.new result }
+    ensures indexed { HasCleanDisk (state_in S.Store tx.new) → OnOk result ((contents : Contents)
+        → HoldsIn unindexed (state_in S.Store tx.old).now contents
+        → Holds (state_in S.Store tx.new).now contents) }
+    ensures fault { HasCleanDisk (state_in S.Store tx.new) → IfErr result (λ e.
+        (contents : Contents) → HoldsIn unindexed (state_in S.Store tx.old).now contents
+        → IsWriteFault (state_in S.Store tx.old) e) }
+{
+    run(tx, "CREATE INDEX versions_of_id ON versions (id)", &[])
+}
+
 /// Makes the tables and the index, with no row.
 fn make_tables<S: Alter>(tx: &mut Transaction<'_, S>) -> Result<(), Error>
-    ensures same_reference { tx.new.conn.ghost_name ≡ tx.old.conn.ghost_name }
-    ensures made { HasCleanDisk (state S.Store tx.new.conn.now)
-        → OnOk result ((state S.Store tx.old.conn.now).now.schema ≡ no_schema
-        → Holds (state S.Store tx.new.conn.now).now no_contents) }
-    ensures kept { HasCleanDisk (state S.Store tx.new.conn.now)
-        → KeepsCommit (state S.Store tx.old.conn.now) (state S.Store tx.new.conn.now) }
-    ensures survives { Survives (state S.Store tx.old.conn.now) (state S.Store tx.new.conn.now)
-        (λ _. ⊥) }
+    ensures frame { StaysInside S.Store tx.old tx.new result }
+    ensures made { HasCleanDisk (state_in S.Store tx.new)
+        → OnOk result ((state_in S.Store tx.old).now.schema ≡ no_schema
+        → Holds (state_in S.Store tx.new).now no_contents) }
+    ensures fault { HasCleanDisk (state_in S.Store tx.new) → IfErr result (λ e.
+        (state_in S.Store tx.old).now.schema ≡ no_schema → IsWriteFault (state_in S.Store tx.old) e) }
 {
     make_schema_tables(tx)?;
     make_other_tables(tx)?;
-    run(tx, "CREATE INDEX versions_of_id ON versions (id)", &[])
+    index_versions(tx)
 }
 
 /// Makes the tables of a new registry in a database that has none (`has_no_tables`), with the global
 /// level BACKWARD. (Schema Registry API reference, Config.)
 pub fn create<S: Alter>(tx: &mut Transaction<'_, S>) -> Result<(), Error>
-    ensures same_reference { tx.new.conn.ghost_name ≡ tx.old.conn.ghost_name }
-    ensures made { HasCleanDisk (state S.Store tx.new.conn.now)
-        → OnOk result ((state S.Store tx.old.conn.now).now.schema ≡ no_schema
-        → Holds (state S.Store tx.new.conn.now).now new_contents) }
-    ensures kept { HasCleanDisk (state S.Store tx.new.conn.now)
-        → KeepsCommit (state S.Store tx.old.conn.now) (state S.Store tx.new.conn.now) }
-    ensures survives { Survives (state S.Store tx.old.conn.now) (state S.Store tx.new.conn.now)
-        (λ _. ⊥) }
+    ensures frame { StaysInside S.Store tx.old tx.new result }
+    ensures made { HasCleanDisk (state_in S.Store tx.new)
+        → OnOk result ((state_in S.Store tx.old).now.schema ≡ no_schema
+        → Holds (state_in S.Store tx.new).now new_contents) }
+    ensures fault { HasCleanDisk (state_in S.Store tx.new) → IfErr result (λ e.
+        (state_in S.Store tx.old).now.schema ≡ no_schema → IsInsertFault (state_in S.Store tx.old) e) }
 {
     make_tables(tx)?;
     put_meta(tx, "format", "avroreg")?;

@@ -1,26 +1,26 @@
 //! The own levels of subjects. (Schema Registry API reference, Config.)
 
-ghost use Rattle.std.specs.Prelude.{◌≡◌, None, Some, OnOk, IfOk, IfErr, IsTrue, MatchOption, false, string_bytes};
+ghost use Rattle.std.specs.Prelude.{◌≡◌, None, Some, OnOk, IfOk, IfErr, MatchOption, false, string_bytes};
 ghost use Rattle.std.specs.FinMap.{get};
 ghost use Rattle.sqlite.specs.Held.{state};
-ghost use Rattle.sqlite.specs.State.{HasCleanDisk, Survives, KeepsCommit};
-ghost use Rattle.reg_tables.specs.Contents.{Contents, AreReadable, Holds};
+ghost use Rattle.reg_tables.specs.Frames.{state_in, StaysInside, StaysIdle};
+ghost use Rattle.sqlite.specs.State.{HasCleanDisk};
+ghost use Rattle.reg_tables.specs.Contents.{Contents, Holds};
 ghost use Rattle.reg_tables.specs.Changes.{Changes, with_level, without_level};
-ghost use Rattle.reg_tables.specs.Reading.{IsFault, OnlyReads};
+ghost use Rattle.reg_tables.specs.Reading.{CanBeRead, IsFault, IsWriteFault, IsInsertFault};
 
 use crate::statement::{ask, run};
 use sqlite::{Alter, Connection, Error, Transaction, params};
 
 /// Gives a level to a subject that has none of its own.
 fn put_level<S: Alter>(tx: &mut Transaction<'_, S>, subject: &str, level: &str) -> Result<(), Error>
-    ensures same_reference { tx.new.conn.ghost_name ≡ tx.old.conn.ghost_name }
-    ensures put { HasCleanDisk (state S.Store tx.new.conn.now) → OnOk result ((contents : Contents)
-        → Holds (state S.Store tx.old.conn.now).now contents → get contents.levels subject.now ≡ None
-        → Holds (state S.Store tx.new.conn.now).now (with_level subject.now level.now contents)) }
-    ensures kept { HasCleanDisk (state S.Store tx.new.conn.now)
-        → KeepsCommit (state S.Store tx.old.conn.now) (state S.Store tx.new.conn.now) }
-    ensures survives { Survives (state S.Store tx.old.conn.now) (state S.Store tx.new.conn.now)
-        (λ _. ⊥) }
+    ensures frame { StaysInside S.Store tx.old tx.new result }
+    ensures put { HasCleanDisk (state_in S.Store tx.new) → OnOk result ((contents : Contents)
+        → Holds (state_in S.Store tx.old).now contents → get contents.levels subject.now ≡ None
+        → Holds (state_in S.Store tx.new).now (with_level subject.now level.now contents)) }
+    ensures fault { HasCleanDisk (state_in S.Store tx.new) → IfErr result (λ e.
+        (contents : Contents) → Holds (state_in S.Store tx.old).now contents
+        → get contents.levels subject.now ≡ None → IsInsertFault (state_in S.Store tx.old) e) }
 {
     run(
         tx,
@@ -31,14 +31,13 @@ fn put_level<S: Alter>(tx: &mut Transaction<'_, S>, subject: &str, level: &str) 
 
 /// Drops the own level of a subject, if it has one.
 pub fn drop_level<S: Alter>(tx: &mut Transaction<'_, S>, subject: &str) -> Result<(), Error>
-    ensures same_reference { tx.new.conn.ghost_name ≡ tx.old.conn.ghost_name }
-    ensures dropped { HasCleanDisk (state S.Store tx.new.conn.now)
-        → OnOk result (Changes (state S.Store tx.old.conn.now) (state S.Store tx.new.conn.now)
+    ensures frame { StaysInside S.Store tx.old tx.new result }
+    ensures dropped { HasCleanDisk (state_in S.Store tx.new)
+        → OnOk result (Changes (state_in S.Store tx.old) (state_in S.Store tx.new)
         (without_level subject.now)) }
-    ensures kept { HasCleanDisk (state S.Store tx.new.conn.now)
-        → KeepsCommit (state S.Store tx.old.conn.now) (state S.Store tx.new.conn.now) }
-    ensures survives { Survives (state S.Store tx.old.conn.now) (state S.Store tx.new.conn.now)
-        (λ _. ⊥) }
+    ensures fault { HasCleanDisk (state_in S.Store tx.new) → IfErr result (λ e.
+        (contents : Contents) → Holds (state_in S.Store tx.old).now contents
+        → IsWriteFault (state_in S.Store tx.old) e) }
 {
     run(
         tx,
@@ -53,14 +52,13 @@ pub fn set_level<S: Alter>(
     subject: &str,
     level: &str,
 ) -> Result<(), Error>
-    ensures same_reference { tx.new.conn.ghost_name ≡ tx.old.conn.ghost_name }
-    ensures set { HasCleanDisk (state S.Store tx.new.conn.now)
-        → OnOk result (Changes (state S.Store tx.old.conn.now) (state S.Store tx.new.conn.now)
+    ensures frame { StaysInside S.Store tx.old tx.new result }
+    ensures set { HasCleanDisk (state_in S.Store tx.new)
+        → OnOk result (Changes (state_in S.Store tx.old) (state_in S.Store tx.new)
         (with_level subject.now level.now)) }
-    ensures kept { HasCleanDisk (state S.Store tx.new.conn.now)
-        → KeepsCommit (state S.Store tx.old.conn.now) (state S.Store tx.new.conn.now) }
-    ensures survives { Survives (state S.Store tx.old.conn.now) (state S.Store tx.new.conn.now)
-        (λ _. ⊥) }
+    ensures fault { HasCleanDisk (state_in S.Store tx.new) → IfErr result (λ e.
+        (contents : Contents) → Holds (state_in S.Store tx.old).now contents
+        → IsInsertFault (state_in S.Store tx.old) e) }
 {
     drop_level(tx, subject)?;
     put_level(tx, subject, level)
@@ -69,19 +67,13 @@ pub fn set_level<S: Alter>(
 /// The own level of a subject, if it has one.
 pub fn own_level<S: Alter>(conn: &mut Connection<S>, subject: &str) -> Result<Option<String>, Error>
     requires idle { conn.old.in_transaction ≡ false }
-    ensures idle { conn.new.in_transaction ≡ false }
+    ensures frame { StaysIdle S.Store conn.old conn.new result }
     ensures found { HasCleanDisk (state S.Store conn.new) → IfOk result (λ found.
         (contents : Contents) → Holds (state S.Store conn.old).now contents
         → MatchOption found (get contents.levels subject.now ≡ None)
         (λ level. get contents.levels subject.now ≡ Some (string_bytes level))) }
     ensures fault { HasCleanDisk (state S.Store conn.new) → IfErr result (λ e.
-        (contents : Contents) → Holds (state S.Store conn.old).now contents
-        → AreReadable contents → IsFault (state S.Store conn.old) e) }
-    ensures was_open { HasCleanDisk (state S.Store conn.new)
-        → OnOk result (IsTrue (state S.Store conn.old).is_open) }
-    ensures only_reads { HasCleanDisk (state S.Store conn.new)
-        → OnlyReads (state S.Store conn.old) (state S.Store conn.new) }
-    ensures survives { Survives (state S.Store conn.old) (state S.Store conn.new) (λ _. ⊥) }
+        CanBeRead (state S.Store conn.old) → IsFault (state S.Store conn.old) e) }
 {
     let rows = ask(
         conn,

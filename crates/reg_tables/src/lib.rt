@@ -18,9 +18,9 @@ mod statement;
 mod texts;
 mod versions;
 
-pub use declared::{has_layout, has_no_tables};
+pub use declared::{has_layout, has_no_tables, is_unindexed};
 pub use kept::{KeptReply, keep_reply, kept_reply};
-pub use layout::create;
+pub use layout::{create, index_versions};
 pub use levels::{drop_level, own_level, set_level};
 pub use lines::{
     KeptLine, LevelLine, MetaLine, TextLine, VersionLine, kept_lines, level_lines, meta_lines,
@@ -28,4 +28,4 @@ pub use lines::{
 };
 pub use meta::{global_level, set_global};
 pub use texts::{put_text, text_of};
-pub use versions::{drop_version, put_version, set_version};
+pub use versions::{drop_version, mark_deleted, put_version};

@@ -1,13 +1,14 @@
 //! All rows of each table, with their rowids, as the test of a database needs them.
 
-ghost use Rattle.std.specs.Prelude.{◌≡◌, ◌<◌, Bool, length, OnOk, IfOk, IfErr, IsTrue, All, false, map};
+ghost use Rattle.std.specs.Prelude.{◌≡◌, ◌⊎◌, ◌<◌, Bool, List, [], length, IfOk, IfErr, All, false, map};
 ghost use Rattle.sqlite.specs.Order.{Row as SqlRow, column};
-ghost use Rattle.sqlite.specs.Held.{state};
-ghost use Rattle.sqlite.specs.State.{HasCleanDisk, Survives};
-ghost use Rattle.reg_tables.specs.Layout.{layout};
-ghost use Rattle.reg_tables.specs.Contents.{Contents, AreReadable, Holds, flag_cell, text_form, version_form, pair_form, kept_form};
+ghost use Rattle.sqlite.specs.Held.{Held, state};
+ghost use Rattle.reg_tables.specs.Frames.{once_begun, StaysIdle};
+ghost use Rattle.sqlite.specs.State.{HasCleanDisk, Shown, FailsToQuery, IsTooLate};
+ghost use Rattle.reg_tables.specs.Layout.{IsLayout};
+ghost use Rattle.reg_tables.specs.Contents.{flag_cell, text_form, version_form, pair_form, kept_form};
 ghost use Rattle.reg_tables.specs.Listings.{Parts, parts_of, entry_parts, text_entry, version_entry, level_entry, kept_entry, meta_entry, ListsTexts, ListsVersions, ListsLevels, ListsKept, ListsMeta, IsReadableText, IsReadableVersion, IsReadablePair, IsReadableKept};
-ghost use Rattle.reg_tables.specs.Reading.{IsFault, OnlyReads};
+ghost use Rattle.reg_tables.specs.Reading.{CanBeRead, IsFault};
 
 use crate::kept::KeptReply;
 use crate::statement::ask;
@@ -182,24 +183,40 @@ fn lines_in<L: Line + Drop>(alloc: Global, rows: &[Row]) -> Result<Vec<L>, Error
     Ok(lines)
 }
 
+/// The lines of the rows that a query with no parameter shows.
+fn lines_shown<S: Alter, L: Line + Drop>(
+    alloc: Global,
+    conn: &mut Connection<S>,
+    sql: &str,
+) -> Result<Vec<L>, Error>
+    requires idle { conn.old.in_transaction ≡ false }
+    ensures frame { StaysIdle S.Store conn.old conn.new result }
+    ensures read { HasCleanDisk (state S.Store conn.new) → IfOk result (λ lines. (last : Held S)
+        × (found : List SqlRow)
+        × Shown sql.now [] (once_begun S.Store conn.old) (state S.Store last) found
+        × (map L.shown found ≡ map L.parts lines.items)) }
+    ensures failed { HasCleanDisk (state S.Store conn.new) → IfErr result (λ e. (last : Held S)
+        × ((FailsToQuery sql.now [] (once_begun S.Store conn.old) (state S.Store last) e
+        ⊎ IsTooLate sql.now [] (once_begun S.Store conn.old) (state S.Store last) e)
+        ⊎ ((found : List SqlRow)
+        × Shown sql.now [] (once_begun S.Store conn.old) (state S.Store last) found
+        × (All L.is_readable found → e ≡ Error.SqliteFailure ErrorCode.OutOfMemory)))) }
+{
+    let rows = ask(conn, sql, &[])?;
+    lines_in(alloc, rows.as_slice())
+}
+
 /// All rows of `texts`, in any order. It fails too where a row holds what the line can't.
 pub fn text_lines<S: Alter>(alloc: Global, conn: &mut Connection<S>) -> Result<Vec<TextLine>, Error>
     requires idle { conn.old.in_transaction ≡ false }
-    ensures idle { conn.new.in_transaction ≡ false }
+    ensures frame { StaysIdle S.Store conn.old conn.new result }
     ensures listed { HasCleanDisk (state S.Store conn.new) → IfOk result (λ lines.
-        (state S.Store conn.old).now.schema ≡ layout
+        IsLayout (state S.Store conn.old).now.schema
         → ListsTexts (state S.Store conn.old).now lines.items) }
     ensures fault { HasCleanDisk (state S.Store conn.new) → IfErr result (λ e.
-        (contents : Contents) → Holds (state S.Store conn.old).now contents
-        → AreReadable contents → IsFault (state S.Store conn.old) e) }
-    ensures was_open { HasCleanDisk (state S.Store conn.new)
-        → OnOk result (IsTrue (state S.Store conn.old).is_open) }
-    ensures only_reads { HasCleanDisk (state S.Store conn.new)
-        → OnlyReads (state S.Store conn.old) (state S.Store conn.new) }
-    ensures survives { Survives (state S.Store conn.old) (state S.Store conn.new) (λ _. ⊥) }
+        CanBeRead (state S.Store conn.old) → IsFault (state S.Store conn.old) e) }
 {
-    let rows = ask(conn, "SELECT rowid, id, text FROM texts", &[])?;
-    lines_in(alloc, rows.as_slice())
+    lines_shown(alloc, conn, "SELECT rowid, id, text FROM texts")
 }
 
 /// All rows of `versions`, in any order. It fails too where a row holds what the line can't.
@@ -208,25 +225,18 @@ pub fn version_lines<S: Alter>(
     conn: &mut Connection<S>,
 ) -> Result<Vec<VersionLine>, Error>
     requires idle { conn.old.in_transaction ≡ false }
-    ensures idle { conn.new.in_transaction ≡ false }
+    ensures frame { StaysIdle S.Store conn.old conn.new result }
     ensures listed { HasCleanDisk (state S.Store conn.new) → IfOk result (λ lines.
-        (state S.Store conn.old).now.schema ≡ layout
+        IsLayout (state S.Store conn.old).now.schema
         → ListsVersions (state S.Store conn.old).now lines.items) }
     ensures fault { HasCleanDisk (state S.Store conn.new) → IfErr result (λ e.
-        (contents : Contents) → Holds (state S.Store conn.old).now contents
-        → AreReadable contents → IsFault (state S.Store conn.old) e) }
-    ensures was_open { HasCleanDisk (state S.Store conn.new)
-        → OnOk result (IsTrue (state S.Store conn.old).is_open) }
-    ensures only_reads { HasCleanDisk (state S.Store conn.new)
-        → OnlyReads (state S.Store conn.old) (state S.Store conn.new) }
-    ensures survives { Survives (state S.Store conn.old) (state S.Store conn.new) (λ _. ⊥) }
+        CanBeRead (state S.Store conn.old) → IsFault (state S.Store conn.old) e) }
 {
-    let rows = ask(
+    lines_shown(
+        alloc,
         conn,
         "SELECT rowid, subject, version, id, deleted FROM versions",
-        &[],
-    )?;
-    lines_in(alloc, rows.as_slice())
+    )
 }
 
 /// All rows of `levels`, in any order. It fails too where a row holds what the line can't.
@@ -235,63 +245,42 @@ pub fn level_lines<S: Alter>(
     conn: &mut Connection<S>,
 ) -> Result<Vec<LevelLine>, Error>
     requires idle { conn.old.in_transaction ≡ false }
-    ensures idle { conn.new.in_transaction ≡ false }
+    ensures frame { StaysIdle S.Store conn.old conn.new result }
     ensures listed { HasCleanDisk (state S.Store conn.new) → IfOk result (λ lines.
-        (state S.Store conn.old).now.schema ≡ layout
+        IsLayout (state S.Store conn.old).now.schema
         → ListsLevels (state S.Store conn.old).now lines.items) }
     ensures fault { HasCleanDisk (state S.Store conn.new) → IfErr result (λ e.
-        (contents : Contents) → Holds (state S.Store conn.old).now contents
-        → AreReadable contents → IsFault (state S.Store conn.old) e) }
-    ensures was_open { HasCleanDisk (state S.Store conn.new)
-        → OnOk result (IsTrue (state S.Store conn.old).is_open) }
-    ensures only_reads { HasCleanDisk (state S.Store conn.new)
-        → OnlyReads (state S.Store conn.old) (state S.Store conn.new) }
-    ensures survives { Survives (state S.Store conn.old) (state S.Store conn.new) (λ _. ⊥) }
+        CanBeRead (state S.Store conn.old) → IsFault (state S.Store conn.old) e) }
 {
-    let rows = ask(conn, "SELECT rowid, subject, level FROM levels", &[])?;
-    lines_in(alloc, rows.as_slice())
+    lines_shown(alloc, conn, "SELECT rowid, subject, level FROM levels")
 }
 
 /// All rows of `kept`, in any order. It fails too where a row holds what the line can't.
 pub fn kept_lines<S: Alter>(alloc: Global, conn: &mut Connection<S>) -> Result<Vec<KeptLine>, Error>
     requires idle { conn.old.in_transaction ≡ false }
-    ensures idle { conn.new.in_transaction ≡ false }
+    ensures frame { StaysIdle S.Store conn.old conn.new result }
     ensures listed { HasCleanDisk (state S.Store conn.new) → IfOk result (λ lines.
-        (state S.Store conn.old).now.schema ≡ layout
+        IsLayout (state S.Store conn.old).now.schema
         → ListsKept (state S.Store conn.old).now lines.items) }
     ensures fault { HasCleanDisk (state S.Store conn.new) → IfErr result (λ e.
-        (contents : Contents) → Holds (state S.Store conn.old).now contents
-        → AreReadable contents → IsFault (state S.Store conn.old) e) }
-    ensures was_open { HasCleanDisk (state S.Store conn.new)
-        → OnOk result (IsTrue (state S.Store conn.old).is_open) }
-    ensures only_reads { HasCleanDisk (state S.Store conn.new)
-        → OnlyReads (state S.Store conn.old) (state S.Store conn.new) }
-    ensures survives { Survives (state S.Store conn.old) (state S.Store conn.new) (λ _. ⊥) }
+        CanBeRead (state S.Store conn.old) → IsFault (state S.Store conn.old) e) }
 {
-    let rows = ask(
+    lines_shown(
+        alloc,
         conn,
         "SELECT rowid, key, command, status, body FROM kept",
-        &[],
-    )?;
-    lines_in(alloc, rows.as_slice())
+    )
 }
 
 /// All rows of `meta`, in any order. It fails too where a row holds what the line can't.
 pub fn meta_lines<S: Alter>(alloc: Global, conn: &mut Connection<S>) -> Result<Vec<MetaLine>, Error>
     requires idle { conn.old.in_transaction ≡ false }
-    ensures idle { conn.new.in_transaction ≡ false }
+    ensures frame { StaysIdle S.Store conn.old conn.new result }
     ensures listed { HasCleanDisk (state S.Store conn.new) → IfOk result (λ lines.
-        (state S.Store conn.old).now.schema ≡ layout
+        IsLayout (state S.Store conn.old).now.schema
         → ListsMeta (state S.Store conn.old).now lines.items) }
     ensures fault { HasCleanDisk (state S.Store conn.new) → IfErr result (λ e.
-        (contents : Contents) → Holds (state S.Store conn.old).now contents
-        → AreReadable contents → IsFault (state S.Store conn.old) e) }
-    ensures was_open { HasCleanDisk (state S.Store conn.new)
-        → OnOk result (IsTrue (state S.Store conn.old).is_open) }
-    ensures only_reads { HasCleanDisk (state S.Store conn.new)
-        → OnlyReads (state S.Store conn.old) (state S.Store conn.new) }
-    ensures survives { Survives (state S.Store conn.old) (state S.Store conn.new) (λ _. ⊥) }
+        CanBeRead (state S.Store conn.old) → IsFault (state S.Store conn.old) e) }
 {
-    let rows = ask(conn, "SELECT rowid, name, value FROM meta", &[])?;
-    lines_in(alloc, rows.as_slice())
+    lines_shown(alloc, conn, "SELECT rowid, name, value FROM meta")
 }

@@ -1,13 +1,13 @@
 //! One statement: a write in a transaction, or a query in a transaction of its own.
 
-ghost use Rattle.std.specs.Prelude.{◌≡◌, ◌⊎◌, ℕ, Ok, IfErr, OnOk, IfOk, IsTrue, true, false};
+ghost use Rattle.std.specs.Prelude.{◌≡◌, ◌⊎◌, ℕ, Ok, Err, IfErr, OnOk, IfOk, false};
 ghost use Rattle.sqlite.specs.Held.{Held, state};
-ghost use Rattle.sqlite.specs.State.{HasCleanDisk, Survives, KeepsCommit, ExecutesInside, Shown, FailsToQuery, IsTooLate};
+ghost use Rattle.reg_tables.specs.Frames.{once_begun, state_in, StaysInside, StaysIdle};
+ghost use Rattle.sqlite.specs.State.{HasCleanDisk, ExecutesInside, Shown, FailsToQuery, IsTooLate};
 ghost use Rattle.sqlite.specs.Values.{bound};
-ghost use Rattle.reg_tables.specs.Reading.{OnlyReads};
 
 use sqlite::types::ValueRef;
-use sqlite::{Alter, Connection, Error, Row, Transaction};
+use sqlite::{Alter, Connection, Error, ErrorCode, Row, Transaction};
 
 /// Runs one statement that shows no rows.
 pub(crate) fn run<S: Alter>(
@@ -15,14 +15,15 @@ pub(crate) fn run<S: Alter>(
     sql: &str,
     values: &[ValueRef<'_>],
 ) -> Result<(), Error>
-    ensures same_reference { tx.new.conn.ghost_name ≡ tx.old.conn.ghost_name }
-    ensures runs { HasCleanDisk (state S.Store tx.new.conn.now) → OnOk result ((count : ℕ)
-        × ExecutesInside 0 sql.now (bound values.now) (state S.Store tx.old.conn.now)
-        (state S.Store tx.new.conn.now) (Ok count)) }
-    ensures kept { HasCleanDisk (state S.Store tx.new.conn.now)
-        → KeepsCommit (state S.Store tx.old.conn.now) (state S.Store tx.new.conn.now) }
-    ensures survives { Survives (state S.Store tx.old.conn.now) (state S.Store tx.new.conn.now)
-        (λ _. ⊥) }
+    ensures frame { StaysInside S.Store tx.old tx.new result }
+    ensures runs { HasCleanDisk (state_in S.Store tx.new) → OnOk result ((count : ℕ)
+        × ExecutesInside 0 sql.now (bound values.now) (state_in S.Store tx.old)
+        (state_in S.Store tx.new) (Ok count)) }
+    ensures failed { HasCleanDisk (state_in S.Store tx.new) → IfErr result (λ e.
+        ExecutesInside 0 sql.now (bound values.now) (state_in S.Store tx.old)
+        (state_in S.Store tx.new) (Err e)
+        ⊎ ((e ≡ Error.SqliteFailure ErrorCode.TransactionState)
+        × ((state_in S.Store tx.old).in_transaction ≡ false))) }
 {
     tx.execute(sql, values)?;
     Ok(())
@@ -35,20 +36,15 @@ pub(crate) fn ask<S: Alter>(
     values: &[ValueRef<'_>],
 ) -> Result<Vec<Row>, Error>
     requires idle { conn.old.in_transaction ≡ false }
-    ensures idle { conn.new.in_transaction ≡ false }
+    ensures frame { StaysIdle S.Store conn.old conn.new result }
     ensures shown { HasCleanDisk (state S.Store conn.new) → IfOk result (λ rows. (last : Held S)
-        × Shown sql.now (bound values.now) (state S.Store (record conn.old { in_transaction = true }))
+        × Shown sql.now (bound values.now) (once_begun S.Store conn.old)
         (state S.Store last) rows.items) }
     ensures failed { HasCleanDisk (state S.Store conn.new) → IfErr result (λ e. (last : Held S)
-        × (FailsToQuery sql.now (bound values.now) (state S.Store (record conn.old { in_transaction = true }))
+        × (FailsToQuery sql.now (bound values.now) (once_begun S.Store conn.old)
         (state S.Store last) e
-        ⊎ IsTooLate sql.now (bound values.now) (state S.Store (record conn.old { in_transaction = true }))
+        ⊎ IsTooLate sql.now (bound values.now) (once_begun S.Store conn.old)
         (state S.Store last) e)) }
-    ensures was_open { HasCleanDisk (state S.Store conn.new)
-        → OnOk result (IsTrue (state S.Store conn.old).is_open) }
-    ensures only_reads { HasCleanDisk (state S.Store conn.new)
-        → OnlyReads (state S.Store conn.old) (state S.Store conn.new) }
-    ensures survives { Survives (state S.Store conn.old) (state S.Store conn.new) (λ _. ⊥) }
 {
     let mut tx = conn.transaction();
     let rows = tx.query_all(sql, values);

@@ -1,11 +1,12 @@
 //! The versions of subjects.
 
-ghost use Rattle.std.specs.Prelude.{◌≡◌, None, OnOk};
+ghost use Rattle.std.specs.Prelude.{◌≡◌, None, IsSome, OnOk, IfErr};
 ghost use Rattle.std.specs.FinMap.{get};
-ghost use Rattle.sqlite.specs.Held.{state};
-ghost use Rattle.sqlite.specs.State.{HasCleanDisk, Survives, KeepsCommit};
+ghost use Rattle.reg_tables.specs.Frames.{state_in, StaysInside};
+ghost use Rattle.sqlite.specs.State.{HasCleanDisk};
 ghost use Rattle.reg_tables.specs.Contents.{Contents, Holds};
-ghost use Rattle.reg_tables.specs.Changes.{Changes, with_version, without_version};
+ghost use Rattle.reg_tables.specs.Changes.{Changes, with_version, without_version, with_deleted};
+ghost use Rattle.reg_tables.specs.Reading.{IsWriteFault, IsInsertFault};
 
 use crate::statement::run;
 use sqlite::{Alter, Error, Transaction, params};
@@ -18,16 +19,16 @@ pub fn put_version<S: Alter>(
     id: u32,
     deleted: bool,
 ) -> Result<(), Error>
-    ensures same_reference { tx.new.conn.ghost_name ≡ tx.old.conn.ghost_name }
-    ensures put { HasCleanDisk (state S.Store tx.new.conn.now) → OnOk result ((contents : Contents)
-        → Holds (state S.Store tx.old.conn.now).now contents
+    ensures frame { StaysInside S.Store tx.old tx.new result }
+    ensures put { HasCleanDisk (state_in S.Store tx.new) → OnOk result ((contents : Contents)
+        → Holds (state_in S.Store tx.old).now contents
         → get contents.versions (subject.now, number) ≡ None
-        → Holds (state S.Store tx.new.conn.now).now
+        → Holds (state_in S.Store tx.new).now
         (with_version (subject.now, number) (record { id = id; deleted = deleted }) contents)) }
-    ensures kept { HasCleanDisk (state S.Store tx.new.conn.now)
-        → KeepsCommit (state S.Store tx.old.conn.now) (state S.Store tx.new.conn.now) }
-    ensures survives { Survives (state S.Store tx.old.conn.now) (state S.Store tx.new.conn.now)
-        (λ _. ⊥) }
+    ensures fault { HasCleanDisk (state_in S.Store tx.new) → IfErr result (λ e.
+        (contents : Contents) → Holds (state_in S.Store tx.old).now contents
+        → get contents.versions (subject.now, number) ≡ None → IsSome (get contents.texts id)
+        → IsInsertFault (state_in S.Store tx.old) e) }
 {
     run(
         tx,
@@ -42,14 +43,13 @@ pub fn drop_version<S: Alter>(
     subject: &str,
     number: u32,
 ) -> Result<(), Error>
-    ensures same_reference { tx.new.conn.ghost_name ≡ tx.old.conn.ghost_name }
-    ensures dropped { HasCleanDisk (state S.Store tx.new.conn.now)
-        → OnOk result (Changes (state S.Store tx.old.conn.now) (state S.Store tx.new.conn.now)
+    ensures frame { StaysInside S.Store tx.old tx.new result }
+    ensures dropped { HasCleanDisk (state_in S.Store tx.new)
+        → OnOk result (Changes (state_in S.Store tx.old) (state_in S.Store tx.new)
         (without_version (subject.now, number))) }
-    ensures kept { HasCleanDisk (state S.Store tx.new.conn.now)
-        → KeepsCommit (state S.Store tx.old.conn.now) (state S.Store tx.new.conn.now) }
-    ensures survives { Survives (state S.Store tx.old.conn.now) (state S.Store tx.new.conn.now)
-        (λ _. ⊥) }
+    ensures fault { HasCleanDisk (state_in S.Store tx.new) → IfErr result (λ e.
+        (contents : Contents) → Holds (state_in S.Store tx.old).now contents
+        → IsWriteFault (state_in S.Store tx.old) e) }
 {
     run(
         tx,
@@ -58,23 +58,20 @@ pub fn drop_version<S: Alter>(
     )
 }
 
-/// Sets a version of a subject, in place of the one that its number may have.
-pub fn set_version<S: Alter>(
+/// Marks the version of a subject that has the number as deleted, if there is one.
+pub fn mark_deleted<S: Alter>(
     tx: &mut Transaction<'_, S>,
     subject: &str,
     number: u32,
-    id: u32,
-    deleted: bool,
 ) -> Result<(), Error>
-    ensures same_reference { tx.new.conn.ghost_name ≡ tx.old.conn.ghost_name }
-    ensures set { HasCleanDisk (state S.Store tx.new.conn.now)
-        → OnOk result (Changes (state S.Store tx.old.conn.now) (state S.Store tx.new.conn.now)
-        (with_version (subject.now, number) (record { id = id; deleted = deleted }))) }
-    ensures kept { HasCleanDisk (state S.Store tx.new.conn.now)
-        → KeepsCommit (state S.Store tx.old.conn.now) (state S.Store tx.new.conn.now) }
-    ensures survives { Survives (state S.Store tx.old.conn.now) (state S.Store tx.new.conn.now)
-        (λ _. ⊥) }
+    ensures frame { StaysInside S.Store tx.old tx.new result }
+    ensures marked { HasCleanDisk (state_in S.Store tx.new)
+        → OnOk result (Changes (state_in S.Store tx.old) (state_in S.Store tx.new)
+        (with_deleted (subject.now, number))) }
 {
-    drop_version(tx, subject, number)?;
-    put_version(tx, subject, number, id, deleted)
+    run(
+        tx,
+        "UPDATE versions SET deleted = 1 WHERE subject = ?1 AND version = ?2",
+        params![subject, number],
+    )
 }

@@ -1,17 +1,38 @@
-use Rattle.std.proofs.Common.{arith}
+use Rattle.std.proofs.Common.{◌≡◌, ◌∙◌, arith}
 use Rattle.sqlite.specs.Held.{state}
 use Rattle.sqlite.specs.State.{HasCleanDisk}
-use Rattle.reg_tables.proofs.Creation.{indexes_bare, holds_nothing}
+use Rattle.reg_tables.specs.Changes.{no_contents}
 use Rattle.reg_tables.proofs.Transactions.{on_ok}
+use Rattle.reg_tables.specs.Layout.{no_schema}
+use Rattle.reg_tables.specs.Reading.{IsWriteFault}
+use Rattle.reg_tables.proofs.WriteFaults.{write_fault_later, erred_with}
+use Rattle.reg_tables.proofs.Transactions.{if_err}
 use Rattle.reg_tables.proofs.layout.make_tables.Goals as goal
 
 pub returns-clause-made : goal.returns-clause-made
 returns-clause-made g c clean =
+    let clean_two : HasCleanDisk (state g.S.Store c.make_other_tables.new.tx.conn.now) = omega (arith, c.index_versions.ensures.frame.keeps.survives.clean) in
+    let clean_one : HasCleanDisk (state g.S.Store c.make_schema_tables.new.tx.conn.now) = omega (arith, c.make_other_tables.ensures.frame.keeps.survives.clean) in
+    on_ok c.index_versions.result (λ indexed none.
+    indexed no_contents (c.in_ok-make_other_tables.ensures.made clean_two (c.in_ok-make_schema_tables.ensures.made clean_one none))) (c.index_versions.ensures.indexed clean)
+
+pub returns-in_err-make_other_tables-clause-fault : goal.returns-in_err-make_other_tables-clause-fault
+returns-in_err-make_other_tables-clause-fault g c clean =
+    let first = state g.S.Store c.args.tx.now.conn.now in
+    let one = state g.S.Store c.make_schema_tables.new.tx.conn.now in
+    let clean_one : HasCleanDisk one = omega (arith, c.make_other_tables.ensures.frame.keeps.survives.clean) in
+    let e = c.in_err-make_other_tables.field-0.0 in
+    erred_with c.from_residual-in_err-make_other_tables.result e (λ e. first.now.schema ≡ no_schema → IsWriteFault first e) c.from_residual-in_err-make_other_tables.ensures.1
+    (λ none. write_fault_later first one c.make_schema_tables.ensures.frame.keeps.survives.limit (c.in_ok-make_schema_tables.ensures.frame.inside clean_one) e
+    (c.in_err-make_other_tables.ensures.fault clean (c.in_ok-make_schema_tables.ensures.made clean_one none)))
+
+pub returns-clause-fault : goal.returns-clause-fault
+returns-clause-fault g c clean =
+    let first = state g.S.Store c.args.tx.now.conn.now in
     let one = state g.S.Store c.make_schema_tables.new.tx.conn.now in
     let two = state g.S.Store c.make_other_tables.new.tx.conn.now in
-    let three = state g.S.Store c.run.new.tx.conn.now in
-    let clean_two : HasCleanDisk two = omega (arith, c.run.ensures.survives.clean) in
-    let clean_one : HasCleanDisk one = omega (arith, c.make_other_tables.ensures.survives.clean) in
-    on_ok c.run.result (λ ran none.
-    let bare = c.in_ok-make_other_tables.ensures.made clean_two (c.in_ok-make_schema_tables.ensures.made clean_one none) in
-    holds_nothing three.now (indexes_bare two three ran.0 bare ran.1.0)) (c.run.ensures.runs clean)
+    let clean_two : HasCleanDisk two = omega (arith, c.index_versions.ensures.frame.keeps.survives.clean) in
+    let clean_one : HasCleanDisk one = omega (arith, c.make_other_tables.ensures.frame.keeps.survives.clean) in
+    if_err c.index_versions.result (λ e failed none.
+    write_fault_later first two (c.make_other_tables.ensures.frame.keeps.survives.limit ∙ c.make_schema_tables.ensures.frame.keeps.survives.limit) (c.in_ok-make_other_tables.ensures.frame.inside clean_two) e
+    (failed no_contents (c.in_ok-make_other_tables.ensures.made clean_two (c.in_ok-make_schema_tables.ensures.made clean_one none)))) (c.index_versions.ensures.fault clean)

@@ -1,6 +1,9 @@
 use Rattle.sqlite.specs.Held.{state}
 use Rattle.reg_tables.proofs.Transactions.{on_ok}
 use Rattle.reg_tables.proofs.TableWrites.{drops_level}
+use Rattle.reg_tables.proofs.Transactions.{if_err}
+use Rattle.reg_tables.proofs.WriteFaults.{as_write_fault}
+use Rattle.reg_tables.proofs.FailedWrites.{drop_level_fails}
 use Rattle.reg_tables.proofs.levels.drop_level.Goals as goal
 
 pub returns-clause-dropped : goal.returns-clause-dropped
@@ -8,3 +11,9 @@ returns-clause-dropped g c clean =
     on_ok c.run.result (λ ran contents holds.
     drops_level (state g.S.Store c.args.tx.now.conn.now) (state g.S.Store c.run.new.tx.conn.now) ran.0 contents holds c.args.subject.now
     (rw (c.params-to_sql.ensures) at ran.1.0)) (c.run.ensures.runs clean)
+
+pub returns-clause-fault : goal.returns-clause-fault
+returns-clause-fault g c clean =
+    let first = state g.S.Store c.args.tx.now.conn.now in
+    if_err c.run.result (λ e failed contents holds. as_write_fault first e (drop_level_fails first (state g.S.Store c.run.new.tx.conn.now) contents holds e c.args.subject.now)
+    (rw (c.params-to_sql.ensures) at failed)) (c.run.ensures.failed clean)

@@ -1,6 +1,9 @@
 use Rattle.sqlite.specs.Held.{state}
 use Rattle.reg_tables.proofs.Transactions.{on_ok}
 use Rattle.reg_tables.proofs.TableWrites.{puts_level}
+use Rattle.reg_tables.proofs.Transactions.{if_err}
+use Rattle.reg_tables.proofs.WriteFaults.{or_insert_fault}
+use Rattle.reg_tables.proofs.FailedWrites.{put_level_fails}
 use Rattle.reg_tables.proofs.levels.put_level.Goals as goal
 
 pub returns-clause-put : goal.returns-clause-put
@@ -8,3 +11,9 @@ returns-clause-put g c clean =
     on_ok c.run.result (λ ran contents holds free.
     puts_level (state g.S.Store c.args.tx.now.conn.now) (state g.S.Store c.run.new.tx.conn.now) ran.0 contents holds c.args.subject.now c.args.level.now free
     (rw (c.params-to_sql.ensures, c.params-to_sql-2.ensures) at ran.1.0)) (c.run.ensures.runs clean)
+
+pub returns-clause-fault : goal.returns-clause-fault
+returns-clause-fault g c clean =
+    let first = state g.S.Store c.args.tx.now.conn.now in
+    if_err c.run.result (λ e failed contents holds free. or_insert_fault first e (put_level_fails first (state g.S.Store c.run.new.tx.conn.now) contents holds e c.args.subject.now c.args.level.now free)
+    (rw (c.params-to_sql.ensures, c.params-to_sql-2.ensures) at failed)) (c.run.ensures.failed clean)

@@ -1,17 +1,35 @@
-use Rattle.std.proofs.Common.{arith, subst}
+use Rattle.std.proofs.Common.{inl, arith, subst}
 use Rattle.sqlite.specs.Held.{state}
 use Rattle.sqlite.specs.State.{HasCleanDisk}
-use Rattle.reg_tables.specs.Contents.{text_cmp, Holds}
+use Rattle.reg_tables.specs.Contents.{text_cmp, Contents, Holds}
+use Rattle.reg_tables.specs.Reading.{IsInsertFault}
 use Rattle.reg_tables.specs.Changes.{without_level}
 use Rattle.reg_tables.proofs.MapLemmas.{get-remove-same, insert-remove}
 use Rattle.reg_tables.proofs.KeyedTables.{text_order}
 use Rattle.reg_tables.proofs.Transactions.{on_ok}
+use Rattle.reg_tables.proofs.Transactions.{if_err}
+use Rattle.reg_tables.proofs.WriteFaults.{erred_with, insert_fault_later}
 use Rattle.reg_tables.proofs.levels.set_level.Goals as goal
 
 pub returns-clause-set : goal.returns-clause-set
 returns-clause-set g c clean =
-    let early : HasCleanDisk (state g.S.Store c.drop_level.new.tx.conn.now) = omega (arith, c.put_level.ensures.survives.clean) in
+    let early : HasCleanDisk (state g.S.Store c.drop_level.new.tx.conn.now) = omega (arith, c.put_level.ensures.frame.keeps.survives.clean) in
     on_ok c.put_level.result (λ put contents holds.
     let subject = c.args.subject.now in
     subst (λ levels. Holds (state g.S.Store c.put_level.new.tx.conn.now).now (record contents { levels = levels })) (insert-remove text_cmp text_order contents.levels subject c.args.level.now)
     (put (without_level subject contents) (c.in_ok-drop_level.ensures.dropped early contents holds) (get-remove-same text_cmp text_order contents.levels subject))) (c.put_level.ensures.put clean)
+
+pub returns-in_err-drop_level-clause-fault : goal.returns-in_err-drop_level-clause-fault
+returns-in_err-drop_level-clause-fault g c clean =
+    let first = state g.S.Store c.args.tx.now.conn.now in
+    erred_with c.from_residual.result c.in_err-drop_level.field-0.0 (λ e. (contents : Contents) → Holds first.now contents → IsInsertFault first e) c.from_residual.ensures.1
+    (λ contents holds. inl (c.in_err-drop_level.ensures.fault clean contents holds))
+
+pub returns-clause-fault : goal.returns-clause-fault
+returns-clause-fault g c clean =
+    let first = state g.S.Store c.args.tx.now.conn.now in
+    let mid = state g.S.Store c.drop_level.new.tx.conn.now in
+    let early : HasCleanDisk mid = omega (arith, c.put_level.ensures.frame.keeps.survives.clean) in
+    let key = c.args.subject.now in
+    if_err c.put_level.result (λ e failed contents holds. insert_fault_later first mid c.drop_level.ensures.frame.keeps.survives.limit (c.in_ok-drop_level.ensures.frame.inside early) e
+    (failed (without_level key contents) (c.in_ok-drop_level.ensures.dropped early contents holds) (get-remove-same text_cmp text_order contents.levels key))) (c.put_level.ensures.fault clean)

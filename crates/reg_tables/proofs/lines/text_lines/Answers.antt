@@ -1,35 +1,16 @@
-use Rattle.std.proofs.Common.{◌∙◌, All, true, refl, sym, ap, subst, map, codes, [], ◌∷◌}
 use Rattle.sqlite.specs.Held.{state}
-use Rattle.sqlite.specs.Term.{col}
-use Rattle.reg_tables.specs.Layout.{texts}
-use Rattle.reg_tables.specs.Contents.{text_form}
-use Rattle.reg_tables.specs.Listings.{IsReadableText, parts_of, text_entry}
-use Rattle.reg_tables.proofs.Statements.{all_texts, all_texts_is}
-use Rattle.reg_tables.proofs.Faults.{takes_all_texts, query_faults, passed_on, fails_by_memory}
-use Rattle.reg_tables.proofs.ReadableRows.{readable_texts}
-use Rattle.reg_tables.proofs.TableLines.{lists_lines}
-use Rattle.reg_tables.proofs.Transactions.{if_ok}
+use Rattle.reg_tables.specs.Listings.{text_entry}
+use Rattle.reg_tables.specs.Frames.{once_begun}
+use Rattle.reg_tables.proofs.TableLines.{shows_texts, lists_lines, lines_fault}
+use Rattle.reg_tables.proofs.Transactions.{if_ok, if_err}
 use Rattle.reg_tables.proofs.lines.text_lines.Goals as goal
 
 pub returns-clause-listed : goal.returns-clause-listed
 returns-clause-listed g c clean =
-    let shown = c.in_ok-rows.ensures.shown clean in
-    if_ok c.lines_in.result (λ lines read declared.
-    lists_lines text_form text_entry texts.tree all_texts (col 1 0 ∷ col 1 0 ∷ col 1 2 ∷ []) (codes "id" ∷ codes "id" ∷ codes "text" ∷ []) (state g.S.Store (record c.args.conn.now { in_transaction = true })) (state g.S.Store shown.0)
-    c.in_ok-rows.rows.items lines.items all_texts_is (λ row. refl) (ap (map (parts_of text_form)) (sym c.as_slice.ensures.value) ∙ read) declared shown.1) c.lines_in.ensures.ok
-
-pub returns-in_err-rows-clause-fault : goal.returns-in_err-rows-clause-fault
-returns-in_err-rows-clause-fault g c clean =
-    let failed = c.in_err-rows.ensures.failed clean in
-    passed_on (state g.S.Store c.args.conn.now) c.from_residual.result c.in_err-rows.field-0.0 c.from_residual.ensures.1
-    (λ contents holds readable.
-    query_faults all_texts texts.tree [] (col 1 0 ∷ col 1 0 ∷ col 1 2 ∷ []) (codes "id" ∷ codes "id" ∷ codes "text" ∷ []) all_texts_is [] takes_all_texts
-    (state g.S.Store (record c.args.conn.now { in_transaction = true })) (state g.S.Store failed.0) holds.declared c.in_err-rows.field-0.0 failed.1)
+    if_ok c.lines_shown.result (λ lines read. lists_lines shows_texts (once_begun g.S.Store c.args.conn.now) (state g.S.Store read.0) text_entry lines.items (read.1, read.2, read.3))
+    (c.lines_shown.ensures.read clean)
 
 pub returns-clause-fault : goal.returns-clause-fault
 returns-clause-fault g c clean =
-    let shown = c.in_ok-rows.ensures.shown clean in
-    fails_by_memory (state g.S.Store c.args.conn.now) c.lines_in.result (All IsReadableText c.as_slice.result.now)
-    (λ contents holds readable.
-    subst (All IsReadableText) (sym c.as_slice.ensures.value)
-    (readable_texts (state g.S.Store (record c.args.conn.now { in_transaction = true })) (state g.S.Store shown.0) c.in_ok-rows.rows.items contents holds readable shown.1)) c.lines_in.ensures.err
+    if_err c.lines_shown.result (λ e why. lines_fault shows_texts (once_begun g.S.Store c.args.conn.now) (state g.S.Store why.0) e why.1)
+    (c.lines_shown.ensures.failed clean)

@@ -21,27 +21,28 @@ returns-clause-failed g c clean =
     let early : HasCleanDisk (state g.S.Store c.query_all-rows.new.self.conn.now) = omega (arith, c.rollback.ensures.survives.clean) in
     if_err c.query_all-rows.result (λ e failed. (c.query_all-rows.new.self.conn.now, rw c.transaction-tx.ensures.begun at failed)) (c.query_all-rows.ensures.err early)
 
-pub returns-clause-was_open : goal.returns-clause-was_open
-returns-clause-was_open g c clean =
+pub returns-clause-frame : goal.returns-clause-frame
+returns-clause-frame g c =
     let end = c.rollback.new.self.0 in
     let same : end ≡ c.conn-1.given.0 = search rules in
-    let late : HasCleanDisk (state g.S.Store end) = search rules in
-    let early : HasCleanDisk (state g.S.Store c.query_all-rows.new.self.conn.now) = omega (arith, c.rollback.ensures.survives.clean) in
-    on_if_ok c.query_all-rows.result
-    (λ rows shown. shown_open _ _ (state g.S.Store (record c.args.conn.now { in_transaction = _ })) (state g.S.Store c.query_all-rows.new.self.conn.now) rows.items (rw c.transaction-tx.ensures.begun at shown)) (c.query_all-rows.ensures.ok early)
-
-pub returns-clause-only_reads : goal.returns-clause-only_reads
-returns-clause-only_reads g c clean =
-    let end = c.rollback.new.self.0 in
-    let same : end ≡ c.conn-1.given.0 = search rules in
-    let late : HasCleanDisk (state g.S.Store end) = search rules in
     let first = state g.S.Store c.args.conn.now in
     let begun = state g.S.Store c.transaction-tx.result.conn.now in
     let mid = state g.S.Store c.query_all-rows.new.self.conn.now in
-    let early : HasCleanDisk mid = omega (arith, c.rollback.ensures.survives.clean) in
-    let asked = asked_keeps _ _ begun mid c.query_all-rows.result (ap (λ (h : Held _). h.in_transaction) c.transaction-tx.ensures.begun) (c.query_all-rows.ensures.ok early) (c.query_all-rows.ensures.err early) in
-    let undone = c.rollback.ensures.undone late in
-    let whole = keeps_then begun mid (state g.S.Store end) asked (keeps_if_undone mid (state g.S.Store end) undone) in
-    let from : KeepsCommit first (state g.S.Store end) = (let it = rw c.transaction-tx.ensures.begun at whole in record { was_open = it.was_open; committed = it.committed }) in
-    let all : OnlyReads first (state g.S.Store end) = record { kept = from; settled = λ h. (undone.undone h).0 ∙ sym (undone.undone h).1 } in
-    subst (λ h. OnlyReads first (state g.S.Store h)) same all
+    let early : HasCleanDisk (state g.S.Store c.conn-1.given.0) → HasCleanDisk mid = λ clean.
+    let late : HasCleanDisk (state g.S.Store end) = search rules in
+    omega (arith, c.rollback.ensures.survives.clean) in
+    record {
+      idle = search rules;
+      was_open = λ clean.
+          on_if_ok c.query_all-rows.result
+          (λ rows shown. shown_open _ _ (state g.S.Store (record c.args.conn.now { in_transaction = _ })) mid rows.items (rw c.transaction-tx.ensures.begun at shown)) (c.query_all-rows.ensures.ok (early clean));
+      only_reads = λ clean.
+          let late : HasCleanDisk (state g.S.Store end) = search rules in
+          let asked = asked_keeps _ _ begun mid c.query_all-rows.result (ap (λ (h : Held _). h.in_transaction) c.transaction-tx.ensures.begun) (c.query_all-rows.ensures.ok (early clean)) (c.query_all-rows.ensures.err (early clean)) in
+          let undone = c.rollback.ensures.undone late in
+          let whole = keeps_then begun mid (state g.S.Store end) asked (keeps_if_undone mid (state g.S.Store end) undone) in
+          let from : KeepsCommit first (state g.S.Store end) = (let it = rw c.transaction-tx.ensures.begun at whole in record { was_open = it.was_open; committed = it.committed }) in
+          let all : OnlyReads first (state g.S.Store end) = record { kept = from; settled = λ h. (undone.undone h).0 ∙ sym (undone.undone h).1 } in
+          subst (λ h. OnlyReads first (state g.S.Store h)) same all;
+      survives = search rules;
+    }

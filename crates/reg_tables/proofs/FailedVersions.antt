@@ -1,0 +1,155 @@
+-- How the statements that write texts and versions fail.
+use Rattle.std.proofs.Common.{arith, ◌≡◌, ◌/◌, not, length, ◌<◌, ◌^◌, inl, inr, ℕ, pos, List, [], ◌∷◌, lit≤, true, false, Bool, ◌&&◌, None, Some, Err, Option, refl, sym, ap, subst, ◌∙◌}
+use Rattle.std.specs.Prelude.{IsSome}
+use Rattle.std.specs.FinMap.{get, int_cmp-IsAntisymmetric}
+use Rattle.std.specs.Ordering.{is_eq, int_cmp, nat_cmp}
+use Rattle.std.proofs.lemmas.Bool.{both_ways, or_cases, or_left, or_right, lt-ltb}
+use Rattle.std.proofs.lemmas.Cmp.{int_cmp_total}
+use Rattle.sqlite.specs.declared.types.Value.{Value}
+use Rattle.sqlite.specs.declared.types.Value.TheVariants.{Null, Int, Text}
+use Rattle.sqlite.specs.Order.{Row, column, value_cmp}
+use Rattle.sqlite.specs.Tree.{rowid}
+use Rattle.sqlite.specs.Edit.{Edit, edit_of, next_rowid}
+use Rattle.sqlite.specs.Rowids.TheVariants.{Chosen}
+use Rattle.sqlite.specs.Rows.{stamped}
+use Rattle.sqlite.specs.Effect.{value_rows}
+use Rattle.sqlite.specs.Collation.TheVariants.{Binary}
+use Rattle.sqlite_sql.specs.declared.ops.BinaryOp.TheVariants.{Compare, Or}
+use Rattle.sqlite_sql.specs.declared.ops.CompareOp.TheVariants.{Eq}
+use Rattle.sqlite.specs.State.{State, ExecutesInside}
+use Rattle.sqlite.specs.Listing.{understood}
+use Rattle.sqlite.specs.declared.error.Error.{Error}
+use Rattle.sqlite_rules.specs.Lists.{Has}
+use Rattle.sqlite_rules.proofs.ListLemmas.{some_has, some_from}
+use Rattle.sqlite_rules.proofs.TableLemmas.{put_all_has, put_all_keeps, without_all_has}
+use Rattle.sqlite_rules.specs.Calls.{ids_of}
+use Rattle.sqlite_schema.specs.Rules.{agree}
+use Rattle.sqlite_sql.specs.Ops.{binary, is_true, is_false, from_truth}
+use Rattle.sqlite_value.proofs.OrderLemmas.{value_cmp-Text, value_cmp-Int}
+use Rattle.sqlite_value.specs.Keys.{plain, first_key}
+use Rattle.sqlite_tied.specs.Compute.{everything}
+use Rattle.reg_tables.specs.Layout.{texts, versions}
+use Rattle.reg_tables.specs.Contents.{text_cmp, version_cmp, version_key_cells, number_cells, flag_cell, VersionRow, Contents, version_form, Holds}
+use Rattle.reg_tables.specs.Reading.{IsFault, IsInsertFault}
+use Rattle.reg_tables.proofs.MapLemmas.{IsKeyOrder, same_key, tied_key}
+use Rattle.reg_tables.proofs.KeyedTables.{text_order, number_order, version_order, by_id_test, by_version_test, cast-Null, cast-Int, cast-flag}
+use Rattle.reg_tables.proofs.Statements.{text_terms, four_terms, put_text, put_text_is, put_version, put_version_is, by_version, drop_version, drop_version_is}
+use Rattle.reg_tables.proofs.TableFaults.{texts_at, versions_at, has_text, refers_if, new_key, delete_fails, insert_fails, as_insert_fault}
+
+-- rows that agree on a text have one text
+text_agrees : (place : ℕ) (row r : Row) (t k : List ℕ) → column row place ≡ Text k → column r place ≡ Text t → agree (record { digits = 0 }) (place ∷ []) r (place ∷ []) row ≡ true → t ≡ k
+unfolding first_key binary
+text_agrees place row r t k its is same = same_key text_cmp text_order t k (sym (truth (is_eq (text_cmp t k))) ∙ (rw (its, is, value_cmp-Text t k) at same))
+  where
+    truth : (b : Bool) → (is_true (from_truth (Some b)) && true) ≡ b
+    truth true = refl
+    truth false = refl
+
+-- rows that agree on a version's key have one key
+version_keys : (first : Value) (rest r : Row) (q k : List ℕ × ℕ) → column r 1 ∷ column r 2 ∷ [] ≡ version_key_cells q
+    → agree (record { digits = 0 }) (1 ∷ 2 ∷ []) r (1 ∷ 2 ∷ []) (first ∷ Text k.0 ∷ Int (pos k.1) ∷ rest) ≡ true → q ≡ k
+unfolding first_key
+version_keys first rest r q k is same = same_key version_cmp version_order q k (sym (by_version_test r k q is) ∙ same)
+
+-- more texts are enough for what fewer were
+more_texts : (old new : List Row) → ((r : Row) → Has old r → Has new r) → (row : Row) → has_text old row ≡ true → has_text new row ≡ true
+more_texts old new kept row had = elim (or_cases _ _ had) [
+  | inl null ↦ or_left _ _ null
+  | inr some ↦ let r = some_has (λ parent. agree plain (0 ∷ []) parent (3 ∷ []) row) old some in or_right _ _ (some_from (λ parent. agree plain (0 ∷ []) parent (3 ∷ []) row) new r.0 (kept r.0 r.1) r.2)
+]
+
+-- the row of an id is the text of a version that names it
+text_of_version : (texts : List Row) (text row : Row) (id : ℕ) → Has texts text → column text 0 ∷ [] ≡ number_cells id → column row 3 ≡ Int (pos id) → has_text texts row ≡ true
+unfolding first_key
+text_of_version texts text row id there is its =
+    let same : agree plain (0 ∷ []) text (3 ∷ []) row ≡ true = rw its (by_id_test text id id is ∙ tied_key nat_cmp number_order id id refl) in
+    or_right _ _ (some_from (λ parent. agree plain (0 ∷ []) parent (3 ∷ []) row) texts text there same)
+
+-- a flag is 0 or 1
+flag_passes : (b : Bool) → (not (is_false (binary Or (binary (Compare Eq Binary) (flag_cell b) (Int (pos 0))) (binary (Compare Eq Binary) (flag_cell b) (Int (pos 1))))) && true) ≡ true
+unfolding binary value_cmp lib.Ieee.is_nan lib.Ieee.lt
+flag_passes true = refl
+flag_passes false = refl
+
+pub value_of : {X : Type 0} (o : Option X) → IsSome o → (x : X) × (o ≡ Some x)
+value_of None h = absurd (cc)
+value_of (Some x) h = (x, refl)
+
+the_one : (rows : List Row) (r row : Row) → rows ≡ row ∷ [] → Has rows r → r ≡ row
+the_one rows r row is there = elim (subst (λ l. Has l r) is there) [ inl same ↦ same | inr none ↦ absurd none ]
+
+numbers_apart : IsKeyOrder int_cmp
+numbers_apart = record { total = int_cmp_total; antisymmetric = int_cmp-IsAntisymmetric }
+
+module _ (old new : State) (contents : Contents) (h : Holds old.now contents) (e : Error) where
+  pub drop_version_fails : (key : List ℕ × ℕ) → ExecutesInside 0 drop_version (Text key.0 ∷ Int (pos key.1) ∷ []) old new (Err e) → IsFault old e
+  unfolding understood everything
+  drop_version_fails key =
+      delete_fails 1 versions versions_at old new h.declared h.sound drop_version (Text key.0 ∷ Int (pos key.1) ∷ []) by_version drop_version_is (lit≤ tt, refl) refl
+      (λ found next applies. refers_if old.now.trees next (λ had row there.
+      subst (λ l. has_text l row ≡ true) (sym (applies.tables.0 (λ e. omega (arith, e)))) (had row (without_all_has (ids_of found) (old.now.trees 2) row (subst (λ l. Has l row) applies.rows there))))) e
+
+  pub put_version_fails : (key : List ℕ × ℕ) (version : VersionRow) → get contents.versions key ≡ None → (text : List ℕ) → get contents.texts version.id ≡ Some text
+      → ExecutesInside 0 put_version (Text key.0 ∷ Int (pos key.1) ∷ Int (pos version.id) ∷ flag_cell version.deleted ∷ []) old new (Err e) → IsInsertFault old e
+  unfolding understood everything
+  put_version_fails key version none text known ran =
+      let params : Row = Text key.0 ∷ Int (pos key.1) ∷ Int (pos version.id) ∷ flag_cell version.deleted ∷ [] in
+      let row : Row = Int (next_rowid (old.now.trees versions.tree)) ∷ params in
+      let its = h.texts.complete version.id text known in
+      let put : Edit = edit_of old.now.trees versions [] Chosen 0 (value_rows (stamped versions params) 5 (length four_terms / 5) four_terms) in
+      let news : put.news ≡ row ∷ [] = rw (cast-Null, cast-Int (pos key.1), cast-Int (pos version.id), cast-flag version.deleted) in
+      as_insert_fault old (old.now.trees versions.tree) row e
+      (insert_fails 1 versions versions_at old new h.declared h.sound four_terms 5 params row put_version refl put_version_is (lit≤ tt, refl) refl news (record {
+        keyed = refl;
+        typed = refl;
+        present = refl;
+        checked = flag_passes version.deleted;
+        free = (
+          (λ on. absurd (cc)),
+          (
+            (λ on. new_key version_form version_cmp contents.versions (old.now.trees versions.tree) h.versions key none (λ r. agree (record { digits = 0 }) (1 ∷ 2 ∷ []) r (1 ∷ 2 ∷ []) row ≡ true)
+                (λ r q is same. version_keys (Int (next_rowid (old.now.trees versions.tree))) (Int (pos version.id) ∷ flag_cell version.deleted ∷ []) r q key is same)),
+            ((λ on. absurd (cc)), ((λ on. absurd (cc)), ((λ on. absurd (cc)), ((λ on. absurd (cc)), tt)))),
+          ),
+        );
+      }) (λ next applies. refers_if old.now.trees next (λ had r there.
+      subst (λ l. has_text l r ≡ true) (sym (applies.tables.0 (λ e. omega (arith, e)))) (elim (put_all_has put.news (old.now.trees 2) r (subst (λ l. Has l r) applies.rows there)) [
+        | inl fresh ↦ text_of_version (old.now.trees 0) its.0 r version.id its.1 its.2.0 (ap (λ (x : Row). column x 3) (the_one put.news r row news fresh))
+        | inr was ↦ had r was
+      ]))) e ran)
+
+  pub put_text_fails : (id : ℕ) (text : List ℕ) → id < 2 ^ 32 → get contents.texts id ≡ None → ((other : ℕ) → get contents.texts other ≡ Some text → ⊥)
+      → ExecutesInside 0 put_text (Int (pos id) ∷ Text text ∷ []) old new (Err e) → IsFault old e
+  unfolding understood everything
+  put_text_fails id text low none unheld ran =
+      let params : Row = Int (pos id) ∷ Text text ∷ [] in
+      let row : Row = Int (pos id) ∷ Null ∷ Text text ∷ [] in
+      let put : Edit = edit_of old.now.trees texts [] Chosen 0 (value_rows (stamped texts params) 3 (length text_terms / 3) text_terms) in
+      let news : put.news ≡ row ∷ [] = rw (cast-Null, cast-Int (pos id)) in
+      elim (insert_fails 0 texts texts_at old new h.declared h.sound text_terms 3 params row put_text refl put_text_is (lit≤ tt, refl) refl news (record {
+        keyed = refl;
+        typed = refl;
+        present = refl;
+        checked = refl;
+        free = (
+          (λ on r was same. let entry = h.texts.sound r was in let its : column r 2 ≡ Text entry.1 = (let v = entry.3.1 in cc) in
+              unheld entry.0 (entry.2 ∙ ap Some (text_agrees 2 row r entry.1 text refl its same))),
+          ((λ on. absurd (cc)), ((λ on. absurd (cc)), ((λ on. absurd (cc)), ((λ on. absurd (cc)), ((λ on. absurd (cc)), tt))))),
+        );
+      }) (λ next applies. refers_if old.now.trees next (λ had r there.
+      more_texts (old.now.trees 0) (next 0) (λ x was. subst (λ l. Has l x) (sym applies.rows) (put_all_keeps put.news (old.now.trees 0) x applies.fresh was)) r
+      (had r (subst (λ l. Has l r) (applies.tables.1.0 (λ e. omega (arith, e))) there)))) e ran) [
+        | inl fault ↦ fault
+        | inr why ↦ absurd (elim why.1 [
+          | inl high ↦ both_ways _ high.1 (lt-ltb id (2 ^ 63) (omega arith))
+          | inr taken ↦
+              let r = some_has (λ x. is_eq (value_cmp (rowid x) (Int (pos id)))) (old.now.trees 0) taken.1 in
+              let entry = h.texts.sound r.0 r.1 in
+              let its : rowid r.0 ≡ Int (pos entry.0) = (let k = entry.3.0 in cc) in
+              let tie : is_eq (int_cmp (pos entry.0) (pos id)) ≡ true = rw (its, value_cmp-Int (pos entry.0) (pos id)) at r.2 in
+              let one : pos entry.0 ≡ pos id = same_key int_cmp numbers_apart (pos entry.0) (pos id) tie in
+              let same : entry.0 ≡ id = cc in
+              let both : ◌≡◌ {A = Option (List ℕ)} None (Some entry.1) = sym none ∙ ap (get contents.texts) (sym same) ∙ entry.2 in
+              cc
+        ])
+      ]

@@ -1,0 +1,315 @@
+-- Why the writes of each table fail.
+use Rattle.std.proofs.Common.{◌≡◌, ◌≢◌, ◌⊎◌, inl, inr, ℕ, drop, ◌/◌, not, cond, Ordering, Option, None, List, [], ◌∷◌, length, slice_get, Bool, true, false, Some, Err, refl, sym, ap, subst, subst₂, ◌||◌, ◌&&◌, ◌∙◌, arith}
+use Rattle.std.specs.Prelude.{nat_lt}
+use Rattle.std.specs.List.{AllByRecursion, list_any, list_all}
+use Rattle.std.proofs.lemmas.Bool.{both_ways, and_from, and_parts}
+use Rattle.std.proofs.lemmas.Cmp.{tied_itself}
+use Rattle.std.specs.FinMap.{FinMap, get}
+use Rattle.sqlite.specs.Order.{Row}
+use Rattle.sqlite.specs.Term.{Term, col}
+use Rattle.sqlite.specs.Tree.{Trees, IsAscending, rowid, with_tree}
+use Rattle.sqlite.specs.View.{is_int}
+use Rattle.sqlite.specs.Table.{Table}
+use Rattle.sqlite.specs.declared.types.Value.{Value}
+use Rattle.sqlite.specs.declared.types.Value.TheVariants.{Null}
+use Rattle.sqlite.specs.Command.TheVariants.{Insert, Delete}
+use Rattle.sqlite.specs.Source.TheVariants.{Values}
+use Rattle.sqlite.specs.Rows.{stamped}
+use Rattle.sqlite.specs.Edit.{Edit, edit_of, edited, left_by, id_in, is_taken, are_fresh, Applies, IsRefused}
+use Rattle.sqlite.specs.Rowids.{Rowids}
+use Rattle.sqlite.specs.Rowids.TheVariants.{Chosen, Given}
+use Rattle.sqlite.specs.Effect.{Database, IsDatabase, value_rows, edit_error}
+use Rattle.sqlite.specs.State.{State, ExecutesInside}
+use Rattle.sqlite.specs.Listing.{understood}
+use Rattle.sqlite.specs.declared.error.Error.{Error}
+use Rattle.sqlite.proofs.Callers.{statement_of}
+use Rattle.sqlite_schema.specs.declared.schema.Keys.TheVariants.{Enforced}
+use Rattle.sqlite_schema.specs.declared.schema.Among.TheVariants.{All}
+use Rattle.sqlite_schema.specs.declared.schema.Constraint.TheVariants.{Datatype, NotNull, Check, PrimaryKey, Unique, ForeignKey}
+use Rattle.sqlite_schema.specs.declared.program.Program.{Program}
+use Rattle.sqlite_schema.specs.Names.{same_name}
+use Rattle.sqlite_schema.specs.Rules.{agree, differ, guards, has_null, are_typed, has_computed, are_present, passes_checks, references_fit, Keeps, Obeys, Refers}
+use Rattle.sqlite_rules.specs.declared.error.Refusal.{Refusal}
+use Rattle.sqlite_rules.specs.declared.error.Refusal.TheVariants.{Violates, Mismatch, NoRowid, BadReference, TooDeep}
+use Rattle.sqlite_rules.specs.Calls.{ids_of}
+use Rattle.sqlite_rules.specs.Lists.{Has}
+use Rattle.sqlite_rules.proofs.ListLemmas.{any_has, all_has, all_from, has_got}
+use Rattle.sqlite_rules.proofs.TableLemmas.{without_all_has, put_all_has}
+use Rattle.sqlite_schema.specs.declared.schema.Index.{Index}
+use Rattle.sqlite_sql.specs.Ops.{binary, is_null, is_true, from_truth, fits_i64}
+use Rattle.sqlite_sql.specs.Program.{ProgramOverflows}
+use Rattle.sqlite_typing.specs.Types.{accepts_program, accepts_terms}
+use Rattle.sqlite_value.proofs.OrderLemmas.{value_cmp_total}
+use Rattle.sqlite_value.specs.Keys.{plain, joined}
+use Rattle.reg_tables.specs.Layout.{layout, texts, versions, levels, kept, meta}
+use Rattle.reg_tables.specs.TableMaps.{Form, ShowsMap}
+use Rattle.reg_tables.specs.Reading.{IsFault, IsInsertFault}
+use Rattle.reg_tables.proofs.Queries.{plain_query}
+use Rattle.reg_tables.proofs.Statements.{IsCommand}
+use Rattle.reg_tables.proofs.UniqueLemmas.{with_tree_there, with_tree_elsewhere, stays_unique}
+use Rattle.reg_tables.proofs.WriteFaults.{IsWhole, delete_refused, insert_refused, refused_by}
+
+-- the tables have trees of their own
+pub layout_apart : IsAscending (λ (a : Table) (b : Table). a.tree ≡ b.tree → ⊥) layout.tables
+layout_apart = (
+  (λ e. omega (arith, e), (λ e. omega (arith, e), (λ e. omega (arith, e), (λ e. omega (arith, e), tt)))),
+  ((λ e. omega (arith, e), (λ e. omega (arith, e), (λ e. omega (arith, e), tt))), ((λ e. omega (arith, e), (λ e. omega (arith, e), tt)), ((λ e. omega (arith, e), tt), (tt, tt)))),
+)
+
+-- a sound database of this layout obeys it
+pub obeys_layout : (db : Database) → db.schema ≡ layout → IsDatabase db → Obeys layout db.trees
+obeys_layout db declared sound = (subst (λ s. IsDatabase (record { schema = s; trees = db.trees })) declared sound).obeys
+
+abbrev KeepsOthers : Table → Trees → Trees → Type 0
+KeepsOthers table old new = AllByRecursion (λ t. t.tree ≢ table.tree → new t.tree ≡ old t.tree) layout.tables
+
+-- its references, and those to it, point to a key
+abbrev pub HasKeys : Table → Type 0
+HasKeys table = (adds removes : Bool) → references_fit layout table adds removes ≡ true
+
+-- a table of the layout
+pub record IsAt (at : ℕ) (table : Table) : Type 0 where
+  pub there : slice_get layout.tables at ≡ Some table
+  pub keys : HasKeys table
+
+pub texts_at : IsAt 0 texts
+unfolding same_name joined
+texts_at = record { there = refl; keys = keys }
+  where
+    keys : HasKeys texts
+    keys true true = refl
+    keys true false = refl
+    keys false true = refl
+    keys false false = refl
+
+pub versions_at : IsAt 1 versions
+unfolding same_name joined
+versions_at = record { there = refl; keys = keys }
+  where
+    keys : HasKeys versions
+    keys true true = refl
+    keys true false = refl
+    keys false true = refl
+    keys false false = refl
+
+pub levels_at : IsAt 2 levels
+unfolding same_name joined
+levels_at = record { there = refl; keys = keys }
+  where
+    keys : HasKeys levels
+    keys true true = refl
+    keys true false = refl
+    keys false true = refl
+    keys false false = refl
+
+pub kept_at : IsAt 3 kept
+unfolding same_name joined
+kept_at = record { there = refl; keys = keys }
+  where
+    keys : HasKeys kept
+    keys true true = refl
+    keys true false = refl
+    keys false true = refl
+    keys false false = refl
+
+pub meta_at : IsAt 4 meta
+unfolding same_name joined
+meta_at = record { there = refl; keys = keys }
+  where
+    keys : HasKeys meta
+    keys true true = refl
+    keys true false = refl
+    keys false true = refl
+    keys false false = refl
+
+-- ---- foreign keys
+
+-- the version has a text
+abbrev pub has_text : List Row → Row → Bool
+has_text parents row = has_null (3 ∷ []) row || list_any (λ parent. agree plain (0 ∷ []) parent (3 ∷ []) row) parents
+
+abbrev VersionsRefer : List Row → List Row → Type 0
+VersionsRefer parents rows = AllByRecursion (λ row. (has_text parents row && true) ≡ true) rows
+
+-- each version had a text, so it is enough that each has one still
+pub refers_if : (old new : Trees) → (((row : Row) → Has (old 2) row → has_text (old 0) row ≡ true) → (row : Row) → Has (new 2) row → has_text (new 0) row ≡ true) → Refers All layout old → Refers All layout new
+unfolding same_name joined
+refers_if old new still h =
+    let had : VersionsRefer (old 0) (old 2) = h.1.0 in
+    let has : VersionsRefer (new 0) (new 2) =
+    all_from (λ row. (has_text (new 0) row && true) ≡ true) (new 2) (λ row there. and_from _ _ (still (λ r was. (and_parts _ _ (all_has (λ row. (has_text (old 0) row && true) ≡ true) (old 2) r had was)).0) row there) refl) in
+    (each (new 0), (has, (each (new 4), (each (new 6), (each (new 8), tt)))))
+  where
+    each : (rows : List Row) → AllByRecursion (λ (row : Row). true ≡ true) rows
+    each [] = tt
+    each (row ∷ rows) = (refl, each rows)
+
+-- a write to another table than `texts` and `versions` breaks none
+pub beside_refers : (table : Table) → texts.tree ≢ table.tree → versions.tree ≢ table.tree → (old new : Trees) → KeepsOthers table old new → Refers All layout old → Refers All layout new
+beside_refers table not_texts not_versions old new same =
+    let texts_same : new 0 ≡ old 0 = same.0 not_texts in
+    let versions_same : new 2 ≡ old 2 = same.1.0 not_versions in
+    refers_if old new (λ had row there. subst (λ l. has_text l row ≡ true) (sym texts_same) (had row (subst (λ l. Has l row) versions_same there)))
+
+-- ---- rows that are taken out
+
+module _ (old : State) (table : Table) (listed : Has layout.tables table) (keys : HasKeys table) (obeys : Obeys layout old.now.trees) (found : List Row) where
+  abbrev db : Trees
+  db = old.now.trees
+
+  abbrev left : List Row
+  left = left_by db (edit_of db table (ids_of found) Given 0 [])
+
+  -- fewer rows share no key
+  fewer : Keeps Unique layout (with_tree db table.tree left)
+  fewer = stays_unique layout db (with_tree db table.tree left) table [] layout_apart listed (λ t known other. with_tree_elsewhere db table.tree left t.tree other)
+      (λ r there. inr (without_all_has (ids_of found) (db table.tree) r (subst (λ l. Has l r) (with_tree_there db table.tree left) there))) (λ i known on r fresh there none. absurd none) (obeys.rules Unique)
+
+  -- rows may be taken out
+  delete_allowed : (why : Refusal) → IsRefused layout Enforced db (edit_of db table (ids_of found) Given 0 []) why → ⊥
+  delete_allowed (Violates Datatype) h = cc
+  delete_allowed (Violates NotNull) h = cc
+  delete_allowed (Violates Check) h = cc
+  delete_allowed (Violates PrimaryKey) h = cc
+  delete_allowed (Violates Unique) h = h fewer
+  delete_allowed (Violates ForeignKey) h = h
+  delete_allowed Mismatch h = cc
+  delete_allowed NoRowid h = cc
+  delete_allowed BadReference h = both_ways _ h (keys false (nat_lt 0 (length (ids_of found))))
+  delete_allowed TooDeep h = h
+
+-- ---- a row that shares no key
+
+-- no row has the key of this row that the index guards
+abbrev pub IsFree : Table → List Row → Row → Index → Type 0
+IsFree table rows row i = guards i table ≡ true → (r : Row) → Has rows r → agree i.order i.columns r i.columns row ≡ true → ⊥
+
+-- the row is of the table's types, passes its checks and shares no key
+pub record IsFitting (table : Table) (rows : List Row) (row : Row) : Type 0 where
+  pub keyed : is_int (rowid row) ≡ true
+  pub typed : (are_typed table.key 0 table.columns (drop 1 row) && has_computed table row) ≡ true
+  pub present : are_present table.key 0 table.columns row ≡ true
+  pub checked : passes_checks table row ≡ true
+  pub free : AllByRecursion (IsFree table rows row) layout.indexes
+
+-- a row whose key under the index is its entry's, which is new
+pub new_key : {K V : Type 0} (form : Form K V) (R : K → K → Ordering) (m : FinMap R V) (rows : List Row) → ShowsMap form rows (get m) → (k : K) → get m k ≡ None → (Shares : Row → Type 0)
+    → ((r : Row) (q : K) → form.key_of r ≡ form.key_cells q → Shares r → q ≡ k) → (r : Row) → Has rows r → Shares r → ⊥
+new_key {V = V} form R m rows shows k free Shares same_key r was shares =
+    let entry = shows.sound r was in
+    let same : entry.0 ≡ k = same_key r entry.0 entry.3.0 shares in
+    let both : ◌≡◌ {A = Option V} None (Some entry.1) = sym free ∙ ap (get m) (sym same) ∙ entry.2 in
+    cc
+
+differ_itself : (v : Value) → differ v v ≡ false
+unfolding binary
+differ_itself v = rw (tied_itself value_cmp_total v) (go (is_null v || is_null v))
+  where
+    go : (b : Bool) → is_true (cond b Null (from_truth (Some false))) ≡ false
+    go true = refl
+    go false = refl
+
+-- the rowid is not storable, or it is taken
+abbrev pub IsRowidTrouble : List Row → Row → Refusal → Type 0
+IsRowidTrouble rows row why = ((why ≡ NoRowid) × (fits_i64 (id_in (rowid row)) ≡ false)) ⊎ ((why ≡ Violates PrimaryKey) × (is_taken rows row ≡ true))
+
+module _ (trees : Trees) (table : Table) (listed : Has layout.tables table) (keys : HasKeys table) (obeys : Obeys layout trees) (rowids : Rowids) (sources : List Row) (row : Row)
+    (news : (edit_of trees table [] rowids 0 sources).news ≡ row ∷ []) (fitting : IsFitting table (trees table.tree) row) where
+  abbrev edit : Edit
+  edit = edit_of trees table [] rowids 0 sources
+
+  abbrev after : Trees
+  after = with_tree trees table.tree (edited trees edit)
+
+  came : (r : Row) → Has (after table.tree) r → Has edit.news r ⊎ Has (trees table.tree) r
+  came r there = put_all_has edit.news (trees table.tree) r (subst (λ l. Has l r) (with_tree_there trees table.tree (edited trees edit)) there)
+
+  is_row : (r : Row) → Has edit.news r → r ≡ row
+  is_row r there = elim (subst (λ l. Has l r) news there) [ inl same ↦ same | inr none ↦ absurd none ]
+
+  clear : (i : Index) → Has layout.indexes i → guards i table ≡ true → (r fresh : Row) → Has (after table.tree) r → Has edit.news fresh
+      → agree i.order i.columns r i.columns fresh ≡ true → differ (rowid r) (rowid fresh) ≡ true → ⊥
+  clear i known on r fresh there isnew agrees differs =
+      let its = is_row fresh isnew in
+      elim (came r there) [
+        | inl also ↦ both_ways _ (differ_itself (rowid row)) (subst₂ (λ a b. differ (rowid a) (rowid b) ≡ true) (is_row r also) its differs)
+        | inr was ↦
+            let free : IsFree table (trees table.tree) row i = all_has (IsFree table (trees table.tree) row) layout.indexes i fitting.free known in
+            free on r was (subst (λ b. agree i.order i.columns r i.columns b ≡ true) its agrees)
+      ]
+
+  one_more : Keeps Unique layout after
+  one_more = stays_unique layout trees after table edit.news layout_apart listed (λ t known other. with_tree_elsewhere trees table.tree (edited trees edit) t.tree other) came clear (obeys.rules Unique)
+
+  passing : (p : Row → Bool) → p row ≡ true → list_all p edit.news ≡ false → ⊥
+  passing p is fails = both_ways _ (subst (λ l. list_all p l ≡ false) news fails) (and_from _ _ is refl)
+
+  -- a row may be put in where its rowid may
+  pub insert_allowed : (why : Refusal) → IsRefused layout Enforced trees edit why → IsRowidTrouble (trees table.tree) row why
+  insert_allowed (Violates Datatype) h = absurd (passing _ fitting.typed h)
+  insert_allowed (Violates NotNull) h = absurd (passing _ fitting.present h)
+  insert_allowed (Violates Check) h = absurd (passing _ fitting.checked h)
+  insert_allowed (Violates PrimaryKey) h = inr (refl, go (is_taken (trees table.tree) row) (subst (λ l. are_fresh (trees table.tree) l ≡ false) news h))
+    where
+      go : (b : Bool) → (not b && true) ≡ false → b ≡ true
+      go true h = refl
+      go false h = absurd (cc)
+  insert_allowed (Violates Unique) h = absurd (h one_more)
+  insert_allowed (Violates ForeignKey) h = absurd h
+  insert_allowed Mismatch h = absurd (passing _ fitting.keyed h)
+  insert_allowed NoRowid h = inl (refl, go (fits_i64 (id_in (rowid row))) (subst (λ l. list_all (λ r. fits_i64 (id_in (rowid r))) l ≡ false) news h))
+    where
+      go : (b : Bool) → (b && true) ≡ false → b ≡ false
+      go true h = absurd (cc)
+      go false h = refl
+  insert_allowed BadReference h = absurd (both_ways _ h (keys (nat_lt 0 (length edit.news)) false))
+  insert_allowed TooDeep h = absurd h
+
+-- no row overflows a plain query
+plain_fits : (trees : Trees) (params : Row) (tree : ℕ) (tests shown : List Term) → ProgramOverflows trees params [] [] (plain_query tree tests shown) → ⊥
+plain_fits trees params tree tests shown (inl none) = none
+plain_fits trees params tree tests shown (inr some) = (any_has _ _ some).2
+
+module _ (at : ℕ) (table : Table) (its : IsAt at table) (old new : State) (declared : old.now.schema ≡ layout) (sound : IsDatabase old.now) where
+  obeys : Obeys layout old.now.trees
+  obeys = obeys_layout old.now declared sound
+
+  listed : Has layout.tables table
+  listed = has_got layout.tables at table its.there
+
+  -- a DELETE of rows to which no other refers
+  pub delete_fails : (sql : List ℕ) (params : Row) (tests : List Term) → IsCommand layout sql (Delete at (record { lets = []; body = plain_query table.tree tests (col 1 0 ∷ []) }))
+      → IsWhole sql (length params) (understood layout sql) → accepts_program layout [] (plain_query table.tree tests (col 1 0 ∷ [])) params ≡ true
+      → ((found : List Row) (next : Trees) → Applies layout Enforced old.now.trees (edit_of old.now.trees table (ids_of found) Given 0 []) next → Refers All layout old.now.trees → Refers All layout next)
+      → (e : Error) → ExecutesInside 0 sql params old new (Err e) → IsFault old e
+  delete_fails sql params tests it whole typed refers e h =
+      let q : Program = record { lets = []; body = plain_query table.tree tests (col 1 0 ∷ []) } in
+      elim (refused_by sql params old new layout declared (Delete at q) it whole (record { silent = refl; stays = refl }) e h) [
+        | inl fault ↦ fault
+        | inr does ↦ delete_refused at table its.there old (statement_of sql (understood layout sql)) params e q typed (plain_fits old.now.trees params table.tree tests (col 1 0 ∷ []))
+            (λ found why. delete_allowed old table listed its.keys obeys found why) (λ found next applies. refers found next applies (obeys.rules ForeignKey)) does
+      ]
+
+  -- an INSERT of a row that shares no key
+  module _ (terms : List Term) (width : ℕ) (params row : Row) where
+    abbrev sources : List Row
+    sources = value_rows (stamped table params) width (length terms / width) terms
+
+    abbrev put : Edit
+    put = edit_of old.now.trees table [] Chosen 0 sources
+
+    pub insert_fails : (sql : List ℕ) → table.is_counted ≡ false → IsCommand layout sql (Insert at (Values terms width)) → IsWhole sql (length params) (understood layout sql) → accepts_terms terms (stamped table params) ≡ true
+        → put.news ≡ row ∷ [] → IsFitting table (old.now.trees table.tree) row → ((next : Trees) → Applies layout Enforced old.now.trees put next → Refers All layout old.now.trees → Refers All layout next)
+        → (e : Error) → ExecutesInside 0 sql params old new (Err e) → IsFault old e ⊎ ((why : Refusal) × IsRowidTrouble (old.now.trees table.tree) row why × (e ≡ edit_error why))
+    insert_fails sql uncounted it whole typed news fitting refers e h =
+        elim (refused_by sql params old new layout declared (Insert at (Values terms width)) it whole (record { silent = refl; stays = refl }) e h) [
+          | inl fault ↦ inl fault
+          | inr does ↦ elim (insert_refused at table its.there old (statement_of sql (understood layout sql)) params e terms width uncounted typed (λ next applies. refers next applies (obeys.rules ForeignKey)) does) [
+            | inl fault ↦ inl fault
+            | inr r ↦ inr (r.0, insert_allowed old.now.trees table listed its.keys obeys Chosen sources row news fitting r.0 r.1, r.2)
+          ]
+        ]
+
+pub as_insert_fault : (old : State) (rows : List Row) (row : Row) (e : Error) → IsFault old e ⊎ ((why : Refusal) × IsRowidTrouble rows row why × (e ≡ edit_error why)) → IsInsertFault old e
+as_insert_fault old rows row e (inl fault) = inl (inl fault)
+as_insert_fault old rows row e (inr r) = elim r.1 [ inl high ↦ inr (inl (r.2 ∙ ap edit_error high.0)) | inr taken ↦ inr (inr (r.2 ∙ ap edit_error taken.0)) ]

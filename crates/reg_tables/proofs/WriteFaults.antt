@@ -1,0 +1,312 @@
+-- How a write fails where its text is a known command.
+use Rattle.std.proofs.Common.{◌≡◌, ◌⊎◌, inl, inr, ℕ, zero, suc, ◌/◌, length, length-append, append-nil, ◌≤◌, ◌||◌, List, [], ◌∷◌, slice_get, Bool, true, false, Some, None, Ok, Err, Option, option_map, Result, refl, sym, ap, subst, subst₂, ◌∙◌, arith}
+use Rattle.std.specs.Prelude.{if◌then◌else◌, MatchBool, IsSome, is_some, IfErr, IsErrAnd, IsTrue}
+use Rattle.std.proofs.lemmas.Bool.{both_ways, MatchBool-at_false}
+use Rattle.sqlite.specs.Order.{Row}
+use Rattle.sqlite.specs.Term.{Term}
+use Rattle.sqlite.specs.Tree.{Trees}
+use Rattle.sqlite.specs.Table.{Table}
+use Rattle.sqlite.specs.Schema.{Schema}
+use Rattle.sqlite.specs.Source.TheVariants.{Values}
+use Rattle.sqlite.specs.Command.{Command}
+use Rattle.sqlite.specs.Command.TheVariants.{Insert, Delete, Begin, Commit, Rollback, Savepoint, Release, RollbackTo}
+use Rattle.sqlite.specs.Edit.{Edit, edit_of, taken_by, Applies, IsRefused}
+use Rattle.sqlite.specs.Rowids.{Rowids}
+use Rattle.sqlite.specs.Rowids.TheVariants.{Chosen, Above, Given}
+use Rattle.sqlite.specs.Does.{Does, Concludes}
+use Rattle.sqlite.specs.Rows.{Written, Task, Then, Edited, Queried, Sourced, Deletes, Inserts, stamped, rowids_for, count_of}
+use Rattle.sqlite.specs.Effect.{is_query, value_rows, edit_error}
+use Rattle.sqlite.specs.State.{State, mode_of, is_pragma, shows_rows, text_of, RunsCommand, ExecutesIn, ExecutesInside, IsNotRun, EndsScope, IsMisplaced, IsNoStatement, Escapes}
+use Rattle.sqlite.specs.Clock.{timed}
+use Rattle.sqlite.specs.Listing.{understood}
+use Rattle.sqlite.specs.declared.error.ErrorCode.TheVariants as code
+use Rattle.sqlite.specs.declared.error.Error.{Error}
+use Rattle.sqlite.specs.declared.error.Error.TheVariants.{SqliteFailure}
+use Rattle.sqlite.proofs.Callers.{IsPlain, command_of, statement_of, one_step}
+use Rattle.sqlite_schema.specs.declared.schema.Keys.TheVariants.{Enforced}
+use Rattle.sqlite_schema.specs.declared.schema.Among.TheVariants.{All}
+use Rattle.sqlite_schema.specs.declared.program.Program.{Program}
+use Rattle.sqlite_schema.specs.Program.{lets_of}
+use Rattle.sqlite_schema.specs.Rules.{Refers}
+use Rattle.sqlite_resolve.specs.declared.compiled.Compiled.{Compiled}
+use Rattle.sqlite_resolve.specs.declared.error.CompileError.{CompileError}
+use Rattle.sqlite_rules.specs.declared.error.Refusal.{Refusal}
+use Rattle.sqlite_rules.specs.Action.{works, Leads, Settles}
+use Rattle.sqlite_rules.specs.Action as action
+use Rattle.sqlite_rules.specs.Calls.{ids_of}
+use Rattle.sqlite_sql.specs.Program.{ProgramOverflows}
+use Rattle.sqlite_typing.specs.Types.{accepts_program, accepts_terms}
+use Rattle.reg_tables.specs.Layout.{layout}
+use Rattle.reg_tables.specs.Reading.{IsFault, IsWriteFault, IsInsertFault}
+use Rattle.reg_tables.proofs.Statements.{IsCommand}
+use Rattle.reg_tables.proofs.KeyedTables.{idle}
+
+-- the text is one statement, with so many parameters
+abbrev pub IsWhole : List ℕ → ℕ → Result Compiled CompileError → Type 0
+IsWhole sql count (Ok c) = (length sql ≤ c.tail) × (length c.names ≡ count)
+IsWhole sql count (Err e) = ⊥
+
+-- it begins, ends or marks a transaction
+abbrev pub is_control : Command → Bool
+is_control Begin = true
+is_control Commit = true
+is_control Rollback = true
+is_control (Savepoint name) = true
+is_control (Release name) = true
+is_control (RollbackTo name) = true
+is_control _ = false
+
+-- the command shows no rows, and neither begins nor ends a transaction
+pub record IsWriting (command : Command) : Type 0 where
+  pub silent : (is_query command || (is_pragma command || false)) ≡ false
+  pub stays : is_control command ≡ false
+
+module _ (sql : List ℕ) (params : Row) (old new : State) (schema : Schema) (has : old.now.schema ≡ schema) (command : Command) (it : IsCommand schema sql command)
+    (whole : IsWhole sql (length params) (understood schema sql)) (writes : IsWriting command) where
+  controls : (k : Command) → command ≡ k → is_control k ≡ true → ⊥
+  controls k is on = both_ways _ writes.stays (ap is_control is ∙ on)
+
+  misplaced : (k : Command) → command ≡ k → (e : Error) → IsMisplaced old k e → ⊥
+  misplaced k same e (inl h) = elim h.1 [
+    | inl begin ↦ controls _ (same ∙ begin.0) refl
+    | inr end ↦ elim end.0 [ inl commit ↦ controls _ (same ∙ commit) refl | inr rollback ↦ controls _ (same ∙ rollback) refl ]
+  ]
+  misplaced k same e (inr h) = elim h.2 [ inl release ↦ controls _ (same ∙ release) refl | inr back ↦ controls _ (same ∙ back) refl ]
+
+  escapes : (k : Command) → command ≡ k → Escapes 0 old k → ⊥
+  escapes k same (inl end) = elim end [ inl commit ↦ controls _ (same ∙ commit) refl | inr rollback ↦ controls _ (same ∙ rollback) refl ]
+  escapes k same (inr h) = elim h.1 [ inl release ↦ controls _ (same ∙ release) refl | inr back ↦ controls _ (same ∙ back) refl ]
+
+  known_as : (c : Compiled) → understood old.now.schema sql ≡ Ok c → understood schema sql ≡ Ok c
+  known_as c is = sym (ap (λ s. understood s sql) has) ∙ is
+
+  command_is : (c : Compiled) → understood old.now.schema sql ≡ Ok c → command ≡ c.command
+  command_is c is = sym it.is ∙ ap command_of (known_as c is)
+
+  -- what the database refuses
+  abbrev RefusedAs : Error → Type 0
+  RefusedAs e = Does old.step_limit (mode_of old) params (record old.now { schema = schema }) (statement_of sql (understood schema sql)) None command (Err (Some e))
+
+  no_statement : (e : Error) → IsNoStatement old sql params e → ⊥
+  no_statement e (inl fault) = subst IsPlain (sym (ap (λ s. understood s sql) has) ∙ fault.1) it.plain
+  no_statement e (inr wrong) =
+      let known = known_as wrong.0 wrong.1 in
+      let fits = subst (IsWhole sql (length params)) known whole in
+      let bare = subst IsPlain known it.plain in
+      elim wrong.2 [ inl tail ↦ tail.0 fits.0 | inr rest ↦ elim rest [ inl given ↦ given.0 (sym fits.1) | inr clock ↦ clock.0 bare.1 ] ]
+
+  ran : (e : Error) (c : Compiled) (is : understood old.now.schema sql ≡ Ok c) (values : Row) → values ≡ params → RunsCommand old new sql c values (Err e) → IsFault old e ⊎ RefusedAs e
+  ran e c is values same (inr store) = inl (inl (store.0, store.1))
+  ran e c is values same (inl (inl wrong, after)) = absurd (misplaced c.command (command_is c is) e wrong)
+  ran e c is values same (inl (inr does, after)) =
+      let known = known_as c is in
+      let bare = subst IsPlain known it.plain in
+      let first : Does old.step_limit (mode_of old) params old.now (text_of sql c) c.returning c.command (Err (Some e)) =
+      subst (λ p. Does old.step_limit (mode_of old) p old.now (text_of sql c) c.returning c.command (Err (Some e))) same does.1 in
+      let plainly : Does old.step_limit (mode_of old) params old.now (text_of sql c) None c.command (Err (Some e)) =
+      subst (λ r. Does old.step_limit (mode_of old) params old.now (text_of sql c) r c.command (Err (Some e))) bare.0 first in
+      let named : Does old.step_limit (mode_of old) params old.now (text_of sql c) None command (Err (Some e)) =
+      subst (λ k. Does old.step_limit (mode_of old) params old.now (text_of sql c) None k (Err (Some e))) (sym (command_is c is)) plainly in
+      let text : text_of sql c ≡ statement_of sql (understood schema sql) = ap (statement_of sql) (sym known) in
+      inr (subst₂ (λ t s. Does old.step_limit (mode_of old) params (record old.now { schema = s }) t None command (Err (Some e))) text has named)
+
+  -- a statement that was understood as the command fails for the store, or as the command is refused
+  pub refused_by : (e : Error) → ExecutesInside 0 sql params old new (Err e) → IsFault old e ⊎ RefusedAs e
+  unfolding ExecutesIn IsNotRun EndsScope
+  refused_by e (inr out) = absurd (escapes out.0.0.command (command_is out.0.0 out.0.1.is) out.0.2)
+  refused_by e (inl (inl (inr store), after)) = inl (inl (store.0, store.1))
+  refused_by e (inl (inl (inl none), after)) = absurd (no_statement e none.0)
+  refused_by e (inl (inr h, after)) =
+      let c = h.0 in
+      let known = known_as c h.1.is in
+      let bare = subst IsPlain known it.plain in
+      let silent : shows_rows false c ≡ false = subst₂ (λ k r. (is_query k || (is_pragma k || is_some r)) ≡ false) (command_is c h.1.is) (sym bare.0) writes.silent in
+      let values : timed params c.formats h.1.now ≡ params = rw (bare.1, append-nil params) in
+      ran e c h.1.is (timed params c.formats h.1.now) values (MatchBool-at_false _ _ silent h.2)
+
+-- ---- a connection that is shut
+
+either_way : {P Q : Type 0} (b : Bool) → MatchBool b P Q → P ⊎ Q
+either_way true h = inl h
+either_way false h = inr h
+
+-- a statement over a connection that is shut fails for the store
+pub open_or_failed : (sql : List ℕ) (params : Row) (old new : State) (e : Error) → ExecutesInside 0 sql params old new (Err e) → IsTrue old.is_open ⊎ IsFault old e
+unfolding ExecutesIn IsNotRun
+open_or_failed sql params old new e (inr out) = inl out.2.0.was_open
+open_or_failed sql params old new e (inl (inl (inl none), after)) = inl none.1.0.was_open
+open_or_failed sql params old new e (inl (inl (inr store), after)) = inr (inl (store.0, store.1))
+open_or_failed sql params old new e (inl (inr h, after)) = elim (either_way (shows_rows false h.0) h.2) [
+  | inl shown ↦ inl shown.1.0.was_open
+  | inr ran ↦ elim ran [ inl refused ↦ inl refused.1.0.was_open | inr store ↦ inr (inl (store.0, store.1)) ]
+]
+
+-- ---- what is refused of the rows of one table
+
+module _ (db : Trees) (edit : Edit) where
+  -- with no action of a foreign key, nothing is refused after the edit
+  no_end : (next : Trees) (why : Refusal) → Settles layout Enforced next (works layout Enforced 0 edit.table.tree (taken_by db edit) edit.news) (Err (Some why)) → ⊥
+  no_end next why h = go h.0 (rw (idle edit.table.tree (taken_by db edit) edit.news) at h.1)
+    where
+      go : (n : ℕ) → Leads layout Enforced n next [] (Err (Some why)) → ⊥
+      go zero h = let e = h.1 in cc
+      go (suc n) h = omega (arith, ap length h.2, length-append h.0 (h.1 ∷ []))
+
+  -- an edit is refused for one of the reasons that it has
+  edit_refused : (stop : Option Error) (e : Error) → stop ≡ Some e → Edited layout Enforced db edit (Err stop) → (why : Refusal) × IsRefused layout Enforced db edit why × (e ≡ edit_error why)
+  edit_refused stop e is h = go h.0 h.1 (sym is ∙ h.2)
+    where
+      go : (why : Option Refusal) → action.Writes layout Enforced db edit (Err why) → Some e ≡ option_map edit_error why → (why : Refusal) × IsRefused layout Enforced db edit why × (e ≡ edit_error why)
+      go None w is = absurd (cc)
+      go (Some why) (inl r) is = let same : why ≡ r.0 = (let e = r.2 in cc) in (r.0, r.1, let all : e ≡ edit_error why = cc in all ∙ ap edit_error same)
+      go (Some why) (inr (inl big)) is = absurd (let e = big.3 in cc)
+      go (Some why) (inr (inr went)) is = absurd (no_end went.0 why went.2)
+
+module _ (at : ℕ) (table : Table) (there : slice_get layout.tables at ≡ Some table) (old : State) (text : List ℕ) (params : Row) (e : Error) where
+  abbrev db : Trees
+  db = old.now.trees
+
+  abbrev task : Task
+  task = record { limit = old.step_limit; keys = Enforced; schema = layout; table = table; params = params }
+
+  abbrev Refused : Command → Type 0
+  Refused command = Does old.step_limit (mode_of old) params (record old.now { schema = layout }) text None command (Err (Some e))
+
+  -- the foreign keys hold once the rows are written
+  concluded : (w : Written) → Refers All layout w.trees → Concludes task (mode_of old) None w (Err (Some e)) → ⊥
+  concluded w refers (inl tested) = tested.1.0 refers
+  concluded w refers (inr shown) = elim shown.2 [ inl stopped ↦ (let e = stopped.1 in cc) | inr gave ↦ (let e = gave.2 in cc) ]
+
+  -- a DELETE of rows that a query finds
+  module _ (q : Program) (typed : accepts_program layout (lets_of q) q.body params ≡ true) (fits : ProgramOverflows db params [] (lets_of q) q.body → ⊥)
+      (allowed : (found : List Row) (why : Refusal) → IsRefused layout Enforced db (edit_of db table (ids_of found) Given 0 []) why → ⊥)
+      (refers : (found : List Row) (next : Trees) → Applies layout Enforced db (edit_of db table (ids_of found) Given 0 []) next → Refers All layout next) where
+    query_stopped : (stop : Option Error) → stop ≡ Some e → Queried old.step_limit (record { schema = layout; trees = db }) q params (Err stop) → IsFault old e
+    query_stopped None is h = absurd h
+    query_stopped (Some x) is (inl ill) = absurd (both_ways _ ill.1 typed)
+    query_stopped (Some x) is (inr (inl over)) = absurd (fits over.1)
+    query_stopped (Some x) is (inr (inr limit)) = let same : x ≡ e = cc in subst (IsFault old) same (inr limit)
+
+    delete_stopped : (stop : Option Error) → stop ≡ Some e → Deletes task q db (Err stop) → IsFault old e
+    delete_stopped stop is (inl asked) = query_stopped asked.0 (let e = asked.2 in cc) asked.1
+    delete_stopped stop is (inr found) = elim found.2 [
+      | inl cut ↦ let r = edit_refused db (edit_of db table (ids_of found.0) Given 0 []) cut.0 e (let e = cut.2 in cc) cut.1 in absurd (allowed found.0 r.0 r.1)
+      | inr done ↦ absurd (let e = done.2 in cc)
+    ]
+
+    deleted_trees : (w : Written) → Deletes task q db (Ok w) → Refers All layout w.trees
+    deleted_trees w (inl stopped) = absurd (let e = stopped.2 in cc)
+    deleted_trees w (inr found) = elim found.2 [
+      | inl stopped ↦ absurd (let e = stopped.2 in cc)
+      | inr cut ↦
+          let edit = edit_of db table (ids_of found.0) Given 0 [] in
+          let step = one_step layout Enforced db cut.0 edit (idle edit.table.tree (taken_by db edit) edit.news) cut.1 in
+          let same : w ≡ record { trees = cut.0; rows = taken_by db edit; last = None } = (let e = cut.2 in cc) in
+          subst (λ (w : Written). Refers All layout w.trees) (sym same) (refers found.0 cut.0 step)
+    ]
+
+    pub delete_refused : Refused (Delete at q) → IsFault old e
+    delete_refused does = go (rw there at does)
+      where
+        go : Then (Deletes task q db) (Concludes task (mode_of old) None) (Err (Some e)) → IsFault old e
+        go (inl stopped) = delete_stopped stopped.0 (let e = stopped.2 in cc) stopped.1
+        go (inr wrote) = absurd (concluded wrote.0 (deleted_trees wrote.0 wrote.1) wrote.2)
+
+  -- an INSERT of one row of values into a table with no AUTOINCREMENT
+  module _ (terms : List Term) (width : ℕ) (uncounted : table.is_counted ≡ false) (typed : accepts_terms terms (stamped table params) ≡ true)
+      (refers : (next : Trees) → Applies layout Enforced db (edit_of db table [] Chosen 0 (value_rows (stamped table params) width (length terms / width) terms)) next → Refers All layout next) where
+    abbrev edit : Edit
+    edit = edit_of db table [] Chosen 0 (value_rows (stamped table params) width (length terms / width) terms)
+
+    abbrev edit_by : List Row → Rowids → Edit
+    edit_by rows rowids = edit_of db table [] rowids 0 rows
+
+    -- the fault, or why the edit is refused
+    abbrev Stop : Type 0
+    Stop = IsFault old e ⊎ ((why : Refusal) × IsRefused layout Enforced db edit why × (e ≡ edit_error why))
+
+    chosen : (counter : Option Row) → rowids_for table (count_of counter) ≡ Chosen
+    chosen counter = ap (λ b. if b then Above (count_of counter) else Chosen) uncounted
+
+    source_stopped : (stop : Option Error) → stop ≡ Some e → Sourced old.step_limit (record { schema = layout; trees = db }) (stamped table params) (Values terms width) (Err stop) → IsFault old e
+    source_stopped None is h = absurd h
+    source_stopped (Some x) is (inl ill) = absurd (both_ways _ ill.1 typed)
+    source_stopped (Some x) is (inr limit) = let same : x ≡ e = cc in subst (IsFault old) same (inr limit)
+
+    uncounts : (b x : Bool) (P Q : Type 0) → b ≡ false → MatchBool (if b then x else false) P Q → Q
+    uncounts true x P Q is h = absurd (cc)
+    uncounts false x P Q is h = h
+
+    same_edit : (rows : List Row) (counter : Option Row) → rows ≡ value_rows (stamped table params) width (length terms / width) terms → edit_by rows (rowids_for table (count_of counter)) ≡ edit
+    same_edit rows counter is = ap (edit_by rows) (chosen counter) ∙ ap (λ r. edit_by r Chosen) is
+
+    insert_stopped : (stop : Option Error) → stop ≡ Some e → Inserts task (Values terms width) db (Err stop) → Stop
+    insert_stopped stop is (inl asked) = inl (source_stopped asked.0 (let e = asked.2 in cc) asked.1)
+    insert_stopped stop is (inr given) = elim given.2 [
+      | inl counter ↦ absurd (let e = MatchBool-at_false _ _ uncounted counter.1 in cc)
+      | inr counter ↦ elim counter.2 [
+        | inl put ↦
+            let r = edit_refused db (edit_by given.0 (rowids_for table (count_of counter.0))) put.0 e (let e = put.2 in cc) put.1 in
+            inr (r.0, subst (λ (d : Edit). IsRefused layout Enforced db d r.0) (same_edit given.0 counter.0 given.1.1) r.1, r.2)
+        | inr put ↦ elim put.2 [
+          | inl counted ↦ absurd (let e = uncounts table.is_counted _ _ _ uncounted counted.1 in cc)
+          | inr done ↦ absurd (let e = done.2 in cc)
+        ]
+      ]
+    ]
+
+    inserted_trees : (w : Written) → Inserts task (Values terms width) db (Ok w) → Refers All layout w.trees
+    inserted_trees w (inl stopped) = absurd (let e = stopped.2 in cc)
+    inserted_trees w (inr given) = elim given.2 [
+      | inl counter ↦ absurd (let e = counter.2 in cc)
+      | inr counter ↦ elim counter.2 [
+        | inl put ↦ absurd (let e = put.2 in cc)
+        | inr put ↦ elim put.2 [
+          | inl counted ↦ absurd (let e = counted.2 in cc)
+          | inr done ↦
+              let its = edit_by given.0 (rowids_for table (count_of counter.0)) in
+              let step = one_step layout Enforced db put.0 its (idle its.table.tree (taken_by db its) its.news) put.1 in
+              let kept : done.0 ≡ put.0 = (let e = uncounts table.is_counted _ _ _ uncounted done.1 in cc) in
+              let same : w ≡ record { trees = done.0; rows = its.news; last = w.last } = (let e = done.2 in cc) in
+              let end : w.trees ≡ put.0 = ap (λ (x : Written). x.trees) same ∙ kept in
+              subst (Refers All layout) (sym end) (refers put.0 (subst (λ (d : Edit). Applies layout Enforced db d put.0) (same_edit given.0 counter.0 given.1.1) step))
+        ]
+      ]
+    ]
+
+    pub insert_refused : Refused (Insert at (Values terms width)) → Stop
+    insert_refused does = go (rw there at does)
+      where
+        go : Then (Inserts task (Values terms width) db) (Concludes task (mode_of old) None) (Err (Some e)) → Stop
+        go (inl stopped) = insert_stopped stopped.0 (let e = stopped.2 in cc) stopped.1
+        go (inr wrote) = absurd (concluded wrote.0 (inserted_trees wrote.0 wrote.1) wrote.2)
+
+-- ---- several statements in one transaction
+
+-- the statement failed, or a failure had ended the transaction
+abbrev pub OrTooLate : State → Error → Type 0 → Type 0
+OrTooLate old e Failed = Failed ⊎ ((e ≡ SqliteFailure code.TransactionState) × (old.in_transaction ≡ false))
+
+pub as_write_fault : (old : State) (e : Error) {Failed : Type 0} → (Failed → IsFault old e) → OrTooLate old e Failed → IsWriteFault old e
+as_write_fault old e faults (inl failed) = inl (faults failed)
+as_write_fault old e faults (inr late) = inr late
+
+pub or_insert_fault : (old : State) (e : Error) {Failed : Type 0} → (Failed → IsInsertFault old e) → OrTooLate old e Failed → IsInsertFault old e
+or_insert_fault old e faults (inl failed) = faults failed
+or_insert_fault old e faults (inr late) = inl (inr late)
+
+-- a later statement fails as one at the start does, since the transaction goes on
+module _ (first later : State) (limit : later.step_limit ≡ first.step_limit) (inside : later.in_transaction ≡ true) (e : Error) where
+  pub write_fault_later : IsWriteFault later e → IsWriteFault first e
+  write_fault_later (inl (inl store)) = inl (inl store)
+  write_fault_later (inl (inr stopped)) = inl (inr (stopped.0, subst IsSome limit stopped.1))
+  write_fault_later (inr late) = absurd (both_ways _ late.1 inside)
+
+  pub insert_fault_later : IsInsertFault later e → IsInsertFault first e
+  insert_fault_later (inl fault) = inl (write_fault_later fault)
+  insert_fault_later (inr rowid) = inr rowid
+
+-- an error that `?` passes on
+pub erred_with : {X : Type 0} (r : Result X Error) (first : Error) (P : Error → Type 0) → IsErrAnd r (λ e. e ≡ first) → P first → IfErr r P
+erred_with (Ok x) first P is h = tt
+erred_with (Err e) first P is h = subst P (sym is) h

@@ -1,0 +1,36 @@
+-- What every call leaves as it was, whatever it answers.
+use Rattle.std.specs.Prelude.{◌≡◌, ◌⊎◌, IsTrue, Result, OnOk, IfErr, true, false}
+use Rattle.sqlite.specs.declared.transaction.Transaction.{Transaction}
+use Rattle.sqlite.specs.Held.{Held, state}
+use Rattle.sqlite.specs.State.{State, HasCleanDisk, Survives, KeepsCommit}
+use Rattle.sqlite_trees.specs.declared.store.Store.{Ghosts}
+use Rattle.sqlite.specs.declared.error.Error.{Error}
+use Rattle.reg_tables.specs.Reading.{OnlyReads, IsWriteFault}
+
+-- what a connection shows once it has begun a transaction
+abbrev pub once_begun : {S : Type 0} → Ghosts S → Held S → State
+once_begun g conn = state g (record conn { in_transaction = true })
+
+-- what a transaction's connection shows
+abbrev pub state_in : {S : Type 0} → Ghosts S → Transaction S → State
+state_in g tx = state g tx.conn.now
+
+-- Inside a transaction the connection stays the same and nothing is committed, so a crash leaves what it left before.
+pub record KeepsInside {S : Type 0} (g : Ghosts S) (old new : Transaction S) : Type 0 where
+  pub same_reference : new.conn.ghost_name ≡ old.conn.ghost_name
+  pub kept : HasCleanDisk (state_in g new) → KeepsCommit (state_in g old) (state_in g new)
+  pub survives : Survives (state_in g old) (state_in g new) (λ _. ⊥)
+
+-- A call that runs a statement inside a transaction keeps that much. Where it succeeds the connection was open, and the transaction goes on; over one that is shut it fails with a fault.
+pub record StaysInside {S X : Type 0} (g : Ghosts S) (old new : Transaction S) (result : Result X Error) : Type 0 where
+  pub keeps : KeepsInside g old new
+  pub shut : HasCleanDisk (state_in g new) → IfErr result (λ e. IsTrue (state_in g old).is_open ⊎ IsWriteFault (state_in g old) e)
+  pub was_open : HasCleanDisk (state_in g new) → OnOk result (IsTrue (state_in g old).is_open)
+  pub inside : HasCleanDisk (state_in g new) → OnOk result ((state_in g new).in_transaction ≡ true)
+
+-- A call that only reads ends outside a transaction, and commits nothing. What it answers was read over an open connection.
+pub record StaysIdle {S X E : Type 0} (g : Ghosts S) (old new : Held S) (result : Result X E) : Type 0 where
+  pub idle : new.in_transaction ≡ false
+  pub was_open : HasCleanDisk (state g new) → OnOk result (IsTrue (state g old).is_open)
+  pub only_reads : HasCleanDisk (state g new) → OnlyReads (state g old) (state g new)
+  pub survives : Survives (state g old) (state g new) (λ _. ⊥)
