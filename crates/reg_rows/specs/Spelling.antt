@@ -1,8 +1,10 @@
 -- Which rows of the five tables hold a registry, and what is kept beside it (this project's choice, but where a public
 -- document is named). That no key of a table stands twice, and that each id is that of a text, is the tables' own matter.
-use Rattle.std.specs.Prelude.{◌≡◌, ℕ, ◌==◌, ◌&&◌, Bool, false, IsTrue, List, [], ◌∷◌, codes, map, bytes_eq, if◌then◌else◌, Option, None, Some, is_some, String, string_bytes}
+use Rattle.std.specs.Prelude.{◌≡◌, ℕ, ◌==◌, ◌&&◌, Bool, false, not, IsTrue, List, [], ◌∷◌, length, slice_index, nat_lt, nat_le, codes, map, bytes_eq, if◌then◌else◌, Option, None, Some, is_some, option_and_then, String, string_bytes}
 use Rattle.std.specs.declared.alloc.Global.{Global}
+use Rattle.std.specs.Char.{is_ascii_digit}
 use Rattle.std.specs.List.{AllByRecursion, list_any, list_all}
+use Rattle.std.specs.Str.Parse.{digits_value}
 use Rattle.reg_core.specs.Keys.{IsKey}
 use Rattle.reg_core.specs.Levels.{level_of}
 use Rattle.reg_core.specs.Replies.{IsKeptStatus}
@@ -16,14 +18,22 @@ Text = String Global
 -- ---- levels
 
 -- Schema Registry API reference, Config: a subject, and how one of the seven levels is spelt
+pub record FitsLevels (name text : List ℕ) : Type 0 where
+  pub subject : IsTrue (is_subject name)
+  pub level : IsTrue (is_some (level_of text))
+
 abbrev pub IsLevelRow : Text × Text → Type 0
-IsLevelRow row = IsTrue (is_subject (string_bytes row.0)) × IsTrue (is_some (level_of (string_bytes row.1)))
+IsLevelRow row = FitsLevels (string_bytes row.0) (string_bytes row.1)
 
 -- ---- kept replies
 
--- a retry key, and a status; the command and the body may be any texts
+-- a retry key, and the status of a reply that is kept; the command and the body may be any texts
+pub record FitsKept (name : List ℕ) (number : ℕ) : Type 0 where
+  pub key : IsKey name
+  pub status : IsKeptStatus number
+
 abbrev pub IsKeptRow : Text × Text × ℕ × Text → Type 0
-IsKeptRow row = IsKey (string_bytes row.0) × IsKeptStatus row.2
+IsKeptRow row = FitsKept (string_bytes row.0) row.2
 
 -- ---- what the database is
 
@@ -56,16 +66,39 @@ abbrev pub has_level : Option (List ℕ) → Bool
 has_level None = false
 has_level (Some value) = is_some (level_of value)
 
+-- decimal digits, the first of which isn't 0
+abbrev pub is_number : List ℕ → Bool
+is_number text = nat_lt 0 (length text) && not (slice_index text 0 == 48) && list_all is_ascii_digit text
+
+-- a number from 1 to 999,999,999 in decimal digits without a leading zero
+abbrev pub number_in : List ℕ → Option ℕ
+number_in text = if is_number text && nat_le (digits_value 10 text) 999999999 then Some (digits_value 10 text) else None
+
+-- the number of the layout that the rows name beside this format, if they name one
+abbrev pub layout_in : List Pair → Option ℕ
+layout_in rows = if has_value (codes "avroreg") (value_at (codes "format") rows) then option_and_then number_in (value_at (codes "layout") rows) else None
+
 -- the format, the layout's number and the global level, and no other row
 abbrev pub is_meta : List Pair → Bool
 is_meta rows = has_value (codes "avroreg") (value_at (codes "format") rows) && has_value (codes "1") (value_at (codes "layout") rows) && has_level (value_at (codes "global") rows) && names_known rows
 
 -- ---- all five
 
+-- The rows of each table, in any order.
+pub record Rows : Type 0 where
+  pub texts : List (ℕ × Text)
+  pub versions : List (Text × ℕ × ℕ × Bool)
+  pub levels : List (Text × Text)
+  pub kept : List (Text × Text × ℕ × Text)
+  pub meta : List (Text × Text)
+
+abbrev pub rows_in : Tables → Rows
+rows_in t = record { texts = t.texts.items; versions = t.versions.items; levels = t.levels.items; kept = t.kept.items; meta = t.meta.items }
+
 -- No command of today makes a text or a version, so tables with a row of either hold no registry.
-pub record IsSpelling (t : Tables) : Type 0 where
-  pub texts : t.texts.items ≡ []
-  pub versions : t.versions.items ≡ []
-  pub levels : AllByRecursion IsLevelRow t.levels.items
-  pub kept : AllByRecursion IsKeptRow t.kept.items
-  pub meta : IsTrue (is_meta (map pair_of t.meta.items))
+pub record IsSpelling (rows : Rows) : Type 0 where
+  pub texts : rows.texts ≡ []
+  pub versions : rows.versions ≡ []
+  pub levels : AllByRecursion IsLevelRow rows.levels
+  pub kept : AllByRecursion IsKeptRow rows.kept
+  pub meta : IsTrue (is_meta (map pair_of rows.meta))

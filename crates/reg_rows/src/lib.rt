@@ -8,4 +8,7 @@ mod tables;
 #[cfg(test)]
 mod tests;
 
+pub use meta::{is_meta, layout_of};
+pub use reg_core::OutOfMemory;
+pub use rows::{fits_kept, fits_levels};
 pub use tables::{Tables, spells};

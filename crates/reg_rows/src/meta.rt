@@ -1,7 +1,7 @@
 //! The rows of `meta`, which say what the database is.
 
 ghost use Rattle.std.specs.Prelude.{IsTrue, ◌↔◌, ◌≡◌, map, option_map, string_bytes};
-ghost use Rattle.reg_rows.specs.Spelling.{pair_of, value_at, is_name, names_known, is_meta};
+ghost use Rattle.reg_rows.specs.Spelling.{pair_of, value_at, is_name, names_known, number_in, layout_in, is_meta};
 
 use reg_core::Level;
 
@@ -15,6 +15,40 @@ fn value_of<'a>(rows: &'a [(String, String)], name: &str) -> Option<&'a str>
         }
     }
     None
+}
+
+/// The greatest number that a layout may have.
+const MAX_LAYOUT: u64 = 999_999_999;
+
+/// The number from 1 to 999,999,999 that a text writes in decimal digits without a leading zero.
+fn number_in(text: &[u8]) -> Option<u32>
+    ensures { result ≡ number_in text.now }
+{
+    if text.is_empty() || text[0] == b'0' {
+        return None;
+    }
+    let mut number: u64 = 0;
+    for digit in text {
+        if !digit.is_ascii_digit() {
+            return None;
+        }
+        number = (number * 10 + u64::from(*digit - b'0')).min(MAX_LAYOUT + 1);
+    }
+    if number > MAX_LAYOUT {
+        return None;
+    }
+    Some(number as u32)
+}
+
+/// The number of the layout, 1 to 999,999,999, that the rows of `meta` name beside the format
+/// `avroreg`; `None` where they name none.
+pub fn layout_of(rows: &[(String, String)]) -> Option<u32>
+    ensures { result ≡ layout_in (map pair_of rows.now) }
+{
+    if value_of(rows, "format") != Some("avroreg") {
+        return None;
+    }
+    number_in(value_of(rows, "layout")?.as_bytes())
 }
 
 fn is_name(name: &str) -> bool
@@ -35,7 +69,7 @@ fn names_known(rows: &[(String, String)]) -> bool
     true
 }
 
-/// Whether these are the rows of layout 1: its format, its number and a global level.
+/// Whether these are the rows of layout 1: its format, its number and a global level, and no other.
 pub fn is_meta(rows: &[(String, String)]) -> bool
     ensures { result ≡ is_meta (map pair_of rows.now) }
 {

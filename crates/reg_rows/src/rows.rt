@@ -3,19 +3,25 @@
 ghost use Rattle.std.specs.Prelude.{IsTrue, ◌↔◌, ◌≡◌};
 ghost use Rattle.std.specs.List.{AllByRecursion};
 ghost use Rattle.reg_core.specs.Replies.{IsKeptStatus};
-ghost use Rattle.reg_rows.specs.Spelling.{IsLevelRow, IsKeptRow};
+ghost use Rattle.reg_rows.specs.Spelling.{FitsLevels, FitsKept, IsLevelRow, IsKeptRow};
 
 use reg_core::{Key, Level, is_subject};
 
-/// Whether a row of `levels` has a subject and a level.
+/// Whether a row of `levels` may be these two: a subject, and the text of one of the seven levels.
+pub fn fits_levels(subject: &str, level: &str) -> bool
+    ensures { IsTrue result ↔ FitsLevels subject.now level.now }
+{
+    is_subject(subject) && Level::parse(level).is_some()
+}
+
 fn is_level_row(row: &(String, String)) -> bool
     ensures { IsTrue result ↔ IsLevelRow row.now }
 {
-    is_subject(row.0.as_str()) && Level::parse(row.1.as_str()).is_some()
+    fits_levels(row.0.as_str(), row.1.as_str())
 }
 
 /// Whether each row of `levels` has a subject and a level.
-pub fn are_level_rows(rows: &[(String, String)]) -> bool
+pub(crate) fn are_level_rows(rows: &[(String, String)]) -> bool
     ensures { IsTrue result ↔ AllByRecursion IsLevelRow rows.now }
 {
     for row in rows {
@@ -36,15 +42,22 @@ fn is_kept_status(status: u32) -> bool
     }
 }
 
-/// Whether a row of `kept` has a retry key, and the status of a reply that is kept.
+/// Whether a row of `kept` may have this key and this status: a retry key, and the status of a reply
+/// that is kept.
+pub fn fits_kept(key: &str, status: u32) -> bool
+    ensures { IsTrue result ↔ FitsKept key.now status }
+{
+    Key::parse(key).is_some() && is_kept_status(status)
+}
+
 fn is_kept_row(row: &(String, String, u32, String)) -> bool
     ensures { IsTrue result ↔ IsKeptRow row.now }
 {
-    Key::parse(row.0.as_str()).is_some() && is_kept_status(row.2)
+    fits_kept(row.0.as_str(), row.2)
 }
 
 /// Whether each row of `kept` is one that is kept.
-pub fn are_kept_rows(rows: &[(String, String, u32, String)]) -> bool
+pub(crate) fn are_kept_rows(rows: &[(String, String, u32, String)]) -> bool
     ensures { IsTrue result ↔ AllByRecursion IsKeptRow rows.now }
 {
     for row in rows {

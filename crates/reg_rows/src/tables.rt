@@ -1,10 +1,11 @@
 //! The rows of all five tables.
 
-ghost use Rattle.std.specs.Prelude.{IsTrue, ◌↔◌, map};
-ghost use Rattle.reg_rows.specs.Spelling.{IsSpelling};
+ghost use Rattle.std.specs.Prelude.{IfOk, IsTrue, ◌↔◌};
+ghost use Rattle.reg_rows.specs.Spelling.{IsSpelling, rows_in};
 
 use crate::meta::is_meta;
 use crate::rows::{are_kept_rows, are_level_rows};
+use reg_core::OutOfMemory;
 
 /// The rows of the five tables of layout 1, those of each in any order.
 #[derive(Debug, Drop)]
@@ -21,21 +22,26 @@ pub struct Tables {
     pub meta: Vec<(String, String)>,
 }
 
-/// Whether the rows hold a registry of layout 1 and what is kept beside it. It takes no memory.
-pub fn spells(tables: &Tables) -> bool
-    ensures { IsTrue result ↔ IsSpelling tables.now }
+/// Whether the rows hold a registry of layout 1 and what is kept beside it. That no key of a table
+/// stands twice is the table's own matter, and isn't tested.
+///
+/// # Errors
+///
+/// `OutOfMemory` where memory is refused. No test of today takes any.
+pub fn spells(tables: &Tables) -> Result<bool, OutOfMemory>
+    ensures { IfOk result (λ yes. IsTrue yes ↔ IsSpelling (rows_in tables.now)) }
 {
     if !tables.texts.is_empty() {
-        return false;
+        return Ok(false);
     }
     if !tables.versions.is_empty() {
-        return false;
+        return Ok(false);
     }
     if !are_level_rows(&tables.levels) {
-        return false;
+        return Ok(false);
     }
     if !are_kept_rows(&tables.kept) {
-        return false;
+        return Ok(false);
     }
-    is_meta(&tables.meta)
+    Ok(is_meta(&tables.meta))
 }

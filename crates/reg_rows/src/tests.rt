@@ -1,6 +1,6 @@
 //! Rows that hold a registry, and rows that just don't.
 
-use crate::{Tables, spells};
+use crate::{Tables, layout_of, spells};
 use std::alloc::{AllocError, Global};
 use std::test::Fail;
 
@@ -51,18 +51,18 @@ fn new_tables(alloc: Global) -> Result<Tables, Fail> {
 #[test]
 fn a_new_registry(rt: HostRuntime) -> Result<(), Fail> {
     let alloc = rt.alloc();
-    assert!(rt; spells(&new_tables(alloc)?));
+    assert!(rt; spells(&new_tables(alloc)?)?);
     let mut with_text = new_tables(alloc)?;
     with_text.texts.push((1, text(alloc, "\"int\"")?))?;
-    assert!(rt; !spells(&with_text));
+    assert!(rt; !spells(&with_text)?);
     let mut with_version = new_tables(alloc)?;
     with_version
         .versions
         .push((text(alloc, "s")?, 1, 1, false))?;
-    assert!(rt; !spells(&with_version));
+    assert!(rt; !spells(&with_version)?);
     let mut short = new_tables(alloc)?;
     short.meta.pop();
-    assert!(rt; !spells(&short));
+    assert!(rt; !spells(&short)?);
     Ok(())
 }
 
@@ -77,7 +77,7 @@ fn levels(rt: HostRuntime) -> Result<(), Fail> {
         tables
             .levels
             .push((text(alloc, subject)?, text(alloc, level)?))?;
-        assert_eq!(rt; spells(&tables), parts.next() == Some("true"), "{row}");
+        assert_eq!(rt; spells(&tables)?, parts.next() == Some("true"), "{row}");
     }
     Ok(())
 }
@@ -99,7 +99,7 @@ fn kept_replies(rt: HostRuntime) -> Result<(), Fail> {
             status,
             text(alloc, "")?,
         ))?;
-        assert_eq!(rt; spells(&tables), parts.next() == Some("true"), "{row}");
+        assert_eq!(rt; spells(&tables)?, parts.next() == Some("true"), "{row}");
     }
     Ok(())
 }
@@ -119,7 +119,38 @@ fn what_the_database_is(rt: HostRuntime) -> Result<(), Fail> {
         if name != "global" {
             tables.meta.push((text(alloc, name)?, text(alloc, "")?))?;
         }
-        assert_eq!(rt; spells(&tables), parts.next() == Some("true"), "{row}");
+        assert_eq!(rt; spells(&tables)?, parts.next() == Some("true"), "{row}");
+    }
+    Ok(())
+}
+
+/// Values of `layout`, and the number that each names, 0 for none.
+const LAYOUTS: &str = "1 1
+2 2
+999999999 999999999
+1000000000 0
+0 0
+02 0
+-1 0
+1.0 0
+x 0";
+
+#[test]
+fn layouts(rt: HostRuntime) -> Result<(), Fail> {
+    let alloc = rt.alloc();
+    for row in LAYOUTS.lines() {
+        let mut parts = row.split(' ');
+        let value = parts.next().ok_or("no value")?;
+        let mut rows = Vec::new(alloc);
+        rows.push((text(alloc, "layout")?, text(alloc, value)?))?;
+        assert_eq!(rt; layout_of(&rows), None, "without a format");
+        rows.push((text(alloc, "format")?, text(alloc, "avroreg")?))?;
+        let number = match layout_of(&rows) {
+            Some(number) => number,
+            None => 0,
+        };
+        let expected = parts.next().ok_or("no number")?;
+        assert_eq!(rt; expected.parse::<u32>().ok(), Some(number), "{row}");
     }
     Ok(())
 }
