@@ -9,7 +9,7 @@ use Rattle.sqlite.specs.declared.error.Error.{Error}
 use Rattle.sqlite.specs.State.{State, KeepsCommit, Survives, HasCleanDisk}
 use Rattle.reg_core.specs.Registry.{Registry, new_registry}
 use Rattle.reg_tables.specs.Layout.{layout}
-use Rattle.reg_tables.specs.Contents.{text_cmp, Holds}
+use Rattle.reg_tables.specs.Contents.{text_cmp, Contents, Holds}
 use Rattle.reg_tables.specs.Changes.{new_contents}
 use Rattle.reg_tables.proofs.Transactions.{keeps_if_unchanged, keeps_if_undone}
 use Rattle.reg_store.specs.Replies.{Kept, nothing_kept}
@@ -23,6 +23,11 @@ keeps_if_failed a b e (inr h) = keeps_if_unchanged a b h.2
 pub on_err : {X : Type 0} {P : Error → Type 0} {Q : Type 0} (r : Result X Error) → ((e : Error) → P e → Q) → IfErr r P → OnErr r Q
 on_err (Ok x) f h = tt
 on_err (Err e) f h = f e h
+
+-- trees that hold the contents under layout 1 do so after a crash
+pub left_if_held : (db : Trees) (now : Database) (contents : Contents) → db ≡ now.trees → Holds now contents → Holds (record { schema = layout; trees = db }) contents
+left_if_held db now contents is h =
+    subst (λ d. Holds (record { schema = layout; trees = d }) contents) (sym is) (subst (λ x. Holds (record { schema = x; trees = now.trees }) contents) h.declared h)
 
 pub leaves_if_spelled : (db : Trees) (now : Database) (g : Registry) (k : Kept) → db ≡ now.trees → Spells now g k → Leaves db g k
 leaves_if_spelled db now g k is s =

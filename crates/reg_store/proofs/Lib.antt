@@ -2,3 +2,11 @@ pub mod Maps
 pub mod Spelling
 pub mod Reading
 pub mod Committing
+pub mod Texts
+pub mod Failing
+pub mod Bridge
+pub mod Rereading
+pub mod Distinct
+pub mod TestLemmas
+pub mod MetaLemmas
+pub mod OpenLemmas

@@ -9,14 +9,12 @@ use Rattle.reg_core.specs.declared.decision.Change.{Change}
 use Rattle.reg_core.specs.Views.{changed, changed_once}
 use Rattle.reg_core.specs.declared.level.Level.{Level}
 use Rattle.reg_core.specs.Levels.{level_text}
-use Rattle.reg_core.specs.Keys.{IsKey}
 use Rattle.reg_core.specs.Subjects.{is_subject}
-use Rattle.reg_core.specs.Replies.{IsKeptStatus}
 use Rattle.reg_core.specs.Registry.{Registry, own_with}
 use Rattle.reg_tables.specs.Contents.{Contents, Holds}
 use Rattle.reg_tables.specs.Changes.{Changes, with_global, with_level, with_kept}
 use Rattle.reg_store.specs.Replies.{Entry, Kept, kept_with}
-use Rattle.reg_store.specs.Spells.{IsSpelled, Spells, row_of}
+use Rattle.reg_store.specs.Spells.{CanBeKept, IsSpelled, Spells, row_of}
 use Rattle.reg_store.specs.Changes.{Respells}
 use Rattle.reg_store.proofs.Maps.{insert_both, insert-insert}
 
@@ -52,15 +50,15 @@ module _ (contents : Contents) (g : Registry) (k : Kept) (s : IsSpelled contents
     keys = s.keys;
   }
 
-  pub spelled_kept : (key : List ℕ) (entry : Entry) → IsKey key → IsKeptStatus entry.reply.status → IsSpelled (with_kept key (row_of entry) contents) g (kept_with k key entry)
-  spelled_kept key entry is_key status = record {
+  pub spelled_kept : (key : List ℕ) (entry : Entry) → CanBeKept key entry → IsSpelled (with_kept key (row_of entry) contents) g (kept_with k key entry)
+  spelled_kept key entry fits = record {
     texts = s.texts;
     versions = s.versions;
     meta = s.meta;
     levels = s.levels;
     subjects = s.subjects;
     kept = insert_both row_of contents.kept k key entry s.kept;
-    keys = each_entry (λ q e. IsKey q × IsKeptStatus e.reply.status) k key entry (is_key, status) s.keys;
+    keys = each_entry CanBeKept k key entry fits s.keys;
   }
 
 -- ---- the tables
@@ -73,13 +71,13 @@ module _ (old new : State) where
   respells_level subject level within changes g k s =
       record { contents = with_level subject (level_text level) s.contents; holds = changes s.contents s.holds; spelled = spelled_level s.contents g k s.spelled subject level within }
 
-  pub respells_kept : (key : List ℕ) (entry : Entry) → IsKey key → IsKeptStatus entry.reply.status
+  pub respells_kept : (key : List ℕ) (entry : Entry) → CanBeKept key entry
       → ((contents : Contents) → Holds old.now contents → get contents.kept key ≡ None → Holds new.now (with_kept key (row_of entry) contents))
       → (g : Registry) (k : Kept) → Spells old.now g k → k key ≡ None → Spells new.now g (kept_with k key entry)
-  respells_kept key entry is_key status puts g k s fresh = record {
+  respells_kept key entry fits puts g k s fresh = record {
     contents = with_kept key (row_of entry) s.contents;
     holds = puts s.contents s.holds (s.spelled.kept key ∙ ap (option_map row_of) fresh);
-    spelled = spelled_kept s.contents g k s.spelled key entry is_key status;
+    spelled = spelled_kept s.contents g k s.spelled key entry fits;
   }
 
 -- ---- several changes

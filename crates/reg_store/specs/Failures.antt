@@ -1,9 +1,14 @@
 -- Why a call of the store fails.
+use Rattle.std.specs.Prelude.{Bool, true, false, IsTrue}
+use Rattle.sqlite.specs.State.{State}
 use Rattle.sqlite.specs.declared.error.Error.{Error}
 use Rattle.sqlite.specs.declared.error.Error.TheVariants.{SqliteFailure}
 use Rattle.sqlite.specs.declared.error.ErrorCode.TheVariants as code
 use Rattle.reg_store.specs.declared.error.StoreError.{StoreError}
-use Rattle.reg_store.specs.declared.error.StoreError.TheVariants.{Memory, Disk, NotARegistry}
+use Rattle.reg_store.specs.declared.error.StoreError.TheVariants.{Memory, Disk, NotARegistry, OldLayout, NewerLayout}
+use Rattle.reg_core.specs.Registry.{Registry}
+use Rattle.reg_store.specs.Replies.{Kept}
+use Rattle.reg_store.specs.Spells.{SpellsWhileOpen}
 
 -- SQLite, result codes: memory was refused; the disk failed, or what was to be written is past a limit of the file; or the statement doesn't fit the tables
 abbrev pub failure_of : Error → StoreError
@@ -15,3 +20,19 @@ failure_of (SqliteFailure code.TooBig) = Disk
 failure_of (SqliteFailure code.NoRowid) = Disk
 failure_of (SqliteFailure code.Closed) = Disk
 failure_of _ = NotARegistry
+
+-- this project's choice: memory or the disk
+abbrev pub is_fault : StoreError → Bool
+is_fault Memory = true
+is_fault Disk = true
+is_fault _ = false
+
+-- this project's choice: no layout is named
+abbrev pub IsNumberless : StoreError → Type 0
+IsNumberless (OldLayout number) = ⊥
+IsNumberless (NewerLayout number) = ⊥
+IsNumberless _ = Unit {0}
+
+-- this project's choice: where the tables spell a registry, memory and the disk alone fail
+abbrev pub IsFaultOver : State → StoreError → Type 0
+IsFaultOver s e = (g : Registry) (k : Kept) → SpellsWhileOpen s g k → IsTrue (is_fault e)

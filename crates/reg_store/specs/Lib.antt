@@ -1,5 +1,7 @@
 pub mod Replies
 pub mod Spells
+pub mod Opening
 pub mod Changes
 pub mod Failures
 pub mod Stores
+pub mod Testing

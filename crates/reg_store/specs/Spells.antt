@@ -1,7 +1,8 @@
 -- What the tables say of a registry and of the replies that it keeps.
-use Rattle.std.specs.Prelude.{◌≡◌, ℕ, List, Some, IsTrue, option_map}
+use Rattle.std.specs.Prelude.{◌≡◌, ℕ, List, Some, IsTrue, IsUtf8, option_map}
 use Rattle.std.specs.FinMap.{get, empty}
 use Rattle.sqlite.specs.Tree.{Trees}
+use Rattle.sqlite.specs.Schema.{Schema}
 use Rattle.sqlite.specs.Effect.{Database}
 use Rattle.sqlite.specs.State.{State}
 use Rattle.reg_core.specs.declared.level.Level.{Level}
@@ -10,14 +11,21 @@ use Rattle.reg_core.specs.Keys.{IsKey}
 use Rattle.reg_core.specs.Subjects.{is_subject}
 use Rattle.reg_core.specs.Replies.{IsKeptStatus}
 use Rattle.reg_core.specs.Registry.{Registry}
-use Rattle.reg_tables.specs.Layout.{layout}
-use Rattle.reg_tables.specs.Contents.{KeptRow, Contents, Holds}
+use Rattle.reg_tables.specs.Layout.{layout, IsLayout}
+use Rattle.reg_tables.specs.Contents.{KeptRow, Contents, HoldsIn}
 use Rattle.reg_tables.specs.Changes.{meta_of}
 use Rattle.reg_store.specs.Replies.{Entry, Kept}
 
 -- this project's choice: a row of `kept` has the command's text, and the status and the body of its reply
 abbrev pub row_of : Entry → KeptRow
 row_of entry = record { command = entry.text; status = entry.reply.status; body = entry.reply.body }
+
+-- this project's choice: a retry key, the status of a reply that is kept, and two texts
+pub record CanBeKept (key : List ℕ) (entry : Entry) : Type 0 where
+  pub is_key : IsKey key
+  pub status : IsKeptStatus entry.reply.status
+  pub text : IsUtf8 entry.text
+  pub body : IsUtf8 entry.reply.body
 
 -- this project's choice: what the tables hold spells this registry and these kept replies
 pub record IsSpelled (contents : Contents) (g : Registry) (k : Kept) : Type 0 where
@@ -29,15 +37,25 @@ pub record IsSpelled (contents : Contents) (g : Registry) (k : Kept) : Type 0 wh
   pub levels : (subject : List ℕ) → get contents.levels subject ≡ option_map level_text (g.own subject)
   pub subjects : (subject : List ℕ) (level : Level) → g.own subject ≡ Some level → IsTrue (is_subject subject)
   pub kept : (key : List ℕ) → get contents.kept key ≡ option_map row_of (k key)
-  pub keys : (key : List ℕ) (entry : Entry) → k key ≡ Some entry → IsKey key × IsKeptStatus entry.reply.status
+  pub keys : (key : List ℕ) (entry : Entry) → k key ≡ Some entry → CanBeKept key entry
 
--- this project's choice: the tables of the database are those of layout 1, and they spell this registry and these kept replies
-pub record Spells (db : Database) (g : Registry) (k : Kept) : Type 0 where
+-- this project's choice: the database has this schema, and its tables spell this registry and these kept replies
+pub record SpellsIn (schema : Schema) (db : Database) (g : Registry) (k : Kept) : Type 0 where
   pub contents : Contents
-  pub holds : Holds db contents
+  pub holds : HoldsIn schema db contents
   pub spelled : IsSpelled contents g k
 
--- this project's choice: the database that a crash leaves spells them
+-- this project's choice: the tables of the database are those of layout 1, and they spell them
+abbrev pub Spells : Database → Registry → Kept → Type 0
+Spells = SpellsIn layout
+
+-- this project's choice: so they do before a store is opened over them, when the index of versions may be missing
+pub record SpellsUnopened (db : Database) (g : Registry) (k : Kept) : Type 0 where
+  pub schema : Schema
+  pub known : IsLayout schema
+  pub spells : SpellsIn schema db g k
+
+-- this project's choice: the database that a crash leaves spells them, and lists the tables of layout 1, so that an open finds them
 abbrev pub Leaves : Trees → Registry → Kept → Type 0
 Leaves db g k = Spells (record { schema = layout; trees = db }) g k
 

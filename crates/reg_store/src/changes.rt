@@ -1,9 +1,9 @@
 //! Changes of the tables, in a transaction. Whatever a call answers, nothing is committed.
 
 ghost use Rattle.std.specs.Prelude.{◌≡◌, OnOk, IfSome};
-ghost use Rattle.sqlite.specs.Held.{state};
-ghost use Rattle.sqlite.specs.State.{HasCleanDisk, Survives, KeepsCommit};
+ghost use Rattle.sqlite.specs.State.{HasCleanDisk};
 ghost use Rattle.reg_core.specs.Views.{changed, changed_once};
+ghost use Rattle.reg_tables.specs.Frames.{state_in, KeepsInside, StaysInside};
 ghost use Rattle.reg_store.specs.Changes.{with_reply, IsNewTo, IsKeepable, Respells};
 ghost use Rattle.reg_store.specs.Replies.{Kept};
 ghost use Rattle.reg_store.specs.Spells.{Spells};
@@ -16,14 +16,10 @@ use sqlite::{Alter, Error, Transaction};
 
 /// Makes one change.
 fn make<S: Alter>(tx: &mut Transaction<'_, S>, change: &Change) -> Result<(), Error>
-    ensures same_reference { tx.new.conn.ghost_name ≡ tx.old.conn.ghost_name }
-    ensures made { HasCleanDisk (state S.Store tx.new.conn.now)
-        → OnOk result (Respells (state S.Store tx.old.conn.now) (state S.Store tx.new.conn.now)
+    ensures frame { StaysInside S.Store tx.old tx.new result }
+    ensures made { HasCleanDisk (state_in S.Store tx.new)
+        → OnOk result (Respells (state_in S.Store tx.old) (state_in S.Store tx.new)
         (changed_once change.now) (λ k. k)) }
-    ensures kept { HasCleanDisk (state S.Store tx.new.conn.now)
-        → KeepsCommit (state S.Store tx.old.conn.now) (state S.Store tx.new.conn.now) }
-    ensures survives { Survives (state S.Store tx.old.conn.now) (state S.Store tx.new.conn.now)
-        (λ _. ⊥) }
 {
     match change {
         Change::SetGlobal { level } => set_global(tx, level.text()),
@@ -36,14 +32,10 @@ pub(crate) fn make_all<S: Alter>(
     tx: &mut Transaction<'_, S>,
     changes: &[Change],
 ) -> Result<(), Error>
-    ensures same_reference { tx.new.conn.ghost_name ≡ tx.old.conn.ghost_name }
-    ensures made { HasCleanDisk (state S.Store tx.new.conn.now)
-        → OnOk result (Respells (state S.Store tx.old.conn.now) (state S.Store tx.new.conn.now)
+    ensures frame { KeepsInside S.Store tx.old tx.new }
+    ensures made { HasCleanDisk (state_in S.Store tx.new)
+        → OnOk result (Respells (state_in S.Store tx.old) (state_in S.Store tx.new)
         (changed changes.now) (λ k. k)) }
-    ensures kept { HasCleanDisk (state S.Store tx.new.conn.now)
-        → KeepsCommit (state S.Store tx.old.conn.now) (state S.Store tx.new.conn.now) }
-    ensures survives { Survives (state S.Store tx.old.conn.now) (state S.Store tx.new.conn.now)
-        (λ _. ⊥) }
 {
     for change in changes {
         make(tx, change)?;
@@ -57,22 +49,18 @@ pub(crate) fn keep_reply<S: Alter>(
     keep: Option<Keep<'_>>,
 ) -> Result<(), Error>
     requires { IfSome keep IsKeepable }
-    ensures same_reference { tx.new.conn.ghost_name ≡ tx.old.conn.ghost_name }
-    ensures put { HasCleanDisk (state S.Store tx.new.conn.now)
-        → OnOk result ((g : Registry) (k : Kept) → Spells (state S.Store tx.old.conn.now).now g k
+    ensures frame { KeepsInside S.Store tx.old tx.new }
+    ensures put { HasCleanDisk (state_in S.Store tx.new)
+        → OnOk result ((g : Registry) (k : Kept) → Spells (state_in S.Store tx.old).now g k
         → IsNewTo k keep.entry
-        → Spells (state S.Store tx.new.conn.now).now g (with_reply keep.entry k)) }
-    ensures kept { HasCleanDisk (state S.Store tx.new.conn.now)
-        → KeepsCommit (state S.Store tx.old.conn.now) (state S.Store tx.new.conn.now) }
-    ensures survives { Survives (state S.Store tx.old.conn.now) (state S.Store tx.new.conn.now)
-        (λ _. ⊥) }
+        → Spells (state_in S.Store tx.new).now g (with_reply keep.entry k)) }
 {
     match keep {
         None => Ok(()),
         Some(keep) => keep_row(
             tx,
             keep.key.as_str(),
-            keep.command,
+            keep.text(),
             u32::from(keep.reply.status()),
             keep.reply.body(),
         ),

@@ -5,6 +5,7 @@ ghost use Rattle.sqlite.specs.declared.error.Error.TheVariants.{SqliteFailure};
 ghost use Rattle.reg_store.specs.Failures.{failure_of};
 
 use sqlite::ErrorCode;
+use std::alloc::AllocError;
 use thiserror::Error;
 
 /// Why a call of the store fails. It changed nothing then.
@@ -39,6 +40,17 @@ impl From<sqlite::Error> for StoreError {
             sqlite::Error::SqliteFailure(code) => failure_with(code),
             _ => StoreError::NotARegistry,
         }
+    }
+}
+
+impl From<AllocError> for StoreError {
+    ghost use Rattle.std.specs.Prelude.{◌≡◌};
+    ghost use Rattle.reg_store.specs.declared.error.StoreError.TheVariants.{Memory};
+
+    ghost from_gives = { λ _ failure. failure ≡ Memory };
+
+    fn from(_error: AllocError) -> StoreError {
+        StoreError::Memory
     }
 }
 

@@ -1,5 +1,7 @@
 //! Replies to keep.
 
+ghost use Rattle.std.specs.Prelude.{◌≡◌};
+
 use reg_core::{Key, Reply};
 
 /// A reply to keep under a retry key, with the text of its command.
@@ -8,4 +10,13 @@ pub struct Keep<'a> {
     pub key: &'a Key<'a>,
     pub command: &'a str,
     pub reply: &'a Reply,
+}
+
+impl<'a> Keep<'a> {
+    // The command's text.
+    pub(crate) fn text(&self) -> &'a str
+        ensures { result.now ≡ self.now.command.now }
+    {
+        self.command
+    }
 }

@@ -7,7 +7,9 @@
 mod changes;
 mod error;
 mod keep;
+mod rowids;
 mod store;
+mod testing;
 
 pub use error::StoreError;
 pub use keep::Keep;

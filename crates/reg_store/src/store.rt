@@ -7,6 +7,7 @@ use std::alloc::Global;
 
 mod applying;
 mod making;
+mod opening;
 mod reading;
 
 /// A registry and its kept replies in a database. Contracts see what its connection shows

@@ -1,17 +1,19 @@
 //! What a command needs to know of the registry, and what is kept under a key.
 
-ghost use Rattle.std.specs.Prelude.{◌≡◌, ◌↔◌, ℕ, List, Some, Err, IfOk, OnOk, IsTrue, false, option_map, option_and_then, option_copied, string_bytes};
+ghost use Rattle.std.specs.Prelude.{◌≡◌, ◌↔◌, ℕ, List, Some, None, Err, IfOk, IfErr, OnOk, OnErr, IsTrue, false, option_map, option_and_then, option_copied, string_bytes};
 ghost use Rattle.sqlite.specs.Tree.{Trees};
 ghost use Rattle.sqlite.specs.Held.{state};
-ghost use Rattle.sqlite.specs.State.{HasCleanDisk, Survives};
+ghost use Rattle.sqlite.specs.State.{HasCleanDisk};
 ghost use Rattle.reg_core.specs.Levels.{level_of};
 ghost use Rattle.reg_core.specs.Registry.{Registry};
+ghost use Rattle.reg_core.specs.Replies.{IsKeptStatus};
 ghost use Rattle.reg_core.specs.Views.{IsViewOf};
 ghost use Rattle.reg_core.specs.Machine.{subject_of};
-ghost use Rattle.reg_tables.specs.Reading.{OnlyReads};
+ghost use Rattle.reg_tables.specs.Frames.{StaysIdle};
 ghost use Rattle.reg_tables.specs.Replies.{kept_row};
 ghost use Rattle.reg_store.specs.Replies.{Kept, entry_told};
 ghost use Rattle.reg_store.specs.Spells.{SpellsWhileOpen, row_of};
+ghost use Rattle.reg_store.specs.Failures.{IsFaultOver};
 ghost use Rattle.reg_store.specs.Stores.{state_of, has_failed};
 
 use crate::error::StoreError;
@@ -35,6 +37,8 @@ impl<S: Alter> Store<S> {
         ensures found { HasCleanDisk (state_of self.new) → IfOk result (λ found.
             (g : Registry) (k : Kept) → SpellsWhileOpen (state_of self.old) g k
             → k key.now ≡ option_map (λ kept. entry_told (string_bytes kept.0) kept.1) found) }
+        ensures fault { HasCleanDisk (state_of self.new)
+            → IfErr result (IsFaultOver (state_of self.old)) }
         ensures same { HasCleanDisk (state_of self.new) → (g : Registry) (k : Kept)
             → SpellsWhileOpen (state_of self.old) g k → SpellsWhileOpen (state_of self.new) g k }
         ensures crash { HasCleanDisk (state_of self.new) → (db : Trees)
@@ -62,6 +66,8 @@ impl<S: Alter> Store<S> {
         ensures view { HasCleanDisk (state_of self.new) → IfOk result (λ view.
             (g : Registry) (k : Kept) → SpellsWhileOpen (state_of self.old) g k
             → IsViewOf view g command.now) }
+        ensures fault { HasCleanDisk (state_of self.new)
+            → IfErr result (IsFaultOver (state_of self.old)) }
         ensures same { HasCleanDisk (state_of self.new) → (g : Registry) (k : Kept)
             → SpellsWhileOpen (state_of self.old) g k → SpellsWhileOpen (state_of self.new) g k }
         ensures crash { HasCleanDisk (state_of self.new) → (db : Trees)
@@ -82,13 +88,13 @@ fn kept_under<S: Alter>(
     key: &Key<'_>,
 ) -> Result<Option<(String, Reply)>, StoreError>
     requires idle { conn.old.in_transaction ≡ false }
-    ensures idle { conn.new.in_transaction ≡ false }
+    requires unlimited { conn.old.step_limit ≡ None }
+    ensures frame { StaysIdle S.Store conn.old conn.new result }
     ensures found { HasCleanDisk (state S.Store conn.new) → IfOk result (λ found.
         (g : Registry) (k : Kept) → SpellsWhileOpen (state S.Store conn.old) g k
         → k key.now ≡ option_map (λ kept. entry_told (string_bytes kept.0) kept.1) found) }
-    ensures only_reads { HasCleanDisk (state S.Store conn.new)
-        → OnlyReads (state S.Store conn.old) (state S.Store conn.new) }
-    ensures survives { Survives (state S.Store conn.old) (state S.Store conn.new) (λ _. ⊥) }
+    ensures fault { HasCleanDisk (state S.Store conn.new)
+        → IfErr result (IsFaultOver (state S.Store conn.old)) }
 {
     match kept_reply(conn, key.as_str())? {
         None => Ok(None),
@@ -98,7 +104,9 @@ fn kept_under<S: Alter>(
 
 // The text and the reply of a row, if the reply is one.
 fn told_in(row: KeptReply) -> Result<(String, Reply), StoreError>
-    ensures { IfOk result (λ kept. kept_row row ≡ row_of (entry_told (string_bytes kept.0) kept.1)) }
+    ensures ok { IfOk result (λ kept.
+        kept_row row ≡ row_of (entry_told (string_bytes kept.0) kept.1)) }
+    ensures err { OnErr result (¬ IsKeptStatus row.status) }
 {
     let KeptReply {
         command,
@@ -117,13 +125,13 @@ fn told_in(row: KeptReply) -> Result<(String, Reply), StoreError>
 // The view that the command needs.
 fn view_for<S: Alter>(conn: &mut Connection<S>, command: &Command) -> Result<View, StoreError>
     requires idle { conn.old.in_transaction ≡ false }
-    ensures idle { conn.new.in_transaction ≡ false }
+    requires unlimited { conn.old.step_limit ≡ None }
+    ensures frame { StaysIdle S.Store conn.old conn.new result }
     ensures view { HasCleanDisk (state S.Store conn.new) → IfOk result (λ view.
         (g : Registry) (k : Kept) → SpellsWhileOpen (state S.Store conn.old) g k
         → IsViewOf view g command.now) }
-    ensures only_reads { HasCleanDisk (state S.Store conn.new)
-        → OnlyReads (state S.Store conn.old) (state S.Store conn.new) }
-    ensures survives { Survives (state S.Store conn.old) (state S.Store conn.new) (λ _. ⊥) }
+    ensures fault { HasCleanDisk (state S.Store conn.new)
+        → IfErr result (IsFaultOver (state S.Store conn.old)) }
 {
     let own = match command.subject() {
         Some(subject) => own(conn, subject)?,
@@ -136,13 +144,13 @@ fn view_for<S: Alter>(conn: &mut Connection<S>, command: &Command) -> Result<Vie
 // The level that the subject has of its own, if it has one.
 fn own<S: Alter>(conn: &mut Connection<S>, subject: &Subject) -> Result<Option<Level>, StoreError>
     requires idle { conn.old.in_transaction ≡ false }
-    ensures idle { conn.new.in_transaction ≡ false }
+    requires unlimited { conn.old.step_limit ≡ None }
+    ensures frame { StaysIdle S.Store conn.old conn.new result }
     ensures found { HasCleanDisk (state S.Store conn.new) → IfOk result (λ own.
         (g : Registry) (k : Kept) → SpellsWhileOpen (state S.Store conn.old) g k
         → own ≡ g.own subject.now) }
-    ensures only_reads { HasCleanDisk (state S.Store conn.new)
-        → OnlyReads (state S.Store conn.old) (state S.Store conn.new) }
-    ensures survives { Survives (state S.Store conn.old) (state S.Store conn.new) (λ _. ⊥) }
+    ensures fault { HasCleanDisk (state S.Store conn.new)
+        → IfErr result (IsFaultOver (state S.Store conn.old)) }
 {
     match own_level(conn, subject.as_str())? {
         None => Ok(None),
@@ -153,15 +161,13 @@ fn own<S: Alter>(conn: &mut Connection<S>, subject: &Subject) -> Result<Option<L
 // The global level.
 fn global<S: Alter>(conn: &mut Connection<S>) -> Result<Level, StoreError>
     requires idle { conn.old.in_transaction ≡ false }
-    ensures idle { conn.new.in_transaction ≡ false }
+    requires unlimited { conn.old.step_limit ≡ None }
+    ensures frame { StaysIdle S.Store conn.old conn.new result }
     ensures found { HasCleanDisk (state S.Store conn.new) → IfOk result (λ level.
         (g : Registry) (k : Kept) → SpellsWhileOpen (state S.Store conn.old) g k
         → level ≡ g.global) }
-    ensures was_open { HasCleanDisk (state S.Store conn.new)
-        → OnOk result (IsTrue (state S.Store conn.old).is_open) }
-    ensures only_reads { HasCleanDisk (state S.Store conn.new)
-        → OnlyReads (state S.Store conn.old) (state S.Store conn.new) }
-    ensures survives { Survives (state S.Store conn.old) (state S.Store conn.new) (λ _. ⊥) }
+    ensures fault { HasCleanDisk (state S.Store conn.new)
+        → IfErr result (IsFaultOver (state S.Store conn.old)) }
 {
     match global_level(conn)? {
         None => Err(StoreError::NotARegistry),
@@ -171,7 +177,8 @@ fn global<S: Alter>(conn: &mut Connection<S>) -> Result<Level, StoreError>
 
 // The level that a row spells.
 fn level_in(text: &str) -> Result<Level, StoreError>
-    ensures { IfOk result (λ level. level_of text.now ≡ Some level) }
+    ensures ok { IfOk result (λ level. level_of text.now ≡ Some level) }
+    ensures err { OnErr result (level_of text.now ≡ None) }
 {
     match Level::parse(text) {
         None => Err(StoreError::NotARegistry),

@@ -12,5 +12,6 @@ returns-in-Some-clause-put g c clean =
     let keepable : IsKeepable keep = subst (λ o. IfSome o IsKeepable) c.in-Some.is c.requires in
     rw c.in-Some.is
     (on_ok c.keep_reply.result
-    (respells_kept (state g.S.Store c.args.tx.now.conn.now) (state g.S.Store c.keep_reply.new.tx.conn.now) keep.key.now (entry_of keep) (rw c.as_str.ensures.text at c.as_str.ensures.key) keepable)
-    (rw (c.as_str.ensures.text, c.from.ensures, c.status.ensures.value, c.body.ensures) at (c.keep_reply.ensures.put clean)))
+    (respells_kept (state g.S.Store c.args.tx.now.conn.now) (state g.S.Store c.keep_reply.new.tx.conn.now) keep.key.now (entry_of keep)
+    (record { is_key = rw c.as_str.ensures.text at c.as_str.ensures.key; status = keepable; text = rw c.text.ensures at c.text.utf8; body = rw c.body.ensures at c.body.utf8 }))
+    (rw (c.as_str.ensures.text, c.text.ensures, c.from.ensures, c.status.ensures.value, c.body.ensures) at (c.keep_reply.ensures.put clean)))

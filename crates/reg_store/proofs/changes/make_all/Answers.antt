@@ -18,16 +18,16 @@ loop-change-preserved g c =
     let changes = c.args.changes.now in
     let i = c.loop-change.change-index in
     let item = c.change-item.result in
-    let early = λ (clean : HasCleanDisk new). (let e : HasCleanDisk mid = omega (arith, it.survives.clean) in e) in
+    let early = λ (clean : HasCleanDisk new). (let e : HasCleanDisk mid = omega (arith, it.frame.keeps.survives.clean) in e) in
     record {
-      same = it.same_reference ∙ before.same;
+      same = it.frame.keeps.same_reference ∙ before.same;
       made = λ clean registry k s.
           let before_this = changed (take i changes) registry in
           let step = it.made clean before_this k (before.made (early clean) registry k s) in
           let more = ap (λ d. changed_once d before_this) c.change-item.is ∙ sym (changed_more changes i item registry (omega arith)) in
           subst (λ x. Spells new.now x k) more step;
-      kept = λ clean. keeps_then old mid new (before.kept (early clean)) (it.kept clean);
-      survives = survives_both old mid new before.survives it.survives;
+      kept = λ clean. keeps_then old mid new (before.kept (early clean)) (it.frame.keeps.kept clean);
+      survives = survives_both old mid new before.survives it.frame.keeps.survives;
     }
 
 pub returns-clause-made : goal.returns-clause-made

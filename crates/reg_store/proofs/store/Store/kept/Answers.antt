@@ -3,4 +3,4 @@ use Rattle.reg_store.proofs.Reading.{reads_on}
 use Rattle.reg_store.proofs.store.Store.kept.Goals as goal
 
 pub returns-clause-same : goal.returns-clause-same
-returns-clause-same g c clean registry k = reads_on (state g.S.Store c.args.self.now.conn) (state g.S.Store c.kept_under-found.new.conn) registry k (c.kept_under-found.ensures.only_reads clean)
+returns-clause-same g c clean registry k = reads_on (state g.S.Store c.args.self.now.conn) (state g.S.Store c.kept_under-found.new.conn) registry k (c.kept_under-found.ensures.frame.only_reads clean)

@@ -41,5 +41,5 @@ returns-clause-survives g c =
     let made = c.in_ok-create.ensures.made clean_last (ap (λ (h : Held _). h.schema) c.transaction-tx.ensures.begun ∙ none) in
     leaves_if_spelled db last.now new_registry nothing_kept is (spells_new last.now made) in
     let whole = survives_then first last (state g.S.Store end) _ _ P (λ _ db none. absurd none) commits
-    (survives_begin g.S.Store c.args.conn.now last _ (rw c.transaction-tx.ensures.begun at c.create.ensures.survives)) c.commit.ensures.survives in
+    (survives_begin g.S.Store c.args.conn.now last _ (rw c.transaction-tx.ensures.begun at c.create.ensures.frame.keeps.survives)) c.commit.ensures.survives in
     subst (λ h. Survives first (state g.S.Store h) P) same whole

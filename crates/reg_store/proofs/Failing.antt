@@ -1,0 +1,104 @@
+-- Why a read of tables that spell a registry fails.
+use Rattle.std.proofs.Common.{◌≡◌, inl, inr, List, ℕ, Option, Some, None, Bool, true, false, Ok, Err, Result, IsTrue, refl, sym, ap, subst, ◌∙◌}
+use Rattle.std.specs.Prelude.{IfErr, IsErrAnd, OnErr, IsSome}
+use Rattle.sqlite.specs.declared.error.Error.{Error}
+use Rattle.sqlite.specs.declared.error.Error.TheVariants.{SqliteFailure, SqlInputError, InvalidParameterCount, ExecuteReturnedResults, InvalidQuery, MultipleStatement, QueryReturnedNoRows, InvalidColumnIndex, InvalidColumnType, IntegralValueOutOfRange, Utf8Error}
+use Rattle.sqlite.specs.declared.error.ErrorCode.{ErrorCode}
+use Rattle.sqlite.specs.declared.error.ErrorCode.TheVariants.{ConstraintViolation, TypeMismatch, IntegerOverflow, NoRowid, ForeignKeyMismatch, TooDeep, NoClock, NameTaken, BadName, BadKey, BadText, SchemaTooBig, TransactionState, NoSuchSavepoint, OperationInterrupted, NotADatabase, DatabaseCorrupt, CannotOpen, DatabaseBusy, TooBig, OutOfMemory, SystemIoFailure, DiskFull, Closed}
+use Rattle.std.proofs.lemmas.Bool.{both_ways}
+use Rattle.sqlite.specs.Steps.{FailsToCommit}
+use Rattle.sqlite.specs.State.{State, store_error}
+use Rattle.sqlite_trees.specs.declared.error.StoreError as trees
+use Rattle.sqlite_trees.specs.declared.error.StoreError.TheVariants as stored
+use Rattle.reg_core.specs.Registry.{Registry}
+use Rattle.reg_tables.specs.Layout.{layout}
+use Rattle.reg_tables.specs.Reading.{CanBeRead, IsFault, IsWriteFault}
+use Rattle.reg_store.specs.declared.error.StoreError.{StoreError}
+use Rattle.reg_store.specs.Failures.{failure_of, is_fault, IsFaultOver, IsNumberless}
+use Rattle.reg_store.specs.Replies.{Kept}
+use Rattle.reg_store.specs.Spells.{SpellsWhileOpen}
+use Rattle.reg_store.proofs.Texts.{readable_if_spelled}
+
+-- a fault of the store is memory or the disk, and no limit on steps is met where there is none
+pub is_fault_of : (s : State) (e : Error) → s.step_limit ≡ None → IsFault s e → IsTrue (is_fault (failure_of e))
+is_fault_of s e unlimited (inl (cause, is)) = subst (λ x. IsTrue (is_fault (failure_of x))) (sym is) (go cause)
+  where
+    go : (cause : trees.StoreError) → IsTrue (is_fault (failure_of (store_error cause)))
+    go stored.OutOfMemory = refl
+    go stored.Io = refl
+    go stored.Corrupt = refl
+    go stored.Full = refl
+    go stored.Broken = refl
+    go stored.Unstorable = refl
+is_fault_of s e unlimited (inr (is, limited)) = absurd (let none = subst IsSome unlimited limited in cc)
+
+-- so is a write's in a transaction that goes on, and a commit's
+pub write_fault_of : (s : State) (e : Error) → s.step_limit ≡ None → s.in_transaction ≡ true → IsWriteFault s e → IsTrue (is_fault (failure_of e))
+write_fault_of s e unlimited inside (inl fault) = is_fault_of s e unlimited fault
+write_fault_of s e unlimited inside (inr (is, ended)) = absurd (both_ways _ ended inside)
+
+pub commit_fault_of : (s new : State) (e : Error) → s.step_limit ≡ None → s.in_transaction ≡ true → FailsToCommit s new e → IsTrue (is_fault (failure_of e))
+commit_fault_of s new e unlimited inside (inl fails) = is_fault_of s e unlimited (inl (fails.0, fails.1))
+commit_fault_of s new e unlimited inside (inr ended) = absurd (both_ways _ ended.1 inside)
+
+-- what is spelled can be read
+pub can_be_read : (s : State) (g : Registry) (k : Kept) → SpellsWhileOpen s g k → CanBeRead s
+can_be_read s g k over = λ is_open.
+    let it = (over is_open).spells in
+    record { schema = layout; is_layout = inl refl; contents = it.contents; holds = it.holds; readable = readable_if_spelled it.contents g k it.spelled }
+
+pub fault_over : (s : State) (e : Error) → s.step_limit ≡ None → (CanBeRead s → IsFault s e) → IsFaultOver s (failure_of e)
+fault_over s e unlimited fault = λ g k over. is_fault_of s e unlimited (fault (can_be_read s g k over))
+
+-- an error that `?` passes on
+pub passed : {X : Type 0} (P : StoreError → Type 0) (r : Result X StoreError) (first : StoreError) → IsErrAnd r (λ e. e ≡ first) → P first → IfErr r P
+passed P (Ok x) first is h = tt
+passed P (Err e) first is h = subst P (sym is) h
+
+pub if_err_each : {X E : Type 0} {P : E → Type 0} (r : Result X E) → ((e : E) → P e) → IfErr r P
+if_err_each (Ok x) f = tt
+if_err_each (Err e) f = f e
+
+pub if_err_on : {X E P : Type 0} {Q : E → Type 0} (r : Result X E) → OnErr r P → (P → (e : E) → Q e) → IfErr r Q
+if_err_on (Ok x) h f = tt
+if_err_on (Err e) h f = f h e
+
+-- an error of `sqlite` names no layout
+pub numberless : (e : Error) → IsNumberless (failure_of e)
+numberless (SqliteFailure code) = go code
+  where
+    go : (code : ErrorCode) → IsNumberless (failure_of (SqliteFailure code))
+    go (ConstraintViolation rule) = tt
+    go TypeMismatch = tt
+    go IntegerOverflow = tt
+    go NoRowid = tt
+    go ForeignKeyMismatch = tt
+    go TooDeep = tt
+    go NoClock = tt
+    go NameTaken = tt
+    go BadName = tt
+    go BadKey = tt
+    go BadText = tt
+    go SchemaTooBig = tt
+    go TransactionState = tt
+    go NoSuchSavepoint = tt
+    go OperationInterrupted = tt
+    go NotADatabase = tt
+    go DatabaseCorrupt = tt
+    go CannotOpen = tt
+    go DatabaseBusy = tt
+    go TooBig = tt
+    go OutOfMemory = tt
+    go SystemIoFailure = tt
+    go DiskFull = tt
+    go Closed = tt
+numberless (SqlInputError e) = tt
+numberless (InvalidParameterCount a b) = tt
+numberless ExecuteReturnedResults = tt
+numberless InvalidQuery = tt
+numberless MultipleStatement = tt
+numberless QueryReturnedNoRows = tt
+numberless (InvalidColumnIndex at) = tt
+numberless (InvalidColumnType at type) = tt
+numberless (IntegralValueOutOfRange at) = tt
+numberless (Utf8Error at) = tt

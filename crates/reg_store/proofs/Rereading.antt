@@ -1,0 +1,17 @@
+-- Several reads, one after the other.
+use Rattle.std.proofs.Common.{◌≡◌, inl, inr, IsTrue, sym, subst, ◌∙◌}
+use Rattle.std.specs.Prelude.{IsSome}
+use Rattle.sqlite.specs.Effect.{Database}
+use Rattle.sqlite.specs.declared.error.Error.{Error}
+use Rattle.sqlite.specs.State.{State}
+use Rattle.reg_tables.specs.Contents.{Holds}
+use Rattle.reg_tables.specs.Reading.{CanBeRead, IsFault, OnlyReads}
+use Rattle.reg_tables.proofs.Transactions.{keeps_then}
+
+pub reads_then : (a b c : State) → OnlyReads a b → OnlyReads b c → OnlyReads a c
+reads_then a b c p q = record { kept = keeps_then a b c p.kept q.kept; settled = q.settled }
+
+module _ (old mid : State) (r : OnlyReads old mid) (settled : IsTrue old.is_open → old.now ≡ old.committed) where
+  -- a later read shows what the first one would
+  pub same_now : IsTrue mid.is_open → mid.now ≡ old.now
+  same_now is_open = r.settled is_open ∙ r.kept.committed is_open ∙ sym (settled (r.kept.was_open is_open))

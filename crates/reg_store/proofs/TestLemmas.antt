@@ -1,0 +1,203 @@
+-- What the tests of the tables say, both ways.
+use Rattle.std.proofs.Common.{◌≡◌, inl, inr, ℤ, List, [], ◌∷◌, map, Bool, true, false, None, Ok, Err, Result, IsTrue, refl, sym, ap, subst, ◌∙◌, arith}
+use Rattle.std.specs.Prelude.{IfErr, IfOk, OnOk, IsErrAnd}
+use Rattle.std.specs.List.{AllByRecursion, IsDistinct}
+use Rattle.std.specs.FinMap.{get}
+use Rattle.sqlite.specs.Schema.{Schema}
+use Rattle.sqlite.specs.Effect.{Database, IsDatabase}
+use Rattle.sqlite.specs.Held.{Held, state}
+use Rattle.sqlite.specs.State.{State, HasCleanDisk}
+use Rattle.sqlite.specs.declared.error.Error.{Error}
+use Rattle.sqlite_trees.specs.declared.store.Store.{Ghosts}
+use Rattle.reg_core.specs.Registry.{Registry}
+use Rattle.reg_tables.specs.declared.lines.TextLine.{TextLine}
+use Rattle.reg_tables.specs.declared.lines.VersionLine.{VersionLine}
+use Rattle.reg_tables.specs.declared.lines.LevelLine.{LevelLine}
+use Rattle.reg_tables.specs.declared.lines.KeptLine.{KeptLine}
+use Rattle.reg_tables.specs.declared.lines.MetaLine.{MetaLine}
+use Rattle.reg_tables.specs.Layout.{IsLayout, texts, versions, levels, kept, meta}
+use Rattle.reg_tables.specs.Contents.{text_form, version_form, pair_form, kept_form, text_cmp, version_cmp, Contents}
+use Rattle.reg_tables.specs.Frames.{StaysIdle}
+use Rattle.reg_tables.specs.Listings.{text_entry, version_entry, level_entry, kept_entry, meta_entry, ListsTexts, ListsVersions, ListsLevels, ListsKept, ListsMeta, ListsAll, HaveNoTwins, Lines, contents_of}
+use Rattle.reg_tables.specs.Reading.{CanBeRead, IsFault}
+use Rattle.reg_tables.proofs.KeyedTables.{text_order, distinct_texts, number_order, distinct_numbers, version_order, distinct_versions}
+use Rattle.reg_tables.proofs.ListingLemmas.{listed_if_shown}
+use Rattle.reg_tables.proofs.Opening.{holds_if_listed, distinct_version_rows, distinct_kept_rows}
+use Rattle.reg_tables.proofs.UniqueKeys.{apart_by_id, versions_apart, levels_apart, kept_apart, meta_apart, rowids_of}
+use Rattle.reg_rows.specs.Spelling.{pair_of, is_meta, IsLevelRow, IsKeptRow, IsSpelling}
+use Rattle.reg_store.specs.declared.error.StoreError.{StoreError}
+use Rattle.reg_store.specs.declared.error.StoreError.TheVariants.{Memory, NotARegistry}
+use Rattle.reg_store.specs.Failures.{failure_of, is_fault}
+use Rattle.reg_store.specs.Opening.{level_row, kept_row, meta_row, rows_of}
+use Rattle.reg_store.specs.Replies.{Kept}
+use Rattle.reg_store.specs.Spells.{SpellsIn, SpellsUnopened}
+use Rattle.reg_store.specs.Testing.{AreApart, level_fits, kept_fits, Tests, TextsPass, VersionsPass, LevelsPass, KeptPass, MetaPass, RestPasses, TablesPass, IsFaultUnopened}
+use Rattle.reg_store.proofs.Bridge.{no_texts, no_versions, levels_fit, kept_fit, meta_fit, spelled_if_rows}
+use Rattle.reg_tables.proofs.Transactions.{survives_both, on_ok}
+use Rattle.reg_store.proofs.Failing.{is_fault_of}
+use Rattle.reg_store.proofs.Rereading.{reads_then, same_now}
+use Rattle.reg_store.proofs.Texts.{readable_if_spelled}
+
+-- ---- lines and rows
+
+each_row : {A B : Type 0} (f : A → B) (P : B → Type 0) (xs : List A) → AllByRecursion (λ x. P (f x)) xs → AllByRecursion P (map f xs)
+each_row f P [] h = tt
+each_row f P (x ∷ xs) h = (h.0, each_row f P xs h.1)
+
+each_line : {A B : Type 0} (f : A → B) (P : B → Type 0) (xs : List A) → AllByRecursion P (map f xs) → AllByRecursion (λ x. P (f x)) xs
+each_line f P [] h = tt
+each_line f P (x ∷ xs) h = (h.0, each_line f P xs h.1)
+
+-- ---- tables that spell a registry pass
+
+pub is_known : (db : Database) (g : Registry) (k : Kept) → SpellsUnopened db g k → IsLayout db.schema
+is_known db g k s = subst IsLayout (sym s.spells.holds.declared) s.known
+
+module _ (schema : Schema) (db : Database) (g : Registry) (k : Kept) (s : SpellsIn schema db g k) where
+  pub texts_pass : (lines : List TextLine) → ListsTexts db lines → lines ≡ []
+  texts_pass lines lists =
+      let shown = listed_if_shown text_form _ number_order distinct_numbers (db.trees texts.tree) (map text_entry lines) lists s.contents.texts distinct_texts s.holds.texts in
+      no_texts lines (sym shown.is ∙ s.spelled.texts)
+
+  pub versions_pass : (lines : List VersionLine) → ListsVersions db lines → lines ≡ []
+  versions_pass lines lists =
+      let shown = listed_if_shown version_form version_cmp version_order distinct_versions (db.trees versions.tree) (map version_entry lines) lists s.contents.versions distinct_version_rows s.holds.versions in
+      no_versions lines (sym shown.is ∙ s.spelled.versions)
+
+  pub levels_pass : (lines : List LevelLine) → ListsLevels db lines → AreApart (map (λ (line : LevelLine). line.rowid) lines) × AllByRecursion level_fits lines
+  levels_pass lines lists =
+      let shown = listed_if_shown pair_form text_cmp text_order distinct_texts (db.trees levels.tree) (map level_entry lines) lists s.contents.levels distinct_texts s.holds.levels in (
+        subst AreApart (rowids_of level_entry (λ (line : LevelLine). line.rowid) (λ line. refl) lines) shown.apart.rowids,
+        each_line level_row IsLevelRow lines (levels_fit lines shown.apart g.own (λ q. sym (ap (λ m. get m q) shown.is) ∙ s.spelled.levels q) s.spelled.subjects),
+      )
+
+  pub kept_pass : (lines : List KeptLine) → ListsKept db lines → AreApart (map (λ (line : KeptLine). line.rowid) lines) × AllByRecursion kept_fits lines
+  kept_pass lines lists =
+      let shown = listed_if_shown kept_form text_cmp text_order distinct_texts (db.trees kept.tree) (map kept_entry lines) lists s.contents.kept distinct_kept_rows s.holds.kept in (
+        subst AreApart (rowids_of kept_entry (λ (line : KeptLine). line.rowid) (λ line. refl) lines) shown.apart.rowids,
+        each_line kept_row IsKeptRow lines (kept_fit lines shown.apart k (λ q. sym (ap (λ m. get m q) shown.is) ∙ s.spelled.kept q) s.spelled.keys),
+      )
+
+  pub meta_passes : (lines : List MetaLine) → ListsMeta db lines → AreApart (map (λ (line : MetaLine). line.rowid) lines) × IsTrue (is_meta (map pair_of (map meta_row lines)))
+  meta_passes lines lists =
+      let shown = listed_if_shown pair_form text_cmp text_order distinct_texts (db.trees meta.tree) (map meta_entry lines) lists s.contents.meta distinct_texts s.holds.meta in (
+        subst AreApart (rowids_of meta_entry (λ (line : MetaLine). line.rowid) (λ line. refl) lines) shown.apart.rowids,
+        meta_fit lines shown.apart g.global (sym shown.is ∙ s.spelled.meta),
+      )
+
+-- ---- tables that pass spell a registry
+
+module _ (db : Database) (known : IsLayout db.schema) (sound : IsDatabase db) (p : TablesPass db) where
+  lines : Lines
+  lines = record { texts = []; versions = []; levels = p.rest.levels.lines; kept = p.rest.kept.lines; meta = p.meta.lines }
+
+  lists : ListsAll db lines
+  unfolding lines
+  lists = record { texts = p.rest.texts; versions = p.rest.versions; levels = p.rest.levels.lists; kept = p.rest.kept.lists; meta = p.meta.lists }
+
+  apart : HaveNoTwins lines
+  unfolding lines IsDistinct
+  apart = record {
+    texts = apart_by_id [] tt;
+    versions = versions_apart db known sound [] p.rest.versions tt;
+    levels = levels_apart db known sound p.rest.levels.lines p.rest.levels.lists p.rest.levels.apart;
+    kept = kept_apart db known sound p.rest.kept.lines p.rest.kept.lists p.rest.kept.apart;
+    meta = meta_apart db known sound p.meta.lines p.meta.lists p.meta.apart;
+  }
+
+  hold : IsSpelling (rows_of lines)
+  unfolding lines
+  hold = record {
+    texts = refl;
+    versions = refl;
+    levels = each_row level_row IsLevelRow p.rest.levels.lines p.rest.levels.fit;
+    kept = each_row kept_row IsKeptRow p.rest.kept.lines p.rest.kept.fit;
+    meta = p.meta.fit;
+  }
+
+  pub spelled_if_passed : (g : Registry) × (k : Kept) × SpellsUnopened db g k
+  spelled_if_passed =
+      let it = spelled_if_rows lines apart hold in
+      (it.0, it.1, record { schema = db.schema; known = known; spells = record { contents = contents_of lines; holds = holds_if_listed db.schema db lines refl lists sound apart; spelled = it.2 } })
+
+-- ---- how a test comes out
+
+pub unopened_can_be_read : (s : State) (g : Registry) (k : Kept) → (IsTrue s.is_open → SpellsUnopened s.now g k) → CanBeRead s
+unopened_can_be_read s g k over = λ is_open.
+    let it = over is_open in
+    record { schema = it.schema; is_layout = it.known; contents = it.spells.contents; holds = it.spells.holds; readable = readable_if_spelled it.spells.contents g k it.spells.spelled }
+
+module _ {S X : Type 0} (g : Ghosts S) (old new : Held S) where
+  pub framed : {Y E F : Type 0} (a : Result X E) (b : Result Y F) → StaysIdle g old new a → (HasCleanDisk (state g new) → OnOk b (IsTrue (state g old).is_open)) → StaysIdle g old new b
+  framed a b f was_open = record { idle = f.idle; was_open = was_open; only_reads = f.only_reads; survives = f.survives }
+
+  -- the table wasn't read
+  pub test_unread : {P : Database → Type 0} (r : Result (Unit {0}) StoreError) (e : Error) → old.step_limit ≡ None → StaysIdle {X = X} {E = Error} g old new (Err e) → (HasCleanDisk (state g new) → CanBeRead (state g old) → IsFault (state g old) e)
+      → IsErrAnd r (λ failure. failure ≡ failure_of e) → Tests g old new r P
+  test_unread (Ok x) e unlimited f fault is = absurd is
+  test_unread (Err failure) e unlimited f fault is = record {
+    frame = framed (Err e) (Err failure) f (λ clean. tt);
+    passes = λ clean. tt;
+    fault = λ clean registry k over. subst (λ x. IsTrue (is_fault x)) (sym is) (is_fault_of (state g old) e unlimited (fault clean (unopened_can_be_read (state g old) registry k over)));
+  }
+
+  -- memory was refused
+  pub test_refused : {P : Database → Type 0} (r : Result (Unit {0}) StoreError) (x : X) → StaysIdle {X = X} {E = Error} g old new (Ok x) → IsErrAnd r (λ failure. failure ≡ Memory) → Tests g old new r P
+  test_refused (Ok y) x f is = absurd is
+  test_refused (Err failure) x f is = record { frame = framed (Ok x) (Err failure) f (λ clean. tt); passes = λ clean. tt; fault = λ clean registry k over. subst (λ e. IsTrue (is_fault e)) (sym is) refl }
+
+  -- the table was read, and passes or doesn't
+  pub test_judged : {P : Database → Type 0} (r : Result (Unit {0}) StoreError) (x : X) (b : Bool) → StaysIdle {X = X} {E = Error} g old new (Ok x) → OnOk r (IsTrue b) → IfErr r (λ e. (e ≡ NotARegistry) × (b ≡ false))
+      → (HasCleanDisk (state g new) → IsTrue b → IsLayout (state g old).now.schema → P (state g old).now)
+      → (HasCleanDisk (state g new) → b ≡ false → (registry : Registry) (k : Kept) → SpellsUnopened (state g old).now registry k → ⊥) → Tests g old new r P
+  test_judged (Ok y) x b f ok err passes fails = record { frame = framed (Ok x) (Ok y) f f.was_open; passes = λ clean. passes clean ok; fault = λ clean. tt }
+  test_judged (Err e) x b f ok err passes fails = record {
+    frame = framed (Ok x) (Err e) f (λ clean. tt);
+    passes = λ clean. tt;
+    fault = λ clean registry k over. absurd (fails clean err.1 registry k (over (f.was_open clean)));
+  }
+
+-- ---- several tests, one after the other
+
+on_any : {X E P : Type 0} (r : Result X E) → P → OnOk r P
+on_any (Ok x) p = p
+on_any (Err e) p = tt
+
+module _ {S : Type 0} (g : Ghosts S) (a b c : Held S) (settled : IsTrue (state g a).is_open → (state g a).now ≡ (state g a).committed) where
+  -- the second sees what the first saw
+  pub tests_then : {P Q : Database → Type 0} {x : Unit {0}} (r : Result (Unit {0}) StoreError) → Tests g a b (Ok x) P → Tests g b c r Q → Tests g a c r (λ db. P db × Q db)
+  tests_then {P = P} {Q = Q} r one two = record {
+    frame = record {
+      idle = two.frame.idle;
+      was_open = λ clean. on_any r (one.frame.was_open (before clean));
+      only_reads = λ clean. reads_then (state g a) (state g b) (state g c) (one.frame.only_reads (before clean)) (two.frame.only_reads clean);
+      survives = survives_both (state g a) (state g b) (state g c) one.frame.survives two.frame.survives;
+    };
+    passes = λ clean. passed r (two.frame.was_open clean) (two.passes clean) clean;
+    fault = λ clean. failed r (two.fault clean) clean;
+  }
+    where
+      before : HasCleanDisk (state g c) → HasCleanDisk (state g b)
+      before clean = omega (arith, two.frame.survives.clean)
+
+      same : HasCleanDisk (state g c) → IsTrue (state g b).is_open → (state g b).now ≡ (state g a).now
+      same clean = same_now (state g a) (state g b) (one.frame.only_reads (before clean)) settled
+
+      passed : (r : Result (Unit {0}) StoreError) → OnOk r (IsTrue (state g b).is_open) → OnOk r (IsLayout (state g b).now.schema → Q (state g b).now) → HasCleanDisk (state g c) → OnOk r (IsLayout (state g a).now.schema → P (state g a).now × Q (state g a).now)
+      passed (Ok y) is_open q clean = λ known.
+          let now = same clean is_open in
+          (one.passes (before clean) known, subst Q now (q (subst (λ (d : Database). IsLayout d.schema) (sym now) known)))
+      passed (Err e) is_open q clean = tt
+
+      failed : (r : Result (Unit {0}) StoreError) → IfErr r (IsFaultUnopened (state g b)) → HasCleanDisk (state g c) → IfErr r (IsFaultUnopened (state g a))
+      failed (Ok y) h clean = tt
+      failed (Err e) h clean = λ registry k over. h registry k (λ is_open. subst (λ (d : Database). SpellsUnopened d registry k) (sym (same clean is_open)) (over ((one.frame.only_reads (before clean)).kept.was_open is_open)))
+
+module _ {S : Type 0} (g : Ghosts S) (old new : Held S) where
+  -- an error that `?` passes on
+  pub test_fails : {P Q : Database → Type 0} (r : Result (Unit {0}) StoreError) (e : StoreError) → Tests {X = Unit {0}} g old new (Err e) P → IsErrAnd r (λ failure. failure ≡ e) → Tests g old new r Q
+  test_fails (Ok x) e t is = absurd is
+  test_fails (Err failure) e t is = record { frame = framed g old new (Err e) (Err failure) t.frame (λ clean. tt); passes = λ clean. tt; fault = λ clean. subst (IsFaultUnopened (state g old)) (sym is) (t.fault clean) }
+
+  pub test_says : {P Q : Database → Type 0} (r : Result (Unit {0}) StoreError) → Tests g old new r P → ((db : Database) → P db → Q db) → Tests g old new r Q
+  test_says r t f = record { frame = t.frame; passes = λ clean. on_ok r (λ p known. f (state g old).now (p known)) (t.passes clean); fault = t.fault }

@@ -1,0 +1,93 @@
+-- What the tables spell is read: its texts are UTF-8, and its statuses are low.
+use Rattle.std.proofs.Common.{◌≡◌, ◌≢◌, inl, inr, ℕ, ◌<◌, ◌≤◌, ◌^◌, Bool, true, false, List, [], ◌∷◌, Option, Some, None, codes, cond, refl, sym, ap, subst, ◌∙◌, arith, get_or}
+use Rattle.std.specs.Prelude.{IsUtf8, IsTrue, length, nat_lt, nat_le, ◌==◌, ◌&&◌, option_map}
+use Rattle.std.specs.FinMap.{FinMap, get, insert, empty, get-empty}
+use Rattle.std.specs.Str.{IsAscii, is_utf8}
+use Rattle.std.proofs.lemmas.Bool.{ltb-false, and_parts}
+use Rattle.std.proofs.lemmas.Bool.Decides.{nat_tests}
+use Rattle.std.proofs.lemmas.List.{get_or_past}
+use Rattle.std.proofs.lemmas.Str.{IsUtf8-from_ascii, IsUtf8-from_is_utf8}
+use Rattle.reg_core.specs.declared.level.Level.{Level}
+use Rattle.reg_core.specs.declared.level.Level.TheVariants.{Backward, BackwardTransitive, Forward, ForwardTransitive, Full, FullTransitive, Off}
+use Rattle.reg_core.specs.Keys.{is_key_byte, IsKey}
+use Rattle.reg_core.specs.Levels.{level_text}
+use Rattle.reg_core.specs.Subjects.{is_subject}
+use Rattle.reg_core.specs.Replies.{IsKeptStatus}
+use Rattle.reg_core.specs.Registry.{Registry}
+use Rattle.reg_tables.specs.Contents.{text_cmp, TextMap, KeptRow, Contents, AreReadable}
+use Rattle.reg_tables.specs.Changes.{meta_of}
+use Rattle.reg_tables.proofs.MapLemmas.{get-insert-same, get-insert-other, same_or_not}
+use Rattle.reg_tables.proofs.KeyedTables.{text_order}
+use Rattle.reg_store.specs.Replies.{Entry, Kept}
+use Rattle.reg_store.specs.Spells.{IsSpelled, row_of}
+
+key_byte_ascii : (c : ℕ) → is_key_byte c ≡ true → c < 128
+key_byte_ascii c e = grind (arith, nat_tests)
+
+below : (i n : ℕ) → nat_lt i n ≡ true → i < n
+below i n e = grind (arith, nat_tests)
+
+-- a key is ASCII
+pub utf8_key : (text : List ℕ) → IsKey text → IsUtf8 text
+utf8_key text k = IsUtf8-from_ascii text ascii
+  where
+    ascii : IsAscii text
+    ascii i = by (nat_lt i (length text)) refl
+      where
+        by : (b : Bool) → nat_lt i (length text) ≡ b → get_or text i 0 < 128
+        by true e = key_byte_ascii (get_or text i 0) (k.2 i 0 (below i (length text) e))
+        by false e = let past : get_or text i 0 ≡ 0 = get_or_past text i 0 (ltb-false i (length text) e) in omega arith
+
+pub utf8_subject : (text : List ℕ) → IsTrue (is_subject text) → IsUtf8 text
+unfolding is_subject
+utf8_subject text h = IsUtf8-from_is_utf8 text (and_parts (is_utf8 text) _ (and_parts (is_utf8 text && nat_lt 0 (length text)) _ (and_parts (is_utf8 text && nat_lt 0 (length text) && nat_le (length text) 255) _ h).0).0).0
+
+pub utf8_level : (level : Level) → IsUtf8 (level_text level)
+unfolding lib.Utf8.encode
+utf8_level Backward = (level_text Backward, (refl, refl))
+utf8_level BackwardTransitive = (level_text BackwardTransitive, (refl, refl))
+utf8_level Forward = (level_text Forward, (refl, refl))
+utf8_level ForwardTransitive = (level_text ForwardTransitive, (refl, refl))
+utf8_level Full = (level_text Full, (refl, refl))
+utf8_level FullTransitive = (level_text FullTransitive, (refl, refl))
+utf8_level Off = (level_text Off, (refl, refl))
+
+pub low_status : (n : ℕ) → IsKeptStatus n → n < 2 ^ 32
+low_status n h = grind (arith, nat_tests)
+
+-- what holds of each entry of a map holds with one more
+each_inserted : {V : Type 0} (P : List ℕ → V → Type 0) (m : TextMap V) (k : List ℕ) (v : V) → P k v → ((q : List ℕ) (w : V) → get m q ≡ Some w → P q w)
+    → (q : List ℕ) (w : V) → get (insert m k v) q ≡ Some w → P q w
+each_inserted P m k v here others q w some = elim (same_or_not text_cmp text_order q k) [
+  | inl e ↦ let value : v ≡ w = (let both = sym (get-insert-same text_cmp text_order m k v) ∙ ap (get (insert m k v)) (sym e) ∙ some in cc) in
+      subst (λ l. P l w) (sym e) (subst (P k) value here)
+  | inr other ↦ others q w (sym (get-insert-other text_cmp text_order m k v q other) ∙ some)
+]
+
+-- a value that is written so is one that was there
+pub was_written : {V W : Type 0} (write : V → W) (o : Option V) (w : W) → option_map write o ≡ Some w → (v : V) × (o ≡ Some v) × (w ≡ write v)
+was_written write None w h = absurd (cc)
+was_written write (Some v) w h = (v, refl, let same : write v ≡ w = cc in sym same)
+
+utf8_meta : (level : Level) (name value : List ℕ) → get (meta_of (level_text level)) name ≡ Some value → IsUtf8 name × IsUtf8 value
+unfolding lib.Utf8.encode
+utf8_meta level =
+    let P = λ (name value : List ℕ). IsUtf8 name × IsUtf8 value in
+    let one = each_inserted P empty (codes "format") (codes "avroreg") ((codes "format", (refl, refl)), (codes "avroreg", (refl, refl))) (λ q w some. absurd (let e = sym (get-empty text_cmp q) ∙ some in cc)) in
+    let two = each_inserted P _ (codes "layout") (codes "1") ((codes "layout", (refl, refl)), (codes "1", (refl, refl))) one in
+    each_inserted P _ (codes "global") (level_text level) ((codes "global", (refl, refl)), utf8_level level) two
+
+-- what the tables spell can be read
+pub readable_if_spelled : (contents : Contents) (g : Registry) (k : Kept) → IsSpelled contents g k → AreReadable contents
+readable_if_spelled contents g k s = record {
+  texts = λ id text there. absurd (let e = sym (ap (λ m. get m id) s.texts ∙ get-empty _ id) ∙ there in cc);
+  versions = λ key version there. absurd (let e = sym (ap (λ m. get m key) s.versions ∙ get-empty _ key) ∙ there in cc);
+  levels = λ subject level there.
+      let it = was_written level_text (g.own subject) level (sym (s.levels subject) ∙ there) in
+      (utf8_subject subject (s.subjects subject it.0 it.1), subst IsUtf8 (sym it.2) (utf8_level it.0));
+  kept = λ key reply there.
+      let it = was_written row_of (k key) reply (sym (s.kept key) ∙ there) in
+      let fits = s.keys key it.0 it.1 in
+      (utf8_key key fits.is_key, rw it.2 (record { command = fits.text; status = low_status it.0.reply.status fits.status; body = fits.body }));
+  meta = λ name value there. utf8_meta g.global name value (sym (ap (λ m. get m name) s.meta) ∙ there);
+}

@@ -1,0 +1,83 @@
+use Rattle.std.proofs.Common.{◌≡◌, ◌∙◌, inl, inr, sym, ap, subst, arith, rules}
+use Rattle.std.specs.Prelude.{IsTrue}
+use Rattle.sqlite.specs.Tree.{Trees}
+use Rattle.sqlite.specs.declared.error.Error.{Error}
+use Rattle.sqlite.specs.Held.{Held, state}
+use Rattle.sqlite.specs.State.{HasCleanDisk, Survives}
+use Rattle.sqlite.proofs.StateLemmas.{survives_then}
+use Rattle.sqlite.proofs.Callers.{survives_begin}
+use Rattle.reg_tables.specs.Layout.{unindexed}
+use Rattle.reg_tables.specs.Contents.{Contents, HoldsIn, Holds}
+use Rattle.reg_tables.proofs.Transactions.{on_ok, if_err}
+use Rattle.reg_tables.proofs.WriteFaults.{erred_with}
+use Rattle.reg_store.specs.Opening.{IsIndexed}
+use Rattle.reg_store.specs.Failures.{failure_of, is_fault}
+use Rattle.reg_store.proofs.Committing.{left_if_held}
+use Rattle.reg_store.proofs.Failing.{write_fault_of, commit_fault_of}
+use Rattle.reg_store.proofs.store.opening.make_index.Goals as goal
+
+pub returns-clause-done : goal.returns-clause-done
+returns-clause-done g c clean =
+    let end = c.commit.new.self.0 in
+    let same : end ≡ c.conn-2-1.given.0 = search rules in
+    let first = state g.S.Store c.args.conn.now in
+    let last = state g.S.Store c.index_versions.new.tx.conn.now in
+    let late : HasCleanDisk (state g.S.Store end) = search rules in
+    let clean_last : HasCleanDisk last = omega (arith, c.commit.ensures.survives.clean) in
+    on_ok c.commit.result (λ done.
+    let begun_open = (c.index_versions.ensures.frame.keeps.kept clean_last).was_open done.1.was_open in
+    let was_open = subst (λ h. IsTrue (state g.S.Store h).is_open) c.transaction-tx.ensures.begun begun_open in
+    let held = λ (contents : Contents) (holds : HoldsIn unindexed first.now contents).
+    let begun = subst (λ h. HoldsIn unindexed (state g.S.Store h).now contents) (sym c.transaction-tx.ensures.begun) holds in
+    subst (λ d. Holds d contents) (sym done.1.now_is) (c.in_ok-index_versions.ensures.indexed clean_last contents begun) in
+    subst (λ h. IsTrue first.is_open × IsTrue (state g.S.Store h).is_open × ((state g.S.Store h).committed ≡ (state g.S.Store h).now) × ((contents : Contents) → HoldsIn unindexed first.now contents → Holds (state g.S.Store h).now contents))
+    same (was_open, done.1.is_open, done.1.committed_is ∙ sym done.1.now_is, held)) (c.commit.ensures.ok late)
+
+pub returns-clause-survives : goal.returns-clause-survives
+returns-clause-survives g c =
+    let end = c.commit.new.self.0 in
+    let same : end ≡ c.conn-2-1.given.0 = search rules in
+    let first = state g.S.Store c.args.conn.now in
+    let last = state g.S.Store c.index_versions.new.tx.conn.now in
+    let P = λ (db : Trees). IsTrue first.is_open × IsIndexed first.now db in
+    let commits = λ (clean : HasCleanDisk (state g.S.Store end)) (db : Trees) (is : db ≡ last.now.trees).
+    let clean_last : HasCleanDisk last = omega (arith, c.commit.ensures.survives.clean) in
+    let was_open = subst (λ h. IsTrue (state g.S.Store h).is_open) c.transaction-tx.ensures.begun (c.in_ok-index_versions.ensures.frame.was_open clean_last) in
+    let indexed = λ (contents : Contents) (holds : HoldsIn unindexed first.now contents).
+    let begun = subst (λ h. HoldsIn unindexed (state g.S.Store h).now contents) (sym c.transaction-tx.ensures.begun) holds in
+    left_if_held db last.now contents is (c.in_ok-index_versions.ensures.indexed clean_last contents begun) in
+    let both : P db = (was_open, indexed) in
+    both in
+    let whole = survives_then first last (state g.S.Store end) _ _ P (λ _ db none. absurd none) commits
+    (survives_begin g.S.Store c.args.conn.now last _ (rw c.transaction-tx.ensures.begun at c.index_versions.ensures.frame.keeps.survives)) c.commit.ensures.survives in
+    subst (λ h. Survives first (state g.S.Store h) P) same whole
+
+pub returns-clause-fault : goal.returns-clause-fault
+returns-clause-fault g c clean =
+    let end = c.commit.new.self.0 in
+    let late : HasCleanDisk (state g.S.Store end) = search rules in
+    let last = state g.S.Store c.index_versions.new.tx.conn.now in
+    let clean_last : HasCleanDisk last = omega (arith, c.commit.ensures.survives.clean) in
+    let unlimited = c.index_versions.ensures.frame.keeps.survives.limit ∙ ap (λ (h : Held _). h.step_limit) c.transaction-tx.ensures.begun ∙ c.requires.unlimited in
+    if_err c.commit.result (λ e fails held. commit_fault_of last (state g.S.Store end) e unlimited (c.in_ok-index_versions.ensures.frame.inside clean_last) fails) (c.commit.ensures.err late)
+
+pub returns-in_err-index_versions-clause-fault : goal.returns-in_err-index_versions-clause-fault
+returns-in_err-index_versions-clause-fault g c clean =
+    let end = c.drop-tx.new.self.0 in
+    let late : HasCleanDisk (state g.S.Store end) = search rules in
+    let first = state g.S.Store c.args.conn.now in
+    let begun = state g.S.Store c.transaction-tx.result.conn.now in
+    let last = state g.S.Store c.index_versions.new.tx.conn.now in
+    let clean_last : HasCleanDisk last = omega (arith, c.drop-tx.ensures.survives.clean) in
+    let unlimited = ap (λ (h : Held _). h.step_limit) c.transaction-tx.ensures.begun ∙ c.requires.unlimited in
+    let inside = ap (λ (h : Held _). h.in_transaction) c.transaction-tx.ensures.begun in
+    let e = c.in_err-index_versions.field-0.0 in
+    let err = c.in_err-index_versions.ensures in
+    let fault = write_fault_of begun e unlimited inside in
+    let Held : Error → Type 0 = λ e. (IsTrue first.is_open → (contents : Contents) × HoldsIn unindexed first.now contents) → IsTrue (is_fault (failure_of e)) in
+    erred_with c.from_residual.result e Held c.from_residual.ensures.1 (λ held. elim (err.frame.shut clean_last) [
+      | inl is_open ↦
+          let it = held (subst (λ h. IsTrue (state g.S.Store h).is_open) c.transaction-tx.ensures.begun is_open) in
+          fault (err.fault clean_last it.0 (subst (λ h. HoldsIn unindexed (state g.S.Store h).now it.0) (sym c.transaction-tx.ensures.begun) it.1))
+      | inr shut ↦ fault shut
+    ])

@@ -1,0 +1,84 @@
+use Rattle.std.proofs.Common.{◌≡◌, ◌∙◌, IsTrue, true≢false, sym, ap, subst, arith, rules}
+use Rattle.std.proofs.lemmas.Bool.{both_ways}
+use Rattle.sqlite.specs.Tree.{Trees}
+use Rattle.sqlite.specs.Effect.{Database}
+use Rattle.sqlite.specs.Held.{state}
+use Rattle.sqlite.specs.State.{HasCleanDisk, Survives}
+use Rattle.sqlite.proofs.StateLemmas.{survives_then}
+use Rattle.reg_tables.specs.Layout.{unindexed, IsLayout}
+use Rattle.reg_tables.specs.Contents.{Contents, HoldsIn}
+use Rattle.reg_store.specs.Failures.{failure_of}
+use Rattle.reg_store.specs.Opening.{IsIndexed, TellsNewer}
+use Rattle.reg_store.specs.Testing.{IsFaultUnopened}
+use Rattle.reg_store.proofs.Failing.{passed}
+use Rattle.reg_store.proofs.MetaLemmas.{not_outdated}
+use Rattle.reg_store.proofs.OpenLemmas.{opens_as_it_is, opens_with_index, index_survives, spells_under, on_err_any, only_reads}
+use Rattle.reg_tables.proofs.Transactions.{keeps_then}
+use Rattle.reg_store.proofs.Rereading.{same_now}
+use Rattle.reg_store.proofs.store.opening.make_ready.Goals as goal
+
+pub returns-then-not-is_unindexed-clause-done : goal.returns-then-not-is_unindexed-clause-done
+returns-then-not-is_unindexed-clause-done g c clean =
+    let idle : IsTrue c.is_autocommit-idle.result = search rules in
+    let old = state g.S.Store c.args.conn.now in
+    let mid = state g.S.Store c.test.new.conn in
+    let t = c.in_ok-test.ensures in
+    let was_open = t.tests.frame.was_open clean in
+    opens_as_it_is old mid (t.tests.frame.only_reads clean) (c.is_autocommit-idle.ensures.settled idle) t.known (c.schema-live.ensures.live was_open).0 (t.tests.passes clean t.known)
+    (λ bare. both_ways _ c.if-not-is_unindexed.true (c.is_unindexed.ensures.1 bare))
+
+pub returns-in_err-made-clause-newer : goal.returns-in_err-made-clause-newer
+returns-in_err-made-clause-newer g c clean =
+    let old = state g.S.Store c.args.conn.now in
+    let early : HasCleanDisk (state g.S.Store c.test.new.conn) = omega (arith, c.make_index-made.ensures.survives.clean) in
+    let t = c.in_ok-test.ensures in
+    passed (TellsNewer old) c.from_residual-in_err-made.result _ c.from_residual-in_err-made.ensures.1 (λ number is_open out. absurd (not_outdated old.now number (t.tests.passes early t.known).meta out))
+
+pub returns-clause-done : goal.returns-clause-done
+returns-clause-done g c clean =
+    let idle : IsTrue c.is_autocommit-idle.result = search rules in
+    let old = state g.S.Store c.args.conn.now in
+    let mid = state g.S.Store c.test.new.conn in
+    let new = state g.S.Store c.make_index-made.new.conn in
+    let early : HasCleanDisk mid = omega (arith, c.make_index-made.ensures.survives.clean) in
+    let t = c.in_ok-test.ensures in
+    let made = c.in_ok-made.ensures.done clean in
+    opens_with_index old mid (t.tests.frame.only_reads early) (c.is_autocommit-idle.ensures.settled idle) t.known (c.schema-live.ensures.live (t.tests.frame.was_open early)).0 (t.tests.passes early t.known)
+    new (c.is_unindexed.ensures.0 c.if-not-is_unindexed.false) made.0 made.1 made.2 made.3
+
+pub returns-clause-survives : goal.returns-clause-survives
+returns-clause-survives g c =
+    let idle : IsTrue c.is_autocommit-idle.result = search rules in
+    let t = c.in_ok-test.ensures.tests.frame in
+    index_survives (state g.S.Store c.args.conn.now) (state g.S.Store c.test.new.conn) (state g.S.Store c.make_index-made.new.conn) t.only_reads (c.is_autocommit-idle.ensures.settled idle) t.survives c.make_index-made.ensures.survives
+
+pub returns-in_err-made-clause-survives : goal.returns-in_err-made-clause-survives
+returns-in_err-made-clause-survives g c =
+    let idle : IsTrue c.is_autocommit-idle.result = search rules in
+    let t = c.in_ok-test.ensures.tests.frame in
+    index_survives (state g.S.Store c.args.conn.now) (state g.S.Store c.test.new.conn) (state g.S.Store c.make_index-made.new.conn) t.only_reads (c.is_autocommit-idle.ensures.settled idle) t.survives c.make_index-made.ensures.survives
+
+pub returns-in_err-made-clause-fault : goal.returns-in_err-made-clause-fault
+returns-in_err-made-clause-fault g c clean =
+    let idle : IsTrue c.is_autocommit-idle.result = search rules in
+    let old = state g.S.Store c.args.conn.now in
+    let mid = state g.S.Store c.test.new.conn in
+    let early : HasCleanDisk mid = omega (arith, c.make_index-made.ensures.survives.clean) in
+    let t = c.in_ok-test.ensures in
+    let e = c.in_err-made.field-0.0 in
+    passed (IsFaultUnopened old) c.from_residual-in_err-made.result (failure_of e) c.from_residual-in_err-made.ensures.1
+    (λ registry k over. c.in_err-made.ensures.fault clean (λ mid_open.
+    let same = same_now old mid (t.tests.frame.only_reads early) (c.is_autocommit-idle.ensures.settled idle) mid_open in
+    let bare = sym (ap (λ (d : Database). d.schema) same) ∙ c.is_unindexed.ensures.0 c.if-not-is_unindexed.false in
+    let spells = spells_under unindexed old.now registry k bare (over (t.tests.frame.was_open early)) in
+    (spells.contents, subst (λ (d : Database). HoldsIn unindexed d spells.contents) (sym same) spells.holds)))
+
+pub returns-in_err-made-clause-nothing : goal.returns-in_err-made-clause-nothing
+returns-in_err-made-clause-nothing g c clean =
+    let idle : IsTrue c.is_autocommit-settled.result = search rules in
+    let old = state g.S.Store c.args.conn.now in
+    let mid = state g.S.Store c.test.new.conn in
+    let new = state g.S.Store c.make_index-made.new.conn in
+    let early : HasCleanDisk mid = omega (arith, c.make_index-made.ensures.survives.clean) in
+    let kept = keeps_then old mid new (c.in_ok-test.ensures.tests.frame.only_reads early).kept (c.in_err-made.ensures.nothing clean) in
+    on_err_any c.from_residual-in_err-made.result (only_reads old new kept (c.is_autocommit-settled.ensures.settled idle))

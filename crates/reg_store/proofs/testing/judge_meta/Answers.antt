@@ -1,0 +1,15 @@
+use Rattle.std.proofs.Common.{◌≡◌, ℤ, List, map, IsTrue, sym, ap, subst, ◌∙◌}
+use Rattle.reg_rows.specs.Spelling.{Text, pair_of, is_meta, layout_in}
+use Rattle.reg_store.specs.Testing.{AreApart}
+use Rattle.reg_store.proofs.MetaLemmas.{judged}
+use Rattle.reg_store.proofs.testing.judge_meta.Goals as goal
+
+pub returns : goal.returns
+returns c =
+    let Rows : List (Text × Text) → Type 0 = λ l. IsTrue (is_meta (map pair_of l)) in
+    let rows = c.deref-2.ensures.value ∙ c.in_ok-rows.ensures in
+    let named = c.deref-3.ensures.value ∙ c.in_ok-rows.ensures in
+    let rowids = c.deref_mut.ensures.value ∙ c.in_ok-rowids.ensures ∙ ap (map _) c.deref.ensures.value in
+    judged c.args.lines.items c.layout_of.result c.pass_meta-passes.result c.allow_layout.result (c.layout_of.ensures ∙ ap (λ l. layout_in (map pair_of l)) named)
+    (λ yes. let both = c.pass_meta-passes.ensures.0 yes in (subst AreApart rowids both.0, subst Rows rows both.1))
+    (λ both. c.pass_meta-passes.ensures.1 (subst AreApart (sym rowids) both.0, subst Rows (sym rows) both.1)) c.allow_layout.ensures

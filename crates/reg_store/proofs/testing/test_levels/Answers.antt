@@ -1,0 +1,30 @@
+use Rattle.std.proofs.Common.{List, map, sym, subst}
+use Rattle.std.specs.List.{AllByRecursion}
+use Rattle.std.proofs.lemmas.Bool.{both_ways}
+use Rattle.sqlite.specs.Held.{state}
+use Rattle.reg_tables.specs.declared.lines.LevelLine.{LevelLine}
+use Rattle.reg_store.specs.Testing.{AreApart, level_fits}
+use Rattle.reg_store.specs.Failures.{IsNumberless}
+use Rattle.reg_store.proofs.Failing.{numberless, passed}
+use Rattle.reg_store.proofs.TestLemmas.{test_unread, test_judged, is_known, levels_pass}
+use Rattle.reg_store.proofs.testing.test_levels.Goals as goal
+
+pub returns-in_err-lines-clause-tests : goal.returns-in_err-lines-clause-tests
+returns-in_err-lines-clause-tests g c =
+    test_unread g.S.Store c.args.conn.now c.level_lines.new.conn c.from_residual.result c.in_err-lines.field-0.0 c.requires.unlimited c.in_err-lines.ensures.frame c.in_err-lines.ensures.fault c.from_residual.ensures.1
+
+pub returns-in_err-lines-clause-plain : goal.returns-in_err-lines-clause-plain
+returns-in_err-lines-clause-plain g c = passed IsNumberless c.from_residual.result _ c.from_residual.ensures.1 (numberless c.in_err-lines.field-0.0)
+
+pub returns-clause-tests : goal.returns-clause-tests
+returns-clause-tests g c =
+    let db = (state g.S.Store c.args.conn.now).now in
+    let lines = c.in_ok-lines.lines.items in
+    let Passes : List LevelLine → Type 0 = λ l. AreApart (map (λ (line : LevelLine). line.rowid) l) × AllByRecursion level_fits l in
+    test_judged g.S.Store c.args.conn.now c.level_lines.new.conn c.allow.result c.in_ok-lines.lines c.in_ok-pass.field-0 c.in_ok-lines.ensures.frame c.allow.ensures.ok c.allow.ensures.err
+    (λ clean yes known.
+    let both = subst Passes c.deref.ensures.value (c.in_ok-pass.ensures.0 yes) in
+    record { lines = lines; lists = c.in_ok-lines.ensures.listed clean known; apart = both.0; fit = both.1 })
+    (λ clean no registry k s.
+    let both = levels_pass s.schema db registry k s.spells lines (c.in_ok-lines.ensures.listed clean (is_known db registry k s)) in
+    both_ways _ no (c.in_ok-pass.ensures.1 (subst Passes (sym c.deref.ensures.value) both)))

@@ -1,0 +1,87 @@
+-- The rows of the tables as their lines have them, and what is said of a database before it is opened.
+use Rattle.std.specs.Prelude.{◌≡◌, ◌⊎◌, ◌<◌, ℕ, Bool, IsTrue, List, map, codes, Some, option_and_then}
+use Rattle.std.specs.FinMap.{get}
+use Rattle.sqlite.specs.Tree.{Trees}
+use Rattle.sqlite.specs.Schema.{Schema}
+use Rattle.sqlite.specs.Effect.{Database}
+use Rattle.sqlite.specs.State.{State}
+use Rattle.reg_tables.specs.declared.lines.TextLine.{TextLine}
+use Rattle.reg_tables.specs.declared.lines.VersionLine.{VersionLine}
+use Rattle.reg_tables.specs.declared.lines.LevelLine.{LevelLine}
+use Rattle.reg_tables.specs.declared.lines.KeptLine.{KeptLine}
+use Rattle.reg_tables.specs.declared.lines.MetaLine.{MetaLine}
+use Rattle.reg_tables.specs.Layout.{layout, unindexed, IsLayout}
+use Rattle.reg_tables.specs.Contents.{Contents, HoldsIn, Holds, AreReadable}
+use Rattle.reg_tables.specs.Listings.{Lines}
+use Rattle.reg_rows.specs.Spelling.{Text, Rows, number_in}
+use Rattle.reg_core.specs.Registry.{Registry}
+use Rattle.reg_store.specs.declared.error.StoreError.{StoreError}
+use Rattle.reg_store.specs.declared.error.StoreError.TheVariants.{OldLayout, NewerLayout}
+use Rattle.reg_store.specs.Failures.{is_fault}
+use Rattle.reg_store.specs.Replies.{Kept}
+use Rattle.reg_store.specs.Spells.{SpellsUnopened, SpellsWhileOpen}
+
+-- ---- rows
+
+abbrev pub text_row : TextLine → ℕ × Text
+text_row line = (line.id, line.text)
+
+abbrev pub version_row : VersionLine → Text × ℕ × ℕ × Bool
+version_row line = (line.subject, line.version, line.id, line.deleted)
+
+abbrev pub level_row : LevelLine → Text × Text
+level_row line = (line.subject, line.level)
+
+abbrev pub kept_row : KeptLine → Text × Text × ℕ × Text
+kept_row line = (line.key, line.reply.command, line.reply.status, line.reply.body)
+
+abbrev pub meta_row : MetaLine → Text × Text
+meta_row line = (line.name, line.value)
+
+-- the rows of the lines, without their rowids
+abbrev pub rows_of : Lines → Rows
+rows_of lines = record {
+  texts = map text_row lines.texts;
+  versions = map version_row lines.versions;
+  levels = map level_row lines.levels;
+  kept = map kept_row lines.kept;
+  meta = map meta_row lines.meta;
+}
+
+-- ---- databases
+
+-- this project's choice: the rows of `meta` name this format, and a layout of this number
+pub record NamesLayout (contents : Contents) (number : ℕ) : Type 0 where
+  pub format : get contents.meta (codes "format") ≡ Some (codes "avroreg")
+  pub layout : option_and_then number_in (get contents.meta (codes "layout")) ≡ Some number
+
+-- the tables can be read, and name a layout that is newer than 1
+pub record Outdates (db : Database) (number : ℕ) : Type 0 where
+  pub schema : Schema
+  pub known : IsLayout schema
+  pub contents : Contents
+  pub holds : HoldsIn schema db contents
+  pub readable : AreReadable contents
+  pub names : NamesLayout contents number
+  pub newer : 1 < number
+
+-- a refusal that has a number has it from the tables, and no layout is older than 1
+abbrev pub IsRefusedBy : Database → StoreError → Type 0
+IsRefusedBy db (OldLayout number) = ⊥
+IsRefusedBy db (NewerLayout number) = (1 < number) × ((schema : Schema) → IsLayout schema → (contents : Contents) → HoldsIn schema db contents → NamesLayout contents number)
+IsRefusedBy db _ = Unit {0}
+
+-- tables that name a newer layout are told so, but for a fault
+abbrev pub TellsNewer : State → StoreError → Type 0
+TellsNewer s e = (number : ℕ) → IsTrue s.is_open → Outdates s.now number → (e ≡ NewerLayout number) ⊎ IsTrue (is_fault e)
+
+-- the trees are those of the same tables with the index
+abbrev pub IsIndexed : Database → Trees → Type 0
+IsIndexed before db = (contents : Contents) → HoldsIn unindexed before contents → Holds (record { schema = layout; trees = db }) contents
+
+-- the tables spelled a registry and kept replies, and the connection shows these
+pub record OpensOver (old new : State) : Type 0 where
+  pub registry : Registry
+  pub kept : Kept
+  pub spelled : SpellsUnopened old.now registry kept
+  pub spells : SpellsWhileOpen new registry kept
