@@ -6,7 +6,8 @@ use Rattle.reg_core.specs.declared.level.Level.TheVariants.{Full}
 use Rattle.reg_core.specs.declared.command.Command.TheVariants.{SetGlobal, Global}
 use Rattle.reg_core.specs.Registry.{new_registry}
 use Rattle.reg_core.specs.Machine.{step, run_commands}
-use Rattle.reg_service.specs.Deliveries.{nothing_kept, firsts}
+use Rattle.reg_store.specs.Replies.{nothing_kept}
+use Rattle.reg_service.specs.Deliveries.{firsts}
 use Rattle.avroreg.specs.Fields.{values_named}
 use Rattle.avroreg.specs.Framing.{framing}
 use Rattle.avroreg.specs.Requests.{asked, allow_of}

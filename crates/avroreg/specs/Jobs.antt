@@ -3,7 +3,7 @@ use Rattle.std.specs.Prelude.{◌≡◌, ℕ, true, false, List, [], ◌++◌, s
 use Rattle.std.specs.Global.{Global}
 use Rattle.std.specs.Io.KnownBytes.{Appends}
 use Rattle.reg_core.specs.Registry.{Registry, new_registry}
-use Rattle.reg_service.specs.Deliveries.{Kept, nothing_kept}
+use Rattle.reg_store.specs.Replies.{Kept, nothing_kept}
 use Rattle.avroreg.specs.declared.stream.Ended.{Ended}
 use Rattle.avroreg.specs.declared.stream.Ended.TheVariants.{Closed, ReadFailed, WriteFailed, Malformed, Memory}
 use Rattle.avroreg.specs.declared.files.FileFault.{FileFault}

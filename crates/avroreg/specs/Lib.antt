@@ -7,6 +7,7 @@ pub mod Asking
 pub mod Answers
 pub mod Output
 pub mod Sessions
+pub mod Standing
 pub mod Steps
 pub mod Files
 pub mod Jobs

@@ -7,7 +7,8 @@ use Rattle.reg_core.specs.declared.code.Code.TheVariants.{BackendFault}
 use Rattle.reg_core.specs.Replies.{Told, fault}
 use Rattle.reg_core.specs.Registry.{Registry}
 use Rattle.reg_service.specs.declared.delivery.Delivery.{Delivery}
-use Rattle.reg_service.specs.Deliveries.{Exchange, Kept, Serves, served}
+use Rattle.reg_store.specs.Replies.{Kept}
+use Rattle.reg_service.specs.Deliveries.{Exchange, Serves, served}
 use Rattle.avroreg.specs.Messages.{Message, Follows, Tail, End, Part, Faulty}
 use Rattle.avroreg.specs.Requests.{delivery_of}
 use Rattle.avroreg.specs.Answers.{answer_to, fault_answer}

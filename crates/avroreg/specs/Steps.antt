@@ -3,7 +3,7 @@ use Rattle.std.specs.Prelude.{◌≡◌, ◌⊎◌, ℕ, ◌<◌, ◌≤◌, Lis
 use Rattle.std.specs.Io.KnownBytes.{Appends}
 use Rattle.reg_core.specs.declared.code.Code.{Code}
 use Rattle.reg_core.specs.Registry.{Registry}
-use Rattle.reg_service.specs.Deliveries.{Kept}
+use Rattle.reg_store.specs.Replies.{Kept}
 use Rattle.avroreg.specs.declared.stream.Ended.{Ended}
 use Rattle.avroreg.specs.declared.stream.Ended.TheVariants.{Closed, ReadFailed, WriteFailed, Malformed, Memory}
 use Rattle.avroreg.specs.declared.stream.Reading.{Reading}
@@ -43,6 +43,11 @@ pub record AnswersOne (old new : Option (List ℕ)) (g : Registry) (k : Kept) (g
 abbrev pub NextAs : Option (List ℕ) → Option (List ℕ) → Registry → Kept → Registry → Kept → List ℕ → Next → Type 0
 NextAs old new g k g' k' bytes (AnsweredNext size) = AnswersOne old new g k g' k' bytes size
 NextAs old new g k g' k' bytes (Stopped stop) = AnswersAs old new g k g' k' bytes stop
+
+-- the message that was answered has a byte, and no more than there are
+abbrev pub IsWithin : List ℕ → Next → Type 0
+IsWithin bytes (AnsweredNext size) = (0 < size) × (size ≤ length bytes)
+IsWithin bytes (Stopped stop) = Unit {0}
 
 -- what was written for a fault, at each stop
 abbrev pub FaultAs : Option (List ℕ) → Option (List ℕ) → Code → Stop → Type 0

@@ -6,6 +6,8 @@ ghost use Rattle.avroreg.specs.Jobs.{DoesAs, RunsAs, fault_of as fault_for, faul
 use crate::files::{Checked, FileFault, Printed, check, print_text};
 use crate::stream::{Ended, put, run_on};
 use reg_service::Service;
+use reg_store::Store;
+use sqlite::Connection;
 use std::alloc::Global;
 use std::io::{Read, Write};
 
@@ -187,7 +189,13 @@ fn run<R: Read, W: Write>(alloc: Global, reader: &mut R, writer: &mut W) -> Outc
     ensures { RunsAs (R.remaining reader.old) (R.remaining reader.new)
         (W.contents writer.old) (W.contents writer.new) result }
 {
-    let mut service = Service::new(alloc);
+    let Ok(connection) = Connection::open_in_memory(alloc) else {
+        return Outcome::Session(Ended::Memory);
+    };
+    let Ok(store) = Store::create(alloc, connection) else {
+        return Outcome::Session(Ended::Memory);
+    };
+    let mut service = Service::new(alloc, store);
     Outcome::Session(run_on(alloc, reader, writer, &mut service))
 }
 

@@ -1,11 +1,13 @@
 //! A stream of requests, answered in order.
 ghost use Rattle.std.specs.Prelude.{◌≡◌, ◌≢◌, ◌≤◌, ℕ, List, [], ◌++◌, length, take, IsTrue, option_map};
 ghost use Rattle.std.specs.Io.KnownBytes.{Appends, Consumes, IsAtEnd};
-ghost use Rattle.reg_service.specs.Services.{registry_in, kept_in};
+ghost use Rattle.sqlite.specs.State.{HasCleanDisk};
+ghost use Rattle.reg_service.specs.Services.{state_in};
+ghost use Rattle.avroreg.specs.Standing.{Over};
 ghost use Rattle.avroreg.specs.Asking.{asked_by};
 ghost use Rattle.avroreg.specs.Answers.{answer_bytes};
 ghost use Rattle.avroreg.specs.Output.{Replies, IsFront};
-ghost use Rattle.avroreg.specs.Steps.{NextAs, AnswersAs, FaultAs, ended_as};
+ghost use Rattle.avroreg.specs.Steps.{NextAs, IsWithin, AnswersAs, FaultAs, ended_as};
 ghost use Rattle.avroreg.specs.Looks.{IsWhole};
 ghost use Rattle.avroreg.specs.Messages.{Message};
 ghost use Rattle.avroreg.specs.Sessions.{Session};
@@ -17,6 +19,7 @@ use crate::route::allow_of;
 use httparse::spans::{EMPTY_HEADER_SPAN, HeaderSpan};
 use reg_core::{Code, Reply};
 use reg_service::Service;
+use sqlite::Alter;
 use std::alloc::Global;
 use std::io::{Read, Write};
 
@@ -109,10 +112,10 @@ fn read_all<R: Read>(alloc: Global, reader: &mut R) -> (Vec<u8>, Reading)
 }
 
 /// Carries out a request. What isn't a delivery gets the fault of its code.
-fn reply_to(alloc: Global, request: &Request<'_>, service: &mut Service) -> Reply
-    ensures { Replies (asked_by request.now) result
-        (registry_in service.old) (kept_in service.old)
-        (registry_in service.new) (kept_in service.new) }
+fn reply_to<S: Alter>(alloc: Global, request: &Request<'_>, service: &mut Service<S>) -> Reply
+    ensures clean { HasCleanDisk (state_in service.new) → HasCleanDisk (state_in service.old) }
+    ensures replies { HasCleanDisk (state_in service.new) → Over (state_in service.old) (state_in service.new)
+        (Replies (asked_by request.now) result) }
 {
     match request.delivery(alloc) {
         Ok(delivery) => service.answer(&delivery),
@@ -145,18 +148,19 @@ fn send<W: Write>(
 }
 
 /// Carries out a whole message at the front of the bytes, and answers it.
-fn answer_message<W: Write>(
+fn answer_message<W: Write, S: Alter>(
     alloc: Global,
     bytes: &[u8],
     headers: &[HeaderSpan],
     whole: Whole,
     writer: &mut W,
-    service: &mut Service,
+    service: &mut Service<S>,
 ) -> Next
     requires { (message : Message) × IsWhole bytes.now headers.now whole message }
-    ensures { NextAs (W.contents writer.old) (W.contents writer.new)
-        (registry_in service.old) (kept_in service.old)
-        (registry_in service.new) (kept_in service.new) bytes.now result }
+    ensures clean { HasCleanDisk (state_in service.new) → HasCleanDisk (state_in service.old) }
+    ensures within { IsWithin bytes.now result }
+    ensures next { HasCleanDisk (state_in service.new) → Over (state_in service.old) (state_in service.new)
+        (λ g k g' k'. NextAs (W.contents writer.old) (W.contents writer.new) g k g' k' bytes.now result) }
 {
     let request = Request::of(bytes, headers, whole);
     let reply = reply_to(alloc, &request, service);
@@ -181,16 +185,17 @@ fn answer_fault<W: Write>(alloc: Global, code: Code, writer: &mut W) -> Stop
 }
 
 /// Answers what stands at the front of the bytes.
-fn answer_next<W: Write>(
+fn answer_next<W: Write, S: Alter>(
     alloc: Global,
     bytes: &[u8],
     headers: &mut [HeaderSpan],
     writer: &mut W,
-    service: &mut Service,
+    service: &mut Service<S>,
 ) -> Next
-    ensures { NextAs (W.contents writer.old) (W.contents writer.new)
-        (registry_in service.old) (kept_in service.old)
-        (registry_in service.new) (kept_in service.new) bytes.now result }
+    ensures clean { HasCleanDisk (state_in service.new) → HasCleanDisk (state_in service.old) }
+    ensures within { IsWithin bytes.now result }
+    ensures next { HasCleanDisk (state_in service.new) → Over (state_in service.old) (state_in service.new)
+        (λ g k g' k'. NextAs (W.contents writer.old) (W.contents writer.new) g k g' k' bytes.now result) }
 {
     match look_at(bytes, headers) {
         Look::Whole(whole) => answer_message(alloc, bytes, headers, whole, writer, service),
@@ -202,16 +207,16 @@ fn answer_next<W: Write>(
 }
 
 /// Answers the messages of the bytes, in order.
-fn answer_all<W: Write>(
+fn answer_all<W: Write, S: Alter>(
     alloc: Global,
     bytes: &[u8],
     headers: &mut [HeaderSpan],
     writer: &mut W,
-    service: &mut Service,
+    service: &mut Service<S>,
 ) -> Stop
-    ensures { AnswersAs (W.contents writer.old) (W.contents writer.new)
-        (registry_in service.old) (kept_in service.old)
-        (registry_in service.new) (kept_in service.new) bytes.now result }
+    ensures clean { HasCleanDisk (state_in service.new) → HasCleanDisk (state_in service.old) }
+    ensures answers { HasCleanDisk (state_in service.new) → Over (state_in service.old) (state_in service.new)
+        (λ g k g' k'. AnswersAs (W.contents writer.old) (W.contents writer.new) g k g' k' bytes.now result) }
 {
     let mut at = 0;
     loop {
@@ -238,16 +243,16 @@ fn end_of(reading: Reading, stop: Stop) -> Ended
 }
 
 /// Reads the whole input, and answers its messages in order. How the reads are cut doesn't matter.
-pub fn run_on<R: Read, W: Write>(
+pub fn run_on<R: Read, W: Write, S: Alter>(
     alloc: Global,
     reader: &mut R,
     writer: &mut W,
-    service: &mut Service,
+    service: &mut Service<S>,
 ) -> Ended
-    ensures { Session (R.remaining reader.old) (R.remaining reader.new)
-        (W.contents writer.old) (W.contents writer.new)
-        (registry_in service.old) (kept_in service.old)
-        (registry_in service.new) (kept_in service.new) result }
+    ensures clean { HasCleanDisk (state_in service.new) → HasCleanDisk (state_in service.old) }
+    ensures session { HasCleanDisk (state_in service.new) → Over (state_in service.old) (state_in service.new)
+        (λ g k g' k'. Session (R.remaining reader.old) (R.remaining reader.new)
+        (W.contents writer.old) (W.contents writer.new) g k g' k' result) }
 {
     let Ok(mut headers) = vec![in alloc; EMPTY_HEADER_SPAN; MAX_HEAD] else {
         return Ended::Memory;

@@ -2,6 +2,8 @@
 use crate::job::{Job, Opened, do_job};
 use crate::stream::{Ended, run_on};
 use reg_service::Service;
+use reg_store::Store;
+use sqlite::{Connection, MemStore};
 use std::alloc::{AllocError, Global};
 use std::io::{self, Read, Write};
 use std::process::Abort;
@@ -102,8 +104,22 @@ impl Write for Failing {
     }
 }
 
+/// A service over a new registry in memory.
+fn new_service(alloc: Global) -> Result<Service<MemStore>, Fail> {
+    let connection = Connection::open_in_memory(alloc)?;
+    match Store::create(alloc, connection) {
+        Ok(store) => Ok(Service::new(alloc, store)),
+        Err(_) => Err("no tables were made".into()),
+    }
+}
+
 /// What is written for an input that comes in pieces of so many bytes, and how it ends.
-fn session(alloc: Global, service: &mut Service, input: &[u8], size: usize) -> (Vec<u8>, Ended) {
+fn session(
+    alloc: Global,
+    service: &mut Service<MemStore>,
+    input: &[u8],
+    size: usize,
+) -> (Vec<u8>, Ended) {
     let mut written = Vec::new(alloc);
     let ended = run_on(alloc, &mut in_pieces(input, size), &mut written, service);
     (written, ended)
@@ -134,7 +150,7 @@ fn expect(
     let input = joined(rt.alloc(), input)?;
     let output = joined(rt.alloc(), output)?;
     for size in [1, 3, 64, 1_000_000] {
-        let mut service = Service::new(rt.alloc());
+        let mut service = new_service(rt.alloc())?;
         let (written, ended) = session(rt.alloc(), &mut service, input.as_slice(), size);
         assert_eq!(rt;
             str::from_utf8(written.as_slice()),
@@ -251,7 +267,7 @@ fn bodies_and_keys_are_checked(rt: HostRuntime) -> Result<(), Fail> {
         let input = request(rt.alloc(), "PUT /config", fields, body)?;
         expect(&rt, &[input.as_str()], &[output], Ended::Closed)?;
     }
-    let mut service = Service::new(rt.alloc());
+    let mut service = new_service(rt.alloc())?;
     let (written, ended) = session(
         rt.alloc(),
         &mut service,
@@ -333,7 +349,7 @@ fn a_head_has_16384_bytes(rt: HostRuntime) -> Result<(), Fail> {
         }
         head.extend_from_slice(b"\r\n\r\n")?;
         assert_eq!(rt; head.len(), room);
-        let mut service = Service::new(rt.alloc());
+        let mut service = new_service(rt.alloc())?;
         let (written, ended) = session(rt.alloc(), &mut service, head.as_slice(), 1000);
         assert_eq!(rt; str::from_utf8(written.as_slice()), Ok(output));
         assert!(rt; ended == end);
@@ -350,7 +366,7 @@ fn a_body_has_1048576_bytes(rt: HostRuntime) -> Result<(), Fail> {
     for _ in 24..1_048_576 {
         input.push(b' ')?;
     }
-    let mut service = Service::new(rt.alloc());
+    let mut service = new_service(rt.alloc())?;
     let (written, ended) = session(rt.alloc(), &mut service, input.as_slice(), 5000);
     assert_eq!(rt; str::from_utf8(written.as_slice()), Ok(FULL_SET));
     assert!(rt; ended == Ended::Closed);
@@ -367,7 +383,7 @@ fn whole_in(n: usize) -> (usize, bool) {
 fn each_beginning_of_the_input(rt: HostRuntime) -> Result<(), Fail> {
     let input = joined(rt.alloc(), &[SET_FULL, SET_FULL])?;
     for n in 0..input.len() {
-        let mut service = Service::new(rt.alloc());
+        let mut service = new_service(rt.alloc())?;
         let (written, ended) = session(rt.alloc(), &mut service, &input[..n], 1000);
         let (answers, more) = whole_in(n);
         let output = if answers == 0 { "" } else { FULL_SET };
@@ -390,7 +406,7 @@ fn each_read_fails_in_turn(rt: HostRuntime) -> Result<(), Fail> {
     let input = joined(rt.alloc(), &[SET_FULL, SET_FULL])?;
     let output = joined(rt.alloc(), &[FULL_SET, FULL_SET])?;
     for reads in 0..input.len() {
-        let mut service = Service::new(rt.alloc());
+        let mut service = new_service(rt.alloc())?;
         let mut written = Vec::new(rt.alloc());
         let mut reader = Pieces {
             left: input.as_slice(),
@@ -418,7 +434,7 @@ fn each_write_fails_in_turn(rt: HostRuntime) -> Result<(), Fail> {
     let output = joined(rt.alloc(), &[FULL_SET, FULL_SET])?;
     for takes_nothing in [false, true] {
         for writes in 0..output.len() {
-            let mut service = Service::new(rt.alloc());
+            let mut service = new_service(rt.alloc())?;
             let mut writer = Failing {
                 taken: Vec::new(rt.alloc()),
                 writes,

@@ -11,7 +11,8 @@ use Rattle.reg_core.specs.Registry.{Registry}
 use Rattle.reg_core.specs.Replies.{Told, fault, answer}
 use Rattle.reg_core.proofs.Texts.{command_text-injective}
 use Rattle.reg_service.specs.declared.delivery.Delivery.{Delivery}
-use Rattle.reg_service.specs.Deliveries.{nothing_kept, firsts, entry_of, kept_after, IsDue}
+use Rattle.reg_store.specs.Replies.{nothing_kept}
+use Rattle.reg_service.specs.Deliveries.{firsts, entry_of, kept_after, IsDue}
 
 abbrev full : Command
 full = SetGlobal (codes "FULL")

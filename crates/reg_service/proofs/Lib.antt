@@ -3,6 +3,6 @@ pub mod Alone
 pub mod Again
 pub mod Lists
 pub mod Replies
-pub mod Holds
-pub mod Placed
+pub mod Standing
+pub mod Over
 pub mod Examples

@@ -9,24 +9,12 @@ use Rattle.reg_core.specs.CommandTexts.{command_text}
 use Rattle.reg_core.specs.Machine.{is_write, step, run_commands}
 use Rattle.reg_core.specs.Registry.{Registry}
 use Rattle.reg_core.specs.Replies.{Told, fault}
+use Rattle.reg_store.specs.Replies.{Entry, Kept}
 use Rattle.reg_service.specs.declared.delivery.Delivery.{Delivery}
 
 -- A delivery and the reply to it.
 abbrev pub Exchange : Type 0
 Exchange = Delivery × Told
-
--- What is kept under a retry key: the text of its command, and its reply.
-pub record Entry : Type 0 where
-  pub text : List ℕ
-  pub reply : Told
-
--- What is kept, by key.
-abbrev pub Kept : Type 0
-Kept = List ℕ → Option Entry
-
--- Nothing is kept.
-abbrev pub nothing_kept : Kept
-nothing_kept key = None
 
 -- The retry key of a write, if it has one. A read has none: a key beside it is ignored.
 abbrev pub key_of : Delivery → Option (List ℕ)

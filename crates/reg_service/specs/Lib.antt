@@ -1,3 +1,2 @@
 pub mod Deliveries
-pub mod Places
 pub mod Services

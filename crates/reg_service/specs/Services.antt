@@ -1,40 +1,36 @@
--- What a service holds.
-use Rattle.std.specs.Prelude.{◌≡◌, ℕ, List, bytes_eq, Some, option_map, string_bytes, if◌then◌else◌}
-use Rattle.std.specs.BTreeMap.{get_by_text}
-use Rattle.reg_core.specs.declared.decision.Change.{Change}
-use Rattle.reg_core.specs.declared.decision.Change.TheVariants.{SetGlobal, SetLevel}
+-- What a service is seen as, and what its calls leave in the tables.
+use Rattle.std.specs.Prelude.{List}
+use Rattle.sqlite.specs.State.{State}
+use Rattle.sqlite_trees.specs.declared.store.Store.{Ghosts}
 use Rattle.reg_core.specs.Registry.{Registry}
-use Rattle.reg_service.specs.declared.kept.KeptReply.{KeptReply}
+use Rattle.reg_store.specs.Replies.{Kept}
+use Rattle.reg_store.specs.Spells.{SpellsWhileOpen}
+use Rattle.reg_store.specs.Stores.{state_of}
+use Rattle.reg_store.specs.declared.store.Store.{Store}
 use Rattle.reg_service.specs.declared.service.Service.{Service}
-use Rattle.reg_service.specs.Deliveries.{Kept, Entry}
-use Rattle.reg_service.specs.Places.{levels_in, HasPlace}
+use Rattle.reg_service.specs.Deliveries.{Exchange, Serves, KeepsAll}
 
--- The registry that the service holds.
-unfoldable pub registry_in : Service → Registry
-registry_in s = record { global = s.global; own = levels_in s.own }
+-- this project's choice: the tables that the service stands on
+abbrev pub store_in : {S : Type 0} {g : Ghosts S} → Service S g → Store S g
+store_in service = service.store
 
--- what a kept reply says
-abbrev pub entry_in : KeptReply → Entry
-entry_in kept = record { text = string_bytes kept.text; reply = kept.reply }
+-- SQLite, transactions: what their connection shows
+abbrev pub state_in : {S : Type 0} {g : Ghosts S} → Service S g → State
+state_in service = state_of (store_in service)
 
--- The command texts and replies that the service keeps, by key.
-unfoldable pub kept_in : Service → Kept
-kept_in s key = option_map entry_in (get_by_text s.kept key)
+-- this project's choice: the tables spell what they spelled
+abbrev pub SpellsOn : State → State → Type 0
+SpellsOn old new = (g : Registry) (k : Kept) → SpellsWhileOpen old g k → SpellsWhileOpen new g k
 
--- What is kept, with this entry under the key.
-abbrev pub kept_with : Kept → List ℕ → Entry → Kept
-kept_with k key entry q = if bytes_eq key q then Some entry else k q
+-- this project's choice: the exchanges lead from the registry g and the kept replies k to those that the tables spell
+pub record ServesTo (g : Registry) (k : Kept) (xs : List Exchange) (new : State) : Type 0 where
+  pub registry : Registry
+  pub kept : Kept
+  pub serves : Serves g k xs registry kept
+  -- what was kept is kept still
+  pub keeps : KeepsAll k kept
+  pub spells : SpellsWhileOpen new registry kept
 
--- The service holds the registry and the kept replies that it held.
-pub record IsUnchanged (old new : Service) : Type 0 where
-  pub registry : registry_in new ≡ registry_in old
-  pub kept : kept_in new ≡ kept_in old
-
--- The service makes the change without more memory.
-abbrev pub HasRoom : Service → Change → Type 0
-HasRoom s (SetGlobal level) = Unit {0}
-HasRoom s (SetLevel subject level) = HasPlace s.own subject
-
--- Each change that had room has it still.
-abbrev pub KeepsRoom : Service → Service → Type 0
-KeepsRoom old new = (change : Change) → HasRoom old change → HasRoom new change
+-- this project's choice: they lead from what the tables spelled to what they spell
+abbrev pub ServesOver : State → State → List Exchange → Type 0
+ServesOver old new xs = (g : Registry) (k : Kept) → SpellsWhileOpen old g k → ServesTo g k xs new

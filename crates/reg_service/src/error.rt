@@ -1,3 +1,4 @@
+use reg_store::StoreError;
 use std::alloc::{AllocError, AllocFailed};
 use thiserror::Error;
 
@@ -18,8 +19,18 @@ impl<T: Drop> From<AllocFailed<T>> for OutOfMemory {
     }
 }
 
-impl From<reg_core::OutOfMemory> for OutOfMemory {
-    fn from(_error: reg_core::OutOfMemory) -> OutOfMemory {
-        OutOfMemory
+// Why a delivery got no answer of the registry's own: memory was refused, or the store failed.
+#[derive(Debug, Drop)]
+pub(crate) struct Unanswered;
+
+impl From<reg_core::OutOfMemory> for Unanswered {
+    fn from(_error: reg_core::OutOfMemory) -> Unanswered {
+        Unanswered
+    }
+}
+
+impl From<StoreError> for Unanswered {
+    fn from(_error: StoreError) -> Unanswered {
+        Unanswered
     }
 }

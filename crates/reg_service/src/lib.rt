@@ -4,7 +4,6 @@
 mod delivery;
 mod error;
 mod kept;
-mod own_levels;
 mod service;
 
 pub use delivery::Delivery;

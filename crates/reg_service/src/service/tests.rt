@@ -1,5 +1,7 @@
 use crate::{Delivery, OutOfMemory, Service};
 use reg_core::{Command, Key, Level, Reply, Subject, Text};
+use reg_store::Store;
+use sqlite::{Connection, MemStore};
 use std::alloc::Global;
 use std::process::Abort;
 use std::test::Fail;
@@ -133,16 +135,36 @@ fn assert_fault(rt: &impl Abort, reply: &Reply) {
 }
 
 // What the service holds: its level, that of the subject, and how many replies it keeps.
-fn holdings(service: &Service, subject: &Subject) -> (Level, Option<Level>, usize) {
-    (
-        service.global,
-        service.own.level_of(subject),
-        service.kept.len(),
-    )
+fn holdings(
+    service: &mut Service<MemStore>,
+    subject: &Subject,
+) -> Result<(Option<Level>, Level), Fail> {
+    let command = Command::LevelOf {
+        subject: subject.try_clone().or_else(|_| subject.try_clone())?,
+        default_to_global: false,
+    };
+    for _ in 0..2 {
+        if let Ok(view) = service.store.view(&command) {
+            return Ok((view.own, view.global));
+        }
+    }
+    Err("the tables show nothing".into())
+}
+
+// A service over a new registry in memory. At most one request for memory is refused.
+fn new_service(alloc: Global) -> Result<Service<MemStore>, Fail> {
+    for _ in 0..2 {
+        if let Ok(connection) = Connection::open_in_memory(alloc)
+            && let Ok(store) = Store::create(alloc, connection)
+        {
+            return Ok(Service::new(alloc, store));
+        }
+    }
+    Err("no tables were made".into())
 }
 
 fn answers_each(rt: &impl Abort, alloc: Global, rows: &[Row]) -> Result<(), Fail> {
-    let mut service = Service::new(alloc);
+    let mut service = new_service(alloc)?;
     for row in rows {
         let reply = service.answer(&delivery_of(alloc, row)?);
         assert_answer(rt, &reply, row);
@@ -160,7 +182,7 @@ fn every_delivery_fails(rt: HostRuntime) -> Result<(), Fail> {
 }
 
 fn runs_all(rt: &impl Abort, alloc: Global, rows: &[Row]) -> Result<(), Fail> {
-    let mut service = Service::new(alloc);
+    let mut service = new_service(alloc)?;
     let replies = service.run(&deliveries_of(alloc, rows)?)?;
     assert_eq!(rt; replies.len(), rows.len());
     for (reply, row) in replies.iter().zip(rows) {
@@ -177,14 +199,14 @@ fn run_answers_each_in_order(rt: HostRuntime) -> Result<(), Fail> {
 
 fn answers_each_in_the_end(rt: &impl Abort, alloc: Global, rows: &[Row]) -> Result<(), Fail> {
     let subject = subject_of(alloc, "s").or_else(|_| subject_of(alloc, "s"))?;
-    let mut service = Service::new(alloc);
+    let mut service = new_service(alloc)?;
     for row in rows {
         let delivery = delivery_of(alloc, row).or_else(|_| delivery_of(alloc, row))?;
-        let before = holdings(&service, &subject);
+        let before = holdings(&mut service, &subject)?;
         let mut reply = service.answer(&delivery);
         if reply.status() == 500 {
             assert_fault(rt, &reply);
-            let after = holdings(&service, &subject);
+            let after = holdings(&mut service, &subject)?;
             assert!(rt; after == before);
             reply = service.answer(&delivery);
         }
@@ -209,12 +231,13 @@ fn refused_memory_loses_no_other_delivery(rt: HostRuntime) -> Result<(), Fail> {
     let subject = subject_of(alloc, "s").or_else(|_| subject_of(alloc, "s"))?;
     let rows = &ROWS[..9];
     let list = deliveries_of(alloc, rows).or_else(|_| deliveries_of(alloc, rows))?;
-    let mut service = Service::new(alloc);
-    let before = holdings(&service, &subject);
+    let mut service = new_service(alloc)?;
+    let before = holdings(&mut service, &subject)?;
     let replies = match service.run(&list) {
         Ok(replies) => replies,
         Err(_) => {
-            assert!(rt; holdings(&service, &subject) == before);
+            let after = holdings(&mut service, &subject)?;
+            assert!(rt; after == before);
             service.run(&list)?
         }
     };

@@ -1,4 +1,4 @@
-use Rattle.std.proofs.Common.{◌≡◌, ℕ, List, ◌∷◌, [], ◌++◌, take, drop, not, ap, ◌∙◌, arith, if◌then◌else◌, string_bytes}
+use Rattle.std.proofs.Common.{◌≡◌, ◌++◌, take, drop, not, ap, ◌∙◌, arith, if◌then◌else◌, string_bytes}
 use Rattle.std.specs.Prelude.{encode_utf8}
 use Rattle.std.proofs.lemmas.List.{take-append-drop}
 use Rattle.avro_nodes.specs.Nodes.{nodes_view}

@@ -1,7 +1,11 @@
-use Rattle.reg_service.proofs.Alone.{serves_refused}
+use Rattle.reg_service.proofs.Over.{refused_over, fault_over}
 use Rattle.reg_service.proofs.service.Service.answer.Goals as goal
 
 pub returns-in-Err-clause-served : goal.returns-in-Err-clause-served
-returns-in-Err-clause-served c =
-    let still = c.in-Err.ensures.err in
-    serves_refused _ _ _ _ c.args.delivery.now _ c.fault.ensures still.registry still.kept
+returns-in-Err-clause-served g c clean = refused_over _ _ c.args.delivery.now _ c.fault.ensures (c.in-Err.ensures.err clean)
+
+pub returns-in-Ok-clause-fault : goal.returns-in-Ok-clause-fault
+returns-in-Ok-clause-fault g c clean is registry k over = fault_over _ c.args.delivery.now c.in-Ok.reply registry k is (c.in-Ok.ensures.served clean registry k over)
+
+pub returns-in-Err-clause-fault : goal.returns-in-Err-clause-fault
+returns-in-Err-clause-fault g c clean is registry k over = c.in-Err.ensures.err clean registry k over

@@ -1,14 +1,15 @@
 use Rattle.std.proofs.Common.{◌≡◌, ◌≤◌, take, vec_len, length}
 use Rattle.std.specs.Prelude.{vec_capacity, zip}
-use Rattle.reg_service.specs.Deliveries.{Serves, served}
-use Rattle.reg_service.specs.Services.{registry_in, kept_in}
+use Rattle.sqlite.specs.State.{HasCleanDisk}
+use Rattle.reg_service.specs.Deliveries.{served}
+use Rattle.reg_service.specs.Services.{state_in, ServesOver}
 use Rattle.reg_service.proofs.service.Service.run.Given as goal
 
 abbrev pub invariant-loop-delivery : goal.invariant-loop-delivery
-invariant-loop-delivery l = record {
+invariant-loop-delivery g l = record {
   len : vec_len l.replies ≡ l.delivery-index;
   count : length l.replies.items ≡ l.delivery-index;
   room : length l.list ≤ vec_capacity l.replies;
-  served : Serves (registry_in l.fn.self) (kept_in l.fn.self) (served (zip (take l.delivery-index l.list) l.replies.items))
-      (registry_in l.self) (kept_in l.self);
+  clean : HasCleanDisk (state_in l.self) → HasCleanDisk (state_in l.fn.self);
+  served : HasCleanDisk (state_in l.self) → ServesOver (state_in l.fn.self) (state_in l.self) (served (zip (take l.delivery-index l.list) l.replies.items));
 }

@@ -1,33 +1,29 @@
-use Rattle.std.proofs.Common.{◌≡◌, sym, ◌∙◌, refl, None, Some}
+use Rattle.std.proofs.Common.{◌≡◌, Some, string_bytes, sym, ◌∙◌}
 use Rattle.reg_core.specs.CommandTexts.{command_text}
-use Rattle.reg_service.specs.Deliveries.{key_of}
-use Rattle.reg_service.specs.Services.{kept_in, entry_in}
-use Rattle.reg_service.proofs.Holds.{kept_in-found}
-use Rattle.reg_service.proofs.Replies.{keyless_ok, first_ok, again_ok}
+use Rattle.reg_store.specs.Replies.{entry_told}
+use Rattle.reg_service.proofs.Standing.{whatever_fails, fails_as}
+use Rattle.reg_service.proofs.Over.{keyless_over, first_over, again_over}
 use Rattle.reg_service.proofs.service.Service.try_answer.Goals as goal
 
 pub returns-in_default-clause-served : goal.returns-in_default-clause-served
-returns-in_default-clause-served c =
-    let none : key_of c.args.delivery.now ≡ None = sym c.in_default.ensures in
-    let e = c.carry_out.ensures in
-    keyless_ok c.carry_out.result _ _ _ _ c.args.delivery.now none e.registry e.reply e.read e.no_fault e.kept
+returns-in_default-clause-served g c clean = keyless_over _ _ c.args.delivery.now c.carry_out.result (sym c.in_default.ensures) (c.carry_out.ensures.done clean) c.carry_out.ensures.own
 
-pub returns-in-Some-get-clause-served : goal.returns-in-Some-get-clause-served
-returns-in-Some-get-clause-served c =
-    let some : key_of c.args.delivery.now ≡ Some c.in-Some.key.now = sym c.in-Some.ensures in
-    let has : kept_in c.args.self.now c.in-Some.key.now ≡ Some (entry_in c.in-Some-get.kept.now) =
-    kept_in-found c.args.self.now _ _ (Some c.in-Some-get.kept.now) c.in-Some-get.ensures.value c.as_str.ensures.text in
-    let text : c.as_str-in-Some-get.result.now ≡ command_text c.args.delivery.now.command =
-    c.as_str-in-Some-get.ensures.value ∙ c.in_ok-text.ensures.text in
-    let e = c.answer_again.ensures in
-    again_ok c.answer_again.result _ _ _ _ c.args.delivery.now c.in-Some.key.now (entry_in c.in-Some-get.kept.now) some has
-    (rw text at e.same) (rw text at e.other) refl refl
+pub returns-in_err-kept-clause-err : goal.returns-in_err-kept-clause-err
+returns-in_err-kept-clause-err g c clean = whatever_fails c.from_residual-in_err-kept.result (c.kept.ensures.same clean)
 
-pub returns-in-None-clause-served : goal.returns-in-None-clause-served
-returns-in-None-clause-served c =
-    let some : key_of c.args.delivery.now ≡ Some c.in-Some.key.now = sym c.in-Some.ensures in
-    let new : kept_in c.args.self.now c.in-Some.key.now ≡ None =
-    kept_in-found c.args.self.now _ _ None c.in-None.ensures.value c.as_str.ensures.text in
-    let e = c.answer_first.ensures in
-    first_ok c.answer_first.result _ _ _ _ c.args.delivery.now c.in-Some.key.now some new e.registry e.reply e.no_fault
-    (rw c.in_ok-text.ensures.text at e.kept)
+pub returns-in-Some-2-clause-served : goal.returns-in-Some-2-clause-served
+returns-in-Some-2-clause-served g c clean registry k over =
+    let text : c.as_str.result.now ≡ command_text c.args.delivery.now.command = c.as_str.ensures.value ∙ c.in_ok-text.ensures.text in
+    let has : k c.in-Some.key.now ≡ Some (entry_told (string_bytes c.in-Some-2.kept) c.in-Some-2.reply) = rw c.in-Some-2.is at (c.in_ok-kept.ensures.found clean registry k over) in
+    again_over _ c.args.delivery.now c.answer_again.result c.in-Some.key.now c.as_str.result.now registry k (entry_told (string_bytes c.in-Some-2.kept) c.in-Some-2.reply) (sym c.in-Some.ensures) text has
+    c.answer_again.ensures.same c.answer_again.ensures.other (c.in_ok-kept.ensures.same clean registry k over)
+
+pub returns-clause-served : goal.returns-clause-served
+returns-clause-served g c clean =
+    let text : c.as_str-in-None.result.now ≡ command_text c.args.delivery.now.command = c.as_str-in-None.ensures.value ∙ c.in_ok-text.ensures.text in
+    let before = c.answer_first.ensures.clean clean in
+    first_over _ _ c.args.delivery.now c.answer_first.result _ c.in-Some.key.now c.as_str-in-None.result.now (sym c.in-Some.ensures) text (c.answer_first.ensures.done clean) c.answer_first.ensures.own
+    (λ registry k over. (c.in_ok-kept.ensures.same before registry k over, rw c.in-None.is at (c.in_ok-kept.ensures.found before registry k over)))
+
+pub returns-clause-err : goal.returns-clause-err
+returns-clause-err g c clean = fails_as c.answer_first.result (λ still registry k over. still registry k (c.in_ok-kept.ensures.same (c.answer_first.ensures.clean clean) registry k over)) (c.answer_first.ensures.err clean)
