@@ -13,24 +13,24 @@ use Rattle.sqlite.specs.Compile.{table_defined_by, index_defined_by}
 use Rattle.sqlite.specs.Command.TheVariants.{CreateTable, CreateIndex}
 use Rattle.sqlite.specs.Does.{Does, MakesTable as Makes, MakesIndex as MakesOne, MakesSequence, lacks_sequence}
 use Rattle.sqlite.specs.Rows.{Then}
-use Rattle.sqlite.specs.Effect.{Database, IsDatabase}
+use Rattle.sqlite.specs.Effect.{IsDatabase}
 use Rattle.sqlite.specs.State.{State, mode_of, ExecutesInside}
 use Rattle.sqlite.specs.Listing.{understood}
 use Rattle.sqlite.specs.declared.error.Error.{Error}
 use Rattle.sqlite_schema.specs.Names.{same_name}
 use Rattle.sqlite_schema.specs.declared.schema.Constraint.TheVariants.{Unique}
 use Rattle.sqlite_schema.specs.declared.schema.Index.{Index}
-use Rattle.sqlite_schema.specs.Rules.{table_reals, index_reals, guards, clashes, passes, Keeps}
+use Rattle.sqlite_schema.specs.Rules.{table_reals, index_reals, guards, clashes, Keeps}
 use Rattle.sqlite_catalog.specs.Listing.{is_formed, is_fit}
 use Rattle.sqlite_catalog.specs.Calls.{RefusesTable, RefusesIndex}
 use Rattle.sqlite_catalog.specs.declared.error.Refusal.{Refusal}
 use Rattle.sqlite_catalog.specs.declared.error.Refusal.TheVariants.{Invalid, NameTaken, BadName, TooBig, BadKey, BadText, Violates}
 use Rattle.sqlite_rules.specs.Lists.{Has}
-use Rattle.sqlite_rules.proofs.ListLemmas.{all_has, all_from, test_push}
+use Rattle.sqlite_rules.proofs.ListLemmas.{all_has, test_push}
 use Rattle.sqlite_rules.proofs.RuleLemmas.{keeps_at, keeps_from}
 use Rattle.sqlite_trees.specs.Sound.{same_name as same_word, begins, is_free_name, fits_kind}
 use Rattle.sqlite_tied.specs.Compute.{everything}
-use Rattle.reg_tables.specs.Layout.{no_schema, begun, layout, texts, versions, levels, kept, meta, versions_of_id, IsBare}
+use Rattle.reg_tables.specs.Layout.{no_schema, begun, layout, texts, versions, levels, kept, meta, versions_of_id}
 use Rattle.reg_tables.specs.Reading.{IsFault}
 use Rattle.reg_tables.proofs.Statements.{MakesTable, make_texts, make_versions, make_levels, make_kept, make_meta, make_versions_of_id, makes_versions_of_id}
 use Rattle.reg_tables.proofs.WriteFaults.{IsWhole, refused_by}
@@ -213,11 +213,6 @@ unique_with_index : (db : Trees) → Keeps Unique (begun 5) db → Keeps Unique 
 unique_with_index db keeps = keeps_from Unique layout db (λ t row listed there.
     test_push (λ i. not (guards i t && clashes i.order i.columns (db t.tree) row)) (begun 5).indexes versions_of_id (keeps_at Unique (begun 5) db t row keeps listed there) refl)
 
-unique_if_bare : (db : Database) → IsBare (begun 5) db → Keeps Unique layout db.trees
-unique_if_bare db bare =
-    all_from (λ (t : Table). AllByRecursion (λ row. passes Unique layout db.trees t row ≡ true) (db.trees t.tree)) layout.tables
-    (λ t listed. subst (AllByRecursion (λ row. passes Unique layout db.trees t row ≡ true)) (sym (all_has (λ (t : Table). db.trees t.tree ≡ []) layout.tables t bare.empty listed)) tt)
-
 module _ (old new : State) (declared : old.now.schema ≡ begun 5) (unique : Keeps Unique layout old.now.trees) (e : Error) where
   its_index : (i : Index) → index_defined_by versions make_versions_of_id ≡ Ok i → i ≡ record versions_of_id { tree = 0 }
   its_index i is = let both : ◌≡◌ {A = _} (Ok i) (Ok (record versions_of_id { tree = 0 })) = sym is ∙ makes_versions_of_id.defined in cc
@@ -260,10 +255,7 @@ module _ (old new : State) (declared : old.now.schema ≡ begun 5) (unique : Kee
       refused (inl stopped) = made stopped.0 (let same = stopped.2 in cc) stopped.1
       refused (inr done) = let e = done.2 in cc
 
--- over tables with no row, and over those of a sound database, the index fails for the store alone
-pub index_fails_if_bare : (old new : State) → IsBare (begun 5) old.now → (e : Error) → ExecutesInside 0 make_versions_of_id [] old new (Err e) → IsFault old e
-index_fails_if_bare old new bare e = index_fails old new bare.declared (unique_if_bare old.now bare) e
-
+-- over the tables of a sound database, the index fails for the store alone
 pub index_fails_if_sound : (old new : State) → old.now.schema ≡ begun 5 → IsDatabase old.now → (e : Error) → ExecutesInside 0 make_versions_of_id [] old new (Err e) → IsFault old e
 index_fails_if_sound old new declared sound e =
     let obeys = (subst (λ s. IsDatabase (record { schema = s; trees = old.now.trees })) declared sound).obeys in

@@ -46,7 +46,7 @@ text_agrees place row r t k its is same = same_key text_cmp text_order t k (sym 
     truth false = refl
 
 -- rows that agree on a version's key have one key
-version_keys : (first : Value) (rest r : Row) (q k : List ℕ × ℕ) → column r 1 ∷ column r 2 ∷ [] ≡ version_key_cells q
+pub version_keys : (first : Value) (rest r : Row) (q k : List ℕ × ℕ) → column r 1 ∷ column r 2 ∷ [] ≡ version_key_cells q
     → agree (record { digits = 0 }) (1 ∷ 2 ∷ []) r (1 ∷ 2 ∷ []) (first ∷ Text k.0 ∷ Int (pos k.1) ∷ rest) ≡ true → q ≡ k
 unfolding first_key
 version_keys first rest r q k is same = same_key version_cmp version_order q k (sym (by_version_test r k q is) ∙ same)
@@ -66,7 +66,7 @@ text_of_version texts text row id there is its =
     or_right _ _ (some_from (λ parent. agree plain (0 ∷ []) parent (3 ∷ []) row) texts text there same)
 
 -- a flag is 0 or 1
-flag_passes : (b : Bool) → (not (is_false (binary Or (binary (Compare Eq Binary) (flag_cell b) (Int (pos 0))) (binary (Compare Eq Binary) (flag_cell b) (Int (pos 1))))) && true) ≡ true
+pub flag_passes : (b : Bool) → (not (is_false (binary Or (binary (Compare Eq Binary) (flag_cell b) (Int (pos 0))) (binary (Compare Eq Binary) (flag_cell b) (Int (pos 1))))) && true) ≡ true
 unfolding binary value_cmp lib.Ieee.is_nan lib.Ieee.lt
 flag_passes true = refl
 flag_passes false = refl

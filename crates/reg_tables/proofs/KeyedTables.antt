@@ -164,7 +164,7 @@ with_nothing db tree = rw (no_table (nat_le (2 ^ 31) tree))
     no_table false = refl
 
 -- a row that has its rowid keeps it
-given_as_is : (rows news : List Row) → numbered Given rows news ≡ news
+pub given_as_is : (rows news : List Row) → numbered Given rows news ≡ news
 given_as_is rows [] = refl
 given_as_is rows (r ∷ news) = ap (λ l. r ∷ l) (given_as_is (put_row r rows) news)
 

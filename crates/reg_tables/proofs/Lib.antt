@@ -21,4 +21,5 @@ pub mod WriteFaults
 pub mod TableFaults
 pub mod FailedWrites
 pub mod FailedVersions
+pub mod FailedMarks
 pub mod CreationFaults

@@ -1,11 +1,18 @@
 -- What a query on one table answers: the rows that pass, each shown.
-use Rattle.std.proofs.Common.{◌≡◌, inl, inr, ℕ, pos, negsuc, List, [], ◌∷◌, ◌++◌, map, flat_map, Bool, true, false, cond, None, refl, sym, ap, subst, ◌∙◌}
+use Rattle.std.proofs.Common.{arith, lit≤, length, ◌≤◌, ◌≡◌, inl, inr, ℕ, pos, negsuc, List, [], ◌∷◌, ◌++◌, map, flat_map, Bool, true, false, cond, None, refl, sym, ap, subst, ◌∙◌}
 use Rattle.std.specs.List.{list_all}
 use Rattle.std.specs.List.Sorted.{IsPermutation}
-use Rattle.std.proofs.lemmas.List.Sorted.{IsPermutation-sym, IsPermutation-map}
+use Rattle.std.proofs.lemmas.List.Sorted.{IsPermutation-sym, IsPermutation-map, length_permutation}
+use Rattle.std.proofs.lemmas.List.{length-map}
+use Rattle.std.proofs.lemmas.Bool.{both_ways}
+use Rattle.std.proofs.lemmas.Cmp.{tied_itself}
+use Rattle.std.specs.Ordering.{is_eq}
+use Rattle.sqlite_value.proofs.OrderLemmas.{value_cmp_total}
+use Rattle.sqlite_rules.proofs.ListLemmas.{all_has}
+use Rattle.reg_tables.specs.TableMaps.{HaveOwnRowids}
 use Rattle.sqlite.specs.declared.types.Value.TheVariants.{Int}
-use Rattle.sqlite.specs.Order.{Row}
-use Rattle.sqlite.specs.Tree.{Trees}
+use Rattle.sqlite.specs.Order.{Row, value_cmp}
+use Rattle.sqlite.specs.Tree.{Trees, IsAscending, rowid}
 use Rattle.sqlite.specs.Term.{Term, Env, lit, eval_all, holds}
 use Rattle.sqlite.specs.Query.{Query, Output, inner, end, IsAnswer, output}
 use Rattle.sqlite_rules.specs.Lists.{Has}
@@ -48,12 +55,39 @@ module _ (tests : List Term) (params : Row) where
   has_passing (s ∷ rows) r (inr later) is =
       elim (passes s) as (λ b. Has (cond b ((params ∷ s ∷ []) ∷ []) [] ++ passing rows) (params ∷ r ∷ [])) [ true ↦ inr (has_passing rows r later is) | false ↦ has_passing rows r later is ]
 
+  none_passing : (rows : List Row) → ((r : Row) → Has rows r → passes r ≡ true → ⊥) → passing rows ≡ []
+  none_passing [] none = refl
+  none_passing (r ∷ rows) none = go (passes r) refl (none_passing rows (λ s h. none s (inr h)))
+    where
+      go : (b : Bool) → passes r ≡ b → passing rows ≡ [] → cond b ((params ∷ r ∷ []) ∷ []) [] ++ passing rows ≡ []
+      go true is later = absurd (none r (inl refl) is)
+      go false is later = later
+
+  -- where the rows that pass are one row, it passes once
+  pub one_passing : (rows : List Row) → IsAscending HaveOwnRowids rows → ((a b : Row) → Has rows a → Has rows b → passes a ≡ true → passes b ≡ true → a ≡ b) → length (passing rows) ≤ 1
+  one_passing [] up same = lit≤ tt
+  one_passing (r ∷ rows) up same = go (passes r) refl (one_passing rows up.1 (λ a b x y. same a b (inr x) (inr y)))
+    where
+      alone : passes r ≡ true → (s : Row) → Has rows s → passes s ≡ true → ⊥
+      alone is s there also =
+          both_ways _ (all_has (HaveOwnRowids r) rows s up.0 there)
+          (ap (λ (x : Row). is_eq (value_cmp (rowid r) (rowid x))) (same s r (inr there) (inl refl) also is) ∙ ap is_eq (tied_itself value_cmp_total (rowid r)))
+
+      go : (b : Bool) → passes r ≡ b → length (passing rows) ≤ 1 → length (cond b ((params ∷ r ∷ []) ∷ []) [] ++ passing rows) ≤ 1
+      go true is later = let none : length (passing rows) ≡ 0 = ap length (none_passing rows (alone is)) in omega arith
+      go false is later = later
+
   module _ (tree : ℕ) (shown : List Term) (db : Trees) (found : List Row) (a : IsAnswer (plain_query tree tests shown) db params found) where
     abbrev outputs : List Output
     outputs = map (output (plain_query tree tests shown)) (passing (db tree))
 
     staged : a.kept ≡ outputs
     staged = a.distinct ∙ ap (map (output (plain_query tree tests shown))) a.grouped
+
+    pub found_count : length found ≡ length (passing (db tree))
+    found_count =
+        ap length a.shown ∙ length-map a.ordered (λ (o : Output). o.1) ∙ length_permutation outputs a.ordered (subst (λ k. IsPermutation k a.ordered) staged a.same)
+        ∙ length-map (passing (db tree)) (output (plain_query tree tests shown))
 
     pub answer_has : (x : Row) → Has found x → (row : Row) × Has (db tree) row × (passes row ≡ true) × (x ≡ eval_all shown (params ∷ row ∷ []))
     answer_has x h =

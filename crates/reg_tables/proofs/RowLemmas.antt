@@ -91,7 +91,7 @@ module _ (p : Row → Bool) (rest : Row → Row) (rows found : List Row) (shaped
   rowid_is : (r : Row) → Has rows r → rowid r ≡ Int (id_in (rowid r))
   rowid_is r h = int_is (rowid r) (all_has _ rows r shaped.1 h)
 
-  left_fails : (x : Row) → Has (without_all rows (ids_of found)) x → Has rows x × (p x ≡ false)
+  pub left_fails : (x : Row) → Has (without_all rows (ids_of found)) x → Has rows x × (p x ≡ false)
   left_fails x h =
       let was = without_all_has (ids_of found) rows x h in (
         was,

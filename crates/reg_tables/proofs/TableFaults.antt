@@ -201,7 +201,7 @@ new_key {V = V} form R m rows shows k free Shares same_key r was shares =
     let both : ◌≡◌ {A = Option V} None (Some entry.1) = sym free ∙ ap (get m) (sym same) ∙ entry.2 in
     cc
 
-differ_itself : (v : Value) → differ v v ≡ false
+pub differ_itself : (v : Value) → differ v v ≡ false
 unfolding binary
 differ_itself v = rw (tied_itself value_cmp_total v) (go (is_null v || is_null v))
   where
@@ -266,7 +266,7 @@ module _ (trees : Trees) (table : Table) (listed : Has layout.tables table) (key
   insert_allowed TooDeep h = absurd h
 
 -- no row overflows a plain query
-plain_fits : (trees : Trees) (params : Row) (tree : ℕ) (tests shown : List Term) → ProgramOverflows trees params [] [] (plain_query tree tests shown) → ⊥
+pub plain_fits : (trees : Trees) (params : Row) (tree : ℕ) (tests shown : List Term) → ProgramOverflows trees params [] [] (plain_query tree tests shown) → ⊥
 plain_fits trees params tree tests shown (inl none) = none
 plain_fits trees params tree tests shown (inr some) = (any_has _ _ some).2
 

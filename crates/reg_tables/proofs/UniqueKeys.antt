@@ -1,10 +1,9 @@
 -- SQLite keeps a table's keys apart, so that the rowids alone are left to be told apart.
-use Rattle.std.proofs.Common.{◌≡◌, inl, inr, ℕ, ℤ, pos, List, [], ◌∷◌, map, Some, Bool, true, false, codes, Ordering, Less, Equal, Greater, refl, sym, ap, subst, ◌∙◌}
-use Rattle.std.specs.Prelude.{◌&&◌}
-use Rattle.std.specs.Ordering.{is_eq, is_ne, int_cmp, nat_cmp, eq_by_cmp}
+use Rattle.std.proofs.Common.{◌≡◌, inl, inr, ℕ, ℤ, pos, List, [], ◌∷◌, map, Some, true, false, codes, Ordering, Less, Equal, Greater, refl, sym, ap, subst, ◌∙◌}
+use Rattle.std.specs.Ordering.{is_ne, int_cmp, nat_cmp, eq_by_cmp}
 use Rattle.std.specs.List.{IsDistinct}
 use Rattle.std.specs.FinMap.{int_cmp-IsAntisymmetric}
-use Rattle.std.proofs.lemmas.Bool.{cases_Bool, both_ways, and_from, not-true, false_from_ne_true}
+use Rattle.std.proofs.lemmas.Bool.{both_ways, and_from, not-true, false_from_ne_true}
 use Rattle.std.proofs.lemmas.Cmp.{int_cmp_total, tied_itself}
 use Rattle.sqlite.specs.declared.types.Value.TheVariants.{Int, Text}
 use Rattle.sqlite.specs.Order.{Row, column}
@@ -19,7 +18,7 @@ use Rattle.sqlite_schema.specs.Rules.{agree, differ, guards, Obeys}
 use Rattle.sqlite_value.specs.Keys.{first_key}
 use Rattle.sqlite_value.proofs.OrderLemmas.{value_cmp-Int, value_cmp-Text}
 use Rattle.sqlite_rules.specs.Lists.{Has}
-use Rattle.sqlite_rules.proofs.ListLemmas.{test_has, some_from, all_from}
+use Rattle.sqlite_rules.proofs.ListLemmas.{test_has, some_from}
 use Rattle.sqlite_rules.proofs.RuleLemmas.{keeps_at}
 use Rattle.reg_tables.specs.TableMaps.{Form}
 use Rattle.reg_tables.specs.Contents.{text_cells, version_key_cells, text_cmp, version_cmp, version_form, pair_form, kept_form}
@@ -32,7 +31,7 @@ use Rattle.reg_tables.specs.declared.lines.KeptLine.{KeptLine}
 use Rattle.reg_tables.specs.declared.lines.MetaLine.{MetaLine}
 use Rattle.reg_tables.proofs.KeyedTables.{text_order, version_order, number_order, distinct_texts, distinct_versions}
 use Rattle.reg_tables.proofs.ListingLemmas.{stored, keys_distinct}
-use Rattle.reg_tables.proofs.MapLemmas.{IsKeyOrder, same_key, tied_key}
+use Rattle.reg_tables.proofs.MapLemmas.{IsKeyOrder, tied_key}
 use Rattle.reg_tables.proofs.Members.{has_mapped}
 
 -- rowids that don't differ are the same

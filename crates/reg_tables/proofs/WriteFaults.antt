@@ -9,12 +9,12 @@ use Rattle.sqlite.specs.Table.{Table}
 use Rattle.sqlite.specs.Schema.{Schema}
 use Rattle.sqlite.specs.Source.TheVariants.{Values}
 use Rattle.sqlite.specs.Command.{Command}
-use Rattle.sqlite.specs.Command.TheVariants.{Insert, Delete, Begin, Commit, Rollback, Savepoint, Release, RollbackTo}
+use Rattle.sqlite.specs.Command.TheVariants.{Insert, Update, Delete, Begin, Commit, Rollback, Savepoint, Release, RollbackTo}
 use Rattle.sqlite.specs.Edit.{Edit, edit_of, taken_by, Applies, IsRefused}
 use Rattle.sqlite.specs.Rowids.{Rowids}
 use Rattle.sqlite.specs.Rowids.TheVariants.{Chosen, Above, Given}
 use Rattle.sqlite.specs.Does.{Does, Concludes}
-use Rattle.sqlite.specs.Rows.{Written, Task, Then, Edited, Queried, Sourced, Deletes, Inserts, stamped, rowids_for, count_of}
+use Rattle.sqlite.specs.Rows.{Written, Task, Then, Edited, Queried, Sourced, Updates, Deletes, Inserts, stamped, rowids_for, count_of}
 use Rattle.sqlite.specs.Effect.{is_query, value_rows, edit_error}
 use Rattle.sqlite.specs.State.{State, mode_of, is_pragma, shows_rows, text_of, RunsCommand, ExecutesIn, ExecutesInside, IsNotRun, EndsScope, IsMisplaced, IsNoStatement, Escapes}
 use Rattle.sqlite.specs.Clock.{timed}
@@ -177,40 +177,75 @@ module _ (at : ℕ) (table : Table) (there : slice_get layout.tables at ≡ Some
   concluded w refers (inl tested) = tested.1.0 refers
   concluded w refers (inr shown) = elim shown.2 [ inl stopped ↦ (let e = stopped.1 in cc) | inr gave ↦ (let e = gave.2 in cc) ]
 
-  -- a DELETE of rows that a query finds
-  module _ (q : Program) (typed : accepts_program layout (lets_of q) q.body params ≡ true) (fits : ProgramOverflows db params [] (lets_of q) q.body → ⊥)
-      (allowed : (found : List Row) (why : Refusal) → IsRefused layout Enforced db (edit_of db table (ids_of found) Given 0 []) why → ⊥)
-      (refers : (found : List Row) (next : Trees) → Applies layout Enforced db (edit_of db table (ids_of found) Given 0 []) next → Refers All layout next) where
+  -- a query finds the rows
+  module _ (q : Program) (typed : accepts_program layout (lets_of q) q.body params ≡ true) (fits : ProgramOverflows db params [] (lets_of q) q.body → ⊥) where
     query_stopped : (stop : Option Error) → stop ≡ Some e → Queried old.step_limit (record { schema = layout; trees = db }) q params (Err stop) → IsFault old e
     query_stopped None is h = absurd h
     query_stopped (Some x) is (inl ill) = absurd (both_ways _ ill.1 typed)
     query_stopped (Some x) is (inr (inl over)) = absurd (fits over.1)
     query_stopped (Some x) is (inr (inr limit)) = let same : x ≡ e = cc in subst (IsFault old) same (inr limit)
 
-    delete_stopped : (stop : Option Error) → stop ≡ Some e → Deletes task q db (Err stop) → IsFault old e
-    delete_stopped stop is (inl asked) = query_stopped asked.0 (let e = asked.2 in cc) asked.1
-    delete_stopped stop is (inr found) = elim found.2 [
-      | inl cut ↦ let r = edit_refused db (edit_of db table (ids_of found.0) Given 0 []) cut.0 e (let e = cut.2 in cc) cut.1 in absurd (allowed found.0 r.0 r.1)
-      | inr done ↦ absurd (let e = done.2 in cc)
-    ]
+    -- a DELETE of them
+    module _ (allowed : (found : List Row) (why : Refusal) → IsRefused layout Enforced db (edit_of db table (ids_of found) Given 0 []) why → ⊥)
+        (refers : (found : List Row) (next : Trees) → Applies layout Enforced db (edit_of db table (ids_of found) Given 0 []) next → Refers All layout next) where
+      delete_stopped : (stop : Option Error) → stop ≡ Some e → Deletes task q db (Err stop) → IsFault old e
+      delete_stopped stop is (inl asked) = query_stopped asked.0 (let e = asked.2 in cc) asked.1
+      delete_stopped stop is (inr found) = elim found.2 [
+        | inl cut ↦ let r = edit_refused db (edit_of db table (ids_of found.0) Given 0 []) cut.0 e (let e = cut.2 in cc) cut.1 in absurd (allowed found.0 r.0 r.1)
+        | inr done ↦ absurd (let e = done.2 in cc)
+      ]
 
-    deleted_trees : (w : Written) → Deletes task q db (Ok w) → Refers All layout w.trees
-    deleted_trees w (inl stopped) = absurd (let e = stopped.2 in cc)
-    deleted_trees w (inr found) = elim found.2 [
-      | inl stopped ↦ absurd (let e = stopped.2 in cc)
-      | inr cut ↦
-          let edit = edit_of db table (ids_of found.0) Given 0 [] in
-          let step = one_step layout Enforced db cut.0 edit (idle edit.table.tree (taken_by db edit) edit.news) cut.1 in
-          let same : w ≡ record { trees = cut.0; rows = taken_by db edit; last = None } = (let e = cut.2 in cc) in
-          subst (λ (w : Written). Refers All layout w.trees) (sym same) (refers found.0 cut.0 step)
-    ]
+      deleted_trees : (w : Written) → Deletes task q db (Ok w) → Refers All layout w.trees
+      deleted_trees w (inl stopped) = absurd (let e = stopped.2 in cc)
+      deleted_trees w (inr found) = elim found.2 [
+        | inl stopped ↦ absurd (let e = stopped.2 in cc)
+        | inr cut ↦
+            let edit = edit_of db table (ids_of found.0) Given 0 [] in
+            let step = one_step layout Enforced db cut.0 edit (idle edit.table.tree (taken_by db edit) edit.news) cut.1 in
+            let same : w ≡ record { trees = cut.0; rows = taken_by db edit; last = None } = (let e = cut.2 in cc) in
+            subst (λ (w : Written). Refers All layout w.trees) (sym same) (refers found.0 cut.0 step)
+      ]
 
-    pub delete_refused : Refused (Delete at q) → IsFault old e
-    delete_refused does = go (rw there at does)
-      where
-        go : Then (Deletes task q db) (Concludes task (mode_of old) None) (Err (Some e)) → IsFault old e
-        go (inl stopped) = delete_stopped stopped.0 (let e = stopped.2 in cc) stopped.1
-        go (inr wrote) = absurd (concluded wrote.0 (deleted_trees wrote.0 wrote.1) wrote.2)
+      pub delete_refused : Refused (Delete at q) → IsFault old e
+      delete_refused does = go (rw there at does)
+        where
+          go : Then (Deletes task q db) (Concludes task (mode_of old) None) (Err (Some e)) → IsFault old e
+          go (inl stopped) = delete_stopped stopped.0 (let e = stopped.2 in cc) stopped.1
+          go (inr wrote) = absurd (concluded wrote.0 (deleted_trees wrote.0 wrote.1) wrote.2)
+
+    abbrev altered_by : List Row → Edit
+    altered_by found = edit_of db table (ids_of found) Given 1 found
+
+    -- an UPDATE of them
+    module _ (refers : (found : List Row) (next : Trees) → Queried old.step_limit (record { schema = layout; trees = db }) q params (Ok found) → Applies layout Enforced db (altered_by found) next → Refers All layout next) where
+      -- the fault, or why the edit is refused
+      abbrev Halt : Type 0
+      Halt = IsFault old e ⊎ ((found : List Row) × (why : Refusal) × Queried old.step_limit (record { schema = layout; trees = db }) q params (Ok found) × IsRefused layout Enforced db (altered_by found) why × (e ≡ edit_error why))
+
+      update_stopped : (stop : Option Error) → stop ≡ Some e → Updates task q params db (Err stop) → Halt
+      update_stopped stop is (inl asked) = inl (query_stopped asked.0 (let e = asked.2 in cc) asked.1)
+      update_stopped stop is (inr found) = elim found.2 [
+        | inl put ↦ let r = edit_refused db (altered_by found.0) put.0 e (let e = put.2 in cc) put.1 in inr (found.0, r.0, found.1, r.1, r.2)
+        | inr done ↦ absurd (let e = done.2 in cc)
+      ]
+
+      updated_trees : (w : Written) → Updates task q params db (Ok w) → Refers All layout w.trees
+      updated_trees w (inl stopped) = absurd (let e = stopped.2 in cc)
+      updated_trees w (inr found) = elim found.2 [
+        | inl stopped ↦ absurd (let e = stopped.2 in cc)
+        | inr put ↦
+            let edit = altered_by found.0 in
+            let step = one_step layout Enforced db put.0 edit (idle edit.table.tree (taken_by db edit) edit.news) put.1 in
+            let same : w ≡ record { trees = put.0; rows = edit.news; last = None } = (let e = put.2 in cc) in
+            subst (λ (w : Written). Refers All layout w.trees) (sym same) (refers found.0 put.0 found.1 step)
+      ]
+
+      pub update_refused : Refused (Update at q) → Halt
+      update_refused does = go (rw there at does)
+        where
+          go : Then (Updates task q params db) (Concludes task (mode_of old) None) (Err (Some e)) → Halt
+          go (inl stopped) = update_stopped stopped.0 (let e = stopped.2 in cc) stopped.1
+          go (inr wrote) = absurd (concluded wrote.0 (updated_trees wrote.0 wrote.1) wrote.2)
 
   -- an INSERT of one row of values into a table with no AUTOINCREMENT
   module _ (terms : List Term) (width : ℕ) (uncounted : table.is_counted ≡ false) (typed : accepts_terms terms (stamped table params) ≡ true)

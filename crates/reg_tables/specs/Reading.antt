@@ -36,6 +36,6 @@ IsFault old e = ((cause : StoreError) × (e ≡ store_error cause)) ⊎ ((e ≡ 
 abbrev pub IsWriteFault : State → Error → Type 0
 IsWriteFault old e = IsFault old e ⊎ ((e ≡ SqliteFailure code.TransactionState) × (old.in_transaction ≡ false))
 
--- The same, or no row can be put in at the rowid that SQLite chooses, one above the last row's: it is past the greatest, or else taken, where the rows do not stand in the order of their rowids.
+-- The same, or no row can be put in at the rowid that SQLite chooses, one above the last row's: it is past the greatest, or else taken, where the rows do not stand in the order of their rowids. An UPDATE may fail so at the rowid that its row has, which nothing here bounds.
 abbrev pub IsInsertFault : State → Error → Type 0
 IsInsertFault old e = IsWriteFault old e ⊎ ((e ≡ SqliteFailure code.NoRowid) ⊎ (e ≡ SqliteFailure (code.ConstraintViolation PrimaryKey)))

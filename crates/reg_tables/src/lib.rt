@@ -5,7 +5,7 @@
 //! clause says, and whatever it answers nothing is committed: that is the caller's commit.
 //! A call that only reads takes a connection outside a transaction. What a call says of the
 //! contents holds where the disk has returned what was written to it (`HasCleanDisk`). Errors are
-//! `sqlite`'s.
+//! `sqlite`'s, and a clause `fault` says which of them are left where the tables are as it asks.
 #![tactic(auto)]
 
 mod declared;

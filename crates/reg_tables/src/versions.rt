@@ -68,6 +68,9 @@ pub fn mark_deleted<S: Alter>(
     ensures marked { HasCleanDisk (state_in S.Store tx.new)
         → OnOk result (Changes (state_in S.Store tx.old) (state_in S.Store tx.new)
         (with_deleted (subject.now, number))) }
+    ensures fault { HasCleanDisk (state_in S.Store tx.new) → IfErr result (λ e.
+        (contents : Contents) → Holds (state_in S.Store tx.old).now contents
+        → IsInsertFault (state_in S.Store tx.old) e) }
 {
     run(
         tx,

@@ -5,11 +5,10 @@ use Rattle.sqlite.specs.Held.{state}
 use Rattle.sqlite.specs.State.{HasCleanDisk}
 use Rattle.reg_tables.specs.Contents.{text_cmp}
 use Rattle.reg_tables.specs.Changes.{no_contents}
-use Rattle.reg_tables.proofs.Transactions.{on_ok}
+use Rattle.reg_tables.proofs.Transactions.{on_ok, if_err}
 use Rattle.reg_tables.specs.Layout.{no_schema}
 use Rattle.reg_tables.specs.Reading.{IsInsertFault}
 use Rattle.reg_tables.proofs.WriteFaults.{insert_fault_later, erred_with}
-use Rattle.reg_tables.proofs.Transactions.{if_err}
 use Rattle.reg_tables.proofs.layout.create.Goals as goal
 
 pub returns-clause-made : goal.returns-clause-made

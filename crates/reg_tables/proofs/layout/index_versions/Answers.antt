@@ -1,7 +1,6 @@
 use Rattle.sqlite.specs.Held.{state}
 use Rattle.reg_tables.proofs.Creation.{indexes}
-use Rattle.reg_tables.proofs.Transactions.{on_ok}
-use Rattle.reg_tables.proofs.Transactions.{if_err}
+use Rattle.reg_tables.proofs.Transactions.{on_ok, if_err}
 use Rattle.reg_tables.proofs.CreationFaults.{index_fails_if_sound}
 use Rattle.reg_tables.proofs.WriteFaults.{as_write_fault}
 use Rattle.reg_tables.proofs.layout.index_versions.Goals as goal

@@ -4,11 +4,10 @@ use Rattle.sqlite.specs.State.{HasCleanDisk}
 use Rattle.reg_tables.specs.Layout.{no_schema, begun, texts, versions}
 use Rattle.reg_tables.proofs.Creation.{makes_bare}
 use Rattle.reg_tables.proofs.Statements.{make_texts, makes_texts, make_versions, makes_versions}
-use Rattle.reg_tables.proofs.Transactions.{on_ok}
+use Rattle.reg_tables.proofs.Transactions.{on_ok, if_err}
 use Rattle.reg_tables.specs.Reading.{IsWriteFault}
 use Rattle.reg_tables.proofs.CreationFaults.{texts_can_be, versions_can_be, make_fails}
 use Rattle.reg_tables.proofs.WriteFaults.{as_write_fault, write_fault_later, erred_with}
-use Rattle.reg_tables.proofs.Transactions.{if_err}
 use Rattle.reg_tables.proofs.layout.make_schema_tables.Goals as goal
 
 pub returns-clause-made : goal.returns-clause-made

@@ -2,11 +2,10 @@ use Rattle.std.proofs.Common.{◌≡◌, ◌∙◌, arith}
 use Rattle.sqlite.specs.Held.{state}
 use Rattle.sqlite.specs.State.{HasCleanDisk}
 use Rattle.reg_tables.specs.Changes.{no_contents}
-use Rattle.reg_tables.proofs.Transactions.{on_ok}
+use Rattle.reg_tables.proofs.Transactions.{on_ok, if_err}
 use Rattle.reg_tables.specs.Layout.{no_schema}
 use Rattle.reg_tables.specs.Reading.{IsWriteFault}
 use Rattle.reg_tables.proofs.WriteFaults.{write_fault_later, erred_with}
-use Rattle.reg_tables.proofs.Transactions.{if_err}
 use Rattle.reg_tables.proofs.layout.make_tables.Goals as goal
 
 pub returns-clause-made : goal.returns-clause-made

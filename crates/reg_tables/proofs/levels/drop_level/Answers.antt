@@ -1,7 +1,6 @@
 use Rattle.sqlite.specs.Held.{state}
-use Rattle.reg_tables.proofs.Transactions.{on_ok}
+use Rattle.reg_tables.proofs.Transactions.{on_ok, if_err}
 use Rattle.reg_tables.proofs.TableWrites.{drops_level}
-use Rattle.reg_tables.proofs.Transactions.{if_err}
 use Rattle.reg_tables.proofs.WriteFaults.{as_write_fault}
 use Rattle.reg_tables.proofs.FailedWrites.{drop_level_fails}
 use Rattle.reg_tables.proofs.levels.drop_level.Goals as goal

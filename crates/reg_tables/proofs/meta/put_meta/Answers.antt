@@ -1,7 +1,6 @@
 use Rattle.sqlite.specs.Held.{state}
-use Rattle.reg_tables.proofs.Transactions.{on_ok}
+use Rattle.reg_tables.proofs.Transactions.{on_ok, if_err}
 use Rattle.reg_tables.proofs.TableWrites.{puts_meta}
-use Rattle.reg_tables.proofs.Transactions.{if_err}
 use Rattle.reg_tables.proofs.WriteFaults.{or_insert_fault}
 use Rattle.reg_tables.proofs.FailedWrites.{put_meta_fails}
 use Rattle.reg_tables.proofs.meta.put_meta.Goals as goal

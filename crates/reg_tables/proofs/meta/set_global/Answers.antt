@@ -6,8 +6,7 @@ use Rattle.reg_tables.specs.Reading.{IsInsertFault}
 use Rattle.reg_tables.specs.Changes.{without_meta}
 use Rattle.reg_tables.proofs.MapLemmas.{get-remove-same, insert-remove}
 use Rattle.reg_tables.proofs.KeyedTables.{text_order}
-use Rattle.reg_tables.proofs.Transactions.{on_ok}
-use Rattle.reg_tables.proofs.Transactions.{if_err}
+use Rattle.reg_tables.proofs.Transactions.{on_ok, if_err}
 use Rattle.reg_tables.proofs.WriteFaults.{erred_with, insert_fault_later}
 use Rattle.reg_tables.proofs.meta.set_global.Goals as goal
 

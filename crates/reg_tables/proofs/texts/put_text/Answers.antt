@@ -1,8 +1,7 @@
 use Rattle.sqlite.specs.Held.{state}
-use Rattle.reg_tables.proofs.Transactions.{on_ok}
+use Rattle.reg_tables.proofs.Transactions.{on_ok, if_err}
 use Rattle.reg_tables.proofs.TableWrites.{puts_text}
 use Rattle.std.proofs.Common.{◌<◌, ◌^◌, arith}
-use Rattle.reg_tables.proofs.Transactions.{if_err}
 use Rattle.reg_tables.proofs.WriteFaults.{as_write_fault}
 use Rattle.reg_tables.proofs.FailedVersions.{put_text_fails}
 use Rattle.reg_tables.proofs.texts.put_text.Goals as goal

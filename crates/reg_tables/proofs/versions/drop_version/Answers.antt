@@ -1,7 +1,6 @@
 use Rattle.sqlite.specs.Held.{state}
-use Rattle.reg_tables.proofs.Transactions.{on_ok}
+use Rattle.reg_tables.proofs.Transactions.{on_ok, if_err}
 use Rattle.reg_tables.proofs.TableWrites.{drops_version}
-use Rattle.reg_tables.proofs.Transactions.{if_err}
 use Rattle.reg_tables.proofs.WriteFaults.{as_write_fault}
 use Rattle.reg_tables.proofs.FailedVersions.{drop_version_fails}
 use Rattle.reg_tables.proofs.versions.drop_version.Goals as goal

@@ -1,8 +1,7 @@
 use Rattle.sqlite.specs.Held.{state}
-use Rattle.reg_tables.proofs.Transactions.{on_ok}
+use Rattle.reg_tables.proofs.Transactions.{on_ok, if_err}
 use Rattle.reg_tables.proofs.TableWrites.{puts_version}
 use Rattle.std.specs.FinMap.{get}
-use Rattle.reg_tables.proofs.Transactions.{if_err}
 use Rattle.reg_tables.proofs.WriteFaults.{or_insert_fault}
 use Rattle.reg_tables.proofs.FailedVersions.{put_version_fails, value_of}
 use Rattle.reg_tables.proofs.versions.put_version.Goals as goal

@@ -1,0 +1,231 @@
+-- How the statement that marks a version as deleted fails.
+use Rattle.std.proofs.Common.{arith, ◌≡◌, ◌⊎◌, ◌≤◌, Equal, inl, inr, ℕ, ℤ, pos, drop, length, map, List, [], ◌∷◌, lit≤, Bool, true, false, Err, refl, sym, ap, subst, ◌∙◌}
+use Rattle.std.specs.List.{list_all}
+use Rattle.std.specs.Ordering.{is_eq}
+use Rattle.std.proofs.lemmas.Bool.{both_ways, and_from, not_from_false, false_from_ne_true}
+use Rattle.std.proofs.lemmas.List.{length-map}
+use Rattle.sqlite.specs.declared.types.Value.{Value}
+use Rattle.sqlite.specs.declared.types.Value.TheVariants.{Null, Int, Text}
+use Rattle.sqlite.specs.Order.{Row, column, value_cmp}
+use Rattle.sqlite.specs.Tree.{Trees, rowid, with_tree}
+use Rattle.sqlite.specs.Cast.{cast_row}
+use Rattle.sqlite.specs.Edit.{Edit, edit_of, edited, id_in, is_taken, are_fresh, without_all, Applies, IsRefused}
+use Rattle.sqlite.specs.Rowids.TheVariants.{Given}
+use Rattle.sqlite.specs.Term.{col, eval_all}
+use Rattle.sqlite.specs.Query.{IsAnswer}
+use Rattle.sqlite.specs.Program.{overlay}
+use Rattle.sqlite.specs.Command.TheVariants.{Update}
+use Rattle.sqlite.specs.Effect.{Answers, edit_error}
+use Rattle.sqlite.specs.State.{State, ExecutesInside}
+use Rattle.sqlite.specs.Listing.{understood}
+use Rattle.sqlite.specs.declared.error.Error.{Error}
+use Rattle.sqlite.proofs.Callers.{statement_of}
+use Rattle.sqlite_schema.specs.declared.schema.Keys.TheVariants.{Enforced}
+use Rattle.sqlite_schema.specs.declared.schema.Among.TheVariants.{All}
+use Rattle.sqlite_schema.specs.declared.schema.Constraint.TheVariants.{Datatype, NotNull, Check, PrimaryKey, Unique, ForeignKey}
+use Rattle.sqlite_schema.specs.declared.schema.Index.{Index}
+use Rattle.sqlite_schema.specs.declared.program.Program.{Program}
+use Rattle.sqlite_schema.specs.Rules.{agree, differ, guards, Keeps, Obeys, Refers}
+use Rattle.sqlite_rules.specs.declared.error.Refusal.{Refusal}
+use Rattle.sqlite_rules.specs.declared.error.Refusal.TheVariants.{Violates, Mismatch, NoRowid, BadReference, TooDeep}
+use Rattle.sqlite_rules.specs.Calls.{ids_of}
+use Rattle.sqlite_rules.specs.Lists.{Has}
+use Rattle.sqlite_rules.proofs.ListLemmas.{all_has, has_got, test_from, some_has}
+use Rattle.sqlite_rules.proofs.TableLemmas.{int_is, without_all_has, put_all_has}
+use Rattle.sqlite_tied.specs.Compute.{everything}
+use Rattle.reg_tables.specs.Layout.{layout, versions}
+use Rattle.reg_tables.specs.TableMaps.{IsEntry}
+use Rattle.reg_tables.specs.Contents.{version_cmp, VersionRow, Contents, version_form, Holds}
+use Rattle.reg_tables.specs.Reading.{IsInsertFault}
+use Rattle.reg_tables.proofs.Members.{has_mapped}
+use Rattle.reg_tables.proofs.MapLemmas.{equal_of, same_key, tied_key}
+use Rattle.reg_tables.proofs.RowLemmas.{FindsRowids, left_fails, same_if_tied}
+use Rattle.reg_tables.proofs.Queries.{plain_query, passes, answer_has, has_answer, one_passing, found_count}
+use Rattle.reg_tables.proofs.KeyedTables.{version_order, by_version_test, cast-Int, given_as_is, with_nothing}
+use Rattle.reg_tables.proofs.Statements.{by_version, with_flag, mark_version, mark_version_is}
+use Rattle.reg_tables.proofs.UniqueLemmas.{with_tree_there, with_tree_elsewhere, stays_unique}
+use Rattle.reg_tables.proofs.WriteFaults.{refused_by, update_refused}
+use Rattle.reg_tables.proofs.TableFaults.{layout_apart, obeys_layout, versions_at, has_text, refers_if, differ_itself, plain_fits}
+use Rattle.reg_tables.proofs.FailedVersions.{version_keys, flag_passes}
+
+-- at most one row, at a rowid that is not taken
+fresh_if : (rows news : List Row) → length news ≤ 1 → ((x : Row) → Has news x → is_taken rows x ≡ true → ⊥) → are_fresh rows news ≡ true
+fresh_if rows [] few free = refl
+fresh_if rows (x ∷ []) few free = and_from _ _ (not_from_false _ (false_from_ne_true _ (free x (inl refl)))) refl
+fresh_if rows (x ∷ y ∷ more) few free = absurd (omega arith)
+
+-- versions of one id have their text alike
+same_text : (texts : List Row) (a b : Row) → column a 3 ≡ column b 3 → has_text texts a ≡ has_text texts b
+same_text texts a b same = let with_id : Value → Bool = λ v. has_text texts (Null ∷ Null ∷ Null ∷ v ∷ []) in ap with_id same
+
+-- the row that the UPDATE makes of a version's
+abbrev marked_row : ℤ → List ℕ × ℕ → ℕ → Row
+marked_row place key id = Int place ∷ Text key.0 ∷ Int (pos key.1) ∷ Int (pos id) ∷ Int (pos 1) ∷ []
+
+module _ (old new : State) (contents : Contents) (h : Holds old.now contents) (e : Error) (key : List ℕ × ℕ) where
+  abbrev db : Trees
+  db = old.now.trees
+
+  abbrev params : Row
+  params = Text key.0 ∷ Int (pos key.1) ∷ []
+
+  abbrev named : Row → Bool
+  named = passes by_version params
+
+  abbrev rest : Row → Row
+  rest row = eval_all with_flag (params ∷ row ∷ [])
+
+  abbrev marking : Program
+  marking = record { lets = []; body = plain_query 2 by_version (col 1 0 ∷ with_flag) }
+
+  obeys : Obeys layout db
+  obeys = obeys_layout old.now h.declared h.sound
+
+  -- a row that passes is the version's
+  its_version : (r : Row) → Has (db 2) r → named r ≡ true → (v : VersionRow) × IsEntry version_form r key v
+  its_version r there is =
+      let entry = h.versions.sound r there in
+      let same : entry.0 ≡ key = same_key version_cmp version_order entry.0 key (sym (by_version_test r key entry.0 entry.3.0) ∙ is) in
+      (entry.1, (entry.3.0 ∙ ap version_form.key_cells same, entry.3.1))
+
+  -- the rows that were found are the version's, if there is one
+  record IsFound (found : List Row) : Type 0 where
+    finds : FindsRowids named rest (db 2) found
+    few : length found ≤ 1
+
+  found_as : (found : List Row) → Answers (record { schema = layout; trees = db }) marking params found → IsFound found
+  found_as found it =
+      let answer : IsAnswer marking.body (overlay db []) params found = it.answer Null in
+      let few = one_passing by_version params (db 2) h.versions.rowids.0 (λ a b x y one two. h.versions.once a b x y ((its_version a x one).1.0 ∙ sym (its_version b y two).1.0)) in
+      let all = found_count by_version params 2 (col 1 0 ∷ with_flag) (overlay db []) found answer in
+      record {
+        finds = record {
+          sound = λ x there. let r = answer_has by_version params 2 (col 1 0 ∷ with_flag) (overlay db []) found answer x there in (r.0, subst (λ l. Has l r.0) (with_nothing db 2) r.1, r.2, r.3);
+          complete = λ row there. has_answer by_version params 2 (col 1 0 ∷ with_flag) (overlay db []) found answer row (subst (λ l. Has l row) (sym (with_nothing db 2)) there);
+        };
+        few = omega arith;
+      }
+
+  module _ (found : List Row) (f : IsFound found) where
+    abbrev edit : Edit
+    edit = edit_of db versions (ids_of found) Given 1 found
+
+    abbrev left : List Row
+    left = without_all (db 2) (ids_of found)
+
+    abbrev after : Trees
+    after = with_tree db 2 (edited db edit)
+
+    abbrev source : Row → Row
+    source s = cast_row versions (drop 1 s)
+
+    -- a new row is the version's, marked
+    record IsNew (x : Row) : Type 0 where
+      was : Row
+      there : Has (db 2) was
+      passing : named was ≡ true
+      version : VersionRow
+      entry : IsEntry version_form was key version
+      is : x ≡ marked_row (id_in (rowid was)) key version.id
+
+    is_new : (x : Row) → Has edit.news x → IsNew x
+    is_new x new =
+        let s = has_mapped source found x (subst (λ l. Has l x) (given_as_is left (map source found)) new) in
+        let r = f.finds.sound s.0 s.1 in
+        let its = its_version r.0 r.1 r.2 in
+        let place : rowid r.0 ≡ Int (id_in (rowid r.0)) = int_is (rowid r.0) (all_has _ (db 2) r.0 h.versions.rowids.1 r.1) in
+        let subject : column r.0 1 ≡ Text key.0 = (let k = its.1.0 in cc) in
+        let number : column r.0 2 ≡ Int (pos key.1) = (let k = its.1.0 in cc) in
+        let id : column r.0 3 ≡ Int (pos its.0.id) = (let v = its.1.1 in cc) in
+        let made : source (rowid r.0 ∷ rest r.0) ≡ marked_row (id_in (rowid r.0)) key its.0.id =
+        rw (place, subject, number, id, cast-Int (id_in (rowid r.0)), cast-Int (pos key.1), cast-Int (pos its.0.id), cast-Int (pos 1)) refl in
+        record { was = r.0; there = r.1; passing = r.2; version = its.0; entry = its.1; is = s.2 ∙ ap source r.3 ∙ made }
+
+    each : (p : Row → Bool) → ((place : ℤ) (id : ℕ) → p (marked_row place key id) ≡ true) → list_all p edit.news ≡ false → ⊥
+    each p good fails = both_ways _ fails (test_from p edit.news (λ x new. let it = is_new x new in ap p it.is ∙ good (id_in (rowid it.was)) it.version.id))
+
+    place_of : (x : Row) (it : IsNew x) → rowid x ≡ rowid it.was
+    place_of x it = ap (λ (r : Row). rowid r) it.is ∙ sym (int_is (rowid it.was) (all_has _ (db 2) it.was h.versions.rowids.1 it.there))
+
+    untaken : (x : Row) → Has edit.news x → is_taken left x ≡ true → ⊥
+    untaken x new taken =
+        let it = is_new x new in
+        let r = some_has (λ y. is_eq (value_cmp (rowid y) (rowid x))) left taken in
+        let stood = left_fails named rest (db 2) found h.versions.rowids f.finds r.0 r.1 in
+        let tie = subst (λ v. value_cmp (rowid r.0) v ≡ Equal) (place_of x it) (equal_of _ r.2) in
+        let same : r.0 ≡ it.was = same_if_tied (db 2) r.0 it.was h.versions.rowids stood.0 it.there tie in
+        both_ways _ stood.1 (ap named same ∙ it.passing)
+
+    fresh : are_fresh left edit.news ≡ true
+    fresh =
+        let as_given = given_as_is left (map source found) in
+        let count : length edit.news ≡ length found = ap length as_given ∙ length-map found source in
+        let few = f.few in
+        fresh_if left edit.news (omega arith) untaken
+
+    -- the key of a new row was that of the row that it replaces
+    came : (r : Row) → Has (after 2) r → Has edit.news r ⊎ Has left r
+    came r there = put_all_has edit.news left r (subst (λ l. Has l r) (with_tree_there db 2 (edited db edit)) there)
+
+    apart : (r fresh : Row) → Has (after 2) r → Has edit.news fresh → agree (record { digits = 0 }) (1 ∷ 2 ∷ []) r (1 ∷ 2 ∷ []) fresh ≡ true → differ (rowid r) (rowid fresh) ≡ true → ⊥
+    apart r fresh there new agrees differs =
+        let it = is_new fresh new in
+        elim (came r there) [
+          | inl also ↦
+              let that = is_new r also in
+              let same : that.was ≡ it.was = h.versions.once that.was it.was that.there it.there (that.entry.0 ∙ sym it.entry.0) in
+              let place : rowid r ≡ rowid fresh = place_of r that ∙ ap (λ (x : Row). rowid x) same ∙ sym (place_of fresh it) in
+              both_ways _ (differ_itself (rowid fresh)) (subst (λ v. differ v (rowid fresh) ≡ true) place differs)
+          | inr stays ↦
+              let stood = left_fails named rest (db 2) found h.versions.rowids f.finds r stays in
+              let entry = h.versions.sound r stood.0 in
+              let same : entry.0 ≡ key =
+              version_keys (Int (id_in (rowid it.was))) (Int (pos it.version.id) ∷ Int (pos 1) ∷ []) r entry.0 key entry.3.0
+              (subst (λ x. agree (record { digits = 0 }) (1 ∷ 2 ∷ []) r (1 ∷ 2 ∷ []) x ≡ true) it.is agrees) in
+              both_ways _ stood.1 (by_version_test r key entry.0 entry.3.0 ∙ tied_key version_cmp version_order entry.0 key same)
+        ]
+
+    unique : Keeps Unique layout after
+    unique =
+        stays_unique layout db after versions edit.news layout_apart (has_got layout.tables 1 versions refl) (λ t known other. with_tree_elsewhere db 2 (edited db edit) t.tree other)
+        (λ r there. elim (came r there) [ inl new ↦ inl new | inr stays ↦ inr (without_all_has (ids_of found) (db 2) r stays) ])
+        (λ i known. all_has (λ (i : Index). guards i versions ≡ true → (r fresh : Row) → Has (after 2) r → Has edit.news fresh → agree i.order i.columns r i.columns fresh ≡ true → differ (rowid r) (rowid fresh) ≡ true → ⊥) layout.indexes i
+        ((λ on. absurd (cc)), ((λ on. apart), ((λ on. absurd (cc)), ((λ on. absurd (cc)), ((λ on. absurd (cc)), ((λ on. absurd (cc)), tt)))))) known)
+        (obeys.rules Unique)
+
+    -- the row keeps its id, so it has its text still
+    refers : (next : Trees) → Applies layout Enforced db edit next → Refers All layout next
+    refers next applies = refers_if db next (λ had row there.
+        subst (λ l. has_text l row ≡ true) (sym (applies.tables.0 (λ e. omega (arith, e)))) (elim (put_all_has edit.news left row (subst (λ l. Has l row) applies.rows there)) [
+          | inl new ↦
+              let it = is_new row new in
+              let id : column it.was 3 ≡ Int (pos it.version.id) = (let v = it.entry.1 in cc) in
+              let same : column it.was 3 ≡ column row 3 = id ∙ sym (ap (λ (x : Row). column x 3) it.is) in
+              sym (same_text (db 0) it.was row same) ∙ had it.was it.there
+          | inr stays ↦ had row (without_all_has (ids_of found) (db 2) row stays)
+        ])) (obeys.rules ForeignKey)
+
+    -- the row may be marked, where its rowid is one that SQLite has
+    allowed : (why : Refusal) → IsRefused layout Enforced db edit why → why ≡ NoRowid
+    allowed (Violates Datatype) r = absurd (each _ (λ place id. refl) r)
+    allowed (Violates NotNull) r = absurd (each _ (λ place id. refl) r)
+    allowed (Violates Check) r = absurd (each _ (λ place id. flag_passes true) r)
+    allowed (Violates PrimaryKey) r = absurd (both_ways _ r fresh)
+    allowed (Violates Unique) r = absurd (r unique)
+    allowed (Violates ForeignKey) r = absurd r
+    allowed Mismatch r = absurd (each _ (λ place id. refl) r)
+    allowed NoRowid r = refl
+    allowed BadReference r = absurd (both_ways _ r (versions_at.keys _ _))
+    allowed TooDeep r = absurd r
+
+  pub mark_version_fails : ExecutesInside 0 mark_version params old new (Err e) → IsInsertFault old e
+  unfolding understood everything
+  mark_version_fails ran =
+      elim (refused_by mark_version params old new layout h.declared (Update 1 marking) mark_version_is (lit≤ tt, refl) (record { silent = refl; stays = refl }) e ran) [
+        | inl fault ↦ inl (inl fault)
+        | inr does ↦ elim (update_refused 1 versions refl old (statement_of mark_version (understood layout mark_version)) params e marking refl (plain_fits db params 2 by_version (col 1 0 ∷ with_flag))
+            (λ found next asked applies. refers found (found_as found asked) next applies) does) [
+              | inl fault ↦ inl (inl fault)
+              | inr r ↦ inr (inl (r.4 ∙ ap edit_error (allowed r.0 (found_as r.0 r.2) r.1 r.3)))
+            ]
+      ]
