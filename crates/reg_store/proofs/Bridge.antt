@@ -1,17 +1,16 @@
 -- Rows that hold a registry are those of tables that spell one, and the other way round.
-use Rattle.std.proofs.Common.{◌≡◌, ◌≢◌, ◌⊎◌, inl, inr, ℕ, ℤ, List, [], ◌∷◌, map, Option, Some, None, Bool, true, false, cond, codes, refl, sym, ap, subst, ◌∙◌, Ordering}
+use Rattle.std.proofs.Common.{◌≡◌, ◌⊎◌, inl, inr, ℕ, ℤ, List, [], ◌∷◌, map, Option, Some, None, Bool, true, false, cond, codes, refl, sym, ap, subst, ◌∙◌, Ordering}
 use Rattle.std.specs.Prelude.{IsTrue, IsUtf8, ◌&&◌, ◌||◌, bytes_eq, is_some, option_map, option_and_then, string_bytes}
 use Rattle.std.specs.Prelude as list
 use Rattle.std.specs.List.{AllByRecursion}
 use Rattle.std.specs.Ordering.{is_eq, nat_cmp}
-use Rattle.std.specs.FinMap.{FinMap, get, insert, empty, find, from_entries, get-empty, get-insert, get-from_entries, same_map}
+use Rattle.std.specs.FinMap.{get, empty, find, from_entries, get-empty, get-insert, get-from_entries, same_map}
 use Rattle.std.proofs.lemmas.Bool.{cases_Bool, both_ways, and_parts}
 use Rattle.std.proofs.lemmas.Slice.Eq.{bytes_eq-Decides}
 use Rattle.std.proofs.lemmas.Str.{IsUtf8-string_bytes}
 use Rattle.sqlite_rules.specs.Lists.{Has}
 use Rattle.sqlite_rules.proofs.ListLemmas.{all_has, all_from}
 use Rattle.reg_core.specs.declared.level.Level.{Level}
-use Rattle.reg_core.specs.Keys.{IsKey}
 use Rattle.reg_core.specs.Levels.{level_text, level_of, levels}
 use Rattle.reg_core.specs.Replies.{IsKeptStatus}
 use Rattle.reg_core.specs.Subjects.{is_subject}
@@ -28,7 +27,7 @@ use Rattle.reg_tables.proofs.Members.{has_mapped, maps_had}
 use Rattle.reg_tables.proofs.MapLemmas.{IsKeyOrder, tied_key, other_key, same_or_not, get-insert-same, get-insert-other}
 use Rattle.reg_tables.proofs.KeyedTables.{text_order, number_order, version_order}
 use Rattle.reg_tables.proofs.ListingLemmas.{found_first, find_had}
-use Rattle.reg_rows.specs.Spelling.{Pair, pair_of, value_at, is_name, names_known, has_value, has_level, is_meta, FitsLevels, FitsKept, IsLevelRow, IsKeptRow, IsSpelling}
+use Rattle.reg_rows.specs.Spelling.{Pair, pair_of, value_at, is_name, names_known, has_value, has_level, is_meta, FitsLevels, IsLevelRow, IsKeptRow, IsSpelling}
 use Rattle.reg_store.specs.Replies.{Entry, Kept}
 use Rattle.reg_store.specs.Spells.{CanBeKept, IsSpelled, row_of}
 use Rattle.reg_store.specs.Opening.{text_row, version_row, level_row, kept_row, meta_row, rows_of}

@@ -1,7 +1,9 @@
 -- What a transaction that was committed, or failed, leaves.
-use Rattle.std.proofs.Common.{◌≡◌, ◌⊎◌, inl, inr, Ok, Err, Result, refl, sym, ap, subst, ◌∙◌}
-use Rattle.std.specs.Prelude.{IfErr, OnErr, IsTrue, is_ok}
+use Rattle.std.proofs.Common.{◌≡◌, ◌⊎◌, inl, inr, true, Ok, Err, Result, refl, sym, ap, subst, ◌∙◌}
+use Rattle.std.specs.Prelude.{IfErr, OnOk, OnErr, IsTrue, is_ok}
 use Rattle.std.specs.FinMap.{get-empty}
+use Rattle.sqlite.specs.Held.{Held, state}
+use Rattle.sqlite_trees.specs.declared.store.Store.{Ghosts}
 use Rattle.sqlite.specs.Tree.{Trees}
 use Rattle.sqlite.specs.Effect.{Database}
 use Rattle.sqlite.specs.Steps.{FailsToCommit}
@@ -23,6 +25,14 @@ keeps_if_failed a b e (inr h) = keeps_if_unchanged a b h.2
 pub on_err : {X : Type 0} {P : Error → Type 0} {Q : Type 0} (r : Result X Error) → ((e : Error) → P e → Q) → IfErr r P → OnErr r Q
 on_err (Ok x) f h = tt
 on_err (Err e) f h = f e h
+
+-- a transaction that was begun has the last commit of the connection
+pub keeps_begin : {S : Type 0} (g : Ghosts S) (conn begun : Held S) (end : State) → begun ≡ record conn { in_transaction = true } → KeepsCommit (state g begun) end → KeepsCommit (state g conn) end
+keeps_begin g conn begun end is keeps = let it = subst (λ h. KeepsCommit (state g h) end) is keeps in record { was_open = it.was_open; committed = it.committed }
+
+pub on_err_each : {X E P : Type 0} (r : Result X E) → P → OnErr r P
+on_err_each (Ok x) h = tt
+on_err_each (Err e) h = h
 
 -- trees that hold the contents under layout 1 do so after a crash
 pub left_if_held : (db : Trees) (now : Database) (contents : Contents) → db ≡ now.trees → Holds now contents → Holds (record { schema = layout; trees = db }) contents
@@ -67,3 +77,9 @@ on_err_same (Ok x) (Ok y) same f h = tt
 on_err_same (Ok x) (Err e) same f h = absurd (cc)
 on_err_same (Err e) (Ok y) same f h = tt
 on_err_same (Err e) (Err d) same f h = f h
+
+pub on_ok_same : {X Y E F P Q : Type 0} (r : Result X E) (s : Result Y F) → is_ok s ≡ is_ok r → (P → Q) → OnOk r P → OnOk s Q
+on_ok_same (Ok x) (Ok y) same f h = f h
+on_ok_same (Ok x) (Err e) same f h = tt
+on_ok_same (Err e) (Ok y) same f h = absurd (cc)
+on_ok_same (Err e) (Err d) same f h = tt

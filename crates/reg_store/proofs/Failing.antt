@@ -1,18 +1,17 @@
 -- Why a read of tables that spell a registry fails.
-use Rattle.std.proofs.Common.{◌≡◌, inl, inr, List, ℕ, Option, Some, None, Bool, true, false, Ok, Err, Result, IsTrue, refl, sym, ap, subst, ◌∙◌}
+use Rattle.std.proofs.Common.{◌≡◌, inl, inr, None, Ok, Err, Result, IsTrue, refl, sym, subst}
 use Rattle.std.specs.Prelude.{IfErr, IsErrAnd, OnErr, IsSome}
 use Rattle.sqlite.specs.declared.error.Error.{Error}
 use Rattle.sqlite.specs.declared.error.Error.TheVariants.{SqliteFailure, SqlInputError, InvalidParameterCount, ExecuteReturnedResults, InvalidQuery, MultipleStatement, QueryReturnedNoRows, InvalidColumnIndex, InvalidColumnType, IntegralValueOutOfRange, Utf8Error}
 use Rattle.sqlite.specs.declared.error.ErrorCode.{ErrorCode}
 use Rattle.sqlite.specs.declared.error.ErrorCode.TheVariants.{ConstraintViolation, TypeMismatch, IntegerOverflow, NoRowid, ForeignKeyMismatch, TooDeep, NoClock, NameTaken, BadName, BadKey, BadText, SchemaTooBig, TransactionState, NoSuchSavepoint, OperationInterrupted, NotADatabase, DatabaseCorrupt, CannotOpen, DatabaseBusy, TooBig, OutOfMemory, SystemIoFailure, DiskFull, Closed}
-use Rattle.std.proofs.lemmas.Bool.{both_ways}
-use Rattle.sqlite.specs.Steps.{FailsToCommit}
+use Rattle.sqlite_schema.specs.declared.schema.Constraint.TheVariants.{Datatype, NotNull, Check, PrimaryKey, Unique, ForeignKey}
 use Rattle.sqlite.specs.State.{State, store_error}
 use Rattle.sqlite_trees.specs.declared.error.StoreError as trees
 use Rattle.sqlite_trees.specs.declared.error.StoreError.TheVariants as stored
 use Rattle.reg_core.specs.Registry.{Registry}
 use Rattle.reg_tables.specs.Layout.{layout}
-use Rattle.reg_tables.specs.Reading.{CanBeRead, IsFault, IsWriteFault}
+use Rattle.reg_tables.specs.Reading.{CanBeRead, IsFault}
 use Rattle.reg_store.specs.declared.error.StoreError.{StoreError}
 use Rattle.reg_store.specs.Failures.{failure_of, is_fault, IsFaultOver, IsNumberless}
 use Rattle.reg_store.specs.Replies.{Kept}
@@ -31,15 +30,6 @@ is_fault_of s e unlimited (inl (cause, is)) = subst (λ x. IsTrue (is_fault (fai
     go stored.Broken = refl
     go stored.Unstorable = refl
 is_fault_of s e unlimited (inr (is, limited)) = absurd (let none = subst IsSome unlimited limited in cc)
-
--- so is a write's in a transaction that goes on, and a commit's
-pub write_fault_of : (s : State) (e : Error) → s.step_limit ≡ None → s.in_transaction ≡ true → IsWriteFault s e → IsTrue (is_fault (failure_of e))
-write_fault_of s e unlimited inside (inl fault) = is_fault_of s e unlimited fault
-write_fault_of s e unlimited inside (inr (is, ended)) = absurd (both_ways _ ended inside)
-
-pub commit_fault_of : (s new : State) (e : Error) → s.step_limit ≡ None → s.in_transaction ≡ true → FailsToCommit s new e → IsTrue (is_fault (failure_of e))
-commit_fault_of s new e unlimited inside (inl fails) = is_fault_of s e unlimited (inl (fails.0, fails.1))
-commit_fault_of s new e unlimited inside (inr ended) = absurd (both_ways _ ended.1 inside)
 
 -- what is spelled can be read
 pub can_be_read : (s : State) (g : Registry) (k : Kept) → SpellsWhileOpen s g k → CanBeRead s
@@ -68,7 +58,12 @@ pub numberless : (e : Error) → IsNumberless (failure_of e)
 numberless (SqliteFailure code) = go code
   where
     go : (code : ErrorCode) → IsNumberless (failure_of (SqliteFailure code))
-    go (ConstraintViolation rule) = tt
+    go (ConstraintViolation Datatype) = tt
+    go (ConstraintViolation NotNull) = tt
+    go (ConstraintViolation Check) = tt
+    go (ConstraintViolation PrimaryKey) = tt
+    go (ConstraintViolation Unique) = tt
+    go (ConstraintViolation ForeignKey) = tt
     go TypeMismatch = tt
     go IntegerOverflow = tt
     go NoRowid = tt

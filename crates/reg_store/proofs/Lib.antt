@@ -10,3 +10,5 @@ pub mod Distinct
 pub mod TestLemmas
 pub mod MetaLemmas
 pub mod OpenLemmas
+pub mod Keeping
+pub mod Writing

@@ -1,12 +1,12 @@
 -- What the rows of `meta` name.
-use Rattle.std.proofs.Common.{◌≡◌, ◌⊎◌, inl, inr, ◌<◌, ◌≤◌, ℕ, List, map, Bool, true, false, Option, Some, None, Ok, Err, Result, IsTrue, codes, refl, sym, ap, subst, ◌∙◌, arith}
-use Rattle.std.specs.Prelude.{IfErr, OnOk, IsErrAnd, ◌&&◌, option_and_then, if◌then◌else◌}
+use Rattle.std.proofs.Common.{◌≡◌, inl, inr, ℕ, List, map, Bool, true, false, Option, Some, None, Ok, Err, Result, IsTrue, codes, refl, sym, ap, subst, ◌∙◌, arith}
+use Rattle.std.specs.Prelude.{IfErr, IsErrAnd, ◌&&◌, option_and_then, if◌then◌else◌}
 use Rattle.std.specs.FinMap.{get}
 use Rattle.std.proofs.lemmas.Bool.{and_parts, both_ways}
 use Rattle.sqlite.specs.Schema.{Schema}
 use Rattle.sqlite.specs.Effect.{Database}
 use Rattle.sqlite.specs.Held.{Held, state}
-use Rattle.sqlite.specs.State.{State, HasCleanDisk}
+use Rattle.sqlite.specs.State.{HasCleanDisk}
 use Rattle.sqlite.specs.declared.error.Error.{Error}
 use Rattle.sqlite_trees.specs.declared.store.Store.{Ghosts}
 use Rattle.reg_core.specs.Registry.{Registry}
@@ -21,12 +21,12 @@ use Rattle.reg_tables.proofs.ListingLemmas.{listed_if_shown}
 use Rattle.reg_rows.specs.Spelling.{Pair, value_at, has_value, has_level, names_known, is_meta, number_in, layout_in}
 use Rattle.reg_store.specs.declared.error.StoreError.{StoreError}
 use Rattle.reg_store.specs.declared.error.StoreError.TheVariants.{Memory, Disk, NotARegistry, OldLayout, NewerLayout}
-use Rattle.reg_store.specs.Failures.{failure_of, is_fault}
+use Rattle.reg_store.specs.Failures.{failure_of}
 use Rattle.reg_store.specs.Opening.{NamesLayout, Outdates, IsRefusedBy, TellsNewer}
 use Rattle.reg_store.specs.Replies.{Kept}
 use Rattle.reg_store.specs.Spells.{SpellsUnopened}
 use Rattle.reg_store.specs.Testing.{pairs_of, PassesMeta, Allows, JudgesMeta, MetaPass, Tests}
-use Rattle.reg_store.proofs.Bridge.{meta_in, meta_found, value_is}
+use Rattle.reg_store.proofs.Bridge.{meta_found, value_is}
 use Rattle.reg_store.proofs.Failing.{is_fault_of, passed}
 use Rattle.reg_store.proofs.Maps.{same_bytes}
 use Rattle.reg_store.proofs.TestLemmas.{framed, is_known, meta_passes}

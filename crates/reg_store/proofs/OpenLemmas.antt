@@ -1,6 +1,5 @@
 -- What opening a store over tables that passed leaves.
-use Rattle.std.proofs.Common.{◌≡◌, ◌≢◌, inl, inr, IsTrue, Result, Ok, Err, sym, ap, subst, ◌∙◌, arith}
-use Rattle.std.specs.Prelude.{OnErr}
+use Rattle.std.proofs.Common.{◌≡◌, ◌≢◌, inl, inr, IsTrue, sym, ap, subst, ◌∙◌, arith}
 use Rattle.sqlite.specs.Schema.{Schema}
 use Rattle.sqlite.specs.Effect.{Database, IsDatabase}
 use Rattle.sqlite.specs.Tree.{Trees}
@@ -12,7 +11,7 @@ use Rattle.reg_tables.specs.Contents.{Contents, HoldsIn, Holds}
 use Rattle.reg_tables.specs.Reading.{OnlyReads}
 use Rattle.reg_store.specs.Opening.{OpensOver, IsIndexed}
 use Rattle.reg_store.specs.Replies.{Kept}
-use Rattle.reg_store.specs.Spells.{SpellsIn, Spells, SpellsUnopened, IsOpenOver}
+use Rattle.reg_store.specs.Spells.{SpellsIn, Spells, SpellsUnopened}
 use Rattle.reg_store.specs.Testing.{TablesPass}
 use Rattle.reg_store.proofs.Rereading.{same_now}
 use Rattle.reg_store.proofs.TestLemmas.{spelled_if_passed}
@@ -62,10 +61,6 @@ module _ (old mid new : State) (reads : HasCleanDisk mid → OnlyReads old mid) 
       made clean db it = λ contents holds.
           let early : HasCleanDisk mid = omega (arith, q.clean) in
           it.1 contents (subst (λ (d : Database). HoldsIn unindexed d contents) (sym (same_now old mid (reads early) settled it.0)) holds)
-
-pub on_err_any : {X E P : Type 0} (r : Result X E) → P → OnErr r P
-on_err_any (Ok x) p = tt
-on_err_any (Err e) p = p
 
 pub only_reads : (old new : State) → KeepsCommit old new → (IsTrue new.is_open → new.now ≡ new.committed) → OnlyReads old new
 only_reads old new kept settled = record { kept = kept; settled = settled }

@@ -1,11 +1,7 @@
 -- Several reads, one after the other.
-use Rattle.std.proofs.Common.{◌≡◌, inl, inr, IsTrue, sym, subst, ◌∙◌}
-use Rattle.std.specs.Prelude.{IsSome}
-use Rattle.sqlite.specs.Effect.{Database}
-use Rattle.sqlite.specs.declared.error.Error.{Error}
+use Rattle.std.proofs.Common.{◌≡◌, IsTrue, sym, ◌∙◌}
 use Rattle.sqlite.specs.State.{State}
-use Rattle.reg_tables.specs.Contents.{Holds}
-use Rattle.reg_tables.specs.Reading.{CanBeRead, IsFault, OnlyReads}
+use Rattle.reg_tables.specs.Reading.{OnlyReads}
 use Rattle.reg_tables.proofs.Transactions.{keeps_then}
 
 pub reads_then : (a b c : State) → OnlyReads a b → OnlyReads b c → OnlyReads a c

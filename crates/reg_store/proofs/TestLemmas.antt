@@ -1,6 +1,6 @@
 -- What the tests of the tables say, both ways.
-use Rattle.std.proofs.Common.{◌≡◌, inl, inr, ℤ, List, [], ◌∷◌, map, Bool, true, false, None, Ok, Err, Result, IsTrue, refl, sym, ap, subst, ◌∙◌, arith}
-use Rattle.std.specs.Prelude.{IfErr, IfOk, OnOk, IsErrAnd}
+use Rattle.std.proofs.Common.{◌≡◌, List, [], ◌∷◌, map, Bool, false, None, Ok, Err, Result, IsTrue, refl, sym, ap, subst, ◌∙◌, arith}
+use Rattle.std.specs.Prelude.{IfErr, OnOk, IsErrAnd}
 use Rattle.std.specs.List.{AllByRecursion, IsDistinct}
 use Rattle.std.specs.FinMap.{get}
 use Rattle.sqlite.specs.Schema.{Schema}
@@ -16,7 +16,7 @@ use Rattle.reg_tables.specs.declared.lines.LevelLine.{LevelLine}
 use Rattle.reg_tables.specs.declared.lines.KeptLine.{KeptLine}
 use Rattle.reg_tables.specs.declared.lines.MetaLine.{MetaLine}
 use Rattle.reg_tables.specs.Layout.{IsLayout, texts, versions, levels, kept, meta}
-use Rattle.reg_tables.specs.Contents.{text_form, version_form, pair_form, kept_form, text_cmp, version_cmp, Contents}
+use Rattle.reg_tables.specs.Contents.{text_form, version_form, pair_form, kept_form, text_cmp, version_cmp}
 use Rattle.reg_tables.specs.Frames.{StaysIdle}
 use Rattle.reg_tables.specs.Listings.{text_entry, version_entry, level_entry, kept_entry, meta_entry, ListsTexts, ListsVersions, ListsLevels, ListsKept, ListsMeta, ListsAll, HaveNoTwins, Lines, contents_of}
 use Rattle.reg_tables.specs.Reading.{CanBeRead, IsFault}
@@ -31,7 +31,7 @@ use Rattle.reg_store.specs.Failures.{failure_of, is_fault}
 use Rattle.reg_store.specs.Opening.{level_row, kept_row, meta_row, rows_of}
 use Rattle.reg_store.specs.Replies.{Kept}
 use Rattle.reg_store.specs.Spells.{SpellsIn, SpellsUnopened}
-use Rattle.reg_store.specs.Testing.{AreApart, level_fits, kept_fits, Tests, TextsPass, VersionsPass, LevelsPass, KeptPass, MetaPass, RestPasses, TablesPass, IsFaultUnopened}
+use Rattle.reg_store.specs.Testing.{AreApart, level_fits, kept_fits, Tests, TablesPass, IsFaultUnopened}
 use Rattle.reg_store.proofs.Bridge.{no_texts, no_versions, levels_fit, kept_fit, meta_fit, spelled_if_rows}
 use Rattle.reg_tables.proofs.Transactions.{survives_both, on_ok}
 use Rattle.reg_store.proofs.Failing.{is_fault_of}

@@ -1,7 +1,7 @@
 -- What the tables spell is read: its texts are UTF-8, and its statuses are low.
-use Rattle.std.proofs.Common.{◌≡◌, ◌≢◌, inl, inr, ℕ, ◌<◌, ◌≤◌, ◌^◌, Bool, true, false, List, [], ◌∷◌, Option, Some, None, codes, cond, refl, sym, ap, subst, ◌∙◌, arith, get_or}
-use Rattle.std.specs.Prelude.{IsUtf8, IsTrue, length, nat_lt, nat_le, ◌==◌, ◌&&◌, option_map}
-use Rattle.std.specs.FinMap.{FinMap, get, insert, empty, get-empty}
+use Rattle.std.proofs.Common.{◌≡◌, inl, inr, ℕ, ◌<◌, ◌^◌, Bool, true, false, List, Option, Some, None, codes, refl, sym, ap, subst, ◌∙◌, arith, get_or}
+use Rattle.std.specs.Prelude.{IsUtf8, IsTrue, length, nat_lt, nat_le, ◌&&◌, option_map}
+use Rattle.std.specs.FinMap.{get, insert, empty, get-empty}
 use Rattle.std.specs.Str.{IsAscii, is_utf8}
 use Rattle.std.proofs.lemmas.Bool.{ltb-false, and_parts}
 use Rattle.std.proofs.lemmas.Bool.Decides.{nat_tests}
@@ -14,11 +14,11 @@ use Rattle.reg_core.specs.Levels.{level_text}
 use Rattle.reg_core.specs.Subjects.{is_subject}
 use Rattle.reg_core.specs.Replies.{IsKeptStatus}
 use Rattle.reg_core.specs.Registry.{Registry}
-use Rattle.reg_tables.specs.Contents.{text_cmp, TextMap, KeptRow, Contents, AreReadable}
+use Rattle.reg_tables.specs.Contents.{text_cmp, TextMap, Contents, AreReadable}
 use Rattle.reg_tables.specs.Changes.{meta_of}
 use Rattle.reg_tables.proofs.MapLemmas.{get-insert-same, get-insert-other, same_or_not}
 use Rattle.reg_tables.proofs.KeyedTables.{text_order}
-use Rattle.reg_store.specs.Replies.{Entry, Kept}
+use Rattle.reg_store.specs.Replies.{Kept}
 use Rattle.reg_store.specs.Spells.{IsSpelled, row_of}
 
 key_byte_ascii : (c : ℕ) → is_key_byte c ≡ true → c < 128

@@ -1,8 +1,11 @@
 -- What a call makes of a registry and of the kept replies.
-use Rattle.std.specs.Prelude.{◌≡◌, Option, None, Some, ⊤}
+use Rattle.std.specs.Prelude.{◌≡◌, ◌≢◌, ◌⊎◌, List, [], Option, None, Some, IsSome, IsTrue, false, ⊤}
 use Rattle.sqlite.specs.State.{State}
+use Rattle.sqlite.specs.declared.error.Error.{Error}
+use Rattle.reg_core.specs.declared.decision.Change.{Change}
 use Rattle.reg_core.specs.Replies.{IsKeptStatus}
 use Rattle.reg_core.specs.Registry.{Registry}
+use Rattle.reg_tables.specs.Reading.{IsInsertFault}
 use Rattle.reg_store.specs.declared.keep.Keep.{Keep}
 use Rattle.reg_store.specs.Replies.{Entry, Kept, kept_with}
 use Rattle.reg_store.specs.Spells.{Spells}
@@ -28,3 +31,23 @@ IsKeepable keep = IsKeptStatus keep.reply.now.status
 -- the tables spelled some registry and kept replies, and now spell what the two functions make of them
 abbrev pub Respells : State → State → (Registry → Registry) → (Kept → Kept) → Type 0
 Respells old new change keep = (g : Registry) (k : Kept) → Spells old.now g k → Spells new.now (change g) (keep k)
+
+-- this project's choice: there is a change to make, or a reply to keep
+abbrev pub ActsOn : List Change → Option Keep → Type 0
+ActsOn changes keep = (changes ≢ []) ⊎ IsSome keep
+
+-- inside a transaction: as long as the connection is open, its tables spell them
+abbrev pub SpellsInside : State → Registry → Kept → Type 0
+SpellsInside s g k = IsTrue s.is_open → Spells s.now g k
+
+-- a change of tables that spell a registry fails for a reason that each write has
+abbrev pub IsFaultOfChange : State → Error → Type 0
+IsFaultOfChange s e = (g : Registry) (k : Kept) → SpellsInside s g k → IsInsertFault s e
+
+-- the same, where nothing is kept under the key yet
+abbrev pub IsFaultOfReply : State → Option Keep → Error → Type 0
+IsFaultOfReply s keep e = (g : Registry) (k : Kept) → SpellsInside s g k → IsNewTo k keep → IsInsertFault s e
+
+-- only a transaction that had ended before ended
+abbrev pub GoesOn : State → State → Type 0
+GoesOn old new = new.in_transaction ≡ false → old.in_transaction ≡ false

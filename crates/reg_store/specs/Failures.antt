@@ -4,6 +4,7 @@ use Rattle.sqlite.specs.State.{State}
 use Rattle.sqlite.specs.declared.error.Error.{Error}
 use Rattle.sqlite.specs.declared.error.Error.TheVariants.{SqliteFailure}
 use Rattle.sqlite.specs.declared.error.ErrorCode.TheVariants as code
+use Rattle.sqlite_schema.specs.declared.schema.Constraint.TheVariants.{PrimaryKey}
 use Rattle.reg_store.specs.declared.error.StoreError.{StoreError}
 use Rattle.reg_store.specs.declared.error.StoreError.TheVariants.{Memory, Disk, NotARegistry, OldLayout, NewerLayout}
 use Rattle.reg_core.specs.Registry.{Registry}
@@ -19,6 +20,8 @@ failure_of (SqliteFailure code.DiskFull) = Disk
 failure_of (SqliteFailure code.TooBig) = Disk
 failure_of (SqliteFailure code.NoRowid) = Disk
 failure_of (SqliteFailure code.Closed) = Disk
+-- SQLite would put the row at a rowid that is taken, which it never finds above the last of rows in the order of their rowids: the file is damaged
+failure_of (SqliteFailure (code.ConstraintViolation PrimaryKey)) = Disk
 failure_of _ = NotARegistry
 
 -- this project's choice: memory or the disk

@@ -1,6 +1,5 @@
 -- What is kept under retry keys. The Schema Registry API reference knows no retry keys: each definition here is this project's choice.
-use Rattle.std.specs.Prelude.{ℕ, ◌==◌, List, [], ◌∷◌, Option, Some, None, IsTrue, bytes_eq, if◌then◌else◌}
-use Rattle.std.specs.List.{list_any}
+use Rattle.std.specs.Prelude.{ℕ, List, Option, Some, None, bytes_eq, if◌then◌else◌}
 use Rattle.reg_core.specs.Replies.{Told}
 
 -- What is kept under a retry key: the text of its command, and its reply.

@@ -1,8 +1,12 @@
 -- What a store is seen as.
-use Rattle.std.specs.Prelude.{Bool}
+use Rattle.std.specs.Prelude.{◌≡◌, ◌⊎◌, ◌↔◌, ◌≤◌, Bool, IsTrue, Result, Err, OnOk}
+use Rattle.sqlite_disk.specs.Disk.{MoreFaults}
 use Rattle.sqlite.specs.Held.{Held, state}
-use Rattle.sqlite.specs.State.{State}
+use Rattle.sqlite.specs.Tree.{Trees}
+use Rattle.sqlite.specs.State.{State, HasCleanDisk}
 use Rattle.sqlite_trees.specs.declared.store.Store.{Ghosts}
+use Rattle.reg_store.specs.declared.error.StoreError.{StoreError}
+use Rattle.reg_store.specs.declared.error.StoreError.TheVariants.{Disk}
 use Rattle.reg_store.specs.declared.store.Store.{Store}
 
 -- SQLite, connections: the store's one
@@ -16,3 +20,22 @@ state_of {S} {g} store = state g (connection_of store)
 -- this project's choice: it has answered a fault of the disk
 abbrev pub has_failed : {S : Type 0} {g : Ghosts S} → Store S g → Bool
 has_failed store = store.failed
+
+-- SQLite, transactions: while the connection is open, a crash leaves its last commit alone
+abbrev pub LeavesCommit : State → Type 0
+LeavesCommit s = IsTrue s.is_open → (db : Trees) → s.may_leave db → db ≡ s.committed.trees
+
+-- this project's choice: what each call of a store keeps, whatever it answers
+pub record KeepsStore {S T : Type 0} {g : Ghosts S} (old new : Store S g) (result : Result T StoreError) : Type 0 where
+  -- after a fault of the disk a call does nothing
+  pub failed_before : IsTrue (has_failed old) → (result ≡ Err Disk) × (new ≡ old)
+  pub failed_now : (result ≡ Err Disk) ↔ IsTrue (has_failed new)
+  pub clean : HasCleanDisk (state_of new) → HasCleanDisk (state_of old)
+  -- it succeeds over an open connection alone
+  pub was_open : HasCleanDisk (state_of new) → OnOk result (IsTrue (state_of old).is_open)
+  -- no fault is forgotten
+  pub counts : (state_of old).faults ≤ (state_of new).faults
+  -- it opens no connection, and only a fault of the disk shuts one
+  pub stays_shut : HasCleanDisk (state_of new) → IsTrue (state_of new).is_open → IsTrue (state_of old).is_open
+  pub closes : HasCleanDisk (state_of new) → IsTrue (state_of old).is_open → IsTrue (state_of new).is_open ⊎ MoreFaults (state_of old).faults (state_of new).faults
+  pub settled : LeavesCommit (state_of new)

@@ -1,10 +1,10 @@
 //! Changes of the tables, in a transaction. Whatever a call answers, nothing is committed.
 
-ghost use Rattle.std.specs.Prelude.{◌≡◌, OnOk, IfSome};
+ghost use Rattle.std.specs.Prelude.{◌≢◌, [], OnOk, IfErr, IfSome, IsSome, IsTrue};
 ghost use Rattle.sqlite.specs.State.{HasCleanDisk};
 ghost use Rattle.reg_core.specs.Views.{changed, changed_once};
-ghost use Rattle.reg_tables.specs.Frames.{state_in, KeepsInside, StaysInside};
-ghost use Rattle.reg_store.specs.Changes.{with_reply, IsNewTo, IsKeepable, Respells};
+ghost use Rattle.reg_tables.specs.Frames.{state_in, StaysInside, KeepsInside};
+ghost use Rattle.reg_store.specs.Changes.{with_reply, IsNewTo, IsKeepable, Respells, IsFaultOfChange, IsFaultOfReply, GoesOn};
 ghost use Rattle.reg_store.specs.Replies.{Kept};
 ghost use Rattle.reg_store.specs.Spells.{Spells};
 ghost use Rattle.reg_core.specs.Registry.{Registry};
@@ -20,6 +20,8 @@ fn make<S: Alter>(tx: &mut Transaction<'_, S>, change: &Change) -> Result<(), Er
     ensures made { HasCleanDisk (state_in S.Store tx.new)
         → OnOk result (Respells (state_in S.Store tx.old) (state_in S.Store tx.new)
         (changed_once change.now) (λ k. k)) }
+    ensures fault { HasCleanDisk (state_in S.Store tx.new)
+        → IfErr result (IsFaultOfChange (state_in S.Store tx.old)) }
 {
     match change {
         Change::SetGlobal { level } => set_global(tx, level.text()),
@@ -33,9 +35,15 @@ pub(crate) fn make_all<S: Alter>(
     changes: &[Change],
 ) -> Result<(), Error>
     ensures frame { KeepsInside S.Store tx.old tx.new }
+    ensures was_open { HasCleanDisk (state_in S.Store tx.new)
+        → OnOk result (changes.now ≢ [] → IsTrue (state_in S.Store tx.old).is_open) }
+    ensures goes_on { HasCleanDisk (state_in S.Store tx.new)
+        → OnOk result (GoesOn (state_in S.Store tx.old) (state_in S.Store tx.new)) }
     ensures made { HasCleanDisk (state_in S.Store tx.new)
         → OnOk result (Respells (state_in S.Store tx.old) (state_in S.Store tx.new)
         (changed changes.now) (λ k. k)) }
+    ensures fault { HasCleanDisk (state_in S.Store tx.new)
+        → IfErr result (IsFaultOfChange (state_in S.Store tx.old)) }
 {
     for change in changes {
         make(tx, change)?;
@@ -50,10 +58,16 @@ pub(crate) fn keep_reply<S: Alter>(
 ) -> Result<(), Error>
     requires { IfSome keep IsKeepable }
     ensures frame { KeepsInside S.Store tx.old tx.new }
+    ensures was_open { HasCleanDisk (state_in S.Store tx.new)
+        → OnOk result (IsSome keep.entry → IsTrue (state_in S.Store tx.old).is_open) }
+    ensures goes_on { HasCleanDisk (state_in S.Store tx.new)
+        → OnOk result (GoesOn (state_in S.Store tx.old) (state_in S.Store tx.new)) }
     ensures put { HasCleanDisk (state_in S.Store tx.new)
         → OnOk result ((g : Registry) (k : Kept) → Spells (state_in S.Store tx.old).now g k
         → IsNewTo k keep.entry
         → Spells (state_in S.Store tx.new).now g (with_reply keep.entry k)) }
+    ensures fault { HasCleanDisk (state_in S.Store tx.new)
+        → IfErr result (IsFaultOfReply (state_in S.Store tx.old) keep.entry) }
 {
     match keep {
         None => Ok(()),

@@ -4,7 +4,7 @@ ghost use Rattle.std.specs.Prelude.{◌≡◌};
 ghost use Rattle.sqlite.specs.declared.error.Error.TheVariants.{SqliteFailure};
 ghost use Rattle.reg_store.specs.Failures.{failure_of};
 
-use sqlite::ErrorCode;
+use sqlite::{Constraint, ErrorCode};
 use std::alloc::AllocError;
 use thiserror::Error;
 
@@ -66,6 +66,9 @@ fn failure_with(code: ErrorCode) -> StoreError
         | ErrorCode::TooBig
         | ErrorCode::NoRowid
         | ErrorCode::Closed => StoreError::Disk,
+        // SQLite would put the row at a rowid that is taken, which it never finds above the last
+        // of rows in the order of their rowids: the file is damaged.
+        ErrorCode::ConstraintViolation(Constraint::PrimaryKey) => StoreError::Disk,
         _ => StoreError::NotARegistry,
     }
 }

@@ -1,6 +1,6 @@
 //! Changes of the registry, and the replies that are kept with them.
 
-ghost use Rattle.std.specs.Prelude.{◌≡◌, ◌⊎◌, ◌↔◌, IfSome, OnOk, OnErr, Err, IsTrue, false};
+ghost use Rattle.std.specs.Prelude.{◌≡◌, ◌⊎◌, ◌↔◌, IfSome, IfErr, OnOk, OnErr, Err, IsTrue, None, false};
 ghost use Rattle.sqlite.specs.Tree.{Trees};
 ghost use Rattle.sqlite.specs.Held.{state};
 ghost use Rattle.sqlite.specs.State.{HasCleanDisk, Survives, KeepsCommit};
@@ -9,8 +9,9 @@ ghost use Rattle.reg_core.specs.Views.{changed};
 ghost use Rattle.reg_tables.specs.Reading.{OnlyReads};
 ghost use Rattle.reg_store.specs.Replies.{Kept};
 ghost use Rattle.reg_store.specs.Spells.{Leaves, IsOpenOver, SpellsWhileOpen};
-ghost use Rattle.reg_store.specs.Changes.{with_reply, IsNewTo, IsKeepable};
-ghost use Rattle.reg_store.specs.Stores.{state_of, has_failed};
+ghost use Rattle.reg_store.specs.Changes.{with_reply, IsNewTo, IsKeepable, ActsOn};
+ghost use Rattle.reg_store.specs.Failures.{failure_of, is_fault};
+ghost use Rattle.reg_store.specs.Stores.{state_of, has_failed, KeepsStore};
 
 use crate::changes::{keep_reply, make_all};
 use crate::error::StoreError;
@@ -26,17 +27,23 @@ fn commit_all<S: Alter>(
     keep: Option<Keep<'_>>,
 ) -> Result<(), Error>
     requires idle { conn.old.in_transaction ≡ false }
+    requires unlimited { conn.old.step_limit ≡ None }
     requires keepable { IfSome keep IsKeepable }
     ensures idle { conn.new.in_transaction ≡ false }
     ensures done { HasCleanDisk (state S.Store conn.new) → OnOk result ((g : Registry) (k : Kept)
         → SpellsWhileOpen (state S.Store conn.old) g k → IsNewTo k keep.entry
         → IsOpenOver (state S.Store conn.new) (changed changes.now g) (with_reply keep.entry k)) }
+    ensures fault { HasCleanDisk (state S.Store conn.new) → IfErr result (λ e.
+        (g : Registry) (k : Kept) → SpellsWhileOpen (state S.Store conn.old) g k
+        → IsNewTo k keep.entry → IsTrue (is_fault (failure_of e))) }
+    ensures was_open { HasCleanDisk (state S.Store conn.new)
+        → OnOk result (IsTrue (state S.Store conn.old).is_open) }
     ensures nothing { HasCleanDisk (state S.Store conn.new)
         → OnErr result (KeepsCommit (state S.Store conn.old) (state S.Store conn.new)) }
     ensures survives { Survives (state S.Store conn.old) (state S.Store conn.new) (λ db.
         (g : Registry) (k : Kept)
         → SpellsWhileOpen (state S.Store conn.old) g k → IsNewTo k keep.entry
-        → IsTrue (state S.Store conn.old).is_open
+        → IsTrue (state S.Store conn.old).is_open ⊎ ActsOn changes.now keep.entry
         → Leaves db (changed changes.now g) (with_reply keep.entry k)) }
 {
     let mut tx = conn.transaction();
@@ -51,18 +58,18 @@ impl<S: Alter> Store<S> {
     ///
     /// # Errors
     ///
-    /// `Memory`, `Disk`, and `NotARegistry` where the tables no longer are those of one, or
+    /// `Memory` and `Disk`. `NotARegistry` comes only where the tables no longer are those of one, or
     /// something is kept under the key. Nothing is changed then; but after `Disk` a crash may leave
     /// the database with all of the changes and the reply.
     pub fn apply(&mut self, changes: &[Change], keep: Option<Keep<'_>>) -> Result<(), StoreError>
         requires { IfSome keep IsKeepable }
-        ensures failed_before { IsTrue (has_failed self.old)
-            → (result ≡ Err StoreError.Disk) × (self.new ≡ self.old) }
-        ensures failed_now { (result ≡ Err StoreError.Disk) ↔ IsTrue (has_failed self.new) }
-        ensures clean { HasCleanDisk (state_of self.new) → HasCleanDisk (state_of self.old) }
+        ensures frame { KeepsStore self.old self.new result }
         ensures done { HasCleanDisk (state_of self.new) → OnOk result ((g : Registry) (k : Kept)
             → SpellsWhileOpen (state_of self.old) g k → IsNewTo k keep.entry
             → IsOpenOver (state_of self.new) (changed changes.now g) (with_reply keep.entry k)) }
+        ensures fault { HasCleanDisk (state_of self.new) → IfErr result (λ e.
+            (g : Registry) (k : Kept) → SpellsWhileOpen (state_of self.old) g k
+            → IsNewTo k keep.entry → IsTrue (is_fault e)) }
         ensures nothing { HasCleanDisk (state_of self.new) → OnErr result ((g : Registry) (k : Kept)
             → SpellsWhileOpen (state_of self.old) g k → SpellsWhileOpen (state_of self.new) g k) }
 
@@ -71,6 +78,13 @@ impl<S: Alter> Store<S> {
             → IsOpenOver (state_of self.old) g k → IsNewTo k keep.entry
             → (db : Trees) → (state_of self.new).may_leave db
             → Leaves db g k ⊎ Leaves db (changed changes.now g) (with_reply keep.entry k) }
+
+        // So it does where a fault may have shut the connection, if there was something to do.
+        ensures crash_shut { HasCleanDisk (state_of self.new) → (g : Registry) (k : Kept)
+            → SpellsWhileOpen (state_of self.old) g k → IsNewTo k keep.entry
+            → ActsOn changes.now keep.entry → (db : Trees) → (state_of self.new).may_leave db
+            → (state_of self.old).may_leave db
+            ⊎ Leaves db (changed changes.now g) (with_reply keep.entry k) }
 
         // While the connection is open, a crash leaves what the tables spell.
         ensures settled { (g : Registry) (k : Kept) → IsOpenOver (state_of self.new) g k

@@ -1,6 +1,7 @@
 //! How a store is made, and taken apart again.
 
-ghost use Rattle.std.specs.Prelude.{◌≡◌, ◌≢◌, ◌⊎◌, ◌↔◌, IfOk, IfErr, OnOk, OnErr, IsErrAnd, IsTrue, None, false};
+ghost use Rattle.std.specs.Prelude.{◌≡◌, ◌≢◌, ◌⊎◌, IfOk, IfErr, OnOk, OnErr, IsErrAnd, IsTrue, None, false};
+ghost use Rattle.sqlite_disk.specs.Disk.{MoreFaults};
 ghost use Rattle.sqlite.specs.Tree.{Trees};
 ghost use Rattle.sqlite.specs.Held.{state};
 ghost use Rattle.sqlite.specs.State.{HasCleanDisk, Survives, KeepsCommit};
@@ -9,12 +10,13 @@ ghost use Rattle.reg_tables.specs.Layout.{no_schema};
 ghost use Rattle.reg_tables.specs.Reading.{OnlyReads};
 ghost use Rattle.reg_store.specs.Replies.{nothing_kept};
 ghost use Rattle.reg_store.specs.Spells.{Leaves, IsOpenOver};
-ghost use Rattle.reg_store.specs.Stores.{connection_of, state_of, has_failed};
+ghost use Rattle.reg_store.specs.Failures.{failure_of, is_fault};
+ghost use Rattle.reg_store.specs.Stores.{connection_of, state_of, has_failed, LeavesCommit};
 
 use crate::error::StoreError;
 use crate::store::Store;
+use reg_tables::has_no_tables;
 use sqlite::{Alter, Connection, Error};
-use sqlite_schema::schema::Schema;
 use std::alloc::Global;
 
 impl<S: Alter> Store<S> {
@@ -23,7 +25,7 @@ impl<S: Alter> Store<S> {
     ///
     /// # Errors
     ///
-    /// `NotARegistry` where the database isn't empty, `Memory` and `Disk`. The database is as
+    /// `NotARegistry` where the database isn't empty, and there alone; `Memory` and `Disk`. The database is as
     /// before then; but after `Disk` a crash may leave the new registry too.
     pub fn create(
         alloc: Global,
@@ -36,18 +38,24 @@ impl<S: Alter> Store<S> {
         ensures full { (state S.Store connection).now.schema ≢ no_schema
             → IsErrAnd result (λ e. e.0 ≡ StoreError.NotARegistry) }
         ensures idle { IfErr result (λ e. e.1.in_transaction ≡ false) }
+        ensures fault { IfErr result (λ e. HasCleanDisk (state S.Store e.1)
+            → (state S.Store connection).now.schema ≡ no_schema → IsTrue (is_fault e.0)) }
         ensures nothing { IfErr result (λ e. HasCleanDisk (state S.Store e.1)
             → OnlyReads (state S.Store connection) (state S.Store e.1)) }
 
         // A crash leaves the new registry, or where the call failed perhaps what it left before.
         ensures crash_after { IfOk result (λ store. HasCleanDisk (state_of store) → (db : Trees)
             → (state_of store).may_leave db → Leaves db new_registry nothing_kept) }
+        ensures closes { IfErr result (λ e. HasCleanDisk (state S.Store e.1)
+            → IsTrue (state S.Store connection).is_open → IsTrue (state S.Store e.1).is_open
+            ⊎ MoreFaults (state S.Store connection).faults (state S.Store e.1).faults) }
+        ensures settled { IfErr result (λ e. LeavesCommit (state S.Store e.1)) }
         ensures crash { IfErr result (λ e. HasCleanDisk (state S.Store e.1) → (db : Trees)
             → (state S.Store e.1).may_leave db
             → (state S.Store connection).may_leave db ⊎ Leaves db new_registry nothing_kept) }
     {
         connection.set_step_limit(None);
-        if !is_empty(connection.schema()) {
+        if !has_no_tables(&connection) {
             let _idle = connection.is_autocommit();
             return Err((StoreError::NotARegistry, connection));
         }
@@ -84,20 +92,16 @@ impl<S: Alter> Store<S> {
     }
 }
 
-// Whether a database of this schema has no table, no index and no view.
-fn is_empty(schema: &Schema) -> bool
-    ensures { IsTrue result ↔ (schema.now ≡ no_schema) }
-{
-    schema.tables.is_empty() && schema.indexes.is_empty() && schema.views.is_empty()
-}
-
 // Makes the tables of a new registry in one transaction.
 fn make_in<S: Alter>(conn: &mut Connection<S>) -> Result<(), Error>
-    requires { conn.old.in_transaction ≡ false }
+    requires idle { conn.old.in_transaction ≡ false }
+    requires unlimited { conn.old.step_limit ≡ None }
     ensures idle { conn.new.in_transaction ≡ false }
     ensures done { HasCleanDisk (state S.Store conn.new)
         → OnOk result ((state S.Store conn.old).now.schema ≡ no_schema
         → IsOpenOver (state S.Store conn.new) new_registry nothing_kept) }
+    ensures fault { HasCleanDisk (state S.Store conn.new) → IfErr result (λ e.
+        (state S.Store conn.old).now.schema ≡ no_schema → IsTrue (is_fault (failure_of e))) }
     ensures nothing { HasCleanDisk (state S.Store conn.new)
         → OnErr result (KeepsCommit (state S.Store conn.old) (state S.Store conn.new)) }
     ensures survives { Survives (state S.Store conn.old) (state S.Store conn.new) (λ db.

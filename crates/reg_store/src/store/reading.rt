@@ -1,6 +1,6 @@
 //! What a command needs to know of the registry, and what is kept under a key.
 
-ghost use Rattle.std.specs.Prelude.{◌≡◌, ◌↔◌, ℕ, List, Some, None, Err, IfOk, IfErr, OnOk, OnErr, IsTrue, false, option_map, option_and_then, option_copied, string_bytes};
+ghost use Rattle.std.specs.Prelude.{◌≡◌, ℕ, List, Some, None, IfOk, IfErr, OnOk, OnErr, false, option_map, option_and_then, option_copied, string_bytes};
 ghost use Rattle.sqlite.specs.Tree.{Trees};
 ghost use Rattle.sqlite.specs.Held.{state};
 ghost use Rattle.sqlite.specs.State.{HasCleanDisk};
@@ -14,7 +14,7 @@ ghost use Rattle.reg_tables.specs.Replies.{kept_row};
 ghost use Rattle.reg_store.specs.Replies.{Kept, entry_told};
 ghost use Rattle.reg_store.specs.Spells.{SpellsWhileOpen, row_of};
 ghost use Rattle.reg_store.specs.Failures.{IsFaultOver};
-ghost use Rattle.reg_store.specs.Stores.{state_of, has_failed};
+ghost use Rattle.reg_store.specs.Stores.{state_of, KeepsStore};
 
 use crate::error::StoreError;
 use crate::store::Store;
@@ -30,10 +30,7 @@ impl<S: Alter> Store<S> {
     /// `Memory`, `Disk`, and `NotARegistry` where the tables no longer spell one. Whatever is
     /// answered, nothing is changed.
     pub fn kept(&mut self, key: &Key<'_>) -> Result<Option<(String, Reply)>, StoreError>
-        ensures failed_before { IsTrue (has_failed self.old)
-            → (result ≡ Err StoreError.Disk) × (self.new ≡ self.old) }
-        ensures failed_now { (result ≡ Err StoreError.Disk) ↔ IsTrue (has_failed self.new) }
-        ensures clean { HasCleanDisk (state_of self.new) → HasCleanDisk (state_of self.old) }
+        ensures frame { KeepsStore self.old self.new result }
         ensures found { HasCleanDisk (state_of self.new) → IfOk result (λ found.
             (g : Registry) (k : Kept) → SpellsWhileOpen (state_of self.old) g k
             → k key.now ≡ option_map (λ kept. entry_told (string_bytes kept.0) kept.1) found) }
@@ -59,10 +56,7 @@ impl<S: Alter> Store<S> {
     /// `Memory`, `Disk`, and `NotARegistry` where the tables no longer spell one. Whatever is
     /// answered, nothing is changed.
     pub fn view(&mut self, command: &Command) -> Result<View, StoreError>
-        ensures failed_before { IsTrue (has_failed self.old)
-            → (result ≡ Err StoreError.Disk) × (self.new ≡ self.old) }
-        ensures failed_now { (result ≡ Err StoreError.Disk) ↔ IsTrue (has_failed self.new) }
-        ensures clean { HasCleanDisk (state_of self.new) → HasCleanDisk (state_of self.old) }
+        ensures frame { KeepsStore self.old self.new result }
         ensures view { HasCleanDisk (state_of self.new) → IfOk result (λ view.
             (g : Registry) (k : Kept) → SpellsWhileOpen (state_of self.old) g k
             → IsViewOf view g command.now) }

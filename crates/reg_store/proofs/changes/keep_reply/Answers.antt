@@ -1,9 +1,11 @@
 use Rattle.sqlite.specs.Held.{state}
 use Rattle.std.proofs.Common.{subst}
 use Rattle.std.specs.Prelude.{IfSome}
+use Rattle.std.proofs.lemmas.Bool.{both_ways}
 use Rattle.reg_store.specs.Changes.{entry_of, IsKeepable}
 use Rattle.reg_tables.proofs.Transactions.{on_ok}
 use Rattle.reg_store.proofs.Spelling.{respells_kept}
+use Rattle.reg_store.proofs.Writing.{if_err_both, fault_of_reply}
 use Rattle.reg_store.proofs.changes.keep_reply.Goals as goal
 
 pub returns-in-Some-clause-put : goal.returns-in-Some-clause-put
@@ -15,3 +17,12 @@ returns-in-Some-clause-put g c clean =
     (respells_kept (state g.S.Store c.args.tx.now.conn.now) (state g.S.Store c.keep_reply.new.tx.conn.now) keep.key.now (entry_of keep)
     (record { is_key = rw c.as_str.ensures.text at c.as_str.ensures.key; status = keepable; text = rw c.text.ensures at c.text.utf8; body = rw c.body.ensures at c.body.utf8 }))
     (rw (c.as_str.ensures.text, c.text.ensures, c.from.ensures, c.status.ensures.value, c.body.ensures) at (c.keep_reply.ensures.put clean)))
+
+pub returns-in-Some-clause-goes_on : goal.returns-in-Some-clause-goes_on
+returns-in-Some-clause-goes_on g c clean = on_ok c.keep_reply.result (λ inside ended. absurd (both_ways _ ended inside)) (c.keep_reply.ensures.frame.inside clean)
+
+pub returns-in-Some-clause-fault : goal.returns-in-Some-clause-fault
+returns-in-Some-clause-fault g c clean =
+    rw c.in-Some.is
+    (if_err_both c.keep_reply.result (λ e fails shut. fault_of_reply (state g.S.Store c.args.tx.now.conn.now) e shut c.in-Some.keep fails)
+    (rw c.as_str.ensures.text at (c.keep_reply.ensures.fault clean)) (c.keep_reply.ensures.frame.shut clean))

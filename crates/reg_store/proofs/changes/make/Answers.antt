@@ -1,6 +1,7 @@
 use Rattle.sqlite.specs.Held.{state}
 use Rattle.reg_tables.proofs.Transactions.{on_ok}
 use Rattle.reg_store.proofs.Spelling.{respells_global, respells_level}
+use Rattle.reg_store.proofs.Writing.{if_err_both, fault_of_change}
 use Rattle.reg_store.proofs.changes.make.Goals as goal
 
 pub returns-in-SetGlobal-clause-made : goal.returns-in-SetGlobal-clause-made
@@ -15,3 +16,11 @@ returns-in-SetLevel-clause-made g c clean =
     (on_ok c.set_level.result
     (respells_level (state g.S.Store c.args.tx.now.conn.now) (state g.S.Store c.set_level.new.tx.conn.now) c.in-SetLevel.subject c.in-SetLevel.level (rw c.as_str.ensures.text at c.as_str.ensures.subject))
     (rw (c.as_str.ensures.text, c.text-in-SetLevel.ensures.value) at (c.set_level.ensures.set clean)))
+
+pub returns-in-SetGlobal-clause-fault : goal.returns-in-SetGlobal-clause-fault
+returns-in-SetGlobal-clause-fault g c clean =
+    if_err_both c.set_global.result (λ e fails shut. fault_of_change (state g.S.Store c.args.tx.now.conn.now) e shut fails) (c.set_global.ensures.fault clean) (c.set_global.ensures.frame.shut clean)
+
+pub returns-in-SetLevel-clause-fault : goal.returns-in-SetLevel-clause-fault
+returns-in-SetLevel-clause-fault g c clean =
+    if_err_both c.set_level.result (λ e fails shut. fault_of_change (state g.S.Store c.args.tx.now.conn.now) e shut fails) (c.set_level.ensures.fault clean) (c.set_level.ensures.frame.shut clean)

@@ -1,11 +1,15 @@
 use Rattle.std.proofs.Common.{◌∙◌, sym, ap, subst, arith, take}
 use Rattle.std.proofs.lemmas.List.{take_all}
+use Rattle.std.proofs.lemmas.Bool.{both_ways}
 use Rattle.sqlite.specs.Held.{state}
 use Rattle.sqlite.specs.State.{HasCleanDisk}
 use Rattle.reg_core.specs.Views.{changed, changed_once}
 use Rattle.reg_store.specs.Spells.{Spells}
 use Rattle.reg_tables.proofs.Transactions.{keeps_then, survives_both}
+use Rattle.reg_tables.proofs.WriteFaults.{erred_with}
+use Rattle.reg_store.specs.Changes.{IsFaultOfChange}
 use Rattle.reg_store.proofs.Spelling.{changed_more}
+use Rattle.reg_store.proofs.Writing.{fault_later, nonempty}
 use Rattle.reg_store.proofs.changes.make_all.Goals as goal
 
 pub loop-change-preserved : goal.loop-change-preserved
@@ -26,6 +30,8 @@ loop-change-preserved g c =
           let step = it.made clean before_this k (before.made (early clean) registry k s) in
           let more = ap (λ d. changed_once d before_this) c.change-item.is ∙ sym (changed_more changes i item registry (omega arith)) in
           subst (λ x. Spells new.now x k) more step;
+      was_open = λ clean _. (before.kept (early clean)).was_open (it.frame.was_open clean);
+      goes_on = λ clean ended. absurd (both_ways _ ended (it.frame.inside clean));
       kept = λ clean. keeps_then old mid new (before.kept (early clean)) (it.frame.keeps.kept clean);
       survives = survives_both old mid new before.survives it.frame.keeps.survives;
     }
@@ -33,3 +39,18 @@ loop-change-preserved g c =
 pub returns-clause-made : goal.returns-clause-made
 returns-clause-made g c clean registry k s =
     subst (λ l. Spells (state g.S.Store c.loop-change.tx.conn.now).now (changed l registry) k) (take_all c.loop-change.change-index c.args.changes.now (omega arith)) (c.loop-change.invariant.made clean registry k s)
+
+pub returns-in_err-make-clause-fault : goal.returns-in_err-make-clause-fault
+returns-in_err-make-clause-fault g c clean =
+    let old = state g.S.Store c.args.tx.now.conn.now in
+    let mid = state g.S.Store c.loop-change.tx.conn.now in
+    let before = c.loop-change.invariant in
+    let early : HasCleanDisk mid = omega (arith, c.in_err-make.ensures.frame.keeps.survives.clean) in
+    let e = c.in_err-make.field-0.0 in
+    erred_with c.from_residual.result e (IsFaultOfChange old) c.from_residual.ensures.1 (λ registry k spells. fault_later old mid before.survives.limit (before.goes_on early) e
+    (c.in_err-make.ensures.fault clean (changed (take c.loop-change.change-index c.args.changes.now) registry) k (λ is_open. before.made early registry k (spells ((before.kept early).was_open is_open)))))
+
+pub returns-clause-was_open : goal.returns-clause-was_open
+returns-clause-was_open g c clean some =
+    let more = nonempty c.args.changes.now some in
+    c.loop-change.invariant.was_open clean (omega arith)

@@ -1,8 +1,8 @@
-use Rattle.std.proofs.Common.{◌≡◌, take}
+use Rattle.std.proofs.Common.{◌≡◌, ◌<◌, IsTrue, take}
 use Rattle.sqlite.specs.Held.{state}
 use Rattle.sqlite.specs.State.{HasCleanDisk, Survives, KeepsCommit}
 use Rattle.reg_core.specs.Views.{changed}
-use Rattle.reg_store.specs.Changes.{Respells}
+use Rattle.reg_store.specs.Changes.{Respells, GoesOn}
 use Rattle.reg_store.proofs.changes.make_all.Given as goal
 
 abbrev pub invariant-loop-change : goal.invariant-loop-change
@@ -12,6 +12,8 @@ invariant-loop-change g l =
     record {
       same : l.tx.conn.ghost_name ≡ l.initial.tx.conn.ghost_name;
       made : HasCleanDisk now → Respells old now (changed (take l.change-index l.changes)) (λ k. k);
+      was_open : HasCleanDisk now → 0 < l.change-index → IsTrue old.is_open;
+      goes_on : HasCleanDisk now → GoesOn old now;
       kept : HasCleanDisk now → KeepsCommit old now;
       survives : Survives old now (λ _. ⊥);
     }

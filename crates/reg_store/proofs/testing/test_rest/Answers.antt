@@ -1,5 +1,4 @@
-use Rattle.std.proofs.Common.{◌≡◌, IsTrue, rules}
-use Rattle.sqlite.specs.Held.{state}
+use Rattle.std.proofs.Common.{IsTrue, rules}
 use Rattle.reg_store.proofs.TestLemmas.{tests_then, test_fails, test_says}
 use Rattle.reg_store.proofs.testing.test_rest.Goals as goal
 

@@ -1,8 +1,16 @@
-use Rattle.std.proofs.Common.{◌∙◌, ap, rules}
-use Rattle.std.specs.Prelude.{IsTrue}
+use Rattle.std.proofs.Common.{◌∙◌, inl, inr, ap, rules}
+use Rattle.std.specs.Prelude.{◌≡◌, ◌↔◌, Err, IsTrue}
+use Rattle.reg_store.specs.declared.error.StoreError.TheVariants.{Disk}
 use Rattle.sqlite.specs.Effect.{Database}
 use Rattle.sqlite.specs.Held.{state}
-use Rattle.reg_store.proofs.Committing.{leaves_if_spelled, still_spells, on_err_same}
+use Rattle.reg_core.specs.Registry.{Registry}
+use Rattle.reg_store.specs.Replies.{Kept}
+use Rattle.reg_store.specs.Spells.{SpellsWhileOpen}
+use Rattle.reg_store.specs.Changes.{IsNewTo}
+use Rattle.reg_store.specs.Failures.{is_fault}
+use Rattle.reg_store.proofs.Committing.{leaves_if_spelled, still_spells, on_ok_same, on_err_same}
+use Rattle.reg_store.proofs.Keeping.{keeps_store, opens_none}
+use Rattle.reg_store.proofs.Writing.{mapped_err}
 use Rattle.reg_store.proofs.store.Store.apply.Goals as goal
 
 pub returns-clause-nothing : goal.returns-clause-nothing
@@ -15,3 +23,30 @@ returns-clause-nothing g c clean =
 pub returns-clause-settled : goal.returns-clause-settled
 returns-clause-settled g c registry k over db it =
     leaves_if_spelled db (state g.S.Store c.commit_all-done.new.conn).now registry k (g.met.S.Store.settled c.commit_all-done.new.conn.store db over.is_open it ∙ ap (λ (d : Database). d.trees) over.settled) over.spells
+
+pub returns-clause-crash : goal.returns-clause-crash
+returns-clause-crash g c clean registry k over fresh db it =
+    let old = state g.S.Store c.args.self.now.conn in
+    elim (c.commit_all-done.ensures.survives.crash clean db it) [
+      | inl was ↦ inl (leaves_if_spelled db old.now registry k (g.met.S.Store.settled c.args.self.now.conn.store db over.is_open was ∙ ap (λ (d : Database). d.trees) over.settled) over.spells)
+      | inr made ↦ inr (made registry k (λ _. over) fresh (inl over.is_open))
+    ]
+
+pub returns-clause-fault : goal.returns-clause-fault
+returns-clause-fault g c clean =
+    mapped_err (λ e. (registry : Registry) (k : Kept) → SpellsWhileOpen (state g.S.Store c.args.self.now.conn) registry k → IsNewTo k c.args.keep → IsTrue (is_fault e)) c.commit_all-done.result c.map_err-done.result c.map_err-done.ensures.cases
+    (c.commit_all-done.ensures.fault clean)
+
+pub returns-clause-frame : goal.returns-clause-frame
+returns-clause-frame g c =
+    let old = state g.S.Store c.args.self.now.conn in
+    let new = state g.S.Store c.commit_all-done.new.conn in
+    let it = c.commit_all-done.ensures in
+    let failed_now : (c.map_err-done.result ≡ Err Disk) ↔ IsTrue c.match-matches.self = search rules in
+    keeps_store g.met.S.Store.settled c.args.self.now _ c.map_err-done.result c.if-self.false failed_now _ it.survives
+    (λ clean. on_ok_same c.commit_all-done.result c.map_err-done.result c.map_err-done.ensures.variant (λ is_open. is_open) (it.was_open clean))
+    (λ clean. opens_none old new c.commit_all-done.result (it.was_open clean) (it.nothing clean))
+
+pub returns-clause-crash_shut : goal.returns-clause-crash_shut
+returns-clause-crash_shut g c clean registry k over fresh acts db it =
+    elim (c.commit_all-done.ensures.survives.crash clean db it) [ inl was ↦ inl was | inr made ↦ inr (made registry k over fresh (inr acts)) ]

@@ -1,17 +1,20 @@
-use Rattle.std.proofs.Common.{◌≡◌, ◌∙◌, sym, subst, arith, rules}
+use Rattle.std.proofs.Common.{◌≡◌, ◌⊎◌, inl, inr, ◌∙◌, sym, ap, subst, arith, rules}
 use Rattle.std.specs.Prelude.{IsTrue}
 use Rattle.sqlite.specs.Tree.{Trees}
-use Rattle.sqlite.specs.Held.{state}
-use Rattle.sqlite.specs.State.{HasCleanDisk, Survives}
+use Rattle.sqlite.specs.Held.{Held, state}
+use Rattle.sqlite.specs.State.{HasCleanDisk, Survives, KeepsCommit}
 use Rattle.sqlite.proofs.StateLemmas.{survives_then}
 use Rattle.sqlite.proofs.Callers.{survives_begin}
 use Rattle.reg_core.specs.Registry.{Registry}
 use Rattle.reg_core.specs.Views.{changed}
-use Rattle.reg_tables.proofs.Transactions.{on_ok, survives_both}
+use Rattle.reg_tables.proofs.Transactions.{on_ok, if_err, keeps_then, keeps_if_undone, survives_both}
+use Rattle.reg_tables.proofs.WriteFaults.{erred_with}
 use Rattle.reg_store.specs.Replies.{Kept}
 use Rattle.reg_store.specs.Spells.{Spells, Leaves, IsOpenOver, SpellsWhileOpen}
-use Rattle.reg_store.specs.Changes.{with_reply, IsNewTo}
-use Rattle.reg_store.proofs.Committing.{leaves_if_spelled}
+use Rattle.reg_store.specs.Changes.{with_reply, IsNewTo, ActsOn}
+use Rattle.reg_store.specs.Failures.{failure_of, is_fault}
+use Rattle.reg_store.proofs.Writing.{fault_later, is_fault_of_insert, is_fault_of_commit, begun_spells, still_inside}
+use Rattle.reg_store.proofs.Committing.{keeps_begin, keeps_if_failed, on_err, on_err_each, leaves_if_spelled}
 use Rattle.reg_store.proofs.store.applying.commit_all.Goals as goal
 
 pub returns-clause-done : goal.returns-clause-done
@@ -43,15 +46,121 @@ returns-clause-survives g c =
     let begun = state g.S.Store c.transaction-tx.result.conn.now in
     let mid = state g.S.Store c.make_all.new.tx.conn.now in
     let last = state g.S.Store c.keep_reply.new.tx.conn.now in
-    let P = λ (db : Trees). (registry : Registry) (k : Kept) → SpellsWhileOpen first registry k → IsNewTo k c.args.keep → IsTrue first.is_open → Leaves db (changed c.args.changes.now registry) (with_reply c.args.keep k) in
+    let P = λ (db : Trees). (registry : Registry) (k : Kept) → SpellsWhileOpen first registry k → IsNewTo k c.args.keep → IsTrue first.is_open ⊎ ActsOn c.args.changes.now c.args.keep → Leaves db (changed c.args.changes.now registry) (with_reply c.args.keep k) in
     let inside = survives_both begun mid last c.make_all.ensures.frame.survives c.keep_reply.ensures.frame.survives in
-    let commits = λ (clean : HasCleanDisk (state g.S.Store end)) (db : Trees) (is : db ≡ last.now.trees) (registry : Registry) (k : Kept) (spells : SpellsWhileOpen first registry k) (fresh : IsNewTo k c.args.keep) (is_open : IsTrue first.is_open).
+    let commits = λ (clean : HasCleanDisk (state g.S.Store end)) (db : Trees) (is : db ≡ last.now.trees) (registry : Registry) (k : Kept) (spells : SpellsWhileOpen first registry k) (fresh : IsNewTo k c.args.keep) (acts : IsTrue first.is_open ⊎ ActsOn c.args.changes.now c.args.keep).
     let clean_last : HasCleanDisk last = omega (arith, c.commit.ensures.survives.clean) in
     let clean_mid : HasCleanDisk mid = omega (arith, c.keep_reply.ensures.frame.survives.clean) in
-    let spelled = subst (λ h. Spells (state g.S.Store h).now registry k) (sym c.transaction-tx.ensures.begun) (spells is_open).spells in
+    let opened = subst (λ h. IsTrue (state g.S.Store h).is_open) c.transaction-tx.ensures.begun in
+    let was_open : IsTrue first.is_open = elim acts [
+      | inl is_open ↦ is_open
+      | inr act ↦ opened (elim act [
+        | inl change ↦ c.in_ok-make_all.ensures.was_open clean_mid change
+        | inr reply ↦ (c.make_all.ensures.frame.kept clean_mid).was_open (c.in_ok-keep_reply.ensures.was_open clean_last reply)
+      ])
+    ] in
+    let spelled = subst (λ h. Spells (state g.S.Store h).now registry k) (sym c.transaction-tx.ensures.begun) (spells was_open).spells in
     let made = c.in_ok-make_all.ensures.made clean_mid registry k spelled in
     let put = c.in_ok-keep_reply.ensures.put clean_last (changed c.args.changes.now registry) k made fresh in
     leaves_if_spelled db last.now (changed c.args.changes.now registry) (with_reply c.args.keep k) is put in
     let whole = survives_then first last (state g.S.Store end) _ _ P (λ _ db none. absurd none) commits
     (survives_begin g.S.Store c.args.conn.now last _ (rw c.transaction-tx.ensures.begun at inside)) c.commit.ensures.survives in
     subst (λ h. Survives first (state g.S.Store h) P) same whole
+
+pub returns-in_err-make_all-clause-fault : goal.returns-in_err-make_all-clause-fault
+returns-in_err-make_all-clause-fault g c clean =
+    let first = state g.S.Store c.args.conn.now in
+    let begun = state g.S.Store c.transaction-tx.result.conn.now in
+    let is = c.transaction-tx.ensures.begun in
+    let e = c.in_err-make_all.field-0.0 in
+    let late : HasCleanDisk (state g.S.Store c.drop-tx.new.self.0) = search rules in
+    let clean_mid : HasCleanDisk (state g.S.Store c.make_all.new.tx.conn.now) = omega (arith, c.drop-tx.ensures.survives.clean) in
+    erred_with c.from_residual.result e (λ e. (registry : Registry) (k : Kept) → SpellsWhileOpen first registry k → IsNewTo k c.args.keep → IsTrue (is_fault (failure_of e))) c.from_residual.ensures.1
+    (λ registry k over fresh. is_fault_of_insert begun e (ap (λ (h : Held _). h.step_limit) is ∙ c.requires.unlimited) (ap (λ (h : Held _). h.in_transaction) is)
+    (c.in_err-make_all.ensures.fault clean_mid registry k (begun_spells g.S.Store c.args.conn.now c.transaction-tx.result.conn.now is registry k over)))
+
+pub returns-in_err-keep_reply-clause-fault : goal.returns-in_err-keep_reply-clause-fault
+returns-in_err-keep_reply-clause-fault g c clean =
+    let first = state g.S.Store c.args.conn.now in
+    let begun = state g.S.Store c.transaction-tx.result.conn.now in
+    let mid = state g.S.Store c.make_all.new.tx.conn.now in
+    let is = c.transaction-tx.ensures.begun in
+    let e = c.in_err-keep_reply.field-0.0 in
+    let late : HasCleanDisk (state g.S.Store c.drop-tx-in_err-keep_reply.new.self.0) = search rules in
+    let clean_last : HasCleanDisk (state g.S.Store c.keep_reply.new.tx.conn.now) = omega (arith, c.drop-tx-in_err-keep_reply.ensures.survives.clean) in
+    let clean_mid : HasCleanDisk mid = omega (arith, c.keep_reply.ensures.frame.survives.clean) in
+    erred_with c.from_residual-in_err-keep_reply.result e (λ e. (registry : Registry) (k : Kept) → SpellsWhileOpen first registry k → IsNewTo k c.args.keep → IsTrue (is_fault (failure_of e))) c.from_residual-in_err-keep_reply.ensures.1
+    (λ registry k over fresh.
+    let spelled = begun_spells g.S.Store c.args.conn.now c.transaction-tx.result.conn.now is registry k over in
+    is_fault_of_insert begun e (ap (λ (h : Held _). h.step_limit) is ∙ c.requires.unlimited) (ap (λ (h : Held _). h.in_transaction) is)
+    (fault_later begun mid c.make_all.ensures.frame.survives.limit (c.in_ok-make_all.ensures.goes_on clean_mid) e
+    (c.in_err-keep_reply.ensures.fault clean_last (changed c.args.changes.now registry) k
+    (λ is_open. c.in_ok-make_all.ensures.made clean_mid registry k (spelled ((c.make_all.ensures.frame.kept clean_mid).was_open is_open))) fresh)))
+
+pub returns-clause-fault : goal.returns-clause-fault
+returns-clause-fault g c clean =
+    let begun = state g.S.Store c.transaction-tx.result.conn.now in
+    let mid = state g.S.Store c.make_all.new.tx.conn.now in
+    let last = state g.S.Store c.keep_reply.new.tx.conn.now in
+    let end = state g.S.Store c.commit.new.self.0 in
+    let is = c.transaction-tx.ensures.begun in
+    let late : HasCleanDisk end = search rules in
+    let clean_last : HasCleanDisk last = omega (arith, c.commit.ensures.survives.clean) in
+    let clean_mid : HasCleanDisk mid = omega (arith, c.keep_reply.ensures.frame.survives.clean) in
+    let unlimited = c.keep_reply.ensures.frame.survives.limit ∙ c.make_all.ensures.frame.survives.limit ∙ ap (λ (h : Held _). h.step_limit) is ∙ c.requires.unlimited in
+    let inside = still_inside mid last (still_inside begun mid (ap (λ (h : Held _). h.in_transaction) is) (c.in_ok-make_all.ensures.goes_on clean_mid)) (c.in_ok-keep_reply.ensures.goes_on clean_last) in
+    if_err c.commit.result (λ e fails registry k over fresh. is_fault_of_commit last e unlimited inside end fails) (c.commit.ensures.err late)
+
+pub returns-clause-was_open : goal.returns-clause-was_open
+returns-clause-was_open g c clean =
+    let late : HasCleanDisk (state g.S.Store c.commit.new.self.0) = search rules in
+    let clean_last : HasCleanDisk (state g.S.Store c.keep_reply.new.tx.conn.now) = omega (arith, c.commit.ensures.survives.clean) in
+    let clean_mid : HasCleanDisk (state g.S.Store c.make_all.new.tx.conn.now) = omega (arith, c.keep_reply.ensures.frame.survives.clean) in
+    on_ok c.commit.result (λ done.
+    let begun_open = (c.make_all.ensures.frame.kept clean_mid).was_open ((c.keep_reply.ensures.frame.kept clean_last).was_open done.1.was_open) in
+    subst (λ h. IsTrue (state g.S.Store h).is_open) c.transaction-tx.ensures.begun begun_open) (c.commit.ensures.ok late)
+
+pub returns-in_err-make_all-clause-nothing : goal.returns-in_err-make_all-clause-nothing
+returns-in_err-make_all-clause-nothing g c clean =
+    let end = c.drop-tx.new.self.0 in
+    let same : end ≡ c.conn-1.given.0 = search rules in
+    let late : HasCleanDisk (state g.S.Store end) = search rules in
+    let first = state g.S.Store c.args.conn.now in
+    let begun = state g.S.Store c.transaction-tx.result.conn.now in
+    let mid = state g.S.Store c.make_all.new.tx.conn.now in
+    let clean_mid : HasCleanDisk mid = omega (arith, c.drop-tx.ensures.survives.clean) in
+    let all = keeps_begin g.S.Store c.args.conn.now c.transaction-tx.result.conn.now (state g.S.Store end) c.transaction-tx.ensures.begun
+    (keeps_then begun mid (state g.S.Store end) (c.make_all.ensures.frame.kept clean_mid) (keeps_if_undone mid (state g.S.Store end) (c.drop-tx.ensures.undone late))) in
+    on_err_each c.from_residual.result (subst (λ h. KeepsCommit first (state g.S.Store h)) same all)
+
+pub returns-in_err-keep_reply-clause-nothing : goal.returns-in_err-keep_reply-clause-nothing
+returns-in_err-keep_reply-clause-nothing g c clean =
+    let end = c.drop-tx-in_err-keep_reply.new.self.0 in
+    let same : end ≡ c.conn-in_err-keep_reply-1.given.0 = search rules in
+    let late : HasCleanDisk (state g.S.Store end) = search rules in
+    let first = state g.S.Store c.args.conn.now in
+    let begun = state g.S.Store c.transaction-tx.result.conn.now in
+    let mid = state g.S.Store c.make_all.new.tx.conn.now in
+    let last = state g.S.Store c.keep_reply.new.tx.conn.now in
+    let clean_last : HasCleanDisk last = omega (arith, c.drop-tx-in_err-keep_reply.ensures.survives.clean) in
+    let clean_mid : HasCleanDisk mid = omega (arith, c.keep_reply.ensures.frame.survives.clean) in
+    let ended = keeps_if_undone last (state g.S.Store end) (c.drop-tx-in_err-keep_reply.ensures.undone late) in
+    let all = keeps_begin g.S.Store c.args.conn.now c.transaction-tx.result.conn.now (state g.S.Store end) c.transaction-tx.ensures.begun
+    (keeps_then begun mid (state g.S.Store end) (c.make_all.ensures.frame.kept clean_mid) (keeps_then mid last (state g.S.Store end) (c.keep_reply.ensures.frame.kept clean_last) ended)) in
+    on_err_each c.from_residual-in_err-keep_reply.result (subst (λ h. KeepsCommit first (state g.S.Store h)) same all)
+
+pub returns-clause-nothing : goal.returns-clause-nothing
+returns-clause-nothing g c clean =
+    let end = c.commit.new.self.0 in
+    let same : end ≡ c.conn-2-1.given.0 = search rules in
+    let late : HasCleanDisk (state g.S.Store end) = search rules in
+    let first = state g.S.Store c.args.conn.now in
+    let begun = state g.S.Store c.transaction-tx.result.conn.now in
+    let mid = state g.S.Store c.make_all.new.tx.conn.now in
+    let last = state g.S.Store c.keep_reply.new.tx.conn.now in
+    let clean_last : HasCleanDisk last = omega (arith, c.commit.ensures.survives.clean) in
+    let clean_mid : HasCleanDisk mid = omega (arith, c.keep_reply.ensures.frame.survives.clean) in
+    on_err c.commit.result (λ e fails.
+    let all = keeps_begin g.S.Store c.args.conn.now c.transaction-tx.result.conn.now (state g.S.Store end) c.transaction-tx.ensures.begun
+    (keeps_then begun mid (state g.S.Store end) (c.make_all.ensures.frame.kept clean_mid) (keeps_then mid last (state g.S.Store end) (c.keep_reply.ensures.frame.kept clean_last) (keeps_if_failed last (state g.S.Store end) e fails))) in
+    subst (λ h. KeepsCommit first (state g.S.Store h)) same all) (c.commit.ensures.err late)

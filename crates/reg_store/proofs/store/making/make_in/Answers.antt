@@ -6,7 +6,11 @@ use Rattle.sqlite.proofs.StateLemmas.{survives_then}
 use Rattle.sqlite.proofs.Callers.{survives_begin}
 use Rattle.reg_core.specs.Registry.{new_registry}
 use Rattle.reg_tables.specs.Layout.{no_schema}
-use Rattle.reg_tables.proofs.Transactions.{on_ok}
+use Rattle.std.specs.Prelude.{IsTrue}
+use Rattle.reg_tables.proofs.Transactions.{on_ok, if_err}
+use Rattle.reg_tables.proofs.WriteFaults.{erred_with}
+use Rattle.reg_store.specs.Failures.{failure_of, is_fault}
+use Rattle.reg_store.proofs.Writing.{is_fault_of_insert, is_fault_of_commit}
 use Rattle.reg_store.specs.Replies.{nothing_kept}
 use Rattle.reg_store.specs.Spells.{Spells, Leaves, IsOpenOver}
 use Rattle.reg_store.proofs.Committing.{leaves_if_spelled, spells_new}
@@ -43,3 +47,23 @@ returns-clause-survives g c =
     let whole = survives_then first last (state g.S.Store end) _ _ P (λ _ db none. absurd none) commits
     (survives_begin g.S.Store c.args.conn.now last _ (rw c.transaction-tx.ensures.begun at c.create.ensures.frame.keeps.survives)) c.commit.ensures.survives in
     subst (λ h. Survives first (state g.S.Store h) P) same whole
+
+pub returns-in_err-create-clause-fault : goal.returns-in_err-create-clause-fault
+returns-in_err-create-clause-fault g c clean =
+    let begun = state g.S.Store c.transaction-tx.result.conn.now in
+    let is = c.transaction-tx.ensures.begun in
+    let e = c.in_err-create.field-0.0 in
+    let late : HasCleanDisk (state g.S.Store c.drop-tx.new.self.0) = search rules in
+    let clean_last : HasCleanDisk (state g.S.Store c.create.new.tx.conn.now) = omega (arith, c.drop-tx.ensures.survives.clean) in
+    erred_with c.from_residual.result e (λ e. c.args.conn.now.schema ≡ no_schema → IsTrue (is_fault (failure_of e))) c.from_residual.ensures.1
+    (λ none. is_fault_of_insert begun e (ap (λ (h : Held _). h.step_limit) is ∙ c.requires.unlimited) (ap (λ (h : Held _). h.in_transaction) is)
+    (c.in_err-create.ensures.fault clean_last (ap (λ (h : Held _). h.schema) is ∙ none)))
+
+pub returns-clause-fault : goal.returns-clause-fault
+returns-clause-fault g c clean =
+    let last = state g.S.Store c.create.new.tx.conn.now in
+    let end = state g.S.Store c.commit.new.self.0 in
+    let late : HasCleanDisk end = search rules in
+    let clean_last : HasCleanDisk last = omega (arith, c.commit.ensures.survives.clean) in
+    let unlimited = c.create.ensures.frame.keeps.survives.limit ∙ ap (λ (h : Held _). h.step_limit) c.transaction-tx.ensures.begun ∙ c.requires.unlimited in
+    if_err c.commit.result (λ e fails none. is_fault_of_commit last e unlimited (c.in_ok-create.ensures.frame.inside clean_last) end fails) (c.commit.ensures.err late)

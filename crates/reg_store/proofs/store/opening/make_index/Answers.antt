@@ -13,7 +13,8 @@ use Rattle.reg_tables.proofs.WriteFaults.{erred_with}
 use Rattle.reg_store.specs.Opening.{IsIndexed}
 use Rattle.reg_store.specs.Failures.{failure_of, is_fault}
 use Rattle.reg_store.proofs.Committing.{left_if_held}
-use Rattle.reg_store.proofs.Failing.{write_fault_of, commit_fault_of}
+use Rattle.reg_tables.specs.Reading.{IsWriteFault}
+use Rattle.reg_store.proofs.Writing.{is_fault_of_insert, is_fault_of_commit}
 use Rattle.reg_store.proofs.store.opening.make_index.Goals as goal
 
 pub returns-clause-done : goal.returns-clause-done
@@ -59,7 +60,7 @@ returns-clause-fault g c clean =
     let last = state g.S.Store c.index_versions.new.tx.conn.now in
     let clean_last : HasCleanDisk last = omega (arith, c.commit.ensures.survives.clean) in
     let unlimited = c.index_versions.ensures.frame.keeps.survives.limit ∙ ap (λ (h : Held _). h.step_limit) c.transaction-tx.ensures.begun ∙ c.requires.unlimited in
-    if_err c.commit.result (λ e fails held. commit_fault_of last (state g.S.Store end) e unlimited (c.in_ok-index_versions.ensures.frame.inside clean_last) fails) (c.commit.ensures.err late)
+    if_err c.commit.result (λ e fails held. is_fault_of_commit last e unlimited (c.in_ok-index_versions.ensures.frame.inside clean_last) (state g.S.Store end) fails) (c.commit.ensures.err late)
 
 pub returns-in_err-index_versions-clause-fault : goal.returns-in_err-index_versions-clause-fault
 returns-in_err-index_versions-clause-fault g c clean =
@@ -73,7 +74,7 @@ returns-in_err-index_versions-clause-fault g c clean =
     let inside = ap (λ (h : Held _). h.in_transaction) c.transaction-tx.ensures.begun in
     let e = c.in_err-index_versions.field-0.0 in
     let err = c.in_err-index_versions.ensures in
-    let fault = write_fault_of begun e unlimited inside in
+    let fault = λ (f : IsWriteFault begun e). is_fault_of_insert begun e unlimited inside (inl f) in
     let Held : Error → Type 0 = λ e. (IsTrue first.is_open → (contents : Contents) × HoldsIn unindexed first.now contents) → IsTrue (is_fault (failure_of e)) in
     erred_with c.from_residual.result e Held c.from_residual.ensures.1 (λ held. elim (err.frame.shut clean_last) [
       | inl is_open ↦

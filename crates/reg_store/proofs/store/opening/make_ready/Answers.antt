@@ -1,18 +1,17 @@
-use Rattle.std.proofs.Common.{◌≡◌, ◌∙◌, IsTrue, true≢false, sym, ap, subst, arith, rules}
+use Rattle.std.proofs.Common.{◌∙◌, IsTrue, sym, ap, subst, arith, rules}
 use Rattle.std.proofs.lemmas.Bool.{both_ways}
-use Rattle.sqlite.specs.Tree.{Trees}
 use Rattle.sqlite.specs.Effect.{Database}
 use Rattle.sqlite.specs.Held.{state}
-use Rattle.sqlite.specs.State.{HasCleanDisk, Survives}
-use Rattle.sqlite.proofs.StateLemmas.{survives_then}
-use Rattle.reg_tables.specs.Layout.{unindexed, IsLayout}
-use Rattle.reg_tables.specs.Contents.{Contents, HoldsIn}
+use Rattle.sqlite.specs.State.{HasCleanDisk}
+use Rattle.reg_tables.specs.Layout.{unindexed}
+use Rattle.reg_tables.specs.Contents.{HoldsIn}
 use Rattle.reg_store.specs.Failures.{failure_of}
-use Rattle.reg_store.specs.Opening.{IsIndexed, TellsNewer}
+use Rattle.reg_store.specs.Opening.{TellsNewer}
 use Rattle.reg_store.specs.Testing.{IsFaultUnopened}
 use Rattle.reg_store.proofs.Failing.{passed}
 use Rattle.reg_store.proofs.MetaLemmas.{not_outdated}
-use Rattle.reg_store.proofs.OpenLemmas.{opens_as_it_is, opens_with_index, index_survives, spells_under, on_err_any, only_reads}
+use Rattle.reg_store.proofs.OpenLemmas.{opens_as_it_is, opens_with_index, index_survives, spells_under, only_reads}
+use Rattle.reg_store.proofs.Committing.{on_err_each}
 use Rattle.reg_tables.proofs.Transactions.{keeps_then}
 use Rattle.reg_store.proofs.Rereading.{same_now}
 use Rattle.reg_store.proofs.store.opening.make_ready.Goals as goal
@@ -81,4 +80,4 @@ returns-in_err-made-clause-nothing g c clean =
     let new = state g.S.Store c.make_index-made.new.conn in
     let early : HasCleanDisk mid = omega (arith, c.make_index-made.ensures.survives.clean) in
     let kept = keeps_then old mid new (c.in_ok-test.ensures.tests.frame.only_reads early).kept (c.in_err-made.ensures.nothing clean) in
-    on_err_any c.from_residual-in_err-made.result (only_reads old new kept (c.is_autocommit-settled.ensures.settled idle))
+    on_err_each c.from_residual-in_err-made.result (only_reads old new kept (c.is_autocommit-settled.ensures.settled idle))

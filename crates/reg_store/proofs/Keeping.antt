@@ -1,0 +1,54 @@
+-- What a call of a store keeps.
+use Rattle.std.proofs.Common.{◌≡◌, inl, false, Ok, Err, Result, IsTrue, refl, sym, subst, arith}
+use Rattle.std.specs.Prelude.{◌↔◌, OnOk, OnErr}
+use Rattle.std.proofs.lemmas.Bool.{both_ways}
+use Rattle.sqlite.specs.Tree.{Trees}
+use Rattle.sqlite.specs.State.{State, HasCleanDisk, KeepsCommit, Survives}
+use Rattle.sqlite_trees.specs.declared.store.Store.{Ghosts}
+use Rattle.reg_tables.specs.Reading.{OnlyReads}
+use Rattle.reg_store.specs.declared.error.StoreError.{StoreError}
+use Rattle.reg_store.specs.declared.error.StoreError.TheVariants.{Disk}
+use Rattle.reg_store.specs.declared.store.Store.{Store}
+use Rattle.reg_store.specs.Stores.{state_of, has_failed, KeepsStore}
+
+-- the law of a store: while it is open, a crash leaves its last commit alone
+abbrev pub Settles : {S : Type 0} → Ghosts S → Type 0
+Settles {S} g = (s : S) (db : Trees) → IsTrue (g.view s).is_open → g.recovers s db → db ≡ (g.view s).committed
+
+module _ {S T : Type 0} {g : Ghosts S} (settles : Settles g) (old new : Store S g) (result : Result T StoreError) where
+  -- after a fault of the disk the call does nothing
+  pub keeps_if_failed : IsTrue (has_failed old) → result ≡ Err Disk → new ≡ old → KeepsStore old new result
+  keeps_if_failed failed is same =
+      subst (λ (s : Store S g). KeepsStore old s result) (sym same) (subst (KeepsStore old old) (sym is) (record {
+        failed_before = λ _. (refl, refl);
+        failed_now = (λ _. failed, λ _. refl);
+        clean = λ clean. clean;
+        was_open = λ _. tt;
+        counts = omega arith;
+        stays_shut = λ _ is_open. is_open;
+        closes = λ _ is_open. inl is_open;
+        settled = λ is_open db it. settles old.conn.store db is_open it;
+      }))
+
+  module _ (unfailed : has_failed old ≡ false) (failed_now : (result ≡ Err Disk) ↔ IsTrue (has_failed new)) (P : Trees → Type 0) (survives : Survives (state_of old) (state_of new) P)
+      (was_open : HasCleanDisk (state_of new) → OnOk result (IsTrue (state_of old).is_open)) where
+    pub keeps_store : (HasCleanDisk (state_of new) → IsTrue (state_of new).is_open → IsTrue (state_of old).is_open) → KeepsStore old new result
+    keeps_store stays_shut = record {
+      failed_before = λ failed. absurd (both_ways _ unfailed failed);
+      failed_now = failed_now;
+      clean = λ clean. omega (arith, survives.clean);
+      was_open = was_open;
+      counts = survives.counts;
+      stays_shut = stays_shut;
+      closes = survives.closes;
+      settled = λ is_open db it. settles new.conn.store db is_open it;
+    }
+
+    -- a call that only reads
+    pub keeps_by_reading : (HasCleanDisk (state_of new) → OnlyReads (state_of old) (state_of new)) → KeepsStore old new result
+    keeps_by_reading reads = keeps_store (λ clean. (reads clean).kept.was_open)
+
+-- a call that succeeds over an open connection alone, and where it fails commits nothing, opens none
+pub opens_none : {X E : Type 0} (old new : State) (r : Result X E) → OnOk r (IsTrue old.is_open) → OnErr r (KeepsCommit old new) → IsTrue new.is_open → IsTrue old.is_open
+opens_none old new (Ok x) was keeps is_open = was
+opens_none old new (Err e) was keeps is_open = keeps.was_open is_open
