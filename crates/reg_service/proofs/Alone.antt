@@ -125,7 +125,7 @@ kept_after-known k d reply known = λ i q. at (key_of d) known q (k q) refl i
     at (Some key) old q None e = test (bytes_eq q key) (differs q key (bytes_eq q key) (bytes_eq-Decides q key) (old key refl) e)
 
 -- the firsts of one delivery
-run_commands-one : (g : Registry) (k : Kept) (d : Delivery) (reply : Told) (b : Bool) → is_first k [] d ≡ b
+pub run_commands-one : (g : Registry) (k : Kept) (d : Delivery) (reply : Told) (b : Bool) → is_first k [] d ≡ b
     → run_commands g (firsts k ((d, reply) ∷ [])) ≡ (if b then (step g d.command).0 else g)
 run_commands-one g k d reply b e = ap (λ (t : Bool). run_commands g ((if t then d.command ∷ [] else []) ++ [])) e ∙ by b
   where

@@ -5,4 +5,6 @@ pub mod Lists
 pub mod Replies
 pub mod Standing
 pub mod Over
+pub mod Crashing
+pub mod Closing
 pub mod Examples

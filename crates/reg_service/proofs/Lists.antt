@@ -9,7 +9,7 @@ use Rattle.reg_store.specs.Replies.{Kept}
 use Rattle.reg_service.specs.Deliveries.{Exchange, Serves, served, is_backend_fault}
 use Rattle.reg_service.proofs.Together.{serves-append}
 
-zip-push : {A B : Type 0} (xs : List A) (ys : List B) (x : A) (y : B) → length xs ≡ length ys
+pub zip-push : {A B : Type 0} (xs : List A) (ys : List B) (x : A) (y : B) → length xs ≡ length ys
     → zip (xs ++ x ∷ []) (ys ++ y ∷ []) ≡ zip xs ys ++ (x, y) ∷ []
 zip-push [] [] x y e = refl
 zip-push [] (b ∷ ys) x y e = absurd (omega arith)

@@ -24,7 +24,7 @@ led : {xs : List Exchange} {new : State} (g : Registry) (k : Kept) (g' : Registr
 led g k g' k' s spells = record { registry = g'; kept = k'; serves = s; keeps = serves-KeepsAll _ _ _ _ _ s; spells = spells }
 
 -- a read leaves the registry
-step_read : (g : Registry) (c : Command) → is_write c ≡ false → (step g c).0 ≡ g
+pub step_read : (g : Registry) (c : Command) → is_write c ≡ false → (step g c).0 ≡ g
 unfolding step
 step_read g (SetGlobal level) h = absurd (true≢false h)
 step_read g (SetLevel subject level) h = absurd (true≢false h)

@@ -1,6 +1,7 @@
 -- What the calls of a store leave, one after the other.
-use Rattle.std.proofs.Common.{◌≡◌, ℕ, true, List, [], Result, Ok, Err, Vec, Global, vec_len, sym, subst, ◌∙◌, arith}
+use Rattle.std.proofs.Common.{◌≡◌, ◌≢◌, ℕ, true, false, List, [], length, ap, Result, Ok, Err, Vec, Global, vec_len, sym, subst, ◌∙◌, arith}
 use Rattle.std.specs.Prelude.{◌==◌, OnErr}
+use Rattle.std.proofs.lemmas.Bool.{both_ways}
 use Rattle.std.proofs.lemmas.Bool.Decides.{nat_tests}
 use Rattle.std.proofs.lemmas.List.{nil_from_length}
 use Rattle.sqlite.specs.State.{State}
@@ -24,6 +25,9 @@ is_zero n e = grind (arith, nat_tests)
 
 pub no_changes : (changes : Vec Change Global) → (vec_len changes == 0) ≡ true → changes.items ≡ []
 no_changes changes e = nil_from_length changes.items (sym changes.ok.0 ∙ is_zero changes.len e)
+
+pub some_changes : (changes : Vec Change Global) → (vec_len changes == 0) ≡ false → changes.items ≢ []
+some_changes changes e none = both_ways _ e (ap (λ n. n == 0) (changes.ok.0 ∙ ap length none))
 
 -- no change leaves the registry
 pub spells_changed : (new : State) (g g' : Registry) (k : Kept) (changes : List Change) → changes ≡ [] → changed changes g ≡ g' → SpellsWhileOpen new g k → SpellsWhileOpen new g' k

@@ -1,4 +1,6 @@
-ghost use Rattle.std.specs.Prelude.{◌≡◌, ◌≢◌, [], ◌∷◌, zip, length, vec_len, IsTrue, IfOk, OnOk, OnErr};
+ghost use Rattle.std.specs.Prelude.{◌≡◌, ◌≢◌, ◌⊎◌, ◌≤◌, [], ◌∷◌, zip, length, vec_len, IsTrue, IfOk, OnOk, OnErr};
+ghost use Rattle.sqlite_disk.specs.Disk.{MoreFaults};
+ghost use Rattle.sqlite.specs.Tree.{Trees};
 ghost use Rattle.sqlite.specs.State.{HasCleanDisk};
 ghost use Rattle.reg_core.specs.CommandTexts.{command_text};
 ghost use Rattle.reg_core.specs.Machine.{step};
@@ -6,9 +8,10 @@ ghost use Rattle.reg_core.specs.Registry.{Registry};
 ghost use Rattle.reg_core.specs.Replies.{IsOwnReply, fault};
 ghost use Rattle.reg_core.specs.Views.{changed};
 ghost use Rattle.reg_store.specs.Replies.{Kept, kept_with};
-ghost use Rattle.reg_store.specs.Spells.{SpellsWhileOpen};
+ghost use Rattle.reg_store.specs.Spells.{Leaves, IsOpenOver, SpellsWhileOpen};
 ghost use Rattle.reg_store.specs.Stores.{has_failed};
 ghost use Rattle.reg_service.specs.Deliveries.{served, RepeatsAgree, NoOtherAnswers};
+ghost use Rattle.reg_service.specs.Crashes.{IsFoundAfter, reply_of, LeavesOne, LeavesNoMore, KeepsOpen};
 ghost use Rattle.reg_service.specs.Services.{store_in, state_in, SpellsOn, ServesOver};
 
 use crate::delivery::Delivery;
@@ -54,7 +57,8 @@ impl<S: Alter> Service<S> {
 
     /// Answers a delivery. It is carried out where it is a read, or a write that has no key or a new
     /// one. A key that comes again gets the first reply, or 42290 if its command is another one.
-    /// Where memory is refused or the store fails the reply is 50001, and nothing has changed.
+    /// Where memory is refused or the store fails the reply is 50001, and nothing has changed; but
+    /// after a fault of the disk has shut the connection, a crash may leave it carried out.
     pub fn answer(&mut self, delivery: &Delivery) -> Reply
         ensures failed { IsTrue (has_failed (store_in self.old))
             → (result ≡ fault Code.BackendFault) × IsTrue (has_failed (store_in self.new)) }
@@ -63,6 +67,28 @@ impl<S: Alter> Service<S> {
             → ServesOver (state_in self.old) (state_in self.new) (served ((delivery.now, result) ∷ [])) }
         ensures fault { HasCleanDisk (state_in self.new) → result ≡ fault Code.BackendFault
             → SpellsOn (state_in self.old) (state_in self.new) }
+
+        // A crash leaves what was answered, and may leave a delivery that was answered 50001.
+        ensures crash { HasCleanDisk (state_in self.new) → (g : Registry) (k : Kept)
+            → IsOpenOver (state_in self.old) g k → (db : Trees) → (state_in self.new).may_leave db
+            → IsFoundAfter g k ((delivery.now, result) ∷ []) db }
+
+        // Over a connection that is shut nothing is done, and nothing else is answered.
+        ensures shut { HasCleanDisk (state_in self.new) → (IsTrue (state_in self.old).is_open → ⊥)
+            → (result ≡ fault Code.BackendFault)
+            × ((db : Trees) → (state_in self.new).may_leave db → (state_in self.old).may_leave db) }
+
+        // Over a connection that is open, a crash leaves what the tables spell, and nothing else.
+        ensures settled { (g : Registry) (k : Kept) → IsOpenOver (state_in self.new) g k
+            → (db : Trees) → (state_in self.new).may_leave db → Leaves db g k }
+
+        // No fault is forgotten, no connection is opened, and only a fault of the disk shuts one.
+        ensures counts { (state_in self.old).faults ≤ (state_in self.new).faults }
+        ensures stays_shut { HasCleanDisk (state_in self.new)
+            → IsTrue (state_in self.new).is_open → IsTrue (state_in self.old).is_open }
+        ensures closes { HasCleanDisk (state_in self.new) → IsTrue (state_in self.old).is_open
+            → IsTrue (state_in self.new).is_open
+            ⊎ MoreFaults (state_in self.old).faults (state_in self.new).faults }
     {
         match self.try_answer(delivery) {
             Ok(reply) => reply,
@@ -70,7 +96,8 @@ impl<S: Alter> Service<S> {
         }
     }
 
-    /// Answers each delivery, in order, as `answer` does.
+    /// Answers each delivery, in order, as `answer` does. A crash leaves all that was answered, with or
+    /// without one delivery that was answered 50001 and after which nothing else was answered.
     ///
     /// # Errors
     ///
@@ -87,6 +114,24 @@ impl<S: Alter> Service<S> {
             (g : Registry) (k : Kept) → SpellsWhileOpen (state_in self.old) g k
             → NoOtherAnswers g k (served (zip list.now replies.items))) }
         ensures err { OnErr result (self.new ≡ self.old) }
+
+        // A crash leaves all that was answered, with or without the one delivery under way.
+        ensures crash { HasCleanDisk (state_in self.new) → IfOk result (λ replies.
+            (g : Registry) (k : Kept) → IsOpenOver (state_in self.old) g k
+            → (db : Trees) → (state_in self.new).may_leave db
+            → IsFoundAfter g k (zip list.now replies.items) db) }
+
+        // Over a connection that is open, a crash leaves what the tables spell, and nothing else.
+        ensures settled { (g : Registry) (k : Kept) → IsOpenOver (state_in self.new) g k
+            → (db : Trees) → (state_in self.new).may_leave db → Leaves db g k }
+
+        // No fault is forgotten, no connection is opened, and only a fault of the disk shuts one.
+        ensures counts { (state_in self.old).faults ≤ (state_in self.new).faults }
+        ensures stays_shut { HasCleanDisk (state_in self.new)
+            → IsTrue (state_in self.new).is_open → IsTrue (state_in self.old).is_open }
+        ensures closes { HasCleanDisk (state_in self.new) → IsTrue (state_in self.old).is_open
+            → IsTrue (state_in self.new).is_open
+            ⊎ MoreFaults (state_in self.old).faults (state_in self.new).faults }
     {
         let mut replies = Vec::with_capacity(self.alloc, list.len())?;
         for delivery in list {
@@ -105,6 +150,14 @@ impl<S: Alter> Service<S> {
             ServesOver (state_in self.old) (state_in self.new) (served ((delivery.now, reply) ∷ []))) }
         ensures err { HasCleanDisk (state_in self.new)
             → OnErr result (SpellsOn (state_in self.old) (state_in self.new)) }
+        ensures crash { HasCleanDisk (state_in self.new) → (g : Registry) (k : Kept)
+            → IsOpenOver (state_in self.old) g k → (db : Trees) → (state_in self.new).may_leave db
+            → IsFoundAfter g k ((delivery.now, reply_of result) ∷ []) db }
+        ensures was_open { HasCleanDisk (state_in self.new)
+            → OnOk result (IsTrue (state_in self.old).is_open) }
+        ensures shut { HasCleanDisk (state_in self.new) → (IsTrue (state_in self.old).is_open → ⊥)
+            → LeavesNoMore (state_in self.old) (state_in self.new) }
+        ensures keeps { KeepsOpen (state_in self.old) (state_in self.new) }
     {
         let Some(key) = delivery.retry_key() else {
             return self.carry_out(&delivery.command);
@@ -127,6 +180,14 @@ impl<S: Alter> Service<S> {
         ensures own { IfOk result (λ reply. IsOwnReply reply) }
         ensures err { HasCleanDisk (state_in self.new)
             → OnErr result (SpellsOn (state_in self.old) (state_in self.new)) }
+        ensures crash { HasCleanDisk (state_in self.new) → (g : Registry) (k : Kept)
+            → IsOpenOver (state_in self.old) g k → (db : Trees) → (state_in self.new).may_leave db
+            → LeavesOne result (state_in self.old) db (step g command.now).0 k }
+        ensures was_open { HasCleanDisk (state_in self.new)
+            → OnOk result (IsTrue (state_in self.old).is_open) }
+        ensures shut { HasCleanDisk (state_in self.new) → (IsTrue (state_in self.old).is_open → ⊥)
+            → LeavesNoMore (state_in self.old) (state_in self.new) }
+        ensures keeps { KeepsOpen (state_in self.old) (state_in self.new) }
     {
         let Decision { changes, reply } = self.decision(command)?;
         if !changes.is_empty() {
@@ -152,6 +213,12 @@ impl<S: Alter> Service<S> {
         ensures own { IfOk result (λ reply. IsOwnReply reply) }
         ensures err { HasCleanDisk (state_in self.new)
             → OnErr result (SpellsOn (state_in self.old) (state_in self.new)) }
+        ensures crash { HasCleanDisk (state_in self.new) → (g : Registry) (k : Kept)
+            → SpellsWhileOpen (state_in self.old) g k → k key.now ≡ None
+            → (db : Trees) → (state_in self.new).may_leave db
+            → LeavesOne result (state_in self.old) db (step g command.now).0
+            (kept_with k key.now (record { text = text.now; reply = (step g command.now).1 })) }
+        ensures keeps { KeepsOpen (state_in self.old) (state_in self.new) }
     {
         let Decision { changes, reply } = self.decision(command)?;
         let keep = Keep {
@@ -173,6 +240,11 @@ impl<S: Alter> Service<S> {
             → SpellsWhileOpen (state_in self.old) g k
             → (d.reply ≡ (step g command.now).1) × (changed d.changes.items g ≡ (step g command.now).0)) }
         ensures own { IfOk result (λ d. IsOwnReply d.reply) }
+        ensures crash { HasCleanDisk (state_in self.new)
+            → LeavesNoMore (state_in self.old) (state_in self.new) }
+        ensures was_open { HasCleanDisk (state_in self.new)
+            → OnOk result (IsTrue (state_in self.old).is_open) }
+        ensures keeps { KeepsOpen (state_in self.old) (state_in self.new) }
     {
         let view = self.store.view(command)?;
         Ok(decide(self.alloc, &view, command)?)

@@ -1,4 +1,6 @@
+use Rattle.reg_service.specs.Services.{state_in}
 use Rattle.reg_service.proofs.Over.{refused_over, fault_over}
+use Rattle.reg_service.proofs.Crashing.{leaves_open}
 use Rattle.reg_service.proofs.service.Service.answer.Goals as goal
 
 pub returns-in-Err-clause-served : goal.returns-in-Err-clause-served
@@ -9,3 +11,9 @@ returns-in-Ok-clause-fault g c clean is registry k over = fault_over _ c.args.de
 
 pub returns-in-Err-clause-fault : goal.returns-in-Err-clause-fault
 returns-in-Err-clause-fault g c clean is registry k over = c.in-Err.ensures.err clean registry k over
+
+pub returns-in-Ok-clause-settled : goal.returns-in-Ok-clause-settled
+returns-in-Ok-clause-settled g c registry k over db it = leaves_open (state_in c.try_answer.new.self) registry k db (g.met.S.Store.settled c.try_answer.new.self.store.conn.store db) over it
+
+pub returns-in-Err-clause-settled : goal.returns-in-Err-clause-settled
+returns-in-Err-clause-settled g c registry k over db it = leaves_open (state_in c.try_answer.new.self) registry k db (g.met.S.Store.settled c.try_answer.new.self.store.conn.store db) over it

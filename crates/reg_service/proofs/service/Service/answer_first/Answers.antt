@@ -1,4 +1,14 @@
+use Rattle.std.proofs.Common.{inl, inr, refl, ap, subst, ◌∙◌, rules}
+use Rattle.std.specs.Prelude.{OnOk}
+use Rattle.reg_core.specs.Machine.{step}
+use Rattle.reg_core.specs.Registry.{Registry}
+use Rattle.reg_core.specs.Replies.{Told}
+use Rattle.reg_core.specs.Views.{changed}
+use Rattle.reg_store.specs.Replies.{kept_with}
+use Rattle.reg_store.specs.Spells.{Leaves}
+use Rattle.reg_service.specs.Services.{state_in}
 use Rattle.reg_service.proofs.Standing.{whatever_fails}
+use Rattle.reg_service.proofs.Crashing.{leaves_failed}
 use Rattle.reg_service.proofs.service.Service.answer_first.Goals as goal
 
 pub returns-in_err-changes-clause-err : goal.returns-in_err-changes-clause-err
@@ -6,11 +16,35 @@ returns-in_err-changes-clause-err g c clean = whatever_fails c.from_residual.res
 
 pub returns-in_err-apply-clause-err : goal.returns-in_err-apply-clause-err
 returns-in_err-apply-clause-err g c clean =
-    whatever_fails c.from_residual-in_err-apply.result (λ registry k over. c.in_err-apply.ensures.nothing clean registry k (c.in_ok-changes.ensures.same (c.apply.ensures.clean clean) registry k over))
+    whatever_fails c.from_residual-in_err-apply.result (λ registry k over. c.in_err-apply.ensures.nothing clean registry k (c.in_ok-changes.ensures.same (c.apply.ensures.frame.clean clean) registry k over))
 
 pub returns-clause-done : goal.returns-clause-done
 returns-clause-done g c clean registry k over fresh =
-    let mid = c.in_ok-changes.ensures.same (c.apply.ensures.clean clean) registry k over in
-    let decided = c.in_ok-changes.ensures.decided (c.apply.ensures.clean clean) registry k over in
+    let mid = c.in_ok-changes.ensures.same (c.apply.ensures.frame.clean clean) registry k over in
+    let decided = c.in_ok-changes.ensures.decided (c.apply.ensures.frame.clean clean) registry k over in
     let made = rw c.deref.ensures.value at (c.in_ok-apply.ensures.done clean registry k mid fresh) in
     (decided.0, λ _. rw (← decided.1) made)
+
+pub returns-in_err-apply-clause-crash : goal.returns-in_err-apply-clause-crash
+returns-in_err-apply-clause-crash g c clean registry k over fresh db it =
+    let early = c.apply.ensures.frame.clean clean in
+    let mid = c.in_ok-changes.ensures.same early registry k over in
+    let decided = c.in_ok-changes.ensures.decided early registry k over in
+    let none : OnOk c.from_residual-in_err-apply.result ⊥ = search rules in
+    let kept = λ (t : Told). kept_with k c.args.key.now (record { text = c.args.text.now; reply = t }) in
+    leaves_failed c.from_residual-in_err-apply.result (state_in c.args.self.now) db (step registry c.args.command.now).0 (kept (step registry c.args.command.now).1) none
+    (elim (c.apply.ensures.crash_shut clean registry k mid fresh (inr refl) db it) [
+      | inl was ↦ inl (c.in_ok-changes.ensures.crash early db was)
+      | inr made ↦ inr (subst (λ (r : Registry). Leaves db r (kept (step registry c.args.command.now).1)) (ap (λ l. changed l registry) c.deref.ensures.value ∙ decided.1)
+        (subst (λ (t : Told). Leaves db (changed c.deref.result.now registry) (kept t)) decided.0 made))
+    ])
+
+pub returns-clause-crash : goal.returns-clause-crash
+returns-clause-crash g c clean registry k over fresh db it =
+    let early = c.apply.ensures.frame.clean clean in
+    let mid = c.in_ok-changes.ensures.same early registry k over in
+    let decided = c.in_ok-changes.ensures.decided early registry k over in
+    let kept = λ (t : Told). kept_with k c.args.key.now (record { text = c.args.text.now; reply = t }) in
+    let made = c.in_ok-apply.ensures.done clean registry k mid fresh in
+    subst (λ (r : Registry). Leaves db r (kept (step registry c.args.command.now).1)) (ap (λ l. changed l registry) c.deref.ensures.value ∙ decided.1)
+    (subst (λ (t : Told). Leaves db (changed c.deref.result.now registry) (kept t)) decided.0 (c.in_ok-apply.ensures.settled (changed c.deref.result.now registry) (kept c.in_ok-changes.field-0.reply) made db it))

@@ -1,19 +1,33 @@
-use Rattle.std.proofs.Common.{◌≡◌, [], ◌∷◌, length, take, zip, ap, arith, length-append}
+use Rattle.std.proofs.Common.{◌≡◌, List, [], ◌∷◌, length, take, zip, ap, subst, arith, length-append}
 use Rattle.std.proofs.lemmas.List.{take_all}
+use Rattle.reg_service.specs.declared.delivery.Delivery.{Delivery}
 use Rattle.reg_service.specs.Deliveries.{served}
+use Rattle.reg_service.specs.Crashes.{IsFoundAfter}
 use Rattle.reg_service.proofs.Again.{repeats_agree, no_other_answers}
+use Rattle.reg_service.specs.Services.{state_in}
 use Rattle.reg_service.proofs.Over.{none_over, next_over}
+use Rattle.reg_service.proofs.Crashing.{leaves_open, found_none, found_next}
+use Rattle.reg_service.proofs.Closing.{keeps_open, keeps_then}
 use Rattle.reg_service.proofs.service.Service.run.Goals as goal
 
 pub loop-delivery-init : goal.loop-delivery-init
 loop-delivery-init g c =
     let new = c.in_ok-replies.ensures in
-    record { len = new.len; count = ap length new.items; room = new.capacity; clean = λ h. h; served = λ h. none_over _ }
+    record {
+      len = new.len;
+      count = ap length new.items;
+      room = new.capacity;
+      clean = λ h. h;
+      served = λ h. none_over _;
+      keeps = keeps_open (state_in c.args.self.now);
+      crash = λ h registry k over db it. found_none registry k db (leaves_open (state_in c.args.self.now) registry k db (g.met.S.Store.settled c.args.self.now.store.conn.store db) over it);
+    }
 
 pub loop-delivery-preserved : goal.loop-delivery-preserved
 loop-delivery-preserved g c =
     let i = c.loop-delivery.invariant in
     let more = c.push_reserved.ensures in
+    let one = c.answer-reply.ensures in
     record {
       len = omega (arith, i.len, more.len);
       count = omega (arith, i.count, ap length more.items, length-append c.loop-delivery.replies.items (c.answer-reply.result ∷ []));
@@ -21,6 +35,10 @@ loop-delivery-preserved g c =
       clean = λ h. i.clean (c.answer-reply.ensures.clean h);
       served = λ h. next_over _ _ _ c.args.list.now c.loop-delivery.delivery-index c.delivery-item.result c.loop-delivery.replies.items c.push_reserved.new.self.items c.answer-reply.result
           c.loop-delivery-test.true c.delivery-item.is i.count more.items (i.served (c.answer-reply.ensures.clean h)) (c.answer-reply.ensures.served h);
+      keeps = keeps_then (state_in c.args.self.now) (state_in c.loop-delivery.self) (state_in c.answer-reply.new.self) one.clean i.keeps (record { counts = one.counts; stays_shut = one.stays_shut; closes = one.closes });
+      crash = λ h registry k over db it. found_next (state_in c.args.self.now) (state_in c.loop-delivery.self) c.args.list.now c.loop-delivery.delivery-index c.delivery-item.result c.loop-delivery.replies.items c.push_reserved.new.self.items c.answer-reply.result
+          c.loop-delivery-test.true c.delivery-item.is i.count more.items registry k db over (i.served (one.clean h)) (λ was. i.crash (one.clean h) registry k over db was) (λ registry2 k2 mid. one.crash h registry2 k2 mid db it)
+          (λ is_shut. let none = one.shut h is_shut in (none.0, none.1 db it));
     }
 
 pub returns-clause-served : goal.returns-clause-served
@@ -35,3 +53,23 @@ returns-clause-repeats g c clean registry k over =
 pub returns-clause-only : goal.returns-clause-only
 returns-clause-only g c clean registry k over =
     no_other_answers _ _ (served (zip c.args.list.now c.loop-delivery.replies.items)) (returns-clause-served g c clean registry k over).serves.replies
+
+pub returns-clause-crash : goal.returns-clause-crash
+returns-clause-crash g c clean registry k over db it =
+    let all : take c.loop-delivery.delivery-index c.args.list.now ≡ c.args.list.now = take_all c.loop-delivery.delivery-index c.args.list.now c.loop-delivery-test.false in
+    subst (λ (list : List Delivery). IsFoundAfter registry k (zip list c.loop-delivery.replies.items) db) all (c.loop-delivery.invariant.crash clean registry k over db it)
+
+pub returns-in_err-replies-clause-settled : goal.returns-in_err-replies-clause-settled
+returns-in_err-replies-clause-settled g c registry k over db it = leaves_open (state_in c.args.self.now) registry k db (g.met.S.Store.settled c.args.self.now.store.conn.store db) over it
+
+pub returns-clause-settled : goal.returns-clause-settled
+returns-clause-settled g c registry k over db it = leaves_open (state_in c.loop-delivery.self) registry k db (g.met.S.Store.settled c.loop-delivery.self.store.conn.store db) over it
+
+pub returns-clause-counts : goal.returns-clause-counts
+returns-clause-counts g c = c.loop-delivery.invariant.keeps.counts
+
+pub returns-clause-stays_shut : goal.returns-clause-stays_shut
+returns-clause-stays_shut g c = c.loop-delivery.invariant.keeps.stays_shut
+
+pub returns-clause-closes : goal.returns-clause-closes
+returns-clause-closes g c = c.loop-delivery.invariant.keeps.closes

@@ -1,6 +1,11 @@
 use Rattle.std.proofs.Common.{◌≡◌, ◌≤◌, take, vec_len, length}
 use Rattle.std.specs.Prelude.{vec_capacity, zip}
+use Rattle.sqlite.specs.Tree.{Trees}
 use Rattle.sqlite.specs.State.{HasCleanDisk}
+use Rattle.reg_core.specs.Registry.{Registry}
+use Rattle.reg_store.specs.Replies.{Kept}
+use Rattle.reg_store.specs.Spells.{IsOpenOver}
+use Rattle.reg_service.specs.Crashes.{IsFoundAfter, KeepsOpen}
 use Rattle.reg_service.specs.Deliveries.{served}
 use Rattle.reg_service.specs.Services.{state_in, ServesOver}
 use Rattle.reg_service.proofs.service.Service.run.Given as goal
@@ -12,4 +17,7 @@ invariant-loop-delivery g l = record {
   room : length l.list ≤ vec_capacity l.replies;
   clean : HasCleanDisk (state_in l.self) → HasCleanDisk (state_in l.fn.self);
   served : HasCleanDisk (state_in l.self) → ServesOver (state_in l.fn.self) (state_in l.self) (served (zip (take l.delivery-index l.list) l.replies.items));
+  keeps : KeepsOpen (state_in l.fn.self) (state_in l.self);
+  crash : HasCleanDisk (state_in l.self) → (registry : Registry) (k : Kept) → IsOpenOver (state_in l.fn.self) registry k
+      → (db : Trees) → (state_in l.self).may_leave db → IsFoundAfter registry k (zip (take l.delivery-index l.list) l.replies.items) db;
 }

@@ -1,0 +1,51 @@
+-- What a crash may leave of the exchanges: all that was acknowledged, with or without the one delivery under way.
+use Rattle.std.specs.Prelude.{◌≡◌, ◌⊎◌, ◌≤◌, IsTrue, List, [], ◌∷◌, ◌++◌, Result, Ok, Err}
+use Rattle.sqlite_disk.specs.Disk.{MoreFaults}
+use Rattle.sqlite.specs.Tree.{Trees}
+use Rattle.sqlite.specs.State.{State, HasCleanDisk}
+use Rattle.reg_core.specs.declared.code.Code.TheVariants.{BackendFault}
+use Rattle.reg_core.specs.Machine.{run_commands}
+use Rattle.reg_core.specs.Registry.{Registry}
+use Rattle.reg_core.specs.Replies.{Told, fault}
+use Rattle.reg_store.specs.Replies.{Kept}
+use Rattle.reg_store.specs.Spells.{Leaves}
+use Rattle.reg_service.specs.declared.delivery.Delivery.{Delivery}
+use Rattle.reg_service.specs.Deliveries.{Exchange, firsts, is_first, kept_after, reply_after, served}
+
+-- SQLite, transactions: the database that a crash leaves spells what these exchanges lead to
+abbrev pub LeavesAfter : Registry → Kept → List Exchange → Trees → Type 0
+LeavesAfter g k xs db = Leaves db (run_commands g (firsts k xs)) (kept_after k xs)
+
+-- this project's choice: a delivery that was answered 50001, after which no other answer came, was under way: a first one, that stands with the plain machine's reply
+pub record LeavesUnderWay (g : Registry) (k : Kept) (xs : List Exchange) (db : Trees) : Type 0 where
+  pub before : List Exchange
+  pub delivery : Delivery
+  pub after : List Exchange
+  pub place : xs ≡ before ++ (delivery, fault BackendFault) ∷ after
+  pub unanswered : served after ≡ []
+  pub first : IsTrue (is_first k (served before) delivery)
+  pub leaves : LeavesAfter g k (served before ++ (delivery, reply_after g k (served before) delivery.command) ∷ []) db
+
+-- this project's choice: a crash leaves all that was acknowledged, with or without the one delivery under way
+abbrev pub IsFoundAfter : Registry → Kept → List Exchange → Trees → Type 0
+IsFoundAfter g k xs db = LeavesAfter g k (served xs) db ⊎ LeavesUnderWay g k xs db
+
+-- this project's choice: an error is answered 50001
+abbrev pub reply_of : {E : Type 0} → Result Told E → Told
+reply_of (Ok reply) = reply
+reply_of (Err e) = fault BackendFault
+
+-- SQLite, transactions: a crash leaves what one command leads to where it was answered, and where it wasn't that, or what it left before
+abbrev pub LeavesOne : {X E : Type 0} → Result X E → State → Trees → Registry → Kept → Type 0
+LeavesOne (Ok x) old db g k = Leaves db g k
+LeavesOne (Err e) old db g k = old.may_leave db ⊎ Leaves db g k
+
+-- SQLite, transactions: a crash leaves nothing that it didn't leave before
+abbrev pub LeavesNoMore : State → State → Type 0
+LeavesNoMore old new = (db : Trees) → new.may_leave db → old.may_leave db
+
+-- SQLite, connections: no fault is forgotten, no connection is opened, and only a fault of the disk shuts one
+pub record KeepsOpen (old new : State) : Type 0 where
+  pub counts : old.faults ≤ new.faults
+  pub stays_shut : HasCleanDisk new → IsTrue new.is_open → IsTrue old.is_open
+  pub closes : HasCleanDisk new → IsTrue old.is_open → IsTrue new.is_open ⊎ MoreFaults old.faults new.faults
