@@ -3,25 +3,47 @@
 
 mod answer;
 mod body;
+mod database;
 mod error;
 mod fields;
 mod files;
 mod framing;
 mod job;
+mod line;
 mod message;
+mod outcome;
 mod request;
 mod route;
 mod stream;
 
 use job::{Job, Opened, do_job};
+use sqlite::{Connection, Error, ErrorCode, FileFrom, FileStore, Wary};
 use std::alloc::{AllocError, AllocFailed};
+use std::io::Read;
 use std::process::ExitCode;
 use std::rt::{Env, Files};
 use std::{fs, io};
 
+/// A database in a file and its log. No sum or torn write is trusted.
+type FileDatabase = FileStore<FileFrom<Wary>>;
+
 /// What is printed where the words aren't a job's.
-const USAGE: &str =
-    "Usage: avroreg run\n       avroreg text F\n       avroreg check --reader F --writer F\n\n  run     answers the HTTP/1.1 requests of standard input on standard output\n  text F  prints the identity text of the Avro schema in the file F\n  check   prints compatible where the reader's schema reads what the writer's writes, else incompatible\n";
+const USAGE: &str = "Usage: avroreg run
+       avroreg run --db F
+       avroreg text F
+       avroreg check --reader F --writer F
+
+  run     answers the HTTP/1.1 requests of standard input on standard output, over
+          a new registry in memory: status 0 where the input ended between messages
+  --db F  the registry is kept in the database file F, which is made where it is
+          missing or empty; F and F-wal belong together while a run is under way,
+          and after one that was killed
+  text F  prints the identity text of the Avro schema in the file F: status 0
+  check   prints compatible where the reader's schema reads what the writer's
+          writes, status 0, else incompatible, status 1
+
+A fault has a line on standard error, and status 2. Other words have status 64.
+";
 
 /// Why no job is begun.
 enum LineFault {
@@ -57,7 +79,12 @@ fn words_of<R: Env + AllocGlobal>(rt: &R) -> Result<Vec<String>, LineFault> {
 /// The job that the words ask for.
 fn job_of(words: &[String]) -> Result<Job, LineFault> {
     match words {
-        [word] if word.as_str() == "run" => Ok(Job::Run),
+        [word] if word.as_str() == "run" => Ok(Job::Run { database: None }),
+        [word, option, file] if word.as_str() == "run" && option.as_str() == "--db" => Ok(
+            Job::Run {
+                database: Some(file.clone()?),
+            },
+        ),
         [word, file] if word.as_str() == "text" => Ok(Job::Text {
             file: file.clone()?,
         }),
@@ -74,10 +101,85 @@ fn job_of(words: &[String]) -> Result<Job, LineFault> {
     }
 }
 
+/// The first bytes of a database file (SQLite, Database File Format).
+const DATABASE_FRONT: &[u8; 16] = b"SQLite format 3\0";
+
+/// Whether a file begins as a database does, or has no byte.
+fn begins_as_database(rt: &HostRuntime, file: &str) -> io::Result<bool> {
+    if !fs::metadata(rt, file)?.is_file() {
+        return Ok(false);
+    }
+    let mut opened = fs::OpenOptions::new().read(true).open(rt, file)?;
+    let mut front = [0u8; 16];
+    let read = opened.read(&mut front)?;
+    Ok(read == 0 || front.as_slice() == DATABASE_FRONT.as_slice())
+}
+
+/// Whether a log with bytes lies beside a file.
+fn has_log(rt: &HostRuntime, file: &str) -> io::Result<bool> {
+    let log = format!(in rt.alloc(); "{file}-wal")?;
+    match fs::metadata(rt, log.as_str()) {
+        Ok(found) => Ok(found.len() > 0),
+        Err(error) if error.kind() == io::ErrorKind::NotFound => Ok(false),
+        Err(error) => Err(error),
+    }
+}
+
+/// Whether a file may be opened as a database: it is missing, has no byte or begins as one, or a run
+/// that was killed left its log beside it. An open would write over the bytes of another file.
+fn may_open(rt: &HostRuntime, file: &str) -> io::Result<bool> {
+    match begins_as_database(rt, file) {
+        Ok(true) => Ok(true),
+        Ok(false) => has_log(rt, file),
+        Err(error) if error.kind() == io::ErrorKind::NotFound => Ok(true),
+        Err(error) => Err(error),
+    }
+}
+
+/// Whether a database lists nothing, as a new one, and one whose first run was killed before it made
+/// the registry.
+fn lists_nothing(connection: &mut Connection<FileDatabase>) -> Result<bool, Error> {
+    let count: i64 = connection
+        .query_row("SELECT count(*) FROM sqlite_schema", &[])?
+        .get(0)?;
+    Ok(count == 0)
+}
+
+/// What a database that can't be opened is for the job, by the error.
+fn failed(error: Error) -> Result<Opened<FileDatabase>, LineFault> {
+    match error {
+        Error::SqliteFailure(ErrorCode::OutOfMemory) => Err(LineFault::OutOfMemory),
+        _ => Ok(Opened::Failed),
+    }
+}
+
+/// Opens the database in a file, which is made where it is missing.
+fn opened_database(rt: &HostRuntime, file: &str) -> Result<Opened<FileDatabase>, LineFault> {
+    match may_open(rt, file) {
+        Ok(true) => {}
+        Err(error) if error.kind() == io::ErrorKind::OutOfMemory => {
+            return Err(LineFault::OutOfMemory);
+        }
+        _ => return Ok(Opened::Failed),
+    }
+    let mut connection = match Connection::open_from(rt, file, false, Wary) {
+        Ok(connection) => connection,
+        Err((error, _)) => return failed(error),
+    };
+    match lists_nothing(&mut connection) {
+        Ok(true) => Ok(Opened::Fresh(connection)),
+        Ok(false) => Ok(Opened::Database(connection)),
+        Err(error) => failed(error),
+    }
+}
+
 /// Opens what a job names.
-fn opened<R: Files + AllocGlobal>(rt: &R, job: &Job) -> Result<Opened, LineFault> {
+fn opened(rt: &HostRuntime, job: &Job) -> Result<Opened<FileDatabase>, LineFault> {
     match job {
-        Job::Run => Ok(Opened::Nothing),
+        Job::Run { database: None } => Ok(Opened::Nothing),
+        Job::Run {
+            database: Some(file),
+        } => opened_database(rt, file.as_str()),
         Job::Text { file } => {
             let mut texts = Vec::new(rt.alloc());
             texts.push(fs::read(rt, file.as_str()).ok())?;
@@ -93,23 +195,55 @@ fn opened<R: Files + AllocGlobal>(rt: &R, job: &Job) -> Result<Opened, LineFault
 }
 
 /// The job that the words ask for, and what was opened for it.
-fn begun<R: Env + Files + AllocGlobal>(rt: &R) -> Result<(Job, Opened), LineFault> {
+fn begun(rt: &HostRuntime) -> Result<(Job, Opened<FileDatabase>), LineFault> {
     let words = words_of(rt)?;
     let job = job_of(words.as_slice())?;
     let opened = opened(rt, &job)?;
     Ok((job, opened))
 }
 
+/// Removes the log of a database file. The caller holds the database's files, so that nobody else
+/// has them open, and the log is empty.
+fn remove_log(rt: &HostRuntime, file: &str) -> io::Result<()> {
+    let real = fs::canonicalize(rt, file)?;
+    let log = format!(in rt.alloc(); "{}-wal", real.as_str())?;
+    fs::remove_file(rt, log.as_str())
+}
+
+/// Closes a database: its log is copied into the file F, and removed. Where the copy fails, what was
+/// committed stands in F and F-wal together.
+fn close(rt: &HostRuntime, file: &str, connection: Connection<FileDatabase>) {
+    if let Ok(files) = connection.close_files() {
+        let _ = remove_log(rt, file);
+        drop(files);
+    }
+}
+
+/// Does a job, and closes what was opened for it.
+fn done(rt: &HostRuntime, job: &Job, opened: Opened<FileDatabase>) -> u8 {
+    let (status, connection) = do_job(
+        rt.alloc(),
+        job,
+        opened,
+        &mut rt.stdin(),
+        &mut rt.stdout(),
+        &mut rt.stderr(),
+    );
+    if let (
+        Job::Run {
+            database: Some(file),
+        },
+        Some(connection),
+    ) = (job, connection)
+    {
+        close(rt, file.as_str(), connection);
+    }
+    status
+}
+
 fn main(rt: HostRuntime) -> ExitCode {
     let status = match begun(&rt) {
-        Ok((job, opened)) => do_job(
-            rt.alloc(),
-            &job,
-            &opened,
-            &mut rt.stdin(),
-            &mut rt.stdout(),
-            &mut rt.stderr(),
-        ),
+        Ok((job, opened)) => done(&rt, &job, opened),
         Err(LineFault::Usage) => {
             let _ = eprint!(rt; "{USAGE}");
             64

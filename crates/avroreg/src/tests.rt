@@ -3,7 +3,7 @@ use crate::job::{Job, Opened, do_job};
 use crate::stream::{Ended, run_on};
 use reg_service::Service;
 use reg_store::Store;
-use sqlite::{Connection, MemStore};
+use sqlite::{Connection, MemStore, params};
 use std::alloc::{AllocError, Global};
 use std::io::{self, Read, Write};
 use std::process::Abort;
@@ -465,10 +465,10 @@ fn a_job_has_a_status_and_a_line(rt: HostRuntime) -> Result<(), Fail> {
     for (input, output, status, line) in rows {
         let mut written = Vec::new(rt.alloc());
         let mut told = Vec::new(rt.alloc());
-        let got = do_job(
+        let (got, _) = do_job(
             rt.alloc(),
-            &Job::Run,
-            &Opened::Nothing,
+            &Job::Run { database: None },
+            Opened::<MemStore>::Nothing,
             &mut input.as_bytes(),
             &mut written,
             &mut told,
@@ -483,10 +483,10 @@ fn a_job_has_a_status_and_a_line(rt: HostRuntime) -> Result<(), Fail> {
         size: 1,
         reads: 0,
     };
-    let got = do_job(
+    let (got, _) = do_job(
         rt.alloc(),
-        &Job::Run,
-        &Opened::Nothing,
+        &Job::Run { database: None },
+        Opened::<MemStore>::Nothing,
         &mut reader,
         &mut Vec::new(rt.alloc()),
         &mut told,
@@ -502,10 +502,10 @@ fn a_job_has_a_status_and_a_line(rt: HostRuntime) -> Result<(), Fail> {
         takes_nothing: true,
     };
     let mut told = Vec::new(rt.alloc());
-    let got = do_job(
+    let (got, _) = do_job(
         rt.alloc(),
-        &Job::Run,
-        &Opened::Nothing,
+        &Job::Run { database: None },
+        Opened::<MemStore>::Nothing,
         &mut SET_FULL.as_bytes(),
         &mut writer,
         &mut told,
@@ -541,10 +541,10 @@ fn checked(
     };
     let mut written = Vec::new(alloc);
     let mut told = Vec::new(alloc);
-    let status = do_job(
+    let (status, _) = do_job(
         alloc,
         &job,
-        &Opened::Texts(texts),
+        Opened::<MemStore>::Texts(texts),
         &mut b"".as_slice(),
         &mut written,
         &mut told,
@@ -655,10 +655,10 @@ fn printed(alloc: Global, bytes: Option<&[u8]>) -> Result<(Vec<u8>, Vec<u8>, u8)
     };
     let mut written = Vec::new(alloc);
     let mut told = Vec::new(alloc);
-    let status = do_job(
+    let (status, _) = do_job(
         alloc,
         &job,
-        &Opened::Texts(texts),
+        Opened::<MemStore>::Texts(texts),
         &mut b"".as_slice(),
         &mut written,
         &mut told,
@@ -732,5 +732,140 @@ fn what_holds_no_schema_is_told(rt: HostRuntime) -> Result<(), Fail> {
         Ok("avroreg: cannot read F\n")
     );
     assert_eq!(rt; status, 2);
+    Ok(())
+}
+
+/// What a run over a database in the file F writes, its line, its status and the connection.
+fn run_over(
+    alloc: Global,
+    opened: Opened<MemStore>,
+    input: &str,
+) -> Result<(Vec<u8>, Vec<u8>, u8, Option<Connection<MemStore>>), AllocError> {
+    let job = Job::Run {
+        database: Some(String::from_str(alloc, "F")?),
+    };
+    let mut written = Vec::new(alloc);
+    let mut told = Vec::new(alloc);
+    let (status, connection) = do_job(
+        alloc,
+        &job,
+        opened,
+        &mut input.as_bytes(),
+        &mut written,
+        &mut told,
+    );
+    Ok((written, told, status, connection))
+}
+
+#[test]
+fn a_registry_is_kept_across_runs(rt: HostRuntime) -> Result<(), Fail> {
+    let mut opened = Opened::Fresh(Connection::open_in_memory(rt.alloc())?);
+    for input in [SET_FULL, SET_FULL, SET_FULL] {
+        let (written, told, status, connection) = run_over(rt.alloc(), opened, input)?;
+        assert_eq!(rt; str::from_utf8(written.as_slice()), Ok(FULL_SET));
+        assert!(rt; told.is_empty());
+        assert_eq!(rt; status, 0);
+        let Some(connection) = connection else {
+            return Err("no connection came back".into());
+        };
+        opened = Opened::Database(connection);
+    }
+    let (written, _, status, _) = run_over(rt.alloc(), opened, "GET /config HTTP/1.1\r\n\r\n")?;
+    assert_eq!(rt; str::from_utf8(written.as_slice()), Ok(IS_FULL));
+    assert_eq!(rt; status, 0);
+    Ok(())
+}
+
+/// The five tables, as another program makes them.
+const TABLES: &str = "CREATE TABLE texts (id INTEGER PRIMARY KEY, text TEXT NOT NULL UNIQUE) STRICT;
+CREATE TABLE versions (subject TEXT NOT NULL, version INTEGER NOT NULL, id INTEGER NOT NULL REFERENCES texts (id), deleted INTEGER NOT NULL CHECK (deleted = 0 OR deleted = 1), PRIMARY KEY (subject, version)) STRICT;
+CREATE TABLE levels (subject TEXT NOT NULL PRIMARY KEY, level TEXT NOT NULL) STRICT;
+CREATE TABLE kept (key TEXT NOT NULL PRIMARY KEY, command TEXT NOT NULL, status INTEGER NOT NULL, body TEXT NOT NULL) STRICT;
+CREATE TABLE meta (name TEXT NOT NULL PRIMARY KEY, value TEXT NOT NULL) STRICT;
+";
+
+const INDEX: &str = "CREATE INDEX versions_of_id ON versions (id);";
+
+const META: &str = "INSERT INTO meta (name, value) VALUES ('format', 'avroreg');
+INSERT INTO meta (name, value) VALUES ('global', 'BACKWARD');";
+
+#[test]
+fn databases_are_told_apart(rt: HostRuntime) -> Result<(), Fail> {
+    // what the database has beside the tables, its layout, and the line
+    let rows = [
+        (INDEX, "1", ""),
+        ("", "1", ""),
+        (
+            INDEX,
+            "2",
+            "avroreg: F has layout 2, newer than this program\n",
+        ),
+        (
+            "",
+            "999999999",
+            "avroreg: F has layout 999999999, newer than this program\n",
+        ),
+        (INDEX, "1000000000", "avroreg: F is not a registry\n"),
+        (INDEX, "02", "avroreg: F is not a registry\n"),
+        ("", "02", "avroreg: F is not a registry\n"),
+        (
+            "CREATE TABLE other (a TEXT) STRICT;",
+            "1",
+            "avroreg: F is not a registry\n",
+        ),
+    ];
+    for (more, layout, line) in rows {
+        let mut connection = Connection::open_in_memory(rt.alloc())?;
+        connection.execute_batch(TABLES)?;
+        connection.execute_batch(more)?;
+        connection.execute_batch(META)?;
+        connection.execute(
+            "INSERT INTO meta (name, value) VALUES ('layout', ?1)",
+            params![layout],
+        )?;
+        let (written, told, status, connection) = run_over(
+            rt.alloc(),
+            Opened::Database(connection),
+            "GET /config HTTP/1.1\r\n\r\n",
+        )?;
+        let (output, wanted) = if line.is_empty() {
+            (IS_BACKWARD, 0)
+        } else {
+            ("", 2)
+        };
+        assert_eq!(rt; str::from_utf8(told.as_slice()), Ok(line));
+        assert_eq!(rt; str::from_utf8(written.as_slice()), Ok(output));
+        assert_eq!(rt; status, wanted);
+        assert!(rt; connection.is_some());
+    }
+    Ok(())
+}
+
+#[test]
+fn what_gives_no_registry_is_told(rt: HostRuntime) -> Result<(), Fail> {
+    let mut foreign = Connection::open_in_memory(rt.alloc())?;
+    foreign.execute_batch("CREATE TABLE other (a TEXT) STRICT")?;
+    let mut busy = Connection::open_in_memory(rt.alloc())?;
+    busy.execute_batch("BEGIN")?;
+    let rows = [
+        (Opened::Fresh(foreign), "avroreg: F is not a registry\n"),
+        (
+            Opened::Database(Connection::open_in_memory(rt.alloc())?),
+            "avroreg: F is not a registry\n",
+        ),
+        (Opened::Database(busy), "avroreg: cannot open F\n"),
+        (Opened::Failed, "avroreg: cannot open F\n"),
+        (Opened::Nothing, "avroreg: cannot open F\n"),
+        (
+            Opened::Texts(Vec::new(rt.alloc())),
+            "avroreg: cannot open F\n",
+        ),
+    ];
+    for (opened, line) in rows {
+        let (written, told, status, _) = run_over(rt.alloc(), opened, SET_FULL)?;
+        assert!(rt; written.is_empty());
+        assert_eq!(rt; str::from_utf8(told.as_slice()), Ok(line));
+        assert_eq!(rt; status, 2);
+    }
     Ok(())
 }

@@ -1,21 +1,8 @@
-use Rattle.std.proofs.Common.{[], refl}
-use Rattle.std.proofs.KnownBytes.{Consumes-nil}
-use Rattle.sqlite.proofs.Callers.{memory_is_clean}
-use Rattle.reg_core.specs.Registry.{new_registry}
-use Rattle.reg_store.specs.Replies.{nothing_kept}
-use Rattle.avroreg.specs.declared.stream.Ended.TheVariants.{Memory}
-use Rattle.avroreg.proofs.Ends.{Session-unread}
+use Rattle.std.proofs.Common.{refl}
 use Rattle.avroreg.proofs.job.run.Goals as goal
 
-pub returns-in_default : goal.returns-in_default
-returns-in_default g c =
-    record { registry = new_registry; kept = nothing_kept; ended = Memory; session = Session-unread (g.R.Read.remaining c.args.reader.now) _ _ _ _ [] (Consumes-nil (g.R.Read.remaining c.args.reader.now)); outcome_is = refl }
+pub returns-in-Fresh : goal.returns-in-Fresh
+returns-in-Fresh g c = rw c.in-Fresh.is (record { connection = c.run_new-outcome.result.1; given = refl; holds = c.run_new-outcome.ensures })
 
-pub returns-in_default-create : goal.returns-in_default-create
-returns-in_default-create g c =
-    record { registry = new_registry; kept = nothing_kept; ended = Memory; session = Session-unread (g.R.Read.remaining c.args.reader.now) _ _ _ _ [] (Consumes-nil (g.R.Read.remaining c.args.reader.now)); outcome_is = refl }
-
-pub returns : goal.returns
-returns g c =
-    let s = c.run_on.ensures.session (memory_is_clean c.run_on.new.service.store.conn) new_registry nothing_kept (rw c.new-service.ensures (λ _. c.in-Ok-create.ensures.done (memory_is_clean c.in-Ok-create.store.conn))) in
-    record { registry = s.registry; kept = s.kept; ended = c.run_on.result; session = s.holds; outcome_is = refl }
+pub returns-in-Database : goal.returns-in-Database
+returns-in-Database g c = rw c.in-Database.is (record { connection = c.run_over-outcome.result.1; given = refl; holds = c.run_over-outcome.ensures })
