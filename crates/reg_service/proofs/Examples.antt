@@ -1,8 +1,9 @@
 -- What the definitions say of a few short lists.
-use Rattle.std.proofs.Common.{◌≡◌, ℕ, List, [], ◌∷◌, refl, ap, get_or}
+use Rattle.std.proofs.Common.{◌≡◌, inl, inr, ℕ, List, [], ◌∷◌, ◌++◌, refl, ap, get_or, arith}
 use Rattle.std.proofs.lemmas.Bool.{eqb-false}
 use Rattle.std.specs.Prelude.{Some, None, unwrap_or, codes}
-use Rattle.reg_core.specs.declared.code.Code.TheVariants.{InvalidLevel, KeyReused}
+use Rattle.sqlite.specs.Tree.{Trees}
+use Rattle.reg_core.specs.declared.code.Code.TheVariants.{InvalidLevel, KeyReused, BackendFault}
 use Rattle.reg_core.specs.declared.command.Command.{Command}
 use Rattle.reg_core.specs.declared.command.Command.TheVariants.{SetGlobal, SetLevel, Global}
 use Rattle.reg_core.specs.CommandTexts.{command_text}
@@ -11,8 +12,9 @@ use Rattle.reg_core.specs.Registry.{Registry}
 use Rattle.reg_core.specs.Replies.{Told, fault, answer}
 use Rattle.reg_core.proofs.Texts.{command_text-injective}
 use Rattle.reg_service.specs.declared.delivery.Delivery.{Delivery}
-use Rattle.reg_store.specs.Replies.{nothing_kept}
-use Rattle.reg_service.specs.Deliveries.{firsts, entry_of, kept_after, IsDue}
+use Rattle.reg_store.specs.Replies.{Kept, nothing_kept}
+use Rattle.reg_service.specs.Deliveries.{Exchange, firsts, entry_of, kept_after, IsDue}
+use Rattle.reg_service.specs.Crashes.{LeavesAfter, LeavesUnderWay, IsFoundAfter}
 
 abbrev full : Command
 full = SetGlobal (codes "FULL")
@@ -83,3 +85,20 @@ other_texts e =
 other_subject_is_refused : (g : Registry) (reply : Told)
     → IsDue g nothing_kept ((keyed (codes "k1") full_of_s, done) ∷ []) (keyed (codes "k1") full_of_t) reply → reply ≡ fault KeyReused
 other_subject_is_refused g reply due = due.other (codes "k1") (entry_of (keyed (codes "k1") full_of_s, done)) refl refl other_texts
+
+abbrev status_at : List Exchange → ℕ
+status_at [] = 0
+status_at (x ∷ xs) = x.1.status
+
+-- what was answered stays: no delivery was under way then
+answered_stays : (g : Registry) (k : Kept) (d : Delivery) (body : List ℕ) (db : Trees) → IsFoundAfter g k ((d, answer body) ∷ []) db → LeavesAfter g k ((d, answer body) ∷ []) db
+answered_stays g k d body db (inl leaves) = leaves
+answered_stays g k d body db (inr u) = absurd (none u.before u.place)
+  where
+    no_more : (before : List Exchange) (x : Exchange) (after : List Exchange) → [] ≡ before ++ x ∷ after → ⊥
+    no_more [] x after e = absurd (cc)
+    no_more (b ∷ before) x after e = absurd (cc)
+
+    none : (before : List Exchange) → (d, answer body) ∷ [] ≡ before ++ (u.delivery, fault BackendFault) ∷ u.after → ⊥
+    none [] e = let other : 200 ≡ 500 = ap status_at e in absurd (omega (arith, other))
+    none (b ∷ before) e = let rest : [] ≡ before ++ (u.delivery, fault BackendFault) ∷ u.after = cc in no_more before (u.delivery, fault BackendFault) u.after rest

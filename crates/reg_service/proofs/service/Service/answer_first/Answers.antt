@@ -36,7 +36,7 @@ returns-in_err-apply-clause-crash g c clean registry k over fresh db it =
     (elim (c.apply.ensures.crash_shut clean registry k mid fresh (inr refl) db it) [
       | inl was ↦ inl (c.in_ok-changes.ensures.crash early db was)
       | inr made ↦ inr (subst (λ (r : Registry). Leaves db r (kept (step registry c.args.command.now).1)) (ap (λ l. changed l registry) c.deref.ensures.value ∙ decided.1)
-        (subst (λ (t : Told). Leaves db (changed c.deref.result.now registry) (kept t)) decided.0 made))
+          (subst (λ (t : Told). Leaves db (changed c.deref.result.now registry) (kept t)) decided.0 made))
     ])
 
 pub returns-clause-crash : goal.returns-clause-crash
