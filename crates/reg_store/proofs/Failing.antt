@@ -1,6 +1,7 @@
 -- Why a read of tables that spell a registry fails.
-use Rattle.std.proofs.Common.{◌≡◌, inl, inr, None, Ok, Err, Result, IsTrue, refl, sym, subst}
+use Rattle.std.proofs.Common.{ℕ, ◌≡◌, ◌≤◌, ◌⊎◌, arith, inl, inr, None, Ok, Err, Result, IsTrue, refl, sym, subst}
 use Rattle.std.specs.Prelude.{IfErr, IsErrAnd, OnErr, IsSome}
+use Rattle.std.proofs.lemmas.Bool.{both_ways, cases_Bool}
 use Rattle.sqlite.specs.declared.error.Error.{Error}
 use Rattle.sqlite.specs.declared.error.Error.TheVariants.{SqliteFailure, SqlInputError, InvalidParameterCount, ExecuteReturnedResults, InvalidQuery, MultipleStatement, QueryReturnedNoRows, InvalidColumnIndex, InvalidColumnType, IntegralValueOutOfRange, Utf8Error}
 use Rattle.sqlite.specs.declared.error.ErrorCode.{ErrorCode}
@@ -11,9 +12,11 @@ use Rattle.sqlite_trees.specs.declared.error.StoreError as trees
 use Rattle.sqlite_trees.specs.declared.error.StoreError.TheVariants as stored
 use Rattle.reg_core.specs.Registry.{Registry}
 use Rattle.reg_tables.specs.Layout.{layout}
-use Rattle.reg_tables.specs.Reading.{CanBeRead, IsFault}
+use Rattle.sqlite_disk.specs.Disk.{MoreFaults}
+use Rattle.reg_tables.specs.Reading.{CanBeRead, IsFault, HasDiskFault, HasReason, IsReadFault}
 use Rattle.reg_store.specs.declared.error.StoreError.{StoreError}
-use Rattle.reg_store.specs.Failures.{failure_of, is_fault, IsFaultOver, IsNumberless}
+use Rattle.reg_store.specs.declared.error.StoreError.TheVariants.{Memory, Disk, NotARegistry, OldLayout, NewerLayout}
+use Rattle.reg_store.specs.Failures.{failure_of, is_fault, IsFaultBy, IsFaultOver, IsNumberless}
 use Rattle.reg_store.specs.Replies.{Kept}
 use Rattle.reg_store.specs.Spells.{SpellsWhileOpen}
 use Rattle.reg_store.proofs.Texts.{readable_if_spelled}
@@ -31,14 +34,54 @@ is_fault_of s e unlimited (inl (cause, is)) = subst (λ x. IsTrue (is_fault (fai
     go stored.Unstorable = refl
 is_fault_of s e unlimited (inr (is, limited)) = absurd (let none = subst IsSome unlimited limited in cc)
 
+-- what is by memory or by the disk is a fault
+pub fault_if_by : (old new : State) (e : StoreError) → IsFaultBy old new e → IsTrue (is_fault e)
+fault_if_by old new Memory h = refl
+fault_if_by old new Disk h = refl
+fault_if_by old new NotARegistry h = absurd h
+fault_if_by old new (OldLayout number) h = absurd h
+fault_if_by old new (NewerLayout number) h = absurd h
+
+-- why a read fails, as the store tells it
+pub fault_by : (old new : State) (e : Error) → old.step_limit ≡ None → IsReadFault old new e → IsFaultBy old new (failure_of e)
+fault_by old new e unlimited (inl store) = subst (λ x. IsFaultBy old new (failure_of x)) (sym store.1) (go store.0 store.2)
+  where
+    go : (cause : trees.StoreError) → HasReason old new cause → IsFaultBy old new (failure_of (store_error cause))
+    go stored.OutOfMemory h = tt
+    go stored.Io h = h
+    go stored.Corrupt h = h
+    go stored.Full h = h
+    go stored.Broken h = h
+    go stored.Unstorable h = h
+fault_by old new e unlimited (inr stopped) = absurd (let none = subst IsSome unlimited stopped.1 in cc)
+
+-- a fault counts for later states too
+pub more_until : (a b c : ℕ) → b ≤ c → MoreFaults a b → MoreFaults a c
+more_until a b c up more = omega arith
+
+-- what a later call tells of the disk, an earlier state saw too
+pub disk_fault_since : (a b c : State) → (IsTrue a.is_open → IsTrue b.is_open ⊎ MoreFaults a.faults b.faults) → a.faults ≤ b.faults → b.faults ≤ c.faults → HasDiskFault b c → HasDiskFault a c
+disk_fault_since a b c closes up on (inr more) = inr (omega arith)
+disk_fault_since a b c closes up on (inl shut) = elim (cases_Bool a.is_open) [
+  | inl was_open ↦ elim (closes was_open) [ inl is_open ↦ absurd (both_ways _ shut is_open) | inr more ↦ inr (omega arith) ]
+  | inr was_shut ↦ inl was_shut
+]
+
+pub fault_since : (a b c : State) → (IsTrue a.is_open → IsTrue b.is_open ⊎ MoreFaults a.faults b.faults) → a.faults ≤ b.faults → b.faults ≤ c.faults → (e : StoreError) → IsFaultBy b c e → IsFaultBy a c e
+fault_since a b c closes up on Memory h = tt
+fault_since a b c closes up on Disk h = disk_fault_since a b c closes up on h
+fault_since a b c closes up on NotARegistry h = h
+fault_since a b c closes up on (OldLayout number) h = h
+fault_since a b c closes up on (NewerLayout number) h = h
+
 -- what is spelled can be read
 pub can_be_read : (s : State) (g : Registry) (k : Kept) → SpellsWhileOpen s g k → CanBeRead s
 can_be_read s g k over = λ is_open.
     let it = (over is_open).spells in
     record { schema = layout; is_layout = inl refl; contents = it.contents; holds = it.holds; readable = readable_if_spelled it.contents g k it.spelled }
 
-pub fault_over : (s : State) (e : Error) → s.step_limit ≡ None → (CanBeRead s → IsFault s e) → IsFaultOver s (failure_of e)
-fault_over s e unlimited fault = λ g k over. is_fault_of s e unlimited (fault (can_be_read s g k over))
+pub fault_over : (old new : State) (e : Error) → old.step_limit ≡ None → (CanBeRead old → IsReadFault old new e) → IsFaultOver old new (failure_of e)
+fault_over old new e unlimited fault = λ g k over. fault_by old new e unlimited (fault (can_be_read old g k over))
 
 -- an error that `?` passes on
 pub passed : {X : Type 0} (P : StoreError → Type 0) (r : Result X StoreError) (first : StoreError) → IsErrAnd r (λ e. e ≡ first) → P first → IfErr r P

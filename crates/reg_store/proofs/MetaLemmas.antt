@@ -15,7 +15,7 @@ use Rattle.reg_tables.specs.Layout.{IsLayout, meta}
 use Rattle.reg_tables.specs.Contents.{pair_form, text_cmp, Contents, HoldsIn}
 use Rattle.reg_tables.specs.Frames.{StaysIdle}
 use Rattle.reg_tables.specs.Listings.{meta_entry, ListsMeta}
-use Rattle.reg_tables.specs.Reading.{CanBeRead, IsFault}
+use Rattle.reg_tables.specs.Reading.{CanBeRead, IsReadFault}
 use Rattle.reg_tables.proofs.KeyedTables.{text_order, distinct_texts}
 use Rattle.reg_tables.proofs.ListingLemmas.{listed_if_shown}
 use Rattle.reg_rows.specs.Spelling.{Pair, value_at, has_value, has_level, names_known, is_meta, number_in, layout_in}
@@ -27,7 +27,7 @@ use Rattle.reg_store.specs.Replies.{Kept}
 use Rattle.reg_store.specs.Spells.{SpellsUnopened}
 use Rattle.reg_store.specs.Testing.{pairs_of, PassesMeta, Allows, JudgesMeta, MetaPass, Tests}
 use Rattle.reg_store.proofs.Bridge.{meta_found, value_is}
-use Rattle.reg_store.proofs.Failing.{is_fault_of, passed}
+use Rattle.reg_store.proofs.Failing.{fault_if_by, fault_by, passed}
 use Rattle.reg_store.proofs.Maps.{same_bytes}
 use Rattle.reg_store.proofs.TestLemmas.{framed, is_known, meta_passes}
 
@@ -78,9 +78,9 @@ same_number a b h = cc
 
 module _ {S : Type 0} (g : Ghosts S) (old new : Held S) where
   -- `meta` wasn't read
-  pub newer_unread : (r : Result (Unit {0}) StoreError) (e : Error) → old.step_limit ≡ None → (CanBeRead (state g old) → IsFault (state g old) e) → IsErrAnd r (λ failure. failure ≡ failure_of e) → IfErr r (TellsNewer (state g old))
+  pub newer_unread : (r : Result (Unit {0}) StoreError) (e : Error) → old.step_limit ≡ None → (CanBeRead (state g old) → IsReadFault (state g old) (state g new) e) → IsErrAnd r (λ failure. failure ≡ failure_of e) → IfErr r (TellsNewer (state g old))
   newer_unread r e unlimited fault is = passed (TellsNewer (state g old)) r (failure_of e) is (λ number is_open out.
-      inr (is_fault_of (state g old) e unlimited (fault (λ _. record { schema = out.schema; is_layout = out.known; contents = out.contents; holds = out.holds; readable = out.readable }))))
+      inr (fault_if_by (state g old) (state g new) (failure_of e) (fault_by (state g old) (state g new) e unlimited (fault (λ _. record { schema = out.schema; is_layout = out.known; contents = out.contents; holds = out.holds; readable = out.readable })))))
 
   module _ {X : Type 0} (x : X) (lines : List MetaLine) (f : StaysIdle {X = X} {E = Error} g old new (Ok x)) (listed : HasCleanDisk (state g new) → IsLayout (state g old).now.schema → ListsMeta (state g old).now lines) where
     abbrev db : Database
@@ -92,7 +92,7 @@ module _ {S : Type 0} (g : Ghosts S) (old new : Held S) where
     -- `meta` was read, and judged
     pub meta_tests : (r : Result (Unit {0}) StoreError) → JudgesMeta lines r → Tests g old new r MetaPass
     meta_tests (Ok y) j = record { frame = framed g old new (Ok x) (Ok y) f f.was_open; passes = λ clean known. record { lines = lines; lists = listed clean known; apart = j.0; fit = j.1 }; fault = λ clean. tt }
-    meta_tests (Err Memory) j = record { frame = framed g old new (Ok x) (Err Memory) f (λ clean. tt); passes = λ clean. tt; fault = λ clean registry k over. refl }
+    meta_tests (Err Memory) j = record { frame = framed g old new (Ok x) (Err Memory) f (λ clean. tt); passes = λ clean. tt; fault = λ clean registry k over. tt }
     meta_tests (Err Disk) j = absurd j
     meta_tests (Err NotARegistry) j = record { frame = framed g old new (Ok x) (Err NotARegistry) f (λ clean. tt); passes = λ clean. tt; fault = λ clean registry k over. absurd (j.0 (spelled clean registry k (over (f.was_open clean)))) }
     meta_tests (Err (OldLayout number)) j = absurd j

@@ -5,6 +5,7 @@ use Rattle.sqlite.specs.declared.error.Error.{Error}
 use Rattle.sqlite.specs.declared.error.Error.TheVariants.{SqliteFailure}
 use Rattle.sqlite.specs.declared.error.ErrorCode.TheVariants as code
 use Rattle.sqlite_schema.specs.declared.schema.Constraint.TheVariants.{PrimaryKey}
+use Rattle.reg_tables.specs.Reading.{HasDiskFault}
 use Rattle.reg_store.specs.declared.error.StoreError.{StoreError}
 use Rattle.reg_store.specs.declared.error.StoreError.TheVariants.{Memory, Disk, NotARegistry, OldLayout, NewerLayout}
 use Rattle.reg_core.specs.Registry.{Registry}
@@ -30,6 +31,12 @@ is_fault Memory = true
 is_fault Disk = true
 is_fault _ = false
 
+-- this project's choice: memory, or the disk, and then for a fault of the disk between the two or before
+abbrev pub IsFaultBy : State → State → StoreError → Type 0
+IsFaultBy old new Memory = Unit {0}
+IsFaultBy old new Disk = HasDiskFault old new
+IsFaultBy old new _ = ⊥
+
 -- this project's choice: no layout is named
 abbrev pub IsNumberless : StoreError → Type 0
 IsNumberless (OldLayout number) = ⊥
@@ -37,5 +44,5 @@ IsNumberless (NewerLayout number) = ⊥
 IsNumberless _ = Unit {0}
 
 -- this project's choice: where the tables spell a registry, memory and the disk alone fail
-abbrev pub IsFaultOver : State → StoreError → Type 0
-IsFaultOver s e = (g : Registry) (k : Kept) → SpellsWhileOpen s g k → IsTrue (is_fault e)
+abbrev pub IsFaultOver : State → State → StoreError → Type 0
+IsFaultOver old new e = (g : Registry) (k : Kept) → SpellsWhileOpen old g k → IsFaultBy old new e

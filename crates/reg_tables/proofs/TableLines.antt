@@ -1,5 +1,5 @@
 -- What a query of all rows of a table lists, and how it fails.
-use Rattle.std.proofs.Common.{◌≡◌, ◌⊎◌, inl, inr, ℤ, zero, suc, List, [], ◌∷◌, map, All, refl, sym, subst, ◌∙◌, arith}
+use Rattle.std.proofs.Common.{◌≤◌, ◌≡◌, ◌⊎◌, inl, inr, ℤ, zero, suc, List, [], ◌∷◌, map, All, refl, sym, subst, ◌∙◌, arith}
 use Rattle.std.specs.List.Sorted.{IsPermutation}
 use Rattle.std.proofs.lemmas.List.Sorted.{IsPermutation-map}
 use Rattle.sqlite.specs.declared.error.ErrorCode.TheVariants as code
@@ -17,7 +17,7 @@ use Rattle.sqlite.specs.State.{State, Shown, FailsToQuery, IsTooLate}
 use Rattle.sqlite.proofs.Callers.{reads_as}
 use Rattle.sqlite_rules.specs.Lists.{Has}
 use Rattle.reg_tables.specs.Layout.{IsLayout}
-use Rattle.reg_tables.specs.Reading.{HoldsReadable, CanBeRead, IsFault}
+use Rattle.reg_tables.specs.Reading.{HoldsReadable, CanBeRead, IsReadFault}
 use Rattle.reg_tables.specs.TableMaps.{Form}
 use Rattle.reg_tables.specs.Contents.{text_form, version_form, pair_form, kept_form}
 use Rattle.reg_tables.specs.Listings.{parts_of, entry_parts, Lists, IsReadableText, IsReadableVersion, IsReadablePair, IsReadableKept}
@@ -25,7 +25,7 @@ use Rattle.reg_tables.proofs.Members.{map-map}
 use Rattle.reg_tables.proofs.Queries.{plain_query, answer_has, answer_all}
 use Rattle.reg_tables.proofs.KeyedTables.{with_nothing}
 use Rattle.reg_tables.proofs.Statements.{TableQuery, program_of, IsQuery, laid_out, all_texts, all_texts_is, all_versions, all_versions_is, all_levels, all_levels_is, all_kept, all_kept_is, all_meta, all_meta_is}
-use Rattle.reg_tables.proofs.Faults.{Takes, takes_all_texts, takes_all_versions, takes_all_levels, takes_all_kept, takes_all_meta, query_faults, memory_is_fault}
+use Rattle.reg_tables.proofs.Faults.{Takes, takes_all_texts, takes_all_versions, takes_all_levels, takes_all_kept, takes_all_meta, query_faults, read_fault_until, memory_is_fault}
 use Rattle.reg_tables.proofs.Transactions.{shown_open}
 use Rattle.reg_tables.proofs.ReadableRows.{readable_text, readable_version, readable_level, readable_kept, readable_meta}
 
@@ -84,8 +84,8 @@ module _ {K V : Type 0} {form : Form K V} {is_readable : Row → Type 0} {q : Ta
   lists_lines entry lines read laid = subst (IsPermutation (map (parts_of form) (old.now.trees q.tree))) (read.2 ∙ sym (map-map (entry_parts form) entry lines)) (shown_parts laid read.0 read.1)
 
   -- of readable contents the lines fail with a fault alone
-  pub lines_fault : (e : Error) → (FailsToQuery q.sql [] old new e ⊎ IsTooLate q.sql [] old new e) ⊎ ((found : List Row) × Shown q.sql [] old new found × (All is_readable found → e ≡ SqliteFailure code.OutOfMemory)) → CanBeRead old → IsFault old e
-  lines_fault e (inl failed) can = query_faults q table.is [] table.takes old new can e failed
-  lines_fault e (inr read) can =
+  pub lines_fault : (end : State) (e : Error) → ((new.faults ≤ end.faults) × (FailsToQuery q.sql [] old new e ⊎ IsTooLate q.sql [] old new e)) ⊎ ((found : List Row) × Shown q.sql [] old new found × (All is_readable found → e ≡ SqliteFailure code.OutOfMemory)) → CanBeRead old → IsReadFault old end e
+  lines_fault end e (inl failed) can = read_fault_until old new end failed.0 e (query_faults q table.is [] table.takes old new can e failed.1)
+  lines_fault end e (inr read) can =
       let there = can (shown_open q.sql [] old new read.0 read.1) in
-      memory_is_fault old e (read.2 (shown_readable (laid_out there.holds there.is_layout) read.0 read.1 there))
+      memory_is_fault old end e (read.2 (shown_readable (laid_out there.holds there.is_layout) read.0 read.1 there))

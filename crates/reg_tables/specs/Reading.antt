@@ -1,11 +1,13 @@
 -- What a call that only reads leaves of a connection, and why a read or a write fails.
-use Rattle.std.specs.Prelude.{◌≡◌, ◌⊎◌, IsTrue, IsSome, false}
+use Rattle.std.specs.Prelude.{◌≡◌, ◌⊎◌, IsTrue, IsSome, false, ⊤}
+use Rattle.sqlite_disk.specs.Disk.{MoreFaults}
 use Rattle.sqlite.specs.State.{State, KeepsCommit, store_error}
 use Rattle.sqlite.specs.declared.error.ErrorCode.TheVariants as code
 use Rattle.sqlite.specs.declared.error.Error.{Error}
 use Rattle.sqlite.specs.declared.error.Error.TheVariants.{SqliteFailure}
 use Rattle.sqlite_schema.specs.declared.schema.Constraint.TheVariants.{PrimaryKey}
 use Rattle.sqlite_trees.specs.declared.error.StoreError.{StoreError}
+use Rattle.sqlite_trees.specs.declared.error.StoreError.TheVariants.{OutOfMemory}
 use Rattle.sqlite.specs.Schema.{Schema}
 use Rattle.sqlite.specs.Effect.{Database}
 use Rattle.reg_tables.specs.Layout.{IsLayout}
@@ -27,6 +29,19 @@ pub record HoldsReadable (db : Database) : Type 0 where
 -- while the connection is open, its tables hold what can be read
 abbrev pub CanBeRead : State → Type 0
 CanBeRead s = IsTrue s.is_open → HoldsReadable s.now
+
+-- the disk has failed or refused once more, or the connection was shut, which only such a fault does
+abbrev pub HasDiskFault : State → State → Type 0
+HasDiskFault old new = (old.is_open ≡ false) ⊎ MoreFaults old.faults new.faults
+
+-- what a read's error of the store comes of: of memory, or of the disk
+abbrev pub HasReason : State → State → StoreError → Type 0
+HasReason old new OutOfMemory = ⊤
+HasReason old new _ = HasDiskFault old new
+
+-- memory ran out or the disk failed, or the connection's limit on steps was met
+abbrev pub IsReadFault : State → State → Error → Type 0
+IsReadFault old new e = ((cause : StoreError) × (e ≡ store_error cause) × HasReason old new cause) ⊎ ((e ≡ SqliteFailure code.OperationInterrupted) × IsSome old.step_limit)
 
 -- the store failed or memory ran out, or the connection's limit on steps was met
 abbrev pub IsFault : State → Error → Type 0

@@ -7,7 +7,7 @@ ghost use Rattle.reg_tables.specs.Frames.{state_in, StaysInside, StaysIdle};
 ghost use Rattle.sqlite.specs.State.{HasCleanDisk};
 ghost use Rattle.reg_tables.specs.Contents.{Contents, Holds};
 ghost use Rattle.reg_tables.specs.Changes.{Changes, with_level, without_level};
-ghost use Rattle.reg_tables.specs.Reading.{CanBeRead, IsFault, IsWriteFault, IsInsertFault};
+ghost use Rattle.reg_tables.specs.Reading.{CanBeRead, IsReadFault, IsWriteFault, IsInsertFault};
 
 use crate::statement::{ask, run};
 use sqlite::{Alter, Connection, Error, Transaction, params};
@@ -73,7 +73,8 @@ pub fn own_level<S: Alter>(conn: &mut Connection<S>, subject: &str) -> Result<Op
         → MatchOption found (get contents.levels subject.now ≡ None)
         (λ level. get contents.levels subject.now ≡ Some (string_bytes level))) }
     ensures fault { HasCleanDisk (state S.Store conn.new) → IfErr result (λ e.
-        CanBeRead (state S.Store conn.old) → IsFault (state S.Store conn.old) e) }
+        CanBeRead (state S.Store conn.old)
+        → IsReadFault (state S.Store conn.old) (state S.Store conn.new) e) }
 {
     let rows = ask(
         conn,

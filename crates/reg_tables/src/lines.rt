@@ -1,6 +1,6 @@
 //! All rows of each table, with their rowids, as the test of a database needs them.
 
-ghost use Rattle.std.specs.Prelude.{◌≡◌, ◌⊎◌, ◌<◌, Bool, List, [], length, IfOk, IfErr, All, false, map};
+ghost use Rattle.std.specs.Prelude.{◌≡◌, ◌⊎◌, ◌<◌, ◌≤◌, Bool, List, [], length, IfOk, IfErr, All, false, map};
 ghost use Rattle.sqlite.specs.Order.{Row as SqlRow, column};
 ghost use Rattle.sqlite.specs.Held.{Held, state};
 ghost use Rattle.reg_tables.specs.Frames.{once_begun, StaysIdle};
@@ -8,7 +8,7 @@ ghost use Rattle.sqlite.specs.State.{HasCleanDisk, Shown, FailsToQuery, IsTooLat
 ghost use Rattle.reg_tables.specs.Layout.{IsLayout};
 ghost use Rattle.reg_tables.specs.Contents.{flag_cell, text_form, version_form, pair_form, kept_form};
 ghost use Rattle.reg_tables.specs.Listings.{Parts, parts_of, entry_parts, text_entry, version_entry, level_entry, kept_entry, meta_entry, ListsTexts, ListsVersions, ListsLevels, ListsKept, ListsMeta, IsReadableText, IsReadableVersion, IsReadablePair, IsReadableKept};
-ghost use Rattle.reg_tables.specs.Reading.{CanBeRead, IsFault};
+ghost use Rattle.reg_tables.specs.Reading.{CanBeRead, IsReadFault};
 
 use crate::kept::KeptReply;
 use crate::statement::ask;
@@ -196,8 +196,9 @@ fn lines_shown<S: Alter, L: Line + Drop>(
         × Shown sql.now [] (once_begun S.Store conn.old) (state S.Store last) found
         × (map L.shown found ≡ map L.parts lines.items)) }
     ensures failed { HasCleanDisk (state S.Store conn.new) → IfErr result (λ e. (last : Held S)
-        × ((FailsToQuery sql.now [] (once_begun S.Store conn.old) (state S.Store last) e
-        ⊎ IsTooLate sql.now [] (once_begun S.Store conn.old) (state S.Store last) e)
+        × ((((state S.Store last).faults ≤ (state S.Store conn.new).faults)
+        × (FailsToQuery sql.now [] (once_begun S.Store conn.old) (state S.Store last) e
+        ⊎ IsTooLate sql.now [] (once_begun S.Store conn.old) (state S.Store last) e))
         ⊎ ((found : List SqlRow)
         × Shown sql.now [] (once_begun S.Store conn.old) (state S.Store last) found
         × (All L.is_readable found → e ≡ Error.SqliteFailure ErrorCode.OutOfMemory)))) }
@@ -214,7 +215,8 @@ pub fn text_lines<S: Alter>(alloc: Global, conn: &mut Connection<S>) -> Result<V
         IsLayout (state S.Store conn.old).now.schema
         → ListsTexts (state S.Store conn.old).now lines.items) }
     ensures fault { HasCleanDisk (state S.Store conn.new) → IfErr result (λ e.
-        CanBeRead (state S.Store conn.old) → IsFault (state S.Store conn.old) e) }
+        CanBeRead (state S.Store conn.old)
+        → IsReadFault (state S.Store conn.old) (state S.Store conn.new) e) }
 {
     lines_shown(alloc, conn, "SELECT rowid, id, text FROM texts")
 }
@@ -230,7 +232,8 @@ pub fn version_lines<S: Alter>(
         IsLayout (state S.Store conn.old).now.schema
         → ListsVersions (state S.Store conn.old).now lines.items) }
     ensures fault { HasCleanDisk (state S.Store conn.new) → IfErr result (λ e.
-        CanBeRead (state S.Store conn.old) → IsFault (state S.Store conn.old) e) }
+        CanBeRead (state S.Store conn.old)
+        → IsReadFault (state S.Store conn.old) (state S.Store conn.new) e) }
 {
     lines_shown(
         alloc,
@@ -250,7 +253,8 @@ pub fn level_lines<S: Alter>(
         IsLayout (state S.Store conn.old).now.schema
         → ListsLevels (state S.Store conn.old).now lines.items) }
     ensures fault { HasCleanDisk (state S.Store conn.new) → IfErr result (λ e.
-        CanBeRead (state S.Store conn.old) → IsFault (state S.Store conn.old) e) }
+        CanBeRead (state S.Store conn.old)
+        → IsReadFault (state S.Store conn.old) (state S.Store conn.new) e) }
 {
     lines_shown(alloc, conn, "SELECT rowid, subject, level FROM levels")
 }
@@ -263,7 +267,8 @@ pub fn kept_lines<S: Alter>(alloc: Global, conn: &mut Connection<S>) -> Result<V
         IsLayout (state S.Store conn.old).now.schema
         → ListsKept (state S.Store conn.old).now lines.items) }
     ensures fault { HasCleanDisk (state S.Store conn.new) → IfErr result (λ e.
-        CanBeRead (state S.Store conn.old) → IsFault (state S.Store conn.old) e) }
+        CanBeRead (state S.Store conn.old)
+        → IsReadFault (state S.Store conn.old) (state S.Store conn.new) e) }
 {
     lines_shown(
         alloc,
@@ -280,7 +285,8 @@ pub fn meta_lines<S: Alter>(alloc: Global, conn: &mut Connection<S>) -> Result<V
         IsLayout (state S.Store conn.old).now.schema
         → ListsMeta (state S.Store conn.old).now lines.items) }
     ensures fault { HasCleanDisk (state S.Store conn.new) → IfErr result (λ e.
-        CanBeRead (state S.Store conn.old) → IsFault (state S.Store conn.old) e) }
+        CanBeRead (state S.Store conn.old)
+        → IsReadFault (state S.Store conn.old) (state S.Store conn.new) e) }
 {
     lines_shown(alloc, conn, "SELECT rowid, name, value FROM meta")
 }

@@ -7,7 +7,7 @@ ghost use Rattle.reg_tables.specs.Frames.{state_in, StaysInside, StaysIdle};
 ghost use Rattle.sqlite.specs.State.{HasCleanDisk};
 ghost use Rattle.reg_tables.specs.Contents.{Contents, Holds};
 ghost use Rattle.reg_tables.specs.Changes.{Changes, with_meta, without_meta, with_global};
-ghost use Rattle.reg_tables.specs.Reading.{CanBeRead, IsFault, IsWriteFault, IsInsertFault};
+ghost use Rattle.reg_tables.specs.Reading.{CanBeRead, IsReadFault, IsWriteFault, IsInsertFault};
 
 use crate::statement::{ask, run};
 use sqlite::{Alter, Connection, Error, Transaction, params};
@@ -68,7 +68,8 @@ pub fn global_level<S: Alter>(conn: &mut Connection<S>) -> Result<Option<String>
         → MatchOption found (get contents.meta (codes "global") ≡ None)
         (λ level. get contents.meta (codes "global") ≡ Some (string_bytes level))) }
     ensures fault { HasCleanDisk (state S.Store conn.new) → IfErr result (λ e.
-        CanBeRead (state S.Store conn.old) → IsFault (state S.Store conn.old) e) }
+        CanBeRead (state S.Store conn.old)
+        → IsReadFault (state S.Store conn.old) (state S.Store conn.new) e) }
 {
     let rows = ask(
         conn,

@@ -1,6 +1,6 @@
 //! One statement: a write in a transaction, or a query in a transaction of its own.
 
-ghost use Rattle.std.specs.Prelude.{◌≡◌, ◌⊎◌, ℕ, Ok, Err, IfErr, OnOk, IfOk, false};
+ghost use Rattle.std.specs.Prelude.{◌≡◌, ◌⊎◌, ◌≤◌, ℕ, Ok, Err, IfErr, OnOk, IfOk, false};
 ghost use Rattle.sqlite.specs.Held.{Held, state};
 ghost use Rattle.reg_tables.specs.Frames.{once_begun, state_in, StaysInside, StaysIdle};
 ghost use Rattle.sqlite.specs.State.{HasCleanDisk, ExecutesInside, Shown, FailsToQuery, IsTooLate};
@@ -41,6 +41,7 @@ pub(crate) fn ask<S: Alter>(
         × Shown sql.now (bound values.now) (once_begun S.Store conn.old)
         (state S.Store last) rows.items) }
     ensures failed { HasCleanDisk (state S.Store conn.new) → IfErr result (λ e. (last : Held S)
+        × ((state S.Store last).faults ≤ (state S.Store conn.new).faults)
         × (FailsToQuery sql.now (bound values.now) (once_begun S.Store conn.old)
         (state S.Store last) e
         ⊎ IsTooLate sql.now (bound values.now) (once_begun S.Store conn.old)

@@ -7,7 +7,7 @@ ghost use Rattle.reg_tables.specs.Frames.{state_in, StaysInside, StaysIdle};
 ghost use Rattle.sqlite.specs.State.{HasCleanDisk};
 ghost use Rattle.reg_tables.specs.Contents.{Contents, Holds};
 ghost use Rattle.reg_tables.specs.Changes.{with_text};
-ghost use Rattle.reg_tables.specs.Reading.{CanBeRead, IsFault, IsWriteFault};
+ghost use Rattle.reg_tables.specs.Reading.{CanBeRead, IsReadFault, IsWriteFault};
 
 use crate::statement::{ask, run};
 use sqlite::{Alter, Connection, Error, Transaction, params};
@@ -40,7 +40,8 @@ pub fn text_of<S: Alter>(conn: &mut Connection<S>, id: u32) -> Result<Option<Str
         → MatchOption found (get contents.texts id ≡ None)
         (λ text. get contents.texts id ≡ Some (string_bytes text))) }
     ensures fault { HasCleanDisk (state S.Store conn.new) → IfErr result (λ e.
-        CanBeRead (state S.Store conn.old) → IsFault (state S.Store conn.old) e) }
+        CanBeRead (state S.Store conn.old)
+        → IsReadFault (state S.Store conn.old) (state S.Store conn.new) e) }
 {
     let rows = ask(conn, "SELECT text FROM texts WHERE id = ?1", params![id])?;
     match rows.first() {

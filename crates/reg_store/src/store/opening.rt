@@ -40,7 +40,7 @@ impl<S: Alter> Store<S> {
 
         // Over tables that spell a registry no error but these two comes, and a newer layout is told.
         ensures fault { IfErr result (λ e. HasCleanDisk (state S.Store e.1)
-            → IsFaultUnopened (state S.Store connection) e.0) }
+            → IsFaultUnopened (state S.Store connection) (state S.Store e.1) e.0) }
         ensures refused { IfErr result (λ e. HasCleanDisk (state S.Store e.1)
             → IsRefusedBy (state S.Store connection).now e.0) }
         ensures newer { IfErr result (λ e. HasCleanDisk (state S.Store e.1)
@@ -77,7 +77,7 @@ fn make_ready<S: Alter>(alloc: Global, conn: &mut Connection<S>) -> Result<(), S
     ensures done { HasCleanDisk (state S.Store conn.new)
         → OnOk result (OpensOver (state S.Store conn.old) (state S.Store conn.new)) }
     ensures fault { HasCleanDisk (state S.Store conn.new)
-        → IfErr result (IsFaultUnopened (state S.Store conn.old)) }
+        → IfErr result (IsFaultUnopened (state S.Store conn.old) (state S.Store conn.new)) }
     ensures refused { HasCleanDisk (state S.Store conn.new)
         → IfErr result (IsRefusedBy (state S.Store conn.old).now) }
     ensures newer { HasCleanDisk (state S.Store conn.new)

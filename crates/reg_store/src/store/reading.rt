@@ -14,7 +14,7 @@ ghost use Rattle.reg_tables.specs.Replies.{kept_row};
 ghost use Rattle.reg_store.specs.Replies.{Kept, entry_told};
 ghost use Rattle.reg_store.specs.Spells.{SpellsWhileOpen, row_of};
 ghost use Rattle.reg_store.specs.Failures.{IsFaultOver};
-ghost use Rattle.reg_store.specs.Stores.{state_of, KeepsStore};
+ghost use Rattle.reg_store.specs.Stores.{state_of, has_failed, KeepsStore};
 
 use crate::error::StoreError;
 use crate::store::Store;
@@ -34,8 +34,8 @@ impl<S: Alter> Store<S> {
         ensures found { HasCleanDisk (state_of self.new) → IfOk result (λ found.
             (g : Registry) (k : Kept) → SpellsWhileOpen (state_of self.old) g k
             → k key.now ≡ option_map (λ kept. entry_told (string_bytes kept.0) kept.1) found) }
-        ensures fault { HasCleanDisk (state_of self.new)
-            → IfErr result (IsFaultOver (state_of self.old)) }
+        ensures fault { HasCleanDisk (state_of self.new) → has_failed self.old ≡ false
+            → IfErr result (IsFaultOver (state_of self.old) (state_of self.new)) }
         ensures same { HasCleanDisk (state_of self.new) → (g : Registry) (k : Kept)
             → SpellsWhileOpen (state_of self.old) g k → SpellsWhileOpen (state_of self.new) g k }
         ensures crash { HasCleanDisk (state_of self.new) → (db : Trees)
@@ -60,8 +60,8 @@ impl<S: Alter> Store<S> {
         ensures view { HasCleanDisk (state_of self.new) → IfOk result (λ view.
             (g : Registry) (k : Kept) → SpellsWhileOpen (state_of self.old) g k
             → IsViewOf view g command.now) }
-        ensures fault { HasCleanDisk (state_of self.new)
-            → IfErr result (IsFaultOver (state_of self.old)) }
+        ensures fault { HasCleanDisk (state_of self.new) → has_failed self.old ≡ false
+            → IfErr result (IsFaultOver (state_of self.old) (state_of self.new)) }
         ensures same { HasCleanDisk (state_of self.new) → (g : Registry) (k : Kept)
             → SpellsWhileOpen (state_of self.old) g k → SpellsWhileOpen (state_of self.new) g k }
         ensures crash { HasCleanDisk (state_of self.new) → (db : Trees)
@@ -88,7 +88,7 @@ fn kept_under<S: Alter>(
         (g : Registry) (k : Kept) → SpellsWhileOpen (state S.Store conn.old) g k
         → k key.now ≡ option_map (λ kept. entry_told (string_bytes kept.0) kept.1) found) }
     ensures fault { HasCleanDisk (state S.Store conn.new)
-        → IfErr result (IsFaultOver (state S.Store conn.old)) }
+        → IfErr result (IsFaultOver (state S.Store conn.old) (state S.Store conn.new)) }
 {
     match kept_reply(conn, key.as_str())? {
         None => Ok(None),
@@ -125,7 +125,7 @@ fn view_for<S: Alter>(conn: &mut Connection<S>, command: &Command) -> Result<Vie
         (g : Registry) (k : Kept) → SpellsWhileOpen (state S.Store conn.old) g k
         → IsViewOf view g command.now) }
     ensures fault { HasCleanDisk (state S.Store conn.new)
-        → IfErr result (IsFaultOver (state S.Store conn.old)) }
+        → IfErr result (IsFaultOver (state S.Store conn.old) (state S.Store conn.new)) }
 {
     let own = match command.subject() {
         Some(subject) => own(conn, subject)?,
@@ -144,7 +144,7 @@ fn own<S: Alter>(conn: &mut Connection<S>, subject: &Subject) -> Result<Option<L
         (g : Registry) (k : Kept) → SpellsWhileOpen (state S.Store conn.old) g k
         → own ≡ g.own subject.now) }
     ensures fault { HasCleanDisk (state S.Store conn.new)
-        → IfErr result (IsFaultOver (state S.Store conn.old)) }
+        → IfErr result (IsFaultOver (state S.Store conn.old) (state S.Store conn.new)) }
 {
     match own_level(conn, subject.as_str())? {
         None => Ok(None),
@@ -161,7 +161,7 @@ fn global<S: Alter>(conn: &mut Connection<S>) -> Result<Level, StoreError>
         (g : Registry) (k : Kept) → SpellsWhileOpen (state S.Store conn.old) g k
         → level ≡ g.global) }
     ensures fault { HasCleanDisk (state S.Store conn.new)
-        → IfErr result (IsFaultOver (state S.Store conn.old)) }
+        → IfErr result (IsFaultOver (state S.Store conn.old) (state S.Store conn.new)) }
 {
     match global_level(conn)? {
         None => Err(StoreError::NotARegistry),

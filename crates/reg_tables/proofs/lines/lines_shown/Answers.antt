@@ -10,7 +10,7 @@ returns-clause-read g c clean =
 pub returns-in_err-rows-clause-failed : goal.returns-in_err-rows-clause-failed
 returns-in_err-rows-clause-failed g c clean =
     let failed = c.in_err-rows.ensures.failed clean in
-    if_err_is c.from_residual.result _ c.in_err-rows.field-0.0 c.from_residual.ensures.1 (failed.0, inl failed.1)
+    if_err_is c.from_residual.result _ c.in_err-rows.field-0.0 c.from_residual.ensures.1 (failed.0, inl (failed.1, failed.2))
 
 pub returns-clause-failed : goal.returns-clause-failed
 returns-clause-failed g c clean =

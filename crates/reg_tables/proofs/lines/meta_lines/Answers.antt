@@ -12,5 +12,5 @@ returns-clause-listed g c clean =
 
 pub returns-clause-fault : goal.returns-clause-fault
 returns-clause-fault g c clean =
-    if_err c.lines_shown.result (λ e why. lines_fault shows_meta (once_begun g.S.Store c.args.conn.now) (state g.S.Store why.0) e why.1)
+    if_err c.lines_shown.result (λ e why. lines_fault shows_meta (once_begun g.S.Store c.args.conn.now) (state g.S.Store why.0) (state g.S.Store c.lines_shown.new.conn) e why.1)
     (c.lines_shown.ensures.failed clean)

@@ -1,4 +1,4 @@
-use Rattle.std.proofs.Common.{◌≡◌, ◌∙◌, sym, ap, subst, arith, rules}
+use Rattle.std.proofs.Common.{◌≡◌, ◌≤◌, ◌∙◌, sym, ap, subst, arith, rules}
 use Rattle.sqlite.specs.Held.{Held, state}
 use Rattle.sqlite.specs.State.{HasCleanDisk, KeepsCommit}
 use Rattle.reg_tables.specs.Reading.{OnlyReads}
@@ -19,7 +19,8 @@ returns-clause-failed g c clean =
     let same : end ≡ c.conn-1.given.0 = search rules in
     let late : HasCleanDisk (state g.S.Store end) = search rules in
     let early : HasCleanDisk (state g.S.Store c.query_all-rows.new.self.conn.now) = omega (arith, c.rollback.ensures.survives.clean) in
-    if_err c.query_all-rows.result (λ e failed. (c.query_all-rows.new.self.conn.now, rw c.transaction-tx.ensures.begun at failed)) (c.query_all-rows.ensures.err early)
+    let up : (state g.S.Store c.query_all-rows.new.self.conn.now).faults ≤ (state g.S.Store c.conn-1.given.0).faults = subst (λ h. (state g.S.Store c.query_all-rows.new.self.conn.now).faults ≤ (state g.S.Store h).faults) same c.rollback.ensures.survives.counts in
+    if_err c.query_all-rows.result (λ e failed. (c.query_all-rows.new.self.conn.now, up, rw c.transaction-tx.ensures.begun at failed)) (c.query_all-rows.ensures.err early)
 
 pub returns-clause-frame : goal.returns-clause-frame
 returns-clause-frame g c =

@@ -4,7 +4,7 @@ use Rattle.sqlite.specs.Held.{state}
 use Rattle.reg_tables.specs.Layout.{layout}
 use Rattle.reg_tables.specs.Frames.{once_begun}
 use Rattle.reg_tables.proofs.TableReads.{finds_text, read_back, text_read}
-use Rattle.reg_tables.proofs.Faults.{takes_text, query_faults, memory_is_fault, passed_on}
+use Rattle.reg_tables.proofs.Faults.{takes_text, query_faults, read_fault_until, memory_is_fault, passed_on}
 use Rattle.reg_tables.proofs.Statements.{find_text, find_text_is}
 use Rattle.sqlite.specs.declared.types.Value.TheVariants.{Int}
 use Rattle.reg_tables.proofs.texts.text_of.Goals as goal
@@ -25,19 +25,19 @@ returns-clause-found g c clean contents holds =
 pub returns-in_err-rows-clause-fault : goal.returns-in_err-rows-clause-fault
 returns-in_err-rows-clause-fault g c clean =
     let failed = c.in_err-rows.ensures.failed clean in
-    passed_on (state g.S.Store c.args.conn.now) c.from_residual.result c.in_err-rows.field-0.0 c.from_residual.ensures.1
+    passed_on (state g.S.Store c.args.conn.now) (state g.S.Store c.ask.new.conn) c.from_residual.result c.in_err-rows.field-0.0 c.from_residual.ensures.1
     (λ can.
-    query_faults find_text find_text_is (Int (pos c.args.id) ∷ []) (takes_text c.args.id) (once_begun g.S.Store c.args.conn.now)
-    (state g.S.Store failed.0) can c.in_err-rows.field-0.0 (rw c.params-to_sql.ensures at failed.1))
+    read_fault_until (once_begun g.S.Store c.args.conn.now) (state g.S.Store failed.0) (state g.S.Store c.ask.new.conn) failed.1 c.in_err-rows.field-0.0 (query_faults find_text find_text_is (Int (pos c.args.id) ∷ []) (takes_text c.args.id) (once_begun g.S.Store c.args.conn.now)
+    (state g.S.Store failed.0) can c.in_err-rows.field-0.0 (rw c.params-to_sql.ensures at failed.2)))
 
 pub returns-in_err-get-in-Some-clause-fault : goal.returns-in_err-get-in-Some-clause-fault
 returns-in_err-get-in-Some-clause-fault g c clean =
     let shown = c.in_ok-rows.ensures.shown clean in
     let it = c.in_err-get-in-Some.ensures in
-    passed_on (state g.S.Store c.args.conn.now) c.from_residual-in_err-get-in-Some.result c.in_err-get-in-Some.field-0.0 c.from_residual-in_err-get-in-Some.ensures.1
+    passed_on (state g.S.Store c.args.conn.now) (state g.S.Store c.ask.new.conn) c.from_residual-in_err-get-in-Some.result c.in_err-get-in-Some.field-0.0 c.from_residual-in_err-get-in-Some.ensures.1
     (λ can.
     let there = can (c.in_ok-rows.ensures.frame.was_open clean) in
     let found = finds_text (once_begun g.S.Store c.args.conn.now) (state g.S.Store shown.0) there.schema there.contents there.holds there.is_layout c.args.id c.in_ok-rows.rows.items (Some c.in-Some.row.now)
     (c.in-Some.ensures.value ∙ ap (λ (l : List Row). slice_get l 0) c.deref.ensures.value) (rw c.params-to_sql.ensures at shown.1) in
-    memory_is_fault (state g.S.Store c.args.conn.now) c.in_err-get-in-Some.field-0.0
+    memory_is_fault (state g.S.Store c.args.conn.now) (state g.S.Store c.ask.new.conn) c.in_err-get-in-Some.field-0.0
     (text_read c.in-Some.row.now found.0 c.in_err-get-in-Some.field-0.0 found.2 (there.readable.texts c.args.id found.0 found.1).1 it.named it.kind))

@@ -20,8 +20,9 @@ returns-in-Some-clause-found g c clean =
 
 pub returns-in_err-global_level-clause-fault : goal.returns-in_err-global_level-clause-fault
 returns-in_err-global_level-clause-fault g c clean =
-    let s = state g.S.Store c.args.conn.now in
-    passed (IsFaultOver s) c.from_residual.result _ c.from_residual.ensures.1 (fault_over s c.in_err-global_level.field-0.0 c.requires.unlimited (c.in_err-global_level.ensures.fault clean))
+    let old = state g.S.Store c.args.conn.now in
+    let new = state g.S.Store c.global_level.new.conn in
+    passed (IsFaultOver old new) c.from_residual.result _ c.from_residual.ensures.1 (fault_over old new c.in_err-global_level.field-0.0 c.requires.unlimited (c.in_err-global_level.ensures.fault clean))
 
 pub returns-in-None-clause-fault : goal.returns-in-None-clause-fault
 returns-in-None-clause-fault g c clean registry k over =

@@ -11,8 +11,9 @@ use Rattle.reg_store.proofs.store.reading.kept_under.Goals as goal
 
 pub returns-in_err-kept_reply-clause-fault : goal.returns-in_err-kept_reply-clause-fault
 returns-in_err-kept_reply-clause-fault g c clean =
-    let s = state g.S.Store c.args.conn.now in
-    passed (IsFaultOver s) c.from_residual.result _ c.from_residual.ensures.1 (fault_over s c.in_err-kept_reply.field-0.0 c.requires.unlimited (c.in_err-kept_reply.ensures.fault clean))
+    let old = state g.S.Store c.args.conn.now in
+    let new = state g.S.Store c.kept_reply.new.conn in
+    passed (IsFaultOver old new) c.from_residual.result _ c.from_residual.ensures.1 (fault_over old new c.in_err-kept_reply.field-0.0 c.requires.unlimited (c.in_err-kept_reply.ensures.fault clean))
 
 pub returns-in_err-told_in-in-Some-clause-fault : goal.returns-in_err-told_in-in-Some-clause-fault
 returns-in_err-told_in-in-Some-clause-fault g c clean =
