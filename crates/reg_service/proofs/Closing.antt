@@ -1,7 +1,7 @@
 -- What calls leave of the connection, one after the other.
 use Rattle.std.proofs.Common.{inl, inr, ℕ, ◌+◌, ◌≤◌, min, arith}
 use Rattle.sqlite.specs.State.{State, HasCleanDisk}
-use Rattle.reg_service.specs.Crashes.{KeepsOpen}
+use Rattle.reg_store.specs.Stores.{KeepsOpen}
 
 -- more faults stay more
 still_more : (top a b c : ℕ) → min (a + 1) top ≤ b → b ≤ c → min (a + 1) top ≤ c

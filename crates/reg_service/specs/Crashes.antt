@@ -1,8 +1,7 @@
 -- What a crash may leave of the exchanges: all that was acknowledged, with or without the one delivery under way.
-use Rattle.std.specs.Prelude.{◌≡◌, ◌⊎◌, ◌≤◌, IsTrue, List, [], ◌∷◌, ◌++◌, Result, Ok, Err}
-use Rattle.sqlite_disk.specs.Disk.{MoreFaults}
+use Rattle.std.specs.Prelude.{◌≡◌, ◌⊎◌, IsTrue, List, [], ◌∷◌, ◌++◌, Result, Ok, Err}
 use Rattle.sqlite.specs.Tree.{Trees}
-use Rattle.sqlite.specs.State.{State, HasCleanDisk}
+use Rattle.sqlite.specs.State.{State}
 use Rattle.reg_core.specs.declared.code.Code.TheVariants.{BackendFault}
 use Rattle.reg_core.specs.Machine.{run_commands}
 use Rattle.reg_core.specs.Registry.{Registry}
@@ -43,9 +42,3 @@ LeavesOne (Err e) old db g k = old.may_leave db ⊎ Leaves db g k
 -- SQLite, transactions: a crash leaves nothing that it didn't leave before
 abbrev pub LeavesNoMore : State → State → Type 0
 LeavesNoMore old new = (db : Trees) → new.may_leave db → old.may_leave db
-
--- SQLite, connections: no fault is forgotten, no connection is opened, and only a fault of the disk shuts one
-pub record KeepsOpen (old new : State) : Type 0 where
-  pub counts : old.faults ≤ new.faults
-  pub stays_shut : HasCleanDisk new → IsTrue new.is_open → IsTrue old.is_open
-  pub closes : HasCleanDisk new → IsTrue old.is_open → IsTrue new.is_open ⊎ MoreFaults old.faults new.faults

@@ -1,5 +1,4 @@
-ghost use Rattle.std.specs.Prelude.{◌≡◌, ◌≢◌, ◌⊎◌, ◌≤◌, [], ◌∷◌, zip, length, vec_len, IsTrue, IfOk, OnOk, OnErr};
-ghost use Rattle.sqlite_disk.specs.Disk.{MoreFaults};
+ghost use Rattle.std.specs.Prelude.{◌≡◌, ◌≢◌, ◌⊎◌, [], ◌∷◌, zip, length, vec_len, IsTrue, IfOk, OnOk, OnErr};
 ghost use Rattle.sqlite.specs.Tree.{Trees};
 ghost use Rattle.sqlite.specs.State.{HasCleanDisk};
 ghost use Rattle.reg_core.specs.CommandTexts.{command_text};
@@ -9,9 +8,9 @@ ghost use Rattle.reg_core.specs.Replies.{IsOwnReply, fault};
 ghost use Rattle.reg_core.specs.Views.{changed};
 ghost use Rattle.reg_store.specs.Replies.{Kept, kept_with};
 ghost use Rattle.reg_store.specs.Spells.{Leaves, IsOpenOver, SpellsWhileOpen};
-ghost use Rattle.reg_store.specs.Stores.{has_failed};
+ghost use Rattle.reg_store.specs.Stores.{has_failed, KeepsOpen};
 ghost use Rattle.reg_service.specs.Deliveries.{served, RepeatsAgree, NoOtherAnswers};
-ghost use Rattle.reg_service.specs.Crashes.{IsFoundAfter, reply_of, LeavesOne, LeavesNoMore, KeepsOpen};
+ghost use Rattle.reg_service.specs.Crashes.{IsFoundAfter, reply_of, LeavesOne, LeavesNoMore};
 ghost use Rattle.reg_service.specs.Services.{store_in, state_in, SpellsOn, ServesOver};
 
 use crate::delivery::Delivery;
@@ -82,13 +81,7 @@ impl<S: Alter> Service<S> {
         ensures settled { (g : Registry) (k : Kept) → IsOpenOver (state_in self.new) g k
             → (db : Trees) → (state_in self.new).may_leave db → Leaves db g k }
 
-        // No fault is forgotten, no connection is opened, and only a fault of the disk shuts one.
-        ensures counts { (state_in self.old).faults ≤ (state_in self.new).faults }
-        ensures stays_shut { HasCleanDisk (state_in self.new)
-            → IsTrue (state_in self.new).is_open → IsTrue (state_in self.old).is_open }
-        ensures closes { HasCleanDisk (state_in self.new) → IsTrue (state_in self.old).is_open
-            → IsTrue (state_in self.new).is_open
-            ⊎ MoreFaults (state_in self.old).faults (state_in self.new).faults }
+        ensures keeps { KeepsOpen (state_in self.old) (state_in self.new) }
     {
         match self.try_answer(delivery) {
             Ok(reply) => reply,
@@ -125,13 +118,7 @@ impl<S: Alter> Service<S> {
         ensures settled { (g : Registry) (k : Kept) → IsOpenOver (state_in self.new) g k
             → (db : Trees) → (state_in self.new).may_leave db → Leaves db g k }
 
-        // No fault is forgotten, no connection is opened, and only a fault of the disk shuts one.
-        ensures counts { (state_in self.old).faults ≤ (state_in self.new).faults }
-        ensures stays_shut { HasCleanDisk (state_in self.new)
-            → IsTrue (state_in self.new).is_open → IsTrue (state_in self.old).is_open }
-        ensures closes { HasCleanDisk (state_in self.new) → IsTrue (state_in self.old).is_open
-            → IsTrue (state_in self.new).is_open
-            ⊎ MoreFaults (state_in self.old).faults (state_in self.new).faults }
+        ensures keeps { KeepsOpen (state_in self.old) (state_in self.new) }
     {
         let mut replies = Vec::with_capacity(self.alloc, list.len())?;
         for delivery in list {

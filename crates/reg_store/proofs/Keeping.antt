@@ -24,9 +24,7 @@ module _ {S T : Type 0} {g : Ghosts S} (settles : Settles g) (old new : Store S 
         failed_now = (λ _. failed, λ _. refl);
         clean = λ clean. clean;
         was_open = λ _. tt;
-        counts = omega arith;
-        stays_shut = λ _ is_open. is_open;
-        closes = λ _ is_open. inl is_open;
+        connection = record { counts = omega arith; stays_shut = λ _ is_open. is_open; closes = λ _ is_open. inl is_open };
         settled = λ is_open db it. settles old.conn.store db is_open it;
       }))
 
@@ -38,9 +36,7 @@ module _ {S T : Type 0} {g : Ghosts S} (settles : Settles g) (old new : Store S 
       failed_now = failed_now;
       clean = λ clean. omega (arith, survives.clean);
       was_open = was_open;
-      counts = survives.counts;
-      stays_shut = stays_shut;
-      closes = survives.closes;
+      connection = record { counts = survives.counts; stays_shut = stays_shut; closes = survives.closes };
       settled = λ is_open db it. settles new.conn.store db is_open it;
     }
 

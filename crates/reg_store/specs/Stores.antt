@@ -25,6 +25,12 @@ has_failed store = store.failed
 abbrev pub LeavesCommit : State → Type 0
 LeavesCommit s = IsTrue s.is_open → (db : Trees) → s.may_leave db → db ≡ s.committed.trees
 
+-- SQLite, connections: no fault is forgotten, no connection is opened, and only a fault of the disk shuts one
+pub record KeepsOpen (old new : State) : Type 0 where
+  pub counts : old.faults ≤ new.faults
+  pub stays_shut : HasCleanDisk new → IsTrue new.is_open → IsTrue old.is_open
+  pub closes : HasCleanDisk new → IsTrue old.is_open → IsTrue new.is_open ⊎ MoreFaults old.faults new.faults
+
 -- this project's choice: what each call of a store keeps, whatever it answers
 pub record KeepsStore {S T : Type 0} {g : Ghosts S} (old new : Store S g) (result : Result T StoreError) : Type 0 where
   -- after a fault of the disk a call does nothing
@@ -33,9 +39,5 @@ pub record KeepsStore {S T : Type 0} {g : Ghosts S} (old new : Store S g) (resul
   pub clean : HasCleanDisk (state_of new) → HasCleanDisk (state_of old)
   -- it succeeds over an open connection alone
   pub was_open : HasCleanDisk (state_of new) → OnOk result (IsTrue (state_of old).is_open)
-  -- no fault is forgotten
-  pub counts : (state_of old).faults ≤ (state_of new).faults
-  -- it opens no connection, and only a fault of the disk shuts one
-  pub stays_shut : HasCleanDisk (state_of new) → IsTrue (state_of new).is_open → IsTrue (state_of old).is_open
-  pub closes : HasCleanDisk (state_of new) → IsTrue (state_of old).is_open → IsTrue (state_of new).is_open ⊎ MoreFaults (state_of old).faults (state_of new).faults
+  pub connection : KeepsOpen (state_of old) (state_of new)
   pub settled : LeavesCommit (state_of new)

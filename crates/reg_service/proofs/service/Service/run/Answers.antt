@@ -35,7 +35,7 @@ loop-delivery-preserved g c =
       clean = λ h. i.clean (c.answer-reply.ensures.clean h);
       served = λ h. next_over _ _ _ c.args.list.now c.loop-delivery.delivery-index c.delivery-item.result c.loop-delivery.replies.items c.push_reserved.new.self.items c.answer-reply.result
           c.loop-delivery-test.true c.delivery-item.is i.count more.items (i.served (c.answer-reply.ensures.clean h)) (c.answer-reply.ensures.served h);
-      keeps = keeps_then (state_in c.args.self.now) (state_in c.loop-delivery.self) (state_in c.answer-reply.new.self) one.clean i.keeps (record { counts = one.counts; stays_shut = one.stays_shut; closes = one.closes });
+      keeps = keeps_then (state_in c.args.self.now) (state_in c.loop-delivery.self) (state_in c.answer-reply.new.self) one.clean i.keeps one.keeps;
       crash = λ h registry k over db it. found_next (state_in c.args.self.now) (state_in c.loop-delivery.self) c.args.list.now c.loop-delivery.delivery-index c.delivery-item.result c.loop-delivery.replies.items c.push_reserved.new.self.items c.answer-reply.result
           c.loop-delivery-test.true c.delivery-item.is i.count more.items registry k db over (i.served (one.clean h)) (λ was. i.crash (one.clean h) registry k over db was) (λ registry2 k2 mid. one.crash h registry2 k2 mid db it)
           (λ is_shut. let none = one.shut h is_shut in (none.0, none.1 db it));
@@ -64,12 +64,3 @@ returns-in_err-replies-clause-settled g c registry k over db it = leaves_open (s
 
 pub returns-clause-settled : goal.returns-clause-settled
 returns-clause-settled g c registry k over db it = leaves_open (state_in c.loop-delivery.self) registry k db (g.met.S.Store.settled c.loop-delivery.self.store.conn.store db) over it
-
-pub returns-clause-counts : goal.returns-clause-counts
-returns-clause-counts g c = c.loop-delivery.invariant.keeps.counts
-
-pub returns-clause-stays_shut : goal.returns-clause-stays_shut
-returns-clause-stays_shut g c = c.loop-delivery.invariant.keeps.stays_shut
-
-pub returns-clause-closes : goal.returns-clause-closes
-returns-clause-closes g c = c.loop-delivery.invariant.keeps.closes

@@ -5,7 +5,8 @@ use Rattle.sqlite.specs.State.{HasCleanDisk}
 use Rattle.reg_core.specs.Registry.{Registry}
 use Rattle.reg_store.specs.Replies.{Kept}
 use Rattle.reg_store.specs.Spells.{IsOpenOver}
-use Rattle.reg_service.specs.Crashes.{IsFoundAfter, KeepsOpen}
+use Rattle.reg_store.specs.Stores.{KeepsOpen}
+use Rattle.reg_service.specs.Crashes.{IsFoundAfter}
 use Rattle.reg_service.specs.Deliveries.{served}
 use Rattle.reg_service.specs.Services.{state_in, ServesOver}
 use Rattle.reg_service.proofs.service.Service.run.Given as goal
