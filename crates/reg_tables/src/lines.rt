@@ -171,14 +171,15 @@ impl Line for MetaLine {
     }
 }
 
-fn lines_in<L: Line + Drop>(alloc: Global, rows: &[Row]) -> Result<Vec<L>, Error>
-    ensures ok { IfOk result (λ lines. map L.shown rows.now ≡ map L.parts lines.items) }
-    ensures err { IfErr result (λ e. All L.is_readable rows.now
+/// The lines of the rows. Each row is let go once it is read, so no text is held twice.
+fn lines_in<L: Line + Drop>(alloc: Global, rows: Vec<Row>) -> Result<Vec<L>, Error>
+    ensures ok { IfOk result (λ lines. map L.shown rows.items ≡ map L.parts lines.items) }
+    ensures err { IfErr result (λ e. All L.is_readable rows.items
         → e ≡ Error.SqliteFailure ErrorCode.OutOfMemory) }
 {
     let mut lines = Vec::new(alloc);
     for row in rows {
-        lines.push(L::read(row)?)?;
+        lines.push(L::read(&row)?)?;
     }
     Ok(lines)
 }
@@ -204,7 +205,7 @@ fn lines_shown<S: Alter, L: Line + Drop>(
         × (All L.is_readable found → e ≡ Error.SqliteFailure ErrorCode.OutOfMemory)))) }
 {
     let rows = ask(conn, sql, &[])?;
-    lines_in(alloc, rows.as_slice())
+    lines_in(alloc, rows)
 }
 
 /// All rows of `texts`, in any order. It fails too where a row holds what the line can't.
