@@ -21,7 +21,7 @@ use reg_core::{Code, Reply};
 use reg_service::Service;
 use sqlite::Alter;
 use std::alloc::Global;
-use std::io::{Read, Write};
+use std::io::{ErrorKind, Read, Write};
 
 /// How a session ended.
 #[derive(Clone, Copy, Debug, PartialEq, Eq)]
@@ -71,24 +71,29 @@ pub enum Sent {
     NoRoom,
 }
 
-/// Writes the bytes. Where it answers false, a beginning of them went out.
+/// Writes the bytes, and tries again where a write was interrupted. Where it answers false, a beginning
+/// of them went out.
 pub fn put<W: Write>(writer: &mut W, bytes: &[u8]) -> bool
     ensures front { (n : ℕ) × (n ≤ length bytes.now)
         × Appends (W.contents writer.old) (W.contents writer.new) (take n bytes.now) }
     ensures whole { IsTrue result → Appends (W.contents writer.old) (W.contents writer.new) bytes.now }
 {
     let mut at = 0;
-    while at < bytes.len() {
+    for _ in 0..u64::MAX {
+        if at == bytes.len() {
+            return true;
+        }
         match writer.write(&bytes[at..]) {
             Ok(0) => return false,
             Ok(n) => at += n,
+            Err(error) if error.kind() == ErrorKind::Interrupted => {}
             Err(_) => return false,
         }
     }
-    true
+    false
 }
 
-/// Reads to the end, or to an error.
+/// Reads to the end, or to an error, and tries again where a read was interrupted.
 fn read_all<R: Read>(alloc: Global, reader: &mut R) -> (Vec<u8>, Reading)
     ensures reads { (lost : List ℕ)
         × Consumes (R.remaining reader.old) (R.remaining reader.new) (result.0.items ++ lost)
@@ -105,6 +110,7 @@ fn read_all<R: Read>(alloc: Global, reader: &mut R) -> (Vec<u8>, Reading)
                     return (bytes, Reading::NoRoom);
                 }
             }
+            Err(error) if error.kind() == ErrorKind::Interrupted => {}
             Err(_) => return (bytes, Reading::Failed),
         }
     }
