@@ -1,0 +1,68 @@
+//! The times of deliveries.
+
+use crate::deliveries::{Kind, deliveries_of, keys_of};
+use anyhow::{Result, ensure};
+use reg_service::{Delivery, Service};
+use sqlite::Alter;
+use std::rt::Clock;
+use std::time::{Duration, Instant};
+
+/// The kinds that are measured over a registry. The one that makes it larger is the last.
+const KINDS: [Kind; 5] = [
+    Kind::Global,
+    Kind::LevelOf,
+    Kind::Repeat,
+    Kind::NoKey,
+    Kind::NewKey,
+];
+
+/// Prints how long so many calls took.
+fn report(rt: &impl Print, name: &str, count: usize, took: Duration) -> Result<()> {
+    let micros = took.as_micros().max(1);
+    let rate = (count as u128).saturating_mul(1_000_000) / micros;
+    println!(rt; "{name:<18} {count:>8} in {micros:>10} us, {rate:>7} a second")?;
+    Ok(())
+}
+
+/// How long the service takes for the deliveries, each of which it has to carry out.
+fn time_of<S: Alter>(
+    rt: &impl Clock,
+    service: &mut Service<S>,
+    list: &[Delivery],
+) -> Result<Duration> {
+    let start = Instant::now(rt)?;
+    let replies = service.run(list)?;
+    let took = start.elapsed(rt)?;
+    ensure!(
+        replies.iter().all(|reply| reply.status() == 200),
+        "a delivery was refused"
+    );
+    Ok(took)
+}
+
+/// Measures so many deliveries of a kind, over a registry with so many kept keys.
+pub fn measure<S: Alter>(
+    rt: &(impl Clock + Print + AllocGlobal),
+    service: &mut Service<S>,
+    kind: Kind,
+    kept: usize,
+    count: usize,
+) -> Result<()> {
+    let keys = keys_of(rt.alloc(), kind, kept, count)?;
+    let list = deliveries_of(rt.alloc(), kind, kept, keys.as_slice())?;
+    let took = time_of(rt, service, list.as_slice())?;
+    report(rt, kind.name(), count, took)
+}
+
+/// Measures so many deliveries of each kind, over a registry with so many kept keys.
+pub fn measure_all<S: Alter>(
+    rt: &(impl Clock + Print + AllocGlobal),
+    service: &mut Service<S>,
+    kept: usize,
+    count: usize,
+) -> Result<()> {
+    for kind in KINDS {
+        measure(rt, service, kind, kept, count)?;
+    }
+    Ok(())
+}
