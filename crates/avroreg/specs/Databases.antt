@@ -23,8 +23,7 @@ pub record FailsToMake (old new : State) (error : StoreError) : Type 0 where
   pub fault : old.now.schema ≡ no_schema → IsTrue (is_fault error)
   pub kept : OnlyReads old new
 
--- Why a database gave no registry. Where its tables spell one, memory or the disk alone failed, and the disk for a fault
--- of it (or as the index was made). A newer layout is told,
+-- Why a database gave no registry. Where its tables spell one, memory was refused or there was a fault of the disk. A newer layout is told,
 -- and with its own number. Nothing is committed.
 pub record FailsToOpen (old new : State) (error : StoreError) : Type 0 where
   pub fault : IsFaultUnopened old new error

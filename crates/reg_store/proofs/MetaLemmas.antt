@@ -15,7 +15,7 @@ use Rattle.reg_tables.specs.Layout.{IsLayout, meta}
 use Rattle.reg_tables.specs.Contents.{pair_form, text_cmp, Contents, HoldsIn}
 use Rattle.reg_tables.specs.Frames.{StaysIdle}
 use Rattle.reg_tables.specs.Listings.{meta_entry, ListsMeta}
-use Rattle.reg_tables.specs.Reading.{CanBeRead, IsReadFault}
+use Rattle.reg_tables.specs.Reading.{CanBeRead, IsFault}
 use Rattle.reg_tables.proofs.KeyedTables.{text_order, distinct_texts}
 use Rattle.reg_tables.proofs.ListingLemmas.{listed_if_shown}
 use Rattle.reg_rows.specs.Spelling.{Pair, value_at, has_value, has_level, names_known, is_meta, number_in, layout_in}
@@ -78,7 +78,7 @@ same_number a b h = cc
 
 module _ {S : Type 0} (g : Ghosts S) (old new : Held S) where
   -- `meta` wasn't read
-  pub newer_unread : (r : Result (Unit {0}) StoreError) (e : Error) → old.step_limit ≡ None → (CanBeRead (state g old) → IsReadFault (state g old) (state g new) e) → IsErrAnd r (λ failure. failure ≡ failure_of e) → IfErr r (TellsNewer (state g old))
+  pub newer_unread : (r : Result (Unit {0}) StoreError) (e : Error) → old.step_limit ≡ None → (CanBeRead (state g old) → IsFault (state g old) (state g new) e) → IsErrAnd r (λ failure. failure ≡ failure_of e) → IfErr r (TellsNewer (state g old))
   newer_unread r e unlimited fault is = passed (TellsNewer (state g old)) r (failure_of e) is (λ number is_open out.
       inr (fault_if_by (state g old) (state g new) (failure_of e) (fault_by (state g old) (state g new) e unlimited (fault (λ _. record { schema = out.schema; is_layout = out.known; contents = out.contents; holds = out.holds; readable = out.readable })))))
 

@@ -1,5 +1,5 @@
 -- What the tests of the tables say, both ways.
-use Rattle.std.proofs.Common.{◌≡◌, inl, inr, List, [], ◌∷◌, map, Bool, false, None, Ok, Err, Result, IsTrue, refl, sym, ap, subst, ◌∙◌, arith}
+use Rattle.std.proofs.Common.{◌≡◌, List, [], ◌∷◌, map, Bool, false, None, Ok, Err, Result, IsTrue, refl, sym, ap, subst, ◌∙◌, arith}
 use Rattle.std.specs.Prelude.{IfErr, OnOk, IsErrAnd}
 use Rattle.std.specs.List.{AllByRecursion, IsDistinct}
 use Rattle.std.specs.FinMap.{get}
@@ -15,26 +15,26 @@ use Rattle.reg_tables.specs.declared.lines.VersionLine.{VersionLine}
 use Rattle.reg_tables.specs.declared.lines.LevelLine.{LevelLine}
 use Rattle.reg_tables.specs.declared.lines.KeptLine.{KeptLine}
 use Rattle.reg_tables.specs.declared.lines.MetaLine.{MetaLine}
-use Rattle.reg_tables.specs.Layout.{unindexed, IsLayout, texts, versions, levels, kept, meta}
+use Rattle.reg_tables.specs.Layout.{IsLayout, texts, versions, levels, kept, meta}
 use Rattle.reg_tables.specs.Contents.{text_form, version_form, pair_form, kept_form, text_cmp, version_cmp}
 use Rattle.reg_tables.specs.Frames.{StaysIdle}
 use Rattle.reg_tables.specs.Listings.{text_entry, version_entry, level_entry, kept_entry, meta_entry, ListsTexts, ListsVersions, ListsLevels, ListsKept, ListsMeta, ListsAll, HaveNoTwins, Lines, contents_of}
-use Rattle.reg_tables.specs.Reading.{CanBeRead, HasDiskFault, IsReadFault}
+use Rattle.reg_tables.specs.Reading.{CanBeRead, IsFault}
 use Rattle.reg_tables.proofs.KeyedTables.{text_order, distinct_texts, number_order, distinct_numbers, version_order, distinct_versions}
 use Rattle.reg_tables.proofs.ListingLemmas.{listed_if_shown}
 use Rattle.reg_tables.proofs.Opening.{holds_if_listed, distinct_version_rows, distinct_kept_rows}
 use Rattle.reg_tables.proofs.UniqueKeys.{apart_by_id, versions_apart, levels_apart, kept_apart, meta_apart, rowids_of}
 use Rattle.reg_rows.specs.Spelling.{pair_of, is_meta, IsLevelRow, IsKeptRow, IsSpelling}
 use Rattle.reg_store.specs.declared.error.StoreError.{StoreError}
-use Rattle.reg_store.specs.declared.error.StoreError.TheVariants.{Memory, Disk, NotARegistry, OldLayout, NewerLayout}
-use Rattle.reg_store.specs.Failures.{failure_of, is_fault, IsFaultBy}
+use Rattle.reg_store.specs.declared.error.StoreError.TheVariants.{Memory, NotARegistry}
+use Rattle.reg_store.specs.Failures.{failure_of, IsFaultBy}
 use Rattle.reg_store.specs.Opening.{level_row, kept_row, meta_row, rows_of}
 use Rattle.reg_store.specs.Replies.{Kept}
 use Rattle.reg_store.specs.Spells.{SpellsIn, SpellsUnopened}
-use Rattle.reg_store.specs.Testing.{AreApart, level_fits, kept_fits, Tests, TablesPass, IsTestFault, IsOpeningFault, IsFaultUnopened}
+use Rattle.reg_store.specs.Testing.{AreApart, level_fits, kept_fits, Tests, TablesPass, IsFaultUnopened}
 use Rattle.reg_store.proofs.Bridge.{no_texts, no_versions, levels_fit, kept_fit, meta_fit, spelled_if_rows}
 use Rattle.reg_tables.proofs.Transactions.{survives_both, on_ok}
-use Rattle.reg_store.proofs.Failing.{fault_by, fault_since}
+use Rattle.reg_store.proofs.Failing.{fault_by, by_since}
 use Rattle.reg_store.proofs.Rereading.{reads_then, same_now}
 use Rattle.reg_store.proofs.Texts.{readable_if_spelled}
 
@@ -122,33 +122,6 @@ module _ (db : Database) (known : IsLayout db.schema) (sound : IsDatabase db) (p
 
 -- ---- how a test comes out
 
--- what a test fails for, an open fails for
-pub opening_if_test : (old new : State) (e : StoreError) → IsTestFault old new e → IsFaultUnopened old new e
-opening_if_test old new e h = λ g k over. go e (h g k over)
-  where
-    go : (e : StoreError) → IsFaultBy old new e → IsOpeningFault old new e
-    go Memory h = refl
-    go Disk h = inl h
-    go NotARegistry h = absurd h
-    go (OldLayout number) h = absurd h
-    go (NewerLayout number) h = absurd h
-
--- a fault of the disk is reason enough
-pub opening_if_fault : (old new : State) (e : StoreError) → HasDiskFault old new → IsTrue (is_fault e) → IsOpeningFault old new e
-opening_if_fault old new Memory fault h = refl
-opening_if_fault old new Disk fault h = inl fault
-opening_if_fault old new NotARegistry fault h = absurd (cc)
-opening_if_fault old new (OldLayout number) fault h = absurd (cc)
-opening_if_fault old new (NewerLayout number) fault h = absurd (cc)
-
--- so it is that the index was to be made
-pub opening_if_bare : (old new : State) (e : StoreError) → old.now.schema ≡ unindexed → IsTrue (is_fault e) → IsOpeningFault old new e
-opening_if_bare old new Memory bare h = refl
-opening_if_bare old new Disk bare h = inr bare
-opening_if_bare old new NotARegistry bare h = absurd (cc)
-opening_if_bare old new (OldLayout number) bare h = absurd (cc)
-opening_if_bare old new (NewerLayout number) bare h = absurd (cc)
-
 pub unopened_can_be_read : (s : State) (g : Registry) (k : Kept) → (IsTrue s.is_open → SpellsUnopened s.now g k) → CanBeRead s
 unopened_can_be_read s g k over = λ is_open.
     let it = over is_open in
@@ -159,7 +132,7 @@ module _ {S X : Type 0} (g : Ghosts S) (old new : Held S) where
   framed a b f was_open = record { idle = f.idle; was_open = was_open; only_reads = f.only_reads; survives = f.survives }
 
   -- the table wasn't read
-  pub test_unread : {P : Database → Type 0} (r : Result (Unit {0}) StoreError) (e : Error) → old.step_limit ≡ None → StaysIdle {X = X} {E = Error} g old new (Err e) → (HasCleanDisk (state g new) → CanBeRead (state g old) → IsReadFault (state g old) (state g new) e)
+  pub test_unread : {P : Database → Type 0} (r : Result (Unit {0}) StoreError) (e : Error) → old.step_limit ≡ None → StaysIdle {X = X} {E = Error} g old new (Err e) → (HasCleanDisk (state g new) → CanBeRead (state g old) → IsFault (state g old) (state g new) e)
       → IsErrAnd r (λ failure. failure ≡ failure_of e) → Tests g old new r P
   test_unread (Ok x) e unlimited f fault is = absurd is
   test_unread (Err failure) e unlimited f fault is = record {
@@ -216,15 +189,15 @@ module _ {S : Type 0} (g : Ghosts S) (a b c : Held S) (settled : IsTrue (state g
           (one.passes (before clean) known, subst Q now (q (subst (λ (d : Database). IsLayout d.schema) (sym now) known)))
       passed (Err e) is_open q clean = tt
 
-      failed : (r : Result (Unit {0}) StoreError) → IfErr r (IsTestFault (state g b) (state g c)) → HasCleanDisk (state g c) → IfErr r (IsTestFault (state g a) (state g c))
+      failed : (r : Result (Unit {0}) StoreError) → IfErr r (IsFaultUnopened (state g b) (state g c)) → HasCleanDisk (state g c) → IfErr r (IsFaultUnopened (state g a) (state g c))
       failed (Ok y) h clean = tt
-      failed (Err e) h clean = λ registry k over. fault_since (state g a) (state g b) (state g c) (one.frame.survives.closes (before clean)) one.frame.survives.counts two.frame.survives.counts e (h registry k (λ is_open. subst (λ (d : Database). SpellsUnopened d registry k) (sym (same clean is_open)) (over ((one.frame.only_reads (before clean)).kept.was_open is_open))))
+      failed (Err e) h clean = λ registry k over. by_since (state g a) (state g b) (state g c) (one.frame.survives.closes (before clean)) one.frame.survives.counts two.frame.survives.counts e (h registry k (λ is_open. subst (λ (d : Database). SpellsUnopened d registry k) (sym (same clean is_open)) (over ((one.frame.only_reads (before clean)).kept.was_open is_open))))
 
 module _ {S : Type 0} (g : Ghosts S) (old new : Held S) where
   -- an error that `?` passes on
   pub test_fails : {P Q : Database → Type 0} (r : Result (Unit {0}) StoreError) (e : StoreError) → Tests {X = Unit {0}} g old new (Err e) P → IsErrAnd r (λ failure. failure ≡ e) → Tests g old new r Q
   test_fails (Ok x) e t is = absurd is
-  test_fails (Err failure) e t is = record { frame = framed g old new (Err e) (Err failure) t.frame (λ clean. tt); passes = λ clean. tt; fault = λ clean. subst (IsTestFault (state g old) (state g new)) (sym is) (t.fault clean) }
+  test_fails (Err failure) e t is = record { frame = framed g old new (Err e) (Err failure) t.frame (λ clean. tt); passes = λ clean. tt; fault = λ clean. subst (IsFaultUnopened (state g old) (state g new)) (sym is) (t.fault clean) }
 
   pub test_says : {P Q : Database → Type 0} (r : Result (Unit {0}) StoreError) → Tests g old new r P → ((db : Database) → P db → Q db) → Tests g old new r Q
   test_says r t f = record { frame = t.frame; passes = λ clean. on_ok r (λ p known. f (state g old).now (p known)) (t.passes clean); fault = t.fault }

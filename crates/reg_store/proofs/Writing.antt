@@ -1,11 +1,11 @@
 -- Why a change of tables that spell a registry fails.
-use Rattle.std.proofs.Common.{◌≡◌, ◌≢◌, ◌⊎◌, ◌<◌, List, [], ◌∷◌, length, arith, inl, inr, None, Some, Ok, Err, Result, IsTrue, true, sym, ap, subst, refl, ◌∙◌}
+use Rattle.std.proofs.Common.{◌≡◌, ◌≢◌, ◌⊎◌, ◌<◌, ◌≤◌, List, [], ◌∷◌, length, arith, inl, inr, None, Some, Ok, Err, Result, IsTrue, true, sym, ap, subst, refl, ◌∙◌}
 use Rattle.std.specs.Prelude.{IfErr, IsErrAnd, MatchResult, IsSome, option_map}
 use Rattle.std.specs.FinMap.{get}
 use Rattle.std.proofs.lemmas.Bool.{both_ways, cases_Bool}
 use Rattle.sqlite.specs.declared.error.Error.{Error}
 use Rattle.sqlite.specs.Steps.{FailsToCommit}
-use Rattle.sqlite.specs.State.{State}
+use Rattle.sqlite.specs.State.{State, HasCleanDisk, Survives}
 use Rattle.sqlite.specs.Held.{Held, state}
 use Rattle.sqlite_trees.specs.declared.store.Store.{Ghosts}
 use Rattle.reg_core.specs.Registry.{Registry}
@@ -16,8 +16,9 @@ use Rattle.reg_store.specs.declared.keep.Keep.{Keep}
 use Rattle.reg_store.specs.Replies.{Kept}
 use Rattle.reg_store.specs.Spells.{row_of, Spells, SpellsWhileOpen}
 use Rattle.reg_store.specs.Changes.{IsFaultOfChange, IsFaultOfReply, SpellsInside, GoesOn}
-use Rattle.reg_store.specs.Failures.{failure_of, is_fault}
-use Rattle.reg_store.proofs.Failing.{is_fault_of}
+use Rattle.reg_store.specs.Failures.{failure_of, is_fault, IsFaultBy}
+use Rattle.reg_store.proofs.Failing.{fault_by, fault_if_by}
+use Rattle.reg_tables.proofs.Reasons.{reason_of, reason_by, fault_since}
 
 -- what holds of an error by two facts
 pub if_err_both : {X E : Type 0} {P Q R : E → Type 0} (r : Result X E) → ((e : E) → P e → Q e → R e) → IfErr r P → IfErr r Q → IfErr r R
@@ -37,32 +38,37 @@ nonempty [] some = absurd (some refl)
 nonempty (x ∷ xs) some = omega arith
 
 -- a later change fails as one at the start does, since the transaction goes on
-pub fault_later : (first later : State) → later.step_limit ≡ first.step_limit → GoesOn first later → (e : Error) → IsInsertFault later e → IsInsertFault first e
-fault_later first later limit goes e (inl (inl (inl store))) = inl (inl (inl store))
-fault_later first later limit goes e (inl (inl (inr stopped))) = inl (inl (inr (stopped.0, subst IsSome limit stopped.1)))
-fault_later first later limit goes e (inl (inr late)) = inl (inr (late.0, goes late.1))
-fault_later first later limit goes e (inr rowid) = inr rowid
+pub fault_later : (first later new : State) → Survives first later (λ _. ⊥) → HasCleanDisk later → later.faults ≤ new.faults → GoesOn first later → (e : Error) → IsInsertFault later new e → IsInsertFault first new e
+fault_later first later new s clean up goes e (inl (inl (inl (inl store)))) = inl (inl (inl (inl (store.0, store.1, reason_by later new first new (fault_since first later new (s.closes clean) s.counts up) store.0 store.2))))
+fault_later first later new s clean up goes e (inl (inl (inl (inr stopped)))) = inl (inl (inl (inr (stopped.0, subst IsSome s.limit stopped.1))))
+fault_later first later new s clean up goes e (inl (inl (inr late))) = inl (inl (inr (late.0, goes late.1)))
+fault_later first later new s clean up goes e (inl (inr large)) = inl (inr large)
+fault_later first later new s clean up goes e (inr rowid) = inr rowid
 
 -- in a transaction with no limit on steps, memory and the disk alone fail
-module _ (s : State) (e : Error) (unlimited : s.step_limit ≡ None) (inside : IsTrue s.in_transaction) where
-  pub is_fault_of_insert : IsInsertFault s e → IsTrue (is_fault (failure_of e))
-  is_fault_of_insert (inl (inl fault)) = is_fault_of s e unlimited fault
-  is_fault_of_insert (inl (inr late)) = absurd (both_ways _ late.1 inside)
+module _ (s new : State) (e : Error) (unlimited : s.step_limit ≡ None) (inside : IsTrue s.in_transaction) where
+  pub fault_of_write : IsWriteFault s new e → IsFaultBy s new (failure_of e)
+  fault_of_write (inl fault) = fault_by s new e unlimited fault
+  fault_of_write (inr late) = absurd (both_ways _ late.1 inside)
+
+  pub is_fault_of_insert : IsInsertFault s new e → IsTrue (is_fault (failure_of e))
+  is_fault_of_insert (inl (inl fault)) = fault_if_by s new (failure_of e) (fault_of_write fault)
+  is_fault_of_insert (inl (inr large)) = subst (λ x. IsTrue (is_fault (failure_of x))) (sym large) refl
   is_fault_of_insert (inr (inl full)) = subst (λ x. IsTrue (is_fault (failure_of x))) (sym full) refl
   is_fault_of_insert (inr (inr taken)) = subst (λ x. IsTrue (is_fault (failure_of x))) (sym taken) refl
 
-  pub is_fault_of_commit : (end : State) → FailsToCommit s end e → IsTrue (is_fault (failure_of e))
-  is_fault_of_commit end (inl fails) = is_fault_of s e unlimited (inl (fails.0, fails.1))
-  is_fault_of_commit end (inr late) = absurd (both_ways _ late.1 inside)
+  pub fault_of_commit : FailsToCommit s new e → IsFaultBy s new (failure_of e)
+  fault_of_commit (inl fails) = fault_by s new e unlimited (inl (fails.0, fails.1, reason_of s new fails.0 fails.2))
+  fault_of_commit (inr late) = absurd (both_ways _ late.1 inside)
 
-module _ (s : State) (e : Error) (shut : IsTrue s.is_open ⊎ IsWriteFault s e) where
-  pub fault_of_change : ((contents : Contents) → Holds s.now contents → IsInsertFault s e) → IsFaultOfChange s e
-  fault_of_change fails g k spells = elim shut [ inl is_open ↦ let it = spells is_open in fails it.contents it.holds | inr fault ↦ inl fault ]
+module _ (s new : State) (e : Error) (shut : IsTrue s.is_open ⊎ IsWriteFault s new e) where
+  pub fault_of_change : ((contents : Contents) → Holds s.now contents → IsInsertFault s new e) → IsFaultOfChange s new e
+  fault_of_change fails g k spells = elim shut [ inl is_open ↦ let it = spells is_open in fails it.contents it.holds | inr fault ↦ inl (inl fault) ]
 
-  pub fault_of_reply : (keep : Keep) → ((contents : Contents) → Holds s.now contents → get contents.kept keep.key.now ≡ None → IsInsertFault s e) → IsFaultOfReply s (Some keep) e
+  pub fault_of_reply : (keep : Keep) → ((contents : Contents) → Holds s.now contents → get contents.kept keep.key.now ≡ None → IsInsertFault s new e) → IsFaultOfReply s new (Some keep) e
   fault_of_reply keep fails g k spells fresh = elim shut [
     | inl is_open ↦ let it = spells is_open in fails it.contents it.holds (it.spelled.kept keep.key.now ∙ ap (option_map row_of) fresh)
-    | inr fault ↦ inl fault
+    | inr fault ↦ inl (inl fault)
   ]
 
 -- a transaction that was begun shows what the connection did

@@ -41,12 +41,12 @@ abbrev pub SpellsInside : State → Registry → Kept → Type 0
 SpellsInside s g k = IsTrue s.is_open → Spells s.now g k
 
 -- a change of tables that spell a registry fails for a reason that each write has
-abbrev pub IsFaultOfChange : State → Error → Type 0
-IsFaultOfChange s e = (g : Registry) (k : Kept) → SpellsInside s g k → IsInsertFault s e
+abbrev pub IsFaultOfChange : State → State → Error → Type 0
+IsFaultOfChange old new e = (g : Registry) (k : Kept) → SpellsInside old g k → IsInsertFault old new e
 
 -- the same, where nothing is kept under the key yet
-abbrev pub IsFaultOfReply : State → Option Keep → Error → Type 0
-IsFaultOfReply s keep e = (g : Registry) (k : Kept) → SpellsInside s g k → IsNewTo k keep → IsInsertFault s e
+abbrev pub IsFaultOfReply : State → State → Option Keep → Error → Type 0
+IsFaultOfReply old new keep e = (g : Registry) (k : Kept) → SpellsInside old g k → IsNewTo k keep → IsInsertFault old new e
 
 -- only a transaction that had ended before ended
 abbrev pub GoesOn : State → State → Type 0

@@ -1,5 +1,5 @@
 -- What the tables are tested for before a store is opened over them.
-use Rattle.std.specs.Prelude.{◌≡◌, ◌⊎◌, ◌<◌, ◌≤◌, ℕ, ℤ, List, [], map, string_bytes, Bool, false, Option, Some, Result, Ok, Err, IfErr, OnOk, IsTrue}
+use Rattle.std.specs.Prelude.{◌≡◌, ◌<◌, ◌≤◌, ℕ, ℤ, List, [], map, string_bytes, Bool, false, Option, Some, Result, Ok, Err, IfErr, OnOk, IsTrue}
 use Rattle.std.specs.List.{IsDistinct, AllByRecursion}
 use Rattle.std.specs.Ordering.{int_cmp, eq_by_cmp}
 use Rattle.sqlite.specs.Effect.{Database}
@@ -9,15 +9,14 @@ use Rattle.sqlite_trees.specs.declared.store.Store.{Ghosts}
 use Rattle.reg_tables.specs.declared.lines.LevelLine.{LevelLine}
 use Rattle.reg_tables.specs.declared.lines.KeptLine.{KeptLine}
 use Rattle.reg_tables.specs.declared.lines.MetaLine.{MetaLine}
-use Rattle.reg_tables.specs.Layout.{unindexed, IsLayout}
-use Rattle.reg_tables.specs.Reading.{HasDiskFault}
+use Rattle.reg_tables.specs.Layout.{IsLayout}
 use Rattle.reg_tables.specs.Listings.{ListsTexts, ListsVersions, ListsLevels, ListsKept, ListsMeta}
 use Rattle.reg_tables.specs.Frames.{StaysIdle}
 use Rattle.reg_rows.specs.Spelling.{Pair, pair_of, is_meta, layout_in, FitsLevels, FitsKept}
 use Rattle.reg_core.specs.Registry.{Registry}
 use Rattle.reg_store.specs.declared.error.StoreError.{StoreError}
 use Rattle.reg_store.specs.declared.error.StoreError.TheVariants.{Memory, Disk, NotARegistry, OldLayout, NewerLayout}
-use Rattle.reg_store.specs.Failures.{is_fault, IsFaultBy}
+use Rattle.reg_store.specs.Failures.{IsFaultBy}
 use Rattle.reg_store.specs.Opening.{meta_row}
 use Rattle.reg_store.specs.Replies.{Kept}
 use Rattle.reg_store.specs.Spells.{SpellsUnopened}
@@ -97,21 +96,12 @@ JudgesMeta lines (Err (NewerLayout number)) = (layout_in (pairs_of lines) ≡ So
 
 -- ---- a test
 
--- memory, or the disk, and then for a fault of the disk; no reason is named where the index was to be made
-abbrev pub IsOpeningFault : State → State → StoreError → Type 0
-IsOpeningFault old new Disk = HasDiskFault old new ⊎ (old.now.schema ≡ unindexed)
-IsOpeningFault old new e = IsTrue (is_fault e)
-
--- the error comes of memory or of the disk alone where the tables spell a registry
+-- the error comes of memory or of a fault of the disk alone where the tables spell a registry
 abbrev pub IsFaultUnopened : State → State → StoreError → Type 0
-IsFaultUnopened old new e = (g : Registry) (k : Kept) → (IsTrue old.is_open → SpellsUnopened old.now g k) → IsOpeningFault old new e
-
--- the same of a test, which makes nothing
-abbrev pub IsTestFault : State → State → StoreError → Type 0
-IsTestFault old new e = (g : Registry) (k : Kept) → (IsTrue old.is_open → SpellsUnopened old.now g k) → IsFaultBy old new e
+IsFaultUnopened old new e = (g : Registry) (k : Kept) → (IsTrue old.is_open → SpellsUnopened old.now g k) → IsFaultBy old new e
 
 -- a call that changes nothing, succeeds only where the tables of a layout pass, and fails by itself only where they spell no registry
 pub record Tests {S X : Type 0} (g : Ghosts S) (old new : Held S) (result : Result X StoreError) (Passes : Database → Type 0) : Type 0 where
   pub frame : StaysIdle g old new result
   pub passes : HasCleanDisk (state g new) → OnOk result (IsLayout (state g old).now.schema → Passes (state g old).now)
-  pub fault : HasCleanDisk (state g new) → IfErr result (IsTestFault (state g old) (state g new))
+  pub fault : HasCleanDisk (state g new) → IfErr result (IsFaultUnopened (state g old) (state g new))

@@ -21,7 +21,7 @@ fn make<S: Alter>(tx: &mut Transaction<'_, S>, change: &Change) -> Result<(), Er
         → OnOk result (Respells (state_in S.Store tx.old) (state_in S.Store tx.new)
         (changed_once change.now) (λ k. k)) }
     ensures fault { HasCleanDisk (state_in S.Store tx.new)
-        → IfErr result (IsFaultOfChange (state_in S.Store tx.old)) }
+        → IfErr result (IsFaultOfChange (state_in S.Store tx.old) (state_in S.Store tx.new)) }
 {
     match change {
         Change::SetGlobal { level } => set_global(tx, level.text()),
@@ -43,7 +43,7 @@ pub(crate) fn make_all<S: Alter>(
         → OnOk result (Respells (state_in S.Store tx.old) (state_in S.Store tx.new)
         (changed changes.now) (λ k. k)) }
     ensures fault { HasCleanDisk (state_in S.Store tx.new)
-        → IfErr result (IsFaultOfChange (state_in S.Store tx.old)) }
+        → IfErr result (IsFaultOfChange (state_in S.Store tx.old) (state_in S.Store tx.new)) }
 {
     for change in changes {
         make(tx, change)?;
@@ -67,7 +67,7 @@ pub(crate) fn keep_reply<S: Alter>(
         → IsNewTo k keep.entry
         → Spells (state_in S.Store tx.new).now g (with_reply keep.entry k)) }
     ensures fault { HasCleanDisk (state_in S.Store tx.new)
-        → IfErr result (IsFaultOfReply (state_in S.Store tx.old) keep.entry) }
+        → IfErr result (IsFaultOfReply (state_in S.Store tx.old) (state_in S.Store tx.new) keep.entry) }
 {
     match keep {
         None => Ok(()),

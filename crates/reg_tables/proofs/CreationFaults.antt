@@ -1,10 +1,10 @@
 -- Why a table or an index is not made.
-use Rattle.std.proofs.Common.{◌≡◌, inl, inr, ℕ, ◌+◌, ◌<◌, ◌^◌, List, [], ◌&&◌, not, length, lit<, lit≤, codes, true, false, Some, None, Ok, Err, Option, refl, sym, ap, subst, ◌∙◌, arith}
-use Rattle.std.specs.Prelude.{IsUtf8}
+use Rattle.std.proofs.Common.{◌≡◌, inl, inr, ℕ, zero, suc, All, ℤ, pos, negsuc, ◌+◌, ◌*◌, ◌/◌, ◌%◌, ◌<◌, ◌^◌, List, [], ◌∷◌, ◌&&◌, not, length, lit<, lit≤, codes, true, false, Some, None, Ok, Err, Option, refl, sym, ap, subst, ◌∙◌, arith}
+use Rattle.std.specs.Prelude.{IsUtf8, IsTrue}
 use Rattle.std.specs.List.{AllByRecursion}
 use Rattle.std.proofs.lemmas.Bool.{both_ways, MatchBool-at_false}
-use Rattle.sqlite.specs.declared.types.Value.TheVariants.{Text}
-use Rattle.sqlite.specs.Order.{value_cmp}
+use Rattle.sqlite.specs.declared.types.Value.TheVariants.{Null, Int, Real, Text, Blob}
+use Rattle.sqlite.specs.Order.{column, value_cmp}
 use Rattle.sqlite.specs.Tree.{Trees}
 use Rattle.sqlite.specs.Table.{Table}
 use Rattle.sqlite.specs.Schema.{Schema}
@@ -13,7 +13,7 @@ use Rattle.sqlite.specs.Compile.{table_defined_by, index_defined_by}
 use Rattle.sqlite.specs.Command.TheVariants.{CreateTable, CreateIndex}
 use Rattle.sqlite.specs.Does.{Does, MakesTable as Makes, MakesIndex as MakesOne, MakesSequence, lacks_sequence}
 use Rattle.sqlite.specs.Rows.{Then}
-use Rattle.sqlite.specs.Effect.{IsDatabase}
+use Rattle.sqlite.specs.Effect.{Database, IsDatabase}
 use Rattle.sqlite.specs.State.{State, mode_of, ExecutesInside}
 use Rattle.sqlite.specs.Listing.{understood}
 use Rattle.sqlite.specs.declared.error.Error.{Error}
@@ -26,6 +26,15 @@ use Rattle.sqlite_catalog.specs.Calls.{RefusesTable, RefusesIndex}
 use Rattle.sqlite_catalog.specs.declared.error.Refusal.{Refusal}
 use Rattle.sqlite_catalog.specs.declared.error.Refusal.TheVariants.{Invalid, NameTaken, BadName, TooBig, BadKey, BadText, Violates}
 use Rattle.sqlite_rules.specs.Lists.{Has}
+use Rattle.sqlite_trees.specs.View.{is_int, IsStorable}
+use native.Mathlib.Nat.{zero-div}
+use Rattle.std.specs.Float.{NotNan}
+use Rattle.sqlite_value.specs.Order.{exact, number}
+use Rattle.reg_tables.specs.Contents.{Contents, HoldsIn}
+use Rattle.sqlite.specs.declared.types.Value.{Value}
+use Rattle.sqlite.specs.Tree.{rowid}
+use Rattle.sqlite_sql.specs.Catalog.{entry_of}
+use Rattle.sqlite.specs.Order.{Row}
 use Rattle.sqlite_rules.proofs.ListLemmas.{all_has, test_push}
 use Rattle.sqlite_rules.proofs.RuleLemmas.{keeps_at, keeps_from}
 use Rattle.sqlite_trees.specs.Sound.{same_name as same_word, begins, is_free_name, fits_kind}
@@ -48,6 +57,7 @@ pub record CanBeMade (sql : List ℕ) (schema : Schema) (table : Table) : Type 0
   pub key_reals : AllByRecursion (λ key. index_reals (table_reals table) key < 2 ^ 64) table.uniques
   pub formed : is_formed table ≡ true
   pub fits : is_fit (Text (codes "table")) (Text table.name) (Text table.name) (Text sql) ≡ true
+  pub short : 2 * length table.name + length sql + 200 < 10 ^ 9
 
 pub texts_can_be : CanBeMade make_texts no_schema texts
 unfolding understood everything same_name same_word begins is_free_name fits_kind value_cmp lib.Utf8.encode lib.Ieee.is_nan lib.Ieee.lt
@@ -63,6 +73,7 @@ texts_can_be = record {
   key_reals = (lit< tt, tt);
   formed = refl;
   fits = refl;
+  short = lit< tt;
 }
 
 pub versions_can_be : CanBeMade make_versions (begun 1) (record versions { tree = 0 })
@@ -79,6 +90,7 @@ versions_can_be = record {
   key_reals = (lit< tt, tt);
   formed = refl;
   fits = refl;
+  short = lit< tt;
 }
 
 pub levels_can_be : CanBeMade make_levels (begun 2) (record levels { tree = 0 })
@@ -95,6 +107,7 @@ levels_can_be = record {
   key_reals = (lit< tt, tt);
   formed = refl;
   fits = refl;
+  short = lit< tt;
 }
 
 pub kept_can_be : CanBeMade make_kept (begun 3) (record kept { tree = 0 })
@@ -111,6 +124,7 @@ kept_can_be = record {
   key_reals = (lit< tt, tt);
   formed = refl;
   fits = refl;
+  short = lit< tt;
 }
 
 pub meta_can_be : CanBeMade make_meta (begun 4) (record meta { tree = 0 })
@@ -127,6 +141,7 @@ meta_can_be = record {
   key_reals = (lit< tt, tt);
   formed = refl;
   fits = refl;
+  short = lit< tt;
 }
 
 -- a table that can be made is not refused
@@ -160,12 +175,32 @@ module _ (sql : List ℕ) (before : Schema) (table : Table) (after : Schema) (m 
 
   module _ (old new : State) (declared : old.now.schema ≡ before) (e : Error) where
     -- it fails for the store alone
-    pub make_fails : ExecutesInside 0 sql [] old new (Err e) → IsFault old e
+    pub make_fails : ExecutesInside 0 sql [] old new (Err e) → IsFault old new e
     make_fails h = elim (refused_by sql [] old new before declared CreateTable m.command can.whole (record { silent = refl; stays = refl }) e h) [
       | inl fault ↦ fault
-      | inr does ↦ absurd (refused (subst (λ t. Does old.step_limit (mode_of old) [] (record old.now { schema = before }) t None CreateTable (Err (Some e))) m.text does))
+      | inr rest ↦ absurd (elim rest [
+        | inl large ↦ too_large (subst (λ t. Does old.step_limit (mode_of old) [] (record old.now { schema = before }) t None CreateTable (Err None)) m.text large.1)
+        | inr does ↦ refused (subst (λ t. Does old.step_limit (mode_of old) [] (record old.now { schema = before }) t None CreateTable (Err (Some e))) m.text does)
+      ])
     ]
       where
+        not_long : (stop : Option Error) → stop ≡ None → Makes sql (record old.now { schema = before }) (Err stop) → ⊥
+        not_long None is h = let low = subst (λ (t : Table). 2 * length t.name + length sql + 200 < 10 ^ 9) (sym (its h.0 h.1)) can.short in let high = h.2 in omega arith
+        not_long (Some x) is h = cc
+
+        not_large : (stop : Option Error) → stop ≡ None → Then (Makes sql (record old.now { schema = before })) MakesSequence (Err stop) → ⊥
+        not_large stop is (inl first) = not_long first.0 (let same = first.2 in cc) first.1
+        not_large stop is (inr next) =
+            let it = next.1 in
+            let schema : next.0.schema ≡ after = it.is ∙ ap (created before) (its it.table it.defined) ∙ m.is in
+            let plain : lacks_sequence next.0.schema ≡ false = ap lacks_sequence schema ∙ m.whole in
+            let e = MatchBool-at_false _ _ plain next.2 in
+            cc
+
+        too_large : Does old.step_limit (mode_of old) [] (record old.now { schema = before }) sql None CreateTable (Err None) → ⊥
+        too_large (inl stopped) = not_large stopped.0 (let same = stopped.2 in cc) stopped.1
+        too_large (inr done) = let e = done.2 in cc
+
         made : (stop : Option Error) → stop ≡ Some e → Then (Makes sql (record old.now { schema = before })) MakesSequence (Err stop) → ⊥
         made stop is (inl first) = go first.0 (let same = first.2 in cc) first.1
           where
@@ -213,7 +248,44 @@ unique_with_index : (db : Trees) → Keeps Unique (begun 5) db → Keeps Unique 
 unique_with_index db keeps = keeps_from Unique layout db (λ t row listed there.
     test_push (λ i. not (guards i t && clashes i.order i.columns (db t.tree) row)) (begun 5).indexes versions_of_id (keeps_at Unique (begun 5) db t row keeps listed there) refl)
 
-module _ (old new : State) (declared : old.now.schema ≡ begun 5) (unique : Keeps Unique layout old.now.trees) (e : Error) where
+-- each entry of the index can be stored
+abbrev pub AreStorable : Trees → Type 0
+AreStorable db = (row : Row) → Has (db versions.tree) row → IsStorable (index_reals (table_reals versions) (3 ∷ [])) (entry_of (3 ∷ []) row)
+
+not_nan : (n : ℤ) → NotNan (exact n)
+unfolding lib.Ieee.is_nan
+not_nan (pos n) = tt
+not_nan (negsuc n) = tt
+
+two_numbers : (id rowid : Value) → is_int id ≡ true → is_int rowid ≡ true → IsStorable 0 (id ∷ rowid ∷ [])
+two_numbers (Int id) (Int rowid) first second = record {
+  typed = λ c on. absurd (let none : 0 / 2 ^ c % 2 ≡ 0 = ap (λ n. n % 2) (zero-div (2 ^ c)) in let one : 0 / 2 ^ c % 2 ≡ 1 = on in omega (arith, none, one));
+  columns = (lit< tt, lit≤ tt);
+  numbers = numbers;
+  short = lit≤ tt;
+}
+  where
+    numbers : All (λ v. NotNan (number v)) (Int id ∷ Int rowid ∷ [])
+    numbers zero d low = not_nan id
+    numbers (suc zero) d low = not_nan rowid
+    numbers (suc (suc k)) d low = absurd (omega (arith, low))
+two_numbers (Int id) Null first second = absurd (cc)
+two_numbers (Int id) (Real x) first second = absurd (cc)
+two_numbers (Int id) (Text x) first second = absurd (cc)
+two_numbers (Int id) (Blob x) first second = absurd (cc)
+two_numbers Null b first second = absurd (cc)
+two_numbers (Real x) b first second = absurd (cc)
+two_numbers (Text x) b first second = absurd (cc)
+two_numbers (Blob x) b first second = absurd (cc)
+
+-- the ids and the rowids of versions are numbers
+pub storable_if_held : (schema : Schema) (db : Database) (contents : Contents) → HoldsIn schema db contents → AreStorable db.trees
+storable_if_held schema db contents holds = λ row there.
+    let it = holds.versions.sound row there in
+    let id : column row 3 ≡ Int (pos it.1.id) = (let v = it.3.1 in cc) in
+    two_numbers (column row 3) (rowid row) (ap is_int id) (all_has (λ r. IsTrue (is_int (rowid r))) (db.trees versions.tree) row holds.versions.rowids.1 there)
+
+module _ (old new : State) (declared : old.now.schema ≡ begun 5) (unique : Keeps Unique layout old.now.trees) (storable : AreStorable old.now.trees) (e : Error) where
   its_index : (i : Index) → index_defined_by versions make_versions_of_id ≡ Ok i → i ≡ record versions_of_id { tree = 0 }
   its_index i is = let both : ◌≡◌ {A = _} (Ok i) (Ok (record versions_of_id { tree = 0 })) = sym is ∙ makes_versions_of_id.defined in cc
 
@@ -239,13 +311,27 @@ module _ (old new : State) (declared : old.now.schema ≡ begun 5) (unique : Kee
       both_ways _ (ap (λ (i : Index). is_fit (Text (codes "index")) (Text i.name) (Text versions.name) (Text make_versions_of_id)) (sym (its_index h.0 h.1)) ∙ h.2) versions_can_be_indexed.fits
   unrefused_index (Violates rule) h = h.3 (subst (λ s. Keeps Unique s old.now.trees) (sym (ap (indexed (begun 5) versions) (its_index h.0 h.1) ∙ makes_versions_of_id.is)) unique)
 
-  pub index_fails : ExecutesInside 0 make_versions_of_id [] old new (Err e) → IsFault old e
+  pub index_fails : ExecutesInside 0 make_versions_of_id [] old new (Err e) → IsFault old new e
   index_fails h =
       elim (refused_by make_versions_of_id [] old new (begun 5) declared (CreateIndex 1) makes_versions_of_id.command versions_can_be_indexed.whole (record { silent = refl; stays = refl }) e h) [
         | inl fault ↦ fault
-        | inr does ↦ absurd (refused (subst (λ t. Does old.step_limit (mode_of old) [] (record old.now { schema = begun 5 }) t None (CreateIndex 1) (Err (Some e))) makes_versions_of_id.text does))
+        | inr rest ↦ absurd (elim rest [
+          | inl large ↦ too_large (subst (λ t. Does old.step_limit (mode_of old) [] (record old.now { schema = begun 5 }) t None (CreateIndex 1) (Err None)) makes_versions_of_id.text large.1)
+          | inr does ↦ refused (subst (λ t. Does old.step_limit (mode_of old) [] (record old.now { schema = begun 5 }) t None (CreateIndex 1) (Err (Some e))) makes_versions_of_id.text does)
+        ])
       ]
     where
+      not_large : (stop : Option Error) → stop ≡ None → MakesOne make_versions_of_id (record old.now { schema = begun 5 }) versions (Err stop) → ⊥
+      not_large (Some x) is h = cc
+      not_large None is h = elim h.2 [
+        | inl long ↦ let low = subst (λ (i : Index). length i.name + length versions.name + length make_versions_of_id + 200 < 10 ^ 9) (sym (its_index h.0 h.1)) (lit< tt) in omega arith
+        | inr row ↦ row.2 (subst (λ (i : Index). IsStorable (index_reals (table_reals versions) i.columns) (entry_of i.columns row.0)) (sym (its_index h.0 h.1)) (storable row.0 row.1))
+      ]
+
+      too_large : Does old.step_limit (mode_of old) [] (record old.now { schema = begun 5 }) make_versions_of_id None (CreateIndex 1) (Err None) → ⊥
+      too_large (inl stopped) = not_large stopped.0 (let same = stopped.2 in cc) stopped.1
+      too_large (inr done) = let e = done.2 in cc
+
       made : (stop : Option Error) → stop ≡ Some e → MakesOne make_versions_of_id (record old.now { schema = begun 5 }) versions (Err stop) → ⊥
       made None is h = cc
       made (Some x) is (inl odd) = odd.0 versions_can_be_indexed.text
@@ -256,7 +342,7 @@ module _ (old new : State) (declared : old.now.schema ≡ begun 5) (unique : Kee
       refused (inr done) = let e = done.2 in cc
 
 -- over the tables of a sound database, the index fails for the store alone
-pub index_fails_if_sound : (old new : State) → old.now.schema ≡ begun 5 → IsDatabase old.now → (e : Error) → ExecutesInside 0 make_versions_of_id [] old new (Err e) → IsFault old e
-index_fails_if_sound old new declared sound e =
+pub index_fails_if_sound : (old new : State) → old.now.schema ≡ begun 5 → IsDatabase old.now → AreStorable old.now.trees → (e : Error) → ExecutesInside 0 make_versions_of_id [] old new (Err e) → IsFault old new e
+index_fails_if_sound old new declared sound storable e =
     let obeys = (subst (λ s. IsDatabase (record { schema = s; trees = old.now.trees })) declared sound).obeys in
-    index_fails old new declared (unique_with_index old.now.trees (obeys.rules Unique)) e
+    index_fails old new declared (unique_with_index old.now.trees (obeys.rules Unique)) storable e

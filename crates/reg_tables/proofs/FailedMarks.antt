@@ -218,14 +218,17 @@ module _ (old new : State) (contents : Contents) (h : Holds old.now contents) (e
     allowed BadReference r = absurd (both_ways _ r (versions_at.keys _ _))
     allowed TooDeep r = absurd r
 
-  pub mark_version_fails : ExecutesInside 0 mark_version params old new (Err e) → IsInsertFault old e
+  pub mark_version_fails : ExecutesInside 0 mark_version params old new (Err e) → IsInsertFault old new e
   unfolding understood everything
   mark_version_fails ran =
       elim (refused_by mark_version params old new layout h.declared (Update 1 marking) mark_version_is (lit≤ tt, refl) (record { silent = refl; stays = refl }) e ran) [
-        | inl fault ↦ inl (inl fault)
-        | inr does ↦ elim (update_refused 1 versions refl old (statement_of mark_version (understood layout mark_version)) params e marking refl (plain_fits db params 2 by_version (col 1 0 ∷ with_flag))
-            (λ found next asked applies. refers found (found_as found asked) next applies) does) [
-              | inl fault ↦ inl (inl fault)
-              | inr r ↦ inr (inl (r.4 ∙ ap edit_error (allowed r.0 (found_as r.0 r.2) r.1 r.3)))
-            ]
+        | inl fault ↦ inl (inl (inl fault))
+        | inr rest ↦ elim rest [
+          | inl large ↦ inl (inr large.0)
+          | inr does ↦ elim (update_refused 1 versions refl old new (statement_of mark_version (understood layout mark_version)) params e marking refl (plain_fits db params 2 by_version (col 1 0 ∷ with_flag))
+              (λ found next asked applies. refers found (found_as found asked) next applies) does) [
+                | inl fault ↦ inl (inl (inl fault))
+                | inr r ↦ inr (inl (r.4 ∙ ap edit_error (allowed r.0 (found_as r.0 r.2) r.1 r.3)))
+              ]
+        ]
       ]

@@ -30,7 +30,7 @@ use Rattle.sqlite_value.specs.Keys.{plain, first_key}
 use Rattle.sqlite_tied.specs.Compute.{everything}
 use Rattle.reg_tables.specs.Layout.{texts, versions}
 use Rattle.reg_tables.specs.Contents.{text_cmp, version_cmp, version_key_cells, number_cells, flag_cell, VersionRow, Contents, version_form, Holds}
-use Rattle.reg_tables.specs.Reading.{IsFault, IsInsertFault}
+use Rattle.reg_tables.specs.Reading.{IsFault, IsPutFault, IsInsertFault}
 use Rattle.reg_tables.proofs.MapLemmas.{IsKeyOrder, same_key, tied_key}
 use Rattle.reg_tables.proofs.KeyedTables.{text_order, number_order, version_order, by_id_test, by_version_test, cast-Null, cast-Int, cast-flag}
 use Rattle.reg_tables.proofs.Statements.{text_terms, four_terms, put_text, put_text_is, put_version, put_version_is, by_version, drop_version, drop_version_is}
@@ -82,7 +82,7 @@ numbers_apart : IsKeyOrder int_cmp
 numbers_apart = record { total = int_cmp_total; antisymmetric = int_cmp-IsAntisymmetric }
 
 module _ (old new : State) (contents : Contents) (h : Holds old.now contents) (e : Error) where
-  pub drop_version_fails : (key : List ℕ × ℕ) → ExecutesInside 0 drop_version (Text key.0 ∷ Int (pos key.1) ∷ []) old new (Err e) → IsFault old e
+  pub drop_version_fails : (key : List ℕ × ℕ) → ExecutesInside 0 drop_version (Text key.0 ∷ Int (pos key.1) ∷ []) old new (Err e) → IsFault old new e
   unfolding understood everything
   drop_version_fails key =
       delete_fails 1 versions versions_at old new h.declared h.sound drop_version (Text key.0 ∷ Int (pos key.1) ∷ []) by_version drop_version_is (lit≤ tt, refl) refl
@@ -90,7 +90,7 @@ module _ (old new : State) (contents : Contents) (h : Holds old.now contents) (e
       subst (λ l. has_text l row ≡ true) (sym (applies.tables.0 (λ e. omega (arith, e)))) (had row (without_all_has (ids_of found) (old.now.trees 2) row (subst (λ l. Has l row) applies.rows there))))) e
 
   pub put_version_fails : (key : List ℕ × ℕ) (version : VersionRow) → get contents.versions key ≡ None → (text : List ℕ) → get contents.texts version.id ≡ Some text
-      → ExecutesInside 0 put_version (Text key.0 ∷ Int (pos key.1) ∷ Int (pos version.id) ∷ flag_cell version.deleted ∷ []) old new (Err e) → IsInsertFault old e
+      → ExecutesInside 0 put_version (Text key.0 ∷ Int (pos key.1) ∷ Int (pos version.id) ∷ flag_cell version.deleted ∷ []) old new (Err e) → IsInsertFault old new e
   unfolding understood everything
   put_version_fails key version none text known ran =
       let params : Row = Text key.0 ∷ Int (pos key.1) ∷ Int (pos version.id) ∷ flag_cell version.deleted ∷ [] in
@@ -98,7 +98,7 @@ module _ (old new : State) (contents : Contents) (h : Holds old.now contents) (e
       let its = h.texts.complete version.id text known in
       let put : Edit = edit_of old.now.trees versions [] Chosen 0 (value_rows (stamped versions params) 5 (length four_terms / 5) four_terms) in
       let news : put.news ≡ row ∷ [] = rw (cast-Null, cast-Int (pos key.1), cast-Int (pos version.id), cast-flag version.deleted) in
-      as_insert_fault old (old.now.trees versions.tree) row e
+      as_insert_fault old new (old.now.trees versions.tree) row e
       (insert_fails 1 versions versions_at old new h.declared h.sound four_terms 5 params row put_version refl put_version_is (lit≤ tt, refl) refl news (record {
         keyed = refl;
         typed = refl;
@@ -119,7 +119,7 @@ module _ (old new : State) (contents : Contents) (h : Holds old.now contents) (e
       ]))) e ran)
 
   pub put_text_fails : (id : ℕ) (text : List ℕ) → id < 2 ^ 32 → get contents.texts id ≡ None → ((other : ℕ) → get contents.texts other ≡ Some text → ⊥)
-      → ExecutesInside 0 put_text (Int (pos id) ∷ Text text ∷ []) old new (Err e) → IsFault old e
+      → ExecutesInside 0 put_text (Int (pos id) ∷ Text text ∷ []) old new (Err e) → IsPutFault old new e
   unfolding understood everything
   put_text_fails id text low none unheld ran =
       let params : Row = Int (pos id) ∷ Text text ∷ [] in
@@ -139,7 +139,7 @@ module _ (old new : State) (contents : Contents) (h : Holds old.now contents) (e
       }) (λ next applies. refers_if old.now.trees next (λ had r there.
       more_texts (old.now.trees 0) (next 0) (λ x was. subst (λ l. Has l x) (sym applies.rows) (put_all_keeps put.news (old.now.trees 0) x applies.fresh was)) r
       (had r (subst (λ l. Has l r) (applies.tables.1.0 (λ e. omega (arith, e))) there)))) e ran) [
-        | inl fault ↦ fault
+        | inl fault ↦ elim fault [ inl store ↦ inl (inl store) | inr large ↦ inr large ]
         | inr why ↦ absurd (elim why.1 [
           | inl high ↦ both_ways _ high.1 (lt-ltb id (2 ^ 63) (omega arith))
           | inr taken ↦

@@ -11,12 +11,10 @@ use Rattle.sqlite.specs.declared.error.Error.{Error}
 use Rattle.sqlite.specs.declared.error.Error.TheVariants.{SqliteFailure, InvalidColumnIndex, InvalidColumnType, IntegralValueOutOfRange, Utf8Error}
 use Rattle.sqlite.specs.Reading.{IsReadError}
 use Rattle.sqlite.specs.Values.{type_of}
-use Rattle.sqlite_disk.specs.Disk.{MoreFaults}
-use Rattle.sqlite_trees.specs.declared.error.StoreError.{StoreError}
-use Rattle.sqlite_trees.specs.declared.error.StoreError.TheVariants.{OutOfMemory, Io, Corrupt, Full, Broken, Unstorable}
+use Rattle.sqlite_trees.specs.declared.error.StoreError.TheVariants.{OutOfMemory}
 use Rattle.sqlite.specs.Effect.{Database, RefusesToRead}
 use Rattle.sqlite.specs.Listing.{understood, IsSourceOf}
-use Rattle.sqlite.specs.State.{State, HasCause, Fails, FailsToQuery, FailsToShow, IsStatement, IsNotRun, IsTooLate}
+use Rattle.sqlite.specs.State.{State, FailsToQuery, FailsToShow, IsStatement, IsNotRun, IsTooLate}
 use Rattle.sqlite.specs.Clock.{timed}
 use Rattle.sqlite.proofs.Callers.{IsPlain, command_of}
 use Rattle.sqlite_schema.specs.declared.command.Returning.{Returning}
@@ -26,8 +24,9 @@ use Rattle.sqlite_typing.specs.Types.{accepts_program}
 use Rattle.sqlite_rules.proofs.ListLemmas.{any_has}
 use Rattle.sqlite_tied.specs.Compute.{everything}
 use Rattle.reg_tables.specs.Layout.{IsLayout}
-use Rattle.reg_tables.specs.Reading.{CanBeRead, HasDiskFault, HasReason, IsReadFault}
+use Rattle.reg_tables.specs.Reading.{CanBeRead, IsFault}
 use Rattle.sqlite.specs.Schema.{Schema}
+use Rattle.reg_tables.proofs.Reasons.{reason_of, reason_if_shut, reason_by, fault_until}
 use Rattle.reg_tables.proofs.Statements.{TableQuery, body_of, program_of, IsQuery, laid_out, in_layouts, find_text, find_level, find_meta, find_kept, all_texts, all_versions, all_levels, all_kept, all_meta}
 
 -- the text is one statement, with so many parameters
@@ -76,41 +75,8 @@ pub takes_all_meta : (schema : Schema) → IsLayout schema → Takes all_meta []
 unfolding understood everything
 takes_all_meta = in_layouts (Takes all_meta []) (record { whole = (lit≤ tt, refl); typed = refl }) (record { whole = (lit≤ tt, refl); typed = refl })
 
--- ---- what an error comes of
-
--- the store's own cause, where nothing was too big
-reason_of : (old new : State) (cause : StoreError) → HasCause old new ⊥ cause → HasReason old new cause
-reason_of old new OutOfMemory h = tt
-reason_of old new Io h = inr h
-reason_of old new Corrupt h = inr h
-reason_of old new Full h = inr h
-reason_of old new Broken h = inl h
-reason_of old new Unstorable h = absurd h
-
--- a connection that is shut is reason enough
-reason_if_shut : (old new : State) (cause : StoreError) → old.is_open ≡ false → HasReason old new cause
-reason_if_shut old new OutOfMemory shut = tt
-reason_if_shut old new Io shut = inl shut
-reason_if_shut old new Corrupt shut = inl shut
-reason_if_shut old new Full shut = inl shut
-reason_if_shut old new Broken shut = inl shut
-reason_if_shut old new Unstorable shut = inl shut
-
--- a fault counts for later states too
-pub fault_until : (old mid new : State) → mid.faults ≤ new.faults → HasDiskFault old mid → HasDiskFault old new
-fault_until old mid new up (inl shut) = inl shut
-fault_until old mid new up (inr more) = inr (omega arith)
-
-reason_until : (old mid new : State) → mid.faults ≤ new.faults → (cause : StoreError) → HasReason old mid cause → HasReason old new cause
-reason_until old mid new up OutOfMemory h = tt
-reason_until old mid new up Io h = fault_until old mid new up h
-reason_until old mid new up Corrupt h = fault_until old mid new up h
-reason_until old mid new up Full h = fault_until old mid new up h
-reason_until old mid new up Broken h = fault_until old mid new up h
-reason_until old mid new up Unstorable h = fault_until old mid new up h
-
-pub read_fault_until : (old mid new : State) → mid.faults ≤ new.faults → (e : Error) → IsReadFault old mid e → IsReadFault old new e
-read_fault_until old mid new up e (inl store) = inl (store.0, store.1, reason_until old mid new up store.0 store.2)
+pub read_fault_until : (old mid new : State) → mid.faults ≤ new.faults → (e : Error) → IsFault old mid e → IsFault old new e
+read_fault_until old mid new up e (inl store) = inl (store.0, store.1, reason_by old mid old new (fault_until old mid new up) store.0 store.2)
 read_fault_until old mid new up e (inr stopped) = inr stopped
 
 module _ (q : TableQuery) (is : (schema : Schema) → IsLayout schema → IsQuery q schema) (params : Row) (fits : (schema : Schema) → IsLayout schema → Takes q params schema) (old new : State) (can : CanBeRead old) where
@@ -121,12 +87,12 @@ module _ (q : TableQuery) (is : (schema : Schema) → IsLayout schema → IsQuer
   its is_open = is old.now.schema (laid is_open)
 
   -- a connection that is shut has no other error than the store's
-  open_or_fault : (c : Compiled) (values : Row) (e : Error) (o : Option Returning) → FailsToShow old new q.sql c values e o → IsTrue old.is_open ⊎ IsReadFault old new e
+  open_or_fault : (c : Compiled) (values : Row) (e : Error) (o : Option Returning) → FailsToShow old new q.sql c values e o → IsTrue old.is_open ⊎ IsFault old new e
   open_or_fault c values e None s = inl s.3.0.was_open
   open_or_fault c values e (Some what) (inl s) = inl s.1.0.was_open
   open_or_fault c values e (Some what) (inr s) = elim (cases_Bool old.is_open) [ inl is_open ↦ inl is_open | inr shut ↦ inr (inl (s.0, s.1, reason_if_shut old new s.0 shut)) ]
 
-  fails : (e : Error) → FailsToQuery q.sql params old new e → IsReadFault old new e
+  fails : (e : Error) → FailsToQuery q.sql params old new e → IsFault old new e
   unfolding FailsToQuery IsNotRun
   fails e (inl (inr store)) = inl (store.0, store.1, reason_of old new store.0 store.2)
   fails e (inl (inl (inl fault, same))) = absurd (subst IsPlain fault.1 (its same.0.was_open).command.plain)
@@ -137,7 +103,7 @@ module _ (q : TableQuery) (is : (schema : Schema) → IsLayout schema → IsQuer
       absurd (elim wrong.2 [ inl tail ↦ tail.0 given.0 | inr rest ↦ elim rest [ inl other ↦ other.0 (sym given.1) | inr clock ↦ clock.0 bare.1 ] ])
   fails e (inr shows) = elim (open_or_fault shows.0 (timed params shows.0.formats shows.1.now) e shows.0.returning shows.2) [ inl is_open ↦ shown_faults e (laid is_open) shows | inr fault ↦ fault ]
     where
-      shown_faults : (e : Error) → IsLayout old.now.schema → (shows : (c : Compiled) × (given : IsStatement old q.sql params c) × FailsToShow old new q.sql c (timed params c.formats given.now) e c.returning) → IsReadFault old new e
+      shown_faults : (e : Error) → IsLayout old.now.schema → (shows : (c : Compiled) × (given : IsStatement old q.sql params c) × FailsToShow old new q.sql c (timed params c.formats given.now) e c.returning) → IsFault old new e
       shown_faults e here shows =
           let it = is old.now.schema here in
           let known = shows.1.is in
@@ -152,7 +118,7 @@ module _ (q : TableQuery) (is : (schema : Schema) → IsLayout schema → IsQuer
             | inr rest ↦ elim rest [ inl over ↦ absurd (elim over.1 [ inl none ↦ none | inr some ↦ (any_has _ _ some).2 ]) | inr stopped ↦ inr stopped ]
           ]
 
-  pub query_faults : (e : Error) → FailsToQuery q.sql params old new e ⊎ IsTooLate q.sql params old new e → IsReadFault old new e
+  pub query_faults : (e : Error) → FailsToQuery q.sql params old new e ⊎ IsTooLate q.sql params old new e → IsFault old new e
   query_faults e (inl failed) = fails e failed
   query_faults e (inr late) =
       let bare = subst IsPlain late.1.is (its late.5.0.was_open).command.plain in
@@ -173,14 +139,14 @@ memory_if_readable at value e P readable named kind =
       ]
     ]
 
-pub memory_is_fault : (old new : State) (e : Error) → e ≡ SqliteFailure code.OutOfMemory → IsReadFault old new e
+pub memory_is_fault : (old new : State) (e : Error) → e ≡ SqliteFailure code.OutOfMemory → IsFault old new e
 memory_is_fault old new e is = inl (OutOfMemory, is, tt)
 
 -- of readable contents a read fails with a fault alone
 abbrev pub FailsByFault : {X : Type 0} → State → State → Result X Error → Type 0
-FailsByFault old new r = IfErr r (λ e. CanBeRead old → IsReadFault old new e)
+FailsByFault old new r = IfErr r (λ e. CanBeRead old → IsFault old new e)
 
 -- an error that `?` passes on
-pub passed_on : {X : Type 0} (old new : State) (r : Result X Error) (first : Error) → IsErrAnd r (λ e. e ≡ first) → (CanBeRead old → IsReadFault old new first) → FailsByFault old new r
+pub passed_on : {X : Type 0} (old new : State) (r : Result X Error) (first : Error) → IsErrAnd r (λ e. e ≡ first) → (CanBeRead old → IsFault old new first) → FailsByFault old new r
 passed_on old new (Ok x) first is h = tt
-passed_on old new (Err e) first is h = λ can. subst (IsReadFault old new) (sym is) (h can)
+passed_on old new (Err e) first is h = λ can. subst (IsFault old new) (sym is) (h can)

@@ -8,6 +8,7 @@ pub mod KeyedTables
 pub mod Creation
 pub mod TableWrites
 pub mod Faults
+pub mod Reasons
 pub mod TableReads
 pub mod Transactions
 pub mod ReadableRows

@@ -22,6 +22,8 @@ use Rattle.sqlite.specs.Effect.{Database, IsDatabase, value_rows, edit_error}
 use Rattle.sqlite.specs.State.{State, ExecutesInside}
 use Rattle.sqlite.specs.Listing.{understood}
 use Rattle.sqlite.specs.declared.error.Error.{Error}
+use Rattle.sqlite.specs.declared.error.Error.TheVariants.{SqliteFailure}
+use Rattle.sqlite.specs.declared.error.ErrorCode.TheVariants as code
 use Rattle.sqlite.proofs.Callers.{statement_of}
 use Rattle.sqlite_schema.specs.declared.schema.Keys.TheVariants.{Enforced}
 use Rattle.sqlite_schema.specs.declared.schema.Among.TheVariants.{All}
@@ -47,7 +49,7 @@ use Rattle.reg_tables.specs.Reading.{IsFault, IsInsertFault}
 use Rattle.reg_tables.proofs.Queries.{plain_query}
 use Rattle.reg_tables.proofs.Statements.{IsCommand}
 use Rattle.reg_tables.proofs.UniqueLemmas.{with_tree_there, with_tree_elsewhere, stays_unique}
-use Rattle.reg_tables.proofs.WriteFaults.{IsWhole, delete_refused, insert_refused, refused_by}
+use Rattle.reg_tables.proofs.WriteFaults.{IsWhole, delete_fits, delete_refused, insert_refused, refused_by}
 
 -- the tables have trees of their own
 pub layout_apart : IsAscending (λ (a : Table) (b : Table). a.tree ≡ b.tree → ⊥) layout.tables
@@ -281,13 +283,16 @@ module _ (at : ℕ) (table : Table) (its : IsAt at table) (old new : State) (dec
   pub delete_fails : (sql : List ℕ) (params : Row) (tests : List Term) → IsCommand layout sql (Delete at (record { lets = []; body = plain_query table.tree tests (col 1 0 ∷ []) }))
       → IsWhole sql (length params) (understood layout sql) → accepts_program layout [] (plain_query table.tree tests (col 1 0 ∷ [])) params ≡ true
       → ((found : List Row) (next : Trees) → Applies layout Enforced old.now.trees (edit_of old.now.trees table (ids_of found) Given 0 []) next → Refers All layout old.now.trees → Refers All layout next)
-      → (e : Error) → ExecutesInside 0 sql params old new (Err e) → IsFault old e
+      → (e : Error) → ExecutesInside 0 sql params old new (Err e) → IsFault old new e
   delete_fails sql params tests it whole typed refers e h =
       let q : Program = record { lets = []; body = plain_query table.tree tests (col 1 0 ∷ []) } in
       elim (refused_by sql params old new layout declared (Delete at q) it whole (record { silent = refl; stays = refl }) e h) [
         | inl fault ↦ fault
-        | inr does ↦ delete_refused at table its.there old (statement_of sql (understood layout sql)) params e q typed (plain_fits old.now.trees params table.tree tests (col 1 0 ∷ []))
-            (λ found why. delete_allowed old table listed its.keys obeys found why) (λ found next applies. refers found next applies (obeys.rules ForeignKey)) does
+        | inr rest ↦ elim rest [
+          | inl large ↦ absurd (delete_fits at table its.there old new (statement_of sql (understood layout sql)) params e q typed (plain_fits old.now.trees params table.tree tests (col 1 0 ∷ [])) large.1)
+          | inr does ↦ delete_refused at table its.there old new (statement_of sql (understood layout sql)) params e q typed (plain_fits old.now.trees params table.tree tests (col 1 0 ∷ []))
+              (λ found why. delete_allowed old table listed its.keys obeys found why) (λ found next applies. refers found next applies (obeys.rules ForeignKey)) does
+        ]
       ]
 
   -- an INSERT of a row that shares no key
@@ -300,16 +305,20 @@ module _ (at : ℕ) (table : Table) (its : IsAt at table) (old new : State) (dec
 
     pub insert_fails : (sql : List ℕ) → table.is_counted ≡ false → IsCommand layout sql (Insert at (Values terms width)) → IsWhole sql (length params) (understood layout sql) → accepts_terms terms (stamped table params) ≡ true
         → put.news ≡ row ∷ [] → IsFitting table (old.now.trees table.tree) row → ((next : Trees) → Applies layout Enforced old.now.trees put next → Refers All layout old.now.trees → Refers All layout next)
-        → (e : Error) → ExecutesInside 0 sql params old new (Err e) → IsFault old e ⊎ ((why : Refusal) × IsRowidTrouble (old.now.trees table.tree) row why × (e ≡ edit_error why))
+        → (e : Error) → ExecutesInside 0 sql params old new (Err e) → (IsFault old new e ⊎ (e ≡ SqliteFailure code.TooBig)) ⊎ ((why : Refusal) × IsRowidTrouble (old.now.trees table.tree) row why × (e ≡ edit_error why))
     insert_fails sql uncounted it whole typed news fitting refers e h =
         elim (refused_by sql params old new layout declared (Insert at (Values terms width)) it whole (record { silent = refl; stays = refl }) e h) [
-          | inl fault ↦ inl fault
-          | inr does ↦ elim (insert_refused at table its.there old (statement_of sql (understood layout sql)) params e terms width uncounted typed (λ next applies. refers next applies (obeys.rules ForeignKey)) does) [
-            | inl fault ↦ inl fault
-            | inr r ↦ inr (r.0, insert_allowed old.now.trees table listed its.keys obeys Chosen sources row news fitting r.0 r.1, r.2)
+          | inl fault ↦ inl (inl fault)
+          | inr rest ↦ elim rest [
+            | inl large ↦ inl (inr large.0)
+            | inr does ↦ elim (insert_refused at table its.there old new (statement_of sql (understood layout sql)) params e terms width uncounted typed (λ next applies. refers next applies (obeys.rules ForeignKey)) does) [
+              | inl fault ↦ inl (inl fault)
+              | inr r ↦ inr (r.0, insert_allowed old.now.trees table listed its.keys obeys Chosen sources row news fitting r.0 r.1, r.2)
+            ]
           ]
         ]
 
-pub as_insert_fault : (old : State) (rows : List Row) (row : Row) (e : Error) → IsFault old e ⊎ ((why : Refusal) × IsRowidTrouble rows row why × (e ≡ edit_error why)) → IsInsertFault old e
-as_insert_fault old rows row e (inl fault) = inl (inl fault)
-as_insert_fault old rows row e (inr r) = elim r.1 [ inl high ↦ inr (inl (r.2 ∙ ap edit_error high.0)) | inr taken ↦ inr (inr (r.2 ∙ ap edit_error taken.0)) ]
+pub as_insert_fault : (old new : State) (rows : List Row) (row : Row) (e : Error) → (IsFault old new e ⊎ (e ≡ SqliteFailure code.TooBig)) ⊎ ((why : Refusal) × IsRowidTrouble rows row why × (e ≡ edit_error why)) → IsInsertFault old new e
+as_insert_fault old new rows row e (inl (inl fault)) = inl (inl (inl fault))
+as_insert_fault old new rows row e (inl (inr large)) = inl (inr large)
+as_insert_fault old new rows row e (inr r) = elim r.1 [ inl high ↦ inr (inl (r.2 ∙ ap edit_error high.0)) | inr taken ↦ inr (inr (r.2 ∙ ap edit_error taken.0)) ]

@@ -17,7 +17,7 @@ use Rattle.sqlite.specs.State.{State, Shown, FailsToQuery, IsTooLate}
 use Rattle.sqlite.proofs.Callers.{reads_as}
 use Rattle.sqlite_rules.specs.Lists.{Has}
 use Rattle.reg_tables.specs.Layout.{IsLayout}
-use Rattle.reg_tables.specs.Reading.{HoldsReadable, CanBeRead, IsReadFault}
+use Rattle.reg_tables.specs.Reading.{HoldsReadable, CanBeRead, IsFault}
 use Rattle.reg_tables.specs.TableMaps.{Form}
 use Rattle.reg_tables.specs.Contents.{text_form, version_form, pair_form, kept_form}
 use Rattle.reg_tables.specs.Listings.{parts_of, entry_parts, Lists, IsReadableText, IsReadableVersion, IsReadablePair, IsReadableKept}
@@ -84,7 +84,7 @@ module _ {K V : Type 0} {form : Form K V} {is_readable : Row → Type 0} {q : Ta
   lists_lines entry lines read laid = subst (IsPermutation (map (parts_of form) (old.now.trees q.tree))) (read.2 ∙ sym (map-map (entry_parts form) entry lines)) (shown_parts laid read.0 read.1)
 
   -- of readable contents the lines fail with a fault alone
-  pub lines_fault : (end : State) (e : Error) → ((new.faults ≤ end.faults) × (FailsToQuery q.sql [] old new e ⊎ IsTooLate q.sql [] old new e)) ⊎ ((found : List Row) × Shown q.sql [] old new found × (All is_readable found → e ≡ SqliteFailure code.OutOfMemory)) → CanBeRead old → IsReadFault old end e
+  pub lines_fault : (end : State) (e : Error) → ((new.faults ≤ end.faults) × (FailsToQuery q.sql [] old new e ⊎ IsTooLate q.sql [] old new e)) ⊎ ((found : List Row) × Shown q.sql [] old new found × (All is_readable found → e ≡ SqliteFailure code.OutOfMemory)) → CanBeRead old → IsFault old end e
   lines_fault end e (inl failed) can = read_fault_until old new end failed.0 e (query_faults q table.is [] table.takes old new can e failed.1)
   lines_fault end e (inr read) can =
       let there = can (shown_open q.sql [] old new read.0 read.1) in

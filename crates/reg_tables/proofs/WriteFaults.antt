@@ -1,7 +1,7 @@
 -- How a write fails where its text is a known command.
 use Rattle.std.proofs.Common.{◌≡◌, ◌⊎◌, inl, inr, ℕ, zero, suc, ◌/◌, length, length-append, append-nil, ◌≤◌, ◌||◌, List, [], ◌∷◌, slice_get, Bool, true, false, Some, None, Ok, Err, Option, option_map, Result, refl, sym, ap, subst, subst₂, ◌∙◌, arith}
 use Rattle.std.specs.Prelude.{if◌then◌else◌, MatchBool, IsSome, is_some, IfErr, IsErrAnd, IsTrue}
-use Rattle.std.proofs.lemmas.Bool.{both_ways, MatchBool-at_false}
+use Rattle.std.proofs.lemmas.Bool.{both_ways, cases_Bool, MatchBool-at_false}
 use Rattle.sqlite.specs.Order.{Row}
 use Rattle.sqlite.specs.Term.{Term}
 use Rattle.sqlite.specs.Tree.{Trees}
@@ -11,12 +11,14 @@ use Rattle.sqlite.specs.Source.TheVariants.{Values}
 use Rattle.sqlite.specs.Command.{Command}
 use Rattle.sqlite.specs.Command.TheVariants.{Insert, Update, Delete, Begin, Commit, Rollback, Savepoint, Release, RollbackTo}
 use Rattle.sqlite.specs.Edit.{Edit, edit_of, taken_by, Applies, IsRefused}
+use Rattle.sqlite_rules.specs.Edit.{IsOversized}
+use Rattle.sqlite_rules.specs.Lists.{Has}
 use Rattle.sqlite.specs.Rowids.{Rowids}
 use Rattle.sqlite.specs.Rowids.TheVariants.{Chosen, Above, Given}
 use Rattle.sqlite.specs.Does.{Does, Concludes}
 use Rattle.sqlite.specs.Rows.{Written, Task, Then, Edited, Queried, Sourced, Updates, Deletes, Inserts, stamped, rowids_for, count_of}
 use Rattle.sqlite.specs.Effect.{is_query, value_rows, edit_error}
-use Rattle.sqlite.specs.State.{State, mode_of, is_pragma, shows_rows, text_of, RunsCommand, ExecutesIn, ExecutesInside, IsNotRun, EndsScope, IsMisplaced, IsNoStatement, Escapes}
+use Rattle.sqlite.specs.State.{State, Survives, HasCleanDisk, store_error, mode_of, is_pragma, shows_rows, text_of, RunsCommand, ExecutesIn, ExecutesInside, IsNotRun, EndsScope, IsMisplaced, IsNoStatement, Escapes}
 use Rattle.sqlite.specs.Clock.{timed}
 use Rattle.sqlite.specs.Listing.{understood}
 use Rattle.sqlite.specs.declared.error.ErrorCode.TheVariants as code
@@ -37,7 +39,9 @@ use Rattle.sqlite_rules.specs.Calls.{ids_of}
 use Rattle.sqlite_sql.specs.Program.{ProgramOverflows}
 use Rattle.sqlite_typing.specs.Types.{accepts_program, accepts_terms}
 use Rattle.reg_tables.specs.Layout.{layout}
-use Rattle.reg_tables.specs.Reading.{IsFault, IsWriteFault, IsInsertFault}
+use Rattle.reg_tables.specs.Reading.{IsFault, IsWriteFault, IsPutFault, IsInsertFault}
+use Rattle.reg_tables.proofs.Reasons.{reason_or_large, reason_of, reason_if_shut, reason_by, fault_since}
+use Rattle.sqlite_trees.specs.declared.error.StoreError.{StoreError}
 use Rattle.reg_tables.proofs.Statements.{IsCommand}
 use Rattle.reg_tables.proofs.KeyedTables.{idle}
 
@@ -95,26 +99,42 @@ module _ (sql : List ℕ) (params : Row) (old new : State) (schema : Schema) (ha
       let bare = subst IsPlain known it.plain in
       elim wrong.2 [ inl tail ↦ tail.0 fits.0 | inr rest ↦ elim rest [ inl given ↦ given.0 (sym fits.1) | inr clock ↦ clock.0 bare.1 ] ]
 
-  ran : (e : Error) (c : Compiled) (is : understood old.now.schema sql ≡ Ok c) (values : Row) → values ≡ params → RunsCommand old new sql c values (Err e) → IsFault old e ⊎ RefusedAs e
-  ran e c is values same (inr store) = inl (inl (store.0, store.1))
-  ran e c is values same (inl (inl wrong, after)) = absurd (misplaced c.command (command_is c is) e wrong)
-  ran e c is values same (inl (inr does, after)) =
+  -- a row that the command would put in is too large
+  abbrev TooLarge : Type 0
+  TooLarge = Does old.step_limit (mode_of old) params (record old.now { schema = schema }) (statement_of sql (understood schema sql)) None command (Err None)
+
+  -- what a known command does to the database is what the statement does
+  does_as : (c : Compiled) (is : understood old.now.schema sql ≡ Ok c) (values : Row) → values ≡ params → (stop : Option Error) → Does old.step_limit (mode_of old) values old.now (text_of sql c) c.returning c.command (Err stop)
+      → Does old.step_limit (mode_of old) params (record old.now { schema = schema }) (statement_of sql (understood schema sql)) None command (Err stop)
+  does_as c is values same stop does =
       let known = known_as c is in
       let bare = subst IsPlain known it.plain in
-      let first : Does old.step_limit (mode_of old) params old.now (text_of sql c) c.returning c.command (Err (Some e)) =
-      subst (λ p. Does old.step_limit (mode_of old) p old.now (text_of sql c) c.returning c.command (Err (Some e))) same does.1 in
-      let plainly : Does old.step_limit (mode_of old) params old.now (text_of sql c) None c.command (Err (Some e)) =
-      subst (λ r. Does old.step_limit (mode_of old) params old.now (text_of sql c) r c.command (Err (Some e))) bare.0 first in
-      let named : Does old.step_limit (mode_of old) params old.now (text_of sql c) None command (Err (Some e)) =
-      subst (λ k. Does old.step_limit (mode_of old) params old.now (text_of sql c) None k (Err (Some e))) (sym (command_is c is)) plainly in
+      let first : Does old.step_limit (mode_of old) params old.now (text_of sql c) c.returning c.command (Err stop) =
+      subst (λ p. Does old.step_limit (mode_of old) p old.now (text_of sql c) c.returning c.command (Err stop)) same does in
+      let plainly : Does old.step_limit (mode_of old) params old.now (text_of sql c) None c.command (Err stop) =
+      subst (λ r. Does old.step_limit (mode_of old) params old.now (text_of sql c) r c.command (Err stop)) bare.0 first in
+      let named : Does old.step_limit (mode_of old) params old.now (text_of sql c) None command (Err stop) =
+      subst (λ k. Does old.step_limit (mode_of old) params old.now (text_of sql c) None k (Err stop)) (sym (command_is c is)) plainly in
       let text : text_of sql c ≡ statement_of sql (understood schema sql) = ap (statement_of sql) (sym known) in
-      inr (subst₂ (λ t s. Does old.step_limit (mode_of old) params (record old.now { schema = s }) t None command (Err (Some e))) text has named)
+      subst₂ (λ t s. Does old.step_limit (mode_of old) params (record old.now { schema = s }) t None command (Err stop)) text has named
 
-  -- a statement that was understood as the command fails for the store, or as the command is refused
-  pub refused_by : (e : Error) → ExecutesInside 0 sql params old new (Err e) → IsFault old e ⊎ RefusedAs e
+  -- the fault, or the row that is too large, or what is refused
+  abbrev Outcome : Error → Type 0
+  Outcome e = IsFault old new e ⊎ (((e ≡ SqliteFailure code.TooBig) × TooLarge) ⊎ RefusedAs e)
+
+  ran : (e : Error) (c : Compiled) (is : understood old.now.schema sql ≡ Ok c) (values : Row) → values ≡ params → RunsCommand old new sql c values (Err e) → Outcome e
+  ran e c is values same (inr store) = elim (reason_or_large old new store.0 store.2) [
+    | inl reason ↦ inl (inl (store.0, store.1, reason))
+    | inr large ↦ inr (inl (store.1 ∙ ap store_error large.0, does_as c is values same None large.1))
+  ]
+  ran e c is values same (inl (inl wrong, after)) = absurd (misplaced c.command (command_is c is) e wrong)
+  ran e c is values same (inl (inr does, after)) = inr (inr (does_as c is values same (Some e) does.1))
+
+  -- a statement that was understood as the command fails for the store, for a row that is too large, or as the command is refused
+  pub refused_by : (e : Error) → ExecutesInside 0 sql params old new (Err e) → Outcome e
   unfolding ExecutesIn IsNotRun EndsScope
   refused_by e (inr out) = absurd (escapes out.0.0.command (command_is out.0.0 out.0.1.is) out.0.2)
-  refused_by e (inl (inl (inr store), after)) = inl (inl (store.0, store.1))
+  refused_by e (inl (inl (inr store), after)) = inl (inl (store.0, store.1, reason_of old new store.0 store.2))
   refused_by e (inl (inl (inl none), after)) = absurd (no_statement e none.0)
   refused_by e (inl (inr h, after)) =
       let c = h.0 in
@@ -131,24 +151,30 @@ either_way true h = inl h
 either_way false h = inr h
 
 -- a statement over a connection that is shut fails for the store
-pub open_or_failed : (sql : List ℕ) (params : Row) (old new : State) (e : Error) → ExecutesInside 0 sql params old new (Err e) → IsTrue old.is_open ⊎ IsFault old e
+pub open_or_failed : (sql : List ℕ) (params : Row) (old new : State) (e : Error) → ExecutesInside 0 sql params old new (Err e) → IsTrue old.is_open ⊎ IsFault old new e
 unfolding ExecutesIn IsNotRun
-open_or_failed sql params old new e (inr out) = inl out.2.0.was_open
-open_or_failed sql params old new e (inl (inl (inl none), after)) = inl none.1.0.was_open
-open_or_failed sql params old new e (inl (inl (inr store), after)) = inr (inl (store.0, store.1))
-open_or_failed sql params old new e (inl (inr h, after)) = elim (either_way (shows_rows false h.0) h.2) [
-  | inl shown ↦ inl shown.1.0.was_open
-  | inr ran ↦ elim ran [ inl refused ↦ inl refused.1.0.was_open | inr store ↦ inr (inl (store.0, store.1)) ]
-]
+open_or_failed sql params old new e h = elim (cases_Bool old.is_open) [ inl is_open ↦ inl is_open | inr shut ↦ go shut h ]
+  where
+    by_store : old.is_open ≡ false → (cause : StoreError) → e ≡ store_error cause → IsFault old new e
+    by_store shut cause is = inl (cause, is, reason_if_shut old new cause shut)
+
+    go : old.is_open ≡ false → ExecutesInside 0 sql params old new (Err e) → IsTrue old.is_open ⊎ IsFault old new e
+    go shut (inr out) = inl out.2.0.was_open
+    go shut (inl (inl (inl none), after)) = inl none.1.0.was_open
+    go shut (inl (inl (inr store), after)) = inr (by_store shut store.0 store.1)
+    go shut (inl (inr h, after)) = elim (either_way (shows_rows false h.0) h.2) [
+      | inl shown ↦ inl shown.1.0.was_open
+      | inr ran ↦ elim ran [ inl refused ↦ inl refused.1.0.was_open | inr store ↦ inr (by_store shut store.0 store.1) ]
+    ]
 
 -- ---- what is refused of the rows of one table
 
 module _ (db : Trees) (edit : Edit) where
   -- with no action of a foreign key, nothing is refused after the edit
-  no_end : (next : Trees) (why : Refusal) → Settles layout Enforced next (works layout Enforced 0 edit.table.tree (taken_by db edit) edit.news) (Err (Some why)) → ⊥
+  no_end : (next : Trees) (why : Option Refusal) → Settles layout Enforced next (works layout Enforced 0 edit.table.tree (taken_by db edit) edit.news) (Err why) → ⊥
   no_end next why h = go h.0 (rw (idle edit.table.tree (taken_by db edit) edit.news) at h.1)
     where
-      go : (n : ℕ) → Leads layout Enforced n next [] (Err (Some why)) → ⊥
+      go : (n : ℕ) → Leads layout Enforced n next [] (Err why) → ⊥
       go zero h = let e = h.1 in cc
       go (suc n) h = omega (arith, ap length h.2, length-append h.0 (h.1 ∷ []))
 
@@ -160,9 +186,19 @@ module _ (db : Trees) (edit : Edit) where
       go None w is = absurd (cc)
       go (Some why) (inl r) is = let same : why ≡ r.0 = (let e = r.2 in cc) in (r.0, r.1, let all : e ≡ edit_error why = cc in all ∙ ap edit_error same)
       go (Some why) (inr (inl big)) is = absurd (let e = big.3 in cc)
-      go (Some why) (inr (inr went)) is = absurd (no_end went.0 why went.2)
+      go (Some why) (inr (inr went)) is = absurd (no_end went.0 (Some why) went.2)
 
-module _ (at : ℕ) (table : Table) (there : slice_get layout.tables at ≡ Some table) (old : State) (text : List ℕ) (params : Row) (e : Error) where
+  -- what stops an edit for its size is a row
+  edit_large : (stop : Option Error) → stop ≡ None → Edited layout Enforced db edit (Err stop) → (row : Row) × Has edit.news row × IsOversized layout edit.table row
+  edit_large stop is h = go h.0 h.1 (sym is ∙ h.2)
+    where
+      go : (why : Option Refusal) → action.Writes layout Enforced db edit (Err why) → None ≡ option_map edit_error why → (row : Row) × Has edit.news row × IsOversized layout edit.table row
+      go (Some why) w is = absurd (cc)
+      go None (inl r) is = absurd (let e = r.2 in cc)
+      go None (inr (inl big)) is = (big.0, big.1, big.2)
+      go None (inr (inr went)) is = absurd (no_end went.0 None went.2)
+
+module _ (at : ℕ) (table : Table) (there : slice_get layout.tables at ≡ Some table) (old new : State) (text : List ℕ) (params : Row) (e : Error) where
   abbrev db : Trees
   db = old.now.trees
 
@@ -177,18 +213,42 @@ module _ (at : ℕ) (table : Table) (there : slice_get layout.tables at ≡ Some
   concluded w refers (inl tested) = tested.1.0 refers
   concluded w refers (inr shown) = elim shown.2 [ inl stopped ↦ (let e = stopped.1 in cc) | inr gave ↦ (let e = gave.2 in cc) ]
 
+  -- once the rows are written, none is too large
+  concluded_large : (w : Written) → Concludes task (mode_of old) None w (Err None) → ⊥
+  concluded_large w (inl tested) = let some = tested.1.1 in let none = tested.2 in cc
+  concluded_large w (inr shown) = elim shown.2 [ inl stopped ↦ (let e = stopped.1 in cc) | inr gave ↦ (let e = gave.2 in cc) ]
+
   -- a query finds the rows
   module _ (q : Program) (typed : accepts_program layout (lets_of q) q.body params ≡ true) (fits : ProgramOverflows db params [] (lets_of q) q.body → ⊥) where
-    query_stopped : (stop : Option Error) → stop ≡ Some e → Queried old.step_limit (record { schema = layout; trees = db }) q params (Err stop) → IsFault old e
+    query_stopped : (stop : Option Error) → stop ≡ Some e → Queried old.step_limit (record { schema = layout; trees = db }) q params (Err stop) → IsFault old new e
     query_stopped None is h = absurd h
     query_stopped (Some x) is (inl ill) = absurd (both_ways _ ill.1 typed)
     query_stopped (Some x) is (inr (inl over)) = absurd (fits over.1)
-    query_stopped (Some x) is (inr (inr limit)) = let same : x ≡ e = cc in subst (IsFault old) same (inr limit)
+    query_stopped (Some x) is (inr (inr limit)) = let same : x ≡ e = cc in subst (IsFault old new) same (inr limit)
+
+    query_large : (stop : Option Error) → stop ≡ None → Queried old.step_limit (record { schema = layout; trees = db }) q params (Err stop) → ⊥
+    query_large None is h = h
+    query_large (Some x) is h = cc
+
+    delete_large : (stop : Option Error) → stop ≡ None → Deletes task q db (Err stop) → ⊥
+    delete_large stop is (inl asked) = query_large asked.0 (let e = asked.2 in cc) asked.1
+    delete_large stop is (inr found) = elim found.2 [
+      | inl cut ↦ (edit_large db (edit_of db table (ids_of found.0) Given 0 []) cut.0 (let e = cut.2 in cc) cut.1).1
+      | inr done ↦ (let e = done.2 in cc)
+    ]
+
+    -- a DELETE puts no row in that could be too large
+    pub delete_fits : Does old.step_limit (mode_of old) params (record old.now { schema = layout }) text None (Delete at q) (Err None) → ⊥
+    delete_fits does = go (rw there at does)
+      where
+        go : Then (Deletes task q db) (Concludes task (mode_of old) None) (Err None) → ⊥
+        go (inl stopped) = delete_large stopped.0 (let e = stopped.2 in cc) stopped.1
+        go (inr wrote) = concluded_large wrote.0 wrote.2
 
     -- a DELETE of them
     module _ (allowed : (found : List Row) (why : Refusal) → IsRefused layout Enforced db (edit_of db table (ids_of found) Given 0 []) why → ⊥)
         (refers : (found : List Row) (next : Trees) → Applies layout Enforced db (edit_of db table (ids_of found) Given 0 []) next → Refers All layout next) where
-      delete_stopped : (stop : Option Error) → stop ≡ Some e → Deletes task q db (Err stop) → IsFault old e
+      delete_stopped : (stop : Option Error) → stop ≡ Some e → Deletes task q db (Err stop) → IsFault old new e
       delete_stopped stop is (inl asked) = query_stopped asked.0 (let e = asked.2 in cc) asked.1
       delete_stopped stop is (inr found) = elim found.2 [
         | inl cut ↦ let r = edit_refused db (edit_of db table (ids_of found.0) Given 0 []) cut.0 e (let e = cut.2 in cc) cut.1 in absurd (allowed found.0 r.0 r.1)
@@ -206,10 +266,10 @@ module _ (at : ℕ) (table : Table) (there : slice_get layout.tables at ≡ Some
             subst (λ (w : Written). Refers All layout w.trees) (sym same) (refers found.0 cut.0 step)
       ]
 
-      pub delete_refused : Refused (Delete at q) → IsFault old e
+      pub delete_refused : Refused (Delete at q) → IsFault old new e
       delete_refused does = go (rw there at does)
         where
-          go : Then (Deletes task q db) (Concludes task (mode_of old) None) (Err (Some e)) → IsFault old e
+          go : Then (Deletes task q db) (Concludes task (mode_of old) None) (Err (Some e)) → IsFault old new e
           go (inl stopped) = delete_stopped stopped.0 (let e = stopped.2 in cc) stopped.1
           go (inr wrote) = absurd (concluded wrote.0 (deleted_trees wrote.0 wrote.1) wrote.2)
 
@@ -220,7 +280,7 @@ module _ (at : ℕ) (table : Table) (there : slice_get layout.tables at ≡ Some
     module _ (refers : (found : List Row) (next : Trees) → Queried old.step_limit (record { schema = layout; trees = db }) q params (Ok found) → Applies layout Enforced db (altered_by found) next → Refers All layout next) where
       -- the fault, or why the edit is refused
       abbrev Halt : Type 0
-      Halt = IsFault old e ⊎ ((found : List Row) × (why : Refusal) × Queried old.step_limit (record { schema = layout; trees = db }) q params (Ok found) × IsRefused layout Enforced db (altered_by found) why × (e ≡ edit_error why))
+      Halt = IsFault old new e ⊎ ((found : List Row) × (why : Refusal) × Queried old.step_limit (record { schema = layout; trees = db }) q params (Ok found) × IsRefused layout Enforced db (altered_by found) why × (e ≡ edit_error why))
 
       update_stopped : (stop : Option Error) → stop ≡ Some e → Updates task q params db (Err stop) → Halt
       update_stopped stop is (inl asked) = inl (query_stopped asked.0 (let e = asked.2 in cc) asked.1)
@@ -258,15 +318,15 @@ module _ (at : ℕ) (table : Table) (there : slice_get layout.tables at ≡ Some
 
     -- the fault, or why the edit is refused
     abbrev Stop : Type 0
-    Stop = IsFault old e ⊎ ((why : Refusal) × IsRefused layout Enforced db edit why × (e ≡ edit_error why))
+    Stop = IsFault old new e ⊎ ((why : Refusal) × IsRefused layout Enforced db edit why × (e ≡ edit_error why))
 
     chosen : (counter : Option Row) → rowids_for table (count_of counter) ≡ Chosen
     chosen counter = ap (λ b. if b then Above (count_of counter) else Chosen) uncounted
 
-    source_stopped : (stop : Option Error) → stop ≡ Some e → Sourced old.step_limit (record { schema = layout; trees = db }) (stamped table params) (Values terms width) (Err stop) → IsFault old e
+    source_stopped : (stop : Option Error) → stop ≡ Some e → Sourced old.step_limit (record { schema = layout; trees = db }) (stamped table params) (Values terms width) (Err stop) → IsFault old new e
     source_stopped None is h = absurd h
     source_stopped (Some x) is (inl ill) = absurd (both_ways _ ill.1 typed)
-    source_stopped (Some x) is (inr limit) = let same : x ≡ e = cc in subst (IsFault old) same (inr limit)
+    source_stopped (Some x) is (inr limit) = let same : x ≡ e = cc in subst (IsFault old new) same (inr limit)
 
     uncounts : (b x : Bool) (P Q : Type 0) → b ≡ false → MatchBool (if b then x else false) P Q → Q
     uncounts true x P Q is h = absurd (cc)
@@ -322,23 +382,28 @@ module _ (at : ℕ) (table : Table) (there : slice_get layout.tables at ≡ Some
 abbrev pub OrTooLate : State → Error → Type 0 → Type 0
 OrTooLate old e Failed = Failed ⊎ ((e ≡ SqliteFailure code.TransactionState) × (old.in_transaction ≡ false))
 
-pub as_write_fault : (old : State) (e : Error) {Failed : Type 0} → (Failed → IsFault old e) → OrTooLate old e Failed → IsWriteFault old e
-as_write_fault old e faults (inl failed) = inl (faults failed)
-as_write_fault old e faults (inr late) = inr late
+pub as_write_fault : (old new : State) (e : Error) {Failed : Type 0} → (Failed → IsFault old new e) → OrTooLate old e Failed → IsWriteFault old new e
+as_write_fault old new e faults (inl failed) = inl (faults failed)
+as_write_fault old new e faults (inr late) = inr late
 
-pub or_insert_fault : (old : State) (e : Error) {Failed : Type 0} → (Failed → IsInsertFault old e) → OrTooLate old e Failed → IsInsertFault old e
-or_insert_fault old e faults (inl failed) = faults failed
-or_insert_fault old e faults (inr late) = inl (inr late)
+pub or_insert_fault : (old new : State) (e : Error) {Failed : Type 0} → (Failed → IsInsertFault old new e) → OrTooLate old e Failed → IsInsertFault old new e
+or_insert_fault old new e faults (inl failed) = faults failed
+or_insert_fault old new e faults (inr late) = inl (inl (inr late))
+
+pub or_put_fault : (old new : State) (e : Error) {Failed : Type 0} → (Failed → IsPutFault old new e) → OrTooLate old e Failed → IsPutFault old new e
+or_put_fault old new e faults (inl failed) = faults failed
+or_put_fault old new e faults (inr late) = inl (inr late)
 
 -- a later statement fails as one at the start does, since the transaction goes on
-module _ (first later : State) (limit : later.step_limit ≡ first.step_limit) (inside : later.in_transaction ≡ true) (e : Error) where
-  pub write_fault_later : IsWriteFault later e → IsWriteFault first e
-  write_fault_later (inl (inl store)) = inl (inl store)
-  write_fault_later (inl (inr stopped)) = inl (inr (stopped.0, subst IsSome limit stopped.1))
+module _ (first later new : State) (survives : Survives first later (λ _. ⊥)) (clean : HasCleanDisk later) (up : later.faults ≤ new.faults) (inside : later.in_transaction ≡ true) (e : Error) where
+  pub write_fault_later : IsWriteFault later new e → IsWriteFault first new e
+  write_fault_later (inl (inl store)) = inl (inl (store.0, store.1, reason_by later new first new (fault_since first later new (survives.closes clean) survives.counts up) store.0 store.2))
+  write_fault_later (inl (inr stopped)) = inl (inr (stopped.0, subst IsSome survives.limit stopped.1))
   write_fault_later (inr late) = absurd (both_ways _ late.1 inside)
 
-  pub insert_fault_later : IsInsertFault later e → IsInsertFault first e
-  insert_fault_later (inl fault) = inl (write_fault_later fault)
+  pub insert_fault_later : IsInsertFault later new e → IsInsertFault first new e
+  insert_fault_later (inl (inl fault)) = inl (inl (write_fault_later fault))
+  insert_fault_later (inl (inr large)) = inl (inr large)
   insert_fault_later (inr rowid) = inr rowid
 
 -- an error that `?` passes on

@@ -24,7 +24,7 @@ pub record KeepsInside {S : Type 0} (g : Ghosts S) (old new : Transaction S) : T
 -- A call that runs a statement inside a transaction keeps that much. Where it succeeds the connection was open, and the transaction goes on; over one that is shut it fails with a fault.
 pub record StaysInside {S X : Type 0} (g : Ghosts S) (old new : Transaction S) (result : Result X Error) : Type 0 where
   pub keeps : KeepsInside g old new
-  pub shut : HasCleanDisk (state_in g new) → IfErr result (λ e. IsTrue (state_in g old).is_open ⊎ IsWriteFault (state_in g old) e)
+  pub shut : HasCleanDisk (state_in g new) → IfErr result (λ e. IsTrue (state_in g old).is_open ⊎ IsWriteFault (state_in g old) (state_in g new) e)
   pub was_open : HasCleanDisk (state_in g new) → OnOk result (IsTrue (state_in g old).is_open)
   pub inside : HasCleanDisk (state_in g new) → OnOk result ((state_in g new).in_transaction ≡ true)
 

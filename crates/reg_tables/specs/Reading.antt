@@ -40,17 +40,17 @@ HasReason old new OutOfMemory = ⊤
 HasReason old new _ = HasDiskFault old new
 
 -- memory ran out or the disk failed, or the connection's limit on steps was met
-abbrev pub IsReadFault : State → State → Error → Type 0
-IsReadFault old new e = ((cause : StoreError) × (e ≡ store_error cause) × HasReason old new cause) ⊎ ((e ≡ SqliteFailure code.OperationInterrupted) × IsSome old.step_limit)
-
--- the store failed or memory ran out, or the connection's limit on steps was met
-abbrev pub IsFault : State → Error → Type 0
-IsFault old e = ((cause : StoreError) × (e ≡ store_error cause)) ⊎ ((e ≡ SqliteFailure code.OperationInterrupted) × IsSome old.step_limit)
+abbrev pub IsFault : State → State → Error → Type 0
+IsFault old new e = ((cause : StoreError) × (e ≡ store_error cause) × HasReason old new cause) ⊎ ((e ≡ SqliteFailure code.OperationInterrupted) × IsSome old.step_limit)
 
 -- the same, or a failure had ended the transaction
-abbrev pub IsWriteFault : State → Error → Type 0
-IsWriteFault old e = IsFault old e ⊎ ((e ≡ SqliteFailure code.TransactionState) × (old.in_transaction ≡ false))
+abbrev pub IsWriteFault : State → State → Error → Type 0
+IsWriteFault old new e = IsFault old new e ⊎ ((e ≡ SqliteFailure code.TransactionState) × (old.in_transaction ≡ false))
+
+-- the same, or a row that is put in is too large to be stored
+abbrev pub IsPutFault : State → State → Error → Type 0
+IsPutFault old new e = IsWriteFault old new e ⊎ (e ≡ SqliteFailure code.TooBig)
 
 -- The same, or no row can be put in at the rowid that SQLite chooses, one above the last row's: it is past the greatest, or else taken, where the rows do not stand in the order of their rowids. An UPDATE may fail so at the rowid that its row has, which nothing here bounds.
-abbrev pub IsInsertFault : State → Error → Type 0
-IsInsertFault old e = IsWriteFault old e ⊎ ((e ≡ SqliteFailure code.NoRowid) ⊎ (e ≡ SqliteFailure (code.ConstraintViolation PrimaryKey)))
+abbrev pub IsInsertFault : State → State → Error → Type 0
+IsInsertFault old new e = IsPutFault old new e ⊎ ((e ≡ SqliteFailure code.NoRowid) ⊎ (e ≡ SqliteFailure (code.ConstraintViolation PrimaryKey)))

@@ -7,7 +7,7 @@ ghost use Rattle.reg_tables.specs.Frames.{state_in, StaysInside, StaysIdle};
 ghost use Rattle.sqlite.specs.State.{HasCleanDisk};
 ghost use Rattle.reg_tables.specs.Contents.{KeptRow, Contents, kept_cells, IsReadableReply, Holds};
 ghost use Rattle.reg_tables.specs.Changes.{with_kept};
-ghost use Rattle.reg_tables.specs.Reading.{CanBeRead, IsReadFault, IsInsertFault};
+ghost use Rattle.reg_tables.specs.Reading.{CanBeRead, IsFault, IsInsertFault};
 ghost use Rattle.reg_tables.specs.Replies.{kept_row};
 
 use crate::statement::{ask, run};
@@ -37,7 +37,7 @@ pub fn keep_reply<S: Alter>(
         (record { command = command.now; status = status; body = body.now }) contents)) }
     ensures fault { HasCleanDisk (state_in S.Store tx.new) → IfErr result (λ e.
         (contents : Contents) → Holds (state_in S.Store tx.old).now contents
-        → get contents.kept key.now ≡ None → IsInsertFault (state_in S.Store tx.old) e) }
+        → get contents.kept key.now ≡ None → IsInsertFault (state_in S.Store tx.old) (state_in S.Store tx.new) e) }
 {
     run(
         tx,
@@ -69,7 +69,7 @@ pub fn kept_reply<S: Alter>(conn: &mut Connection<S>, key: &str) -> Result<Optio
         (λ reply. get contents.kept key.now ≡ Some (kept_row reply))) }
     ensures fault { HasCleanDisk (state S.Store conn.new) → IfErr result (λ e.
         CanBeRead (state S.Store conn.old)
-        → IsReadFault (state S.Store conn.old) (state S.Store conn.new) e) }
+        → IsFault (state S.Store conn.old) (state S.Store conn.new) e) }
 {
     let rows = ask(
         conn,

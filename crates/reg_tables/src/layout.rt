@@ -19,7 +19,7 @@ fn make_schema_tables<S: Alter>(tx: &mut Transaction<'_, S>) -> Result<(), Error
         → OnOk result ((state_in S.Store tx.old).now.schema ≡ no_schema
         → IsBare (begun 2) (state_in S.Store tx.new).now) }
     ensures fault { HasCleanDisk (state_in S.Store tx.new) → IfErr result (λ e.
-        (state_in S.Store tx.old).now.schema ≡ no_schema → IsWriteFault (state_in S.Store tx.old) e) }
+        (state_in S.Store tx.old).now.schema ≡ no_schema → IsWriteFault (state_in S.Store tx.old) (state_in S.Store tx.new) e) }
 {
     run(
         tx,
@@ -40,7 +40,7 @@ fn make_other_tables<S: Alter>(tx: &mut Transaction<'_, S>) -> Result<(), Error>
         → OnOk result (IsBare (begun 2) (state_in S.Store tx.old).now
         → HoldsIn unindexed (state_in S.Store tx.new).now no_contents) }
     ensures fault { HasCleanDisk (state_in S.Store tx.new) → IfErr result (λ e.
-        IsBare (begun 2) (state_in S.Store tx.old).now → IsWriteFault (state_in S.Store tx.old) e) }
+        IsBare (begun 2) (state_in S.Store tx.old).now → IsWriteFault (state_in S.Store tx.old) (state_in S.Store tx.new) e) }
 {
     run(
         tx,
@@ -67,7 +67,7 @@ pub fn index_versions<S: Alter>(tx: &mut Transaction<'_, S>) -> Result<(), Error
         → Holds (state_in S.Store tx.new).now contents) }
     ensures fault { HasCleanDisk (state_in S.Store tx.new) → IfErr result (λ e.
         (contents : Contents) → HoldsIn unindexed (state_in S.Store tx.old).now contents
-        → IsWriteFault (state_in S.Store tx.old) e) }
+        → IsWriteFault (state_in S.Store tx.old) (state_in S.Store tx.new) e) }
 {
     run(tx, "CREATE INDEX versions_of_id ON versions (id)", &[])
 }
@@ -79,7 +79,7 @@ fn make_tables<S: Alter>(tx: &mut Transaction<'_, S>) -> Result<(), Error>
         → OnOk result ((state_in S.Store tx.old).now.schema ≡ no_schema
         → Holds (state_in S.Store tx.new).now no_contents) }
     ensures fault { HasCleanDisk (state_in S.Store tx.new) → IfErr result (λ e.
-        (state_in S.Store tx.old).now.schema ≡ no_schema → IsWriteFault (state_in S.Store tx.old) e) }
+        (state_in S.Store tx.old).now.schema ≡ no_schema → IsWriteFault (state_in S.Store tx.old) (state_in S.Store tx.new) e) }
 {
     make_schema_tables(tx)?;
     make_other_tables(tx)?;
@@ -94,7 +94,7 @@ pub fn create<S: Alter>(tx: &mut Transaction<'_, S>) -> Result<(), Error>
         → OnOk result ((state_in S.Store tx.old).now.schema ≡ no_schema
         → Holds (state_in S.Store tx.new).now new_contents) }
     ensures fault { HasCleanDisk (state_in S.Store tx.new) → IfErr result (λ e.
-        (state_in S.Store tx.old).now.schema ≡ no_schema → IsInsertFault (state_in S.Store tx.old) e) }
+        (state_in S.Store tx.old).now.schema ≡ no_schema → IsInsertFault (state_in S.Store tx.old) (state_in S.Store tx.new) e) }
 {
     make_tables(tx)?;
     put_meta(tx, "format", "avroreg")?;

@@ -7,7 +7,7 @@ ghost use Rattle.reg_tables.specs.Frames.{state_in, StaysInside, StaysIdle};
 ghost use Rattle.sqlite.specs.State.{HasCleanDisk};
 ghost use Rattle.reg_tables.specs.Contents.{Contents, Holds};
 ghost use Rattle.reg_tables.specs.Changes.{Changes, with_level, without_level};
-ghost use Rattle.reg_tables.specs.Reading.{CanBeRead, IsReadFault, IsWriteFault, IsInsertFault};
+ghost use Rattle.reg_tables.specs.Reading.{CanBeRead, IsFault, IsWriteFault, IsInsertFault};
 
 use crate::statement::{ask, run};
 use sqlite::{Alter, Connection, Error, Transaction, params};
@@ -20,7 +20,7 @@ fn put_level<S: Alter>(tx: &mut Transaction<'_, S>, subject: &str, level: &str) 
         → Holds (state_in S.Store tx.new).now (with_level subject.now level.now contents)) }
     ensures fault { HasCleanDisk (state_in S.Store tx.new) → IfErr result (λ e.
         (contents : Contents) → Holds (state_in S.Store tx.old).now contents
-        → get contents.levels subject.now ≡ None → IsInsertFault (state_in S.Store tx.old) e) }
+        → get contents.levels subject.now ≡ None → IsInsertFault (state_in S.Store tx.old) (state_in S.Store tx.new) e) }
 {
     run(
         tx,
@@ -37,7 +37,7 @@ pub fn drop_level<S: Alter>(tx: &mut Transaction<'_, S>, subject: &str) -> Resul
         (without_level subject.now)) }
     ensures fault { HasCleanDisk (state_in S.Store tx.new) → IfErr result (λ e.
         (contents : Contents) → Holds (state_in S.Store tx.old).now contents
-        → IsWriteFault (state_in S.Store tx.old) e) }
+        → IsWriteFault (state_in S.Store tx.old) (state_in S.Store tx.new) e) }
 {
     run(
         tx,
@@ -58,7 +58,7 @@ pub fn set_level<S: Alter>(
         (with_level subject.now level.now)) }
     ensures fault { HasCleanDisk (state_in S.Store tx.new) → IfErr result (λ e.
         (contents : Contents) → Holds (state_in S.Store tx.old).now contents
-        → IsInsertFault (state_in S.Store tx.old) e) }
+        → IsInsertFault (state_in S.Store tx.old) (state_in S.Store tx.new) e) }
 {
     drop_level(tx, subject)?;
     put_level(tx, subject, level)
@@ -74,7 +74,7 @@ pub fn own_level<S: Alter>(conn: &mut Connection<S>, subject: &str) -> Result<Op
         (λ level. get contents.levels subject.now ≡ Some (string_bytes level))) }
     ensures fault { HasCleanDisk (state S.Store conn.new) → IfErr result (λ e.
         CanBeRead (state S.Store conn.old)
-        → IsReadFault (state S.Store conn.old) (state S.Store conn.new) e) }
+        → IsFault (state S.Store conn.old) (state S.Store conn.new) e) }
 {
     let rows = ask(
         conn,

@@ -8,7 +8,7 @@ ghost use Rattle.sqlite.specs.State.{HasCleanDisk, Shown, FailsToQuery, IsTooLat
 ghost use Rattle.reg_tables.specs.Layout.{IsLayout};
 ghost use Rattle.reg_tables.specs.Contents.{flag_cell, text_form, version_form, pair_form, kept_form};
 ghost use Rattle.reg_tables.specs.Listings.{Parts, parts_of, entry_parts, text_entry, version_entry, level_entry, kept_entry, meta_entry, ListsTexts, ListsVersions, ListsLevels, ListsKept, ListsMeta, IsReadableText, IsReadableVersion, IsReadablePair, IsReadableKept};
-ghost use Rattle.reg_tables.specs.Reading.{CanBeRead, IsReadFault};
+ghost use Rattle.reg_tables.specs.Reading.{CanBeRead, IsFault};
 
 use crate::kept::KeptReply;
 use crate::statement::ask;
@@ -217,7 +217,7 @@ pub fn text_lines<S: Alter>(alloc: Global, conn: &mut Connection<S>) -> Result<V
         → ListsTexts (state S.Store conn.old).now lines.items) }
     ensures fault { HasCleanDisk (state S.Store conn.new) → IfErr result (λ e.
         CanBeRead (state S.Store conn.old)
-        → IsReadFault (state S.Store conn.old) (state S.Store conn.new) e) }
+        → IsFault (state S.Store conn.old) (state S.Store conn.new) e) }
 {
     lines_shown(alloc, conn, "SELECT rowid, id, text FROM texts")
 }
@@ -234,7 +234,7 @@ pub fn version_lines<S: Alter>(
         → ListsVersions (state S.Store conn.old).now lines.items) }
     ensures fault { HasCleanDisk (state S.Store conn.new) → IfErr result (λ e.
         CanBeRead (state S.Store conn.old)
-        → IsReadFault (state S.Store conn.old) (state S.Store conn.new) e) }
+        → IsFault (state S.Store conn.old) (state S.Store conn.new) e) }
 {
     lines_shown(
         alloc,
@@ -255,7 +255,7 @@ pub fn level_lines<S: Alter>(
         → ListsLevels (state S.Store conn.old).now lines.items) }
     ensures fault { HasCleanDisk (state S.Store conn.new) → IfErr result (λ e.
         CanBeRead (state S.Store conn.old)
-        → IsReadFault (state S.Store conn.old) (state S.Store conn.new) e) }
+        → IsFault (state S.Store conn.old) (state S.Store conn.new) e) }
 {
     lines_shown(alloc, conn, "SELECT rowid, subject, level FROM levels")
 }
@@ -269,7 +269,7 @@ pub fn kept_lines<S: Alter>(alloc: Global, conn: &mut Connection<S>) -> Result<V
         → ListsKept (state S.Store conn.old).now lines.items) }
     ensures fault { HasCleanDisk (state S.Store conn.new) → IfErr result (λ e.
         CanBeRead (state S.Store conn.old)
-        → IsReadFault (state S.Store conn.old) (state S.Store conn.new) e) }
+        → IsFault (state S.Store conn.old) (state S.Store conn.new) e) }
 {
     lines_shown(
         alloc,
@@ -287,7 +287,7 @@ pub fn meta_lines<S: Alter>(alloc: Global, conn: &mut Connection<S>) -> Result<V
         → ListsMeta (state S.Store conn.old).now lines.items) }
     ensures fault { HasCleanDisk (state S.Store conn.new) → IfErr result (λ e.
         CanBeRead (state S.Store conn.old)
-        → IsReadFault (state S.Store conn.old) (state S.Store conn.new) e) }
+        → IsFault (state S.Store conn.old) (state S.Store conn.new) e) }
 {
     lines_shown(alloc, conn, "SELECT rowid, name, value FROM meta")
 }

@@ -7,7 +7,7 @@ ghost use Rattle.reg_tables.specs.Frames.{state_in, StaysInside, StaysIdle};
 ghost use Rattle.sqlite.specs.State.{HasCleanDisk};
 ghost use Rattle.reg_tables.specs.Contents.{Contents, Holds};
 ghost use Rattle.reg_tables.specs.Changes.{Changes, with_meta, without_meta, with_global};
-ghost use Rattle.reg_tables.specs.Reading.{CanBeRead, IsReadFault, IsWriteFault, IsInsertFault};
+ghost use Rattle.reg_tables.specs.Reading.{CanBeRead, IsFault, IsWriteFault, IsInsertFault};
 
 use crate::statement::{ask, run};
 use sqlite::{Alter, Connection, Error, Transaction, params};
@@ -24,7 +24,7 @@ pub(crate) fn put_meta<S: Alter>(
         → Holds (state_in S.Store tx.new).now (with_meta name.now value.now contents)) }
     ensures fault { HasCleanDisk (state_in S.Store tx.new) → IfErr result (λ e.
         (contents : Contents) → Holds (state_in S.Store tx.old).now contents
-        → get contents.meta name.now ≡ None → IsInsertFault (state_in S.Store tx.old) e) }
+        → get contents.meta name.now ≡ None → IsInsertFault (state_in S.Store tx.old) (state_in S.Store tx.new) e) }
 {
     run(
         tx,
@@ -40,7 +40,7 @@ fn drop_meta<S: Alter>(tx: &mut Transaction<'_, S>, name: &str) -> Result<(), Er
         (without_meta name.now)) }
     ensures fault { HasCleanDisk (state_in S.Store tx.new) → IfErr result (λ e.
         (contents : Contents) → Holds (state_in S.Store tx.old).now contents
-        → IsWriteFault (state_in S.Store tx.old) e) }
+        → IsWriteFault (state_in S.Store tx.old) (state_in S.Store tx.new) e) }
 {
     run(tx, "DELETE FROM meta WHERE name = ?1", params![name])
 }
@@ -53,7 +53,7 @@ pub fn set_global<S: Alter>(tx: &mut Transaction<'_, S>, level: &str) -> Result<
         (with_global level.now)) }
     ensures fault { HasCleanDisk (state_in S.Store tx.new) → IfErr result (λ e.
         (contents : Contents) → Holds (state_in S.Store tx.old).now contents
-        → IsInsertFault (state_in S.Store tx.old) e) }
+        → IsInsertFault (state_in S.Store tx.old) (state_in S.Store tx.new) e) }
 {
     drop_meta(tx, "global")?;
     put_meta(tx, "global", level)
@@ -69,7 +69,7 @@ pub fn global_level<S: Alter>(conn: &mut Connection<S>) -> Result<Option<String>
         (λ level. get contents.meta (codes "global") ≡ Some (string_bytes level))) }
     ensures fault { HasCleanDisk (state S.Store conn.new) → IfErr result (λ e.
         CanBeRead (state S.Store conn.old)
-        → IsReadFault (state S.Store conn.old) (state S.Store conn.new) e) }
+        → IsFault (state S.Store conn.old) (state S.Store conn.new) e) }
 {
     let rows = ask(
         conn,

@@ -7,7 +7,7 @@ ghost use Rattle.reg_tables.specs.Frames.{state_in, StaysInside, StaysIdle};
 ghost use Rattle.sqlite.specs.State.{HasCleanDisk};
 ghost use Rattle.reg_tables.specs.Contents.{Contents, Holds};
 ghost use Rattle.reg_tables.specs.Changes.{with_text};
-ghost use Rattle.reg_tables.specs.Reading.{CanBeRead, IsReadFault, IsWriteFault};
+ghost use Rattle.reg_tables.specs.Reading.{CanBeRead, IsFault, IsPutFault};
 
 use crate::statement::{ask, run};
 use sqlite::{Alter, Connection, Error, Transaction, params};
@@ -22,7 +22,7 @@ pub fn put_text<S: Alter>(tx: &mut Transaction<'_, S>, id: u32, text: &str) -> R
         (contents : Contents) → Holds (state_in S.Store tx.old).now contents
         → get contents.texts id ≡ None
         → ((other : ℕ) → get contents.texts other ≢ Some text.now)
-        → IsWriteFault (state_in S.Store tx.old) e) }
+        → IsPutFault (state_in S.Store tx.old) (state_in S.Store tx.new) e) }
 {
     run(
         tx,
@@ -41,7 +41,7 @@ pub fn text_of<S: Alter>(conn: &mut Connection<S>, id: u32) -> Result<Option<Str
         (λ text. get contents.texts id ≡ Some (string_bytes text))) }
     ensures fault { HasCleanDisk (state S.Store conn.new) → IfErr result (λ e.
         CanBeRead (state S.Store conn.old)
-        → IsReadFault (state S.Store conn.old) (state S.Store conn.new) e) }
+        → IsFault (state S.Store conn.old) (state S.Store conn.new) e) }
 {
     let rows = ask(conn, "SELECT text FROM texts WHERE id = ?1", params![id])?;
     match rows.first() {

@@ -28,7 +28,7 @@ pub fn put_version<S: Alter>(
     ensures fault { HasCleanDisk (state_in S.Store tx.new) → IfErr result (λ e.
         (contents : Contents) → Holds (state_in S.Store tx.old).now contents
         → get contents.versions (subject.now, number) ≡ None → IsSome (get contents.texts id)
-        → IsInsertFault (state_in S.Store tx.old) e) }
+        → IsInsertFault (state_in S.Store tx.old) (state_in S.Store tx.new) e) }
 {
     run(
         tx,
@@ -49,7 +49,7 @@ pub fn drop_version<S: Alter>(
         (without_version (subject.now, number))) }
     ensures fault { HasCleanDisk (state_in S.Store tx.new) → IfErr result (λ e.
         (contents : Contents) → Holds (state_in S.Store tx.old).now contents
-        → IsWriteFault (state_in S.Store tx.old) e) }
+        → IsWriteFault (state_in S.Store tx.old) (state_in S.Store tx.new) e) }
 {
     run(
         tx,
@@ -70,7 +70,7 @@ pub fn mark_deleted<S: Alter>(
         (with_deleted (subject.now, number))) }
     ensures fault { HasCleanDisk (state_in S.Store tx.new) → IfErr result (λ e.
         (contents : Contents) → Holds (state_in S.Store tx.old).now contents
-        → IsInsertFault (state_in S.Store tx.old) e) }
+        → IsInsertFault (state_in S.Store tx.old) (state_in S.Store tx.new) e) }
 {
     run(
         tx,

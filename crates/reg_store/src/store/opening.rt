@@ -7,7 +7,7 @@ ghost use Rattle.sqlite.specs.State.{HasCleanDisk, Survives, KeepsCommit};
 ghost use Rattle.reg_tables.specs.Layout.{unindexed};
 ghost use Rattle.reg_tables.specs.Contents.{Contents, HoldsIn, Holds};
 ghost use Rattle.reg_tables.specs.Reading.{OnlyReads};
-ghost use Rattle.reg_store.specs.Failures.{failure_of, is_fault};
+ghost use Rattle.reg_store.specs.Failures.{failure_of, IsFaultBy};
 ghost use Rattle.reg_store.specs.Opening.{IsRefusedBy, TellsNewer, OpensOver, IsIndexed};
 ghost use Rattle.reg_store.specs.Stores.{state_of, has_failed};
 ghost use Rattle.reg_store.specs.Testing.{IsFaultUnopened};
@@ -111,7 +111,7 @@ fn make_index<S: Alter>(conn: &mut Connection<S>) -> Result<(), Error>
     ensures fault { HasCleanDisk (state S.Store conn.new) → IfErr result (λ e.
         (IsTrue (state S.Store conn.old).is_open
         → (contents : Contents) × HoldsIn unindexed (state S.Store conn.old).now contents)
-        → IsTrue (is_fault (failure_of e))) }
+        → IsFaultBy (state S.Store conn.old) (state S.Store conn.new) (failure_of e)) }
     ensures nothing { HasCleanDisk (state S.Store conn.new)
         → OnErr result (KeepsCommit (state S.Store conn.old) (state S.Store conn.new)) }
     ensures survives { Survives (state S.Store conn.old) (state S.Store conn.new)

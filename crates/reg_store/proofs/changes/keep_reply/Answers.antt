@@ -24,5 +24,5 @@ returns-in-Some-clause-goes_on g c clean = on_ok c.keep_reply.result (λ inside 
 pub returns-in-Some-clause-fault : goal.returns-in-Some-clause-fault
 returns-in-Some-clause-fault g c clean =
     rw c.in-Some.is
-    (if_err_both c.keep_reply.result (λ e fails shut. fault_of_reply (state g.S.Store c.args.tx.now.conn.now) e shut c.in-Some.keep fails)
+    (if_err_both c.keep_reply.result (λ e fails shut. fault_of_reply (state g.S.Store c.args.tx.now.conn.now) (state g.S.Store c.keep_reply.new.tx.conn.now) e shut c.in-Some.keep fails)
     (rw c.as_str.ensures.text at (c.keep_reply.ensures.fault clean)) (c.keep_reply.ensures.frame.shut clean))

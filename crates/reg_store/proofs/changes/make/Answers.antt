@@ -19,8 +19,8 @@ returns-in-SetLevel-clause-made g c clean =
 
 pub returns-in-SetGlobal-clause-fault : goal.returns-in-SetGlobal-clause-fault
 returns-in-SetGlobal-clause-fault g c clean =
-    if_err_both c.set_global.result (λ e fails shut. fault_of_change (state g.S.Store c.args.tx.now.conn.now) e shut fails) (c.set_global.ensures.fault clean) (c.set_global.ensures.frame.shut clean)
+    if_err_both c.set_global.result (λ e fails shut. fault_of_change (state g.S.Store c.args.tx.now.conn.now) (state g.S.Store c.set_global.new.tx.conn.now) e shut fails) (c.set_global.ensures.fault clean) (c.set_global.ensures.frame.shut clean)
 
 pub returns-in-SetLevel-clause-fault : goal.returns-in-SetLevel-clause-fault
 returns-in-SetLevel-clause-fault g c clean =
-    if_err_both c.set_level.result (λ e fails shut. fault_of_change (state g.S.Store c.args.tx.now.conn.now) e shut fails) (c.set_level.ensures.fault clean) (c.set_level.ensures.frame.shut clean)
+    if_err_both c.set_level.result (λ e fails shut. fault_of_change (state g.S.Store c.args.tx.now.conn.now) (state g.S.Store c.set_level.new.tx.conn.now) e shut fails) (c.set_level.ensures.fault clean) (c.set_level.ensures.frame.shut clean)

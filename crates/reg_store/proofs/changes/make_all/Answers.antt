@@ -47,7 +47,7 @@ returns-in_err-make-clause-fault g c clean =
     let before = c.loop-change.invariant in
     let early : HasCleanDisk mid = omega (arith, c.in_err-make.ensures.frame.keeps.survives.clean) in
     let e = c.in_err-make.field-0.0 in
-    erred_with c.from_residual.result e (IsFaultOfChange old) c.from_residual.ensures.1 (λ registry k spells. fault_later old mid before.survives.limit (before.goes_on early) e
+    erred_with c.from_residual.result e (IsFaultOfChange old (state g.S.Store c.make.new.tx.conn.now)) c.from_residual.ensures.1 (λ registry k spells. fault_later old mid (state g.S.Store c.make.new.tx.conn.now) before.survives early c.make.ensures.frame.keeps.survives.counts (before.goes_on early) e
     (c.in_err-make.ensures.fault clean (changed (take c.loop-change.change-index c.args.changes.now) registry) k (λ is_open. before.made early registry k (spells ((before.kept early).was_open is_open)))))
 
 pub returns-clause-was_open : goal.returns-clause-was_open

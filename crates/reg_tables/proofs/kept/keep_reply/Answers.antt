@@ -14,6 +14,6 @@ returns-clause-put g c clean =
 pub returns-clause-fault : goal.returns-clause-fault
 returns-clause-fault g c clean =
     let first = state g.S.Store c.args.tx.now.conn.now in
-    if_err c.run.result (λ e failed contents holds free. or_insert_fault first e
+    if_err c.run.result (λ e failed contents holds free. or_insert_fault first (state g.S.Store c.run.new.tx.conn.now) e
     (put_kept_fails first (state g.S.Store c.run.new.tx.conn.now) contents holds e c.args.key.now (record { command = c.args.command.now; status = c.args.status; body = c.args.body.now }) free)
     (rw (c.params-to_sql.ensures, c.params-to_sql-2.ensures, c.params-to_sql-3.ensures, c.params-to_sql-4.ensures) at failed)) (c.run.ensures.failed clean)

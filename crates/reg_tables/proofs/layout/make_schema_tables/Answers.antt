@@ -26,8 +26,8 @@ returns-in_err-run-clause-fault g c clean =
     let first = state g.S.Store c.args.tx.now.conn.now in
     let one = state g.S.Store c.run.new.tx.conn.now in
     let e = c.in_err-run.field-0.0 in
-    erred_with c.from_residual.result e (λ e. first.now.schema ≡ no_schema → IsWriteFault first e) c.from_residual.ensures.1
-    (λ none. as_write_fault first e (make_fails make_texts no_schema texts (begun 1) makes_texts texts_can_be first one none e) (c.in_err-run.ensures.failed clean))
+    erred_with c.from_residual.result e (λ e. first.now.schema ≡ no_schema → IsWriteFault first one e) c.from_residual.ensures.1
+    (λ none. as_write_fault first (state g.S.Store c.run.new.tx.conn.now) e (make_fails make_texts no_schema texts (begun 1) makes_texts texts_can_be first one none e) (c.in_err-run.ensures.failed clean))
 
 pub returns-clause-fault : goal.returns-clause-fault
 returns-clause-fault g c clean =
@@ -38,5 +38,5 @@ returns-clause-fault g c clean =
     if_err c.run-2.result (λ e failed none.
     let ran_one = c.in_ok-run.ensures.runs early in
     let bare = makes_bare make_texts no_schema texts (begun 1) makes_texts first one ran_one.0 (record { declared = none; empty = tt }) ran_one.1.0 in
-    write_fault_later first one c.run.ensures.frame.keeps.survives.limit (c.in_ok-run.ensures.frame.inside early) e
-    (as_write_fault one e (make_fails make_versions (begun 1) (record versions { tree = 0 }) (begun 2) makes_versions versions_can_be one two bare.declared e) failed)) (c.run-2.ensures.failed clean)
+    write_fault_later first one two c.run.ensures.frame.keeps.survives early c.run-2.ensures.frame.keeps.survives.counts (c.in_ok-run.ensures.frame.inside early) e
+    (as_write_fault one two e (make_fails make_versions (begun 1) (record versions { tree = 0 }) (begun 2) makes_versions versions_can_be one two bare.declared e) failed)) (c.run-2.ensures.failed clean)

@@ -14,5 +14,5 @@ returns-clause-dropped g c clean =
 pub returns-clause-fault : goal.returns-clause-fault
 returns-clause-fault g c clean =
     let first = state g.S.Store c.args.tx.now.conn.now in
-    if_err c.run.result (λ e failed contents holds. as_write_fault first e (drop_level_fails first (state g.S.Store c.run.new.tx.conn.now) contents holds e c.args.subject.now)
+    if_err c.run.result (λ e failed contents holds. as_write_fault first (state g.S.Store c.run.new.tx.conn.now) e (drop_level_fails first (state g.S.Store c.run.new.tx.conn.now) contents holds e c.args.subject.now)
     (rw (c.params-to_sql.ensures) at failed)) (c.run.ensures.failed clean)

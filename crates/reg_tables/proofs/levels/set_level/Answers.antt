@@ -21,8 +21,8 @@ returns-clause-set g c clean =
 pub returns-in_err-drop_level-clause-fault : goal.returns-in_err-drop_level-clause-fault
 returns-in_err-drop_level-clause-fault g c clean =
     let first = state g.S.Store c.args.tx.now.conn.now in
-    erred_with c.from_residual.result c.in_err-drop_level.field-0.0 (λ e. (contents : Contents) → Holds first.now contents → IsInsertFault first e) c.from_residual.ensures.1
-    (λ contents holds. inl (c.in_err-drop_level.ensures.fault clean contents holds))
+    erred_with c.from_residual.result c.in_err-drop_level.field-0.0 (λ e. (contents : Contents) → Holds first.now contents → IsInsertFault first (state g.S.Store c.drop_level.new.tx.conn.now) e) c.from_residual.ensures.1
+    (λ contents holds. inl (inl (c.in_err-drop_level.ensures.fault clean contents holds)))
 
 pub returns-clause-fault : goal.returns-clause-fault
 returns-clause-fault g c clean =
@@ -30,5 +30,5 @@ returns-clause-fault g c clean =
     let mid = state g.S.Store c.drop_level.new.tx.conn.now in
     let early : HasCleanDisk mid = omega (arith, c.put_level.ensures.frame.keeps.survives.clean) in
     let key = c.args.subject.now in
-    if_err c.put_level.result (λ e failed contents holds. insert_fault_later first mid c.drop_level.ensures.frame.keeps.survives.limit (c.in_ok-drop_level.ensures.frame.inside early) e
+    if_err c.put_level.result (λ e failed contents holds. insert_fault_later first mid (state g.S.Store c.put_level.new.tx.conn.now) c.drop_level.ensures.frame.keeps.survives early c.put_level.ensures.frame.keeps.survives.counts (c.in_ok-drop_level.ensures.frame.inside early) e
     (failed (without_level key contents) (c.in_ok-drop_level.ensures.dropped early contents holds) (get-remove-same text_cmp text_order contents.levels key))) (c.put_level.ensures.fault clean)

@@ -14,5 +14,5 @@ returns-clause-put g c clean =
 pub returns-clause-fault : goal.returns-clause-fault
 returns-clause-fault g c clean =
     let first = state g.S.Store c.args.tx.now.conn.now in
-    if_err c.run.result (λ e failed contents holds free. or_insert_fault first e (put_meta_fails first (state g.S.Store c.run.new.tx.conn.now) contents holds e c.args.name.now c.args.value.now free)
+    if_err c.run.result (λ e failed contents holds free. or_insert_fault first (state g.S.Store c.run.new.tx.conn.now) e (put_meta_fails first (state g.S.Store c.run.new.tx.conn.now) contents holds e c.args.name.now c.args.value.now free)
     (rw (c.params-to_sql.ensures, c.params-to_sql-2.ensures) at failed)) (c.run.ensures.failed clean)

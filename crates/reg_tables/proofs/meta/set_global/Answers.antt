@@ -21,8 +21,8 @@ returns-clause-set g c clean =
 pub returns-in_err-drop_meta-clause-fault : goal.returns-in_err-drop_meta-clause-fault
 returns-in_err-drop_meta-clause-fault g c clean =
     let first = state g.S.Store c.args.tx.now.conn.now in
-    erred_with c.from_residual.result c.in_err-drop_meta.field-0.0 (λ e. (contents : Contents) → Holds first.now contents → IsInsertFault first e) c.from_residual.ensures.1
-    (λ contents holds. inl (c.in_err-drop_meta.ensures.fault clean contents holds))
+    erred_with c.from_residual.result c.in_err-drop_meta.field-0.0 (λ e. (contents : Contents) → Holds first.now contents → IsInsertFault first (state g.S.Store c.drop_meta.new.tx.conn.now) e) c.from_residual.ensures.1
+    (λ contents holds. inl (inl (c.in_err-drop_meta.ensures.fault clean contents holds)))
 
 pub returns-clause-fault : goal.returns-clause-fault
 returns-clause-fault g c clean =
@@ -30,5 +30,5 @@ returns-clause-fault g c clean =
     let mid = state g.S.Store c.drop_meta.new.tx.conn.now in
     let early : HasCleanDisk mid = omega (arith, c.put_meta.ensures.frame.keeps.survives.clean) in
     let key = codes "global" in
-    if_err c.put_meta.result (λ e failed contents holds. insert_fault_later first mid c.drop_meta.ensures.frame.keeps.survives.limit (c.in_ok-drop_meta.ensures.frame.inside early) e
+    if_err c.put_meta.result (λ e failed contents holds. insert_fault_later first mid (state g.S.Store c.put_meta.new.tx.conn.now) c.drop_meta.ensures.frame.keeps.survives early c.put_meta.ensures.frame.keeps.survives.counts (c.in_ok-drop_meta.ensures.frame.inside early) e
     (failed (without_meta key contents) (c.in_ok-drop_meta.ensures.dropped early contents holds) (get-remove-same text_cmp text_order contents.meta key))) (c.put_meta.ensures.fault clean)

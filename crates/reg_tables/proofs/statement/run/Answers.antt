@@ -27,7 +27,7 @@ returns-in_err-execute-clause-frame g c = record {
       let last = state g.S.Store c.execute.new.self.conn.now in
       let it = c.in_err-execute.ensures in
       let e = c.in_err-execute.field-0.0 in
-      erred_with c.from_residual.result e (λ e. IsTrue first.is_open ⊎ IsWriteFault first e) c.from_residual.ensures.1
+      erred_with c.from_residual.result e (λ e. IsTrue first.is_open ⊎ IsWriteFault first last e) c.from_residual.ensures.1
       (elim (cases_Bool first.in_transaction) [
         | inl inside ↦ elim (open_or_failed c.args.sql.now (bound c.args.values.now) first last e (it.runs clean inside)) [ inl is_open ↦ inl is_open | inr fault ↦ inr (inl fault) ]
         | inr ended ↦ inr (inr ((let both = (it.ended ended).0 in cc), ended))

@@ -14,5 +14,5 @@ returns-clause-marked g c clean =
 pub returns-clause-fault : goal.returns-clause-fault
 returns-clause-fault g c clean =
     let first = state g.S.Store c.args.tx.now.conn.now in
-    if_err c.run.result (λ e failed contents holds. or_insert_fault first e (mark_version_fails first (state g.S.Store c.run.new.tx.conn.now) contents holds e (c.args.subject.now, c.args.number))
+    if_err c.run.result (λ e failed contents holds. or_insert_fault first (state g.S.Store c.run.new.tx.conn.now) e (mark_version_fails first (state g.S.Store c.run.new.tx.conn.now) contents holds e (c.args.subject.now, c.args.number))
     (rw (c.params-to_sql.ensures, c.params-to_sql-2.ensures) at failed)) (c.run.ensures.failed clean)

@@ -17,6 +17,6 @@ returns-clause-fault g c clean =
     let first = state g.S.Store c.args.tx.now.conn.now in
     if_err c.run.result (λ e failed contents holds none known.
     let text = value_of (get contents.texts c.args.id) known in
-    or_insert_fault first e
+    or_insert_fault first (state g.S.Store c.run.new.tx.conn.now) e
     (put_version_fails first (state g.S.Store c.run.new.tx.conn.now) contents holds e (c.args.subject.now, c.args.number) (record { id = c.args.id; deleted = c.args.deleted }) none text.0 text.1)
     (rw (c.params-to_sql.ensures, c.params-to_sql-2.ensures, c.params-to_sql-3.ensures, c.params-to_sql-4.ensures) at failed)) (c.run.ensures.failed clean)

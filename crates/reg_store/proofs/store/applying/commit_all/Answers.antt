@@ -13,7 +13,8 @@ use Rattle.reg_store.specs.Replies.{Kept}
 use Rattle.reg_store.specs.Spells.{Spells, Leaves, IsOpenOver, SpellsWhileOpen}
 use Rattle.reg_store.specs.Changes.{with_reply, IsNewTo, ActsOn}
 use Rattle.reg_store.specs.Failures.{failure_of, is_fault}
-use Rattle.reg_store.proofs.Writing.{fault_later, is_fault_of_insert, is_fault_of_commit, begun_spells, still_inside}
+use Rattle.reg_store.proofs.Failing.{fault_if_by}
+use Rattle.reg_store.proofs.Writing.{fault_later, is_fault_of_insert, fault_of_commit, begun_spells, still_inside}
 use Rattle.reg_store.proofs.Committing.{keeps_begin, keeps_if_failed, on_err, on_err_each, leaves_if_spelled}
 use Rattle.reg_store.proofs.store.applying.commit_all.Goals as goal
 
@@ -76,7 +77,7 @@ returns-in_err-make_all-clause-fault g c clean =
     let late : HasCleanDisk (state g.S.Store c.drop-tx.new.self.0) = search rules in
     let clean_mid : HasCleanDisk (state g.S.Store c.make_all.new.tx.conn.now) = omega (arith, c.drop-tx.ensures.survives.clean) in
     erred_with c.from_residual.result e (λ e. (registry : Registry) (k : Kept) → SpellsWhileOpen first registry k → IsNewTo k c.args.keep → IsTrue (is_fault (failure_of e))) c.from_residual.ensures.1
-    (λ registry k over fresh. is_fault_of_insert begun e (ap (λ (h : Held _). h.step_limit) is ∙ c.requires.unlimited) (ap (λ (h : Held _). h.in_transaction) is)
+    (λ registry k over fresh. is_fault_of_insert begun (state g.S.Store c.make_all.new.tx.conn.now) e (ap (λ (h : Held _). h.step_limit) is ∙ c.requires.unlimited) (ap (λ (h : Held _). h.in_transaction) is)
     (c.in_err-make_all.ensures.fault clean_mid registry k (begun_spells g.S.Store c.args.conn.now c.transaction-tx.result.conn.now is registry k over)))
 
 pub returns-in_err-keep_reply-clause-fault : goal.returns-in_err-keep_reply-clause-fault
@@ -92,8 +93,8 @@ returns-in_err-keep_reply-clause-fault g c clean =
     erred_with c.from_residual-in_err-keep_reply.result e (λ e. (registry : Registry) (k : Kept) → SpellsWhileOpen first registry k → IsNewTo k c.args.keep → IsTrue (is_fault (failure_of e))) c.from_residual-in_err-keep_reply.ensures.1
     (λ registry k over fresh.
     let spelled = begun_spells g.S.Store c.args.conn.now c.transaction-tx.result.conn.now is registry k over in
-    is_fault_of_insert begun e (ap (λ (h : Held _). h.step_limit) is ∙ c.requires.unlimited) (ap (λ (h : Held _). h.in_transaction) is)
-    (fault_later begun mid c.make_all.ensures.frame.survives.limit (c.in_ok-make_all.ensures.goes_on clean_mid) e
+    is_fault_of_insert begun (state g.S.Store c.keep_reply.new.tx.conn.now) e (ap (λ (h : Held _). h.step_limit) is ∙ c.requires.unlimited) (ap (λ (h : Held _). h.in_transaction) is)
+    (fault_later begun mid (state g.S.Store c.keep_reply.new.tx.conn.now) c.make_all.ensures.frame.survives clean_mid c.keep_reply.ensures.frame.survives.counts (c.in_ok-make_all.ensures.goes_on clean_mid) e
     (c.in_err-keep_reply.ensures.fault clean_last (changed c.args.changes.now registry) k
     (λ is_open. c.in_ok-make_all.ensures.made clean_mid registry k (spelled ((c.make_all.ensures.frame.kept clean_mid).was_open is_open))) fresh)))
 
@@ -109,7 +110,7 @@ returns-clause-fault g c clean =
     let clean_mid : HasCleanDisk mid = omega (arith, c.keep_reply.ensures.frame.survives.clean) in
     let unlimited = c.keep_reply.ensures.frame.survives.limit ∙ c.make_all.ensures.frame.survives.limit ∙ ap (λ (h : Held _). h.step_limit) is ∙ c.requires.unlimited in
     let inside = still_inside mid last (still_inside begun mid (ap (λ (h : Held _). h.in_transaction) is) (c.in_ok-make_all.ensures.goes_on clean_mid)) (c.in_ok-keep_reply.ensures.goes_on clean_last) in
-    if_err c.commit.result (λ e fails registry k over fresh. is_fault_of_commit last e unlimited inside end fails) (c.commit.ensures.err late)
+    if_err c.commit.result (λ e fails registry k over fresh. fault_if_by last end _ (fault_of_commit last end e unlimited inside fails)) (c.commit.ensures.err late)
 
 pub returns-clause-was_open : goal.returns-clause-was_open
 returns-clause-was_open g c clean =

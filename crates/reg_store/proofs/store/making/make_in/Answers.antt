@@ -10,7 +10,8 @@ use Rattle.std.specs.Prelude.{IsTrue}
 use Rattle.reg_tables.proofs.Transactions.{on_ok, if_err}
 use Rattle.reg_tables.proofs.WriteFaults.{erred_with}
 use Rattle.reg_store.specs.Failures.{failure_of, is_fault}
-use Rattle.reg_store.proofs.Writing.{is_fault_of_insert, is_fault_of_commit}
+use Rattle.reg_store.proofs.Writing.{is_fault_of_insert, fault_of_commit}
+use Rattle.reg_store.proofs.Failing.{fault_if_by}
 use Rattle.reg_store.specs.Replies.{nothing_kept}
 use Rattle.reg_store.specs.Spells.{Spells, Leaves, IsOpenOver}
 use Rattle.reg_store.proofs.Committing.{leaves_if_spelled, spells_new}
@@ -56,7 +57,7 @@ returns-in_err-create-clause-fault g c clean =
     let late : HasCleanDisk (state g.S.Store c.drop-tx.new.self.0) = search rules in
     let clean_last : HasCleanDisk (state g.S.Store c.create.new.tx.conn.now) = omega (arith, c.drop-tx.ensures.survives.clean) in
     erred_with c.from_residual.result e (λ e. c.args.conn.now.schema ≡ no_schema → IsTrue (is_fault (failure_of e))) c.from_residual.ensures.1
-    (λ none. is_fault_of_insert begun e (ap (λ (h : Held _). h.step_limit) is ∙ c.requires.unlimited) (ap (λ (h : Held _). h.in_transaction) is)
+    (λ none. is_fault_of_insert begun (state g.S.Store c.create.new.tx.conn.now) e (ap (λ (h : Held _). h.step_limit) is ∙ c.requires.unlimited) (ap (λ (h : Held _). h.in_transaction) is)
     (c.in_err-create.ensures.fault clean_last (ap (λ (h : Held _). h.schema) is ∙ none)))
 
 pub returns-clause-fault : goal.returns-clause-fault
@@ -66,4 +67,4 @@ returns-clause-fault g c clean =
     let late : HasCleanDisk end = search rules in
     let clean_last : HasCleanDisk last = omega (arith, c.commit.ensures.survives.clean) in
     let unlimited = c.create.ensures.frame.keeps.survives.limit ∙ ap (λ (h : Held _). h.step_limit) c.transaction-tx.ensures.begun ∙ c.requires.unlimited in
-    if_err c.commit.result (λ e fails none. is_fault_of_commit last e unlimited (c.in_ok-create.ensures.frame.inside clean_last) end fails) (c.commit.ensures.err late)
+    if_err c.commit.result (λ e fails none. fault_if_by last end _ (fault_of_commit last end e unlimited (c.in_ok-create.ensures.frame.inside clean_last) fails)) (c.commit.ensures.err late)

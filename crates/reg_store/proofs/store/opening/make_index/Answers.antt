@@ -1,4 +1,4 @@
-use Rattle.std.proofs.Common.{◌≡◌, ◌∙◌, inl, inr, sym, ap, subst, arith, rules}
+use Rattle.std.proofs.Common.{◌≡◌, ◌∙◌, inl, inr, sym, ap, subst, subst₂, arith, rules}
 use Rattle.std.specs.Prelude.{IsTrue}
 use Rattle.sqlite.specs.Tree.{Trees}
 use Rattle.sqlite.specs.declared.error.Error.{Error}
@@ -11,10 +11,11 @@ use Rattle.reg_tables.specs.Contents.{Contents, HoldsIn, Holds}
 use Rattle.reg_tables.proofs.Transactions.{on_ok, if_err}
 use Rattle.reg_tables.proofs.WriteFaults.{erred_with}
 use Rattle.reg_store.specs.Opening.{IsIndexed}
-use Rattle.reg_store.specs.Failures.{failure_of, is_fault}
+use Rattle.reg_store.specs.Failures.{failure_of, IsFaultBy}
 use Rattle.reg_store.proofs.Committing.{left_if_held}
 use Rattle.reg_tables.specs.Reading.{IsWriteFault}
-use Rattle.reg_store.proofs.Writing.{is_fault_of_insert, is_fault_of_commit}
+use Rattle.reg_store.proofs.Writing.{fault_of_write, fault_of_commit}
+use Rattle.reg_store.proofs.Failing.{by_since, by_until}
 use Rattle.reg_store.proofs.store.opening.make_index.Goals as goal
 
 pub returns-clause-done : goal.returns-clause-done
@@ -56,15 +57,22 @@ returns-clause-survives g c =
 pub returns-clause-fault : goal.returns-clause-fault
 returns-clause-fault g c clean =
     let end = c.commit.new.self.0 in
+    let same : end ≡ c.conn-2-1.given.0 = search rules in
     let late : HasCleanDisk (state g.S.Store end) = search rules in
+    let first = state g.S.Store c.args.conn.now in
+    let begun = state g.S.Store c.transaction-tx.result.conn.now in
     let last = state g.S.Store c.index_versions.new.tx.conn.now in
     let clean_last : HasCleanDisk last = omega (arith, c.commit.ensures.survives.clean) in
-    let unlimited = c.index_versions.ensures.frame.keeps.survives.limit ∙ ap (λ (h : Held _). h.step_limit) c.transaction-tx.ensures.begun ∙ c.requires.unlimited in
-    if_err c.commit.result (λ e fails held. is_fault_of_commit last e unlimited (c.in_ok-index_versions.ensures.frame.inside clean_last) (state g.S.Store end) fails) (c.commit.ensures.err late)
+    let frame = c.index_versions.ensures.frame.keeps.survives in
+    let unlimited = frame.limit ∙ ap (λ (h : Held _). h.step_limit) c.transaction-tx.ensures.begun ∙ c.requires.unlimited in
+    if_err c.commit.result (λ e fails held.
+    let whole = by_since begun last (state g.S.Store end) (frame.closes clean_last) frame.counts c.commit.ensures.survives.counts _ (fault_of_commit last (state g.S.Store end) e unlimited (c.in_ok-index_versions.ensures.frame.inside clean_last) fails) in
+    subst₂ (λ h k. IsFaultBy (state g.S.Store h) (state g.S.Store k) (failure_of e)) c.transaction-tx.ensures.begun same whole) (c.commit.ensures.err late)
 
 pub returns-in_err-index_versions-clause-fault : goal.returns-in_err-index_versions-clause-fault
 returns-in_err-index_versions-clause-fault g c clean =
     let end = c.drop-tx.new.self.0 in
+    let same : end ≡ c.conn-1.given.0 = search rules in
     let late : HasCleanDisk (state g.S.Store end) = search rules in
     let first = state g.S.Store c.args.conn.now in
     let begun = state g.S.Store c.transaction-tx.result.conn.now in
@@ -74,8 +82,10 @@ returns-in_err-index_versions-clause-fault g c clean =
     let inside = ap (λ (h : Held _). h.in_transaction) c.transaction-tx.ensures.begun in
     let e = c.in_err-index_versions.field-0.0 in
     let err = c.in_err-index_versions.ensures in
-    let fault = λ (f : IsWriteFault begun e). is_fault_of_insert begun e unlimited inside (inl f) in
-    let Held : Error → Type 0 = λ e. (IsTrue first.is_open → (contents : Contents) × HoldsIn unindexed first.now contents) → IsTrue (is_fault (failure_of e)) in
+    let fault = λ (f : IsWriteFault begun last e).
+    let until = by_until begun last (state g.S.Store end) c.drop-tx.ensures.survives.counts _ (fault_of_write begun last e unlimited inside f) in
+    subst₂ (λ h k. IsFaultBy (state g.S.Store h) (state g.S.Store k) (failure_of e)) c.transaction-tx.ensures.begun same until in
+    let Held : Error → Type 0 = λ x. (IsTrue first.is_open → (contents : Contents) × HoldsIn unindexed first.now contents) → IsFaultBy first (state g.S.Store c.conn-1.given.0) (failure_of x) in
     erred_with c.from_residual.result e Held c.from_residual.ensures.1 (λ held. elim (err.frame.shut clean_last) [
       | inl is_open ↦
           let it = held (subst (λ h. IsTrue (state g.S.Store h).is_open) c.transaction-tx.ensures.begun is_open) in

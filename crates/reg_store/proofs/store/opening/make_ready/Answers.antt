@@ -1,4 +1,4 @@
-use Rattle.std.proofs.Common.{◌∙◌, inl, inr, IsTrue, sym, ap, subst, arith, rules}
+use Rattle.std.proofs.Common.{◌∙◌, IsTrue, sym, ap, subst, arith, rules}
 use Rattle.std.proofs.lemmas.Bool.{both_ways}
 use Rattle.sqlite.specs.Effect.{Database}
 use Rattle.sqlite.specs.Held.{state}
@@ -8,8 +8,7 @@ use Rattle.reg_tables.specs.Contents.{HoldsIn}
 use Rattle.reg_store.specs.Failures.{failure_of}
 use Rattle.reg_store.specs.Opening.{TellsNewer}
 use Rattle.reg_store.specs.Testing.{IsFaultUnopened}
-use Rattle.reg_store.proofs.Failing.{passed, more_until}
-use Rattle.reg_store.proofs.TestLemmas.{opening_if_test, opening_if_bare, opening_if_fault}
+use Rattle.reg_store.proofs.Failing.{passed, by_since}
 use Rattle.reg_store.proofs.MetaLemmas.{not_outdated}
 use Rattle.reg_store.proofs.OpenLemmas.{opens_as_it_is, opens_with_index, index_survives, spells_under, only_reads}
 use Rattle.reg_store.proofs.Committing.{on_err_each}
@@ -72,19 +71,9 @@ returns-in_err-made-clause-fault g c clean =
     passed (IsFaultUnopened old new) c.from_residual-in_err-made.result (failure_of e) c.from_residual-in_err-made.ensures.1
     (λ registry k over.
     let was_open = t.tests.frame.was_open early in
-    let fault = c.in_err-made.ensures.fault clean (λ mid_open.
+    by_since old mid new (t.tests.frame.survives.closes early) t.tests.frame.survives.counts c.make_index-made.ensures.survives.counts (failure_of e) (c.in_err-made.ensures.fault clean (λ mid_open.
     let spells = spells_under unindexed old.now registry k (bare mid_open) (over was_open) in
-    (spells.contents, subst (λ (d : Database). HoldsIn unindexed d spells.contents) (sym (same mid_open)) spells.holds)) in
-    elim (t.tests.frame.survives.closes early was_open) [
-      | inl mid_open ↦ opening_if_bare old new (failure_of e) (bare mid_open) fault
-      | inr more ↦ opening_if_fault old new (failure_of e) (inr (more_until old.faults mid.faults new.faults c.make_index-made.ensures.survives.counts more)) fault
-    ])
-
-pub returns-in_err-test-clause-fault : goal.returns-in_err-test-clause-fault
-returns-in_err-test-clause-fault g c clean =
-    let old = state g.S.Store c.args.conn.now in
-    let new = state g.S.Store c.test.new.conn in
-    passed (IsFaultUnopened old new) c.from_residual.result _ c.from_residual.ensures.1 (opening_if_test old new _ (c.in_err-test.ensures.tests.fault clean))
+    (spells.contents, subst (λ (d : Database). HoldsIn unindexed d spells.contents) (sym (same mid_open)) spells.holds))))
 
 pub returns-in_err-made-clause-nothing : goal.returns-in_err-made-clause-nothing
 returns-in_err-made-clause-nothing g c clean =

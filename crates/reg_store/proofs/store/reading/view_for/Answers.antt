@@ -7,7 +7,7 @@ use Rattle.reg_store.specs.Replies.{Kept}
 use Rattle.reg_store.specs.Spells.{SpellsWhileOpen}
 use Rattle.reg_store.specs.Failures.{IsFaultOver}
 use Rattle.reg_store.proofs.Reading.{reads_on}
-use Rattle.reg_store.proofs.Failing.{passed, fault_since}
+use Rattle.reg_store.proofs.Failing.{passed, by_since}
 use Rattle.reg_store.proofs.store.reading.view_for.Goals as goal
 use Rattle.reg_store.proofs.store.reading.view_for.Goals.{in-Some+in_ok-own-in-Some, in-None}
 
@@ -31,4 +31,4 @@ returns-in_err-global-clause-fault g c clean =
       | in-None w ↦ subst (λ h. (IsTrue first.is_open → IsTrue (state g.S.Store h).is_open ⊎ MoreFaults first.faults (state g.S.Store h).faults) × (first.faults ≤ (state g.S.Store h).faults)) (sym w.conn-is) (λ is_open. inl is_open, omega arith)
     ] in
     passed (IsFaultOver first last) c.from_residual-in_err-global.result _ c.from_residual-in_err-global.ensures.1
-    (λ registry k over. fault_since first mid last closes.0 closes.1 c.global.ensures.frame.survives.counts _ (c.in_err-global.ensures.fault clean registry k (on registry k over)))
+    (λ registry k over. by_since first mid last closes.0 closes.1 c.global.ensures.frame.survives.counts _ (c.in_err-global.ensures.fault clean registry k (on registry k over)))
