@@ -98,7 +98,7 @@ module _ (old new : State) (contents : Contents) (h : Holds old.now contents) (e
       let its = h.texts.complete version.id text known in
       let put : Edit = edit_of old.now.trees versions [] Chosen 0 (value_rows (stamped versions params) 5 (length four_terms / 5) four_terms) in
       let news : put.news ≡ row ∷ [] = rw (cast-Null, cast-Int (pos key.1), cast-Int (pos version.id), cast-flag version.deleted) in
-      as_insert_fault old new (old.now.trees versions.tree) row e
+      as_insert_fault old new versions (old.now.trees versions.tree) row e
       (insert_fails 1 versions versions_at old new h.declared h.sound four_terms 5 params row put_version refl put_version_is (lit≤ tt, refl) refl news (record {
         keyed = refl;
         typed = refl;
@@ -139,8 +139,9 @@ module _ (old new : State) (contents : Contents) (h : Holds old.now contents) (e
       }) (λ next applies. refers_if old.now.trees next (λ had r there.
       more_texts (old.now.trees 0) (next 0) (λ x was. subst (λ l. Has l x) (sym applies.rows) (put_all_keeps put.news (old.now.trees 0) x applies.fresh was)) r
       (had r (subst (λ l. Has l r) (applies.tables.1.0 (λ e. omega (arith, e))) there)))) e ran) [
-        | inl fault ↦ elim fault [ inl store ↦ inl (inl store) | inr large ↦ inr large ]
-        | inr why ↦ absurd (elim why.1 [
+        | inl fault ↦ inl (inl fault)
+        | inr (inl large) ↦ inr large.0
+        | inr (inr why) ↦ absurd (elim why.1 [
           | inl high ↦ both_ways _ high.1 (lt-ltb id (2 ^ 63) (omega arith))
           | inr taken ↦
               let r = some_has (λ x. is_eq (value_cmp (rowid x) (Int (pos id)))) (old.now.trees 0) taken.1 in

@@ -1,5 +1,5 @@
 -- What the statements of one table make of the map that it shows, by the key of its rows.
-use Rattle.std.proofs.Common.{◌≡◌, ◌≢◌, inl, inr, ◌&&◌, ◌==◌, ℕ, ℤ, length, map, drop, List, [], ◌∷◌, ◌/◌, Option, Some, None, Bool, true, false, cond, Ok, MatchOption, slice_get, refl, sym, ap, subst, ◌∙◌}
+use Rattle.std.proofs.Common.{◌+◌, ◌≡◌, ◌≢◌, inl, inr, ◌&&◌, ◌==◌, ℕ, ℤ, length, map, drop, List, [], ◌∷◌, ◌/◌, Option, Some, None, Bool, true, false, cond, Ok, MatchOption, slice_get, refl, sym, ap, subst, ◌∙◌}
 use Rattle.std.specs.List.{AllByRecursion}
 use Rattle.std.specs.Ordering.{is_eq, nat_cmp, int_cmp, ordering_then}
 use Rattle.std.specs.FinMap.{FinMap, get, insert, remove, slice_cmp-IsAntisymmetric, nat_cmp-IsAntisymmetric, int_cmp-IsAntisymmetric, IsAntisymmetric}
@@ -15,7 +15,7 @@ use Rattle.sqlite.specs.Kind.TheVariants.{Integer}
 use Rattle.sqlite.specs.Ops.{unary}
 use Rattle.sqlite.specs.Cast.{cast, cast_row}
 use Rattle.sqlite_rules.specs.Calls.{ids_of}
-use Rattle.sqlite.specs.Edit.{edit_of, is_taken, put_all, are_fresh, have_rowids, without_all, numbered}
+use Rattle.sqlite.specs.Edit.{edit_of, is_taken, put_all, are_fresh, have_rowids, without_all, numbered, next_rowid}
 use Rattle.sqlite.specs.Rowids.TheVariants.{Chosen, Given}
 use Rattle.sqlite.specs.Term.{Term, col, eval_all}
 use Rattle.sqlite.specs.Table.{Table}
@@ -38,6 +38,8 @@ use Rattle.sqlite_rules.specs.Lists.{Has}
 use Rattle.reg_tables.specs.Layout.{layout}
 use Rattle.reg_tables.specs.TableMaps.{Form, IsEntry, ShowsMap}
 use Rattle.reg_tables.specs.Changes.{altered}
+use Rattle.reg_tables.specs.Rooms.{HasRoom}
+use Rattle.reg_tables.proofs.Rooms.{room_after, room_without_all}
 use Rattle.reg_tables.proofs.Members.{has_mapped, maps_had}
 use Rattle.reg_tables.specs.Contents.{version_cmp, number_cells, version_key_cells, flag_cell, text_cmp, text_cells}
 use Rattle.reg_tables.proofs.Queries.{plain_query, passes, answer_has, has_answer}
@@ -202,6 +204,25 @@ module _ {K V : Type 0} (form : Form K V) (R : K → K → Ordering) (order : Is
         rows = subst (λ r. ShowsMap form r (get (insert m k v))) (sym rows) (shows_inserted form R order distinct (db table.tree) m k shows v new_row free is.has_key is.has_value is.has_id fresh);
         others = step.applies.tables;
       }
+
+  pub inserts_room : (terms : List Term) (width : ℕ) (new_row : Row) → table.is_counted ≡ false → IsCommand layout sql (Insert at (Values terms width))
+      → (edit_of old.now.trees table [] Chosen 0 (value_rows (stamped table params) width (length terms / width) terms)).news ≡ new_row ∷ [] → rowid new_row ≡ Int (next_rowid (old.now.trees table.tree))
+      → Executes sql params old new (Ok count) → (n : ℕ) → HasRoom (old.now.trees table.tree) (n + 1) → HasRoom (new.now.trees table.tree) n
+  inserts_room terms width new_row uncounted it news its h n room =
+      let db = old.now.trees in
+      let w = runs_as sql params old new layout declared (Insert at (Values terms width)) it.is it.plain count h in
+      let step = inserted layout idle at table there old new declared (statement_of sql (understood layout sql)) params count terms width uncounted w in
+      let rows : new.now.trees table.tree ≡ put_row new_row (db table.tree) = step.applies.rows ∙ ap (put_all (db table.tree)) news in
+      subst (λ r. HasRoom r n) (sym rows) (room_after (db table.tree) n room new_row its)
+
+  pub removes_room : (tests : List Term) → IsCommand layout sql (Delete at (record { lets = []; body = plain_query table.tree tests (col 1 0 ∷ []) })) → Executes sql params old new (Ok count)
+      → (n : ℕ) → HasRoom (old.now.trees table.tree) n → HasRoom (new.now.trees table.tree) n
+  removes_room tests it h n room =
+      let db = old.now.trees in
+      let q : Program = record { lets = []; body = plain_query table.tree tests (col 1 0 ∷ []) } in
+      let w = runs_as sql params old new layout declared (Delete at q) it.is it.plain count h in
+      let cut = deleted layout idle at table there old new declared (statement_of sql (understood layout sql)) params count q w in
+      subst (λ r. HasRoom r n) (sym cut.2.applies.rows) (room_without_all (ids_of cut.0) (db table.tree) n room)
 
   -- the query of the DELETE tests the key
   pub removes : (tests : List Term) → IsCommand layout sql (Delete at (record { lets = []; body = plain_query table.tree tests (col 1 0 ∷ []) }))

@@ -9,6 +9,7 @@ pub mod Creation
 pub mod TableWrites
 pub mod Faults
 pub mod Reasons
+pub mod Rooms
 pub mod TableReads
 pub mod Transactions
 pub mod ReadableRows

@@ -1,8 +1,11 @@
 -- Why the writes of each table fail.
-use Rattle.std.proofs.Common.{◌≡◌, ◌≢◌, ◌⊎◌, inl, inr, ℕ, drop, ◌/◌, not, cond, Ordering, Option, None, List, [], ◌∷◌, length, slice_get, Bool, true, false, Some, Err, refl, sym, ap, subst, subst₂, ◌||◌, ◌&&◌, ◌∙◌, arith}
+use Rattle.std.proofs.Common.{◌+◌, ◌^◌, pos, ◌≡◌, ◌≢◌, ◌⊎◌, inl, inr, ℕ, drop, ◌/◌, not, cond, Ordering, Option, None, List, [], ◌∷◌, length, slice_get, Bool, true, false, Some, Err, refl, sym, ap, subst, subst₂, ◌||◌, ◌&&◌, ◌∙◌, arith}
 use Rattle.std.specs.Prelude.{nat_lt}
+use Rattle.std.specs.Ordering.{is_eq}
+use Rattle.std.specs.declared.cmp.Ordering.TheVariants.{Less}
+use Rattle.sqlite.specs.Order.{value_cmp}
 use Rattle.std.specs.List.{AllByRecursion, list_any, list_all}
-use Rattle.std.proofs.lemmas.Bool.{both_ways, and_from, and_parts}
+use Rattle.std.proofs.lemmas.Bool.{lt-ltb, both_ways, and_from, and_parts}
 use Rattle.std.proofs.lemmas.Cmp.{tied_itself}
 use Rattle.std.specs.FinMap.{FinMap, get}
 use Rattle.sqlite.specs.Order.{Row}
@@ -11,11 +14,11 @@ use Rattle.sqlite.specs.Tree.{Trees, IsAscending, rowid, with_tree}
 use Rattle.sqlite.specs.View.{is_int}
 use Rattle.sqlite.specs.Table.{Table}
 use Rattle.sqlite.specs.declared.types.Value.{Value}
-use Rattle.sqlite.specs.declared.types.Value.TheVariants.{Null}
+use Rattle.sqlite.specs.declared.types.Value.TheVariants.{Null, Int}
 use Rattle.sqlite.specs.Command.TheVariants.{Insert, Delete}
 use Rattle.sqlite.specs.Source.TheVariants.{Values}
 use Rattle.sqlite.specs.Rows.{stamped}
-use Rattle.sqlite.specs.Edit.{Edit, edit_of, edited, left_by, id_in, is_taken, are_fresh, Applies, IsRefused}
+use Rattle.sqlite.specs.Edit.{Edit, edit_of, edited, left_by, id_in, is_taken, are_fresh, Applies, IsRefused, next_rowid}
 use Rattle.sqlite.specs.Rowids.{Rowids}
 use Rattle.sqlite.specs.Rowids.TheVariants.{Chosen, Given}
 use Rattle.sqlite.specs.Effect.{Database, IsDatabase, value_rows, edit_error}
@@ -34,8 +37,9 @@ use Rattle.sqlite_schema.specs.Rules.{agree, differ, guards, has_null, are_typed
 use Rattle.sqlite_rules.specs.declared.error.Refusal.{Refusal}
 use Rattle.sqlite_rules.specs.declared.error.Refusal.TheVariants.{Violates, Mismatch, NoRowid, BadReference, TooDeep}
 use Rattle.sqlite_rules.specs.Calls.{ids_of}
+use Rattle.sqlite_rules.specs.Edit.{IsOversized}
 use Rattle.sqlite_rules.specs.Lists.{Has}
-use Rattle.sqlite_rules.proofs.ListLemmas.{any_has, all_has, all_from, has_got}
+use Rattle.sqlite_rules.proofs.ListLemmas.{some_has, any_has, all_has, all_from, has_got}
 use Rattle.sqlite_rules.proofs.TableLemmas.{without_all_has, put_all_has}
 use Rattle.sqlite_schema.specs.declared.schema.Index.{Index}
 use Rattle.sqlite_sql.specs.Ops.{binary, is_null, is_true, from_truth, fits_i64}
@@ -45,11 +49,13 @@ use Rattle.sqlite_value.proofs.OrderLemmas.{value_cmp_total}
 use Rattle.sqlite_value.specs.Keys.{plain, joined}
 use Rattle.reg_tables.specs.Layout.{layout, texts, versions, levels, kept, meta}
 use Rattle.reg_tables.specs.TableMaps.{Form, ShowsMap}
+use Rattle.reg_tables.specs.Rooms.{HasRoom}
+use Rattle.reg_tables.proofs.Rooms.{above, less}
 use Rattle.reg_tables.specs.Reading.{IsFault, IsInsertFault}
 use Rattle.reg_tables.proofs.Queries.{plain_query}
 use Rattle.reg_tables.proofs.Statements.{IsCommand}
 use Rattle.reg_tables.proofs.UniqueLemmas.{with_tree_there, with_tree_elsewhere, stays_unique}
-use Rattle.reg_tables.proofs.WriteFaults.{IsWhole, delete_fits, delete_refused, insert_refused, refused_by}
+use Rattle.reg_tables.proofs.WriteFaults.{IsWhole, delete_fits, delete_refused, insert_too_large, insert_refused, refused_by}
 
 -- the tables have trees of their own
 pub layout_apart : IsAscending (λ (a : Table) (b : Table). a.tree ≡ b.tree → ⊥) layout.tables
@@ -215,6 +221,25 @@ differ_itself v = rw (tied_itself value_cmp_total v) (go (is_null v || is_null v
 abbrev pub IsRowidTrouble : List Row → Row → Refusal → Type 0
 IsRowidTrouble rows row why = ((why ≡ NoRowid) × (fits_i64 (id_in (rowid row)) ≡ false)) ⊎ ((why ≡ Violates PrimaryKey) × (is_taken rows row ≡ true))
 
+-- where there is room, the rowid is free
+pub no_trouble : (rows : List Row) (count : ℕ) → HasRoom rows (count + 1) → (row : Row) → rowid row ≡ Int (next_rowid rows) → (why : Refusal) → IsRowidTrouble rows row why → ⊥
+no_trouble rows count h row its why (inl high) =
+    let mine : rowid row ≡ Int (pos h.next) = its ∙ ap Int h.is_next in
+    let room = h.room in
+    both_ways _ (ap (λ v. fits_i64 (id_in v)) (sym mine) ∙ high.1) (lt-ltb h.next (2 ^ 63) (omega (arith, room)))
+no_trouble rows count h row its why (inr taken) =
+    let mine : rowid row ≡ Int (pos h.next) = its ∙ ap Int h.is_next in
+    let r = some_has (λ x. is_eq (value_cmp (rowid x) (rowid row))) rows taken.1 in
+    let other = above rows (count + 1) h r.0 r.1 in
+    let lower = less (rowid r.0) (rowid row) other.0 h.next other.1 mine other.2 in
+    let tie : is_eq (value_cmp (rowid r.0) (rowid row)) ≡ true = r.2 in
+    let clash : is_eq Less ≡ true = ap is_eq (sym lower) ∙ tie in
+    cc
+
+-- a row is not put in: it is too large, or its rowid isn't free
+abbrev pub IsRowTrouble : Table → List Row → Row → Error → Type 0
+IsRowTrouble table rows row e = ((e ≡ SqliteFailure code.TooBig) × IsOversized layout table row) ⊎ ((why : Refusal) × IsRowidTrouble rows row why × (e ≡ edit_error why))
+
 module _ (trees : Trees) (table : Table) (listed : Has layout.tables table) (keys : HasKeys table) (obeys : Obeys layout trees) (rowids : Rowids) (sources : List Row) (row : Row)
     (news : (edit_of trees table [] rowids 0 sources).news ≡ row ∷ []) (fitting : IsFitting table (trees table.tree) row) where
   abbrev edit : Edit
@@ -305,20 +330,28 @@ module _ (at : ℕ) (table : Table) (its : IsAt at table) (old new : State) (dec
 
     pub insert_fails : (sql : List ℕ) → table.is_counted ≡ false → IsCommand layout sql (Insert at (Values terms width)) → IsWhole sql (length params) (understood layout sql) → accepts_terms terms (stamped table params) ≡ true
         → put.news ≡ row ∷ [] → IsFitting table (old.now.trees table.tree) row → ((next : Trees) → Applies layout Enforced old.now.trees put next → Refers All layout old.now.trees → Refers All layout next)
-        → (e : Error) → ExecutesInside 0 sql params old new (Err e) → (IsFault old new e ⊎ (e ≡ SqliteFailure code.TooBig)) ⊎ ((why : Refusal) × IsRowidTrouble (old.now.trees table.tree) row why × (e ≡ edit_error why))
+        → (e : Error) → ExecutesInside 0 sql params old new (Err e) → IsFault old new e ⊎ IsRowTrouble table (old.now.trees table.tree) row e
     insert_fails sql uncounted it whole typed news fitting refers e h =
         elim (refused_by sql params old new layout declared (Insert at (Values terms width)) it whole (record { silent = refl; stays = refl }) e h) [
-          | inl fault ↦ inl (inl fault)
+          | inl fault ↦ inl fault
           | inr rest ↦ elim rest [
-            | inl large ↦ inl (inr large.0)
+            | inl large ↦
+                let big = insert_too_large at table its.there old new (statement_of sql (understood layout sql)) params e terms width uncounted typed (λ next applies. refers next applies (obeys.rules ForeignKey)) large.1 in
+                inr (inl (large.0, subst (IsOversized layout table) (elim (subst (λ l. Has l big.0) news big.1) [ inl same ↦ same | inr none ↦ absurd none ]) big.2))
             | inr does ↦ elim (insert_refused at table its.there old new (statement_of sql (understood layout sql)) params e terms width uncounted typed (λ next applies. refers next applies (obeys.rules ForeignKey)) does) [
-              | inl fault ↦ inl (inl fault)
-              | inr r ↦ inr (r.0, insert_allowed old.now.trees table listed its.keys obeys Chosen sources row news fitting r.0 r.1, r.2)
+              | inl fault ↦ inl fault
+              | inr r ↦ inr (inr (r.0, insert_allowed old.now.trees table listed its.keys obeys Chosen sources row news fitting r.0 r.1, r.2))
             ]
           ]
         ]
 
-pub as_insert_fault : (old new : State) (rows : List Row) (row : Row) (e : Error) → (IsFault old new e ⊎ (e ≡ SqliteFailure code.TooBig)) ⊎ ((why : Refusal) × IsRowidTrouble rows row why × (e ≡ edit_error why)) → IsInsertFault old new e
-as_insert_fault old new rows row e (inl (inl fault)) = inl (inl (inl fault))
-as_insert_fault old new rows row e (inl (inr large)) = inl (inr large)
-as_insert_fault old new rows row e (inr r) = elim r.1 [ inl high ↦ inr (inl (r.2 ∙ ap edit_error high.0)) | inr taken ↦ inr (inr (r.2 ∙ ap edit_error taken.0)) ]
+pub as_insert_fault : (old new : State) (table : Table) (rows : List Row) (row : Row) (e : Error) → IsFault old new e ⊎ IsRowTrouble table rows row e → IsInsertFault old new e
+as_insert_fault old new table rows row e (inl fault) = inl (inl (inl fault))
+as_insert_fault old new table rows row e (inr (inl large)) = inl (inr large.0)
+as_insert_fault old new table rows row e (inr (inr r)) = elim r.1 [ inl high ↦ inr (inl (r.2 ∙ ap edit_error high.0)) | inr taken ↦ inr (inr (r.2 ∙ ap edit_error taken.0)) ]
+
+-- where there is room for it, a row is put in but for a fault
+pub fault_alone : (old new : State) (table : Table) (rows : List Row) (row : Row) (e : Error) (count : ℕ) → HasRoom rows (count + 1) → rowid row ≡ Int (next_rowid rows) → (IsOversized layout table row → ⊥) → IsFault old new e ⊎ IsRowTrouble table rows row e → IsFault old new e
+fault_alone old new table rows row e count room its fits (inl fault) = fault
+fault_alone old new table rows row e count room its fits (inr (inl large)) = absurd (fits large.1)
+fault_alone old new table rows row e count room its fits (inr (inr r)) = absurd (no_trouble rows count room row its r.0 r.1)

@@ -369,6 +369,36 @@ module _ (at : ℕ) (table : Table) (there : slice_get layout.tables at ≡ Some
       ]
     ]
 
+    source_large : (stop : Option Error) → stop ≡ None → Sourced old.step_limit (record { schema = layout; trees = db }) (stamped table params) (Values terms width) (Err stop) → ⊥
+    source_large None is h = h
+    source_large (Some x) is h = cc
+
+    -- the row that is too large is the one that is put in
+    abbrev Large : Type 0
+    Large = (row : Row) × Has edit.news row × IsOversized layout table row
+
+    insert_large : (stop : Option Error) → stop ≡ None → Inserts task (Values terms width) db (Err stop) → Large
+    insert_large stop is (inl asked) = absurd (source_large asked.0 (let e = asked.2 in cc) asked.1)
+    insert_large stop is (inr given) = elim given.2 [
+      | inl counter ↦ absurd (let e = MatchBool-at_false _ _ uncounted counter.1 in cc)
+      | inr counter ↦ elim counter.2 [
+        | inl put ↦
+            let r = edit_large db (edit_by given.0 (rowids_for table (count_of counter.0))) put.0 (let e = put.2 in cc) put.1 in
+            (r.0, subst (λ (d : Edit). Has d.news r.0) (same_edit given.0 counter.0 given.1.1) r.1, r.2)
+        | inr put ↦ elim put.2 [
+          | inl counted ↦ absurd (let e = uncounts table.is_counted _ _ _ uncounted counted.1 in cc)
+          | inr done ↦ absurd (let e = done.2 in cc)
+        ]
+      ]
+    ]
+
+    pub insert_too_large : Does old.step_limit (mode_of old) params (record old.now { schema = layout }) text None (Insert at (Values terms width)) (Err None) → Large
+    insert_too_large does = go (rw there at does)
+      where
+        go : Then (Inserts task (Values terms width) db) (Concludes task (mode_of old) None) (Err None) → Large
+        go (inl stopped) = insert_large stopped.0 (let e = stopped.2 in cc) stopped.1
+        go (inr wrote) = absurd (concluded_large wrote.0 wrote.2)
+
     pub insert_refused : Refused (Insert at (Values terms width)) → Stop
     insert_refused does = go (rw there at does)
       where

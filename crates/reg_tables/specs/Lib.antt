@@ -7,4 +7,5 @@ pub mod Replies
 pub mod Listings
 pub mod Checks
 pub mod Frames
+pub mod Rooms
 pub mod Forms

@@ -1,13 +1,16 @@
 //! What is kept under retry keys.
 
-ghost use Rattle.std.specs.Prelude.{◌≡◌, None, Some, OnOk, IfOk, IfErr, MatchOption, false};
+ghost use Rattle.std.specs.Prelude.{◌≡◌, None, Some, OnOk, IfOk, IfErr, MatchOption, false, ◌+◌, ℕ, ◌∷◌};
 ghost use Rattle.std.specs.FinMap.{get};
 ghost use Rattle.sqlite.specs.Held.{state};
 ghost use Rattle.reg_tables.specs.Frames.{state_in, StaysInside, StaysIdle};
 ghost use Rattle.sqlite.specs.State.{HasCleanDisk};
+ghost use Rattle.sqlite.specs.declared.types.Value.TheVariants.{Text};
+ghost use Rattle.reg_tables.specs.Layout.{kept};
+ghost use Rattle.reg_tables.specs.Rooms.{HasRooms, CanBeStored};
 ghost use Rattle.reg_tables.specs.Contents.{KeptRow, Contents, kept_cells, IsReadableReply, Holds};
 ghost use Rattle.reg_tables.specs.Changes.{with_kept};
-ghost use Rattle.reg_tables.specs.Reading.{CanBeRead, IsFault, IsInsertFault};
+ghost use Rattle.reg_tables.specs.Reading.{CanBeRead, IsFault, IsInsertFault, IsWriteFault};
 ghost use Rattle.reg_tables.specs.Replies.{kept_row};
 
 use crate::statement::{ask, run};
@@ -38,6 +41,16 @@ pub fn keep_reply<S: Alter>(
     ensures fault { HasCleanDisk (state_in S.Store tx.new) → IfErr result (λ e.
         (contents : Contents) → Holds (state_in S.Store tx.old).now contents
         → get contents.kept key.now ≡ None → IsInsertFault (state_in S.Store tx.old) (state_in S.Store tx.new) e) }
+    ensures room { HasCleanDisk (state_in S.Store tx.new) → OnOk result ((contents : Contents)
+        → Holds (state_in S.Store tx.old).now contents
+        → get contents.kept key.now ≡ None
+        → (n : ℕ) → HasRooms (state_in S.Store tx.old).now (n + 1) → HasRooms (state_in S.Store tx.new).now n) }
+    ensures fits { HasCleanDisk (state_in S.Store tx.new) → IfErr result (λ e. (contents : Contents)
+        → Holds (state_in S.Store tx.old).now contents
+        → get contents.kept key.now ≡ None
+        → (n : ℕ) → HasRooms (state_in S.Store tx.old).now (n + 1) → CanBeStored kept (Text key.now ∷ kept_cells
+        (record { command = command.now; status = status; body = body.now }))
+        → IsWriteFault (state_in S.Store tx.old) (state_in S.Store tx.new) e) }
 {
     run(
         tx,

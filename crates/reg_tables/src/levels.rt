@@ -1,10 +1,13 @@
 //! The own levels of subjects. (Schema Registry API reference, Config.)
 
-ghost use Rattle.std.specs.Prelude.{◌≡◌, None, Some, OnOk, IfOk, IfErr, MatchOption, false, string_bytes};
+ghost use Rattle.std.specs.Prelude.{◌≡◌, ◌+◌, ℕ, [], ◌∷◌, None, Some, OnOk, IfOk, IfErr, MatchOption, false, string_bytes};
 ghost use Rattle.std.specs.FinMap.{get};
 ghost use Rattle.sqlite.specs.Held.{state};
 ghost use Rattle.reg_tables.specs.Frames.{state_in, StaysInside, StaysIdle};
 ghost use Rattle.sqlite.specs.State.{HasCleanDisk};
+ghost use Rattle.sqlite.specs.declared.types.Value.TheVariants.{Text};
+ghost use Rattle.reg_tables.specs.Layout.{levels};
+ghost use Rattle.reg_tables.specs.Rooms.{HasRooms, CanBeStored};
 ghost use Rattle.reg_tables.specs.Contents.{Contents, Holds};
 ghost use Rattle.reg_tables.specs.Changes.{Changes, with_level, without_level};
 ghost use Rattle.reg_tables.specs.Reading.{CanBeRead, IsFault, IsWriteFault, IsInsertFault};
@@ -21,6 +24,15 @@ fn put_level<S: Alter>(tx: &mut Transaction<'_, S>, subject: &str, level: &str) 
     ensures fault { HasCleanDisk (state_in S.Store tx.new) → IfErr result (λ e.
         (contents : Contents) → Holds (state_in S.Store tx.old).now contents
         → get contents.levels subject.now ≡ None → IsInsertFault (state_in S.Store tx.old) (state_in S.Store tx.new) e) }
+    ensures room { HasCleanDisk (state_in S.Store tx.new) → OnOk result ((contents : Contents)
+        → Holds (state_in S.Store tx.old).now contents
+        → get contents.levels subject.now ≡ None
+        → (n : ℕ) → HasRooms (state_in S.Store tx.old).now (n + 1) → HasRooms (state_in S.Store tx.new).now n) }
+    ensures fits { HasCleanDisk (state_in S.Store tx.new) → IfErr result (λ e. (contents : Contents)
+        → Holds (state_in S.Store tx.old).now contents
+        → get contents.levels subject.now ≡ None
+        → (n : ℕ) → HasRooms (state_in S.Store tx.old).now (n + 1) → CanBeStored levels (Text subject.now ∷ Text level.now ∷ [])
+        → IsWriteFault (state_in S.Store tx.old) (state_in S.Store tx.new) e) }
 {
     run(
         tx,
@@ -38,6 +50,8 @@ pub fn drop_level<S: Alter>(tx: &mut Transaction<'_, S>, subject: &str) -> Resul
     ensures fault { HasCleanDisk (state_in S.Store tx.new) → IfErr result (λ e.
         (contents : Contents) → Holds (state_in S.Store tx.old).now contents
         → IsWriteFault (state_in S.Store tx.old) (state_in S.Store tx.new) e) }
+    ensures room { HasCleanDisk (state_in S.Store tx.new) → OnOk result ((contents : Contents)
+        → Holds (state_in S.Store tx.old).now contents → (n : ℕ) → HasRooms (state_in S.Store tx.old).now n → HasRooms (state_in S.Store tx.new).now n) }
 {
     run(
         tx,
@@ -59,6 +73,13 @@ pub fn set_level<S: Alter>(
     ensures fault { HasCleanDisk (state_in S.Store tx.new) → IfErr result (λ e.
         (contents : Contents) → Holds (state_in S.Store tx.old).now contents
         → IsInsertFault (state_in S.Store tx.old) (state_in S.Store tx.new) e) }
+    ensures room { HasCleanDisk (state_in S.Store tx.new) → OnOk result ((contents : Contents)
+        → Holds (state_in S.Store tx.old).now contents
+        → (n : ℕ) → HasRooms (state_in S.Store tx.old).now (n + 1) → HasRooms (state_in S.Store tx.new).now n) }
+    ensures fits { HasCleanDisk (state_in S.Store tx.new) → IfErr result (λ e. (contents : Contents)
+        → Holds (state_in S.Store tx.old).now contents
+        → (n : ℕ) → HasRooms (state_in S.Store tx.old).now (n + 1) → CanBeStored levels (Text subject.now ∷ Text level.now ∷ [])
+        → IsWriteFault (state_in S.Store tx.old) (state_in S.Store tx.new) e) }
 {
     drop_level(tx, subject)?;
     put_level(tx, subject, level)

@@ -1,10 +1,13 @@
 //! What the database says of itself: its format, its layout and the global level.
 
-ghost use Rattle.std.specs.Prelude.{◌≡◌, None, Some, OnOk, IfOk, IfErr, MatchOption, false, codes, string_bytes};
+ghost use Rattle.std.specs.Prelude.{◌≡◌, ◌+◌, ℕ, [], ◌∷◌, None, Some, OnOk, IfOk, IfErr, MatchOption, false, codes, string_bytes};
 ghost use Rattle.std.specs.FinMap.{get};
 ghost use Rattle.sqlite.specs.Held.{state};
 ghost use Rattle.reg_tables.specs.Frames.{state_in, StaysInside, StaysIdle};
 ghost use Rattle.sqlite.specs.State.{HasCleanDisk};
+ghost use Rattle.sqlite.specs.declared.types.Value.TheVariants.{Text};
+ghost use Rattle.reg_tables.specs.Layout.{meta};
+ghost use Rattle.reg_tables.specs.Rooms.{HasRooms, CanBeStored};
 ghost use Rattle.reg_tables.specs.Contents.{Contents, Holds};
 ghost use Rattle.reg_tables.specs.Changes.{Changes, with_meta, without_meta, with_global};
 ghost use Rattle.reg_tables.specs.Reading.{CanBeRead, IsFault, IsWriteFault, IsInsertFault};
@@ -25,6 +28,15 @@ pub(crate) fn put_meta<S: Alter>(
     ensures fault { HasCleanDisk (state_in S.Store tx.new) → IfErr result (λ e.
         (contents : Contents) → Holds (state_in S.Store tx.old).now contents
         → get contents.meta name.now ≡ None → IsInsertFault (state_in S.Store tx.old) (state_in S.Store tx.new) e) }
+    ensures room { HasCleanDisk (state_in S.Store tx.new) → OnOk result ((contents : Contents)
+        → Holds (state_in S.Store tx.old).now contents
+        → get contents.meta name.now ≡ None
+        → (n : ℕ) → HasRooms (state_in S.Store tx.old).now (n + 1) → HasRooms (state_in S.Store tx.new).now n) }
+    ensures fits { HasCleanDisk (state_in S.Store tx.new) → IfErr result (λ e. (contents : Contents)
+        → Holds (state_in S.Store tx.old).now contents
+        → get contents.meta name.now ≡ None
+        → (n : ℕ) → HasRooms (state_in S.Store tx.old).now (n + 1) → CanBeStored meta (Text name.now ∷ Text value.now ∷ [])
+        → IsWriteFault (state_in S.Store tx.old) (state_in S.Store tx.new) e) }
 {
     run(
         tx,
@@ -41,6 +53,8 @@ fn drop_meta<S: Alter>(tx: &mut Transaction<'_, S>, name: &str) -> Result<(), Er
     ensures fault { HasCleanDisk (state_in S.Store tx.new) → IfErr result (λ e.
         (contents : Contents) → Holds (state_in S.Store tx.old).now contents
         → IsWriteFault (state_in S.Store tx.old) (state_in S.Store tx.new) e) }
+    ensures room { HasCleanDisk (state_in S.Store tx.new) → OnOk result ((contents : Contents)
+        → Holds (state_in S.Store tx.old).now contents → (n : ℕ) → HasRooms (state_in S.Store tx.old).now n → HasRooms (state_in S.Store tx.new).now n) }
 {
     run(tx, "DELETE FROM meta WHERE name = ?1", params![name])
 }
@@ -54,6 +68,13 @@ pub fn set_global<S: Alter>(tx: &mut Transaction<'_, S>, level: &str) -> Result<
     ensures fault { HasCleanDisk (state_in S.Store tx.new) → IfErr result (λ e.
         (contents : Contents) → Holds (state_in S.Store tx.old).now contents
         → IsInsertFault (state_in S.Store tx.old) (state_in S.Store tx.new) e) }
+    ensures room { HasCleanDisk (state_in S.Store tx.new) → OnOk result ((contents : Contents)
+        → Holds (state_in S.Store tx.old).now contents
+        → (n : ℕ) → HasRooms (state_in S.Store tx.old).now (n + 1) → HasRooms (state_in S.Store tx.new).now n) }
+    ensures fits { HasCleanDisk (state_in S.Store tx.new) → IfErr result (λ e. (contents : Contents)
+        → Holds (state_in S.Store tx.old).now contents
+        → (n : ℕ) → HasRooms (state_in S.Store tx.old).now (n + 1) → CanBeStored meta (Text (codes "global") ∷ Text level.now ∷ [])
+        → IsWriteFault (state_in S.Store tx.old) (state_in S.Store tx.new) e) }
 {
     drop_meta(tx, "global")?;
     put_meta(tx, "global", level)

@@ -1,0 +1,116 @@
+-- What a write leaves of the room behind the last row.
+use Rattle.std.proofs.Common.{arith, ◌≡◌, ◌⊎◌, inl, inr, ℕ, ◌+◌, ◌+ℤ◌, ◌^◌, ◌<◌, ◌≤◌, ◌<ℤ◌, ltb, ℤ, pos, List, [], ◌∷◌, fold, filter, not, Bool, true, false, refl, sym, ap, subst, ◌∙◌}
+use Rattle.std.specs.Prelude.{if◌then◌else◌}
+use Rattle.std.specs.Ordering.{is_eq, match_ordering}
+use Rattle.std.specs.declared.cmp.Ordering.TheVariants.{Less}
+use Rattle.std.specs.Cmp.{int_cmp_is}
+use Rattle.std.proofs.lemmas.Int.{ints}
+use Rattle.sqlite.specs.declared.types.Value.{Value}
+use Rattle.sqlite.specs.declared.types.Value.TheVariants.{Int}
+use Rattle.sqlite.specs.Order.{Row, value_cmp}
+use Rattle.sqlite.specs.Tree.{rowid, put_row, without_rowid}
+use Rattle.sqlite.specs.Edit.{next_rowid, id_in, without_all}
+use Rattle.sqlite_rules.specs.Lists.{Has}
+use Rattle.sqlite_value.proofs.OrderLemmas.{value_cmp-Int}
+use Rattle.reg_tables.specs.Rooms.{Ascends, HasRoom}
+
+-- one above the last rowid, or this where there is no row
+abbrev next_from : ℕ → List Row → ℤ
+next_from low = fold (λ _ r. id_in (rowid r) +ℤ pos 1) (pos low)
+
+-- each rowid is below the next, which is at least the lowest that was asked for
+record EndsAt (low : ℕ) (rows : List Row) (next : ℕ) : Type 0 where
+  is_next : next_from low rows ≡ pos next
+  least : low ≤ next
+  below : (row : Row) → Has rows row → (id : ℕ) × (rowid row ≡ Int (pos id)) × (id < next)
+
+ends : (low : ℕ) (rows : List Row) → Ascends low rows → (next : ℕ) × EndsAt low rows next
+ends low [] h = (low, record { is_next = refl; least = omega arith; below = λ row none. absurd none })
+ends low (r ∷ rows) h =
+    let rest = ends (h.0 + 1) rows h.3 in
+    let first : id_in (rowid r) +ℤ pos 1 ≡ pos (h.0 + 1) = ap (λ v. id_in v +ℤ pos 1) h.1 in (
+      rest.0,
+      record {
+        is_next = ap (λ n. fold (λ _ r. id_in (rowid r) +ℤ pos 1) n rows) first ∙ rest.1.is_next;
+        least = let up = rest.1.least in omega (arith, up, h.2);
+        below = λ row there. elim there [
+          | inl same ↦ (h.0, ap rowid same ∙ h.1, let up = rest.1.least in omega (arith, up))
+          | inr also ↦ rest.1.below row also
+        ];
+      },
+    )
+
+-- fewer is asked of rows that ascend from higher up
+lower : (low high : ℕ) (rows : List Row) → low ≤ high → Ascends high rows → Ascends low rows
+lower low high [] up h = tt
+lower low high (r ∷ rows) up h = (h.0, h.1, omega (arith, h.2), h.3)
+
+-- the rows ascend from here, and the next rowid is no higher than this
+abbrev Shrinks : ℕ → List Row → ℕ → Type 0
+Shrinks start rows next = Ascends start rows × ((after : ℕ) × (next_from start rows ≡ pos after) × (after ≤ next))
+
+either : (keep : Row → Bool) (start low : ℕ) (r : Row) (rows : List Row) (next : ℕ) → start ≤ low → (h : Ascends low (r ∷ rows)) → (b : Bool) → Shrinks (h.0 + 1) (filter keep rows) next → Shrinks start (filter keep rows) next
+    → Shrinks start (if b then r ∷ filter keep rows else filter keep rows) next
+either keep start low r rows next up h true kept left = (
+  (h.0, h.1, omega (arith, up, h.2), kept.0),
+  (kept.1.0, ap (λ n. fold (λ _ r. id_in (rowid r) +ℤ pos 1) n (filter keep rows)) (ap (λ v. id_in v +ℤ pos 1) h.1) ∙ kept.1.1, kept.1.2),
+)
+either keep start low r rows next up h false kept left = left
+
+-- taking rows out keeps the order, and the next rowid is no higher
+fewer : (keep : Row → Bool) (start low : ℕ) (rows : List Row) (next : ℕ) → start ≤ low → Ascends low rows → next_from low rows ≡ pos next → Shrinks start (filter keep rows) next
+fewer keep start low [] next up h is = (tt, (start, refl, let same : pos low ≡ pos next = is in let same_next : low ≡ next = cc in omega (arith, up, same_next)))
+fewer keep start low (r ∷ rows) next up h is =
+    let later : next_from (h.0 + 1) rows ≡ pos next = ap (λ n. fold (λ _ r. id_in (rowid r) +ℤ pos 1) n rows) (sym (ap (λ v. id_in v +ℤ pos 1) h.1)) ∙ is in
+    either keep start low r rows next up h (keep r) (fewer keep (h.0 + 1) (h.0 + 1) rows next (omega arith) h.3 later) (fewer keep start (h.0 + 1) rows next (omega (arith, up, h.2)) h.3 later)
+
+pub room_without : (id : ℤ) (rows : List Row) (count : ℕ) → HasRoom rows count → HasRoom (without_rowid id rows) count
+room_without id rows count h =
+    let it = fewer (λ r. not (is_eq (value_cmp (rowid r) (Int id)))) 1 1 rows h.next (omega arith) h.ascends h.is_next in
+    record { ascends = it.0; next = it.1.0; is_next = it.1.1; room = let low = it.1.2 in let room = h.room in omega (arith, low, room) }
+
+-- ---- a row that is put in behind the last
+
+pub less : (a b : Value) (i n : ℕ) → a ≡ Int (pos i) → b ≡ Int (pos n) → i < n → value_cmp a b ≡ Less
+less a b i n first second low = let below : pos i <ℤ pos n = grind (arith, ints, low) in rw (first, second) (value_cmp-Int (pos i) (pos n) ∙ sym (int_cmp_is (pos i) (pos n) Less below))
+
+appended : (low : ℕ) (rows : List Row) (next : ℕ) → Ascends low rows → next_from low rows ≡ pos next → ((r : Row) → Has rows r → (id : ℕ) × (rowid r ≡ Int (pos id)) × (id < next)) → (row : Row) → rowid row ≡ Int (pos next)
+    → Ascends low (put_row row rows) × (next_from low (put_row row rows) ≡ pos (next + 1))
+appended low [] next h is below row its =
+    let same : pos low ≡ pos next = is in
+    let same_next : low ≡ next = cc in
+    ((next, its, omega (arith, same_next), tt), ap (λ v. id_in v +ℤ pos 1) its)
+appended low (r ∷ rows) next h is below row its =
+    let mine = below r (inl refl) in
+    let same : Int (pos mine.0) ≡ Int (pos h.0) = sym mine.1 ∙ h.1 in
+    let same_id : mine.0 ≡ h.0 = cc in
+    let lower : value_cmp (rowid r) (rowid row) ≡ Less = less (rowid r) (rowid row) h.0 next h.1 its (let up = mine.2 in omega (arith, up, same_id)) in
+    let later : next_from (h.0 + 1) rows ≡ pos next = ap (λ n. fold (λ _ r. id_in (rowid r) +ℤ pos 1) n rows) (sym (ap (λ v. id_in v +ℤ pos 1) h.1)) ∙ is in
+    let rest = appended (h.0 + 1) rows next h.3 later (λ x there. below x (inr there)) row its in
+    let placed : put_row row (r ∷ rows) ≡ r ∷ put_row row rows = ap (λ o. match_ordering o (r ∷ put_row row rows) (row ∷ rows) (row ∷ r ∷ rows)) lower in
+    subst (λ l. Ascends low l × (next_from low l ≡ pos (next + 1))) (sym placed)
+    ((h.0, h.1, h.2, rest.0), ap (λ n. fold (λ _ r. id_in (rowid r) +ℤ pos 1) n (put_row row rows)) (ap (λ v. id_in v +ℤ pos 1) h.1) ∙ rest.1)
+
+same_next : (rows : List Row) (count next : ℕ) → (h : HasRoom rows count) → next_rowid rows ≡ pos next → next ≡ h.next
+same_next rows count next h is = let both : pos next ≡ pos h.next = sym is ∙ h.is_next in cc
+
+-- the rowid that SQLite chooses is above all others
+pub above : (rows : List Row) (count : ℕ) → (h : HasRoom rows count) → (r : Row) → Has rows r → (id : ℕ) × (rowid r ≡ Int (pos id)) × (id < h.next)
+above rows count h r there =
+    let it = ends 1 rows h.ascends in
+    let next : it.0 ≡ h.next = same_next rows count it.0 h it.1.is_next in
+    let mine = it.1.below r there in
+    (mine.0, mine.1, let up = mine.2 in omega (arith, up, next))
+
+pub room_after : (rows : List Row) (count : ℕ) → HasRoom rows (count + 1) → (row : Row) → rowid row ≡ Int (next_rowid rows) → HasRoom (put_row row rows) count
+room_after rows count h row its =
+    let it = appended 1 rows h.next h.ascends h.is_next (above rows (count + 1) h) row (its ∙ ap Int h.is_next) in
+    record { ascends = it.0; next = h.next + 1; is_next = it.1; room = let room = h.room in omega (arith, room) }
+
+-- room for more is room for fewer
+pub room_for_fewer : (rows : List Row) (more count : ℕ) → count ≤ more → HasRoom rows more → HasRoom rows count
+room_for_fewer rows more count low h = record { ascends = h.ascends; next = h.next; is_next = h.is_next; room = let room = h.room in omega (arith, low, room) }
+
+pub room_without_all : (ids : List ℤ) (rows : List Row) (count : ℕ) → HasRoom rows count → HasRoom (without_all rows ids) count
+room_without_all [] rows count h = h
+room_without_all (id ∷ ids) rows count h = room_without_all ids (without_rowid id rows) count (room_without id rows count h)

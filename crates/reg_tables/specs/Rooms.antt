@@ -1,0 +1,32 @@
+-- When a table takes more rows: SQLite puts a row one above the last one's rowid.
+use Rattle.std.specs.Prelude.{◌≡◌, ℕ, ◌+◌, ◌^◌, ◌≤◌, ℤ, pos, List, [], ◌∷◌, ⊤}
+use Rattle.sqlite.specs.declared.types.Value.TheVariants.{Int}
+use Rattle.sqlite.specs.Order.{Row}
+use Rattle.sqlite.specs.Tree.{rowid}
+use Rattle.sqlite.specs.Edit.{next_rowid}
+use Rattle.sqlite.specs.Table.{Table}
+use Rattle.sqlite.specs.Effect.{Database}
+use Rattle.sqlite_rules.specs.Edit.{IsOversized}
+use Rattle.reg_tables.specs.Layout.{layout, levels, kept, meta}
+
+-- a row with these cells can be stored, whatever its rowid
+abbrev pub CanBeStored : Table → Row → Type 0
+CanBeStored table cells = (id : ℤ) → ¬ IsOversized layout table (Int id ∷ cells)
+
+-- the rows stand in the order of their rowids, which are at least this
+abbrev pub Ascends : ℕ → List Row → Type 0
+Ascends low [] = ⊤
+Ascends low (row ∷ rows) = (id : ℕ) × (rowid row ≡ Int (pos id)) × (low ≤ id) × Ascends (id + 1) rows
+
+-- so many rows more can be put in behind the last
+pub record HasRoom (rows : List Row) (count : ℕ) : Type 0 where
+  pub ascends : Ascends 1 rows
+  pub next : ℕ
+  pub is_next : next_rowid rows ≡ pos next
+  pub room : next + count ≤ 2 ^ 63
+
+-- the tables of levels, kept replies and of what the database says of itself have it
+pub record HasRooms (db : Database) (count : ℕ) : Type 0 where
+  pub levels : HasRoom (db.trees levels.tree) count
+  pub kept : HasRoom (db.trees kept.tree) count
+  pub meta : HasRoom (db.trees meta.tree) count
