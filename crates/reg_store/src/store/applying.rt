@@ -9,8 +9,8 @@ ghost use Rattle.reg_core.specs.Views.{changed};
 ghost use Rattle.reg_tables.specs.Reading.{OnlyReads};
 ghost use Rattle.reg_store.specs.Replies.{Kept};
 ghost use Rattle.reg_store.specs.Spells.{Leaves, IsOpenOver, SpellsWhileOpen};
-ghost use Rattle.reg_store.specs.Changes.{with_reply, IsNewTo, IsKeepable, ActsOn};
-ghost use Rattle.reg_store.specs.Failures.{failure_of, is_fault};
+ghost use Rattle.reg_store.specs.Changes.{with_reply, IsNewTo, IsKeepable, ActsOn, HasPlace};
+ghost use Rattle.reg_store.specs.Failures.{failure_of, is_fault, IsFaultBy};
 ghost use Rattle.reg_store.specs.Stores.{state_of, has_failed, KeepsStore};
 
 use crate::changes::{keep_reply, make_all};
@@ -36,6 +36,10 @@ fn commit_all<S: Alter>(
     ensures fault { HasCleanDisk (state S.Store conn.new) → IfErr result (λ e.
         (g : Registry) (k : Kept) → SpellsWhileOpen (state S.Store conn.old) g k
         → IsNewTo k keep.entry → IsTrue (is_fault (failure_of e))) }
+    ensures fits { HasCleanDisk (state S.Store conn.new) → IfErr result (λ e.
+        (g : Registry) (k : Kept) → SpellsWhileOpen (state S.Store conn.old) g k
+        → IsNewTo k keep.entry → HasPlace (state S.Store conn.old) changes.now keep.entry
+        → IsFaultBy (state S.Store conn.old) (state S.Store conn.new) (failure_of e)) }
     ensures was_open { HasCleanDisk (state S.Store conn.new)
         → OnOk result (IsTrue (state S.Store conn.old).is_open) }
     ensures nothing { HasCleanDisk (state S.Store conn.new)
@@ -70,6 +74,12 @@ impl<S: Alter> Store<S> {
         ensures fault { HasCleanDisk (state_of self.new) → IfErr result (λ e.
             (g : Registry) (k : Kept) → SpellsWhileOpen (state_of self.old) g k
             → IsNewTo k keep.entry → IsTrue (is_fault e)) }
+
+        // Where there is room for its rows, it answers `Disk` only for a fault of the disk.
+        ensures fits { HasCleanDisk (state_of self.new) → has_failed self.old ≡ false
+            → IfErr result (λ e. (g : Registry) (k : Kept) → SpellsWhileOpen (state_of self.old) g k
+            → IsNewTo k keep.entry → HasPlace (state_of self.old) changes.now keep.entry
+            → IsFaultBy (state_of self.old) (state_of self.new) e) }
         ensures nothing { HasCleanDisk (state_of self.new) → OnErr result ((g : Registry) (k : Kept)
             → SpellsWhileOpen (state_of self.old) g k → SpellsWhileOpen (state_of self.new) g k) }
 

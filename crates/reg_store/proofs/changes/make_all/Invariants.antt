@@ -1,4 +1,8 @@
-use Rattle.std.proofs.Common.{◌≡◌, ◌<◌, IsTrue, take}
+use Rattle.std.proofs.Common.{◌≡◌, ◌<◌, ◌+◌, ℕ, IsTrue, take}
+use Rattle.reg_core.specs.Registry.{Registry}
+use Rattle.reg_tables.specs.Rooms.{HasRooms}
+use Rattle.reg_store.specs.Replies.{Kept}
+use Rattle.reg_store.specs.Spells.{Spells}
 use Rattle.sqlite.specs.Held.{state}
 use Rattle.sqlite.specs.State.{HasCleanDisk, Survives, KeepsCommit}
 use Rattle.reg_core.specs.Views.{changed}
@@ -16,4 +20,5 @@ invariant-loop-change g l =
       goes_on : HasCleanDisk now → GoesOn old now;
       kept : HasCleanDisk now → KeepsCommit old now;
       survives : Survives old now (λ _. ⊥);
+      room : HasCleanDisk now → (registry : Registry) (k : Kept) → Spells old.now registry k → (n : ℕ) → HasRooms old.now (l.change-index + n) → HasRooms now.now n;
     }
