@@ -14,9 +14,9 @@ use Rattle.reg_service.proofs.Together.{serves_none, serves-append}
 use Rattle.reg_service.proofs.Lists.{served-append}
 use Rattle.avroreg.specs.declared.stream.Stop.{Stop}
 use Rattle.avroreg.specs.declared.stream.Stop.TheVariants.{AtEnd, InMessage, AtFault, NotWritten, NoRoom}
-use Rattle.avroreg.specs.Messages.{Message, IsMessage, Leads, Follows, Faulty}
-use Rattle.avroreg.specs.Requests.{delivery_of}
-use Rattle.avroreg.specs.Answers.{answer_to, fault_answer}
+use Rattle.reg_messages.specs.Messages.{Message, IsMessage, Leads, Follows, Faulty}
+use Rattle.reg_messages.specs.Requests.{delivery_of}
+use Rattle.reg_messages.specs.Answers.{answer_to, fault_answer}
 use Rattle.avroreg.specs.Output.{Answered, Replies, exchange_of, exchanges, AreRefused, answers, IsCutShort}
 use Rattle.avroreg.specs.Sessions.{Carries}
 use Rattle.avroreg.specs.Steps.{StopsAs, AnswersAs, FaultAs}

@@ -1,11 +1,5 @@
 mod Bytes
-mod FieldLemmas
-mod Fronts
-mod Keys
-mod Statuses
 mod Serving
 mod Carrying
 mod Ends
-mod Unique
-mod WorkedRows
 mod Telling

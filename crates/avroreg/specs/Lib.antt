@@ -1,10 +1,3 @@
-pub mod Fields
-pub mod Framing
-pub mod Messages
-pub mod Looks
-pub mod Requests
-pub mod Asking
-pub mod Answers
 pub mod Output
 pub mod Sessions
 pub mod Standing

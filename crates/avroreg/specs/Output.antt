@@ -6,12 +6,12 @@ use Rattle.reg_core.specs.declared.code.Code.{Code}
 use Rattle.reg_core.specs.declared.code.Code.TheVariants.{BackendFault}
 use Rattle.reg_core.specs.Replies.{Told, fault}
 use Rattle.reg_core.specs.Registry.{Registry}
-use Rattle.reg_service.specs.declared.delivery.Delivery.{Delivery}
+use Rattle.reg_core.specs.declared.delivery.Delivery.{Delivery}
 use Rattle.reg_store.specs.Replies.{Kept}
 use Rattle.reg_service.specs.Deliveries.{Exchange, Serves, served}
-use Rattle.avroreg.specs.Messages.{Message, Follows, Tail, End, Part, Faulty}
-use Rattle.avroreg.specs.Requests.{delivery_of}
-use Rattle.avroreg.specs.Answers.{answer_to, fault_answer}
+use Rattle.reg_messages.specs.Messages.{Message, Follows, Tail, End, Part, Faulty}
+use Rattle.reg_messages.specs.Requests.{delivery_of}
+use Rattle.reg_messages.specs.Answers.{answer_to, fault_answer}
 
 -- a message and the reply to it
 abbrev pub Answered : Type 0

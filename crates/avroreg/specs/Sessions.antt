@@ -7,7 +7,7 @@ use Rattle.reg_store.specs.Replies.{Kept}
 use Rattle.reg_service.specs.Deliveries.{Serves, served}
 use Rattle.avroreg.specs.declared.stream.Ended.{Ended}
 use Rattle.avroreg.specs.declared.stream.Ended.TheVariants.{Closed, ReadFailed, WriteFailed, Malformed, Memory}
-use Rattle.avroreg.specs.Messages.{Leads, Follows, End, Part, Faulty}
+use Rattle.reg_messages.specs.Messages.{Leads, Follows, End, Part, Faulty}
 use Rattle.avroreg.specs.Output.{Answered, AreRefused, exchanges, answers, output, IsCutShort}
 
 -- Messages at the front of bytes were carried out, rest follows them, and out was written. From a registry and

@@ -12,8 +12,8 @@ use Rattle.avroreg.specs.declared.stream.Stop.{Stop}
 use Rattle.avroreg.specs.declared.stream.Stop.TheVariants.{AtEnd, InMessage, AtFault, NotWritten, NoRoom}
 use Rattle.avroreg.specs.declared.stream.Next.{Next}
 use Rattle.avroreg.specs.declared.stream.Next.TheVariants.{Answered as AnsweredNext, Stopped}
-use Rattle.avroreg.specs.Messages.{Follows, End, Part, Faulty}
-use Rattle.avroreg.specs.Answers.{fault_answer}
+use Rattle.reg_messages.specs.Messages.{Follows, End, Part, Faulty}
+use Rattle.reg_messages.specs.Answers.{fault_answer}
 use Rattle.avroreg.specs.Output.{Answered, answers, IsFront, IsCutShort}
 use Rattle.avroreg.specs.Sessions.{Carries}
 

@@ -1,19 +1,11 @@
 //! avroreg, a registry of Avro schemas.
 #![tactic(auto)]
 
-mod answer;
-mod body;
 mod database;
-mod error;
-mod fields;
 mod files;
-mod framing;
 mod job;
 mod line;
-mod message;
 mod outcome;
-mod request;
-mod route;
 mod stream;
 
 use job::{Job, Opened, do_job};

@@ -10,13 +10,6 @@ use std::process::Abort;
 use std::str;
 use std::test::Fail;
 
-mod deliveries;
-mod disks;
-mod faults;
-mod refusals;
-mod stores;
-mod tables;
-
 const SET_FULL: &str =
     "PUT /config HTTP/1.1\r\nHost: x\r\nRegistry-Retry-Key: k1\r\nContent-Length: 24\r\n\r\n{\"compatibility\":\"FULL\"}";
 

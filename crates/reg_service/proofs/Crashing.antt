@@ -15,7 +15,7 @@ use Rattle.reg_core.specs.Replies.{Told, IsOwnReply, fault}
 use Rattle.reg_store.specs.Replies.{Kept, Entry, kept_with}
 use Rattle.reg_store.specs.Spells.{Leaves, IsOpenOver, SpellsWhileOpen}
 use Rattle.reg_store.proofs.Committing.{leaves_if_spelled}
-use Rattle.reg_service.specs.declared.delivery.Delivery.{Delivery}
+use Rattle.reg_core.specs.declared.delivery.Delivery.{Delivery}
 use Rattle.reg_service.specs.Deliveries.{Exchange, key_of, is_first, firsts, kept_after, reply_after, served, is_backend_fault, Serves}
 use Rattle.reg_service.specs.Services.{ServesOver}
 use Rattle.reg_service.specs.Crashes.{LeavesAfter, LeavesUnderWay, IsFoundAfter, reply_of, LeavesOne}

@@ -11,7 +11,7 @@ use Rattle.reg_core.specs.Registry.{Registry}
 use Rattle.reg_core.specs.Replies.{Told, IsOwnReply, fault}
 use Rattle.reg_store.specs.Replies.{Kept, Entry, kept_with}
 use Rattle.reg_store.specs.Spells.{SpellsWhileOpen}
-use Rattle.reg_service.specs.declared.delivery.Delivery.{Delivery}
+use Rattle.reg_core.specs.declared.delivery.Delivery.{Delivery}
 use Rattle.reg_service.specs.Deliveries.{Exchange, Serves, key_of, served, is_backend_fault}
 use Rattle.reg_service.specs.Services.{SpellsOn, ServesTo, ServesOver}
 use Rattle.reg_service.proofs.Alone.{serves_keyless, serves_first, serves_again, serves_refused}

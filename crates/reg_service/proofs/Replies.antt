@@ -6,7 +6,7 @@ use Rattle.reg_core.specs.CommandTexts.{command_text}
 use Rattle.reg_core.specs.Machine.{is_write, step}
 use Rattle.reg_core.specs.Registry.{Registry}
 use Rattle.reg_core.specs.Replies.{Told, fault}
-use Rattle.reg_service.specs.declared.delivery.Delivery.{Delivery}
+use Rattle.reg_core.specs.declared.delivery.Delivery.{Delivery}
 use Rattle.reg_store.specs.Replies.{Kept, Entry}
 use Rattle.reg_service.specs.Deliveries.{key_of, Serves, served}
 use Rattle.reg_store.specs.Replies.{kept_with}

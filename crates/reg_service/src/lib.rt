@@ -6,6 +6,5 @@ mod error;
 mod kept;
 mod service;
 
-pub use delivery::Delivery;
-pub use error::OutOfMemory;
+pub use reg_core::{Delivery, OutOfMemory};
 pub use service::Service;

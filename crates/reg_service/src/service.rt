@@ -13,16 +13,13 @@ ghost use Rattle.reg_service.specs.Deliveries.{served, RepeatsAgree, NoOtherAnsw
 ghost use Rattle.reg_service.specs.Crashes.{IsFoundAfter, reply_of, LeavesOne, LeavesNoMore};
 ghost use Rattle.reg_service.specs.Services.{store_in, state_in, SpellsOn, ServesOver};
 
-use crate::delivery::Delivery;
-use crate::error::{OutOfMemory, Unanswered};
+use crate::delivery::retry_key;
+use crate::error::Unanswered;
 use crate::kept::answer_again;
-use reg_core::{Code, Command, Decision, Key, Reply, decide, print_of};
+use reg_core::{Code, Command, Decision, Delivery, Key, OutOfMemory, Reply, decide, print_of};
 use reg_store::{Keep, Store};
 use sqlite::Alter;
 use std::alloc::Global;
-
-#[cfg(test)]
-mod tests;
 
 /// A registry and the replies that it keeps under retry keys, in the tables of a store.
 #[derive(Drop)]
@@ -146,7 +143,7 @@ impl<S: Alter> Service<S> {
             → LeavesNoMore (state_in self.old) (state_in self.new) }
         ensures keeps { KeepsOpen (state_in self.old) (state_in self.new) }
     {
-        let Some(key) = delivery.retry_key() else {
+        let Some(key) = retry_key(delivery) else {
             return self.carry_out(&delivery.command);
         };
         let text = print_of(self.alloc, &delivery.command)?;

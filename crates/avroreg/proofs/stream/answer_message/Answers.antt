@@ -4,10 +4,10 @@ use denote.Ref.{Bor}
 use Rattle.std.specs.Io.KnownBytes.{Appends}
 use Rattle.reg_core.specs.declared.code.Code.{Code}
 use Rattle.reg_core.specs.Replies.{Told}
-use Rattle.reg_service.specs.declared.delivery.Delivery.{Delivery}
-use Rattle.avroreg.specs.Requests.{allow_of}
-use Rattle.avroreg.specs.Answers.{answer_bytes, answer_to}
-use Rattle.avroreg.specs.Messages.{Message}
+use Rattle.reg_core.specs.declared.delivery.Delivery.{Delivery}
+use Rattle.reg_messages.specs.Requests.{allow_of}
+use Rattle.reg_messages.specs.Answers.{answer_bytes, answer_to}
+use Rattle.reg_messages.specs.Messages.{Message}
 use Rattle.avroreg.specs.Output.{Replies}
 use Rattle.avroreg.proofs.Carrying.{Carries-one}
 use Rattle.avroreg.proofs.stream.answer_message.Goals as goal

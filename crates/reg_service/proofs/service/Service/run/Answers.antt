@@ -1,6 +1,6 @@
 use Rattle.std.proofs.Common.{◌≡◌, List, [], ◌∷◌, length, take, zip, ap, subst, arith, length-append}
 use Rattle.std.proofs.lemmas.List.{take_all}
-use Rattle.reg_service.specs.declared.delivery.Delivery.{Delivery}
+use Rattle.reg_core.specs.declared.delivery.Delivery.{Delivery}
 use Rattle.reg_service.specs.Deliveries.{served}
 use Rattle.reg_service.specs.Crashes.{IsFoundAfter}
 use Rattle.reg_service.proofs.Again.{repeats_agree, no_other_answers}

@@ -1,0 +1,49 @@
+use Rattle.std.proofs.Common.{◌≡◌, ◌≤◌, length, take, drop, inl, inr, refl, sym, ◌∙◌, arith, length-drop}
+use Rattle.std.proofs.lemmas.List.{take-append-drop, length-take-le}
+use Rattle.reg_messages.proofs.Fronts.{HasHead-found, framed, IsWhole-found, HasNoHead-front, NeverHasRequest-front}
+use Rattle.reg_messages.proofs.message.look_at.Goals as goal
+
+pub returns-in-Err-length_by : goal.returns-in-Err-length_by
+returns-in-Err-length_by c =
+    let x = rw c.in-Ok-Complete.field-0-is at c.in-Ok-Complete.ensures.complete in
+    let le : c.min.result ≤ length c.args.bytes.now = omega arith in
+    let small : c.min.result ≤ 16384 = omega arith in
+    inr (record {
+      head = x.0;
+      rest = drop c.in-Ok-Complete.head.len c.args.bytes.now;
+      has_head = HasHead-found c.args.bytes.now c.min.result _ _ x.0 le small x.1;
+      framed = framed _ _ _ x.0 _ x.1 c.in-Err-length_by.ensures;
+    })
+
+pub returns-then-bytes-head : goal.returns-then-bytes-head
+returns-then-bytes-head c =
+    let x = rw c.in-Ok-Complete.field-0-is at c.in-Ok-Complete.ensures.complete in
+    let le : c.min.result ≤ length c.args.bytes.now = omega arith in
+    let small : c.min.result ≤ 16384 = omega arith in
+    inr (record {
+      head = x.0;
+      rest = drop c.in-Ok-Complete.head.len c.args.bytes.now;
+      size = c.in-Ok.body;
+      has_head = HasHead-found c.args.bytes.now c.min.result _ _ x.0 le small x.1;
+      framed = framed _ _ _ x.0 _ x.1 c.in-Ok.ensures;
+      short = omega (arith, length-drop c.in-Ok-Complete.head.len c.args.bytes.now, c.if-bytes-head.true);
+    })
+
+pub returns-else-bytes-head : goal.returns-else-bytes-head
+returns-else-bytes-head c =
+    let x = rw c.in-Ok-Complete.field-0-is at c.in-Ok-Complete.ensures.complete in
+    let w = rw c.in-Ok-Complete.field-0-is at c.in-Ok-Complete.ensures.within in
+    let le : c.min.result ≤ length c.args.bytes.now = omega arith in
+    let small : c.min.result ≤ 16384 = omega arith in
+    IsWhole-found c.args.bytes.now c.min.result c.in-Ok.body _ _ x.0 le small x.1 w (framed _ _ _ x.0 _ x.1 c.in-Ok.ensures) c.if-bytes-head.false
+
+pub returns-else-bytes-lt-MAX_HEAD : goal.returns-else-bytes-lt-MAX_HEAD
+returns-else-bytes-lt-MAX_HEAD c =
+    let x = rw c.in-Ok-Partial.field-0-is at c.in-Ok-Partial.ensures.partial in
+    let le : c.min.result ≤ length c.args.bytes.now = omega arith in
+    let n : length (take c.min.result c.args.bytes.now) ≡ 16384 = length-take-le c.min.result c.args.bytes.now le ∙ omega arith in
+    inl (refl, inr (c.if-bytes-lt-MAX_HEAD.false, HasNoHead-front c.args.bytes.now _ _ (sym (take-append-drop c.min.result c.args.bytes.now)) n x))
+
+pub returns-in_default : goal.returns-in_default
+returns-in_default c =
+    inl (refl, inl (NeverHasRequest-front c.args.bytes.now _ _ (sym (take-append-drop c.min.result c.args.bytes.now)) (c.in-Err.ensures.invalid c.in_default.not-TooManyHeaders)))

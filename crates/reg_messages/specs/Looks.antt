@@ -1,0 +1,30 @@
+-- What one look at the front of the bytes found.
+use Rattle.std.specs.Prelude.{◌≡◌, ℕ, ◌+◌, ◌<◌, ◌≤◌, List, map, length, take, drop, ⊤}
+use Rattle.httparse.specs.declared.spans.HeaderSpan.{HeaderSpan}
+use Rattle.httparse.specs.Spans.{IsRequestWithin, span_bytes, header_bytes}
+use Rattle.reg_messages.specs.declared.message.Whole.{Whole}
+use Rattle.reg_messages.specs.declared.message.Look.{Look}
+use Rattle.reg_messages.specs.declared.message.Look.TheVariants.{Whole as WholeLook, Nothing, Part as PartLook, Faulty as FaultyLook, NoRoom}
+use Rattle.reg_messages.specs.Messages.{Message, IsMessage, Follows, End, Part, Faulty, fields_of}
+
+-- the bytes of the head
+abbrev pub head_bytes : List ℕ → Whole → List ℕ
+head_bytes bytes whole = take whole.head.len bytes
+
+-- the message is at the front, and these are the places of its parts
+pub record IsWhole (bytes : List ℕ) (headers : List HeaderSpan) (whole : Whole) (message : Message) : Type 0 where
+  pub reads : IsMessage bytes message (drop (whole.head.len + whole.body) bytes)
+  pub size : whole.head.len + whole.body ≤ length bytes
+  pub some : 0 < whole.head.len
+  pub within : IsRequestWithin (head_bytes bytes whole) headers whole.head
+  pub method : span_bytes (head_bytes bytes whole) whole.head.method ≡ message.head.method
+  pub target : span_bytes (head_bytes bytes whole) whole.head.path ≡ message.head.target
+  pub fields : map (header_bytes (head_bytes bytes whole)) (take whole.head.headers headers) ≡ fields_of message.head
+  pub body : take whole.body (drop whole.head.len bytes) ≡ message.body
+
+abbrev pub LooksAs : List ℕ → List HeaderSpan → Look → Type 0
+LooksAs bytes headers (WholeLook whole) = (message : Message) × IsWhole bytes headers whole message
+LooksAs bytes headers Nothing = Follows bytes End
+LooksAs bytes headers PartLook = Follows bytes Part
+LooksAs bytes headers (FaultyLook code) = Follows bytes (Faulty code)
+LooksAs bytes headers NoRoom = ⊤

@@ -1,0 +1,86 @@
+-- The messages of a stream of bytes. A message is a request's head, as httparse's grammar has it
+-- (RFC 9112, sections 2 to 5), and a body of as many bytes as the head's fields say.
+use Rattle.std.specs.Prelude.{◌≡◌, ℕ, ◌<◌, ◌≤◌, ◌⊎◌, List, [], ◌∷◌, ◌++◌, map, length, Ok, Err}
+use Rattle.httparse.specs.Grammar.{RequestHead, print_request, ReadsRequest, HasNoRequest, NeverHasRequest, MayBecomeRequest}
+use Rattle.httparse.specs.Spans.{name_and_value}
+use Rattle.reg_core.specs.declared.code.Code.{Code}
+use Rattle.reg_core.specs.declared.code.Code.TheVariants.{MalformedRequest}
+use Rattle.reg_messages.specs.Fields.{Pair}
+use Rattle.reg_messages.specs.Framing.{framing}
+
+-- the most bytes of a head, with its empty line (this project's choice)
+abbrev pub max_head : ℕ
+max_head = 16384
+
+pub record Message : Type 0 where
+  pub head : RequestHead
+  pub body : List ℕ
+
+-- bytes begin with a head within the limit, and then rest
+pub record HasHead (bytes : List ℕ) (head : RequestHead) (rest : List ℕ) : Type 0 where
+  pub reads : ReadsRequest bytes head rest
+  pub size : length (print_request head) ≤ max_head
+
+-- the names and values of the head's fields
+abbrev pub fields_of : RequestHead → List Pair
+fields_of head = map name_and_value head.fields
+
+-- bytes are the message, and then rest
+pub record IsMessage (bytes : List ℕ) (message : Message) (rest : List ℕ) : Type 0 where
+  pub head : HasHead bytes message.head (message.body ++ rest)
+  pub body : framing (fields_of message.head) ≡ Ok (length message.body)
+
+-- bytes are these messages, and then rest
+abbrev pub Leads : List ℕ → List Message → List ℕ → Type 0
+Leads bytes [] rest = bytes ≡ rest
+Leads bytes (m ∷ ms) rest = (mid : List ℕ) × IsMessage bytes m mid × Leads mid ms rest
+
+-- no head within the limit is at the front
+abbrev pub HasNoHead : List ℕ → Type 0
+HasNoHead bytes = (head : RequestHead) (rest : List ℕ) → ¬ (HasHead bytes head rest)
+
+-- less than a whole head, which more bytes may complete
+pub record IsPartOfHead (bytes : List ℕ) : Type 0 where
+  pub some : 0 < length bytes
+  pub size : length bytes < max_head
+  pub none_yet : HasNoRequest bytes
+  pub may_become : MayBecomeRequest bytes
+
+-- a whole head, and less than its body
+pub record IsPartOfBody (bytes : List ℕ) : Type 0 where
+  pub head : RequestHead
+  pub rest : List ℕ
+  pub size : ℕ
+  pub has_head : HasHead bytes head rest
+  pub framed : framing (fields_of head) ≡ Ok size
+  pub short : length rest < size
+
+-- no bytes can follow that make a head, or the limit is reached without one
+abbrev pub HasNoHeadEver : List ℕ → Type 0
+HasNoHeadEver bytes = NeverHasRequest bytes ⊎ ((max_head ≤ length bytes) × HasNoHead bytes)
+
+-- a whole head, whose fields have a fault
+pub record HasFaultyHead (bytes : List ℕ) (code : Code) : Type 0 where
+  pub head : RequestHead
+  pub rest : List ℕ
+  pub has_head : HasHead bytes head rest
+  pub framed : framing (fields_of head) ≡ Err code
+
+-- what follows the whole messages
+pub data Tail : Type 0 where
+  End Part : Tail
+  Faulty : Code → Tail
+
+-- Nothing follows; or less than a whole message; or a fault, the first in the order of the rules.
+-- Where bytes end inside a target and no continuation is a head, they are both a part and a fault:
+-- the grammar leaves this one case open.
+abbrev pub Follows : List ℕ → Tail → Type 0
+Follows bytes End = bytes ≡ []
+Follows bytes Part = IsPartOfHead bytes ⊎ IsPartOfBody bytes
+Follows bytes (Faulty code) = ((code ≡ MalformedRequest) × HasNoHeadEver bytes) ⊎ HasFaultyHead bytes code
+
+-- the whole messages at the front, and what follows them
+pub record Messages (bytes : List ℕ) (messages : List Message) (tail : Tail) : Type 0 where
+  pub rest : List ℕ
+  pub leads : Leads bytes messages rest
+  pub follows : Follows rest tail

@@ -1,0 +1,50 @@
+//! How long a message's body is (RFC 9112, section 6).
+ghost use Rattle.std.specs.Prelude.{◌≡◌, map, length, All};
+ghost use Rattle.httparse.specs.Spans.{IsHeaderWithin, header_bytes};
+ghost use Rattle.reg_messages.specs.Framing.{framing, body_length};
+
+use crate::fields::Found;
+use httparse::spans::HeaderSpan;
+use reg_core::Code;
+
+/// The most bytes of a body.
+pub const MAX_BODY: u64 = 1_048_576;
+
+/// The length in bytes that a `Content-Length` writes in 1 to 19 digits: `MalformedRequest` where
+/// it doesn't, and `BodyTooLarge` past the limit.
+fn number(text: &[u8]) -> Result<usize, Code>
+    ensures { result ≡ body_length text.now }
+{
+    if text.is_empty() || text.len() > 19 {
+        return Err(Code::MalformedRequest);
+    }
+    let mut n: u64 = 0;
+    for b in text {
+        if !b.is_ascii_digit() {
+            return Err(Code::MalformedRequest);
+        }
+        n = (n * 10 + u64::from(*b - b'0')).min(MAX_BODY + 1);
+    }
+    if n > MAX_BODY {
+        return Err(Code::BodyTooLarge);
+    }
+    Ok(n as usize)
+}
+
+/// The body's length in bytes by the fields of the head, 0 without a `Content-Length`. A
+/// `Transfer-Encoding` is `CodingNotSupported`, two lengths are `MalformedRequest`.
+pub fn length_by(head: &[u8], fields: &[HeaderSpan]) -> Result<usize, Code>
+    requires { All (IsHeaderWithin (length head.now)) fields.now }
+    ensures { result ≡ framing (map (header_bytes head.now) fields.now) }
+{
+    match Found::look(head, fields, b"Transfer-Encoding") {
+        Found::Missing => {}
+        Found::Once(_) => return Err(Code::CodingNotSupported),
+        Found::Repeated => return Err(Code::CodingNotSupported),
+    }
+    match Found::look(head, fields, b"Content-Length") {
+        Found::Missing => Ok(0),
+        Found::Once(text) => number(text),
+        Found::Repeated => Err(Code::MalformedRequest),
+    }
+}

@@ -1,0 +1,74 @@
+//! Cutting the first message off a stream of bytes (RFC 9112, sections 2 to 6).
+ghost use Rattle.std.specs.Prelude.{◌≡◌, ℕ, List};
+ghost use Rattle.reg_messages.specs.Looks.{LooksAs};
+ghost use Rattle.reg_messages.specs.Messages.{Message, Messages, Tail};
+
+use crate::framing::length_by;
+use httparse::spans::{HeaderSpan, RequestSpans, parse_request};
+use httparse::{Error, Status};
+use reg_core::Code;
+
+/// The most bytes of a head, with its empty line.
+pub const MAX_HEAD: usize = 16_384;
+
+/// A whole message at the front of the bytes: where the parts of its head are, and its body's
+/// length in bytes.
+#[derive(Clone, Copy)]
+pub struct Whole {
+    pub head: RequestSpans,
+    pub body: usize,
+}
+
+/// What stands at the front of the bytes.
+#[derive(Clone, Copy)]
+pub enum Look {
+    /// A whole message.
+    Whole(Whole),
+    /// No byte.
+    Nothing,
+    /// Less than a whole message.
+    Part,
+    /// What is no message, with the code of its fault.
+    Faulty(Code),
+    /// More fields than there is room for.
+    NoRoom,
+}
+
+/// Looks at the front of the bytes, with room for the lines of a head.
+pub fn look_at(bytes: &[u8], headers: &mut [HeaderSpan]) -> Look
+    ensures { LooksAs bytes.now headers.new result }
+{
+    if bytes.is_empty() {
+        return Look::Nothing;
+    }
+    let front = &bytes[..bytes.len().min(MAX_HEAD)];
+    match parse_request(front, headers) {
+        Ok(Status::Complete(head)) => match length_by(front, &headers[..head.headers]) {
+            Err(code) => Look::Faulty(code),
+            Ok(body) => {
+                if bytes.len() - head.len < body {
+                    Look::Part
+                } else {
+                    Look::Whole(Whole { head, body })
+                }
+            }
+        },
+        Ok(Status::Partial) => {
+            if bytes.len() < MAX_HEAD {
+                Look::Part
+            } else {
+                Look::Faulty(Code::MalformedRequest)
+            }
+        }
+        Err(error) => match error {
+            Error::TooManyHeaders => Look::NoRoom,
+            _ => Look::Faulty(Code::MalformedRequest),
+        },
+    }
+}
+
+/// A law: a stream of bytes has one list of whole messages, so what is answered is determined.
+pub fn one_reading()
+    ensures { (bytes : List ℕ) (ms ks : List Message) (t u : Tail)
+        → Messages bytes ms t → Messages bytes ks u → ms ≡ ks }
+{}
