@@ -1,11 +1,12 @@
 -- The front of the bytes, where the head is looked for.
-use Rattle.std.proofs.Common.{◌≡◌, ℕ, suc, ◌+◌, ◌-◌, ◌<◌, ◌≤◌, List, [], ◌∷◌, ◌++◌, length, take, drop, map, refl, sym, ap, ◌∙◌, subst, arith, append_assoc, append-nil, length-append, length-drop, Result, Ok, All}
+use Rattle.std.proofs.Common.{◌≡◌, ℕ, suc, ◌+◌, ◌-◌, ◌<◌, ◌≤◌, List, [], ◌∷◌, ◌++◌, length, take, drop, map, refl, sym, ap, ◌∙◌, subst, arith, append_assoc, append-nil, length-append, length-drop, lit≤, flat_map, Result, Ok, All}
 use Rattle.std.proofs.lemmas.List.{take-append-drop, take-take, drop-take, drop-append-le, drop-drop, length-take-le}
 use Rattle.httparse.specs.declared.spans.Span.{Span}
 use Rattle.httparse.specs.declared.spans.HeaderSpan.{HeaderSpan}
 use Rattle.httparse.specs.declared.spans.RequestSpans.{RequestSpans}
-use Rattle.httparse.specs.Grammar.{RequestHead, print_request, ReadsRequest, HasNoRequest, NeverHasRequest}
-use Rattle.httparse.specs.Spans.{IsRequestAt, IsRequestWithin, IsWithin, IsHeaderWithin, span_bytes, header_bytes}
+use Rattle.httparse.specs.Grammar.{lf, Field, print_end, print_field, RequestHead, print_request, ReadsRequest, HasNoRequest, NeverHasRequest}
+use Rattle.httparse.specs.Ascii.{colon}
+use Rattle.httparse.specs.Spans.{RequestExceeds, IsRequestAt, IsRequestWithin, IsWithin, IsHeaderWithin, span_bytes, header_bytes}
 use Rattle.httparse.proofs.GrammarLemmas.{print_request-append}
 use Rattle.reg_core.specs.declared.code.Code.{Code}
 use Rattle.reg_messages.specs.Framing.{framing}
@@ -48,6 +49,25 @@ head_some buf rest head x =
     let e = ap length (sym (append-nil (print_request head)) ∙ print_request-append head []) in
     let t = simp length-append at e in
     omega (arith, t, x.0.method.0)
+
+-- a field has a byte at least
+field_some : (field : Field) → 0 < length (print_field field)
+field_some field =
+    let whole : length (print_field field) ≡ length (field.name ++ (colon ∷ field.raw)) + length (print_end field.end) =
+    length-append (field.name ++ (colon ∷ field.raw)) (print_end field.end) in
+    omega (arith, whole, length-append field.name (colon ∷ field.raw))
+
+fields_some : (fields : List Field) → length fields ≤ length (flat_map print_field fields)
+fields_some [] = lit≤ tt
+fields_some (field ∷ fields) = omega (arith, length-append (print_field field) (flat_map print_field fields), field_some field, fields_some fields)
+
+-- bytes that begin with a head of too many fields are more than there is room for fields
+pub exceeds_room : (room : ℕ) (bytes : List ℕ) → RequestExceeds room bytes → room < length bytes
+exceeds_room room bytes (front, rest, is, head, reads, over) =
+    let e = ap length (sym (append-nil (print_request head)) ∙ print_request-append head []) in
+    let size = simp length-append at e in
+    let whole = ap length reads.1 in
+    omega (arith, size, whole, over, reads.0.method.0, fields_some head.fields, ap length is, length-append front rest, length-append front (print_end lf), length-append (print_request head) [])
 
 -- a span of a front covers the same bytes of the whole
 pub span_bytes-take : (n : ℕ) (xs : List ℕ) (s : Span) → IsWithin n s → span_bytes (take n xs) s ≡ span_bytes xs s

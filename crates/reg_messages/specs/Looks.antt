@@ -1,11 +1,11 @@
 -- What one look at the front of the bytes found.
-use Rattle.std.specs.Prelude.{◌≡◌, ℕ, ◌+◌, ◌<◌, ◌≤◌, List, map, length, take, drop, ⊤}
+use Rattle.std.specs.Prelude.{◌≡◌, ℕ, ◌+◌, ◌<◌, ◌≤◌, List, map, length, take, drop}
 use Rattle.httparse.specs.declared.spans.HeaderSpan.{HeaderSpan}
 use Rattle.httparse.specs.Spans.{IsRequestWithin, span_bytes, header_bytes}
 use Rattle.reg_messages.specs.declared.message.Whole.{Whole}
 use Rattle.reg_messages.specs.declared.message.Look.{Look}
 use Rattle.reg_messages.specs.declared.message.Look.TheVariants.{Whole as WholeLook, Nothing, Part as PartLook, Faulty as FaultyLook, NoRoom}
-use Rattle.reg_messages.specs.Messages.{Message, IsMessage, Follows, End, Part, Faulty, fields_of}
+use Rattle.reg_messages.specs.Messages.{Message, max_head, IsMessage, Follows, End, Part, Faulty, fields_of}
 
 -- the bytes of the head
 abbrev pub head_bytes : List ℕ → Whole → List ℕ
@@ -22,9 +22,10 @@ pub record IsWhole (bytes : List ℕ) (headers : List HeaderSpan) (whole : Whole
   pub fields : map (header_bytes (head_bytes bytes whole)) (take whole.head.headers headers) ≡ fields_of message.head
   pub body : take whole.body (drop whole.head.len bytes) ≡ message.body
 
-abbrev pub LooksAs : List ℕ → List HeaderSpan → Look → Type 0
-LooksAs bytes headers (WholeLook whole) = (message : Message) × IsWhole bytes headers whole message
-LooksAs bytes headers Nothing = Follows bytes End
-LooksAs bytes headers PartLook = Follows bytes Part
-LooksAs bytes headers (FaultyLook code) = Follows bytes (Faulty code)
-LooksAs bytes headers NoRoom = ⊤
+-- what a look found that had places for so many fields; as many as a head may have bytes suffice
+abbrev pub LooksAs : ℕ → List ℕ → List HeaderSpan → Look → Type 0
+LooksAs room bytes headers (WholeLook whole) = (message : Message) × IsWhole bytes headers whole message
+LooksAs room bytes headers Nothing = Follows bytes End
+LooksAs room bytes headers PartLook = Follows bytes Part
+LooksAs room bytes headers (FaultyLook code) = Follows bytes (Faulty code)
+LooksAs room bytes headers NoRoom = room < max_head

@@ -1,7 +1,7 @@
 -- The messages of a stream of bytes. A message is a request's head, as httparse's grammar has it
 -- (RFC 9112, sections 2 to 5), and a body of as many bytes as the head's fields say.
 use Rattle.std.specs.Prelude.{◌≡◌, ℕ, ◌<◌, ◌≤◌, ◌⊎◌, List, [], ◌∷◌, ◌++◌, map, length, Ok, Err}
-use Rattle.httparse.specs.Grammar.{RequestHead, print_request, ReadsRequest, HasNoRequest, NeverHasRequest, MayBecomeRequest}
+use Rattle.httparse.specs.Grammar.{RequestHead, print_request, ReadsRequest, HasNoRequest, NeverHasRequest, EndsInTarget, MayBecomeRequest}
 use Rattle.httparse.specs.Spans.{name_and_value}
 use Rattle.reg_core.specs.declared.code.Code.{Code}
 use Rattle.reg_core.specs.declared.code.Code.TheVariants.{MalformedRequest}
@@ -78,6 +78,14 @@ abbrev pub Follows : List ℕ → Tail → Type 0
 Follows bytes End = bytes ≡ []
 Follows bytes Part = IsPartOfHead bytes ⊎ IsPartOfBody bytes
 Follows bytes (Faulty code) = ((code ≡ MalformedRequest) × HasNoHeadEver bytes) ⊎ HasFaultyHead bytes code
+
+-- the bytes end inside a target, and are read as a part and as a fault: the case that the grammar leaves open
+abbrev pub IsOpen : List ℕ → Tail → Tail → Type 0
+IsOpen bytes t u = EndsInTarget bytes × (t ≡ Part) × (u ≡ Faulty MalformedRequest)
+
+-- two readings of what follows are one, but for that case
+abbrev pub Agree : List ℕ → Tail → Tail → Type 0
+Agree bytes t u = (t ≡ u) ⊎ (IsOpen bytes t u ⊎ IsOpen bytes u t)
 
 -- the whole messages at the front, and what follows them
 pub record Messages (bytes : List ℕ) (messages : List Message) (tail : Tail) : Type 0 where

@@ -1,4 +1,5 @@
 //! The bytes of an answer (RFC 9112, sections 2 to 6).
+
 ghost use Rattle.std.specs.Prelude.{◌≡◌, IfOk, option_map, string_bytes};
 ghost use Rattle.http.specs.StatusCode.{IsStatusCode};
 ghost use Rattle.reg_messages.specs.Answers.{answer_bytes, status_line as line_of_status, length_line as line_of_length, allow_line as line_of_allow, close_line as line_of_close, phrase_of as phrase_for};

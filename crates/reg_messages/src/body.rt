@@ -1,4 +1,5 @@
 //! The bodies of requests (RFC 8259).
+
 ghost use Rattle.std.specs.Prelude.{◌≡◌, ◌⊎◌, MatchResult, codes, option_map, option_and_then};
 ghost use Rattle.serde_json.specs.Find.{get, as_str};
 ghost use Rattle.serde_json.specs.View.{view};

@@ -1,4 +1,5 @@
 //! How long a message's body is (RFC 9112, section 6).
+
 ghost use Rattle.std.specs.Prelude.{◌≡◌, map, length, All};
 ghost use Rattle.httparse.specs.Spans.{IsHeaderWithin, header_bytes};
 ghost use Rattle.reg_messages.specs.Framing.{framing, body_length};

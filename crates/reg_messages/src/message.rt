@@ -1,7 +1,8 @@
 //! Cutting the first message off a stream of bytes (RFC 9112, sections 2 to 6).
-ghost use Rattle.std.specs.Prelude.{◌≡◌, ℕ, List};
+
+ghost use Rattle.std.specs.Prelude.{◌≡◌, ℕ, List, length};
 ghost use Rattle.reg_messages.specs.Looks.{LooksAs};
-ghost use Rattle.reg_messages.specs.Messages.{Message, Messages, Tail};
+ghost use Rattle.reg_messages.specs.Messages.{Message, Messages, Tail, Agree};
 
 use crate::framing::length_by;
 use httparse::spans::{HeaderSpan, RequestSpans, parse_request};
@@ -34,9 +35,9 @@ pub enum Look {
     NoRoom,
 }
 
-/// Looks at the front of the bytes, with room for the lines of a head.
+/// Looks at the front of the bytes, with room for the fields of a head. 16,384 places are enough.
 pub fn look_at(bytes: &[u8], headers: &mut [HeaderSpan]) -> Look
-    ensures { LooksAs bytes.now headers.new result }
+    ensures { LooksAs (length headers.old) bytes.now headers.new result }
 {
     if bytes.is_empty() {
         return Look::Nothing;
@@ -67,8 +68,9 @@ pub fn look_at(bytes: &[u8], headers: &mut [HeaderSpan]) -> Look
     }
 }
 
-/// A law: a stream of bytes has one list of whole messages, so what is answered is determined.
+/// A law: a stream of bytes has one list of whole messages, and one of what follows them, but where
+/// it ends inside a target. So what is answered is determined.
 pub fn one_reading()
     ensures { (bytes : List ℕ) (ms ks : List Message) (t u : Tail)
-        → Messages bytes ms t → Messages bytes ks u → ms ≡ ks }
+        → (one : Messages bytes ms t) → Messages bytes ks u → (ms ≡ ks) × Agree one.rest t u }
 {}

@@ -1,4 +1,5 @@
 //! What a message asks for: the route, the method, the retry key and the body.
+
 ghost use Rattle.std.specs.Prelude.{◌≡◌, ◌⊎◌, MatchResult, map, length, All, codes, if◌then◌else◌};
 ghost use Rattle.httparse.specs.Spans.{IsHeaderWithin, header_bytes};
 ghost use Rattle.reg_messages.specs.Fields.{values_named};

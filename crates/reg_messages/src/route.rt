@@ -1,4 +1,5 @@
 //! The one route that there is, its methods and what a target names.
+
 ghost use Rattle.std.specs.Prelude.{◌≡◌, ◌<◌, ◌==◌, length, position, IfSome, bytes_eq, option_map};
 ghost use Rattle.reg_messages.specs.Requests.{path_of as path_in, is_config as is_config_path, allow_of as allow_beside};
 

@@ -1,6 +1,6 @@
-use Rattle.std.proofs.Common.{◌≡◌, ◌≤◌, length, take, drop, inl, inr, refl, sym, ◌∙◌, arith, length-drop}
+use Rattle.std.proofs.Common.{◌≡◌, ◌≤◌, length, take, drop, inl, inr, refl, sym, ap, Err, ◌∙◌, arith, length-drop}
 use Rattle.std.proofs.lemmas.List.{take-append-drop, length-take-le}
-use Rattle.reg_messages.proofs.Fronts.{HasHead-found, framed, IsWhole-found, HasNoHead-front, NeverHasRequest-front}
+use Rattle.reg_messages.proofs.Fronts.{exceeds_room, HasHead-found, framed, IsWhole-found, HasNoHead-front, NeverHasRequest-front}
 use Rattle.reg_messages.proofs.message.look_at.Goals as goal
 
 pub returns-in-Err-length_by : goal.returns-in-Err-length_by
@@ -47,3 +47,9 @@ returns-else-bytes-lt-MAX_HEAD c =
 pub returns-in_default : goal.returns-in_default
 returns-in_default c =
     inl (refl, inl (NeverHasRequest-front c.args.bytes.now _ _ (sym (take-append-drop c.min.result c.args.bytes.now)) (c.in-Err.ensures.invalid c.in_default.not-TooManyHeaders)))
+
+pub returns-in-TooManyHeaders : goal.returns-in-TooManyHeaders
+returns-in-TooManyHeaders c =
+    let over = exceeds_room _ _ (c.in-Err.ensures.too_many (ap Err c.in-TooManyHeaders.is)) in
+    let le : c.min.result ≤ length c.args.bytes.now = omega arith in
+    omega (arith, over, length-take-le c.min.result c.args.bytes.now le)
