@@ -1,5 +1,5 @@
 -- Why a table or an index is not made.
-use Rattle.std.proofs.Common.{◌≡◌, inl, inr, ℕ, zero, suc, All, ℤ, pos, negsuc, ◌+◌, ◌*◌, ◌/◌, ◌%◌, ◌<◌, ◌^◌, List, [], ◌∷◌, ◌&&◌, not, length, lit<, lit≤, codes, true, false, Some, None, Ok, Err, Option, refl, sym, ap, subst, ◌∙◌, arith}
+use Rattle.std.proofs.Common.{◌≡◌, inl, inr, ℕ, pos, ◌+◌, ◌*◌, ◌<◌, ◌^◌, List, [], ◌∷◌, ◌&&◌, not, length, lit<, lit≤, codes, true, false, Some, None, Ok, Err, Option, refl, sym, ap, subst, ◌∙◌, arith}
 use Rattle.std.specs.Prelude.{IsUtf8, IsTrue}
 use Rattle.std.specs.List.{AllByRecursion}
 use Rattle.std.proofs.lemmas.Bool.{both_ways, MatchBool-at_false}
@@ -27,9 +27,6 @@ use Rattle.sqlite_catalog.specs.declared.error.Refusal.{Refusal}
 use Rattle.sqlite_catalog.specs.declared.error.Refusal.TheVariants.{Invalid, NameTaken, BadName, TooBig, BadKey, BadText, Violates}
 use Rattle.sqlite_rules.specs.Lists.{Has}
 use Rattle.sqlite_trees.specs.View.{is_int, IsStorable}
-use native.Mathlib.Nat.{zero-div}
-use Rattle.std.specs.Float.{NotNan}
-use Rattle.sqlite_value.specs.Order.{exact, number}
 use Rattle.reg_tables.specs.Contents.{Contents, HoldsIn}
 use Rattle.sqlite.specs.declared.types.Value.{Value}
 use Rattle.sqlite.specs.Tree.{rowid}
@@ -43,6 +40,7 @@ use Rattle.reg_tables.specs.Layout.{no_schema, begun, layout, texts, versions, l
 use Rattle.reg_tables.specs.Reading.{IsFault}
 use Rattle.reg_tables.proofs.Statements.{MakesTable, make_texts, make_versions, make_levels, make_kept, make_meta, make_versions_of_id, makes_versions_of_id}
 use Rattle.reg_tables.proofs.WriteFaults.{IsWhole, refused_by}
+use Rattle.reg_tables.proofs.StoredRows.{storable}
 
 -- what SQLite asks of a table's name, keys and text
 pub record CanBeMade (sql : List ℕ) (schema : Schema) (table : Table) : Type 0 where
@@ -252,23 +250,8 @@ unique_with_index db keeps = keeps_from Unique layout db (λ t row listed there.
 abbrev pub AreStorable : Trees → Type 0
 AreStorable db = (row : Row) → Has (db versions.tree) row → IsStorable (index_reals (table_reals versions) (3 ∷ [])) (entry_of (3 ∷ []) row)
 
-not_nan : (n : ℤ) → NotNan (exact n)
-unfolding lib.Ieee.is_nan
-not_nan (pos n) = tt
-not_nan (negsuc n) = tt
-
 two_numbers : (id rowid : Value) → is_int id ≡ true → is_int rowid ≡ true → IsStorable 0 (id ∷ rowid ∷ [])
-two_numbers (Int id) (Int rowid) first second = record {
-  typed = λ c on. absurd (let none : 0 / 2 ^ c % 2 ≡ 0 = ap (λ n. n % 2) (zero-div (2 ^ c)) in let one : 0 / 2 ^ c % 2 ≡ 1 = on in omega (arith, none, one));
-  columns = (lit< tt, lit≤ tt);
-  numbers = numbers;
-  short = lit≤ tt;
-}
-  where
-    numbers : All (λ v. NotNan (number v)) (Int id ∷ Int rowid ∷ [])
-    numbers zero d low = not_nan id
-    numbers (suc zero) d low = not_nan rowid
-    numbers (suc (suc k)) d low = absurd (omega (arith, low))
+two_numbers (Int id) (Int rowid) first second = storable (Int id ∷ Int rowid ∷ []) (tt, (tt, tt)) (lit< tt) (lit≤ tt) (lit≤ tt)
 two_numbers (Int id) Null first second = absurd (cc)
 two_numbers (Int id) (Real x) first second = absurd (cc)
 two_numbers (Int id) (Text x) first second = absurd (cc)

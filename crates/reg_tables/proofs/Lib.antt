@@ -10,6 +10,7 @@ pub mod TableWrites
 pub mod Faults
 pub mod Reasons
 pub mod Rooms
+pub mod StoredRows
 pub mod TableReads
 pub mod Transactions
 pub mod ReadableRows

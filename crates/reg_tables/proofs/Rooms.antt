@@ -1,10 +1,11 @@
--- What a write leaves of the room behind the last row.
-use Rattle.std.proofs.Common.{arith, ◌≡◌, ◌⊎◌, inl, inr, ℕ, ◌+◌, ◌+ℤ◌, ◌^◌, ◌<◌, ◌≤◌, ◌<ℤ◌, ltb, ℤ, pos, List, [], ◌∷◌, fold, filter, not, Bool, true, false, refl, sym, ap, subst, ◌∙◌}
+-- The room behind the last row: what a write leaves of it, and what new tables have.
+use Rattle.std.proofs.Common.{arith, ◌≡◌, inl, inr, None, Option, ℕ, ◌+◌, ◌+ℤ◌, ◌^◌, ◌<◌, ◌≤◌, ◌<ℤ◌, ℤ, pos, List, [], ◌∷◌, fold, filter, not, Bool, true, false, refl, sym, ap, subst, ◌∙◌}
 use Rattle.std.specs.Prelude.{if◌then◌else◌}
 use Rattle.std.specs.Ordering.{is_eq, match_ordering}
 use Rattle.std.specs.declared.cmp.Ordering.TheVariants.{Less}
 use Rattle.std.specs.Cmp.{int_cmp_is}
 use Rattle.std.proofs.lemmas.Int.{ints}
+use Rattle.std.specs.FinMap.{empty, get, get-empty}
 use Rattle.sqlite.specs.declared.types.Value.{Value}
 use Rattle.sqlite.specs.declared.types.Value.TheVariants.{Int}
 use Rattle.sqlite.specs.Order.{Row, value_cmp}
@@ -12,7 +13,12 @@ use Rattle.sqlite.specs.Tree.{rowid, put_row, without_rowid}
 use Rattle.sqlite.specs.Edit.{next_rowid, id_in, without_all}
 use Rattle.sqlite_rules.specs.Lists.{Has}
 use Rattle.sqlite_value.proofs.OrderLemmas.{value_cmp-Int}
-use Rattle.reg_tables.specs.Rooms.{Ascends, HasRoom}
+use Rattle.sqlite.specs.Effect.{Database}
+use Rattle.reg_tables.specs.Layout.{levels, kept, meta}
+use Rattle.reg_tables.specs.TableMaps.{Form, ShowsMap}
+use Rattle.reg_tables.specs.Contents.{text_cmp, pair_form, kept_form, Holds}
+use Rattle.reg_tables.specs.Changes.{no_contents}
+use Rattle.reg_tables.specs.Rooms.{Ascends, HasRoom, HasRooms}
 
 -- one above the last rowid, or this where there is no row
 abbrev next_from : ℕ → List Row → ℤ
@@ -114,3 +120,22 @@ room_for_fewer rows more count low h = record { ascends = h.ascends; next = h.ne
 pub room_without_all : (ids : List ℤ) (rows : List Row) (count : ℕ) → HasRoom rows count → HasRoom (without_all rows ids) count
 room_without_all [] rows count h = h
 room_without_all (id ∷ ids) rows count h = room_without_all ids (without_rowid id rows) count (room_without id rows count h)
+
+-- ---- tables with no row
+
+-- a map with no entry is shown by no row
+no_rows : {K V : Type 0} (form : Form K V) (rows : List Row) (value_at : K → Option V) → ((key : K) → value_at key ≡ None) → ShowsMap form rows value_at → rows ≡ []
+no_rows form [] value_at none shows = refl
+no_rows form (row ∷ rows) value_at none shows = let it = shows.sound row (inl refl) in absurd (let clash = sym (none it.0) ∙ it.2 in cc)
+
+room_if_none : {V : Type 0} (form : Form (List ℕ) V) (rows : List Row) → ShowsMap form rows (get {R = text_cmp} empty) → (count : ℕ) → count < 2 ^ 63 → HasRoom rows count
+room_if_none form rows shows count low =
+    subst (λ rows. HasRoom rows count) (sym (no_rows form rows (get {R = text_cmp} empty) (get-empty text_cmp) shows)) (record { ascends = tt; next = 1; is_next = refl; room = omega (arith, low) })
+
+-- new tables have room
+pub rooms_if_new : (db : Database) → Holds db no_contents → (count : ℕ) → count < 2 ^ 63 → HasRooms db count
+rooms_if_new db holds count low = record {
+  levels = room_if_none pair_form (db.trees levels.tree) holds.levels count low;
+  kept = room_if_none kept_form (db.trees kept.tree) holds.kept count low;
+  meta = room_if_none pair_form (db.trees meta.tree) holds.meta count low;
+}

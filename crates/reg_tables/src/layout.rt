@@ -5,7 +5,7 @@ ghost use Rattle.reg_tables.specs.Frames.{state_in, StaysInside};
 ghost use Rattle.sqlite.specs.State.{HasCleanDisk};
 ghost use Rattle.reg_tables.specs.Layout.{no_schema, begun, unindexed, IsBare};
 ghost use Rattle.reg_tables.specs.Contents.{Contents, HoldsIn, Holds};
-ghost use Rattle.reg_tables.specs.Reading.{IsWriteFault, IsInsertFault};
+ghost use Rattle.reg_tables.specs.Reading.{IsWriteFault};
 ghost use Rattle.reg_tables.specs.Changes.{no_contents, new_contents};
 
 use crate::meta::put_meta;
@@ -94,7 +94,7 @@ pub fn create<S: Alter>(tx: &mut Transaction<'_, S>) -> Result<(), Error>
         → OnOk result ((state_in S.Store tx.old).now.schema ≡ no_schema
         → Holds (state_in S.Store tx.new).now new_contents) }
     ensures fault { HasCleanDisk (state_in S.Store tx.new) → IfErr result (λ e.
-        (state_in S.Store tx.old).now.schema ≡ no_schema → IsInsertFault (state_in S.Store tx.old) (state_in S.Store tx.new) e) }
+        (state_in S.Store tx.old).now.schema ≡ no_schema → IsWriteFault (state_in S.Store tx.old) (state_in S.Store tx.new) e) }
 {
     make_tables(tx)?;
     put_meta(tx, "format", "avroreg")?;
