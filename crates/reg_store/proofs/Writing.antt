@@ -18,7 +18,7 @@ use Rattle.reg_store.specs.Replies.{Kept}
 use Rattle.reg_store.specs.Spells.{row_of, Spells, SpellsWhileOpen}
 use Rattle.reg_store.specs.Changes.{IsFaultOfChange, IsFaultOfReply, SpellsInside, GoesOn}
 use Rattle.reg_store.specs.Failures.{failure_of, is_fault, IsFaultBy}
-use Rattle.reg_store.proofs.Failing.{fault_by, fault_if_by}
+use Rattle.reg_store.proofs.Failing.{fault_by, fault_if_by, by_until}
 use Rattle.reg_tables.proofs.Reasons.{reason_of, reason_by, fault_since}
 
 -- what holds of an error by two facts
@@ -88,6 +88,11 @@ module _ (s new : State) (e : Error) (shut : IsTrue s.is_open ⊎ IsWriteFault s
 pub begun_spells : {S : Type 0} (g : Ghosts S) (conn begun : Held S) → begun ≡ record conn { in_transaction = true } → (r : Registry) (k : Kept) → SpellsWhileOpen (state g conn) r k → SpellsInside (state g begun) r k
 begun_spells g conn begun is r k over is_open =
     subst (λ h. Spells (state g h).now r k) (sym is) (over (subst (λ h. IsTrue (state g h).is_open) is is_open)).spells
+
+-- a fault inside is one of the call
+module _ {S : Type 0} (g : Ghosts S) (conn begun last : Held S) (end : Held S) (is : begun ≡ record conn { in_transaction = true }) (up : (state g last).faults ≤ (state g end).faults) (e : StoreError) where
+  pub of_call : IsFaultBy (state g begun) (state g last) e → IsFaultBy (state g conn) (state g end) e
+  of_call h = subst (λ b. IsFaultBy (state g b) (state g end) e) is (by_until (state g begun) (state g last) (state g end) up e h)
 
 pub still_inside : (a b : State) → IsTrue a.in_transaction → GoesOn a b → IsTrue b.in_transaction
 still_inside a b inside goes = elim (cases_Bool b.in_transaction) [ inl it ↦ it | inr ended ↦ absurd (both_ways _ (goes ended) inside) ]

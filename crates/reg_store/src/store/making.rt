@@ -10,7 +10,7 @@ ghost use Rattle.reg_tables.specs.Layout.{no_schema};
 ghost use Rattle.reg_tables.specs.Reading.{OnlyReads};
 ghost use Rattle.reg_store.specs.Replies.{nothing_kept};
 ghost use Rattle.reg_store.specs.Spells.{Leaves, IsOpenOver};
-ghost use Rattle.reg_store.specs.Failures.{failure_of, is_fault};
+ghost use Rattle.reg_store.specs.Failures.{failure_of, IsFaultBy};
 ghost use Rattle.reg_store.specs.Stores.{connection_of, state_of, has_failed, LeavesCommit};
 
 use crate::error::StoreError;
@@ -38,8 +38,11 @@ impl<S: Alter> Store<S> {
         ensures full { (state S.Store connection).now.schema ≢ no_schema
             → IsErrAnd result (λ e. e.0 ≡ StoreError.NotARegistry) }
         ensures idle { IfErr result (λ e. e.1.in_transaction ≡ false) }
+
+        // Over an empty database it answers `Disk` only for a fault of the disk.
         ensures fault { IfErr result (λ e. HasCleanDisk (state S.Store e.1)
-            → (state S.Store connection).now.schema ≡ no_schema → IsTrue (is_fault e.0)) }
+            → (state S.Store connection).now.schema ≡ no_schema
+            → IsFaultBy (state S.Store connection) (state S.Store e.1) e.0) }
         ensures nothing { IfErr result (λ e. HasCleanDisk (state S.Store e.1)
             → OnlyReads (state S.Store connection) (state S.Store e.1)) }
 
@@ -101,7 +104,8 @@ fn make_in<S: Alter>(conn: &mut Connection<S>) -> Result<(), Error>
         → OnOk result ((state S.Store conn.old).now.schema ≡ no_schema
         → IsOpenOver (state S.Store conn.new) new_registry nothing_kept) }
     ensures fault { HasCleanDisk (state S.Store conn.new) → IfErr result (λ e.
-        (state S.Store conn.old).now.schema ≡ no_schema → IsTrue (is_fault (failure_of e))) }
+        (state S.Store conn.old).now.schema ≡ no_schema
+        → IsFaultBy (state S.Store conn.old) (state S.Store conn.new) (failure_of e)) }
     ensures nothing { HasCleanDisk (state S.Store conn.new)
         → OnErr result (KeepsCommit (state S.Store conn.old) (state S.Store conn.new)) }
     ensures survives { Survives (state S.Store conn.old) (state S.Store conn.new) (λ db.

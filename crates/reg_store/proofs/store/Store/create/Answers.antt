@@ -1,10 +1,11 @@
 use Rattle.std.specs.Prelude.{IsTrue}
 use Rattle.sqlite_disk.specs.Disk.{MoreFaults}
-use Rattle.std.proofs.Common.{◌⊎◌, subst, ◌≡◌, ◌∙◌, ap, rules}
+use Rattle.std.proofs.Common.{◌⊎◌, subst, subst₂, ◌≡◌, ◌∙◌, sym, ap, rules}
 use Rattle.sqlite.specs.Effect.{Database}
 use Rattle.sqlite.specs.Held.{Held, state}
 use Rattle.reg_core.specs.Registry.{new_registry}
 use Rattle.reg_tables.specs.Layout.{no_schema}
+use Rattle.reg_store.specs.Failures.{IsFaultBy}
 use Rattle.reg_store.specs.Replies.{nothing_kept}
 use Rattle.reg_store.proofs.Committing.{leaves_if_spelled}
 use Rattle.reg_store.proofs.store.Store.create.Goals as goal
@@ -22,7 +23,8 @@ returns-in-Ok-clause-crash_after g c clean db it =
 
 pub returns-in-Err-clause-fault : goal.returns-in-Err-clause-fault
 returns-in-Err-clause-fault g c clean none =
-    rw c.from.ensures (c.in-Err.ensures.fault clean (ap (λ (h : Held _). h.schema) c.set_step_limit.ensures ∙ none))
+    subst₂ (λ h e. IsFaultBy (state g.S.Store h) (state g.S.Store c.make_in-made.new.conn) e) c.set_step_limit.ensures (sym c.from.ensures)
+    (c.in-Err.ensures.fault clean (ap (λ (h : Held _). h.schema) c.set_step_limit.ensures ∙ none))
 
 pub returns-in-Err-clause-closes : goal.returns-in-Err-clause-closes
 returns-in-Err-clause-closes g c clean =

@@ -1,4 +1,4 @@
-use Rattle.std.proofs.Common.{true, ◌≡◌, ◌⊎◌, ◌+◌, ◌≤◌, ℕ, length, inl, inr, ◌∙◌, sym, ap, subst, arith, rules}
+use Rattle.std.proofs.Common.{true, ◌≡◌, ◌⊎◌, ◌+◌, ℕ, length, inl, inr, ◌∙◌, sym, ap, subst, arith, rules}
 use Rattle.std.specs.Prelude.{IsTrue}
 use Rattle.sqlite.specs.Tree.{Trees}
 use Rattle.sqlite.specs.Held.{Held, state}
@@ -12,12 +12,11 @@ use Rattle.reg_tables.proofs.WriteFaults.{erred_with}
 use Rattle.reg_store.specs.Replies.{Kept}
 use Rattle.reg_store.specs.Spells.{Spells, Leaves, IsOpenOver, SpellsWhileOpen}
 use Rattle.reg_store.specs.Changes.{with_reply, IsNewTo, HasPlace, ActsOn}
-use Rattle.reg_store.specs.declared.error.StoreError.{StoreError}
 use Rattle.reg_tables.specs.Rooms.{HasRooms}
 use Rattle.sqlite_trees.specs.declared.store.Store.{Ghosts}
 use Rattle.reg_store.specs.Failures.{failure_of, is_fault, IsFaultBy}
-use Rattle.reg_store.proofs.Failing.{fault_if_by, by_until, by_since}
-use Rattle.reg_store.proofs.Writing.{fault_later, write_later, is_fault_of_insert, fault_of_write, fault_of_commit, begun_spells, still_inside}
+use Rattle.reg_store.proofs.Failing.{fault_if_by, by_since}
+use Rattle.reg_store.proofs.Writing.{fault_later, write_later, is_fault_of_insert, fault_of_write, fault_of_commit, begun_spells, still_inside, of_call}
 use Rattle.reg_store.proofs.Committing.{keeps_begin, keeps_if_failed, on_err, on_err_each, leaves_if_spelled}
 use Rattle.reg_store.proofs.store.applying.commit_all.Goals as goal
 
@@ -172,11 +171,6 @@ returns-clause-nothing g c clean =
 -- the transaction's connection shows the rooms that the connection did
 begun_rooms : {S : Type 0} (g : Ghosts S) (conn begun : Held S) → begun ≡ record conn { in_transaction = true } → (n : ℕ) → (IsTrue (state g conn).is_open → HasRooms (state g conn).now n) → IsTrue (state g begun).is_open → HasRooms (state g begun).now n
 begun_rooms g conn begun is n rooms is_open = subst (λ h. HasRooms (state g h).now n) (sym is) (rooms (subst (λ h. IsTrue (state g h).is_open) is is_open))
-
--- a fault inside is one of the call
-module _ {S : Type 0} (g : Ghosts S) (conn begun last : Held S) (end : Held S) (is : begun ≡ record conn { in_transaction = true }) (up : (state g last).faults ≤ (state g end).faults) (e : StoreError) where
-  of_call : IsFaultBy (state g begun) (state g last) e → IsFaultBy (state g conn) (state g end) e
-  of_call h = subst (λ b. IsFaultBy (state g b) (state g end) e) is (by_until (state g begun) (state g last) (state g end) up e h)
 
 pub returns-in_err-make_all-clause-fits : goal.returns-in_err-make_all-clause-fits
 returns-in_err-make_all-clause-fits g c clean =

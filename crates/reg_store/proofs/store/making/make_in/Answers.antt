@@ -1,4 +1,4 @@
-use Rattle.std.proofs.Common.{◌≡◌, ◌∙◌, sym, ap, subst, arith, rules}
+use Rattle.std.proofs.Common.{◌≡◌, ◌∙◌, sym, ap, subst, subst₂, arith, rules}
 use Rattle.sqlite.specs.Tree.{Trees}
 use Rattle.sqlite.specs.Held.{Held, state}
 use Rattle.sqlite.specs.State.{HasCleanDisk, Survives}
@@ -6,12 +6,11 @@ use Rattle.sqlite.proofs.StateLemmas.{survives_then}
 use Rattle.sqlite.proofs.Callers.{survives_begin}
 use Rattle.reg_core.specs.Registry.{new_registry}
 use Rattle.reg_tables.specs.Layout.{no_schema}
-use Rattle.std.specs.Prelude.{IsTrue}
 use Rattle.reg_tables.proofs.Transactions.{on_ok, if_err}
 use Rattle.reg_tables.proofs.WriteFaults.{erred_with}
-use Rattle.reg_store.specs.Failures.{failure_of, is_fault}
-use Rattle.reg_store.proofs.Writing.{is_fault_of_insert, fault_of_commit}
-use Rattle.reg_store.proofs.Failing.{fault_if_by}
+use Rattle.reg_store.specs.Failures.{failure_of, IsFaultBy}
+use Rattle.reg_store.proofs.Writing.{fault_of_write, fault_of_commit, of_call}
+use Rattle.reg_store.proofs.Failing.{by_since}
 use Rattle.reg_store.specs.Replies.{nothing_kept}
 use Rattle.reg_store.specs.Spells.{Spells, Leaves, IsOpenOver}
 use Rattle.reg_store.proofs.Committing.{leaves_if_spelled, spells_new}
@@ -51,20 +50,32 @@ returns-clause-survives g c =
 
 pub returns-in_err-create-clause-fault : goal.returns-in_err-create-clause-fault
 returns-in_err-create-clause-fault g c clean =
-    let begun = state g.S.Store c.transaction-tx.result.conn.now in
+    let conn = c.args.conn.now in
+    let begun = c.transaction-tx.result.conn.now in
+    let last = c.create.new.tx.conn.now in
+    let end = c.drop-tx.new.self.0 in
+    let same : end ≡ c.conn-1.given.0 = search rules in
     let is = c.transaction-tx.ensures.begun in
     let e = c.in_err-create.field-0.0 in
-    let late : HasCleanDisk (state g.S.Store c.drop-tx.new.self.0) = search rules in
-    let clean_last : HasCleanDisk (state g.S.Store c.create.new.tx.conn.now) = omega (arith, c.drop-tx.ensures.survives.clean) in
-    erred_with c.from_residual.result e (λ e. c.args.conn.now.schema ≡ no_schema → IsTrue (is_fault (failure_of e))) c.from_residual.ensures.1
-    (λ none. is_fault_of_insert begun (state g.S.Store c.create.new.tx.conn.now) e (ap (λ (h : Held _). h.step_limit) is ∙ c.requires.unlimited) (ap (λ (h : Held _). h.in_transaction) is)
-    (c.in_err-create.ensures.fault clean_last (ap (λ (h : Held _). h.schema) is ∙ none)))
+    let late : HasCleanDisk (state g.S.Store end) = search rules in
+    let clean_last : HasCleanDisk (state g.S.Store last) = omega (arith, c.drop-tx.ensures.survives.clean) in
+    erred_with c.from_residual.result e (λ e. conn.schema ≡ no_schema → IsFaultBy (state g.S.Store conn) (state g.S.Store c.conn-1.given.0) (failure_of e)) c.from_residual.ensures.1
+    (λ none.
+    let write = c.in_err-create.ensures.fault clean_last (ap (λ (h : Held _). h.schema) is ∙ none) in
+    subst (λ h. IsFaultBy (state g.S.Store conn) (state g.S.Store h) (failure_of e)) same
+    (of_call g.S.Store conn begun last end is c.drop-tx.ensures.survives.counts (failure_of e)
+    (fault_of_write (state g.S.Store begun) (state g.S.Store last) e (ap (λ (h : Held _). h.step_limit) is ∙ c.requires.unlimited) (ap (λ (h : Held _). h.in_transaction) is) write)))
 
 pub returns-clause-fault : goal.returns-clause-fault
 returns-clause-fault g c clean =
+    let begun = state g.S.Store c.transaction-tx.result.conn.now in
     let last = state g.S.Store c.create.new.tx.conn.now in
-    let end = state g.S.Store c.commit.new.self.0 in
-    let late : HasCleanDisk end = search rules in
+    let end = c.commit.new.self.0 in
+    let same : end ≡ c.conn-2-1.given.0 = search rules in
+    let late : HasCleanDisk (state g.S.Store end) = search rules in
     let clean_last : HasCleanDisk last = omega (arith, c.commit.ensures.survives.clean) in
-    let unlimited = c.create.ensures.frame.keeps.survives.limit ∙ ap (λ (h : Held _). h.step_limit) c.transaction-tx.ensures.begun ∙ c.requires.unlimited in
-    if_err c.commit.result (λ e fails none. fault_if_by last end _ (fault_of_commit last end e unlimited (c.in_ok-create.ensures.frame.inside clean_last) fails)) (c.commit.ensures.err late)
+    let frame = c.create.ensures.frame.keeps.survives in
+    let unlimited = frame.limit ∙ ap (λ (h : Held _). h.step_limit) c.transaction-tx.ensures.begun ∙ c.requires.unlimited in
+    if_err c.commit.result (λ e fails none.
+    let whole = by_since begun last (state g.S.Store end) (frame.closes clean_last) frame.counts c.commit.ensures.survives.counts (failure_of e) (fault_of_commit last (state g.S.Store end) e unlimited (c.in_ok-create.ensures.frame.inside clean_last) fails) in
+    subst₂ (λ h k. IsFaultBy (state g.S.Store h) (state g.S.Store k) (failure_of e)) c.transaction-tx.ensures.begun same whole) (c.commit.ensures.err late)
