@@ -6,7 +6,7 @@ use Rattle.reg_tables.specs.Layout.{no_schema}
 use Rattle.reg_tables.specs.Reading.{OnlyReads}
 use Rattle.reg_store.specs.declared.error.StoreError.{StoreError}
 use Rattle.reg_store.specs.declared.error.StoreError.TheVariants.{Disk, NotARegistry}
-use Rattle.reg_store.specs.Failures.{is_fault}
+use Rattle.reg_store.specs.Failures.{IsFaultBy}
 use Rattle.reg_store.specs.Opening.{IsRefusedBy, TellsNewer}
 use Rattle.reg_store.specs.Replies.{Kept, nothing_kept}
 use Rattle.reg_store.specs.Spells.{SpellsUnopened}
@@ -17,10 +17,10 @@ use Rattle.avroreg.specs.declared.outcome.Outcome.TheVariants.{Session as Sessio
 use Rattle.avroreg.specs.Sessions.{Session}
 use Rattle.avroreg.specs.Standing.{Reaches}
 
--- why no registry was made: a database that isn't empty is told so, over an empty one memory or the disk failed, and nothing is committed
+-- why no registry was made: a database that isn't empty is told so, over an empty one memory was refused or there was a fault of the disk, and nothing is committed
 pub record FailsToMake (old new : State) (error : StoreError) : Type 0 where
   pub full : old.now.schema ≢ no_schema → error ≡ NotARegistry
-  pub fault : old.now.schema ≡ no_schema → IsTrue (is_fault error)
+  pub fault : old.now.schema ≡ no_schema → IsFaultBy old new error
   pub kept : OnlyReads old new
 
 -- Why a database gave no registry. Where its tables spell one, memory was refused or there was a fault of the disk. A newer layout is told,
