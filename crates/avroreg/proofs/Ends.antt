@@ -3,7 +3,7 @@ use Rattle.std.proofs.Common.{◌≡◌, ◌≢◌, ℕ, List, [], ◌++◌, inl
 use Rattle.std.specs.Prelude.{Option}
 use Rattle.std.specs.Io.KnownBytes.{Consumes, IsAtEnd}
 use Rattle.reg_core.specs.Registry.{Registry}
-use Rattle.reg_store.specs.Replies.{Kept}
+use Rattle.reg_core.specs.KeptReplies.{Kept}
 use Rattle.avroreg.specs.declared.stream.Reading.{Reading}
 use Rattle.avroreg.specs.declared.stream.Reading.TheVariants.{Whole, Failed, NoRoom as Unread}
 use Rattle.avroreg.specs.declared.stream.Stop.{Stop}

@@ -6,7 +6,7 @@ use Rattle.reg_core.specs.declared.code.Code.TheVariants.{BackendFault}
 use Rattle.reg_core.specs.Replies.{Told, fault}
 use Rattle.reg_core.specs.Registry.{Registry}
 use Rattle.reg_core.specs.declared.delivery.Delivery.{Delivery}
-use Rattle.reg_store.specs.Replies.{Kept}
+use Rattle.reg_core.specs.KeptReplies.{Kept}
 use Rattle.reg_service.specs.Deliveries.{Serves, served}
 use Rattle.reg_service.proofs.Together.{serves_none}
 use Rattle.reg_service.proofs.Alone.{serves_refused}

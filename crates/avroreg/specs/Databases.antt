@@ -8,7 +8,7 @@ use Rattle.reg_store.specs.declared.error.StoreError.{StoreError}
 use Rattle.reg_store.specs.declared.error.StoreError.TheVariants.{Disk, NotARegistry}
 use Rattle.reg_store.specs.Failures.{IsFaultBy}
 use Rattle.reg_store.specs.Opening.{IsRefusedBy, TellsNewer}
-use Rattle.reg_store.specs.Replies.{Kept, nothing_kept}
+use Rattle.reg_core.specs.KeptReplies.{Kept, nothing_kept}
 use Rattle.reg_store.specs.Spells.{SpellsUnopened}
 use Rattle.reg_store.specs.Testing.{IsFaultUnopened}
 use Rattle.avroreg.specs.declared.stream.Ended.{Ended}

@@ -5,7 +5,7 @@ use Rattle.sqlite.specs.Held.{Held, state}
 use Rattle.sqlite.specs.State.{State, HasCleanDisk}
 use Rattle.sqlite_trees.specs.declared.store.Store.{Ghosts}
 use Rattle.reg_core.specs.Registry.{Registry, new_registry}
-use Rattle.reg_store.specs.Replies.{Kept, nothing_kept}
+use Rattle.reg_core.specs.KeptReplies.{Kept, nothing_kept}
 use Rattle.reg_store.specs.declared.error.StoreError.TheVariants.{Disk}
 use Rattle.avroreg.specs.declared.stream.Ended.{Ended}
 use Rattle.avroreg.specs.declared.files.Printed.{Printed}

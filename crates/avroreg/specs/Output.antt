@@ -7,7 +7,7 @@ use Rattle.reg_core.specs.declared.code.Code.TheVariants.{BackendFault}
 use Rattle.reg_core.specs.Replies.{Told, fault}
 use Rattle.reg_core.specs.Registry.{Registry}
 use Rattle.reg_core.specs.declared.delivery.Delivery.{Delivery}
-use Rattle.reg_store.specs.Replies.{Kept}
+use Rattle.reg_core.specs.KeptReplies.{Kept}
 use Rattle.reg_service.specs.Deliveries.{Exchange, Serves, served}
 use Rattle.reg_messages.specs.Messages.{Message, Follows, Tail, End, Part, Faulty}
 use Rattle.reg_messages.specs.Requests.{delivery_of}

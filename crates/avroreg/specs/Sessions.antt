@@ -3,7 +3,7 @@ use Rattle.std.specs.Prelude.{◌≡◌, ◌≢◌, ◌⊎◌, ℕ, List, [], �
 use Rattle.std.specs.Io.KnownBytes.{Appends, Consumes, IsAtEnd}
 use Rattle.reg_core.specs.declared.code.Code.{Code}
 use Rattle.reg_core.specs.Registry.{Registry}
-use Rattle.reg_store.specs.Replies.{Kept}
+use Rattle.reg_core.specs.KeptReplies.{Kept}
 use Rattle.reg_service.specs.Deliveries.{Serves, served}
 use Rattle.avroreg.specs.declared.stream.Ended.{Ended}
 use Rattle.avroreg.specs.declared.stream.Ended.TheVariants.{Closed, ReadFailed, WriteFailed, Malformed, Memory}

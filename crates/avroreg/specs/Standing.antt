@@ -1,7 +1,7 @@
 -- What a call leads to, over whatever the tables spell.
 use Rattle.sqlite.specs.State.{State}
 use Rattle.reg_core.specs.Registry.{Registry}
-use Rattle.reg_store.specs.Replies.{Kept}
+use Rattle.reg_core.specs.KeptReplies.{Kept}
 use Rattle.reg_store.specs.Spells.{SpellsWhileOpen}
 
 -- the tables spell a registry and kept replies, of which this holds

@@ -3,7 +3,7 @@ use Rattle.std.specs.Prelude.{◌≡◌, ◌⊎◌, ℕ, ◌<◌, ◌≤◌, Lis
 use Rattle.std.specs.Io.KnownBytes.{Appends}
 use Rattle.reg_core.specs.declared.code.Code.{Code}
 use Rattle.reg_core.specs.Registry.{Registry}
-use Rattle.reg_store.specs.Replies.{Kept}
+use Rattle.reg_core.specs.KeptReplies.{Kept}
 use Rattle.avroreg.specs.declared.stream.Ended.{Ended}
 use Rattle.avroreg.specs.declared.stream.Ended.TheVariants.{Closed, ReadFailed, WriteFailed, Malformed, Memory}
 use Rattle.avroreg.specs.declared.stream.Reading.{Reading}

@@ -11,7 +11,8 @@ use Rattle.reg_core.specs.Codes.{fault_body}
 use Rattle.reg_core.specs.Levels.{level_of}
 use Rattle.reg_core.specs.Replies.{Told, fault, IsOwnReply}
 use Rattle.reg_core.specs.Registry.{Registry}
-use Rattle.reg_core.specs.Machine.{is_write, set_level, level_shown, shown, step}
+use Rattle.reg_core.specs.LevelCommands.{set_level, level_shown, shown}
+use Rattle.reg_core.specs.Machine.{is_write, step}
 
 other_status : (m n : Told) → m.status ≢ n.status → m ≢ n
 other_status m n ne e = ne (ap (λ (t : Told). t.status) e)

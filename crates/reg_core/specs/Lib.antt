@@ -1,10 +1,12 @@
 pub mod Levels
 pub mod Codes
 pub mod Replies
+pub mod KeptReplies
 pub mod Contents
 pub mod Keys
 pub mod Subjects
 pub mod Registry
+pub mod LevelCommands
 pub mod Machine
 pub mod CommandTexts
 pub mod Views

@@ -79,7 +79,7 @@ pub fn print_of(alloc: Global, command: &Command) -> Result<String, OutOfMemory>
     }
 }
 
-// The text of the command that sets the level of a subject.
+/// The text of the command that sets the level of a subject.
 fn set_level_text(alloc: Global, subject: &str, level: &str) -> Result<String, OutOfMemory>
     ensures { IfOk result (λ text. string_bytes text ≡ command_text (Command.SetLevel subject.now level.now)) }
 {

@@ -7,7 +7,7 @@ use crate::code::Code;
 use crate::error::OutOfMemory;
 use std::marker::Model;
 
-// An answer that was written, or the fault of a code, which takes no memory.
+/// An answer that was written, or the fault of a code, which takes no memory.
 #[derive(Debug, Drop)]
 enum Content {
     Written { status: u16, body: String },
@@ -55,7 +55,7 @@ impl Reply {
         }
     }
 
-    // The reply of a command that isn't refused.
+    /// The reply of a command that isn't refused.
     pub(crate) fn answer(body: String) -> Reply
         ensures { result ≡ answer (string_bytes body) }
     {

@@ -26,7 +26,7 @@ impl Model for Subject {
     ghost invariant = { λ subject. IsTrue (is_subject (string_bytes subject.text)) };
 }
 
-// Whether it is one of the control characters of ASCII.
+/// Whether it is one of the control characters of ASCII.
 fn is_control(c: char) -> bool
     ensures { result ≡ is_control c }
 {

@@ -406,7 +406,7 @@ fn global_answers_the_level(rt: HostRuntime) -> Result<(), Fail> {
     Ok(())
 }
 
-// The own level of the command's subject, whether the global one is asked for, and the answer.
+/// The own level of the command's subject, whether the global one is asked for, and the answer.
 const LEVELS_SHOWN: [(Option<Level>, bool, u16, &str); 4] = [
     (
         Some(Level::Forward),
@@ -445,7 +445,7 @@ fn level_of_answers_the_subjects_level(rt: HostRuntime) -> Result<(), Fail> {
     Ok(())
 }
 
-// The subject of the command, if it is about one.
+/// The subject of the command, if it is about one.
 fn subject_in(command: &Command) -> Option<&str> {
     match command.subject() {
         Some(subject) => Some(subject.as_str()),

@@ -12,7 +12,7 @@ use Rattle.reg_core.specs.Machine.{is_write, step, run_commands}
 use Rattle.reg_core.specs.Registry.{Registry}
 use Rattle.reg_core.specs.Replies.{Told, fault}
 use Rattle.reg_core.specs.declared.delivery.Delivery.{Delivery}
-use Rattle.reg_store.specs.Replies.{Kept, Entry}
+use Rattle.reg_core.specs.KeptReplies.{Kept, Entry}
 use Rattle.reg_service.specs.Deliveries.{Exchange, key_of, has_key, is_new, is_first, firsts, entry_of, kept_after, IsDue, Answers, Serves, served, is_backend_fault}
 use Rattle.reg_service.proofs.Together.{option_or-none, kept_after-nil, serves_none}
 

@@ -12,7 +12,7 @@ use Rattle.reg_core.specs.CommandTexts.{command_text}
 use Rattle.reg_core.specs.Machine.{is_write, step, run_commands}
 use Rattle.reg_core.specs.Registry.{Registry}
 use Rattle.reg_core.specs.Replies.{Told, IsOwnReply, fault}
-use Rattle.reg_store.specs.Replies.{Kept, Entry, kept_with}
+use Rattle.reg_core.specs.KeptReplies.{Kept, Entry, kept_with}
 use Rattle.reg_store.specs.Spells.{Leaves, IsOpenOver, SpellsWhileOpen}
 use Rattle.reg_store.proofs.Committing.{leaves_if_spelled}
 use Rattle.reg_core.specs.declared.delivery.Delivery.{Delivery}

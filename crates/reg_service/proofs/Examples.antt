@@ -12,7 +12,7 @@ use Rattle.reg_core.specs.Registry.{Registry}
 use Rattle.reg_core.specs.Replies.{Told, fault, answer}
 use Rattle.reg_core.proofs.Texts.{command_text-injective}
 use Rattle.reg_core.specs.declared.delivery.Delivery.{Delivery}
-use Rattle.reg_store.specs.Replies.{Kept, nothing_kept}
+use Rattle.reg_core.specs.KeptReplies.{Kept, nothing_kept}
 use Rattle.reg_service.specs.Deliveries.{Exchange, firsts, entry_of, kept_after, IsDue}
 use Rattle.reg_service.specs.Crashes.{LeavesAfter, LeavesUnderWay, IsFoundAfter}
 

@@ -5,7 +5,7 @@ use Rattle.std.proofs.lemmas.List.Elements.{filter-append}
 use Rattle.reg_core.specs.Registry.{Registry}
 use Rattle.reg_core.specs.Replies.{Told}
 use Rattle.reg_core.specs.declared.delivery.Delivery.{Delivery}
-use Rattle.reg_store.specs.Replies.{Kept}
+use Rattle.reg_core.specs.KeptReplies.{Kept}
 use Rattle.reg_service.specs.Deliveries.{Exchange, Serves, served, is_backend_fault}
 use Rattle.reg_service.proofs.Together.{serves-append}
 

@@ -9,7 +9,7 @@ use Rattle.reg_core.specs.CommandTexts.{command_text}
 use Rattle.reg_core.specs.Machine.{is_write, step}
 use Rattle.reg_core.specs.Registry.{Registry}
 use Rattle.reg_core.specs.Replies.{Told, IsOwnReply, fault}
-use Rattle.reg_store.specs.Replies.{Kept, Entry, kept_with}
+use Rattle.reg_core.specs.KeptReplies.{Kept, Entry, kept_with}
 use Rattle.reg_store.specs.Spells.{SpellsWhileOpen}
 use Rattle.reg_core.specs.declared.delivery.Delivery.{Delivery}
 use Rattle.reg_service.specs.Deliveries.{Exchange, Serves, key_of, served, is_backend_fault}

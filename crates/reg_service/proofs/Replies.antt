@@ -7,9 +7,9 @@ use Rattle.reg_core.specs.Machine.{is_write, step}
 use Rattle.reg_core.specs.Registry.{Registry}
 use Rattle.reg_core.specs.Replies.{Told, fault}
 use Rattle.reg_core.specs.declared.delivery.Delivery.{Delivery}
-use Rattle.reg_store.specs.Replies.{Kept, Entry}
+use Rattle.reg_core.specs.KeptReplies.{Kept, Entry}
 use Rattle.reg_service.specs.Deliveries.{key_of, Serves, served}
-use Rattle.reg_store.specs.Replies.{kept_with}
+use Rattle.reg_core.specs.KeptReplies.{kept_with}
 use Rattle.reg_service.proofs.Alone.{serves_keyless, serves_first, serves_again}
 
 module _ {E : Type 0} (result : Result Told E) (g g' : Registry) (k k' : Kept) (d : Delivery) where

@@ -8,7 +8,7 @@ use Rattle.sqlite.specs.State.{State}
 use Rattle.reg_core.specs.Registry.{Registry}
 use Rattle.reg_core.specs.Views.{changed}
 use Rattle.reg_core.specs.declared.decision.Change.{Change}
-use Rattle.reg_store.specs.Replies.{Kept}
+use Rattle.reg_core.specs.KeptReplies.{Kept}
 use Rattle.reg_store.specs.Spells.{SpellsWhileOpen}
 use Rattle.reg_service.specs.Services.{SpellsOn}
 

@@ -9,7 +9,7 @@ use Rattle.reg_core.specs.declared.command.Command.{Command}
 use Rattle.reg_core.specs.Machine.{is_write, step, run_commands}
 use Rattle.reg_core.specs.Registry.{Registry}
 use Rattle.reg_core.specs.declared.delivery.Delivery.{Delivery}
-use Rattle.reg_store.specs.Replies.{Kept}
+use Rattle.reg_core.specs.KeptReplies.{Kept}
 use Rattle.reg_service.specs.Deliveries.{Exchange, key_of, has_key, is_new, is_first, firsts_after, firsts, entry_of, kept_after, reply_after, IsDue, Answers, Serves}
 
 option_or_assoc : {A : Type 0} (a b c : Option A) → option_or (option_or a b) c ≡ option_or a (option_or b c)

@@ -9,7 +9,7 @@ use Rattle.reg_core.specs.CommandTexts.{command_text}
 use Rattle.reg_core.specs.Machine.{is_write, step, run_commands}
 use Rattle.reg_core.specs.Registry.{Registry}
 use Rattle.reg_core.specs.Replies.{Told, fault}
-use Rattle.reg_store.specs.Replies.{Entry, Kept}
+use Rattle.reg_core.specs.KeptReplies.{Entry, Kept}
 use Rattle.reg_core.specs.declared.delivery.Delivery.{Delivery}
 
 -- A delivery and the reply to it.

@@ -6,7 +6,7 @@ ghost use Rattle.reg_core.specs.Machine.{step};
 ghost use Rattle.reg_core.specs.Registry.{Registry};
 ghost use Rattle.reg_core.specs.Replies.{IsOwnReply, fault};
 ghost use Rattle.reg_core.specs.Views.{changed};
-ghost use Rattle.reg_store.specs.Replies.{Kept, kept_with};
+ghost use Rattle.reg_core.specs.KeptReplies.{Kept, kept_with};
 ghost use Rattle.reg_store.specs.Spells.{Leaves, IsOpenOver, SpellsWhileOpen};
 ghost use Rattle.reg_store.specs.Stores.{has_failed, KeepsOpen};
 ghost use Rattle.reg_service.specs.Deliveries.{served, RepeatsAgree, NoOtherAnswers};
@@ -125,7 +125,7 @@ impl<S: Alter> Service<S> {
         Ok(replies)
     }
 
-    // The answer, or an error that changes nothing.
+    /// The answer, or an error that changes nothing.
     fn try_answer(&mut self, delivery: &Delivery) -> Result<Reply, Unanswered>
         ensures failed { IsTrue (has_failed (store_in self.old))
             → OnOk result ⊥ × IsTrue (has_failed (store_in self.new)) }
@@ -153,7 +153,7 @@ impl<S: Alter> Service<S> {
         }
     }
 
-    // The answer to a command whose reply isn't kept.
+    /// The answer to a command whose reply isn't kept.
     fn carry_out(&mut self, command: &Command) -> Result<Reply, Unanswered>
         ensures failed { IsTrue (has_failed (store_in self.old))
             → OnOk result ⊥ × IsTrue (has_failed (store_in self.new)) }
@@ -180,7 +180,7 @@ impl<S: Alter> Service<S> {
         Ok(reply)
     }
 
-    // The answer to the first delivery of a key, which is kept with the command's text.
+    /// The answer to the first delivery of a key, which is kept with the command's text.
     fn answer_first(
         &mut self,
         key: &Key,
@@ -214,7 +214,7 @@ impl<S: Alter> Service<S> {
         Ok(reply)
     }
 
-    // What the command does to the registry, and its reply.
+    /// What the command does to the registry, and its reply.
     fn decision(&mut self, command: &Command) -> Result<Decision, Unanswered>
         ensures failed { IsTrue (has_failed (store_in self.old))
             → OnOk result ⊥ × IsTrue (has_failed (store_in self.new)) }

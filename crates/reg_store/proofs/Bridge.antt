@@ -28,7 +28,7 @@ use Rattle.reg_tables.proofs.MapLemmas.{IsKeyOrder, tied_key, other_key, same_or
 use Rattle.reg_tables.proofs.KeyedTables.{text_order, number_order, version_order}
 use Rattle.reg_tables.proofs.ListingLemmas.{found_first, find_had}
 use Rattle.reg_rows.specs.Spelling.{Pair, pair_of, value_at, is_name, names_known, has_value, has_level, is_meta, FitsLevels, IsLevelRow, IsKeptRow, IsSpelling}
-use Rattle.reg_store.specs.Replies.{Entry, Kept}
+use Rattle.reg_core.specs.KeptReplies.{Entry, Kept}
 use Rattle.reg_store.specs.Spells.{CanBeKept, IsSpelled, row_of}
 use Rattle.reg_store.specs.Opening.{text_row, version_row, level_row, kept_row, meta_row, rows_of}
 use Rattle.reg_store.proofs.Maps.{same_bytes, other_bytes}

@@ -14,7 +14,7 @@ use Rattle.reg_tables.specs.Layout.{layout}
 use Rattle.reg_tables.specs.Contents.{text_cmp, Contents, Holds}
 use Rattle.reg_tables.specs.Changes.{new_contents}
 use Rattle.reg_tables.proofs.Transactions.{keeps_if_unchanged, keeps_if_undone}
-use Rattle.reg_store.specs.Replies.{Kept, nothing_kept}
+use Rattle.reg_core.specs.KeptReplies.{Kept, nothing_kept}
 use Rattle.reg_store.specs.Spells.{Spells, Leaves, IsOpenOver, SpellsWhileOpen}
 
 -- a commit that fails leaves the last commit

@@ -23,7 +23,7 @@ use Rattle.reg_store.specs.declared.error.StoreError.{StoreError}
 use Rattle.reg_store.specs.declared.error.StoreError.TheVariants.{Memory, Disk, NotARegistry, OldLayout, NewerLayout}
 use Rattle.reg_store.specs.Failures.{failure_of}
 use Rattle.reg_store.specs.Opening.{NamesLayout, Outdates, IsRefusedBy, TellsNewer}
-use Rattle.reg_store.specs.Replies.{Kept}
+use Rattle.reg_core.specs.KeptReplies.{Kept}
 use Rattle.reg_store.specs.Spells.{SpellsUnopened}
 use Rattle.reg_store.specs.Testing.{pairs_of, PassesMeta, Allows, JudgesMeta, MetaPass, Tests}
 use Rattle.reg_store.proofs.Bridge.{meta_found, value_is}

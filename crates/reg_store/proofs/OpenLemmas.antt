@@ -10,7 +10,7 @@ use Rattle.reg_tables.specs.Layout.{layout, unindexed, IsLayout}
 use Rattle.reg_tables.specs.Contents.{Contents, HoldsIn, Holds}
 use Rattle.reg_tables.specs.Reading.{OnlyReads}
 use Rattle.reg_store.specs.Opening.{OpensOver, IsIndexed}
-use Rattle.reg_store.specs.Replies.{Kept}
+use Rattle.reg_core.specs.KeptReplies.{Kept}
 use Rattle.reg_store.specs.Spells.{SpellsIn, Spells, SpellsUnopened}
 use Rattle.reg_store.specs.Testing.{TablesPass}
 use Rattle.reg_store.proofs.Rereading.{same_now}

@@ -11,7 +11,7 @@ use Rattle.reg_tables.specs.Contents.{text_cmp, KeptRow, Contents}
 use Rattle.reg_tables.specs.Reading.{OnlyReads}
 use Rattle.reg_tables.proofs.MapLemmas.{get-insert-same}
 use Rattle.reg_tables.proofs.KeyedTables.{text_order}
-use Rattle.reg_store.specs.Replies.{Entry, Kept}
+use Rattle.reg_core.specs.KeptReplies.{Entry, Kept}
 use Rattle.reg_store.specs.Spells.{IsSpelled, SpellsWhileOpen, row_of}
 use Rattle.reg_store.proofs.Committing.{still_spells}
 

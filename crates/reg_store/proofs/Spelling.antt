@@ -13,7 +13,7 @@ use Rattle.reg_core.specs.Subjects.{is_subject}
 use Rattle.reg_core.specs.Registry.{Registry, own_with}
 use Rattle.reg_tables.specs.Contents.{Contents, Holds}
 use Rattle.reg_tables.specs.Changes.{Changes, with_global, with_level, with_kept}
-use Rattle.reg_store.specs.Replies.{Entry, Kept, kept_with}
+use Rattle.reg_core.specs.KeptReplies.{Entry, Kept, kept_with}
 use Rattle.reg_store.specs.Spells.{CanBeKept, IsSpelled, Spells, row_of}
 use Rattle.reg_store.specs.Changes.{Respells}
 use Rattle.reg_store.proofs.Maps.{insert_both, insert-insert}

@@ -29,7 +29,7 @@ use Rattle.reg_store.specs.declared.error.StoreError.{StoreError}
 use Rattle.reg_store.specs.declared.error.StoreError.TheVariants.{Memory, NotARegistry}
 use Rattle.reg_store.specs.Failures.{failure_of, IsFaultBy}
 use Rattle.reg_store.specs.Opening.{level_row, kept_row, meta_row, rows_of}
-use Rattle.reg_store.specs.Replies.{Kept}
+use Rattle.reg_core.specs.KeptReplies.{Kept}
 use Rattle.reg_store.specs.Spells.{SpellsIn, SpellsUnopened}
 use Rattle.reg_store.specs.Testing.{AreApart, level_fits, kept_fits, Tests, TablesPass, IsFaultUnopened}
 use Rattle.reg_store.proofs.Bridge.{no_texts, no_versions, levels_fit, kept_fit, meta_fit, spelled_if_rows}

@@ -18,7 +18,7 @@ use Rattle.reg_tables.specs.Contents.{text_cmp, TextMap, Contents, AreReadable}
 use Rattle.reg_tables.specs.Changes.{meta_of}
 use Rattle.reg_tables.proofs.MapLemmas.{get-insert-same, get-insert-other, same_or_not}
 use Rattle.reg_tables.proofs.KeyedTables.{text_order}
-use Rattle.reg_store.specs.Replies.{Kept}
+use Rattle.reg_core.specs.KeptReplies.{Kept}
 use Rattle.reg_store.specs.Spells.{IsSpelled, row_of}
 
 key_byte_ascii : (c : ℕ) → is_key_byte c ≡ true → c < 128

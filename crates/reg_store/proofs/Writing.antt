@@ -14,7 +14,7 @@ use Rattle.reg_tables.specs.Contents.{Contents, Holds}
 use Rattle.reg_tables.specs.Reading.{IsWriteFault, IsInsertFault}
 use Rattle.reg_store.specs.declared.error.StoreError.{StoreError}
 use Rattle.reg_store.specs.declared.keep.Keep.{Keep}
-use Rattle.reg_store.specs.Replies.{Kept}
+use Rattle.reg_core.specs.KeptReplies.{Kept}
 use Rattle.reg_store.specs.Spells.{row_of, Spells, SpellsWhileOpen}
 use Rattle.reg_store.specs.Changes.{IsFaultOfChange, IsFaultOfReply, SpellsInside, GoesOn}
 use Rattle.reg_store.specs.Failures.{failure_of, is_fault, IsFaultBy}

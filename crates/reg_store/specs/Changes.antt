@@ -14,7 +14,7 @@ use Rattle.reg_tables.specs.Contents.{kept_cells}
 use Rattle.reg_tables.specs.Rooms.{HasRooms, CanBeStored}
 use Rattle.reg_tables.specs.Reading.{IsInsertFault}
 use Rattle.reg_store.specs.declared.keep.Keep.{Keep}
-use Rattle.reg_store.specs.Replies.{Entry, Kept, kept_with}
+use Rattle.reg_core.specs.KeptReplies.{Entry, Kept, kept_with}
 use Rattle.reg_store.specs.Spells.{row_of, Spells}
 
 -- this project's choice: what is kept of a command and its reply

@@ -9,7 +9,7 @@ use Rattle.reg_tables.specs.Reading.{HasDiskFault}
 use Rattle.reg_store.specs.declared.error.StoreError.{StoreError}
 use Rattle.reg_store.specs.declared.error.StoreError.TheVariants.{Memory, Disk, NotARegistry, OldLayout, NewerLayout}
 use Rattle.reg_core.specs.Registry.{Registry}
-use Rattle.reg_store.specs.Replies.{Kept}
+use Rattle.reg_core.specs.KeptReplies.{Kept}
 use Rattle.reg_store.specs.Spells.{SpellsWhileOpen}
 
 -- SQLite, result codes: memory was refused; the disk failed, or what was to be written is past a limit of the file; or the statement doesn't fit the tables

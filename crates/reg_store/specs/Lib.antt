@@ -1,4 +1,3 @@
-pub mod Replies
 pub mod Spells
 pub mod Opening
 pub mod Changes

@@ -18,7 +18,7 @@ use Rattle.reg_core.specs.Registry.{Registry}
 use Rattle.reg_store.specs.declared.error.StoreError.{StoreError}
 use Rattle.reg_store.specs.declared.error.StoreError.TheVariants.{OldLayout, NewerLayout}
 use Rattle.reg_store.specs.Failures.{is_fault}
-use Rattle.reg_store.specs.Replies.{Kept}
+use Rattle.reg_core.specs.KeptReplies.{Kept}
 use Rattle.reg_store.specs.Spells.{SpellsUnopened, SpellsWhileOpen}
 
 -- ---- rows

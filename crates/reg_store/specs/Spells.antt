@@ -14,7 +14,7 @@ use Rattle.reg_core.specs.Registry.{Registry}
 use Rattle.reg_tables.specs.Layout.{layout, IsLayout}
 use Rattle.reg_tables.specs.Contents.{KeptRow, Contents, HoldsIn}
 use Rattle.reg_tables.specs.Changes.{meta_of}
-use Rattle.reg_store.specs.Replies.{Entry, Kept}
+use Rattle.reg_core.specs.KeptReplies.{Entry, Kept}
 
 -- this project's choice: a row of `kept` has the command's text, and the status and the body of its reply
 abbrev pub row_of : Entry → KeptRow

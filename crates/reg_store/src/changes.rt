@@ -8,7 +8,7 @@ ghost use Rattle.reg_store.specs.Changes.{with_reply, IsNewTo, IsKeepable, Respe
 ghost use Rattle.std.specs.List.{AllByRecursion};
 ghost use Rattle.reg_tables.specs.Rooms.{HasRooms};
 ghost use Rattle.reg_tables.specs.Reading.{IsWriteFault};
-ghost use Rattle.reg_store.specs.Replies.{Kept};
+ghost use Rattle.reg_core.specs.KeptReplies.{Kept};
 ghost use Rattle.reg_store.specs.Spells.{Spells};
 ghost use Rattle.reg_core.specs.Registry.{Registry};
 

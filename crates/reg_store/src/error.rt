@@ -54,7 +54,7 @@ impl From<AllocError> for StoreError {
     }
 }
 
-// The failure that a code of `sqlite` is.
+/// The failure that a code of `sqlite` is.
 fn failure_with(code: ErrorCode) -> StoreError
     ensures { result ≡ failure_of (SqliteFailure code) }
 {

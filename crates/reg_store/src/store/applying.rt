@@ -7,7 +7,7 @@ ghost use Rattle.sqlite.specs.State.{HasCleanDisk, Survives, KeepsCommit};
 ghost use Rattle.reg_core.specs.Registry.{Registry};
 ghost use Rattle.reg_core.specs.Views.{changed};
 ghost use Rattle.reg_tables.specs.Reading.{OnlyReads};
-ghost use Rattle.reg_store.specs.Replies.{Kept};
+ghost use Rattle.reg_core.specs.KeptReplies.{Kept};
 ghost use Rattle.reg_store.specs.Spells.{Leaves, IsOpenOver, SpellsWhileOpen};
 ghost use Rattle.reg_store.specs.Changes.{with_reply, IsNewTo, IsKeepable, ActsOn, HasPlace};
 ghost use Rattle.reg_store.specs.Failures.{failure_of, is_fault, IsFaultBy};
@@ -20,7 +20,7 @@ use crate::store::Store;
 use reg_core::Change;
 use sqlite::{Alter, Connection, Error};
 
-// Makes the changes and keeps the reply in one transaction.
+/// Makes the changes and keeps the reply in one transaction.
 fn commit_all<S: Alter>(
     conn: &mut Connection<S>,
     changes: &[Change],

@@ -8,7 +8,7 @@ ghost use Rattle.sqlite.specs.State.{HasCleanDisk, Survives, KeepsCommit};
 ghost use Rattle.reg_core.specs.Registry.{new_registry};
 ghost use Rattle.reg_tables.specs.Layout.{no_schema};
 ghost use Rattle.reg_tables.specs.Reading.{OnlyReads};
-ghost use Rattle.reg_store.specs.Replies.{nothing_kept};
+ghost use Rattle.reg_core.specs.KeptReplies.{nothing_kept};
 ghost use Rattle.reg_store.specs.Spells.{Leaves, IsOpenOver};
 ghost use Rattle.reg_store.specs.Failures.{failure_of, IsFaultBy};
 ghost use Rattle.reg_store.specs.Stores.{connection_of, state_of, has_failed, LeavesCommit};
@@ -95,7 +95,7 @@ impl<S: Alter> Store<S> {
     }
 }
 
-// Makes the tables of a new registry in one transaction.
+/// Makes the tables of a new registry in one transaction.
 fn make_in<S: Alter>(conn: &mut Connection<S>) -> Result<(), Error>
     requires idle { conn.old.in_transaction ≡ false }
     requires unlimited { conn.old.step_limit ≡ None }

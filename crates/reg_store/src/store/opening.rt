@@ -69,7 +69,7 @@ impl<S: Alter> Store<S> {
     }
 }
 
-// Tests the tables, and makes the index where it is missing.
+/// Tests the tables, and makes the index where it is missing.
 fn make_ready<S: Alter>(alloc: Global, conn: &mut Connection<S>) -> Result<(), StoreError>
     requires idle { conn.old.in_transaction ≡ false }
     requires unlimited { conn.old.step_limit ≡ None }
@@ -98,7 +98,7 @@ fn make_ready<S: Alter>(alloc: Global, conn: &mut Connection<S>) -> Result<(), S
     Ok(made?)
 }
 
-// Makes the index of versions, in one transaction.
+/// Makes the index of versions, in one transaction.
 fn make_index<S: Alter>(conn: &mut Connection<S>) -> Result<(), Error>
     requires idle { conn.old.in_transaction ≡ false }
     requires unlimited { conn.old.step_limit ≡ None }

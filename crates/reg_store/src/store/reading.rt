@@ -11,7 +11,7 @@ ghost use Rattle.reg_core.specs.Views.{IsViewOf};
 ghost use Rattle.reg_core.specs.Machine.{subject_of};
 ghost use Rattle.reg_tables.specs.Frames.{StaysIdle};
 ghost use Rattle.reg_tables.specs.Replies.{kept_row};
-ghost use Rattle.reg_store.specs.Replies.{Kept, entry_told};
+ghost use Rattle.reg_core.specs.KeptReplies.{Kept, entry_told};
 ghost use Rattle.reg_store.specs.Spells.{SpellsWhileOpen, row_of};
 ghost use Rattle.reg_store.specs.Failures.{IsFaultOver};
 ghost use Rattle.reg_store.specs.Stores.{state_of, has_failed, KeepsStore};
@@ -76,7 +76,7 @@ impl<S: Alter> Store<S> {
     }
 }
 
-// What is kept under the key.
+/// What is kept under the key.
 fn kept_under<S: Alter>(
     conn: &mut Connection<S>,
     key: &Key<'_>,
@@ -96,7 +96,7 @@ fn kept_under<S: Alter>(
     }
 }
 
-// The text and the reply of a row, if the reply is one.
+/// The text and the reply of a row, if the reply is one.
 fn told_in(row: KeptReply) -> Result<(String, Reply), StoreError>
     ensures ok { IfOk result (λ kept.
         kept_row row ≡ row_of (entry_told (string_bytes kept.0) kept.1)) }
@@ -116,7 +116,7 @@ fn told_in(row: KeptReply) -> Result<(String, Reply), StoreError>
     }
 }
 
-// The view that the command needs.
+/// The view that the command needs.
 fn view_for<S: Alter>(conn: &mut Connection<S>, command: &Command) -> Result<View, StoreError>
     requires idle { conn.old.in_transaction ≡ false }
     requires unlimited { conn.old.step_limit ≡ None }
@@ -135,7 +135,7 @@ fn view_for<S: Alter>(conn: &mut Connection<S>, command: &Command) -> Result<Vie
     Ok(View { own, global })
 }
 
-// The level that the subject has of its own, if it has one.
+/// The level that the subject has of its own, if it has one.
 fn own<S: Alter>(conn: &mut Connection<S>, subject: &Subject) -> Result<Option<Level>, StoreError>
     requires idle { conn.old.in_transaction ≡ false }
     requires unlimited { conn.old.step_limit ≡ None }
@@ -152,7 +152,7 @@ fn own<S: Alter>(conn: &mut Connection<S>, subject: &Subject) -> Result<Option<L
     }
 }
 
-// The global level.
+/// The global level.
 fn global<S: Alter>(conn: &mut Connection<S>) -> Result<Level, StoreError>
     requires idle { conn.old.in_transaction ≡ false }
     requires unlimited { conn.old.step_limit ≡ None }
@@ -169,7 +169,7 @@ fn global<S: Alter>(conn: &mut Connection<S>) -> Result<Level, StoreError>
     }
 }
 
-// The level that a row spells.
+/// The level that a row spells.
 fn level_in(text: &str) -> Result<Level, StoreError>
     ensures ok { IfOk result (λ level. level_of text.now ≡ Some level) }
     ensures err { OnErr result (level_of text.now ≡ None) }

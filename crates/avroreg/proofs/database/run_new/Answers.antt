@@ -1,6 +1,6 @@
 use Rattle.std.proofs.Common.{refl, inr}
 use Rattle.reg_core.specs.Registry.{new_registry}
-use Rattle.reg_store.specs.Replies.{nothing_kept}
+use Rattle.reg_core.specs.KeptReplies.{nothing_kept}
 use Rattle.avroreg.proofs.database.run_new.Goals as goal
 
 pub returns-in-Ok : goal.returns-in-Ok

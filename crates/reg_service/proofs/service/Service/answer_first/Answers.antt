@@ -4,7 +4,7 @@ use Rattle.reg_core.specs.Machine.{step}
 use Rattle.reg_core.specs.Registry.{Registry}
 use Rattle.reg_core.specs.Replies.{Told}
 use Rattle.reg_core.specs.Views.{changed}
-use Rattle.reg_store.specs.Replies.{kept_with}
+use Rattle.reg_core.specs.KeptReplies.{kept_with}
 use Rattle.reg_store.specs.Spells.{Leaves}
 use Rattle.reg_service.specs.Services.{state_in}
 use Rattle.reg_service.proofs.Standing.{whatever_fails}

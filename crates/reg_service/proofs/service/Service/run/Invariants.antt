@@ -3,7 +3,7 @@ use Rattle.std.specs.Prelude.{vec_capacity, zip}
 use Rattle.sqlite.specs.Tree.{Trees}
 use Rattle.sqlite.specs.State.{HasCleanDisk}
 use Rattle.reg_core.specs.Registry.{Registry}
-use Rattle.reg_store.specs.Replies.{Kept}
+use Rattle.reg_core.specs.KeptReplies.{Kept}
 use Rattle.reg_store.specs.Spells.{IsOpenOver}
 use Rattle.reg_store.specs.Stores.{KeepsOpen}
 use Rattle.reg_service.specs.Crashes.{IsFoundAfter}

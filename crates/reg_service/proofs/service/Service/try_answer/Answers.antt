@@ -1,7 +1,7 @@
 use Rattle.std.proofs.Common.{◌≡◌, Some, None, string_bytes, sym, ◌∙◌, rules}
 use Rattle.std.specs.Prelude.{OnOk}
 use Rattle.reg_core.specs.CommandTexts.{command_text}
-use Rattle.reg_store.specs.Replies.{entry_told}
+use Rattle.reg_core.specs.KeptReplies.{entry_told}
 use Rattle.reg_store.specs.Stores.{state_of}
 use Rattle.reg_service.specs.Services.{state_in}
 use Rattle.reg_service.proofs.Standing.{whatever_fails, fails_as}

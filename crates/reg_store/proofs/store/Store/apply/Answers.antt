@@ -4,7 +4,7 @@ use Rattle.reg_store.specs.declared.error.StoreError.TheVariants.{Disk}
 use Rattle.sqlite.specs.Effect.{Database}
 use Rattle.sqlite.specs.Held.{state}
 use Rattle.reg_core.specs.Registry.{Registry}
-use Rattle.reg_store.specs.Replies.{Kept}
+use Rattle.reg_core.specs.KeptReplies.{Kept}
 use Rattle.reg_store.specs.Spells.{SpellsWhileOpen}
 use Rattle.reg_store.specs.Changes.{IsNewTo, HasPlace}
 use Rattle.reg_store.specs.Failures.{is_fault, IsFaultBy}

@@ -6,7 +6,7 @@ use Rattle.sqlite.specs.Held.{Held, state}
 use Rattle.reg_core.specs.Registry.{new_registry}
 use Rattle.reg_tables.specs.Layout.{no_schema}
 use Rattle.reg_store.specs.Failures.{IsFaultBy}
-use Rattle.reg_store.specs.Replies.{nothing_kept}
+use Rattle.reg_core.specs.KeptReplies.{nothing_kept}
 use Rattle.reg_store.proofs.Committing.{leaves_if_spelled}
 use Rattle.reg_store.proofs.store.Store.create.Goals as goal
 

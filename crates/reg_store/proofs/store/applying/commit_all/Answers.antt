@@ -9,7 +9,7 @@ use Rattle.reg_core.specs.Registry.{Registry}
 use Rattle.reg_core.specs.Views.{changed}
 use Rattle.reg_tables.proofs.Transactions.{on_ok, if_err, keeps_then, keeps_if_undone, survives_both}
 use Rattle.reg_tables.proofs.WriteFaults.{erred_with}
-use Rattle.reg_store.specs.Replies.{Kept}
+use Rattle.reg_core.specs.KeptReplies.{Kept}
 use Rattle.reg_store.specs.Spells.{Spells, Leaves, IsOpenOver, SpellsWhileOpen}
 use Rattle.reg_store.specs.Changes.{with_reply, IsNewTo, HasPlace, ActsOn}
 use Rattle.reg_tables.specs.Rooms.{HasRooms}

@@ -11,7 +11,7 @@ use Rattle.reg_tables.proofs.WriteFaults.{erred_with}
 use Rattle.reg_store.specs.Failures.{failure_of, IsFaultBy}
 use Rattle.reg_store.proofs.Writing.{fault_of_write, fault_of_commit, of_call}
 use Rattle.reg_store.proofs.Failing.{by_since}
-use Rattle.reg_store.specs.Replies.{nothing_kept}
+use Rattle.reg_core.specs.KeptReplies.{nothing_kept}
 use Rattle.reg_store.specs.Spells.{Spells, Leaves, IsOpenOver}
 use Rattle.reg_store.proofs.Committing.{leaves_if_spelled, spells_new}
 use Rattle.reg_store.proofs.store.making.make_in.Goals as goal

@@ -4,7 +4,7 @@ use Rattle.serde_json.specs.View.{view}
 use Rattle.serde_json.specs.declared.value.Value.{the_lemmas}
 use Rattle.serde_json.proofs.OnLiterals.{serde_json_on_literals}
 use Rattle.reg_core.specs.Levels.{level_text}
-use Rattle.reg_core.proofs.decision.level_reply.Goals as goal
+use Rattle.reg_core.proofs.decision.levels.level_reply.Goals as goal
 
 pub returns : goal.returns
 unfolding serde_json_on_literals
