@@ -1,6 +1,6 @@
--- What holds of each default, other attribute and size, and is carried by arrays and objects, holds of the whole identity value.
+-- What holds of the defaults, other attributes and sizes of nodes, and is carried by arrays and objects, holds of the whole identity value.
 use Rattle.std.proofs.Common.{◌≡◌, ℕ, zero, suc, ◌+◌, ◌*◌, List, [], ◌∷◌, Bool, true, false, cond, ◌==◌, Option, Some, None, Ordering, Less, Equal, Greater, subst, arith}
-use Rattle.std.specs.Prelude.{codes, slice_get, option_map}
+use Rattle.std.specs.Prelude.{codes, slice_get, option_map, IfSome}
 use Rattle.std.specs.List.{AllByRecursion}
 use Rattle.std.specs.Ordering.{nat_cmp, match_ordering}
 use Rattle.std.specs.Cmp.Lexicographic.{slice_cmp}
@@ -21,25 +21,25 @@ abbrev pub AllItems : (Data → Type 0) → Items → Type 0
 AllItems P no_items = Unit {0}
 AllItems P (item d ds) = P d × AllItems P ds
 
-abbrev pub OfValue : (Data → Type 0) → Option Data → Type 0
-OfValue P None = Unit {0}
-OfValue P (Some d) = P d
+-- E holds of the default, and F of the other attributes
+abbrev pub OfField : (Data → Type 0) → (Members → Type 0) → FieldView → Type 0
+OfField E F f = IfSome f.value E × F f.extra
 
-abbrev pub OfField : (Data → Type 0) → FieldView → Type 0
-OfField P f = OfValue P f.value × AllMembers P f.extra
+-- E holds of each default and size, and F of all other attributes
+abbrev pub OfNode : (Data → Type 0) → (Members → Type 0) → NodeView → Type 0
+OfNode E F (primitive kind extra) = F extra
+OfNode E F (array items extra) = F extra
+OfNode E F (mapping values extra) = F extra
+OfNode E F (union branches) = Unit {0}
+OfNode E F (enumeration named symbols fallback extra) = F extra
+OfNode E F (fixed named size extra) = E (number (unsigned size)) × F extra
+OfNode E F (rec named fields extra) = AllByRecursion (OfField E F) fields × F extra
 
-abbrev pub OfNode : (Data → Type 0) → NodeView → Type 0
-OfNode P (primitive kind extra) = AllMembers P extra
-OfNode P (array items extra) = AllMembers P extra
-OfNode P (mapping values extra) = AllMembers P extra
-OfNode P (union branches) = Unit {0}
-OfNode P (enumeration named symbols fallback extra) = AllMembers P extra
-OfNode P (fixed named size extra) = P (number (unsigned size)) × AllMembers P extra
-OfNode P (rec named fields extra) = AllByRecursion (OfField P) fields × AllMembers P extra
-
-abbrev pub OfNodeAt : (Data → Type 0) → Option NodeView → Type 0
-OfNodeAt P None = Unit {0}
-OfNodeAt P (Some node) = OfNode P node
+-- what holds of each node holds of the one at a place
+of_place : (P : NodeView → Type 0) (nodes : List NodeView) → AllByRecursion P nodes → (i : ℕ) → IfSome (slice_get nodes i) P
+of_place P [] h i = tt
+of_place P (node ∷ nodes) h zero = h.0
+of_place P (node ∷ nodes) h (suc i) = of_place P nodes h.1 i
 
 -- ---- members
 
@@ -49,103 +49,105 @@ module _ (P : Data → Type 0) where
   put_at Equal k l d e ms p q h more = (p, h)
   put_at Greater k l d e ms p q h more = (q, more)
 
+  -- what holds of each member and of a value still does where it is put among them
   pub all_put : (k : List ℕ) (d : Data) (ms : Members) → P d → AllMembers P ms → AllMembers P (put k d ms)
   all_put k d no_members p h = (p, tt)
   all_put k d (member l e ms) p h = put_at (slice_cmp nat_cmp k l) k l d e ms p h.0 h.1 (all_put k d ms p h.1)
 
+  -- a weaker predicate holds of each member too
   pub all_weaker : (Q : Data → Type 0) → ((d : Data) → P d → Q d) → (ms : Members) → AllMembers P ms → AllMembers Q ms
   all_weaker Q f no_members h = tt
   all_weaker Q f (member k d ms) h = (f d h.0, all_weaker Q f ms h.1)
 
 -- ---- attributes
 
-module _ (P : Data → Type 0) (of_text : (t : List ℕ) → P (string t)) (of_texts : (ts : List (List ℕ)) → P (json.array (texts ts))) where
-  pub all_text : (k t : List ℕ) (ms : Members) → AllMembers P ms → AllMembers P (with_text k t ms)
-  all_text k t ms h = all_put P k (string t) ms (of_text t) h
+-- M holds of members to which a value is put of which P holds
+module _ (P : Data → Type 0) (M : Members → Type 0) (puts : (k : List ℕ) (d : Data) (ms : Members) → P d → M ms → M (put k d ms)) (of_text : (t : List ℕ) → P (string t))
+    (of_texts : (ts : List (List ℕ)) → P (json.array (texts ts))) where
+  all_text : (k t : List ℕ) (ms : Members) → M ms → M (with_text k t ms)
+  all_text k t ms h = puts k (string t) ms (of_text t) h
 
-  pub all_aliases : (ts : List (List ℕ)) (ms : Members) → AllMembers P ms → AllMembers P (with_aliases ts ms)
+  all_aliases : (ts : List (List ℕ)) (ms : Members) → M ms → M (with_aliases ts ms)
   all_aliases [] ms h = h
-  all_aliases (t ∷ ts) ms h = all_put P (codes "aliases") (json.array (texts (t ∷ ts))) ms (of_texts (t ∷ ts)) h
+  all_aliases (t ∷ ts) ms h = puts (codes "aliases") (json.array (texts (t ∷ ts))) ms (of_texts (t ∷ ts)) h
 
-  pub all_default : (o : Option Data) (ms : Members) → OfValue P o → AllMembers P ms → AllMembers P (with_default o ms)
+  all_default : (o : Option Data) (ms : Members) → IfSome o P → M ms → M (with_default o ms)
   all_default None ms v h = h
-  all_default (Some d) ms v h = all_put P (codes "default") d ms v h
+  all_default (Some d) ms v h = puts (codes "default") d ms v h
 
-  pub all_order : (o : Order) (ms : Members) → AllMembers P ms → AllMembers P (with_order o ms)
+  all_order : (o : Order) (ms : Members) → M ms → M (with_order o ms)
   all_order Ascending ms h = h
   all_order Descending ms h = all_text (codes "order") (codes "descending") ms h
   all_order Ignore ms h = all_text (codes "order") (codes "ignore") ms h
 
-  namespace_at : (dot : Bool) (ms : Members) → AllMembers P ms → AllMembers P (cond dot ms (with_text (codes "namespace") [] ms))
+  namespace_at : (dot : Bool) (ms : Members) → M ms → M (cond dot ms (with_text (codes "namespace") [] ms))
   namespace_at true ms h = h
   namespace_at false ms h = all_text (codes "namespace") [] ms h
 
-  pub all_namespace : (enclosing name : List ℕ) (ms : Members) → AllMembers P ms → AllMembers P (with_namespace enclosing name ms)
+  all_namespace : (enclosing name : List ℕ) (ms : Members) → M ms → M (with_namespace enclosing name ms)
   all_namespace [] name ms h = h
   all_namespace (c ∷ enclosing) name ms h = namespace_at (has_dot name) ms h
 
-  fallback_is : (o : Option (List ℕ)) → OfValue P (option_map string o)
+  fallback_is : (o : Option (List ℕ)) → IfSome (option_map string o) P
   fallback_is None = tt
   fallback_is (Some t) = of_text t
 
 -- ---- types
 
--- K n holds of what is n levels above a default or other attribute, of which E holds
-module _ (E : Data → Type 0) (K : ℕ → Data → Type 0) (from : (n : ℕ) (d : Data) → E d → K n d) (more : (n k : ℕ) (d : Data) → K n d → K (n + k) d)
-    (of_null : (n : ℕ) → K n null) (of_text : (n : ℕ) (t : List ℕ) → K n (string t)) (of_texts : (n : ℕ) (ts : List (List ℕ)) → K n (json.array (texts ts)))
-    (of_array : (n : ℕ) (ds : Items) → AllItems (K n) ds → K (n + 1) (json.array ds)) (of_object : (n : ℕ) (ms : Members) → AllMembers (K n) ms → K (n + 1) (object ms)) where
-  extra_is : (n : ℕ) (ms : Members) → AllMembers E ms → AllMembers (K n) ms
-  extra_is n ms h = all_weaker E (K n) (from n) ms h
-
-  value_is : (n : ℕ) (o : Option Data) → OfValue E o → OfValue (K n) o
+-- K n and L n hold of values and members that are n levels above a default, of which E holds, or other attributes, of which F holds
+module _ (E : Data → Type 0) (F : Members → Type 0) (K : ℕ → Data → Type 0) (L : ℕ → Members → Type 0) (from : (n : ℕ) (d : Data) → E d → K n d) (extra_is : (n : ℕ) (ms : Members) → F ms → L n ms)
+    (puts : (n : ℕ) (k : List ℕ) (d : Data) (ms : Members) → K n d → L n ms → L n (put k d ms)) (more : (n k : ℕ) (d : Data) → K n d → K (n + k) d) (of_null : (n : ℕ) → K n null)
+    (of_text : (n : ℕ) (t : List ℕ) → K n (string t)) (of_texts : (n : ℕ) (ts : List (List ℕ)) → K n (json.array (texts ts))) (of_array : (n : ℕ) (ds : Items) → AllItems (K n) ds → K (n + 1) (json.array ds))
+    (of_object : (n : ℕ) (ms : Members) → L n ms → K (n + 1) (object ms)) where
+  value_is : (n : ℕ) (o : Option Data) → IfSome o E → IfSome o (K n)
   value_is n None h = tt
   value_is n (Some d) h = from n d h
 
-  text_in : (n : ℕ) (k t : List ℕ) (ms : Members) → AllMembers (K n) ms → AllMembers (K n) (with_text k t ms)
-  text_in n = all_text (K n) (of_text n) (of_texts n)
+  text_in : (n : ℕ) (k t : List ℕ) (ms : Members) → L n ms → L n (with_text k t ms)
+  text_in n = all_text (K n) (L n) (puts n) (of_text n) (of_texts n)
 
-  names_in : (n : ℕ) (named : NamedView) (ms : Members) → AllMembers (K n) ms → AllMembers (K n) (with_aliases named.aliases ms)
-  names_in n named = all_aliases (K n) (of_text n) (of_texts n) named.aliases
+  names_in : (n : ℕ) (named : NamedView) (ms : Members) → L n ms → L n (with_aliases named.aliases ms)
+  names_in n named = all_aliases (K n) (L n) (puts n) (of_text n) (of_texts n) named.aliases
 
-  space_in : (n : ℕ) (enclosing name : List ℕ) (ms : Members) → AllMembers (K n) ms → AllMembers (K n) (with_namespace enclosing name ms)
-  space_in n = all_namespace (K n) (of_text n) (of_texts n)
+  space_in : (n : ℕ) (enclosing name : List ℕ) (ms : Members) → L n ms → L n (with_namespace enclosing name ms)
+  space_in n = all_namespace (K n) (L n) (puts n) (of_text n) (of_texts n)
 
-  primitive_is : (n : ℕ) (kind : Kind) (extra : Members) → AllMembers E extra → K (n + 1) (primitive_value kind extra)
+  primitive_is : (n : ℕ) (kind : Kind) (extra : Members) → F extra → K (n + 1) (primitive_value kind extra)
   primitive_is n kind no_members h = of_text (n + 1) (kind_text kind)
   primitive_is n kind (member k d ms) h = of_object n _ (text_in n (codes "type") (kind_text kind) (member k d ms) (extra_is n (member k d ms) h))
 
-  array_is : (n : ℕ) (items : Data) (extra : Members) → K n items → AllMembers E extra → K (n + 1) (array_value items extra)
-  array_is n items extra i h = of_object n _ (all_put (K n) (codes "items") items _ i (text_in n (codes "type") (codes "array") extra (extra_is n extra h)))
+  array_is : (n : ℕ) (items : Data) (extra : Members) → K n items → F extra → K (n + 1) (array_value items extra)
+  array_is n items extra i h = of_object n _ (puts n (codes "items") items _ i (text_in n (codes "type") (codes "array") extra (extra_is n extra h)))
 
-  map_is : (n : ℕ) (values : Data) (extra : Members) → K n values → AllMembers E extra → K (n + 1) (map_value values extra)
-  map_is n values extra v h = of_object n _ (text_in n (codes "type") (codes "map") _ (all_put (K n) (codes "values") values extra v (extra_is n extra h)))
+  map_is : (n : ℕ) (values : Data) (extra : Members) → K n values → F extra → K (n + 1) (map_value values extra)
+  map_is n values extra v h = of_object n _ (text_in n (codes "type") (codes "map") _ (puts n (codes "values") values extra v (extra_is n extra h)))
 
-  enum_is : (n : ℕ) (enclosing : List ℕ) (named : NamedView) (symbols : List (List ℕ)) (fallback : Option (List ℕ)) (extra : Members) → AllMembers E extra → K (n + 1) (enum_value enclosing named symbols fallback extra)
+  enum_is : (n : ℕ) (enclosing : List ℕ) (named : NamedView) (symbols : List (List ℕ)) (fallback : Option (List ℕ)) (extra : Members) → F extra → K (n + 1) (enum_value enclosing named symbols fallback extra)
   enum_is n enclosing named symbols fallback extra h =
       let typed = text_in n (codes "type") (codes "enum") extra (extra_is n extra h) in
-      let listed = all_put (K n) (codes "symbols") (json.array (texts symbols)) _ (of_texts n symbols) typed in
+      let listed = puts n (codes "symbols") (json.array (texts symbols)) _ (of_texts n symbols) typed in
       let called = text_in n (codes "name") named.name _ (space_in n enclosing named.name _ listed) in
-      of_object n _ (names_in n named _ (all_default (K n) (of_text n) (of_texts n) (option_map string fallback) _ (fallback_is (K n) (of_text n) (of_texts n) fallback) called))
+      of_object n _ (names_in n named _ (all_default (K n) (L n) (puts n) (of_text n) (of_texts n) (option_map string fallback) _ (fallback_is (K n) (L n) (puts n) (of_text n) (of_texts n) fallback) called))
 
-  fixed_is : (n : ℕ) (enclosing : List ℕ) (named : NamedView) (size : ℕ) (extra : Members) → E (number (unsigned size)) → AllMembers E extra → K (n + 1) (fixed_value enclosing named size extra)
+  fixed_is : (n : ℕ) (enclosing : List ℕ) (named : NamedView) (size : ℕ) (extra : Members) → E (number (unsigned size)) → F extra → K (n + 1) (fixed_value enclosing named size extra)
   fixed_is n enclosing named size extra s h =
       let typed = text_in n (codes "type") (codes "fixed") extra (extra_is n extra h) in
-      let sized = all_put (K n) (codes "size") (number (unsigned size)) _ (from n (number (unsigned size)) s) typed in
+      let sized = puts n (codes "size") (number (unsigned size)) _ (from n (number (unsigned size)) s) typed in
       of_object n _ (names_in n named _ (text_in n (codes "name") named.name _ (space_in n enclosing named.name _ sized)))
 
-  record_is : (n : ℕ) (enclosing : List ℕ) (named : NamedView) (fields : Items) (extra : Members) → AllItems (K n) fields → AllMembers E extra → K (n + 2) (record_value enclosing named fields extra)
+  record_is : (n : ℕ) (enclosing : List ℕ) (named : NamedView) (fields : Items) (extra : Members) → AllItems (K n) fields → F extra → K (n + 2) (record_value enclosing named fields extra)
   record_is n enclosing named fields extra f h =
       let typed = text_in (n + 1) (codes "type") (codes "record") extra (extra_is (n + 1) extra h) in
       let called = text_in (n + 1) (codes "name") named.name _ (space_in (n + 1) enclosing named.name _ typed) in
       let two : n + 1 + 1 ≡ n + 2 = omega arith in
       let P : ℕ → Type 0 = λ m. K m (record_value enclosing named fields extra) in
-      subst P two (of_object (n + 1) _ (names_in (n + 1) named _ (all_put (K (n + 1)) (codes "fields") (json.array fields) _ (of_array n fields f) called)))
+      subst P two (of_object (n + 1) _ (names_in (n + 1) named _ (puts (n + 1) (codes "fields") (json.array fields) _ (of_array n fields f) called)))
 
-  field_is : (n : ℕ) (f : FieldView) (type : Data) → K n type → OfField E f → K (n + 1) (field_value f type)
+  field_is : (n : ℕ) (f : FieldView) (type : Data) → K n type → OfField E F f → K (n + 1) (field_value f type)
   field_is n f type t h =
-      let typed = all_put (K n) (codes "type") type f.extra t (extra_is n f.extra h.1) in
-      let called = text_in n (codes "name") f.name _ (all_order (K n) (of_text n) (of_texts n) f.order _ typed) in
-      of_object n _ (all_aliases (K n) (of_text n) (of_texts n) f.aliases _ (all_default (K n) (of_text n) (of_texts n) f.value _ (value_is n f.value h.0) called))
+      let typed = puts n (codes "type") type f.extra t (extra_is n f.extra h.1) in
+      let called = text_in n (codes "name") f.name _ (all_order (K n) (L n) (puts n) (of_text n) (of_texts n) f.order _ typed) in
+      of_object n _ (all_aliases (K n) (L n) (puts n) (of_text n) (of_texts n) f.aliases _ (all_default (K n) (L n) (puts n) (of_text n) (of_texts n) f.value _ (value_is n f.value h.0) called))
 
   -- ---- places
 
@@ -155,7 +157,7 @@ module _ (E : Data → Type 0) (K : ℕ → Data → Type 0) (from : (n : ℕ) (
     branches_are [] written = tt
     branches_are (p ∷ ps) written = (each p written, branches_are ps (one p written).1)
 
-    fields_are : (fs : List FieldView) (written : ℕ) → AllByRecursion (OfField E) fs → AllItems (K (n + 1)) (field_items one fs written).0
+    fields_are : (fs : List FieldView) (written : ℕ) → AllByRecursion (OfField E F) fs → AllItems (K (n + 1)) (field_items one fs written).0
     unfolding field_items
     fields_are [] written h = tt
     fields_are (f ∷ fs) written h = (field_is n f (one f.place written).0 (each f.place written) h.0, fields_are fs (one f.place written).1 h.1)
@@ -163,7 +165,7 @@ module _ (E : Data → Type 0) (K : ℕ → Data → Type 0) (from : (n : ℕ) (
   lifted : (n m : ℕ) (k : ℕ) (d : Data) → n + k ≡ m → K n d → K m d
   lifted n m k d e h = let P : ℕ → Type 0 = λ i. K i d in subst P e (more n k d h)
 
-  node_is : (types : List ℕ → Speller) (n : ℕ) (each : (enclosing : List ℕ) (place written : ℕ) → K n (types enclosing place written).0) (enclosing : List ℕ) (written : ℕ) (o : Option NodeView) → OfNodeAt E o → K (n + 3) (spelt_node types enclosing written o).0
+  node_is : (types : List ℕ → Speller) (n : ℕ) (each : (enclosing : List ℕ) (place written : ℕ) → K n (types enclosing place written).0) (enclosing : List ℕ) (written : ℕ) (o : Option NodeView) → IfSome o (OfNode E F) → K (n + 3) (spelt_node types enclosing written o).0
   node_is types n each enclosing written None h = of_null (n + 3)
   node_is types n each enclosing written (Some (primitive kind extra)) h = lifted (n + 1) (n + 3) 2 _ (omega arith) (primitive_is n kind extra h)
   node_is types n each enclosing written (Some (array items extra)) h = lifted (n + 1) (n + 3) 2 _ (omega arith) (array_is n _ extra (each enclosing items (written + 1)) h)
@@ -178,11 +180,12 @@ module _ (E : Data → Type 0) (K : ℕ → Data → Type 0) (from : (n : ℕ) (
   either_is true m x y h g = h
   either_is false m x y h g = g
 
-  pub spelt_is : (n : ℕ) (nodes : List NodeView) → ((i : ℕ) → OfNodeAt E (slice_get nodes i)) → (enclosing : List ℕ) (place written : ℕ) → K (3 * n) (spelt_at n nodes enclosing place written).0
+  -- what holds so of each node holds of the value of each type
+  pub spelt_is : (n : ℕ) (nodes : List NodeView) → AllByRecursion (OfNode E F) nodes → (enclosing : List ℕ) (place written : ℕ) → K (3 * n) (spelt_at n nodes enclosing place written).0
   unfolding spelt_at
   spelt_is zero nodes all enclosing place written = of_null (3 * zero)
   spelt_is (suc n) nodes all enclosing place written =
       let three : 3 * n + 3 ≡ 3 * suc n = omega arith in
-      let found = node_is (spelt_at n nodes) (3 * n) (λ s p w. spelt_is n nodes all s p w) enclosing written (slice_get nodes place) (all place) in
+      let found = node_is (spelt_at n nodes) (3 * n) (λ s p w. spelt_is n nodes all s p w) enclosing written (slice_get nodes place) (of_place (OfNode E F) nodes all place) in
       either_is (place == written) (3 * suc n) (spelt_node (spelt_at n nodes) enclosing written (slice_get nodes place)) (string (name_of (slice_get nodes place)), written)
       (lifted (3 * n + 3) (3 * suc n) 0 _ (omega arith) found) (of_text (3 * suc n) (name_of (slice_get nodes place)))

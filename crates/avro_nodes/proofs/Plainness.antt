@@ -1,8 +1,8 @@
 -- What is written for nodes with whole numbers has such numbers alone, and nests no deeper than JSON is read.
-use Rattle.std.proofs.Common.{◌≡◌, ℕ, zero, suc, ◌+◌, ◌≤◌, List, [], ◌∷◌, Bool, true, false, ◌&&◌, nat_le, Option, Some, None, refl, arith, rules, tests}
-use Rattle.std.specs.Prelude.{slice_get, IsTrue}
+use Rattle.std.proofs.Common.{◌≡◌, ℕ, ◌+◌, ◌≤◌, List, [], ◌∷◌, Bool, true, false, ◌&&◌, Option, Some, None, refl, arith}
+use Rattle.std.specs.Prelude.{IfSome, IsTrue}
 use Rattle.std.specs.List.{list_all, AllByRecursion}
-use Rattle.std.proofs.lemmas.Bool.{false≢true}
+use Rattle.std.proofs.lemmas.Bool.{false≢true, leb-true}
 use Rattle.serde_json.specs.Data.{Num, negative, float, Data, null, boolean, string, number, unsigned, object, Items, no_items, item, Members, no_members, member, depth, items_depth, members_depth}
 use Rattle.serde_json.specs.Data as json
 use Rattle.serde_json.specs.Find.{is_float}
@@ -10,7 +10,7 @@ use Rattle.serde_json.specs.Written.{has_float, items_have_float, members_have_f
 use Rattle.avro_nodes.specs.Nodes.{FieldView, NodeView, primitive, array, mapping, union, enumeration, fixed, rec}
 use Rattle.avro_nodes.specs.Identity.{texts, identity_value, max_nesting, members_pass, value_passes, field_passes, node_passes, nodes_pass, nests_within}
 use Rattle.avro_nodes.specs.Whole.{is_whole_number, has_whole_numbers, items_have_whole_numbers, members_have_whole_numbers}
-use Rattle.avro_nodes.proofs.Carried.{AllMembers, AllItems, OfValue, OfField, OfNode, OfNodeAt, spelt_is}
+use Rattle.avro_nodes.proofs.Carried.{AllMembers, AllItems, OfField, OfNode, all_put, all_weaker, spelt_is}
 
 pub both : (a b : Bool) → (a && b) ≡ true → (a ≡ true) × (b ≡ true)
 both true b e = (refl, e)
@@ -26,18 +26,18 @@ module _ (test : Data → Bool) where
   of_members no_members e = tt
   of_members (member k d ms) e = let h = both (test d) (members_pass test ms) e in (h.0, of_members ms h.1)
 
-  of_value : (o : Option Data) → value_passes test o ≡ true → OfValue Passes o
+  of_value : (o : Option Data) → value_passes test o ≡ true → IfSome o Passes
   of_value None e = tt
   of_value (Some d) e = e
 
-  of_fields : (fs : List FieldView) → list_all (field_passes test) fs ≡ true → AllByRecursion (OfField Passes) fs
+  of_fields : (fs : List FieldView) → list_all (field_passes test) fs ≡ true → AllByRecursion (OfField Passes (AllMembers Passes)) fs
   of_fields [] e = tt
   of_fields (f ∷ fs) e =
       let h = both (field_passes test f) (list_all (field_passes test) fs) e in
       let g = both (value_passes test f.value) (members_pass test f.extra) h.0 in
       ((of_value f.value g.0, of_members f.extra g.1), of_fields fs h.1)
 
-  of_node : (node : NodeView) → node_passes test node ≡ true → OfNode Passes node
+  of_node : (node : NodeView) → node_passes test node ≡ true → OfNode Passes (AllMembers Passes) node
   of_node (primitive kind extra) e = of_members extra e
   of_node (array items extra) e = of_members extra e
   of_node (mapping values extra) e = of_members extra e
@@ -48,12 +48,11 @@ module _ (test : Data → Bool) where
       let h = both (list_all (field_passes test) fields) (members_pass test extra) e in
       (of_fields fields h.0, of_members extra h.1)
 
-  of_nodes : (nodes : List NodeView) → list_all (node_passes test) nodes ≡ true → (i : ℕ) → OfNodeAt Passes (slice_get nodes i)
-  of_nodes [] e i = tt
-  of_nodes (node ∷ nodes) e zero = of_node node (both (node_passes test node) (list_all (node_passes test) nodes) e).0
-  of_nodes (node ∷ nodes) e (suc i) = of_nodes nodes (both (node_passes test node) (list_all (node_passes test) nodes) e).1 i
+  of_nodes : (nodes : List NodeView) → list_all (node_passes test) nodes ≡ true → AllByRecursion (OfNode Passes (AllMembers Passes)) nodes
+  of_nodes [] e = tt
+  of_nodes (node ∷ nodes) e = let h = both (node_passes test node) (list_all (node_passes test) nodes) e in (of_node node h.0, of_nodes nodes h.1)
 
-  nodes_are : (nodes : List NodeView) → IsTrue (nodes_pass test nodes) → (i : ℕ) → OfNodeAt Passes (slice_get nodes i)
+  nodes_are : (nodes : List NodeView) → IsTrue (nodes_pass test nodes) → AllByRecursion (OfNode Passes (AllMembers Passes)) nodes
   unfolding nodes_pass
   nodes_are nodes e = of_nodes nodes e
 
@@ -76,8 +75,8 @@ whole_texts (t ∷ ts) = whole_texts ts
 
 pub identity_is_whole : (nodes : List NodeView) → IsTrue (nodes_pass has_whole_numbers nodes) → has_whole_numbers (identity_value nodes) ≡ true
 identity_is_whole nodes e =
-    spelt_is Whole (λ _ d. Whole d) (λ n d h. h) (λ n k d h. h) (λ n. refl) (λ n t. refl) (λ n ts. whole_texts ts) (λ n ds h. whole_items ds h) (λ n ms h. whole_members ms h) max_nesting nodes
-    (nodes_are has_whole_numbers nodes e) [] 0 0
+    spelt_is Whole (AllMembers Whole) (λ _ d. Whole d) (λ _ ms. AllMembers Whole ms) (λ n d h. h) (λ n ms h. h) (λ n k d ms h g. all_put Whole k d ms h g) (λ n k d h. h) (λ n. refl) (λ n t. refl)
+    (λ n ts. whole_texts ts) (λ n ds h. whole_items ds h) (λ n ms h. whole_members ms h) max_nesting nodes (nodes_are has_whole_numbers nodes e) [] 0 0
 
 whole_not_float : (n : Num) → is_whole_number n ≡ true → is_float n ≡ false
 whole_not_float (unsigned n) e = refl
@@ -112,11 +111,8 @@ Nests n d = depth d ≤ n + 24
 abbrev Shallow : Data → Type 0
 Shallow d = nests_within 24 d ≡ true
 
-le_is : (m n : ℕ) → nat_le m n ≡ true → m ≤ n
-le_is m n h = search (rules, tests)
-
 shallow : (n : ℕ) (d : Data) → Shallow d → Nests n d
-shallow n d h = omega (arith, le_is (depth d) 24 h)
+shallow n d h = omega (arith, leb-true (depth d) 24 h)
 
 nest_members : (n : ℕ) (ms : Members) → AllMembers (Nests n) ms → members_depth ms ≤ n + 24
 nest_members n no_members h = omega arith
@@ -132,5 +128,6 @@ nest_texts (t ∷ ts) = omega (arith, nest_texts ts)
 
 pub identity_nests : (nodes : List NodeView) → IsTrue (nodes_pass (nests_within 24) nodes) → depth (identity_value nodes) ≤ 96
 identity_nests nodes e =
-    spelt_is Shallow Nests (λ n d h. shallow n d h) (λ n k d h. omega (arith, h)) (λ n. omega arith) (λ n t. omega arith) (λ n ts. omega (arith, nest_texts ts)) (λ n ds h. omega (arith, nest_items n ds h))
-    (λ n ms h. omega (arith, nest_members n ms h)) max_nesting nodes (nodes_are (nests_within 24) nodes e) [] 0 0
+    spelt_is Shallow (AllMembers Shallow) Nests (λ n ms. AllMembers (Nests n) ms) (λ n d h. shallow n d h) (λ n ms h. all_weaker Shallow (Nests n) (shallow n) ms h)
+    (λ n k d ms h g. all_put (Nests n) k d ms h g) (λ n k d h. omega (arith, h)) (λ n. omega arith) (λ n t. omega arith) (λ n ts. omega (arith, nest_texts ts))
+    (λ n ds h. omega (arith, nest_items n ds h)) (λ n ms h. omega (arith, nest_members n ms h)) max_nesting nodes (nodes_are (nests_within 24) nodes e) [] 0 0
