@@ -12,3 +12,9 @@ pub mod Digits
 pub mod Written
 pub mod Forms
 pub mod Printed
+pub mod Tidy
+pub mod Reread
+pub mod Respelt
+pub mod NumberFronts
+pub mod Lexed
+pub mod TidyRead

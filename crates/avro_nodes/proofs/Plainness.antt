@@ -56,6 +56,34 @@ module _ (test : Data → Bool) where
   unfolding nodes_pass
   nodes_are nodes e = of_nodes nodes e
 
+-- E holds of what passes the test, and F of members that do
+module _ (test : Data → Bool) (E : Data → Type 0) (F : Members → Type 0) (value : (d : Data) → E d → test d ≡ true) (members : (ms : Members) → F ms → members_pass test ms ≡ true) where
+  value_passing : (o : Option Data) → IfSome o E → value_passes test o ≡ true
+  value_passing None h = refl
+  value_passing (Some d) h = value d h
+
+  fields_passing : (fs : List FieldView) → AllByRecursion (OfField E F) fs → list_all (field_passes test) fs ≡ true
+  fields_passing [] h = refl
+  fields_passing (f ∷ fs) h = rw (value_passing f.value h.0.0, members f.extra h.0.1) (fields_passing fs h.1)
+
+  node_passing : (node : NodeView) → OfNode E F node → node_passes test node ≡ true
+  node_passing (primitive kind extra) h = members extra h
+  node_passing (array items extra) h = members extra h
+  node_passing (mapping values extra) h = members extra h
+  node_passing (union branches) h = refl
+  node_passing (enumeration named symbols fallback extra) h = members extra h
+  node_passing (fixed named size extra) h = rw (value (number (unsigned size)) h.0) (members extra h.1)
+  node_passing (rec named fields extra) h = rw (fields_passing fields h.0) (members extra h.1)
+
+  -- nodes of which this holds pass the test
+  pub nodes_all : (nodes : List NodeView) → AllByRecursion (OfNode E F) nodes → list_all (node_passes test) nodes ≡ true
+  nodes_all [] h = refl
+  nodes_all (node ∷ nodes) h = rw (node_passing node h.0) (nodes_all nodes h.1)
+
+  pub nodes_passing : (nodes : List NodeView) → AllByRecursion (OfNode E F) nodes → IsTrue (nodes_pass test nodes)
+  unfolding nodes_pass
+  nodes_passing nodes h = rw (nodes_all nodes h) refl
+
 -- ---- whole numbers
 
 abbrev Whole : Data → Type 0

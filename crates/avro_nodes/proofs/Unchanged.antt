@@ -1,12 +1,12 @@
 -- Respelling the numbers of a compact text leaves it as it is, where its numbers are whole.
-use Rattle.std.proofs.Common.{◌≡◌, ℕ, zero, suc, ◌+◌, ◌/◌, ◌%◌, ◌^◌, ◌<◌, ◌≤◌, ◌==◌, List, [], ◌∷◌, ◌++◌, length, get_or, Bool, true, false, not, ◌&&◌, ◌||◌, nat_lt, nat_le, cond, Option, Some, refl, sym, ap, subst, ◌∙◌, append_assoc, arith, rules, tests}
+use Rattle.std.proofs.Common.{◌≡◌, ℕ, zero, suc, ◌+◌, ◌/◌, ◌%◌, ◌^◌, ◌<◌, ◌≤◌, ◌==◌, List, [], ◌∷◌, ◌++◌, length, get_or, Bool, true, false, not, ◌&&◌, ◌||◌, nat_lt, cond, Option, Some, refl, sym, ap, subst, ◌∙◌, append_assoc, arith, rules, tests}
 use Rattle.std.specs.Prelude.{pos, negsuc, decimal, slice_index, IsTrue, codes}
 use Rattle.std.specs.Char.{is_ascii_digit, digit_char}
 use Rattle.std.specs.List.{list_all, position_or_len}
 use Rattle.std.specs.Str.Parse.{digits_value}
 use Rattle.std.proofs.lemmas.Nat.{mod_below}
 use Rattle.std.proofs.Math.Nat.{div-lt_iff_lt-mul}
-use Rattle.std.proofs.lemmas.Bool.{false≢true, true≢false}
+use Rattle.std.proofs.lemmas.Bool.{false≢true, true≢false, ltb-true, lt-ltb, le-leb}
 use Rattle.std.proofs.lemmas.Fmt.{decimal_is_IsNumeral, decimal_digit, first_decimal}
 use Rattle.std.proofs.lemmas.List.{append-nil, take_all}
 use Rattle.std.proofs.lemmas.Str.Parse.{digit_at}
@@ -31,7 +31,7 @@ abbrev From : Quoting → List ℕ → Option (List ℕ)
 From q bs = joined (pieces q bs)
 
 -- these bytes are followed by no number character
-abbrev Stops : List ℕ → Type 0
+abbrev pub Stops : List ℕ → Type 0
 Stops [] = Unit {0}
 Stops (c ∷ cs) = is_number_char c ≡ false
 
@@ -93,11 +93,8 @@ digit_inside d false e h = inside_still (87 + d) (λ is. omega (arith, is)) (λ 
 plain_inside : (x : ℕ) → nat_lt 0 (letter_of x) ≡ false → after Inside x ≡ Inside
 plain_inside x e = inside_still x (λ is. true≢false (sym (ap (λ y. nat_lt 0 (letter_of y)) is) ∙ e)) (λ is. true≢false (sym (ap (λ y. nat_lt 0 (letter_of y)) is) ∙ e))
 
-lt_is : (m n : ℕ) → nat_lt m n ≡ true → m < n
-lt_is m n h = search (rules, tests)
-
 below_16 : (x : ℕ) → nat_lt x 32 ≡ true → x / 16 < 16
-below_16 x e = (div-lt_iff_lt-mul {k = 16} {x = x} {y = 16} (omega arith)).1 (omega (arith, lt_is x 32 e))
+below_16 x e = (div-lt_iff_lt-mul {k = 16} {x = x} {y = 16} (omega arith)).1 (omega (arith, ltb-true x 32 e))
 
 escape_stays : (x : ℕ) (short low : Bool) → nat_lt 0 (letter_of x) ≡ short → nat_lt x 32 ≡ low → Stays (escaped x)
 escape_stays x true low e f = rw e (letter_stays (letter_of x))
@@ -133,7 +130,7 @@ run_ends : (c : ℕ) (rest : List ℕ) → Stops rest → in_run c (pieces Outsi
 run_ends c [] s = alone c
 run_ends c (d ∷ ds) s = ap (in_run c) (no_number_next d ds s) ∙ ap (λ ps. run (c ∷ []) ∷ ps) (sym (no_number_next d ds s))
 
-run_copies : (c : ℕ) (cs rest : List ℕ) → list_all is_number_char (c ∷ cs) ≡ true → Stops rest → pieces Outside ((c ∷ cs) ++ rest) ≡ run (c ∷ cs) ∷ pieces Outside rest
+pub run_copies : (c : ℕ) (cs rest : List ℕ) → list_all is_number_char (c ∷ cs) ≡ true → Stops rest → pieces Outside ((c ∷ cs) ++ rest) ≡ run (c ∷ cs) ∷ pieces Outside rest
 run_copies c [] rest e s = number_next c rest (both (is_number_char c) true e).0 ∙ run_ends c rest s
 run_copies c (d ∷ ds) rest e s =
     let h = both (is_number_char c) (list_all is_number_char (d ∷ ds)) e in
@@ -151,7 +148,7 @@ either_spelt : (b : Bool) (s : List ℕ) → respelt s ≡ Some s → cond b (re
 either_spelt true s e = e
 either_spelt false s e = refl
 
-number_chars : (ds : List ℕ) → list_all is_ascii_digit ds ≡ true → list_all is_number_char ds ≡ true
+pub number_chars : (ds : List ℕ) → list_all is_ascii_digit ds ≡ true → list_all is_number_char ds ≡ true
 number_chars [] e = refl
 number_chars (c ∷ cs) e = let h = both (is_ascii_digit c) (list_all is_ascii_digit cs) e in rw (h.0) (number_chars cs h.1)
 
@@ -173,10 +170,10 @@ module _ (n : ℕ) (small : n < 2 ^ 64) where
   abbrev digits : List ℕ
   digits = decimal n
 
-  some_digits : 0 < length digits
+  pub some_digits : 0 < length digits
   some_digits = (decimal_is_IsNumeral n small).0.0
 
-  all_digits : list_all is_ascii_digit digits ≡ true
+  pub all_digits : list_all is_ascii_digit digits ≡ true
   all_digits = own.from digits (decimal_is_IsNumeral n small).0.1
 
   value_is : digits_value 10 digits ≡ n
@@ -184,12 +181,6 @@ module _ (n : ℕ) (small : n < 2 ^ 64) where
 
   first_is : 48 ≤ get_or digits 0 0
   first_is = (digit_at digits 0 (decimal_is_IsNumeral n small).0.1 some_digits).0
-
-lt_true : (m n : ℕ) → m < n → nat_lt m n ≡ true
-lt_true m n h = search (rules, tests)
-
-le_true : (m n : ℕ) → m ≤ n → nat_le m n ≡ true
-le_true m n h = search (rules, tests)
 
 both_true : (a b : Bool) → a ≡ true → b ≡ true → (a && b) ≡ true
 both_true a b e f = rw (e, f) refl
@@ -206,22 +197,22 @@ digits_respelt : (n : ℕ) → n < 2 ^ 64 → respelt (decimal n) ≡ Some (deci
 digits_respelt n h =
     let ds = decimal n in
     let bare : is_minus (slice_index ds 0) ≡ false = other_eqb (get_or ds 0 0) 45 (λ e. omega (arith, e, first_is n h)) in
-    whole_alone ds (no_point ds (all_digits n h)) ∙ rw (bare, digits_are n h, value_is n h, lt_true n (2 ^ 64) h) refl
+    whole_alone ds (no_point ds (all_digits n h)) ∙ rw (bare, digits_are n h, value_is n h, lt-ltb n (2 ^ 64) h) refl
 
 below_respelt : (n : ℕ) → n < 2 ^ 63 → respelt (45 ∷ decimal (suc n)) ≡ Some (45 ∷ decimal (suc n))
 below_respelt n h =
     let ds = decimal (suc n) in
     let point : position_or_len is_point (45 ∷ ds) ≡ length (45 ∷ ds) = omega (arith, no_point ds (all_digits (suc n) (omega arith))) in
-    whole_alone (45 ∷ ds) point ∙ rw (digits_are (suc n) (omega arith), value_is (suc n) (omega arith), le_true (suc n) (2 ^ 63) (omega arith)) refl
+    whole_alone (45 ∷ ds) point ∙ rw (digits_are (suc n) (omega arith), value_is (suc n) (omega arith), le-leb (suc n) (2 ^ 63) (omega arith)) refl
 
 number_copies : (n : Num) → is_whole_number n ≡ true → CopiesUntil (number_text n)
 number_copies (unsigned n) e =
-    let h = lt_is n (2 ^ 64) e in
+    let h = ltb-true n (2 ^ 64) e in
     let ds = decimal n in
     run_until ds (number_chars ds (all_digits n h)) (some_digits n h) (either_spelt (begins_number ds) ds (digits_respelt n h))
 number_copies (negative (pos n)) e = absurd (false≢true e)
 number_copies (negative (negsuc n)) e =
-    let h = lt_is n (2 ^ 63) e in
+    let h = ltb-true n (2 ^ 63) e in
     let s = 45 ∷ decimal (suc n) in
     run_until s (number_chars (decimal (suc n)) (all_digits (suc n) (omega arith))) (omega arith) (either_spelt (begins_number s) s (below_respelt n h))
 number_copies (float x) e = absurd (false≢true e)

@@ -73,11 +73,11 @@ members_on k d ms old named mid new e v w =
 
 -- ---- members in order read as they are
 
-abbrev joined : Members → Members → Members
+abbrev pub joined : Members → Members → Members
 joined no_members ms = ms
 joined (member k d done) ms = member k d (joined done ms)
 
-joined_on : (done : Members) (k : List ℕ) (d : Data) (ms : Members) → joined (joined done (member k d no_members)) ms ≡ joined done (member k d ms)
+pub joined_on : (done : Members) (k : List ℕ) (d : Data) (ms : Members) → joined (joined done (member k d no_members)) ms ≡ joined done (member k d ms)
 joined_on no_members k d ms = refl
 joined_on (member l e done) k d ms = ap (member l e) (joined_on done k d ms)
 
@@ -85,13 +85,13 @@ behind_middle : (l : List ℕ) (done : Members) (k : List ℕ) (d : Data) (ms : 
 behind_middle l no_members k d ms h = h.0
 behind_middle l (member m e done) k d ms h = behind_middle l done k d ms h.1
 
-put_last : (done : Members) (k : List ℕ) (d : Data) (ms : Members) → AreOrdered (joined done (member k d ms)) → put k d done ≡ joined done (member k d no_members)
+pub put_last : (done : Members) (k : List ℕ) (d : Data) (ms : Members) → AreOrdered (joined done (member k d ms)) → put k d done ≡ joined done (member k d no_members)
 put_last no_members k d ms h = refl
 put_last (member l e done) k d ms h =
     let above : order k l ≡ Greater = nat_list_cmp_total.antisymm k l ∙ ap ordering_reverse (behind_middle l done k d ms h.0) in
     rw above (ap (member l e) (put_last done k d ms h.1))
 
-joined_nothing : (done : Members) → joined done no_members ≡ done
+pub joined_nothing : (done : Members) → joined done no_members ≡ done
 joined_nothing no_members = refl
 joined_nothing (member k d done) = ap (member k d) (joined_nothing done)
 
@@ -149,7 +149,7 @@ ordered_put_at Greater k d l e ms is h more =
     let below : order l k ≡ Less = nat_list_cmp_total.antisymm l k ∙ ap ordering_reverse is in
     rw is (behind_put l k d ms below h.0, more)
 
-ordered_put : (k : List ℕ) (d : Data) (ms : Members) → AreOrdered ms → AreOrdered (put k d ms)
+pub ordered_put : (k : List ℕ) (d : Data) (ms : Members) → AreOrdered ms → AreOrdered (put k d ms)
 ordered_put k d no_members h = (tt, tt)
 ordered_put k d (member l e ms) h = ordered_put_at (order k l) k d l e ms refl h (ordered_put k d ms h.1)
 
