@@ -1,32 +1,34 @@
 -- The identity text of a schema denotes it.
-use Rattle.std.proofs.Common.{◌≡◌, ℕ, List, Some, refl, sym, ap, subst, ◌∙◌}
-use Rattle.std.specs.Prelude.{IsTrue}
+use Rattle.std.proofs.Common.{◌≡◌, ℕ, List, true, Some, refl, sym, ap, subst, ◌∙◌}
+use Rattle.std.specs.List.{list_all}
 use Rattle.serde_json.specs.Read.{read}
-use Rattle.avro_nodes.specs.Identity.{identity, identity_value, nodes_pass}
+use Rattle.avro_nodes.specs.Identity.{identity, identity_value, max_nesting, node_passes, nodes_pass, nests_within}
 use Rattle.avro_nodes.specs.Nodes.{NodeView}
-use Rattle.avro_nodes.specs.Whole.{has_whole_numbers}
-use Rattle.avro_nodes.proofs.Plainness.{identity_is_whole}
+use Rattle.avro_nodes.proofs.Reread.{read-identity}
+use Rattle.avro_nodes.proofs.Tidy.{TidyNodes, tidy_nodes_whole}
+use Rattle.avro_nodes.proofs.TidyRead.{tidy_read}
 use Rattle.avro_nodes.proofs.Unchanged.{plain-identity}
-use Rattle.avro_schema.specs.Texts.{TextDenotes, Keeps}
-use Rattle.avro_schema.proofs.Passing.{denoted_whole}
+use Rattle.avro_schema.specs.Texts.{TextDenotes, IsSchema, Keeps}
+use Rattle.avro_schema.proofs.Passing.{denoted_nest, denoted_tidy}
 use Rattle.avro_schema.proofs.RoundTrip.{identity_denotes}
 use Rattle.avro_schema.proofs.TextLemmas.{one_schema}
 
-whole_nodes : (text : List ℕ) (nodes : List NodeView) → TextDenotes text nodes → IsTrue (nodes_pass has_whole_numbers nodes)
+-- the identity text is read as the identity value
+text_reads : (nodes : List NodeView) → TidyNodes nodes → list_all (node_passes (nests_within max_nesting)) nodes ≡ true → read (identity nodes) ≡ Some (identity_value nodes)
 unfolding nodes_pass
-whole_nodes text nodes t = rw (denoted_whole t.type_is t.whole) refl
+text_reads nodes tidy nests = read-identity nodes tidy (rw nests refl)
 
-identity_text_denotes : (text : List ℕ) (nodes : List NodeView) → TextDenotes text nodes → read (identity nodes) ≡ Some (identity_value nodes) → TextDenotes (identity nodes) nodes
-identity_text_denotes text nodes t reads =
-    let whole = whole_nodes text nodes t in
+-- the identity text of each schema denotes it
+pub identity_text_denotes : (nodes : List NodeView) → IsSchema nodes → TextDenotes (identity nodes) nodes
+identity_text_denotes nodes (text, t) =
+    let tidy = denoted_tidy t.type_is (tidy_read text t.respelt t.value t.plain_is t.value_is) in
     record {
       respelt = identity nodes;
       value = identity_value nodes;
       known = t.known;
       short = t.bounded;
-      plain_is = plain-identity nodes whole;
-      value_is = reads;
-      whole = identity_is_whole nodes whole;
+      plain_is = plain-identity nodes (tidy_nodes_whole nodes tidy);
+      value_is = text_reads nodes tidy (denoted_nest t.type_is);
       type_is = identity_denotes t.value 0 nodes t.known t.type_is;
       defaults = t.defaults;
       bounded = t.bounded;
@@ -34,7 +36,7 @@ identity_text_denotes text nodes t reads =
 
 -- the text that a schema keeps denotes it
 pub kept_denotes : (nodes : List NodeView) (text : List ℕ) → Keeps nodes text → TextDenotes text nodes
-kept_denotes nodes text k = rw k.text_is (identity_text_denotes k.schema.0 nodes k.schema.1 (rw k.text_is at k.reads))
+kept_denotes nodes text k = rw k.text_is (identity_text_denotes nodes k.schema)
 
 -- schemas with one identity text are one
 pub same_kept : (xs ys : List NodeView) (s t : List ℕ) → Keeps xs s → Keeps ys t → s ≡ t → xs ≡ ys

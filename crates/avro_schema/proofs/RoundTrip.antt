@@ -16,14 +16,12 @@ use Rattle.avro_schema.specs.declared.words.Word.TheVariants as word
 use Rattle.avro_schema.specs.Names.{Known, none_known, is_space, defined, resolved}
 use Rattle.avro_schema.specs.Words.{kind_of, word_of, kind_or_other}
 use Rattle.avro_schema.specs.Members.{max_nesting, size_of}
-use Rattle.avro_schema.specs.Parts.{Part, max_places}
+use Rattle.avro_schema.specs.Parts.{max_places}
 use Rattle.avro_schema.specs.Weight.{names_size}
 use Rattle.avro_schema.specs.Mentions.{mention, places_mentions, fields_mentions, mentions}
-use Rattle.avro_schema.specs.Reading.{branch_kind, type_at}
+use Rattle.avro_schema.specs.Reading.{branch_kind}
 use Rattle.avro_schema.specs.Denotes.{Others, IsNamed, IsEnum, IsField, Denotes, a_primitive, a_reference, primitive_type, reference_type, array_type, map_type, fixed_type, enum_type, record_type, union_type}
 use Rattle.avro_schema.specs.Denotes.{Branches, no_branch, branch, Fields, no_field, field, array_keys, map_keys, fixed_keys, enum_keys, record_keys, AllDiffer}
-use Rattle.avro_schema.proofs.Computes.{computes}
-use Rattle.avro_schema.proofs.Sound.{says}
 use Rattle.avro_schema.proofs.Inversion.{same_bytes}
 use Rattle.avro_schema.proofs.RoundNames.{kind_again, refers, good_namespace}
 use Rattle.avro_schema.proofs.RoundDeclarations.{good_named, primitive_says, primitive_others, array_says, array_items, array_others, map_says, map_values, map_others, fixed_says, fixed_name, fixed_size, fixed_others, size_again, enum_says, enum_name, enum_again, enum_others, record_says, record_name, record_fields, record_others, field_type, field_again}
@@ -363,16 +361,6 @@ identity_denotes d place nodes known given =
     let root : place ≡ 0 = omega (arith, t.within) in
     let written : (t.value, 0 + length nodes) ≡ spelt_at max_nesting nodes [] 0 0 = sym (ap (λ (q : ℕ). spelt_at max_nesting nodes [] q 0) (sym root) ∙ t.spelt) in
     subst (λ (x : Spelt Data). Denotes max_nesting [] x.0 none_known 0 place nodes known) written t.again
-
--- the same, computed
-pub identity_reads : (d : Data) (p : Part ℕ) → type_at max_nesting [] d none_known 0 ≡ Some p → type_at max_nesting [] (identity_value p.nodes) none_known 0 ≡ Some p
-identity_reads d p e = computes (identity_denotes d p.it p.nodes p.known (says max_nesting [] d none_known 0 p e))
-
--- the root is at place 0
-pub root_is_first : (d : Data) (place : ℕ) (nodes : List NodeView) (known : Known) → Denotes max_nesting [] d none_known 0 place nodes known → place ≡ 0
-root_is_first d place nodes known given =
-    let t = trips given nodes [] [] (sym (append-nil nodes)) refl (nothing_known nodes 0) refl in
-    omega (arith, t.within)
 
 module _ (d : Data) (place : ℕ) (nodes : List NodeView) (known : Known) (given : Denotes max_nesting [] d none_known 0 place nodes known) where
   abbrev root_trip : Trip max_nesting nodes [] none_known 0 place nodes known

@@ -7,9 +7,11 @@ use Rattle.serde_json.specs.Data.{Data, Items}
 use Rattle.serde_json.specs.Read.{read}
 use Rattle.avro_nodes.specs.Nodes.{FieldView, NodeView}
 use Rattle.avro_nodes.specs.Names.{has_dot}
-use Rattle.avro_nodes.specs.Identity.{identity, nodes_pass, nests_within}
+use Rattle.avro_nodes.specs.Identity.{identity, nodes_pass}
 use Rattle.avro_nodes.specs.Plain.{plain}
 use Rattle.avro_nodes.specs.Whole.{has_whole_numbers}
+use Rattle.avro_nodes.proofs.Tidy.{tidy_nodes_whole}
+use Rattle.avro_nodes.proofs.TidyRead.{tidy_read}
 use Rattle.avro_schema.specs.Names.{Known, none_known, or_else, resolved}
 use Rattle.avro_schema.specs.Parts.{max_places}
 use Rattle.avro_schema.specs.Members.{◌>>=◌, max_nesting}
@@ -22,10 +24,10 @@ use Rattle.avro_schema.specs.Mentions.{mentions}
 use Rattle.avro_schema.specs.Outcome.{Fails, Adds}
 use Rattle.avro_schema.specs.declared.error.SchemaError.{SchemaError}
 use Rattle.avro_schema.specs.declared.error.SchemaError.TheVariants.{NotJson, BadNumber, BadName, Undefined, Redefined, BadShape, BadUnion, BadDefault, TooLarge, OutOfMemory}
-use Rattle.avro_schema.proofs.Inversion.{bind2, guard_some}
+use Rattle.avro_schema.proofs.Inversion.{bind_some, bind2, guard_some}
 use Rattle.avro_schema.proofs.Computes.{computes}
 use Rattle.avro_schema.proofs.Sound.{says}
-use Rattle.avro_schema.proofs.Passing.{denoted_nest, denoted_whole}
+use Rattle.avro_schema.proofs.Passing.{denoted_nest, denoted_tidy}
 use Rattle.avro_schema.proofs.Fitting.{defaults_say, defaults_compute}
 use Rattle.avro_schema.proofs.RoundTrip.{names_bounded, mentions_bounded}
 use Rattle.avro_schema.proofs.WeightLemmas.{weighs}
@@ -54,17 +56,13 @@ pub typed_is : (text : List ℕ) (d : Data) (p : ℕ) (after : List NodeView) (k
 unfolding typed root_in
 typed_is text d p after known2 short e light root = rw (nat_le_yes (length text) max_text short, e, light, root.is, ← root.after_is) refl
 
-value_says : (text : List ℕ) (d : Data) → value_in text ≡ Some d → (respelt : List ℕ) × (plain text ≡ Some respelt) × (read respelt ≡ Some d) × (has_whole_numbers d ≡ true)
+value_says : (text : List ℕ) (d : Data) → value_in text ≡ Some d → (respelt : List ℕ) × (plain text ≡ Some respelt) × (read respelt ≡ Some d)
 unfolding value_in
-value_says text d e =
-    let q = bind2 (plain text) (λ respelt. read respelt) (λ _ value. cond (has_whole_numbers value) (Some value) None) d e in
-    let g = guard_some (has_whole_numbers q.1) (Some q.1) d q.4 in
-    let same : q.1 ≡ d = same_Some _ _ g.1 in
-    (q.0, q.2, q.3 ∙ ap (λ (x : Data). Some x) same, ap has_whole_numbers (sym same) ∙ g.0)
+value_says text d e = bind_some (plain text) (λ respelt. read respelt) d e
 
-value_computes : (text respelt : List ℕ) (d : Data) → plain text ≡ Some respelt → read respelt ≡ Some d → has_whole_numbers d ≡ true → value_in text ≡ Some d
+value_computes : (text respelt : List ℕ) (d : Data) → plain text ≡ Some respelt → read respelt ≡ Some d → value_in text ≡ Some d
 unfolding value_in
-value_computes text respelt d e f g = rw (e, f, g) refl
+value_computes text respelt d e f = rw (e, f) refl
 
 -- ---- the root stands at place 0
 
@@ -125,7 +123,6 @@ pub record Types (text : List ℕ) (nodes : List NodeView) : Type 0 where
   pub short : length text ≤ max_text
   pub plain_is : plain text ≡ Some respelt
   pub value_is : read respelt ≡ Some value
-  pub whole : has_whole_numbers value ≡ true
   pub type_is : Denotes max_nesting [] value none_known 0 0 nodes known
 
 pub typed_says : (text : List ℕ) (nodes : List NodeView) → typed text ≡ Some nodes → Types text nodes
@@ -144,25 +141,21 @@ typed_says text nodes e =
       short = nat_le_says (length text) max_text g.0;
       plain_is = v.1;
       value_is = v.2;
-      whole = v.3;
       type_is = subst (λ (x : List NodeView). Denotes max_nesting [] q.0 none_known 0 0 x q.1.known) same (subst (λ (place : ℕ). Denotes max_nesting [] q.0 none_known 0 place q.1.nodes q.1.known) (root_place root refl) root);
     }
 
-typed_computes : (text respelt : List ℕ) (value : Data) (known : Known) (nodes : List NodeView) → length text ≤ max_text → plain text ≡ Some respelt → read respelt ≡ Some value → has_whole_numbers value ≡ true
+typed_computes : (text respelt : List ℕ) (value : Data) (known : Known) (nodes : List NodeView) → length text ≤ max_text → plain text ≡ Some respelt → read respelt ≡ Some value
     → Denotes max_nesting [] value none_known 0 0 nodes known → length (identity nodes) ≤ max_text → typed text ≡ Some nodes
 unfolding typed root_in
-typed_computes text respelt value known nodes short p v w t bounded =
+typed_computes text respelt value known nodes short p v t bounded =
     let light : weight max_nesting [] value ≤ max_text = omega (arith, weighs t, names_bounded value 0 nodes known t, bounded) in
-    rw (nat_le_yes (length text) max_text short, value_computes text respelt value p v w, nat_le_yes (weight max_nesting [] value) max_text light, computes t) refl
+    rw (nat_le_yes (length text) max_text short, value_computes text respelt value p v, nat_le_yes (weight max_nesting [] value) max_text light, computes t) refl
 
--- the conditions of the identity text
+-- the condition of the identity text
 pub typed_whole : (text : List ℕ) (nodes : List NodeView) → typed text ≡ Some nodes → IsTrue (nodes_pass has_whole_numbers nodes)
-unfolding nodes_pass
-typed_whole text nodes e = let t = typed_says text nodes e in rw (denoted_whole t.type_is t.whole) refl
-
-pub typed_nest : (text : List ℕ) (nodes : List NodeView) → typed text ≡ Some nodes → IsTrue (nodes_pass (nests_within 24) nodes)
-unfolding nodes_pass
-typed_nest text nodes e = let t = typed_says text nodes e in rw (denoted_nest t.type_is) refl
+typed_whole text nodes e =
+    let t = typed_says text nodes e in
+    tidy_nodes_whole nodes (denoted_tidy t.type_is (tidy_read text t.respelt t.value t.plain_is t.value_is))
 
 -- ---- texts
 
@@ -177,7 +170,6 @@ denoted_says text nodes e fit short =
       short = t.short;
       plain_is = t.plain_is;
       value_is = t.value_is;
-      whole = t.whole;
       type_is = t.type_is;
       defaults = defaults_say nodes nodes fit;
       bounded = short;
@@ -185,7 +177,7 @@ denoted_says text nodes e fit short =
 
 -- what is denoted is computed
 pub denotes_typed : (text : List ℕ) (nodes : List NodeView) → TextDenotes text nodes → typed text ≡ Some nodes
-denotes_typed text nodes t = typed_computes text t.respelt t.value t.known nodes t.short t.plain_is t.value_is t.whole t.type_is t.bounded
+denotes_typed text nodes t = typed_computes text t.respelt t.value t.known nodes t.short t.plain_is t.value_is t.type_is t.bounded
 
 pub denotes_fitting : (text : List ℕ) (nodes : List NodeView) → TextDenotes text nodes → node_defaults_fit nodes nodes ≡ true
 denotes_fitting text nodes t = defaults_compute nodes nodes t.defaults (denoted_nest t.type_is)

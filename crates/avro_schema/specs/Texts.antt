@@ -1,11 +1,10 @@
 -- What a text denotes.
-use Rattle.std.specs.Prelude.{◌≡◌, ℕ, ◌≤◌, List, [], length, nat_le, true, ◌&&◌, if◌then◌else◌, Option, Some, None}
+use Rattle.std.specs.Prelude.{◌≡◌, ℕ, ◌≤◌, List, [], length, nat_le, ◌&&◌, if◌then◌else◌, Option, Some, None}
 use Rattle.serde_json.specs.Data.{Data}
 use Rattle.serde_json.specs.Read.{read}
 use Rattle.avro_nodes.specs.Nodes.{NodeView}
 use Rattle.avro_nodes.specs.Plain.{plain}
-use Rattle.avro_nodes.specs.Whole.{has_whole_numbers}
-use Rattle.avro_nodes.specs.Identity.{identity, identity_value}
+use Rattle.avro_nodes.specs.Identity.{identity}
 use Rattle.avro_schema.specs.Names.{Known, none_known}
 use Rattle.avro_schema.specs.Members.{◌>>=◌, max_nesting}
 use Rattle.avro_schema.specs.Parts.{Part}
@@ -19,8 +18,7 @@ abbrev pub max_text : ℕ
 max_text = 1048576
 
 -- The text, whose numbers are whole ones of 64 bits, is read as JSON, and the value denotes these nodes: in the null namespace, with no names known
--- before, and from place 0 on, where the root is. Each default fits its field, and the identity text is no longer than a text may be. That the value
--- has whole numbers follows from the rule for the numbers in a text; it is said once more.
+-- before, and from place 0 on, where the root is. Each default fits its field, and the identity text is no longer than a text may be.
 pub record TextDenotes (text : List ℕ) (nodes : List NodeView) : Type 0 where
   pub respelt : List ℕ
   pub value : Data
@@ -28,7 +26,6 @@ pub record TextDenotes (text : List ℕ) (nodes : List NodeView) : Type 0 where
   pub short : length text ≤ max_text
   pub plain_is : plain text ≡ Some respelt
   pub value_is : read respelt ≡ Some value
-  pub whole : has_whole_numbers value ≡ true
   pub type_is : Denotes max_nesting [] value none_known 0 0 nodes known
   pub defaults : DefaultsFit nodes
   pub bounded : length (identity nodes) ≤ max_text
@@ -41,7 +38,6 @@ IsSchema nodes = (text : List ℕ) × TextDenotes text nodes
 pub record Keeps (nodes : List NodeView) (text : List ℕ) : Type 0 where
   pub schema : IsSchema nodes
   pub text_is : text ≡ identity nodes
-  pub reads : read text ≡ Some (identity_value nodes)
 
 -- ---- the same, computed
 
@@ -49,8 +45,7 @@ pub record Keeps (nodes : List NodeView) (text : List ℕ) : Type 0 where
 unfoldable pub value_in : List ℕ → Option Data
 value_in text = do
   respelt ← plain text
-  value ← read respelt
-  if has_whole_numbers value then Some value else None
+  read respelt
 
 -- The root of a value. The names of its definitions stand in the identity text, so that they are no longer than it may be.
 unfoldable pub root_in : Data → Option (Part ℕ)

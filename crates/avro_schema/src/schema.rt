@@ -12,7 +12,7 @@ use crate::mentions::mentions_fit;
 use crate::names::Places;
 use crate::reading::type_at;
 use crate::weight::names_fit;
-use avro_nodes::{Node, OutOfMemory, has_whole_numbers, identity_of, plain_of};
+use avro_nodes::{Node, OutOfMemory, identity_of, plain_of};
 use serde_json::Value;
 use std::alloc::Global;
 use std::marker::Model;
@@ -57,20 +57,15 @@ fn value_of(alloc: Global, text: &str) -> Result<Value, SchemaError>
     let Some(respelt) = plain_of(alloc, text)? else {
         return Err(SchemaError::BadNumber);
     };
-    let value = match Value::from_str(alloc, respelt.as_str()) {
-        Ok(value) => value,
+    match Value::from_str(alloc, respelt.as_str()) {
+        Ok(value) => Ok(value),
         Err(e) => {
-            return if e.is_memory() {
+            if e.is_memory() {
                 Err(SchemaError::OutOfMemory)
             } else {
                 Err(SchemaError::NotJson)
-            };
+            }
         }
-    };
-    if has_whole_numbers(&value) {
-        Ok(value)
-    } else {
-        Err(SchemaError::BadNumber)
     }
 }
 
@@ -154,3 +149,9 @@ impl Schema {
         &self.nodes[place as usize]
     }
 }
+
+/// A law: the identity text of each schema denotes it. The schema need not have been read here:
+/// that some text denotes its nodes is enough.
+pub fn identity_denotes()
+    ensures { (nodes : List NodeView) → IsSchema nodes → TextDenotes (identity nodes) nodes }
+{}

@@ -2,7 +2,7 @@
 
 use crate::mentions::mentions_fit;
 use crate::weight::names_fit;
-use crate::{Schema, SchemaError};
+use crate::{Schema, SchemaError, identity_denotes};
 use avro_nodes::{Extra, Named, Node};
 use serde_json::Value;
 use std::alloc::{AllocError, Global};
@@ -479,6 +479,7 @@ fn places_and_nodes(rt: HostRuntime) -> Result<(), Fail> {
         r#"{"items":[{"name":"F","size":3.0,"type":"fixed"},{"type":"int"}],"type":"array"}"#,
     )?;
     assert!(rt; first.is_same(&second));
+    identity_denotes();
     let third = Schema::read(
         alloc,
         r#"{"type":"array","items":[{"type":"fixed","name":"F","size":4},"int"]}"#,

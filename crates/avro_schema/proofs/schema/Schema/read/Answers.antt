@@ -3,7 +3,7 @@ use Rattle.std.proofs.lemmas.Result.{err_from_is_err_and}
 use Rattle.avro_nodes.specs.Identity.{identity}
 use Rattle.avro_nodes.specs.Nodes.{nodes_view}
 use Rattle.avro_schema.specs.Texts.{max_text}
-use Rattle.avro_schema.proofs.TextLemmas.{refused, typed_whole, typed_nest, denoted_says, one_schema, none_typed, none_mentioned, none_fitting, none_bounded}
+use Rattle.avro_schema.proofs.TextLemmas.{refused, typed_whole, denoted_says, one_schema, none_typed, none_mentioned, none_fitting, none_bounded}
 use Rattle.avro_schema.proofs.schema.Schema.read.Goals as goal
 
 pub returns-in_err-nodes : goal.returns-in_err-nodes
@@ -30,13 +30,11 @@ returns-then-len-gt-MAX_TEXT-clause-err c =
 pub invariant_of-result : goal.invariant_of-result
 invariant_of-result c =
     let whole = typed_whole _ _ c.in_ok-nodes.ensures in
-    let nests = typed_nest _ _ c.in_ok-nodes.ensures in
     let is = rw c.deref-3.ensures.value at c.in_ok-text.ensures.text in
-    let reads = rw c.deref-3.ensures.value at c.in_ok-text.ensures.reads in
     let same = ap length (is whole) in
     let short : length (identity (nodes_view c.in_ok-nodes.nodes.items)) ≤ max_text = omega arith in
     let fit = rw c.deref-2.ensures.value at (sym c.in_ok-defaults_fit.ensures ∙ c.if-not-branch.false) in
-    record { schema = (c.args.text.now, denoted_says _ _ c.in_ok-nodes.ensures fit short); text_is = is whole; reads = reads nests }
+    record { schema = (c.args.text.now, denoted_says _ _ c.in_ok-nodes.ensures fit short); text_is = is whole }
 
 pub returns : goal.returns
 returns c =
