@@ -12,6 +12,7 @@ pub mod Digits
 pub mod Written
 pub mod Forms
 pub mod Printed
+pub mod Shallow
 pub mod Tidy
 pub mod Reread
 pub mod Respelt

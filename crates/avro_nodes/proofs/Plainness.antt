@@ -1,16 +1,16 @@
--- What is written for nodes with whole numbers has such numbers alone, and nests no deeper than JSON is read.
-use Rattle.std.proofs.Common.{◌≡◌, ℕ, ◌+◌, ◌≤◌, List, [], ◌∷◌, Bool, true, false, ◌&&◌, Option, Some, None, refl, arith}
+-- What is written for nodes with whole numbers has such numbers alone.
+use Rattle.std.proofs.Common.{◌≡◌, ℕ, List, [], ◌∷◌, Bool, true, false, ◌&&◌, Option, Some, None, refl}
 use Rattle.std.specs.Prelude.{IfSome, IsTrue}
 use Rattle.std.specs.List.{list_all, AllByRecursion}
-use Rattle.std.proofs.lemmas.Bool.{false≢true, leb-true}
+use Rattle.std.proofs.lemmas.Bool.{false≢true}
 use Rattle.serde_json.specs.Data.{Num, negative, float, Data, null, boolean, string, number, unsigned, object, Items, no_items, item, Members, no_members, member, depth, items_depth, members_depth}
 use Rattle.serde_json.specs.Data as json
 use Rattle.serde_json.specs.Find.{is_float}
 use Rattle.serde_json.specs.Written.{has_float, items_have_float, members_have_float}
 use Rattle.avro_nodes.specs.Nodes.{FieldView, NodeView, primitive, array, mapping, union, enumeration, fixed, rec}
-use Rattle.avro_nodes.specs.Identity.{texts, identity_value, max_nesting, members_pass, value_passes, field_passes, node_passes, nodes_pass, nests_within}
+use Rattle.avro_nodes.specs.Identity.{texts, identity_value, max_nesting, members_pass, value_passes, field_passes, node_passes, nodes_pass}
 use Rattle.avro_nodes.specs.Whole.{is_whole_number, has_whole_numbers, items_have_whole_numbers, members_have_whole_numbers}
-use Rattle.avro_nodes.proofs.Carried.{AllMembers, AllItems, OfField, OfNode, all_put, all_weaker, spelt_is}
+use Rattle.avro_nodes.proofs.Carried.{AllMembers, AllItems, OfField, OfNode, all_put, spelt_is}
 
 pub both : (a b : Bool) → (a && b) ≡ true → (a ≡ true) × (b ≡ true)
 both true b e = (refl, e)
@@ -130,32 +130,3 @@ mutual
 
 pub identity_has_no_float : (nodes : List NodeView) → IsTrue (nodes_pass has_whole_numbers nodes) → has_float (identity_value nodes) ≡ false
 identity_has_no_float nodes e = no_float (identity_value nodes) (identity_is_whole nodes e)
-
--- ---- nesting
-
-abbrev Nests : ℕ → Data → Type 0
-Nests n d = depth d ≤ n + 24
-
-abbrev Shallow : Data → Type 0
-Shallow d = nests_within 24 d ≡ true
-
-shallow : (n : ℕ) (d : Data) → Shallow d → Nests n d
-shallow n d h = omega (arith, leb-true (depth d) 24 h)
-
-nest_members : (n : ℕ) (ms : Members) → AllMembers (Nests n) ms → members_depth ms ≤ n + 24
-nest_members n no_members h = omega arith
-nest_members n (member k d ms) h = omega (arith, h.0, nest_members n ms h.1)
-
-nest_items : (n : ℕ) (ds : Items) → AllItems (Nests n) ds → items_depth ds ≤ n + 24
-nest_items n no_items h = omega arith
-nest_items n (item d ds) h = omega (arith, h.0, nest_items n ds h.1)
-
-nest_texts : (ts : List (List ℕ)) → items_depth (texts ts) ≡ 0
-nest_texts [] = refl
-nest_texts (t ∷ ts) = omega (arith, nest_texts ts)
-
-pub identity_nests : (nodes : List NodeView) → IsTrue (nodes_pass (nests_within 24) nodes) → depth (identity_value nodes) ≤ 96
-identity_nests nodes e =
-    spelt_is Shallow (AllMembers Shallow) Nests (λ n ms. AllMembers (Nests n) ms) (λ n d h. shallow n d h) (λ n ms h. all_weaker Shallow (Nests n) (shallow n) ms h)
-    (λ n k d ms h g. all_put (Nests n) k d ms h g) (λ n k d h. omega (arith, h)) (λ n. omega arith) (λ n t. omega arith) (λ n ts. omega (arith, nest_texts ts))
-    (λ n ds h. omega (arith, nest_items n ds h)) (λ n ms h. omega (arith, nest_members n ms h)) max_nesting nodes (nodes_are (nests_within 24) nodes e) [] 0 0

@@ -1,6 +1,5 @@
--- What is written for a tidy value is read back as that value, and so is the identity text of tidy nodes.
+-- What is written for a tidy value is read back as that value, and so is the identity text of tidy and shallow nodes.
 use Rattle.std.proofs.Common.{◌≡◌, ℕ, suc, ◌^◌, ◌<◌, ◌≤◌, ◌==◌, pos, negsuc, List, [], ◌∷◌, length, get_or, true, false, max, decimal, Option, Some, option_map, option_and_then, refl, sym, ap, ap₂, subst, ◌∙◌, append-nil, arith}
-use Rattle.std.specs.Prelude.{IsTrue}
 use Rattle.std.proofs.lemmas.Bool.{false≢true, ltb-true, ne_eqb}
 use Rattle.std.proofs.lemmas.Fmt.{decimal_is_IsNumeral}
 use Rattle.std.proofs.lemmas.Str.Parse.{digit_at}
@@ -21,8 +20,8 @@ use Rattle.serde_json.proofs.Texts.{print-outline}
 use Rattle.avro_nodes.specs.Nodes.{NodeView}
 use Rattle.avro_nodes.specs.Objects.{AreOrdered}
 use Rattle.avro_nodes.specs.Whole.{is_whole_number}
-use Rattle.avro_nodes.specs.Identity.{identity, identity_value, nodes_pass, nests_within}
-use Rattle.avro_nodes.proofs.Plainness.{identity_nests}
+use Rattle.avro_nodes.specs.Identity.{identity, identity_value}
+use Rattle.avro_nodes.proofs.Shallow.{ShallowNodes, identity_nests}
 use Rattle.avro_nodes.proofs.Tidy.{IsTidy, TidyItems, TidyMembers, TidyNodes, tidy_ordered, identity_is_tidy}
 use Rattle.avro_nodes.proofs.Written.{joined, joined_on, put_last, joined_nothing}
 
@@ -130,6 +129,6 @@ read-compact_text d t shallow =
     let same : tokens (compact_text d) ≡ ts = ap tokens (sym (print-outline d)) ∙ tokens-print ts (ArePrintable-json_tokens (outline d) (numbers_are d t)) in
     ap finished (ap (json.value max_depth) (same ∙ sym (append-nil ts)) ∙ value-json_tokens (outline d) max_depth [] (omega (arith, same_depth d, shallow))) ∙ of_outline d t
 
--- the identity text of tidy nodes is read as their identity value
-pub read-identity : (nodes : List NodeView) → TidyNodes nodes → IsTrue (nodes_pass (nests_within 24) nodes) → read (identity nodes) ≡ Some (identity_value nodes)
-read-identity nodes t nests = read-compact_text (identity_value nodes) (identity_is_tidy nodes t) (omega (arith, identity_nests nodes nests))
+-- the identity text of tidy and shallow nodes is read as their identity value
+pub read-identity : (nodes : List NodeView) → TidyNodes nodes → ShallowNodes nodes → read (identity nodes) ≡ Some (identity_value nodes)
+read-identity nodes t shallow = read-compact_text (identity_value nodes) (identity_is_tidy nodes t) (omega (arith, identity_nests nodes shallow))

@@ -1,8 +1,8 @@
 -- The identity text of a schema: one JSON text for its nodes (this project's choice of form; Avro 1.11 specification, Schema
 -- Declaration; RFC 8259).
-use Rattle.std.specs.Prelude.{ℕ, zero, suc, ◌+◌, ◌==◌, ◌&&◌, nat_le, Bool, true, List, [], ◌∷◌, if◌then◌else◌, Option, Some, None, option_map, codes, slice_get}
+use Rattle.std.specs.Prelude.{ℕ, zero, suc, ◌+◌, ◌==◌, ◌&&◌, Bool, true, List, [], ◌∷◌, if◌then◌else◌, Option, Some, None, option_map, codes, slice_get}
 use Rattle.std.specs.List.{list_all}
-use Rattle.serde_json.specs.Data.{Data, null, string, number, unsigned, object, Items, no_items, item, Members, no_members, member, put, depth}
+use Rattle.serde_json.specs.Data.{Data, null, string, number, unsigned, object, Items, no_items, item, Members, no_members, member, put}
 use Rattle.serde_json.specs.Data as json
 use Rattle.serde_json.specs.Written.{compact_text}
 use Rattle.avro_nodes.specs.declared.node.Kind.{Kind}
@@ -172,7 +172,3 @@ node_passes test (rec named fields extra) = list_all (field_passes test) fields 
 
 unfoldable pub nodes_pass : (Data → Bool) → List NodeView → Bool
 nodes_pass test nodes = list_all (node_passes test) nodes
-
--- arrays and objects nest no deeper than the number
-abbrev pub nests_within : ℕ → Data → Bool
-nests_within n d = nat_le (depth d) n

@@ -2,15 +2,14 @@
 //! stands where it is first reached, and names are full names (Avro 1.11 specification, Schema
 //! Declaration, Names; the form is this project's choice).
 
-ghost use Rattle.std.specs.Prelude.{IsTrue, ◌≡◌, ◌<◌, ◌≤◌, ℕ, List, length, option_map, string_bytes, slice_get, IfSome, IfOk, OnOk, map, Some};
+ghost use Rattle.std.specs.Prelude.{IsTrue, ◌≡◌, ◌<◌, ◌≤◌, ℕ, List, length, option_map, string_bytes, slice_get, IfSome, IfOk, OnOk, map};
 ghost use Rattle.json.specs.Token.{Token};
 ghost use Rattle.serde_json.specs.Data.{Items, array};
-ghost use Rattle.serde_json.specs.Read.{read};
 ghost use Rattle.serde_json.specs.View.{members_view};
 ghost use Rattle.serde_json.specs.Written.{WritesValue};
 ghost use Rattle.avro_nodes.specs.Whole.{has_whole_numbers};
 ghost use Rattle.avro_nodes.specs.Nodes.{texts_view, named_view, field_view, node_view, nodes_view};
-ghost use Rattle.avro_nodes.specs.Identity.{kind_text as kind_text_of, primitive_value, array_value, map_value, enum_value, fixed_value, record_value, field_value, name_of as name_of_view, spelt_at, branch_items, field_items, identity_value, identity, nodes_pass, nests_within};
+ghost use Rattle.avro_nodes.specs.Identity.{kind_text as kind_text_of, primitive_value, array_value, map_value, enum_value, fixed_value, record_value, field_value, name_of as name_of_view, spelt_at, branch_items, field_items, identity, nodes_pass};
 ghost use Rattle.avro_nodes.specs.Objects.{merged, Ends, Awaits, array_end, record_end, WritesSpelt, spelt_array};
 
 use crate::attributes::{
@@ -324,8 +323,6 @@ fn write_fields(
 pub fn identity_of(alloc: Global, nodes: &[Node]) -> Result<String, OutOfMemory>
     ensures text { IfOk result (λ s. IsTrue (nodes_pass has_whole_numbers (nodes_view nodes.now))
         → string_bytes s ≡ identity (nodes_view nodes.now)) }
-    ensures reads { IfOk result (λ s. IsTrue (nodes_pass (nests_within 24) (nodes_view nodes.now))
-        → read (string_bytes s) ≡ Some (identity_value (nodes_view nodes.now))) }
 {
     let mut out = Compact::new(alloc)?;
     let mut written = 0;

@@ -9,14 +9,12 @@ mod names;
 mod node;
 mod plain;
 mod value;
-mod whole;
 
 pub use error::OutOfMemory;
 pub use identity::identity_of;
 pub use names::{has_dot, namespace_of};
 pub use node::{Extra, Field, Kind, Named, Node, Order};
 pub use plain::plain_of;
-pub use whole::has_whole_numbers;
 
 #[cfg(test)]
 mod tests;

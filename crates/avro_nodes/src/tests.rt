@@ -1,9 +1,6 @@
 //! Expected texts are those of the project's profile, written out.
 
-use crate::{
-    Extra, Field, Kind, Named, Node, Order, has_dot, has_whole_numbers, identity_of, namespace_of,
-    plain_of,
-};
+use crate::{Extra, Field, Kind, Named, Node, Order, has_dot, identity_of, namespace_of, plain_of};
 use serde_json::Value;
 use std::alloc::Global;
 use std::test::Fail;
@@ -72,26 +69,6 @@ fn numbers(rt: HostRuntime) -> Result<(), Fail> {
     }
     for text in REFUSED {
         assert!(rt; plain_of(rt.alloc(), text)?.is_none(), "{text}");
-    }
-    Ok(())
-}
-
-#[test]
-fn whole_numbers(rt: HostRuntime) -> Result<(), Fail> {
-    let texts = [
-        (
-            "[1,-1,0,18446744073709551615,-9223372036854775808,\"1.5\",true,null]",
-            true,
-        ),
-        ("{\"a\":{\"b\":[]}}", true),
-        ("1.5", false),
-        ("-0", false),
-        ("[1,[1.0]]", false),
-        ("{\"a\":1,\"b\":{\"c\":18446744073709551616}}", false),
-    ];
-    for (text, want) in texts {
-        let value = Value::from_str(rt.alloc(), text)?;
-        assert_eq!(rt; has_whole_numbers(&value), want, "{text}");
     }
     Ok(())
 }

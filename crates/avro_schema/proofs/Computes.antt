@@ -1,7 +1,6 @@
 -- The reading by computation gives what the rules say.
-use Rattle.std.proofs.Common.{◌≡◌, ℕ, ◌<◌, ◌≤◌, List, [], ◌∷◌, map, true, Option, Some, None, codes, refl, arith}
-use Rattle.std.specs.Prelude.{nat_le}
-use Rattle.std.proofs.lemmas.Bool.Decides.{nat_tests}
+use Rattle.std.proofs.Common.{◌≡◌, ℕ, ◌<◌, ◌≤◌, List, [], ◌∷◌, map, Option, Some, None, codes, refl, arith}
+use Rattle.std.proofs.lemmas.Bool.{le-leb}
 use Rattle.serde_json.specs.Data.{Data, Items, Members, no_members, depth, members_depth}
 use Rattle.serde_json.specs.Find.{get_member}
 use Rattle.avro_nodes.specs.Nodes.{NamedView, FieldView, NodeView, enumeration, fixed}
@@ -17,12 +16,9 @@ use Rattle.avro_schema.proofs.Inversion.{room_there, get_past, text_past, items_
 abbrev made : {A : Type 0} → A → List NodeView → Known → Option (Part A)
 made it nodes known = Some (record { it = it; nodes = nodes; known = known })
 
-nat_le_yes : (a b : ℕ) → a ≤ b → nat_le a b ≡ true
-nat_le_yes a b h = grind (arith, nat_tests)
-
 pub bound_there : (ms : Members) → members_depth ms ≤ max_nesting → bounded ms ≡ Some ms
 unfolding bounded
-bound_there ms h = rw (nat_le_yes (members_depth ms) max_nesting h) refl
+bound_there ms h = rw (le-leb (members_depth ms) max_nesting h) refl
 
 others_there : (keys : List (List ℕ)) (ms extra : Members) → Others keys ms extra → bounded (without_all keys ms) ≡ Some extra
 others_there keys ms extra o = rw (← o.are) (bound_there extra o.shallow)
@@ -74,7 +70,7 @@ fixed_there space ms extra known first size named n s bound h =
 
 value_there : (o v : Option Data) → o ≡ v → ((d : Data) → v ≡ Some d → depth d ≤ max_nesting) → bounded_value o ≡ Some v
 value_there o None e h = rw e refl
-value_there o (Some d) e h = rw (e, nat_le_yes (depth d) max_nesting (h d refl)) refl
+value_there o (Some d) e h = rw (e, le-leb (depth d) max_nesting (h d refl)) refl
 
 abbrev label_of : FieldView → LabelView
 label_of f = record { name = f.name; aliases = f.aliases; order = f.order; value = f.value }

@@ -1,7 +1,7 @@
 -- Which defaults fit, computed and by the rules.
 use Rattle.std.proofs.Common.{◌≡◌, ℕ, zero, suc, ◌<◌, ◌≤◌, max, List, [], ◌∷◌, length, Bool, true, false, ◌&&◌, ◌==◌, ℤ, Option, Some, None, Ordering, Less, Equal, Greater, nat_cmp, refl, sym, ap, subst, ◌∙◌, true≢false, arith}
-use Rattle.std.specs.Prelude.{nat_le, is_some, slice_get}
-use Rattle.std.specs.List.{list_all}
+use Rattle.std.specs.Prelude.{is_some, slice_get, IfSome}
+use Rattle.std.specs.List.{AllByRecursion}
 use Rattle.std.specs.Str.{chars}
 use Rattle.std.proofs.lemmas.Bool.Decides.{nat_tests}
 use Rattle.std.proofs.lemmas.Option.{same_Some}
@@ -13,7 +13,8 @@ use Rattle.serde_json.specs.Find.{get_member, as_i64}
 use Rattle.avro_nodes.specs.declared.node.Kind.{Kind}
 use Rattle.avro_nodes.specs.declared.node.Kind.TheVariants.{Null, Boolean, Int, Long, Float, Double, Bytes, Text}
 use Rattle.avro_nodes.specs.Nodes.{FieldView, NodeView, primitive, array, mapping, union, enumeration, fixed, rec}
-use Rattle.avro_nodes.specs.Identity.{members_pass, value_passes, field_passes, node_passes, nests_within}
+use Rattle.avro_nodes.proofs.Carried.{OfField}
+use Rattle.avro_nodes.proofs.Shallow.{IsShallow, AreShallow, ShallowNodes}
 use Rattle.avro_schema.specs.Members.{max_nesting}
 use Rattle.avro_schema.specs.Defaults.{is_int, is_bytes, FitsDefault, fits_type, fits_union, FitsNode, fits_null, fits_boolean, fits_int, fits_long, fits_float, fits_double, fits_bytes, fits_string, fits_enum, fits_fixed, fits_array, fits_map, fits_record}
 use Rattle.avro_schema.specs.Defaults.{ItemsFit, no_item_left, item_fits, MembersFit, no_member_left, member_fits, FieldsFit, no_field_left, field_fits, field_missing, ValueFits, FieldDefaultsFit, NodeDefaultsFit}
@@ -29,9 +30,6 @@ and_right false b e = absurd (true≢false (sym e))
 
 pub both : (a b : Bool) → a ≡ true → b ≡ true → (a && b) ≡ true
 both a b e f = rw (e, f) refl
-
-nat_le_says : (a b : ℕ) → nat_le a b ≡ true → a ≤ b
-nat_le_says a b h = grind (arith, nat_tests)
 
 pub same_number : (a b : ℕ) → (a == b) ≡ true → a ≡ b
 same_number a b h = grind (arith, nat_tests)
@@ -169,9 +167,9 @@ module _ (nodes : List NodeView) where
   value_says None place h = tt
   value_says (Some v) place h = fits_says (suc max_nesting) v place h
 
-  value_computes : (o : Option Data) (place : ℕ) → ValueFits nodes o place → value_passes (nests_within max_nesting) o ≡ true → value_fits nodes o place ≡ true
+  value_computes : (o : Option Data) (place : ℕ) → ValueFits nodes o place → IfSome o IsShallow → value_fits nodes o place ≡ true
   value_computes None place f h = refl
-  value_computes (Some v) place f h = fits_computes nodes f (suc max_nesting) (omega (arith, nat_le_says (depth v) max_nesting h))
+  value_computes (Some v) place f h = fits_computes nodes f (suc max_nesting) (omega (arith, h))
 
   fields_say_all : (fields : List FieldView) → field_defaults_fit nodes fields ≡ true → FieldDefaultsFit nodes fields
   fields_say_all [] h = tt
@@ -180,12 +178,9 @@ module _ (nodes : List NodeView) where
     fields_say_all fields (and_right (value_fits nodes f.value f.place) (field_defaults_fit nodes fields) h),
   )
 
-  fields_compute_all : (fields : List FieldView) → FieldDefaultsFit nodes fields → list_all (field_passes (nests_within max_nesting)) fields ≡ true → field_defaults_fit nodes fields ≡ true
+  fields_compute_all : (fields : List FieldView) → FieldDefaultsFit nodes fields → AllByRecursion (OfField IsShallow AreShallow) fields → field_defaults_fit nodes fields ≡ true
   fields_compute_all [] f h = refl
-  fields_compute_all (g ∷ fields) f h =
-      let here = and_left (field_passes (nests_within max_nesting) g) (list_all (field_passes (nests_within max_nesting)) fields) h in
-      let rest = and_right (field_passes (nests_within max_nesting) g) (list_all (field_passes (nests_within max_nesting)) fields) h in
-      both (value_fits nodes g.value g.place) (field_defaults_fit nodes fields) (value_computes g.value g.place f.0 (and_left (value_passes (nests_within max_nesting) g.value) (members_pass (nests_within max_nesting) g.extra) here)) (fields_compute_all fields f.1 rest)
+  fields_compute_all (g ∷ fields) f h = both (value_fits nodes g.value g.place) (field_defaults_fit nodes fields) (value_computes g.value g.place f.0 h.0.0) (fields_compute_all fields f.1 h.1)
 
   pub defaults_say : (more : List NodeView) → node_defaults_fit nodes more ≡ true → NodeDefaultsFit nodes more
   defaults_say [] h = tt
@@ -198,15 +193,12 @@ module _ (nodes : List NodeView) where
   defaults_say (rec named fields extra ∷ more) h =
       (fields_say_all fields (and_left (field_defaults_fit nodes fields) (node_defaults_fit nodes more) h), defaults_say more (and_right (field_defaults_fit nodes fields) (node_defaults_fit nodes more) h))
 
-  pub defaults_compute : (more : List NodeView) → NodeDefaultsFit nodes more → list_all (node_passes (nests_within max_nesting)) more ≡ true → node_defaults_fit nodes more ≡ true
+  pub defaults_compute : (more : List NodeView) → NodeDefaultsFit nodes more → ShallowNodes more → node_defaults_fit nodes more ≡ true
   defaults_compute [] f h = refl
-  defaults_compute (primitive kind extra ∷ more) f h = defaults_compute more f (and_right (node_passes (nests_within max_nesting) (primitive kind extra)) (list_all (node_passes (nests_within max_nesting)) more) h)
-  defaults_compute (array place extra ∷ more) f h = defaults_compute more f (and_right (node_passes (nests_within max_nesting) (array place extra)) (list_all (node_passes (nests_within max_nesting)) more) h)
-  defaults_compute (mapping place extra ∷ more) f h = defaults_compute more f (and_right (node_passes (nests_within max_nesting) (mapping place extra)) (list_all (node_passes (nests_within max_nesting)) more) h)
-  defaults_compute (union branches ∷ more) f h = defaults_compute more f h
-  defaults_compute (enumeration named symbols fallback extra ∷ more) f h = defaults_compute more f (and_right (node_passes (nests_within max_nesting) (enumeration named symbols fallback extra)) (list_all (node_passes (nests_within max_nesting)) more) h)
-  defaults_compute (fixed named size extra ∷ more) f h = defaults_compute more f (and_right (node_passes (nests_within max_nesting) (fixed named size extra)) (list_all (node_passes (nests_within max_nesting)) more) h)
-  defaults_compute (rec named fields extra ∷ more) f h =
-      let here = and_left (node_passes (nests_within max_nesting) (rec named fields extra)) (list_all (node_passes (nests_within max_nesting)) more) h in
-      let rest = and_right (node_passes (nests_within max_nesting) (rec named fields extra)) (list_all (node_passes (nests_within max_nesting)) more) h in
-      both (field_defaults_fit nodes fields) (node_defaults_fit nodes more) (fields_compute_all fields f.0 (and_left (list_all (field_passes (nests_within max_nesting)) fields) (members_pass (nests_within max_nesting) extra) here)) (defaults_compute more f.1 rest)
+  defaults_compute (primitive kind extra ∷ more) f h = defaults_compute more f h.1
+  defaults_compute (array place extra ∷ more) f h = defaults_compute more f h.1
+  defaults_compute (mapping place extra ∷ more) f h = defaults_compute more f h.1
+  defaults_compute (union branches ∷ more) f h = defaults_compute more f h.1
+  defaults_compute (enumeration named symbols fallback extra ∷ more) f h = defaults_compute more f h.1
+  defaults_compute (fixed named size extra ∷ more) f h = defaults_compute more f h.1
+  defaults_compute (rec named fields extra ∷ more) f h = both (field_defaults_fit nodes fields) (node_defaults_fit nodes more) (fields_compute_all fields f.0 h.0.0) (defaults_compute more f.1 h.1)

@@ -1,8 +1,8 @@
 -- What holds of a value holds of the defaults, the other attributes and the sizes in the nodes that it denotes.
 use Rattle.std.proofs.Common.{◌≡◌, ℕ, ◌<◌, ◌≤◌, ◌^◌, List, [], ◌∷◌, ◌++◌, Bool, true, false, cond, Option, Some, None, codes, bytes_eq, Ordering, Less, Equal, Greater, nat_cmp, refl, ap, subst, ◌∙◌, arith}
 use Rattle.std.specs.Prelude.{nat_lt, IfSome}
-use Rattle.std.specs.List.{list_all, AllByRecursion}
-use Rattle.std.proofs.lemmas.Bool.{ltb-true, lt-ltb, le-leb}
+use Rattle.std.specs.List.{AllByRecursion}
+use Rattle.std.proofs.lemmas.Bool.{ltb-true, lt-ltb}
 use Rattle.std.proofs.lemmas.Option.{same_Some}
 use Rattle.std.specs.Cmp.Lexicographic.{slice_cmp}
 use Rattle.std.specs.Ordering.{match_ordering}
@@ -10,10 +10,9 @@ use Rattle.serde_json.specs.Data.{Data, string, number, unsigned, negative, floa
 use Rattle.serde_json.specs.Data as json
 use Rattle.serde_json.specs.Find.{get_member, as_array, as_number, as_u64}
 use Rattle.avro_nodes.specs.Nodes.{FieldView, NodeView}
-use Rattle.avro_nodes.specs.Identity.{members_pass, node_passes, nests_within}
 use Rattle.avro_nodes.specs.Objects.{AllBehind}
 use Rattle.avro_nodes.proofs.Carried.{AllItems, OfField, OfNode}
-use Rattle.avro_nodes.proofs.Plainness.{nodes_all}
+use Rattle.avro_nodes.proofs.Shallow.{IsShallow, AreShallow, ShallowNodes}
 use Rattle.avro_nodes.proofs.Tidy.{IsTidy, TidyItems, TidyMembers, TidyNodes}
 use Rattle.avro_schema.specs.Names.{Known}
 use Rattle.avro_schema.specs.Members.{◌>>=◌, without, without_all, array_in, size_of, max_nesting}
@@ -86,21 +85,14 @@ module _ (P : Data → Type 0) (E : Data → Type 0) (F : Members → Type 0) (o
 
 -- ---- nesting
 
-members_nest : (n : ℕ) (ms : Members) → members_depth ms ≤ n → members_pass (nests_within n) ms ≡ true
-members_nest n no_members h = refl
-members_nest n (member k d ms) h = rw (le-leb (depth d) n (omega arith), members_nest n ms (omega arith)) refl
-
 any_items : (ds : Items) → AllItems (λ _. Unit {0}) ds
 any_items no_items = tt
 any_items (item d ds) = (tt, any_items ds)
 
 -- defaults and other attributes nest no deeper than types may
-pub denoted_nest : {n : ℕ} {space : List ℕ} {d : Data} {known known2 : Known} {first place : ℕ} {nodes : List NodeView} → Denotes n space d known first place nodes known2 → list_all (node_passes (nests_within max_nesting)) nodes ≡ true
-denoted_nest {nodes = nodes} t =
-    let Shallow : Data → Type 0 = λ d. depth d ≤ max_nesting in
-    let AreShallow : Members → Type 0 = λ ms. members_depth ms ≤ max_nesting in
-    nodes_all (nests_within max_nesting) Shallow AreShallow (λ d h. le-leb (depth d) max_nesting h) (members_nest max_nesting) nodes
-    (nodes_are (λ _. Unit {0}) Shallow AreShallow (λ ms k d p e. tt) (λ ds p. any_items ds) (λ keys ms extra p o. o.shallow) (λ d p h. h) (λ n h. omega arith) (omega arith) t tt)
+pub denoted_nest : {n : ℕ} {space : List ℕ} {d : Data} {known known2 : Known} {first place : ℕ} {nodes : List NodeView} → Denotes n space d known first place nodes known2 → ShallowNodes nodes
+denoted_nest t =
+    nodes_are (λ _. Unit {0}) IsShallow AreShallow (λ ms k d p e. tt) (λ ds p. any_items ds) (λ keys ms extra p o. o.shallow) (λ d p h. h) (λ n h. omega arith) (omega arith) t tt
 
 -- ---- tidy values
 

@@ -1,22 +1,15 @@
 -- The identity text of a schema denotes it.
-use Rattle.std.proofs.Common.{◌≡◌, ℕ, List, true, Some, refl, sym, ap, subst, ◌∙◌}
-use Rattle.std.specs.List.{list_all}
-use Rattle.serde_json.specs.Read.{read}
-use Rattle.avro_nodes.specs.Identity.{identity, identity_value, max_nesting, node_passes, nodes_pass, nests_within}
+use Rattle.std.proofs.Common.{◌≡◌, ℕ, List, sym, ap, subst, ◌∙◌}
+use Rattle.avro_nodes.specs.Identity.{identity, identity_value}
 use Rattle.avro_nodes.specs.Nodes.{NodeView}
 use Rattle.avro_nodes.proofs.Reread.{read-identity}
-use Rattle.avro_nodes.proofs.Tidy.{TidyNodes, tidy_nodes_whole}
+use Rattle.avro_nodes.proofs.Tidy.{tidy_nodes_whole}
 use Rattle.avro_nodes.proofs.TidyRead.{tidy_read}
 use Rattle.avro_nodes.proofs.Unchanged.{plain-identity}
 use Rattle.avro_schema.specs.Texts.{TextDenotes, IsSchema, Keeps}
 use Rattle.avro_schema.proofs.Passing.{denoted_nest, denoted_tidy}
 use Rattle.avro_schema.proofs.RoundTrip.{identity_denotes}
 use Rattle.avro_schema.proofs.TextLemmas.{one_schema}
-
--- the identity text is read as the identity value
-text_reads : (nodes : List NodeView) → TidyNodes nodes → list_all (node_passes (nests_within max_nesting)) nodes ≡ true → read (identity nodes) ≡ Some (identity_value nodes)
-unfolding nodes_pass
-text_reads nodes tidy nests = read-identity nodes tidy (rw nests refl)
 
 -- the identity text of each schema denotes it
 pub identity_text_denotes : (nodes : List NodeView) → IsSchema nodes → TextDenotes (identity nodes) nodes
@@ -28,7 +21,7 @@ identity_text_denotes nodes (text, t) =
       known = t.known;
       short = t.bounded;
       plain_is = plain-identity nodes (tidy_nodes_whole nodes tidy);
-      value_is = text_reads nodes tidy (denoted_nest t.type_is);
+      value_is = read-identity nodes tidy (denoted_nest t.type_is);
       type_is = identity_denotes t.value 0 nodes t.known t.type_is;
       defaults = t.defaults;
       bounded = t.bounded;

@@ -1,7 +1,7 @@
 -- What the reading computes, the rules say.
-use Rattle.std.proofs.Common.{◌≡◌, ℕ, zero, suc, ◌+◌, ◌≤◌, List, [], ◌∷◌, ◌++◌, length, map, true, false, cond, ◌||◌, Option, Some, None, codes, bytes_eq, refl, sym, ap, subst, ◌∙◌, true≢false, arith}
+use Rattle.std.proofs.Common.{◌≡◌, ℕ, zero, suc, ◌+◌, ◌≤◌, List, [], ◌∷◌, ◌++◌, length, map, true, false, cond, ◌||◌, Option, Some, None, codes, bytes_eq, refl, sym, ap, subst, ◌∙◌, true≢false}
 use Rattle.std.specs.Prelude.{nat_le, is_some, ◌==◌}
-use Rattle.std.proofs.lemmas.Bool.Decides.{nat_tests}
+use Rattle.std.proofs.lemmas.Bool.{leb-true}
 use Rattle.std.proofs.lemmas.Option.{same_Some}
 use Rattle.serde_json.specs.Data.{Data, string, Items, no_items, item, Members, no_members, depth, members_depth}
 use Rattle.serde_json.specs.Data as json
@@ -23,15 +23,12 @@ use Rattle.avro_schema.specs.Denotes.{Others, IsNamed, IsEnum, IsField, Says, De
 use Rattle.avro_schema.specs.Denotes.{array_keys, map_keys, fixed_keys, enum_keys, record_keys, Branches, no_branch, branch, Fields, no_field, field}
 use Rattle.avro_schema.proofs.Inversion.{bind_some, bind2, bind3, bind4, bind5, guard_some, guard_none, map_some, room_is, get_past, text_past, items_past, text_if_any_past, texts_differ, numbers_differ}
 
-nat_le_says : (a b : ℕ) → nat_le a b ≡ true → a ≤ b
-nat_le_says a b h = grind (arith, nat_tests)
-
 bound_is : (ms extra : Members) → bounded ms ≡ Some extra → (extra ≡ ms) × (members_depth extra ≤ max_nesting)
 unfolding bounded
 bound_is ms extra e =
     let g = guard_some (nat_le (members_depth ms) max_nesting) (Some ms) extra e in
     let same : ms ≡ extra = same_Some _ _ g.1 in
-    (sym same, subst (λ (x : Members). members_depth x ≤ max_nesting) same (nat_le_says (members_depth ms) max_nesting g.0))
+    (sym same, subst (λ (x : Members). members_depth x ≤ max_nesting) same (leb-true (members_depth ms) max_nesting g.0))
 
 others_are : (keys : List (List ℕ)) (ms extra : Members) → bounded (without_all keys ms) ≡ Some extra → Others keys ms extra
 others_are keys ms extra e = let b = bound_is (without_all keys ms) extra e in record { are = b.0; shallow = b.1 }
@@ -166,7 +163,7 @@ value_is None v e = let same : None ≡ v = same_Some _ _ e in (same, λ d is. a
 value_is (Some x) v e =
     let g = guard_some (nat_le (depth x) max_nesting) (Some (Some x)) v e in
     let same : Some x ≡ v = same_Some _ _ g.1 in
-    (same, λ d is. subst (λ (y : Data). depth y ≤ max_nesting) (same_Some _ _ (same ∙ is)) (nat_le_says (depth x) max_nesting g.0))
+    (same, λ d is. subst (λ (y : Data). depth y ≤ max_nesting) (same_Some _ _ (same ∙ is)) (leb-true (depth x) max_nesting g.0))
 
 allowed_is : (text name : List ℕ) → allowed is_simple text ≡ Some name → (text ≡ name) × (is_simple name ≡ true)
 allowed_is text name e = let g = guard_some (is_simple text) (Some text) name e in let same : text ≡ name = same_Some _ _ g.1 in (same, ap is_simple (sym same) ∙ g.0)

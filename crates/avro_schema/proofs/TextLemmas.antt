@@ -1,7 +1,7 @@
 -- What a text denotes, computed and by the rules.
 use Rattle.std.proofs.Common.{Bool, ◌≡◌, ◌≢◌, ℕ, ◌≤◌, List, [], length, true, false, cond, Option, Some, None, refl, sym, ap, subst, ◌∙◌, true≢false, length-append, arith, ◌<◌, ◌+◌}
 use Rattle.std.specs.Prelude.{nat_le, IsTrue}
-use Rattle.std.proofs.lemmas.Bool.Decides.{nat_tests}
+use Rattle.std.proofs.lemmas.Bool.{le-leb, leb-true}
 use Rattle.std.proofs.lemmas.Option.{same_Some}
 use Rattle.serde_json.specs.Data.{Data, Items}
 use Rattle.serde_json.specs.Read.{read}
@@ -32,12 +32,6 @@ use Rattle.avro_schema.proofs.Fitting.{defaults_say, defaults_compute}
 use Rattle.avro_schema.proofs.RoundTrip.{names_bounded, mentions_bounded}
 use Rattle.avro_schema.proofs.WeightLemmas.{weighs}
 
-nat_le_yes : (a b : ℕ) → a ≤ b → nat_le a b ≡ true
-nat_le_yes a b h = grind (arith, nat_tests)
-
-nat_le_says : (a b : ℕ) → nat_le a b ≡ true → a ≤ b
-nat_le_says a b h = grind (arith, nat_tests)
-
 -- an error other than of memory says that nothing is given
 pub refused : {A : Type 0} (e : SchemaError) (o : Option A) → e ≢ OutOfMemory → Fails e o → o ≡ None
 refused OutOfMemory o other f = absurd (other refl)
@@ -54,7 +48,7 @@ refused TooLarge o other f = f
 pub typed_is : (text : List ℕ) (d : Data) (p : ℕ) (after : List NodeView) (known2 : Known) → length text ≤ max_text → value_in text ≡ Some d → nat_le (weight max_nesting [] d) max_text ≡ true
     → Adds (type_at max_nesting [] d none_known 0) p [] after known2 → typed text ≡ Some after
 unfolding typed root_in
-typed_is text d p after known2 short e light root = rw (nat_le_yes (length text) max_text short, e, light, root.is, ← root.after_is) refl
+typed_is text d p after known2 short e light root = rw (le-leb (length text) max_text short, e, light, root.is, ← root.after_is) refl
 
 value_says : (text : List ℕ) (d : Data) → value_in text ≡ Some d → (respelt : List ℕ) × (plain text ≡ Some respelt) × (read respelt ≡ Some d)
 unfolding value_in
@@ -138,7 +132,7 @@ typed_says text nodes e =
       respelt = v.0;
       value = q.0;
       known = q.1.known;
-      short = nat_le_says (length text) max_text g.0;
+      short = leb-true (length text) max_text g.0;
       plain_is = v.1;
       value_is = v.2;
       type_is = subst (λ (x : List NodeView). Denotes max_nesting [] q.0 none_known 0 0 x q.1.known) same (subst (λ (place : ℕ). Denotes max_nesting [] q.0 none_known 0 place q.1.nodes q.1.known) (root_place root refl) root);
@@ -149,7 +143,7 @@ typed_computes : (text respelt : List ℕ) (value : Data) (known : Known) (nodes
 unfolding typed root_in
 typed_computes text respelt value known nodes short p v t bounded =
     let light : weight max_nesting [] value ≤ max_text = omega (arith, weighs t, names_bounded value 0 nodes known t, bounded) in
-    rw (nat_le_yes (length text) max_text short, value_computes text respelt value p v, nat_le_yes (weight max_nesting [] value) max_text light, computes t) refl
+    rw (le-leb (length text) max_text short, value_computes text respelt value p v, le-leb (weight max_nesting [] value) max_text light, computes t) refl
 
 -- the condition of the identity text
 pub typed_whole : (text : List ℕ) (nodes : List NodeView) → typed text ≡ Some nodes → IsTrue (nodes_pass has_whole_numbers nodes)
@@ -184,7 +178,7 @@ denotes_fitting text nodes t = defaults_compute nodes nodes t.defaults (denoted_
 
 pub denotes_computes : (text : List ℕ) (nodes : List NodeView) → TextDenotes text nodes → denoted text ≡ Some nodes
 unfolding denoted checked
-denotes_computes text nodes t = rw (denotes_typed text nodes t, denotes_fitting text nodes t, nat_le_yes (length (identity nodes)) max_text t.bounded) refl
+denotes_computes text nodes t = rw (denotes_typed text nodes t, denotes_fitting text nodes t, le-leb (length (identity nodes)) max_text t.bounded) refl
 
 -- a text denotes at most one schema
 pub one_schema : (text : List ℕ) (xs ys : List NodeView) → TextDenotes text xs → TextDenotes text ys → xs ≡ ys
@@ -205,7 +199,7 @@ pub none_mentioned : (text : List ℕ) (nodes : List NodeView) → typed text �
 none_mentioned text nodes e long others t =
     let same : nodes ≡ others = same_Some _ _ (sym e ∙ denotes_typed text others t) in
     let fit : mentions others others ≤ max_text = omega (arith, mentions_bounded t.value 0 others t.known t.type_is, t.bounded) in
-    true≢false (sym (nat_le_yes (mentions others others) max_text fit) ∙ ap (λ (x : List NodeView). nat_le (mentions x x) max_text) (sym same) ∙ long)
+    true≢false (sym (le-leb (mentions others others) max_text fit) ∙ ap (λ (x : List NodeView). nat_le (mentions x x) max_text) (sym same) ∙ long)
 
 -- where the identity text is too long, nothing is denoted
 pub none_bounded : (text : List ℕ) (nodes : List NodeView) → typed text ≡ Some nodes → max_text < length (identity nodes) → (others : List NodeView) → ¬ TextDenotes text others
