@@ -54,11 +54,6 @@ module _ (P : Data → Type 0) where
   all_put k d no_members p h = (p, tt)
   all_put k d (member l e ms) p h = put_at (slice_cmp nat_cmp k l) k l d e ms p h.0 h.1 (all_put k d ms p h.1)
 
-  -- a weaker predicate holds of each member too
-  pub all_weaker : (Q : Data → Type 0) → ((d : Data) → P d → Q d) → (ms : Members) → AllMembers P ms → AllMembers Q ms
-  all_weaker Q f no_members h = tt
-  all_weaker Q f (member k d ms) h = (f d h.0, all_weaker Q f ms h.1)
-
 -- ---- attributes
 
 -- M holds of members to which a value is put of which P holds

@@ -75,11 +75,11 @@ module _ (test : Data → Bool) (E : Data → Type 0) (F : Members → Type 0) (
   node_passing (fixed named size extra) h = rw (value (number (unsigned size)) h.0) (members extra h.1)
   node_passing (rec named fields extra) h = rw (fields_passing fields h.0) (members extra h.1)
 
-  -- nodes of which this holds pass the test
-  pub nodes_all : (nodes : List NodeView) → AllByRecursion (OfNode E F) nodes → list_all (node_passes test) nodes ≡ true
+  nodes_all : (nodes : List NodeView) → AllByRecursion (OfNode E F) nodes → list_all (node_passes test) nodes ≡ true
   nodes_all [] h = refl
   nodes_all (node ∷ nodes) h = rw (node_passing node h.0) (nodes_all nodes h.1)
 
+  -- nodes of which this holds pass the test
   pub nodes_passing : (nodes : List NodeView) → AllByRecursion (OfNode E F) nodes → IsTrue (nodes_pass test nodes)
   unfolding nodes_pass
   nodes_passing nodes h = rw (nodes_all nodes h) refl

@@ -20,7 +20,7 @@ abbrev pub IsWholeText : List ℕ → Type 0
 IsWholeText s = (n : Num) × (number_of s ≡ Some n) × (is_whole_number n ≡ true)
 
 -- a run that begins as a number does is one
-abbrev pub IsGood : List ℕ → Type 0
+abbrev IsGood : List ℕ → Type 0
 IsGood s = begins_number s ≡ true → IsWholeText s
 
 -- each run is so

@@ -56,7 +56,7 @@ tidy_put k d ms p t = tidy_from (put k d ms) (all_put IsTidy k d ms p (tidy_each
 
 mutual
   -- a tidy value has whole numbers alone
-  pub tidy_whole : (d : Data) → IsTidy d → has_whole_numbers d ≡ true
+  tidy_whole : (d : Data) → IsTidy d → has_whole_numbers d ≡ true
   tidy_whole null t = refl
   tidy_whole (boolean b) t = refl
   tidy_whole (number n) t = t
