@@ -123,7 +123,7 @@ abbrev finished : Option (json.Json × List Token) → Option Data
 finished o = option_and_then of_json (option_and_then (λ p. json.if_last p.0 p.1) o)
 
 -- the compact text of a tidy value is read as that value, where it nests no deeper than JSON may
-read-compact_text : (d : Data) → IsTidy d → depth d ≤ max_depth → read (compact_text d) ≡ Some d
+pub read-compact_text : (d : Data) → IsTidy d → depth d ≤ max_depth → read (compact_text d) ≡ Some d
 read-compact_text d t shallow =
     let ts = tree.json_tokens (outline d) in
     let same : tokens (compact_text d) ≡ ts = ap tokens (sym (print-outline d)) ∙ tokens-print ts (ArePrintable-json_tokens (outline d) (numbers_are d t)) in

@@ -1,34 +1,54 @@
--- Different writes have different texts.
-use Rattle.std.proofs.Common.{◌≡◌, ℕ, List, [], ◌∷◌, true, refl, ap, sym, codes, true≢false, get_or}
-use Rattle.std.proofs.lemmas.Bool.{eqb-false}
+-- Different writes have different texts: a text is read back as its write.
+use Rattle.std.proofs.Common.{◌≡◌, ℕ, ◌≤◌, List, [], lit≤, true, refl, ap, sym, ◌∙◌, codes, true≢false}
+use Rattle.std.specs.Prelude.{Option, Some, None, bytes_eq, if◌then◌else◌}
+use Rattle.std.specs.Option.{option_map_or}
+use Rattle.serde_json.specs.Data.{Data, string, array, Items, item, no_items, depth}
+use Rattle.serde_json.specs.Read.{max_depth, read}
+use Rattle.serde_json.specs.Written.{compact_text}
+use Rattle.avro_nodes.proofs.Tidy.{IsTidy}
+use Rattle.avro_nodes.proofs.Reread.{read-compact_text}
 use Rattle.reg_core.specs.declared.command.Command.{Command}
 use Rattle.reg_core.specs.declared.command.Command.TheVariants.{SetGlobal, SetLevel, Global, LevelOf}
 use Rattle.reg_core.specs.Machine.{is_write}
-use Rattle.reg_core.specs.CommandTexts.{command_text}
-use Rattle.reg_core.proofs.Strings.{string_text-injective}
+use Rattle.reg_core.specs.CommandTexts.{command_data, command_text}
 
-tail_of : (x : ℕ) (a b : List ℕ) → x ∷ a ≡ x ∷ b → a ≡ b
-tail_of x a b e = cc
+-- the write of a name and members, if there is one
+abbrev write_of : List ℕ → Items → Option Command
+write_of name (item (string level) no_items) = if bytes_eq name (codes "set-global") then Some (SetGlobal level) else None
+write_of name (item (string subject) (item (string level) no_items)) = if bytes_eq name (codes "set-level") then Some (SetLevel subject level) else None
+write_of name members = None
 
-other_names : codes "set-global" ≡ codes "set-level" → ⊥
-other_names e = eqb-false 103 108 refl (ap (λ (t : List ℕ). get_or t 4 0) e)
+-- the write that a JSON value is, if it is one
+abbrev write_in : Data → Option Command
+write_in (array (item (string name) members)) = write_of name members
+write_in value = None
+
+-- the JSON value of a write, which is read back from its text, and is the value of no other write
+record HasValue (command : Command) : Type 0 where
+  value : Data
+  is_value : command_data command ≡ Some value
+  tidy : IsTidy value
+  shallow : depth value ≤ max_depth
+  write : write_in value ≡ Some command
+
+value_of : (command : Command) → is_write command ≡ true → HasValue command
+value_of (SetGlobal level) w = record { value = _; is_value = refl; tidy = (tt, (tt, tt)); shallow = lit≤ tt; write = refl }
+value_of (SetLevel subject level) w = record { value = _; is_value = refl; tidy = (tt, (tt, (tt, tt))); shallow = lit≤ tt; write = refl }
+value_of Global w = absurd (true≢false (sym w))
+value_of (LevelOf subject default_to_global) w = absurd (true≢false (sym w))
+
+-- a write's text is read as its value
+read_back : (command : Command) (it : HasValue command) → read (command_text command) ≡ Some it.value
+unfolding command_text
+read_back command it = ap (λ value. read (option_map_or compact_text value [])) it.is_value ∙ read-compact_text it.value it.tidy it.shallow
+
+same_some : {A : Type 0} (x y : A) → Some x ≡ Some y → x ≡ y
+same_some x y e = cc
 
 -- writes with equal texts are equal
 pub command_text-injective : (a b : Command) → is_write a ≡ true → is_write b ≡ true → command_text a ≡ command_text b → a ≡ b
-unfolding command_text
-command_text-injective (SetGlobal x) (SetGlobal y) v w e =
-    let rest = string_text-injective (codes "set-global") (codes "set-global") _ _ (tail_of 91 _ _ e) in
-    ap (λ (u : List ℕ). SetGlobal u) (string_text-injective x y (93 ∷ []) (93 ∷ []) (tail_of 44 _ _ rest.1)).0
-command_text-injective (SetGlobal x) (SetLevel t y) v w e = absurd (other_names (string_text-injective (codes "set-global") (codes "set-level") _ _ (tail_of 91 _ _ e)).0)
-command_text-injective (SetLevel s x) (SetGlobal y) v w e = absurd (other_names (sym (string_text-injective (codes "set-level") (codes "set-global") _ _ (tail_of 91 _ _ e)).0))
-command_text-injective (SetLevel s x) (SetLevel t y) v w e =
-    let rest = string_text-injective (codes "set-level") (codes "set-level") _ _ (tail_of 91 _ _ e) in
-    let subjects = string_text-injective s t _ _ (tail_of 44 _ _ rest.1) in
-    let levels = string_text-injective x y (93 ∷ []) (93 ∷ []) (tail_of 44 _ _ subjects.1) in
-    λ i. SetLevel (subjects.0 i) (levels.0 i)
-command_text-injective (SetGlobal x) Global v w e = absurd (true≢false (sym w))
-command_text-injective (SetGlobal x) (LevelOf t d) v w e = absurd (true≢false (sym w))
-command_text-injective (SetLevel s x) Global v w e = absurd (true≢false (sym w))
-command_text-injective (SetLevel s x) (LevelOf t d) v w e = absurd (true≢false (sym w))
-command_text-injective Global b v w e = absurd (true≢false (sym v))
-command_text-injective (LevelOf s d) b v w e = absurd (true≢false (sym v))
+command_text-injective a b v w e =
+    let one = value_of a v in
+    let other = value_of b w in
+    let same : one.value ≡ other.value = same_some _ _ (sym (read_back a one) ∙ (ap read e ∙ read_back b other)) in
+    same_some a b (sym one.write ∙ (ap write_in same ∙ other.write))

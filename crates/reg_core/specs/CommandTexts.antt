@@ -1,13 +1,18 @@
--- The text by which a write is kept and compared.
-use Rattle.std.specs.Prelude.{ℕ, List, [], codes}
-use Rattle.serde_json.specs.Data.{string, array, item, no_items}
+-- The text by which a write is kept and compared (this project's choice).
+use Rattle.std.specs.Prelude.{ℕ, List, [], codes, Option, Some, None}
+use Rattle.std.specs.Option.{option_map_or}
+use Rattle.serde_json.specs.Data.{Data, string, array, item, no_items}
 use Rattle.serde_json.specs.Written.{compact_text}
 use Rattle.reg_core.specs.declared.command.Command.{Command}
 use Rattle.reg_core.specs.declared.command.Command.TheVariants.{SetGlobal, SetLevel, Global, LevelOf}
 
--- This project's choice: a compact JSON array (RFC 8259, sections 5 and 7) of the command's name and members. A read has no text.
+-- a write as a JSON array (RFC 8259, sections 5 and 7) of its name and its members; a read is none
+abbrev pub command_data : Command → Option Data
+command_data (SetGlobal level) = Some (array (item (string (codes "set-global")) (item (string level) no_items)))
+command_data (SetLevel subject level) = Some (array (item (string (codes "set-level")) (item (string subject) (item (string level) no_items))))
+command_data Global = None
+command_data (LevelOf subject default_to_global) = None
+
+-- the compact text of a write; a read has none
 unfoldable pub command_text : Command → List ℕ
-command_text (SetGlobal level) = compact_text (array (item (string (codes "set-global")) (item (string level) no_items)))
-command_text (SetLevel subject level) = compact_text (array (item (string (codes "set-level")) (item (string subject) (item (string level) no_items))))
-command_text Global = []
-command_text (LevelOf subject default_to_global) = []
+command_text command = option_map_or compact_text (command_data command) []
