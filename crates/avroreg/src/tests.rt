@@ -10,6 +10,8 @@ use std::process::Abort;
 use std::str;
 use std::test::Fail;
 
+mod words;
+
 const SET_FULL: &str =
     "PUT /config HTTP/1.1\r\nHost: x\r\nRegistry-Retry-Key: k1\r\nContent-Length: 24\r\n\r\n{\"compatibility\":\"FULL\"}";
 
