@@ -1,5 +1,5 @@
-mod Bytes
-mod Serving
-mod Carrying
-mod Ends
-mod Telling
+mod ByteLemmas
+mod ReplyLemmas
+mod SessionLemmas
+mod EndLemmas
+mod LineLemmas

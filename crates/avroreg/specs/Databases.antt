@@ -15,13 +15,13 @@ use Rattle.avroreg.specs.declared.stream.Ended.{Ended}
 use Rattle.avroreg.specs.declared.outcome.Outcome.{Outcome}
 use Rattle.avroreg.specs.declared.outcome.Outcome.TheVariants.{Session as SessionEnded, Unopened, Text as TextEnded, Check as CheckEnded}
 use Rattle.avroreg.specs.Sessions.{Session}
-use Rattle.avroreg.specs.Standing.{Reaches}
+use Rattle.avroreg.specs.OverTables.{Reaches}
 
 -- why no registry was made: a database that isn't empty is told so, over an empty one memory was refused or there was a fault of the disk, and nothing is committed
 pub record FailsToMake (old new : State) (error : StoreError) : Type 0 where
   pub full : old.now.schema ≢ no_schema → error ≡ NotARegistry
   pub fault : old.now.schema ≡ no_schema → IsFaultBy old new error
-  pub kept : OnlyReads old new
+  pub only_reads : OnlyReads old new
 
 -- Why a database gave no registry. Where its tables spell one, memory was refused or there was a fault of the disk. A newer layout is told,
 -- and with its own number. Nothing is committed.
@@ -29,7 +29,7 @@ pub record FailsToOpen (old new : State) (error : StoreError) : Type 0 where
   pub fault : IsFaultUnopened old new error
   pub newer : TellsNewer old error
   pub refused : IsRefusedBy old.now error
-  pub kept : OnlyReads old new
+  pub only_reads : OnlyReads old new
 
 -- nothing was read or written, for this reason, or since a transaction was under way
 pub record IsUnopened (old : State) (reader reader' writer writer' : Option (List ℕ)) (error : StoreError) (Cause : Type 0) : Type 0 where

@@ -1,7 +1,7 @@
 pub mod Output
 pub mod Sessions
-pub mod Standing
-pub mod Steps
+pub mod OverTables
+pub mod SessionSteps
 pub mod Files
 pub mod Outcomes
 pub mod Databases

@@ -2,7 +2,7 @@
 ghost use Rattle.sqlite.specs.Held.{state};
 ghost use Rattle.sqlite.specs.State.{HasCleanDisk};
 ghost use Rattle.reg_store.specs.Stores.{state_of};
-ghost use Rattle.avroreg.specs.Standing.{Over};
+ghost use Rattle.avroreg.specs.OverTables.{Over};
 ghost use Rattle.avroreg.specs.Sessions.{Session};
 ghost use Rattle.avroreg.specs.Databases.{RunsNew, RunsOver};
 

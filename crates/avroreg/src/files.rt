@@ -1,7 +1,7 @@
 //! Schemas in files.
 ghost use Rattle.std.specs.Prelude.{◌≡◌, MatchResult, option_map};
 ghost use Rattle.avro_nodes.specs.Nodes.{nodes_view};
-ghost use Rattle.avroreg.specs.Files.{Holds, FailsAs, PrintsAs, ChecksAs, TellsVerdict, verdict_line as line_of_verdict};
+ghost use Rattle.avroreg.specs.Files.{Holds, FailsAs, PrintsAs, ChecksAs, TellsVerdict, verdict_line};
 
 use crate::stream::put;
 use avro_resolve::resolves;
@@ -92,7 +92,7 @@ pub enum Checked {
 
 /// A verdict's line.
 fn verdict_line(yes: bool) -> &'static str
-    ensures { result.now ≡ line_of_verdict yes }
+    ensures { result.now ≡ verdict_line yes }
 {
     if yes {
         "compatible\n"

@@ -1,7 +1,7 @@
 //! Lines on standard error.
 ghost use Rattle.std.specs.Prelude.{◌≡◌};
 ghost use Rattle.avroreg.specs.Output.{Begins};
-ghost use Rattle.avroreg.specs.Outcomes.{layout_of as layout_for, line_of as line_for, line_with, text_of_parts};
+ghost use Rattle.avroreg.specs.Outcomes.{layout_of, line_of, line_with, text_of_parts};
 
 use crate::outcome::Fault;
 use crate::stream::put;
@@ -20,7 +20,7 @@ fn plain<'a>(text: &'a str) -> Parts<'a>
 
 /// The layout that a fault names, 0 where it names none.
 fn layout_of(fault: Fault) -> u32
-    ensures { result ≡ layout_for fault }
+    ensures { result ≡ layout_of fault }
 {
     match fault {
         Fault::OldLayout(layout) => layout,
@@ -66,7 +66,7 @@ fn put_parts<E: Write>(errors: &mut E, parts: &[&str])
 
 /// Writes the line for a fault. What can't be written is lost.
 pub fn tell<E: Write>(errors: &mut E, fault: Fault, file: &str)
-    ensures { Begins (E.contents errors.old) (E.contents errors.new) (line_for fault file.now) }
+    ensures { Begins (E.contents errors.old) (E.contents errors.new) (line_of fault file.now) }
 {
     let mut digits = Buffer::new();
     let layout = digits.format(layout_of(fault));

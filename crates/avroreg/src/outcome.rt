@@ -1,6 +1,6 @@
 //! How a job came out, and the faults among that.
 ghost use Rattle.std.specs.Prelude.{◌≡◌};
-ghost use Rattle.avroreg.specs.Outcomes.{fault_of as fault_for, fault_of_file as fault_for_file, fault_of_database as fault_for_database, status_of as status_for};
+ghost use Rattle.avroreg.specs.Outcomes.{fault_of, fault_of_file, fault_of_database, status_of};
 
 use crate::files::{Checked, FileFault, Printed};
 use crate::stream::Ended;
@@ -36,7 +36,7 @@ pub enum Fault {
 
 /// The fault of a file.
 fn fault_of_file(fault: FileFault) -> Fault
-    ensures { result ≡ fault_for_file fault }
+    ensures { result ≡ fault_of_file fault }
 {
     match fault {
         FileFault::CannotRead => Fault::CannotRead,
@@ -47,7 +47,7 @@ fn fault_of_file(fault: FileFault) -> Fault
 
 /// The fault of a database that gave no registry.
 fn fault_of_database(error: StoreError) -> Fault
-    ensures { result ≡ fault_for_database error }
+    ensures { result ≡ fault_of_database error }
 {
     match error {
         StoreError::Memory => Fault::OutOfMemory,
@@ -60,7 +60,7 @@ fn fault_of_database(error: StoreError) -> Fault
 
 /// The fault of an outcome, if it is one.
 pub fn fault_of(outcome: Outcome) -> Option<Fault>
-    ensures { result ≡ fault_for outcome }
+    ensures { result ≡ fault_of outcome }
 {
     match outcome {
         Outcome::Session(Ended::Closed) => None,
@@ -82,7 +82,7 @@ pub fn fault_of(outcome: Outcome) -> Option<Fault>
 
 /// The program's status for an outcome: 0, 1 for a verdict of incompatible, and 2 for a fault.
 pub fn status_of(outcome: Outcome) -> u8
-    ensures { result ≡ status_for outcome }
+    ensures { result ≡ status_of outcome }
 {
     match fault_of(outcome) {
         Some(_) => 2,

@@ -3,12 +3,12 @@ ghost use Rattle.std.specs.Prelude.{◌≡◌, ◌≢◌, ◌≤◌, ℕ, List, 
 ghost use Rattle.std.specs.Io.KnownBytes.{Appends, Consumes, IsAtEnd};
 ghost use Rattle.sqlite.specs.State.{HasCleanDisk};
 ghost use Rattle.reg_service.specs.Services.{state_in};
-ghost use Rattle.avroreg.specs.Standing.{Over};
-ghost use Rattle.reg_messages.specs.Asking.{asked_by};
+ghost use Rattle.avroreg.specs.OverTables.{Over};
+ghost use Rattle.reg_messages.specs.BorrowedRequests.{asked_by};
 ghost use Rattle.reg_messages.specs.Answers.{answer_bytes};
 ghost use Rattle.avroreg.specs.Output.{Replies, IsFront};
-ghost use Rattle.avroreg.specs.Steps.{NextAs, IsWithin, AnswersAs, FaultAs, ended_as};
-ghost use Rattle.reg_messages.specs.Looks.{IsWhole};
+ghost use Rattle.avroreg.specs.SessionSteps.{NextAs, IsWithin, AnswersAs, FaultAs, ended_as};
+ghost use Rattle.reg_messages.specs.MessageLooks.{IsWhole};
 ghost use Rattle.reg_messages.specs.Messages.{Message};
 ghost use Rattle.avroreg.specs.Sessions.{Session};
 

@@ -11,7 +11,7 @@ use Rattle.reg_core.specs.Codes.{fault_body}
 use Rattle.reg_core.specs.Levels.{level_of}
 use Rattle.reg_core.specs.Replies.{Told, fault, IsOwnReply}
 use Rattle.reg_core.specs.Registry.{Registry}
-use Rattle.reg_core.specs.LevelCommands.{set_level, level_shown, shown}
+use Rattle.reg_core.specs.LevelCommands.{set_level, level_shown, shown_reply}
 use Rattle.reg_core.specs.Machine.{is_write, step}
 
 other_status : (m n : Told) → m.status ≢ n.status → m ≢ n
@@ -32,14 +32,14 @@ set_level-IsOwnReply g s (Some level) = record {
   no_reused_key = other_status _ _ (eqb-false 200 422 refl);
 }
 
-pub shown-IsOwnReply : (o : Option Level) → IsOwnReply (shown o)
-shown-IsOwnReply None = record {
+pub shown_reply-IsOwnReply : (o : Option Level) → IsOwnReply (shown_reply o)
+shown_reply-IsOwnReply None = record {
   status = refl;
   kept = refl;
   no_backend_fault = eqb-false 404 500 refl;
   no_reused_key = other_status _ _ (eqb-false 404 422 refl);
 }
-shown-IsOwnReply (Some level) = record {
+shown_reply-IsOwnReply (Some level) = record {
   status = refl;
   kept = refl;
   no_backend_fault = eqb-false 200 500 refl;
@@ -50,7 +50,7 @@ pub step-IsOwnReply : (g : Registry) (c : Command) → IsOwnReply (step g c).1
 unfolding step
 step-IsOwnReply g (SetGlobal text) = set_level-IsOwnReply g None (level_of text)
 step-IsOwnReply g (SetLevel subject text) = set_level-IsOwnReply g (Some subject) (level_of text)
-step-IsOwnReply g (LevelOf subject default) = shown-IsOwnReply (level_shown (g.own subject) g.global default)
+step-IsOwnReply g (LevelOf subject default) = shown_reply-IsOwnReply (level_shown (g.own subject) g.global default)
 step-IsOwnReply g Global = record {
   status = refl;
   kept = refl;

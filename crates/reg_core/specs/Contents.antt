@@ -5,10 +5,10 @@ use Rattle.reg_core.specs.declared.reply.Content.TheVariants.{Written, Fault}
 use Rattle.reg_core.specs.Replies.{Told, fault, IsStatus}
 
 -- this project's choice: a fault is held as its code, and an answer as it was written
-abbrev pub told : Content → Told
-told (Written status body) = record { status = status; body = string_bytes body }
-told (Fault code) = fault code
+abbrev pub reply_of : Content → Told
+reply_of (Written status body) = record { status = status; body = string_bytes body }
+reply_of (Fault code) = fault code
 
 -- RFC 9110, section 15: the status is one of the nine
 abbrev pub HasStatus : Content → Type 0
-HasStatus content = IsStatus (told content).status
+HasStatus content = IsStatus (reply_of content).status

@@ -29,6 +29,6 @@ abbrev pub level_shown : Option Level → Level → Bool → Option Level
 level_shown own global default_to_global = option_or own (if default_to_global then Some global else None)
 
 -- Schema Registry API reference, GET /config/{subject}: a level is answered; where there is none, that is a fault
-abbrev pub shown : Option Level → Told
-shown None = fault NoOwnLevel
-shown (Some level) = answer (level_object (codes "compatibilityLevel") level)
+abbrev pub shown_reply : Option Level → Told
+shown_reply None = fault NoOwnLevel
+shown_reply (Some level) = answer (level_object (codes "compatibilityLevel") level)

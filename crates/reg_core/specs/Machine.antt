@@ -5,7 +5,7 @@ use Rattle.reg_core.specs.declared.command.Command.TheVariants.{SetGlobal, SetLe
 use Rattle.reg_core.specs.Levels.{level_of}
 use Rattle.reg_core.specs.Replies.{Told, answer}
 use Rattle.reg_core.specs.Registry.{Registry}
-use Rattle.reg_core.specs.LevelCommands.{level_object, set_level, level_shown, shown}
+use Rattle.reg_core.specs.LevelCommands.{level_object, set_level, level_shown, shown_reply}
 
 -- RFC 9110, section 9.2.1: whether a command may change the registry
 abbrev pub is_write : Command → Bool
@@ -26,7 +26,7 @@ unfoldable pub step : Registry → Command → Registry × Told
 step g (SetGlobal level) = set_level g None (level_of level)
 step g (SetLevel subject level) = set_level g (Some subject) (level_of level)
 step g Global = (g, answer (level_object (codes "compatibilityLevel") g.global))
-step g (LevelOf subject default_to_global) = (g, shown (level_shown (g.own subject) g.global default_to_global))
+step g (LevelOf subject default_to_global) = (g, shown_reply (level_shown (g.own subject) g.global default_to_global))
 
 -- this project's choice: the registry after the commands, one after the other
 abbrev pub run_commands : Registry → List Command → Registry

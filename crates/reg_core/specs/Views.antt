@@ -13,11 +13,11 @@ pub record IsViewOf (view : View) (g : Registry) (command : Command) : Type 0 wh
   pub global : view.global ≡ g.global
 
 -- Schema Registry API reference, Config: the registry after one change
-abbrev pub changed_once : Change → Registry → Registry
-changed_once (SetGlobal level) g = record g { global = level }
-changed_once (SetLevel subject level) g = record g { own = own_with g.own subject level }
+abbrev pub after_change : Change → Registry → Registry
+after_change (SetGlobal level) g = record g { global = level }
+after_change (SetLevel subject level) g = record g { own = own_with g.own subject level }
 
 -- this project's choice: the registry after the changes, one after the other
-abbrev pub changed : List Change → Registry → Registry
-changed [] g = g
-changed (change ∷ changes) g = changed changes (changed_once change g)
+abbrev pub after_changes : List Change → Registry → Registry
+after_changes [] g = g
+after_changes (change ∷ changes) g = after_changes changes (after_change change g)

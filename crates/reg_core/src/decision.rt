@@ -4,10 +4,10 @@ ghost use Rattle.std.specs.Prelude.{◌≡◌, ◌≢◌, [], false, IfOk};
 ghost use Rattle.reg_core.specs.Machine.{is_write, step};
 ghost use Rattle.reg_core.specs.Registry.{Registry};
 ghost use Rattle.reg_core.specs.Replies.{IsOwnReply};
-ghost use Rattle.reg_core.specs.Views.{IsViewOf, changed};
+ghost use Rattle.reg_core.specs.Views.{IsViewOf, after_changes};
 
 use crate::command::Command;
-use crate::decision::levels::{level_reply, level_shown, set_level, shown};
+use crate::decision::levels::{level_reply, level_shown, set_level, shown_reply};
 use crate::error::OutOfMemory;
 use crate::level::Level;
 use crate::reply::Reply;
@@ -53,7 +53,7 @@ pub fn decide(alloc: Global, view: &View, command: &Command) -> Result<Decision,
     ensures reply { IfOk result (λ decision. (g : Registry) → IsViewOf view.now g command.now
         → decision.reply ≡ (step g command.now).1) }
     ensures changes { IfOk result (λ decision. (g : Registry) → IsViewOf view.now g command.now
-        → changed decision.changes.items g ≡ (step g command.now).0) }
+        → after_changes decision.changes.items g ≡ (step g command.now).0) }
 
     // A read changes nothing, and a refusal neither.
     ensures read { IfOk result (λ decision. is_write command.now ≡ false → decision.changes.items ≡ []) }
@@ -73,7 +73,7 @@ pub fn decide(alloc: Global, view: &View, command: &Command) -> Result<Decision,
             default_to_global,
             ..
         } => {
-            let reply = shown(alloc, level_shown(view, *default_to_global))?;
+            let reply = shown_reply(alloc, level_shown(view, *default_to_global))?;
             Ok(unchanged(alloc, reply))
         }
     }

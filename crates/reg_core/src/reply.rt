@@ -25,9 +25,9 @@ impl Model for Reply {
 
     ghost Value = { Told };
 
-    ghost use Rattle.reg_core.specs.Contents.{told, HasStatus};
+    ghost use Rattle.reg_core.specs.Contents.{reply_of, HasStatus};
 
-    ghost view = { λ reply. told reply.content };
+    ghost view = { λ reply. reply_of reply.content };
 
     ghost invariant = { λ reply. HasStatus reply.content };
 }

@@ -11,7 +11,7 @@ use Rattle.httparse.proofs.GrammarLemmas.{print_request-append}
 use Rattle.reg_core.specs.declared.code.Code.{Code}
 use Rattle.reg_messages.specs.Framing.{framing}
 use Rattle.reg_messages.specs.Messages.{Message, HasHead, HasNoHead, fields_of}
-use Rattle.reg_messages.specs.Looks.{IsWhole}
+use Rattle.reg_messages.specs.MessageLooks.{IsWhole}
 
 -- where two splits are of one list, the shorter front is a front of the longer
 front_of : (a b c d : List ℕ) → a ++ b ≡ c ++ d → length a ≤ length c → (e : List ℕ) × (c ≡ a ++ e)

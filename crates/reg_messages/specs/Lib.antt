@@ -1,7 +1,7 @@
 pub mod Fields
 pub mod Framing
 pub mod Messages
-pub mod Looks
+pub mod MessageLooks
 pub mod Requests
-pub mod Asking
+pub mod BorrowedRequests
 pub mod Answers

@@ -2,7 +2,7 @@
 
 ghost use Rattle.std.specs.Prelude.{◌≡◌, IfOk, option_map, string_bytes};
 ghost use Rattle.http.specs.StatusCode.{IsStatusCode};
-ghost use Rattle.reg_messages.specs.Answers.{answer_bytes, status_line as line_of_status, length_line as line_of_length, allow_line as line_of_allow, close_line as line_of_close, phrase_of as phrase_for};
+ghost use Rattle.reg_messages.specs.Answers.{answer_bytes, status_line, length_line, allow_line, close_line, phrase_of};
 
 use http::StatusCode;
 use reg_core::{OutOfMemory, Reply};
@@ -14,7 +14,7 @@ const TYPE_LINE: &str = "Content-Type: application/vnd.schemaregistry.v1+json\r\
 /// The phrase of a status, by http's table.
 fn phrase_of(status: u16) -> &'static str
     requires { IsStatusCode status }
-    ensures { result.now ≡ phrase_for status }
+    ensures { result.now ≡ phrase_of status }
 {
     match StatusCode::from_u16(status) {
         Ok(status) => status.canonical_reason().unwrap_or(""),
@@ -25,7 +25,7 @@ fn phrase_of(status: u16) -> &'static str
 /// The line that begins an answer.
 fn status_line(alloc: Global, status: u16) -> Result<String, OutOfMemory>
     requires { IsStatusCode status }
-    ensures { IfOk result (λ line. string_bytes line ≡ line_of_status status) }
+    ensures { IfOk result (λ line. string_bytes line ≡ status_line status) }
 {
     let phrase = phrase_of(status);
     Ok(format!(in alloc; "HTTP/1.1 {status} {phrase}\r\n")?)
@@ -33,7 +33,7 @@ fn status_line(alloc: Global, status: u16) -> Result<String, OutOfMemory>
 
 /// The line that says how many bytes the body has.
 fn length_line(alloc: Global, length: usize) -> Result<String, OutOfMemory>
-    ensures { IfOk result (λ line. string_bytes line ≡ line_of_length length) }
+    ensures { IfOk result (λ line. string_bytes line ≡ length_line length) }
 {
     Ok(format!(in alloc; "Content-Length: {length}\r\n")?)
 }
@@ -41,7 +41,7 @@ fn length_line(alloc: Global, length: usize) -> Result<String, OutOfMemory>
 /// The line that names the methods of a path, where it is due.
 fn allow_line(alloc: Global, allow: Option<&str>) -> Result<String, OutOfMemory>
     ensures { IfOk result (λ line. string_bytes line
-        ≡ line_of_allow (option_map (λ text. text.now) allow.entry)) }
+        ≡ allow_line (option_map (λ text. text.now) allow.entry)) }
 {
     match allow {
         None => Ok(String::new(alloc)),
@@ -51,7 +51,7 @@ fn allow_line(alloc: Global, allow: Option<&str>) -> Result<String, OutOfMemory>
 
 /// The line that says that the connection ends after this answer.
 fn close_line(close: bool) -> &'static str
-    ensures { result.now ≡ line_of_close close }
+    ensures { result.now ≡ close_line close }
 {
     if close { "Connection: close\r\n" } else { "" }
 }

@@ -3,7 +3,7 @@
 ghost use Rattle.std.specs.Prelude.{◌≡◌, ◌⊎◌, MatchResult, codes, option_map, option_and_then};
 ghost use Rattle.serde_json.specs.Find.{get, as_str};
 ghost use Rattle.serde_json.specs.View.{view};
-ghost use Rattle.reg_messages.specs.Requests.{level_in as level_of_body};
+ghost use Rattle.reg_messages.specs.Requests.{level_in};
 
 use reg_core::{Code, Text};
 use serde_json::Value;
@@ -32,9 +32,9 @@ fn level_of(value: Value) -> Option<Text>
 /// The string under `compatibility` in a body that is a JSON object, or `MalformedRequest`;
 /// `BackendFault` for want of memory.
 pub fn level_in(alloc: Global, body: &[u8]) -> Result<Text, Code>
-    ensures { MatchResult result (λ level. level_of_body body.now ≡ Some level)
+    ensures { MatchResult result (λ level. level_in body.now ≡ Some level)
         (λ code. (code ≡ Code.BackendFault)
-        ⊎ ((code ≡ Code.MalformedRequest) × (level_of_body body.now ≡ None))) }
+        ⊎ ((code ≡ Code.MalformedRequest) × (level_in body.now ≡ None))) }
 {
     match Value::from_slice(alloc, body) {
         Ok(value) => match level_of(value) {

@@ -1,7 +1,7 @@
 //! Cutting the first message off a stream of bytes (RFC 9112, sections 2 to 6).
 
 ghost use Rattle.std.specs.Prelude.{◌≡◌, ℕ, List, length};
-ghost use Rattle.reg_messages.specs.Looks.{LooksAs};
+ghost use Rattle.reg_messages.specs.MessageLooks.{LooksAs};
 ghost use Rattle.reg_messages.specs.Messages.{Message, Messages, Tail, Agree};
 
 use crate::framing::length_by;

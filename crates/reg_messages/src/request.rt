@@ -3,7 +3,7 @@
 ghost use Rattle.std.specs.Prelude.{◌≡◌, ◌⊎◌, MatchResult, map, length, All, codes, if◌then◌else◌};
 ghost use Rattle.httparse.specs.Spans.{IsHeaderWithin, header_bytes};
 ghost use Rattle.reg_messages.specs.Fields.{values_named};
-ghost use Rattle.reg_messages.specs.Requests.{is_key, key_of as key_in, delivery_of as delivery_of_message};
+ghost use Rattle.reg_messages.specs.Requests.{is_key, key_of, delivery_of};
 
 use crate::body::level_in;
 use crate::fields::Found;
@@ -28,15 +28,15 @@ pub struct Request<'a> {
 }
 
 impl<'a> Request<'a> {
-    ghost use Rattle.reg_messages.specs.Looks.{IsWhole};
+    ghost use Rattle.reg_messages.specs.MessageLooks.{IsWhole};
     ghost use Rattle.reg_messages.specs.Messages.{Message};
-    ghost use Rattle.reg_messages.specs.Asking.{asked_by};
+    ghost use Rattle.reg_messages.specs.BorrowedRequests.{asked_by};
 
     /// The request of a whole message at the front of the bytes.
     pub fn of(bytes: &'a [u8], headers: &'a [HeaderSpan], whole: Whole) -> Request<'a>
         requires { (message : Message) × IsWhole bytes.now headers.now whole message }
         ensures asked { (message : Message) → IsWhole bytes.entry.now headers.entry.now whole message
-            → asked_by result ≡ delivery_of_message message }
+            → asked_by result ≡ delivery_of message }
         ensures target { (message : Message) → IsWhole bytes.entry.now headers.entry.now whole message
             → result.target.now ≡ message.head.target }
     {
@@ -89,7 +89,7 @@ fn key_from(text: &[u8]) -> Option<Key<'_>>
 
 /// The retry key of a write, or `MalformedRequest` where its field stands twice or holds no key.
 fn key_of<'a>(request: &Request<'a>) -> Result<Option<Key<'a>>, Code>
-    ensures { result ≡ key_in (values_named (codes "Registry-Retry-Key")
+    ensures { result ≡ key_of (values_named (codes "Registry-Retry-Key")
         (map (header_bytes request.entry.now.head.now) request.entry.now.fields.now)) }
 {
     match Found::look(request.head, request.fields, b"Registry-Retry-Key") {

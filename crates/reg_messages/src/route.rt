@@ -1,7 +1,7 @@
 //! The one route that there is, its methods and what a target names.
 
 ghost use Rattle.std.specs.Prelude.{◌≡◌, ◌<◌, ◌==◌, length, position, IfSome, bytes_eq, option_map};
-ghost use Rattle.reg_messages.specs.Requests.{path_of as path_in, is_config as is_config_path, allow_of as allow_beside};
+ghost use Rattle.reg_messages.specs.Requests.{path_of, is_config, allow_of};
 
 use http::Method;
 
@@ -15,7 +15,7 @@ fn query_at(target: &[u8]) -> Option<usize>
 
 /// The target's path, up to its query.
 fn path_of(target: &[u8]) -> &[u8]
-    ensures { result.now ≡ path_in target.entry.now }
+    ensures { result.now ≡ path_of target.entry.now }
 {
     match query_at(target) {
         None => target,
@@ -25,7 +25,7 @@ fn path_of(target: &[u8]) -> &[u8]
 
 /// Whether the target's path is that of the global configuration.
 pub fn is_config(target: &[u8]) -> bool
-    ensures { result ≡ is_config_path (path_in target.now) }
+    ensures { result ≡ is_config (path_of target.now) }
 {
     path_of(target) == b"/config".as_slice()
 }
@@ -39,7 +39,7 @@ pub fn is_method(bytes: &[u8], method: &Method) -> bool
 
 /// The `Allow` that is due beside a reply of this status.
 pub fn allow_of(target: &[u8], status: u16) -> Option<&'static str>
-    ensures { option_map (λ text. text.now) result ≡ allow_beside target.now status }
+    ensures { option_map (λ text. text.now) result ≡ allow_of target.now status }
 {
     if status == 405 && is_config(target) {
         Some("GET, PUT")

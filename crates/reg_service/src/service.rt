@@ -5,7 +5,7 @@ ghost use Rattle.reg_core.specs.CommandTexts.{command_text};
 ghost use Rattle.reg_core.specs.Machine.{step};
 ghost use Rattle.reg_core.specs.Registry.{Registry};
 ghost use Rattle.reg_core.specs.Replies.{IsOwnReply, fault};
-ghost use Rattle.reg_core.specs.Views.{changed};
+ghost use Rattle.reg_core.specs.Views.{after_changes};
 ghost use Rattle.reg_core.specs.KeptReplies.{Kept, kept_with};
 ghost use Rattle.reg_store.specs.Spells.{Leaves, IsOpenOver, SpellsWhileOpen};
 ghost use Rattle.reg_store.specs.Stores.{has_failed, KeepsOpen};
@@ -222,7 +222,7 @@ impl<S: Alter> Service<S> {
         ensures same { HasCleanDisk (state_in self.new) → SpellsOn (state_in self.old) (state_in self.new) }
         ensures decided { HasCleanDisk (state_in self.new) → IfOk result (λ d. (g : Registry) (k : Kept)
             → SpellsWhileOpen (state_in self.old) g k
-            → (d.reply ≡ (step g command.now).1) × (changed d.changes.items g ≡ (step g command.now).0)) }
+            → (d.reply ≡ (step g command.now).1) × (after_changes d.changes.items g ≡ (step g command.now).0)) }
         ensures own { IfOk result (λ d. IsOwnReply d.reply) }
         ensures crash { HasCleanDisk (state_in self.new)
             → LeavesNoMore (state_in self.old) (state_in self.new) }

@@ -42,7 +42,7 @@ module _ {S T : Type 0} {g : Ghosts S} (settles : Settles g) (old new : Store S 
 
     -- a call that only reads
     pub keeps_by_reading : (HasCleanDisk (state_of new) → OnlyReads (state_of old) (state_of new)) → KeepsStore old new result
-    keeps_by_reading reads = keeps_store (λ clean. (reads clean).kept.was_open)
+    keeps_by_reading reads = keeps_store (λ clean. (reads clean).commit_stays.was_open)
 
 -- a call that succeeds over an open connection alone, and where it fails commits nothing, opens none
 pub opens_none : {X E : Type 0} (old new : State) (r : Result X E) → OnOk r (IsTrue old.is_open) → OnErr r (KeepsCommit old new) → IsTrue new.is_open → IsTrue old.is_open

@@ -63,4 +63,4 @@ module _ (old mid new : State) (reads : HasCleanDisk mid → OnlyReads old mid) 
           it.1 contents (subst (λ (d : Database). HoldsIn unindexed d contents) (sym (same_now old mid (reads early) settled it.0)) holds)
 
 pub only_reads : (old new : State) → KeepsCommit old new → (IsTrue new.is_open → new.now ≡ new.committed) → OnlyReads old new
-only_reads old new kept settled = record { kept = kept; settled = settled }
+only_reads old new stays settled = record { commit_stays = stays; settled = settled }

@@ -52,4 +52,4 @@ global_is contents g k s = ap (λ m. get m (codes "global")) s.meta ∙ get-inse
 
 -- after a read the tables spell what they spelled
 pub reads_on : (old new : State) (g : Registry) (k : Kept) → OnlyReads old new → SpellsWhileOpen old g k → SpellsWhileOpen new g k
-reads_on old new g k reads = still_spells old new g k reads.kept reads.settled
+reads_on old new g k reads = still_spells old new g k reads.commit_stays reads.settled

@@ -5,9 +5,9 @@ use Rattle.reg_tables.specs.Reading.{OnlyReads}
 use Rattle.reg_tables.proofs.Transactions.{keeps_then}
 
 pub reads_then : (a b c : State) → OnlyReads a b → OnlyReads b c → OnlyReads a c
-reads_then a b c p q = record { kept = keeps_then a b c p.kept q.kept; settled = q.settled }
+reads_then a b c p q = record { commit_stays = keeps_then a b c p.commit_stays q.commit_stays; settled = q.settled }
 
 module _ (old mid : State) (r : OnlyReads old mid) (settled : IsTrue old.is_open → old.now ≡ old.committed) where
   -- a later read shows what the first one would
   pub same_now : IsTrue mid.is_open → mid.now ≡ old.now
-  same_now is_open = r.settled is_open ∙ r.kept.committed is_open ∙ sym (settled (r.kept.was_open is_open))
+  same_now is_open = r.settled is_open ∙ r.commit_stays.committed is_open ∙ sym (settled (r.commit_stays.was_open is_open))

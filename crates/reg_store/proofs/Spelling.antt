@@ -6,7 +6,7 @@ use Rattle.std.proofs.lemmas.List.{take_more}
 use Rattle.std.proofs.lemmas.Slice.Eq.{bytes_eq-Decides}
 use Rattle.sqlite.specs.State.{State}
 use Rattle.reg_core.specs.declared.decision.Change.{Change}
-use Rattle.reg_core.specs.Views.{changed, changed_once}
+use Rattle.reg_core.specs.Views.{after_changes, after_change}
 use Rattle.reg_core.specs.declared.level.Level.{Level}
 use Rattle.reg_core.specs.Levels.{level_text}
 use Rattle.reg_core.specs.Subjects.{is_subject}
@@ -82,9 +82,9 @@ module _ (old new : State) where
 
 -- ---- several changes
 
-changed-append : (changes : List Change) (change : Change) (g : Registry) → changed (changes ++ change ∷ []) g ≡ changed_once change (changed changes g)
-changed-append [] change g = refl
-changed-append (c ∷ cs) change g = changed-append cs change (changed_once c g)
+after_changes-append : (changes : List Change) (change : Change) (g : Registry) → after_changes (changes ++ change ∷ []) g ≡ after_change change (after_changes changes g)
+after_changes-append [] change g = refl
+after_changes-append (c ∷ cs) change g = after_changes-append cs change (after_change c g)
 
-pub changed_more : (changes : List Change) (i : ℕ) (change : Change) (g : Registry) → i < length changes → changed (take (i + 1) changes) g ≡ changed_once (get_or changes i change) (changed (take i changes) g)
-changed_more changes i change g lt = ap (λ l. changed l g) (take_more changes i change lt) ∙ changed-append (take i changes) (get_or changes i change) g
+pub after_changes-more : (changes : List Change) (i : ℕ) (change : Change) (g : Registry) → i < length changes → after_changes (take (i + 1) changes) g ≡ after_change (get_or changes i change) (after_changes (take i changes) g)
+after_changes-more changes i change g lt = ap (λ l. after_changes l g) (take_more changes i change lt) ∙ after_changes-append (take i changes) (get_or changes i change) g

@@ -191,7 +191,7 @@ module _ {S : Type 0} (g : Ghosts S) (a b c : Held S) (settled : IsTrue (state g
 
       failed : (r : Result (Unit {0}) StoreError) → IfErr r (IsFaultUnopened (state g b) (state g c)) → HasCleanDisk (state g c) → IfErr r (IsFaultUnopened (state g a) (state g c))
       failed (Ok y) h clean = tt
-      failed (Err e) h clean = λ registry k over. by_since (state g a) (state g b) (state g c) (one.frame.survives.closes (before clean)) one.frame.survives.counts two.frame.survives.counts e (h registry k (λ is_open. subst (λ (d : Database). SpellsUnopened d registry k) (sym (same clean is_open)) (over ((one.frame.only_reads (before clean)).kept.was_open is_open))))
+      failed (Err e) h clean = λ registry k over. by_since (state g a) (state g b) (state g c) (one.frame.survives.closes (before clean)) one.frame.survives.counts two.frame.survives.counts e (h registry k (λ is_open. subst (λ (d : Database). SpellsUnopened d registry k) (sym (same clean is_open)) (over ((one.frame.only_reads (before clean)).commit_stays.was_open is_open))))
 
 module _ {S : Type 0} (g : Ghosts S) (old new : Held S) where
   -- an error that `?` passes on

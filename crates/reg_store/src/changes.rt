@@ -2,7 +2,7 @@
 
 ghost use Rattle.std.specs.Prelude.{◌≢◌, ◌+◌, ℕ, length, [], OnOk, IfErr, IfSome, IsSome, IsTrue};
 ghost use Rattle.sqlite.specs.State.{HasCleanDisk};
-ghost use Rattle.reg_core.specs.Views.{changed, changed_once};
+ghost use Rattle.reg_core.specs.Views.{after_changes, after_change};
 ghost use Rattle.reg_tables.specs.Frames.{state_in, StaysInside, KeepsInside};
 ghost use Rattle.reg_store.specs.Changes.{with_reply, IsNewTo, IsKeepable, Respells, SpellsInside, IsFaultOfChange, IsFaultOfReply, CanStoreChange, CanStoreReply, GoesOn};
 ghost use Rattle.std.specs.List.{AllByRecursion};
@@ -22,7 +22,7 @@ fn make<S: Alter>(tx: &mut Transaction<'_, S>, change: &Change) -> Result<(), Er
     ensures frame { StaysInside S.Store tx.old tx.new result }
     ensures made { HasCleanDisk (state_in S.Store tx.new)
         → OnOk result (Respells (state_in S.Store tx.old) (state_in S.Store tx.new)
-        (changed_once change.now) (λ k. k)) }
+        (after_change change.now) (λ k. k)) }
     ensures fault { HasCleanDisk (state_in S.Store tx.new)
         → IfErr result (IsFaultOfChange (state_in S.Store tx.old) (state_in S.Store tx.new)) }
     ensures room { HasCleanDisk (state_in S.Store tx.new) → OnOk result ((g : Registry) (k : Kept)
@@ -49,7 +49,7 @@ pub(crate) fn make_all<S: Alter>(
         → OnOk result (GoesOn (state_in S.Store tx.old) (state_in S.Store tx.new)) }
     ensures made { HasCleanDisk (state_in S.Store tx.new)
         → OnOk result (Respells (state_in S.Store tx.old) (state_in S.Store tx.new)
-        (changed changes.now) (λ k. k)) }
+        (after_changes changes.now) (λ k. k)) }
     ensures fault { HasCleanDisk (state_in S.Store tx.new)
         → IfErr result (IsFaultOfChange (state_in S.Store tx.old) (state_in S.Store tx.new)) }
     ensures room { HasCleanDisk (state_in S.Store tx.new) → OnOk result ((g : Registry) (k : Kept)

@@ -18,7 +18,7 @@ state_in g tx = state g tx.conn.now
 -- Inside a transaction the connection stays the same and nothing is committed, so a crash leaves what it left before.
 pub record KeepsInside {S : Type 0} (g : Ghosts S) (old new : Transaction S) : Type 0 where
   pub same_reference : new.conn.ghost_name ≡ old.conn.ghost_name
-  pub kept : HasCleanDisk (state_in g new) → KeepsCommit (state_in g old) (state_in g new)
+  pub commit_stays : HasCleanDisk (state_in g new) → KeepsCommit (state_in g old) (state_in g new)
   pub survives : Survives (state_in g old) (state_in g new) (λ _. ⊥)
 
 -- A call that runs a statement inside a transaction keeps that much. Where it succeeds the connection was open, and the transaction goes on; over one that is shut it fails with a fault.

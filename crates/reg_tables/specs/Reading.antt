@@ -15,7 +15,7 @@ use Rattle.reg_tables.specs.Contents.{Contents, AreReadable, HoldsIn}
 
 -- nothing is committed, and while the connection is open it shows the last commit
 pub record OnlyReads (old new : State) : Type 0 where
-  pub kept : KeepsCommit old new
+  pub commit_stays : KeepsCommit old new
   pub settled : IsTrue new.is_open → new.now ≡ new.committed
 
 -- the five tables are there, with or without the index, and hold what can be read

@@ -6,12 +6,10 @@ use std::alloc::{AllocError, Global};
 use std::process::Abort;
 use std::test::Fail;
 
-fn words<'a>(
-    alloc: Global,
-    list: impl Iterator<Item = &'a str>,
-) -> Result<Vec<String>, AllocError> {
+/// The words of a line.
+fn words(alloc: Global, line: &str) -> Result<Vec<String>, AllocError> {
     let mut words = Vec::new(alloc);
-    for word in list {
+    for word in line.split_whitespace() {
         words.push(String::from_str(alloc, word)?)?;
     }
     Ok(words)
@@ -19,7 +17,7 @@ fn words<'a>(
 
 /// The job that the words of a line ask for, in words.
 fn asked(alloc: Global, line: &str) -> Result<String, AllocError> {
-    match job_of(words(alloc, line.split_whitespace())?.as_slice()) {
+    match job_of(words(alloc, line)?.as_slice()) {
         Ok(Job::Run { database: None }) => String::from_str(alloc, "a registry in memory"),
         Ok(
             Job::Run {
@@ -80,14 +78,13 @@ fn other_words_are_no_job(rt: HostRuntime) -> Result<(), Fail> {
 /// Each line of the usage text that begins with the program's name is a job's.
 #[test]
 fn the_usage_lists_jobs(rt: HostRuntime) -> Result<(), Fail> {
-    let mut listed = 0;
+    let lines = USAGE.lines().filter(|line| line.contains(" avroreg "));
+    assert_eq!(&rt; lines.count(), 4);
     for line in USAGE.lines() {
         if let Some((_, words)) = line.split_once(" avroreg ") {
             let job = asked(rt.alloc(), words)?;
             assert!(&rt; job.as_str() != "usage", "{line}");
-            listed += 1;
         }
     }
-    assert_eq!(&rt; listed, 4);
     Ok(())
 }

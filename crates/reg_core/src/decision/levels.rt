@@ -1,11 +1,11 @@
 //! Commands that set and show compatibility levels.
 
 ghost use Rattle.std.specs.Prelude.{◌≡◌, ◌≢◌, [], IfOk, option_copied};
-ghost use Rattle.reg_core.specs.LevelCommands.{level_object, level_shown, set_level, shown};
+ghost use Rattle.reg_core.specs.LevelCommands.{level_object, level_shown, set_level, shown_reply};
 ghost use Rattle.reg_core.specs.Levels.{level_of};
 ghost use Rattle.reg_core.specs.Registry.{Registry};
 ghost use Rattle.reg_core.specs.Replies.{answer};
-ghost use Rattle.reg_core.specs.Views.{changed};
+ghost use Rattle.reg_core.specs.Views.{after_changes};
 
 use crate::code::Code;
 use crate::decision::{Change, Decision, View, unchanged};
@@ -26,7 +26,7 @@ pub fn set_level(
     ensures reply { IfOk result (λ decision. (g : Registry)
         → decision.reply ≡ (set_level g (option_copied subject.entry) (level_of text.now)).1) }
     ensures changes { IfOk result (λ decision. (g : Registry)
-        → changed decision.changes.items g ≡ (set_level g (option_copied subject.entry) (level_of text.now)).0) }
+        → after_changes decision.changes.items g ≡ (set_level g (option_copied subject.entry) (level_of text.now)).0) }
     ensures refusal { IfOk result (λ decision. decision.reply.status ≢ 200 → decision.changes.items ≡ []) }
 {
     let Some(level) = Level::parse(text) else {
@@ -57,8 +57,8 @@ pub fn level_shown(view: &View, default_to_global: bool) -> Option<Level>
 }
 
 /// The reply that shows a subject's level.
-pub fn shown(alloc: Global, level: Option<Level>) -> Result<Reply, OutOfMemory>
-    ensures { IfOk result (λ reply. reply ≡ shown level) }
+pub fn shown_reply(alloc: Global, level: Option<Level>) -> Result<Reply, OutOfMemory>
+    ensures { IfOk result (λ reply. reply ≡ shown_reply level) }
 {
     match level {
         Some(level) => level_reply(alloc, "compatibilityLevel", level),

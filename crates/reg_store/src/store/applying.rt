@@ -5,7 +5,7 @@ ghost use Rattle.sqlite.specs.Tree.{Trees};
 ghost use Rattle.sqlite.specs.Held.{state};
 ghost use Rattle.sqlite.specs.State.{HasCleanDisk, Survives, KeepsCommit};
 ghost use Rattle.reg_core.specs.Registry.{Registry};
-ghost use Rattle.reg_core.specs.Views.{changed};
+ghost use Rattle.reg_core.specs.Views.{after_changes};
 ghost use Rattle.reg_tables.specs.Reading.{OnlyReads};
 ghost use Rattle.reg_core.specs.KeptReplies.{Kept};
 ghost use Rattle.reg_store.specs.Spells.{Leaves, IsOpenOver, SpellsWhileOpen};
@@ -32,7 +32,7 @@ fn commit_all<S: Alter>(
     ensures idle { conn.new.in_transaction ≡ false }
     ensures done { HasCleanDisk (state S.Store conn.new) → OnOk result ((g : Registry) (k : Kept)
         → SpellsWhileOpen (state S.Store conn.old) g k → IsNewTo k keep.entry
-        → IsOpenOver (state S.Store conn.new) (changed changes.now g) (with_reply keep.entry k)) }
+        → IsOpenOver (state S.Store conn.new) (after_changes changes.now g) (with_reply keep.entry k)) }
     ensures fault { HasCleanDisk (state S.Store conn.new) → IfErr result (λ e.
         (g : Registry) (k : Kept) → SpellsWhileOpen (state S.Store conn.old) g k
         → IsNewTo k keep.entry → IsTrue (is_fault (failure_of e))) }
@@ -48,7 +48,7 @@ fn commit_all<S: Alter>(
         (g : Registry) (k : Kept)
         → SpellsWhileOpen (state S.Store conn.old) g k → IsNewTo k keep.entry
         → IsTrue (state S.Store conn.old).is_open ⊎ ActsOn changes.now keep.entry
-        → Leaves db (changed changes.now g) (with_reply keep.entry k)) }
+        → Leaves db (after_changes changes.now g) (with_reply keep.entry k)) }
 {
     let mut tx = conn.transaction();
     make_all(&mut tx, changes)?;
@@ -70,7 +70,7 @@ impl<S: Alter> Store<S> {
         ensures frame { KeepsStore self.old self.new result }
         ensures done { HasCleanDisk (state_of self.new) → OnOk result ((g : Registry) (k : Kept)
             → SpellsWhileOpen (state_of self.old) g k → IsNewTo k keep.entry
-            → IsOpenOver (state_of self.new) (changed changes.now g) (with_reply keep.entry k)) }
+            → IsOpenOver (state_of self.new) (after_changes changes.now g) (with_reply keep.entry k)) }
         ensures fault { HasCleanDisk (state_of self.new) → IfErr result (λ e.
             (g : Registry) (k : Kept) → SpellsWhileOpen (state_of self.old) g k
             → IsNewTo k keep.entry → IsTrue (is_fault e)) }
@@ -87,14 +87,14 @@ impl<S: Alter> Store<S> {
         ensures crash { HasCleanDisk (state_of self.new) → (g : Registry) (k : Kept)
             → IsOpenOver (state_of self.old) g k → IsNewTo k keep.entry
             → (db : Trees) → (state_of self.new).may_leave db
-            → Leaves db g k ⊎ Leaves db (changed changes.now g) (with_reply keep.entry k) }
+            → Leaves db g k ⊎ Leaves db (after_changes changes.now g) (with_reply keep.entry k) }
 
         // So it does where a fault may have shut the connection, if there was something to do.
         ensures crash_shut { HasCleanDisk (state_of self.new) → (g : Registry) (k : Kept)
             → SpellsWhileOpen (state_of self.old) g k → IsNewTo k keep.entry
             → ActsOn changes.now keep.entry → (db : Trees) → (state_of self.new).may_leave db
             → (state_of self.old).may_leave db
-            ⊎ Leaves db (changed changes.now g) (with_reply keep.entry k) }
+            ⊎ Leaves db (after_changes changes.now g) (with_reply keep.entry k) }
 
         // While the connection is open, a crash leaves what the tables spell.
         ensures settled { (g : Registry) (k : Kept) → IsOpenOver (state_of self.new) g k

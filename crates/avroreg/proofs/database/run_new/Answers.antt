@@ -13,5 +13,5 @@ pub returns-in-Err : goal.returns-in-Err
 returns-in-Err g c clean = record {
   unread = refl;
   unwritten = refl;
-  cause = inr (record { full = λ full. c.in-Err.ensures.full full; fault = c.in-Err.ensures.fault clean; kept = c.in-Err.ensures.nothing clean });
+  cause = inr (record { full = λ full. c.in-Err.ensures.full full; fault = c.in-Err.ensures.fault clean; only_reads = c.in-Err.ensures.nothing clean });
 }

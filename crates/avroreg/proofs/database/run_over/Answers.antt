@@ -17,5 +17,5 @@ returns-in-Err g c clean =
     record {
       unread = refl;
       unwritten = refl;
-      cause = inr (record { fault = e.fault clean; newer = e.newer clean; refused = e.refused clean; kept = e.nothing clean });
+      cause = inr (record { fault = e.fault clean; newer = e.newer clean; refused = e.refused clean; only_reads = e.nothing clean });
     }

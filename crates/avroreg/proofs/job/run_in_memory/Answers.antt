@@ -4,7 +4,7 @@ use Rattle.sqlite.proofs.Callers.{memory_is_clean}
 use Rattle.reg_core.specs.Registry.{new_registry}
 use Rattle.reg_core.specs.KeptReplies.{nothing_kept}
 use Rattle.avroreg.specs.declared.stream.Ended.TheVariants.{Memory}
-use Rattle.avroreg.proofs.Ends.{Session-unread}
+use Rattle.avroreg.proofs.EndLemmas.{Session-unread}
 use Rattle.avroreg.proofs.job.run_in_memory.Goals as goal
 
 pub returns-in_default : goal.returns-in_default

@@ -1,6 +1,6 @@
 use Rattle.std.proofs.Common.{ℕ, List, take, subst}
 use Rattle.std.specs.Io.KnownBytes.{Appends}
-use Rattle.avroreg.proofs.Telling.{Begins-part}
+use Rattle.avroreg.proofs.LineLemmas.{Begins-part}
 use Rattle.avroreg.proofs.line.put_parts.Goals as goal
 
 pub returns-then-not-put : goal.returns-then-not-put

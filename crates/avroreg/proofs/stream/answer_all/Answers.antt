@@ -2,8 +2,8 @@ use Rattle.std.proofs.Common.{◌≤◌, ℕ, List, [], ◌∷◌, ◌++◌, dro
 use Rattle.std.proofs.lemmas.List.{take_rest, drop-drop}
 use Rattle.avroreg.specs.Output.{answers}
 use Rattle.avroreg.specs.Sessions.{Carries}
-use Rattle.avroreg.specs.Steps.{AnswersOne, AnswersAs}
-use Rattle.avroreg.proofs.Carrying.{Carries-nil, Carries-append, AnswersAs-after, answers-append}
+use Rattle.avroreg.specs.SessionSteps.{AnswersOne, AnswersAs}
+use Rattle.avroreg.proofs.SessionLemmas.{Carries-nil, Carries-append, AnswersAs-after, answers-append}
 use Rattle.avroreg.proofs.stream.answer_all.Goals as goal
 
 pub loop-length-init : goal.loop-length-init

@@ -3,7 +3,7 @@ use Rattle.sqlite.specs.State.{HasCleanDisk}
 use Rattle.reg_service.specs.Services.{state_in}
 use Rattle.avroreg.specs.Output.{Answered, answers}
 use Rattle.avroreg.specs.Sessions.{Carries}
-use Rattle.avroreg.specs.Standing.{Over}
+use Rattle.avroreg.specs.OverTables.{Over}
 use Rattle.avroreg.proofs.stream.answer_all.Given as goal
 
 abbrev pub invariant-loop-length : goal.invariant-loop-length

@@ -9,7 +9,7 @@ use Rattle.reg_messages.specs.Requests.{allow_of}
 use Rattle.reg_messages.specs.Answers.{answer_bytes, answer_to}
 use Rattle.reg_messages.specs.Messages.{Message}
 use Rattle.avroreg.specs.Output.{Replies}
-use Rattle.avroreg.proofs.Carrying.{Carries-one}
+use Rattle.avroreg.proofs.SessionLemmas.{Carries-one}
 use Rattle.avroreg.proofs.stream.answer_message.Goals as goal
 
 -- the bytes that were due are those of the answer to the message

@@ -1,6 +1,6 @@
 use Rattle.std.proofs.Common.{inl, refl}
 use Rattle.avroreg.specs.declared.stream.Stop.TheVariants.{AtEnd, InMessage, NoRoom}
-use Rattle.avroreg.proofs.Carrying.{AnswersAs-nil, AnswersAs-fault}
+use Rattle.avroreg.proofs.SessionLemmas.{AnswersAs-nil, AnswersAs-fault}
 use Rattle.avroreg.proofs.stream.answer_next.Goals as goal
 
 pub returns-in-Nothing-clause-next : goal.returns-in-Nothing-clause-next

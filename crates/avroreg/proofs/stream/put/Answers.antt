@@ -2,7 +2,7 @@ use Rattle.std.proofs.Common.{◌≡◌, ◌≤◌, ℕ, List, ◌+◌, ◌-◌,
 use Rattle.std.specs.Io.KnownBytes.{Appends}
 use Rattle.std.proofs.KnownBytes.{Appends-trans, Appends-kept}
 use Rattle.std.proofs.lemmas.List.{take_rest}
-use Rattle.avroreg.proofs.Bytes.{take-joined}
+use Rattle.avroreg.proofs.ByteLemmas.{take-joined}
 use Rattle.avroreg.proofs.stream.put.Goals as goal
 use Rattle.avroreg.proofs.stream.put.Goals.{in-Ok, in-Err}
 

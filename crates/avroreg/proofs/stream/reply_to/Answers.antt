@@ -1,4 +1,4 @@
-use Rattle.avroreg.proofs.Serving.{Replies-delivered, Replies-refused}
+use Rattle.avroreg.proofs.ReplyLemmas.{Replies-delivered, Replies-refused}
 use Rattle.avroreg.proofs.stream.reply_to.Goals as goal
 
 pub returns-in-Ok-clause-replies : goal.returns-in-Ok-clause-replies

@@ -1,7 +1,7 @@
 use Rattle.std.proofs.Common.{ℕ, List, [], ◌++◌, subst}
 use Rattle.std.proofs.KnownBytes.{Consumes-nil}
-use Rattle.avroreg.specs.Steps.{AnswersAs}
-use Rattle.avroreg.proofs.Ends.{Session-read, Session-unread}
+use Rattle.avroreg.specs.SessionSteps.{AnswersAs}
+use Rattle.avroreg.proofs.EndLemmas.{Session-read, Session-unread}
 use Rattle.avroreg.proofs.stream.run_on.Goals as goal
 
 pub returns-clause-session : goal.returns-clause-session

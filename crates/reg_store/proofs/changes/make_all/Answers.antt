@@ -8,12 +8,12 @@ use Rattle.std.proofs.lemmas.List.{take_all}
 use Rattle.std.proofs.lemmas.Bool.{both_ways}
 use Rattle.sqlite.specs.Held.{state}
 use Rattle.sqlite.specs.State.{HasCleanDisk}
-use Rattle.reg_core.specs.Views.{changed, changed_once}
+use Rattle.reg_core.specs.Views.{after_changes, after_change}
 use Rattle.reg_store.specs.Spells.{Spells}
 use Rattle.reg_tables.proofs.Transactions.{keeps_then, survives_both}
 use Rattle.reg_tables.proofs.WriteFaults.{erred_with}
 use Rattle.reg_store.specs.Changes.{SpellsInside, IsFaultOfChange, CanStoreChange}
-use Rattle.reg_store.proofs.Spelling.{changed_more}
+use Rattle.reg_store.proofs.Spelling.{after_changes-more}
 use Rattle.reg_store.proofs.Writing.{fault_later, write_later, all_got, nonempty}
 use Rattle.reg_store.proofs.changes.make_all.Goals as goal
 
@@ -31,21 +31,21 @@ loop-change-preserved g c =
     record {
       same = it.frame.keeps.same_reference ∙ before.same;
       made = λ clean registry k s.
-          let before_this = changed (take i changes) registry in
+          let before_this = after_changes (take i changes) registry in
           let step = it.made clean before_this k (before.made (early clean) registry k s) in
-          let more = ap (λ d. changed_once d before_this) c.change-item.is ∙ sym (changed_more changes i item registry (omega arith)) in
+          let more = ap (λ d. after_change d before_this) c.change-item.is ∙ sym (after_changes-more changes i item registry (omega arith)) in
           subst (λ x. Spells new.now x k) more step;
-      was_open = λ clean _. (before.kept (early clean)).was_open (it.frame.was_open clean);
+      was_open = λ clean _. (before.commit_stays (early clean)).was_open (it.frame.was_open clean);
       goes_on = λ clean ended. absurd (both_ways _ ended (it.frame.inside clean));
-      kept = λ clean. keeps_then old mid new (before.kept (early clean)) (it.frame.keeps.kept clean);
+      commit_stays = λ clean. keeps_then old mid new (before.commit_stays (early clean)) (it.frame.keeps.commit_stays clean);
       survives = survives_both old mid new before.survives it.frame.keeps.survives;
       room = λ clean registry k s n rooms.
-          it.room clean (changed (take i changes) registry) k (before.made (early clean) registry k s) n (before.room (early clean) registry k s (n + 1) (subst (HasRooms old.now) (let e : i + 1 + n ≡ i + (n + 1) = omega arith in e) rooms));
+          it.room clean (after_changes (take i changes) registry) k (before.made (early clean) registry k s) n (before.room (early clean) registry k s (n + 1) (subst (HasRooms old.now) (let e : i + 1 + n ≡ i + (n + 1) = omega arith in e) rooms));
     }
 
 pub returns-clause-made : goal.returns-clause-made
 returns-clause-made g c clean registry k s =
-    subst (λ l. Spells (state g.S.Store c.loop-change.tx.conn.now).now (changed l registry) k) (take_all c.loop-change.change-index c.args.changes.now (omega arith)) (c.loop-change.invariant.made clean registry k s)
+    subst (λ l. Spells (state g.S.Store c.loop-change.tx.conn.now).now (after_changes l registry) k) (take_all c.loop-change.change-index c.args.changes.now (omega arith)) (c.loop-change.invariant.made clean registry k s)
 
 pub returns-in_err-make-clause-fault : goal.returns-in_err-make-clause-fault
 returns-in_err-make-clause-fault g c clean =
@@ -55,7 +55,7 @@ returns-in_err-make-clause-fault g c clean =
     let early : HasCleanDisk mid = omega (arith, c.in_err-make.ensures.frame.keeps.survives.clean) in
     let e = c.in_err-make.field-0.0 in
     erred_with c.from_residual.result e (IsFaultOfChange old (state g.S.Store c.make.new.tx.conn.now)) c.from_residual.ensures.1 (λ registry k spells. fault_later old mid (state g.S.Store c.make.new.tx.conn.now) before.survives early c.make.ensures.frame.keeps.survives.counts (before.goes_on early) e
-    (c.in_err-make.ensures.fault clean (changed (take c.loop-change.change-index c.args.changes.now) registry) k (λ is_open. before.made early registry k (spells ((before.kept early).was_open is_open)))))
+    (c.in_err-make.ensures.fault clean (after_changes (take c.loop-change.change-index c.args.changes.now) registry) k (λ is_open. before.made early registry k (spells ((before.commit_stays early).was_open is_open)))))
 
 pub returns-clause-was_open : goal.returns-clause-was_open
 returns-clause-was_open g c clean some =
@@ -84,6 +84,6 @@ returns-in_err-make-clause-fits g c clean =
     let more = length changes - (i + 1) + n in
     let enough : length changes + n ≡ i + (more + 1) = omega arith in
     write_later old mid last before.survives early c.make.ensures.frame.keeps.survives.counts (before.goes_on early) e
-    (c.in_err-make.ensures.fits clean (changed (take i changes) registry) k (λ is_open. before.made early registry k (spells ((before.kept early).was_open is_open))) more
-    (λ is_open. let was = (before.kept early).was_open is_open in before.room early registry k (spells was) (more + 1) (subst (HasRooms old.now) enough (rooms was)))
+    (c.in_err-make.ensures.fits clean (after_changes (take i changes) registry) k (λ is_open. before.made early registry k (spells ((before.commit_stays early).was_open is_open))) more
+    (λ is_open. let was = (before.commit_stays early).was_open is_open in before.room early registry k (spells was) (more + 1) (subst (HasRooms old.now) enough (rooms was)))
     (all_got CanStoreChange changes i c.change-item.result c.change-item.result c.loop-change-test.true c.change-item.is stored)))

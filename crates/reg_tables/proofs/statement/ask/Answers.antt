@@ -43,7 +43,7 @@ returns-clause-frame g c =
           let undone = c.rollback.ensures.undone late in
           let whole = keeps_then begun mid (state g.S.Store end) asked (keeps_if_undone mid (state g.S.Store end) undone) in
           let from : KeepsCommit first (state g.S.Store end) = (let it = rw c.transaction-tx.ensures.begun at whole in record { was_open = it.was_open; committed = it.committed }) in
-          let all : OnlyReads first (state g.S.Store end) = record { kept = from; settled = λ h. (undone.undone h).0 ∙ sym (undone.undone h).1 } in
+          let all : OnlyReads first (state g.S.Store end) = record { commit_stays = from; settled = λ h. (undone.undone h).0 ∙ sym (undone.undone h).1 } in
           subst (λ h. OnlyReads first (state g.S.Store h)) same all;
       survives = search rules;
     }

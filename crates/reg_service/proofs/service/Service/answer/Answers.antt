@@ -1,6 +1,6 @@
 use Rattle.reg_service.specs.Services.{state_in}
-use Rattle.reg_service.proofs.Over.{refused_over, fault_over}
-use Rattle.reg_service.proofs.Crashing.{leaves_open}
+use Rattle.reg_service.proofs.OverTables.{refused_over, fault_over}
+use Rattle.reg_service.proofs.CrashLemmas.{leaves_open}
 use Rattle.reg_service.proofs.service.Service.answer.Goals as goal
 
 pub returns-in-Err-clause-served : goal.returns-in-Err-clause-served

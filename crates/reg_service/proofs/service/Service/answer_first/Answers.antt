@@ -3,12 +3,12 @@ use Rattle.std.specs.Prelude.{OnOk}
 use Rattle.reg_core.specs.Machine.{step}
 use Rattle.reg_core.specs.Registry.{Registry}
 use Rattle.reg_core.specs.Replies.{Told}
-use Rattle.reg_core.specs.Views.{changed}
+use Rattle.reg_core.specs.Views.{after_changes}
 use Rattle.reg_core.specs.KeptReplies.{kept_with}
 use Rattle.reg_store.specs.Spells.{Leaves}
 use Rattle.reg_service.specs.Services.{state_in}
-use Rattle.reg_service.proofs.Standing.{whatever_fails}
-use Rattle.reg_service.proofs.Crashing.{leaves_failed}
+use Rattle.reg_service.proofs.StoreCalls.{whatever_fails}
+use Rattle.reg_service.proofs.CrashLemmas.{leaves_failed}
 use Rattle.reg_service.proofs.service.Service.answer_first.Goals as goal
 
 pub returns-in_err-changes-clause-err : goal.returns-in_err-changes-clause-err
@@ -35,8 +35,8 @@ returns-in_err-apply-clause-crash g c clean registry k over fresh db it =
     leaves_failed c.from_residual-in_err-apply.result (state_in c.args.self.now) db (step registry c.args.command.now).0 (kept (step registry c.args.command.now).1) none
     (elim (c.apply.ensures.crash_shut clean registry k mid fresh (inr refl) db it) [
       | inl was ↦ inl (c.in_ok-changes.ensures.crash early db was)
-      | inr made ↦ inr (subst (λ (r : Registry). Leaves db r (kept (step registry c.args.command.now).1)) (ap (λ l. changed l registry) c.deref.ensures.value ∙ decided.1)
-          (subst (λ (t : Told). Leaves db (changed c.deref.result.now registry) (kept t)) decided.0 made))
+      | inr made ↦ inr (subst (λ (r : Registry). Leaves db r (kept (step registry c.args.command.now).1)) (ap (λ l. after_changes l registry) c.deref.ensures.value ∙ decided.1)
+          (subst (λ (t : Told). Leaves db (after_changes c.deref.result.now registry) (kept t)) decided.0 made))
     ])
 
 pub returns-clause-crash : goal.returns-clause-crash
@@ -46,5 +46,5 @@ returns-clause-crash g c clean registry k over fresh db it =
     let decided = c.in_ok-changes.ensures.decided early registry k over in
     let kept = λ (t : Told). kept_with k c.args.key.now (record { text = c.args.text.now; reply = t }) in
     let made = c.in_ok-apply.ensures.done clean registry k mid fresh in
-    subst (λ (r : Registry). Leaves db r (kept (step registry c.args.command.now).1)) (ap (λ l. changed l registry) c.deref.ensures.value ∙ decided.1)
-    (subst (λ (t : Told). Leaves db (changed c.deref.result.now registry) (kept t)) decided.0 (c.in_ok-apply.ensures.settled (changed c.deref.result.now registry) (kept c.in_ok-changes.field-0.reply) made db it))
+    subst (λ (r : Registry). Leaves db r (kept (step registry c.args.command.now).1)) (ap (λ l. after_changes l registry) c.deref.ensures.value ∙ decided.1)
+    (subst (λ (t : Told). Leaves db (after_changes c.deref.result.now registry) (kept t)) decided.0 (c.in_ok-apply.ensures.settled (after_changes c.deref.result.now registry) (kept c.in_ok-changes.field-0.reply) made db it))

@@ -2,11 +2,11 @@ use Rattle.std.proofs.Common.{inl, inr, sym, ap, subst, ◌∙◌, rules}
 use Rattle.std.specs.Prelude.{OnOk}
 use Rattle.reg_core.specs.Machine.{step}
 use Rattle.reg_core.specs.Registry.{Registry}
-use Rattle.reg_core.specs.Views.{changed}
+use Rattle.reg_core.specs.Views.{after_changes}
 use Rattle.reg_store.specs.Spells.{Leaves}
 use Rattle.reg_service.specs.Services.{state_in}
-use Rattle.reg_service.proofs.Standing.{whatever_fails, no_changes, some_changes, spells_changed}
-use Rattle.reg_service.proofs.Crashing.{leaves_open, leaves_failed}
+use Rattle.reg_service.proofs.StoreCalls.{whatever_fails, no_changes, some_changes, spells_changed}
+use Rattle.reg_service.proofs.CrashLemmas.{leaves_open, leaves_failed}
 use Rattle.reg_service.proofs.service.Service.carry_out.Goals as goal
 use Rattle.reg_service.proofs.service.Service.carry_out.Goals.{then-not-is_empty+in_ok-apply, else-not-is_empty}
 
@@ -42,7 +42,7 @@ returns-in_err-apply-clause-crash g c clean registry k over db it =
     leaves_failed c.from_residual-in_err-apply.result (state_in c.args.self.now) db (step registry c.args.command.now).0 k none
     (elim (c.apply.ensures.crash_shut clean registry k mid tt (inl (λ e. some (sym c.deref.ensures.value ∙ e))) db it) [
       | inl was ↦ inl (c.in_ok-changes.ensures.crash early db was)
-      | inr made ↦ inr (subst (λ (r : Registry). Leaves db r k) (ap (λ l. changed l registry) c.deref.ensures.value ∙ decided.1) made)
+      | inr made ↦ inr (subst (λ (r : Registry). Leaves db r k) (ap (λ l. after_changes l registry) c.deref.ensures.value ∙ decided.1) made)
     ])
 
 pub returns-clause-crash : goal.returns-clause-crash
@@ -53,10 +53,10 @@ returns-clause-crash g c =
           let mid = c.in_ok-changes.ensures.same early registry k (λ _. over) in
           let decided = c.in_ok-changes.ensures.decided early registry k (λ _. over) in
           let made = w.in_ok-apply.ensures.done clean registry k mid tt in
-          subst (λ (r : Registry). Leaves db r k) (ap (λ l. changed l registry) w.deref.ensures.value ∙ decided.1) (w.in_ok-apply.ensures.settled (changed w.deref.result.now registry) k made db it))
+          subst (λ (r : Registry). Leaves db r k) (ap (λ l. after_changes l registry) w.deref.ensures.value ∙ decided.1) (w.in_ok-apply.ensures.settled (after_changes w.deref.result.now registry) k made db it))
       | else-not-is_empty w ↦ rw w.self-is (λ clean registry k over db it.
           let decided = c.in_ok-changes.ensures.decided clean registry k (λ _. over) in
           let none = no_changes c.in_ok-changes.field-0.changes (sym c.is_empty.ensures ∙ w.if-not-is_empty.false) in
           let left = leaves_open (state_in c.args.self.now) registry k db (g.met.S.Store.settled c.args.self.now.store.conn.store db) over (c.in_ok-changes.ensures.crash clean db it) in
-          subst (λ (r : Registry). Leaves db r k) (ap (λ l. changed l registry) (sym none) ∙ decided.1) left)
+          subst (λ (r : Registry). Leaves db r k) (ap (λ l. after_changes l registry) (sym none) ∙ decided.1) left)
     ]

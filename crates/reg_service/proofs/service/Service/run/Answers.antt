@@ -3,11 +3,11 @@ use Rattle.std.proofs.lemmas.List.{take_all}
 use Rattle.reg_core.specs.declared.delivery.Delivery.{Delivery}
 use Rattle.reg_service.specs.Deliveries.{served}
 use Rattle.reg_service.specs.Crashes.{IsFoundAfter}
-use Rattle.reg_service.proofs.Again.{repeats_agree, no_other_answers}
+use Rattle.reg_service.proofs.DueReplies.{repeats_agree, no_other_answers}
 use Rattle.reg_service.specs.Services.{state_in}
-use Rattle.reg_service.proofs.Over.{none_over, next_over}
-use Rattle.reg_service.proofs.Crashing.{leaves_open, found_none, found_next}
-use Rattle.reg_service.proofs.Closing.{keeps_open, keeps_then}
+use Rattle.reg_service.proofs.OverTables.{none_over, next_over}
+use Rattle.reg_service.proofs.CrashLemmas.{leaves_open, found_none, found_next}
+use Rattle.reg_service.proofs.OpenConnections.{keeps_open, keeps_then}
 use Rattle.reg_service.proofs.service.Service.run.Goals as goal
 
 pub loop-delivery-init : goal.loop-delivery-init

@@ -4,9 +4,9 @@ use Rattle.reg_core.specs.CommandTexts.{command_text}
 use Rattle.reg_core.specs.KeptReplies.{entry_told}
 use Rattle.reg_store.specs.Stores.{state_of}
 use Rattle.reg_service.specs.Services.{state_in}
-use Rattle.reg_service.proofs.Standing.{whatever_fails, fails_as}
-use Rattle.reg_service.proofs.Over.{keyless_over, first_over, again_over}
-use Rattle.reg_service.proofs.Crashing.{leaves_open, found_failed, found_keyless, found_first, found_again}
+use Rattle.reg_service.proofs.StoreCalls.{whatever_fails, fails_as}
+use Rattle.reg_service.proofs.OverTables.{keyless_over, first_over, again_over}
+use Rattle.reg_service.proofs.CrashLemmas.{leaves_open, found_failed, found_keyless, found_first, found_again}
 use Rattle.reg_service.proofs.service.Service.try_answer.Goals as goal
 
 pub returns-in_default-clause-served : goal.returns-in_default-clause-served

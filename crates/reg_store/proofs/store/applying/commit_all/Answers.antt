@@ -6,7 +6,7 @@ use Rattle.sqlite.specs.State.{HasCleanDisk, Survives, KeepsCommit}
 use Rattle.sqlite.proofs.StateLemmas.{survives_then}
 use Rattle.sqlite.proofs.Callers.{survives_begin}
 use Rattle.reg_core.specs.Registry.{Registry}
-use Rattle.reg_core.specs.Views.{changed}
+use Rattle.reg_core.specs.Views.{after_changes}
 use Rattle.reg_tables.proofs.Transactions.{on_ok, if_err, keeps_then, keeps_if_undone, survives_both}
 use Rattle.reg_tables.proofs.WriteFaults.{erred_with}
 use Rattle.reg_core.specs.KeptReplies.{Kept}
@@ -29,10 +29,10 @@ returns-clause-done g c clean =
     let clean_last : HasCleanDisk last = omega (arith, c.commit.ensures.survives.clean) in
     let clean_mid : HasCleanDisk (state g.S.Store c.make_all.new.tx.conn.now) = omega (arith, c.keep_reply.ensures.frame.survives.clean) in
     on_ok c.commit.result (λ done registry k spells fresh.
-    let after = changed c.args.changes.now registry in
+    let after = after_changes c.args.changes.now registry in
     let kept = with_reply c.args.keep k in
-    let mid_open = (c.keep_reply.ensures.frame.kept clean_last).was_open done.1.was_open in
-    let begun_open = (c.make_all.ensures.frame.kept clean_mid).was_open mid_open in
+    let mid_open = (c.keep_reply.ensures.frame.commit_stays clean_last).was_open done.1.was_open in
+    let begun_open = (c.make_all.ensures.frame.commit_stays clean_mid).was_open mid_open in
     let was = spells (subst (λ h. IsTrue (state g.S.Store h).is_open) c.transaction-tx.ensures.begun begun_open) in
     let begun = subst (λ h. Spells (state g.S.Store h).now registry k) (sym c.transaction-tx.ensures.begun) was.spells in
     let made = c.in_ok-make_all.ensures.made clean_mid registry k begun in
@@ -49,7 +49,7 @@ returns-clause-survives g c =
     let begun = state g.S.Store c.transaction-tx.result.conn.now in
     let mid = state g.S.Store c.make_all.new.tx.conn.now in
     let last = state g.S.Store c.keep_reply.new.tx.conn.now in
-    let P = λ (db : Trees). (registry : Registry) (k : Kept) → SpellsWhileOpen first registry k → IsNewTo k c.args.keep → IsTrue first.is_open ⊎ ActsOn c.args.changes.now c.args.keep → Leaves db (changed c.args.changes.now registry) (with_reply c.args.keep k) in
+    let P = λ (db : Trees). (registry : Registry) (k : Kept) → SpellsWhileOpen first registry k → IsNewTo k c.args.keep → IsTrue first.is_open ⊎ ActsOn c.args.changes.now c.args.keep → Leaves db (after_changes c.args.changes.now registry) (with_reply c.args.keep k) in
     let inside = survives_both begun mid last c.make_all.ensures.frame.survives c.keep_reply.ensures.frame.survives in
     let commits = λ (clean : HasCleanDisk (state g.S.Store end)) (db : Trees) (is : db ≡ last.now.trees) (registry : Registry) (k : Kept) (spells : SpellsWhileOpen first registry k) (fresh : IsNewTo k c.args.keep) (acts : IsTrue first.is_open ⊎ ActsOn c.args.changes.now c.args.keep).
     let clean_last : HasCleanDisk last = omega (arith, c.commit.ensures.survives.clean) in
@@ -59,13 +59,13 @@ returns-clause-survives g c =
       | inl is_open ↦ is_open
       | inr act ↦ opened (elim act [
         | inl change ↦ c.in_ok-make_all.ensures.was_open clean_mid change
-        | inr reply ↦ (c.make_all.ensures.frame.kept clean_mid).was_open (c.in_ok-keep_reply.ensures.was_open clean_last reply)
+        | inr reply ↦ (c.make_all.ensures.frame.commit_stays clean_mid).was_open (c.in_ok-keep_reply.ensures.was_open clean_last reply)
       ])
     ] in
     let spelled = subst (λ h. Spells (state g.S.Store h).now registry k) (sym c.transaction-tx.ensures.begun) (spells was_open).spells in
     let made = c.in_ok-make_all.ensures.made clean_mid registry k spelled in
-    let put = c.in_ok-keep_reply.ensures.put clean_last (changed c.args.changes.now registry) k made fresh in
-    leaves_if_spelled db last.now (changed c.args.changes.now registry) (with_reply c.args.keep k) is put in
+    let put = c.in_ok-keep_reply.ensures.put clean_last (after_changes c.args.changes.now registry) k made fresh in
+    leaves_if_spelled db last.now (after_changes c.args.changes.now registry) (with_reply c.args.keep k) is put in
     let whole = survives_then first last (state g.S.Store end) _ _ P (λ _ db none. absurd none) commits
     (survives_begin g.S.Store c.args.conn.now last _ (rw c.transaction-tx.ensures.begun at inside)) c.commit.ensures.survives in
     subst (λ h. Survives first (state g.S.Store h) P) same whole
@@ -97,8 +97,8 @@ returns-in_err-keep_reply-clause-fault g c clean =
     let spelled = begun_spells g.S.Store c.args.conn.now c.transaction-tx.result.conn.now is registry k over in
     is_fault_of_insert begun (state g.S.Store c.keep_reply.new.tx.conn.now) e (ap (λ (h : Held _). h.step_limit) is ∙ c.requires.unlimited) (ap (λ (h : Held _). h.in_transaction) is)
     (fault_later begun mid (state g.S.Store c.keep_reply.new.tx.conn.now) c.make_all.ensures.frame.survives clean_mid c.keep_reply.ensures.frame.survives.counts (c.in_ok-make_all.ensures.goes_on clean_mid) e
-    (c.in_err-keep_reply.ensures.fault clean_last (changed c.args.changes.now registry) k
-    (λ is_open. c.in_ok-make_all.ensures.made clean_mid registry k (spelled ((c.make_all.ensures.frame.kept clean_mid).was_open is_open))) fresh)))
+    (c.in_err-keep_reply.ensures.fault clean_last (after_changes c.args.changes.now registry) k
+    (λ is_open. c.in_ok-make_all.ensures.made clean_mid registry k (spelled ((c.make_all.ensures.frame.commit_stays clean_mid).was_open is_open))) fresh)))
 
 pub returns-clause-fault : goal.returns-clause-fault
 returns-clause-fault g c clean =
@@ -120,7 +120,7 @@ returns-clause-was_open g c clean =
     let clean_last : HasCleanDisk (state g.S.Store c.keep_reply.new.tx.conn.now) = omega (arith, c.commit.ensures.survives.clean) in
     let clean_mid : HasCleanDisk (state g.S.Store c.make_all.new.tx.conn.now) = omega (arith, c.keep_reply.ensures.frame.survives.clean) in
     on_ok c.commit.result (λ done.
-    let begun_open = (c.make_all.ensures.frame.kept clean_mid).was_open ((c.keep_reply.ensures.frame.kept clean_last).was_open done.1.was_open) in
+    let begun_open = (c.make_all.ensures.frame.commit_stays clean_mid).was_open ((c.keep_reply.ensures.frame.commit_stays clean_last).was_open done.1.was_open) in
     subst (λ h. IsTrue (state g.S.Store h).is_open) c.transaction-tx.ensures.begun begun_open) (c.commit.ensures.ok late)
 
 pub returns-in_err-make_all-clause-nothing : goal.returns-in_err-make_all-clause-nothing
@@ -133,7 +133,7 @@ returns-in_err-make_all-clause-nothing g c clean =
     let mid = state g.S.Store c.make_all.new.tx.conn.now in
     let clean_mid : HasCleanDisk mid = omega (arith, c.drop-tx.ensures.survives.clean) in
     let all = keeps_begin g.S.Store c.args.conn.now c.transaction-tx.result.conn.now (state g.S.Store end) c.transaction-tx.ensures.begun
-    (keeps_then begun mid (state g.S.Store end) (c.make_all.ensures.frame.kept clean_mid) (keeps_if_undone mid (state g.S.Store end) (c.drop-tx.ensures.undone late))) in
+    (keeps_then begun mid (state g.S.Store end) (c.make_all.ensures.frame.commit_stays clean_mid) (keeps_if_undone mid (state g.S.Store end) (c.drop-tx.ensures.undone late))) in
     on_err_each c.from_residual.result (subst (λ h. KeepsCommit first (state g.S.Store h)) same all)
 
 pub returns-in_err-keep_reply-clause-nothing : goal.returns-in_err-keep_reply-clause-nothing
@@ -149,7 +149,7 @@ returns-in_err-keep_reply-clause-nothing g c clean =
     let clean_mid : HasCleanDisk mid = omega (arith, c.keep_reply.ensures.frame.survives.clean) in
     let ended = keeps_if_undone last (state g.S.Store end) (c.drop-tx-in_err-keep_reply.ensures.undone late) in
     let all = keeps_begin g.S.Store c.args.conn.now c.transaction-tx.result.conn.now (state g.S.Store end) c.transaction-tx.ensures.begun
-    (keeps_then begun mid (state g.S.Store end) (c.make_all.ensures.frame.kept clean_mid) (keeps_then mid last (state g.S.Store end) (c.keep_reply.ensures.frame.kept clean_last) ended)) in
+    (keeps_then begun mid (state g.S.Store end) (c.make_all.ensures.frame.commit_stays clean_mid) (keeps_then mid last (state g.S.Store end) (c.keep_reply.ensures.frame.commit_stays clean_last) ended)) in
     on_err_each c.from_residual-in_err-keep_reply.result (subst (λ h. KeepsCommit first (state g.S.Store h)) same all)
 
 pub returns-clause-nothing : goal.returns-clause-nothing
@@ -165,7 +165,7 @@ returns-clause-nothing g c clean =
     let clean_mid : HasCleanDisk mid = omega (arith, c.keep_reply.ensures.frame.survives.clean) in
     on_err c.commit.result (λ e fails.
     let all = keeps_begin g.S.Store c.args.conn.now c.transaction-tx.result.conn.now (state g.S.Store end) c.transaction-tx.ensures.begun
-    (keeps_then begun mid (state g.S.Store end) (c.make_all.ensures.frame.kept clean_mid) (keeps_then mid last (state g.S.Store end) (c.keep_reply.ensures.frame.kept clean_last) (keeps_if_failed last (state g.S.Store end) e fails))) in
+    (keeps_then begun mid (state g.S.Store end) (c.make_all.ensures.frame.commit_stays clean_mid) (keeps_then mid last (state g.S.Store end) (c.keep_reply.ensures.frame.commit_stays clean_last) (keeps_if_failed last (state g.S.Store end) e fails))) in
     subst (λ h. KeepsCommit first (state g.S.Store h)) same all) (c.commit.ensures.err late)
 
 -- the transaction's connection shows the rooms that the connection did
@@ -208,10 +208,10 @@ returns-in_err-keep_reply-clause-fits g c clean =
     (λ e. (registry : Registry) (k : Kept) → SpellsWhileOpen (state g.S.Store conn) registry k → IsNewTo k c.args.keep → HasPlace (state g.S.Store conn) c.args.changes.now c.args.keep → IsFaultBy (state g.S.Store conn) (state g.S.Store c.conn-in_err-keep_reply-1.given.0) (failure_of e)) c.from_residual-in_err-keep_reply.ensures.1
     (λ registry k over fresh place.
     let spelled = begun_spells g.S.Store conn begun is registry k over in
-    let was = λ (is_open : IsTrue (state g.S.Store mid).is_open). (c.make_all.ensures.frame.kept clean_mid).was_open is_open in
+    let was = λ (is_open : IsTrue (state g.S.Store mid).is_open). (c.make_all.ensures.frame.commit_stays clean_mid).was_open is_open in
     let rooms = begun_rooms g.S.Store conn begun is (length c.args.changes.now + 1) place.rooms in
     let write = write_later (state g.S.Store begun) (state g.S.Store mid) (state g.S.Store last) c.make_all.ensures.frame.survives clean_mid c.keep_reply.ensures.frame.survives.counts (c.in_ok-make_all.ensures.goes_on clean_mid) e
-    (c.in_err-keep_reply.ensures.fits clean_last (changed c.args.changes.now registry) k (λ is_open. c.in_ok-make_all.ensures.made clean_mid registry k (spelled (was is_open))) fresh 0
+    (c.in_err-keep_reply.ensures.fits clean_last (after_changes c.args.changes.now registry) k (λ is_open. c.in_ok-make_all.ensures.made clean_mid registry k (spelled (was is_open))) fresh 0
     (λ is_open. c.in_ok-make_all.ensures.room clean_mid registry k (spelled (was is_open)) 1 (rooms (was is_open))) place.reply_fits) in
     subst (λ h. IsFaultBy (state g.S.Store conn) (state g.S.Store h) (failure_of e)) same
     (of_call g.S.Store conn begun last end is c.drop-tx-in_err-keep_reply.ensures.survives.counts (failure_of e)

@@ -27,7 +27,7 @@ returns-clause-done g c clean =
     let late : HasCleanDisk (state g.S.Store end) = search rules in
     let clean_last : HasCleanDisk last = omega (arith, c.commit.ensures.survives.clean) in
     on_ok c.commit.result (λ done.
-    let begun_open = (c.index_versions.ensures.frame.keeps.kept clean_last).was_open done.1.was_open in
+    let begun_open = (c.index_versions.ensures.frame.keeps.commit_stays clean_last).was_open done.1.was_open in
     let was_open = subst (λ h. IsTrue (state g.S.Store h).is_open) c.transaction-tx.ensures.begun begun_open in
     let held = λ (contents : Contents) (holds : HoldsIn unindexed first.now contents).
     let begun = subst (λ h. HoldsIn unindexed (state g.S.Store h).now contents) (sym c.transaction-tx.ensures.begun) holds in

@@ -82,5 +82,5 @@ returns-in_err-made-clause-nothing g c clean =
     let mid = state g.S.Store c.test.new.conn in
     let new = state g.S.Store c.make_index-made.new.conn in
     let early : HasCleanDisk mid = omega (arith, c.make_index-made.ensures.survives.clean) in
-    let kept = keeps_then old mid new (c.in_ok-test.ensures.tests.frame.only_reads early).kept (c.in_err-made.ensures.nothing clean) in
+    let kept = keeps_then old mid new (c.in_ok-test.ensures.tests.frame.only_reads early).commit_stays (c.in_err-made.ensures.nothing clean) in
     on_err_each c.from_residual-in_err-made.result (only_reads old new kept (c.is_autocommit-settled.ensures.settled idle))

@@ -8,8 +8,8 @@ use Rattle.reg_core.specs.Registry.{Registry}
 use Rattle.reg_core.specs.declared.delivery.Delivery.{Delivery}
 use Rattle.reg_core.specs.KeptReplies.{Kept}
 use Rattle.reg_service.specs.Deliveries.{Serves, served}
-use Rattle.reg_service.proofs.Together.{serves_none}
-use Rattle.reg_service.proofs.Alone.{serves_refused}
+use Rattle.reg_service.proofs.JoinedExchanges.{serves_none}
+use Rattle.reg_service.proofs.SingleDeliveries.{serves_refused}
 use Rattle.avroreg.specs.Output.{Replies}
 
 -- a delivery that was answered

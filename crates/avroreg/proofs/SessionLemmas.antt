@@ -10,8 +10,8 @@ use Rattle.reg_core.specs.Replies.{Told}
 use Rattle.reg_core.specs.Registry.{Registry}
 use Rattle.reg_core.specs.KeptReplies.{Kept}
 use Rattle.reg_service.specs.Deliveries.{Exchange, Serves, served}
-use Rattle.reg_service.proofs.Together.{serves_none, serves-append}
-use Rattle.reg_service.proofs.Lists.{served-append}
+use Rattle.reg_service.proofs.JoinedExchanges.{serves_none, serves-append}
+use Rattle.reg_service.proofs.ExchangeLists.{served-append}
 use Rattle.avroreg.specs.declared.stream.Stop.{Stop}
 use Rattle.avroreg.specs.declared.stream.Stop.TheVariants.{AtEnd, InMessage, AtFault, NotWritten, NoRoom}
 use Rattle.reg_messages.specs.Messages.{Message, IsMessage, Leads, Follows, Faulty}
@@ -19,7 +19,7 @@ use Rattle.reg_messages.specs.Requests.{delivery_of}
 use Rattle.reg_messages.specs.Answers.{answer_to, fault_answer}
 use Rattle.avroreg.specs.Output.{Answered, Replies, exchange_of, exchanges, AreRefused, answers, IsCutShort}
 use Rattle.avroreg.specs.Sessions.{Carries}
-use Rattle.avroreg.specs.Steps.{StopsAs, AnswersAs, FaultAs}
+use Rattle.avroreg.specs.SessionSteps.{StopsAs, AnswersAs, FaultAs}
 
 -- the message of an answered one
 abbrev message_of : Answered → Message

@@ -7,7 +7,7 @@ use Rattle.reg_core.specs.Replies.{Told}
 use Rattle.reg_core.specs.declared.delivery.Delivery.{Delivery}
 use Rattle.reg_core.specs.KeptReplies.{Kept}
 use Rattle.reg_service.specs.Deliveries.{Exchange, Serves, served, is_backend_fault}
-use Rattle.reg_service.proofs.Together.{serves-append}
+use Rattle.reg_service.proofs.JoinedExchanges.{serves-append}
 
 pub zip-push : {A B : Type 0} (xs : List A) (ys : List B) (x : A) (y : B) → length xs ≡ length ys
     → zip (xs ++ x ∷ []) (ys ++ y ∷ []) ≡ zip xs ys ++ (x, y) ∷ []

@@ -14,7 +14,7 @@ use Rattle.reg_core.specs.Replies.{Told, fault}
 use Rattle.reg_core.specs.declared.delivery.Delivery.{Delivery}
 use Rattle.reg_core.specs.KeptReplies.{Kept, Entry}
 use Rattle.reg_service.specs.Deliveries.{Exchange, key_of, has_key, is_new, is_first, firsts, entry_of, kept_after, IsDue, Answers, Serves, served, is_backend_fault}
-use Rattle.reg_service.proofs.Together.{option_or-none, kept_after-nil, serves_none}
+use Rattle.reg_service.proofs.JoinedExchanges.{option_or-none, kept_after-nil, serves_none}
 
 off : {A : Type 0} (b : Bool) → b ≡ true → b ≡ false → A
 off b t f = absurd (true≢false (sym t ∙ f))

@@ -6,7 +6,7 @@ use Rattle.std.proofs.lemmas.Bool.Decides.{nat_tests}
 use Rattle.std.proofs.lemmas.List.{nil_from_length}
 use Rattle.sqlite.specs.State.{State}
 use Rattle.reg_core.specs.Registry.{Registry}
-use Rattle.reg_core.specs.Views.{changed}
+use Rattle.reg_core.specs.Views.{after_changes}
 use Rattle.reg_core.specs.declared.decision.Change.{Change}
 use Rattle.reg_core.specs.KeptReplies.{Kept}
 use Rattle.reg_store.specs.Spells.{SpellsWhileOpen}
@@ -30,7 +30,7 @@ pub some_changes : (changes : Vec Change Global) → (vec_len changes == 0) ≡ 
 some_changes changes e none = both_ways _ e (ap (λ n. n == 0) (changes.ok.0 ∙ ap length none))
 
 -- no change leaves the registry
-pub spells_changed : (new : State) (g g' : Registry) (k : Kept) (changes : List Change) → changes ≡ [] → changed changes g ≡ g' → SpellsWhileOpen new g k → SpellsWhileOpen new g' k
+pub spells_changed : (new : State) (g g' : Registry) (k : Kept) (changes : List Change) → changes ≡ [] → after_changes changes g ≡ g' → SpellsWhileOpen new g k → SpellsWhileOpen new g' k
 spells_changed new g g' k changes none same s = subst (λ (r : Registry). SpellsWhileOpen new r k) (rw none at same) s
 
 -- what follows from what holds where a result is an error

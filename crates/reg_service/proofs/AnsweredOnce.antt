@@ -10,7 +10,7 @@ use Rattle.reg_core.specs.declared.delivery.Delivery.{Delivery}
 use Rattle.reg_core.specs.KeptReplies.{Kept, Entry}
 use Rattle.reg_service.specs.Deliveries.{key_of, Serves, served}
 use Rattle.reg_core.specs.KeptReplies.{kept_with}
-use Rattle.reg_service.proofs.Alone.{serves_keyless, serves_first, serves_again}
+use Rattle.reg_service.proofs.SingleDeliveries.{serves_keyless, serves_first, serves_again}
 
 module _ {E : Type 0} (result : Result Told E) (g g' : Registry) (k k' : Kept) (d : Delivery) where
   -- a read, or a write without a key

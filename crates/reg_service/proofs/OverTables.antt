@@ -14,11 +14,11 @@ use Rattle.reg_store.specs.Spells.{SpellsWhileOpen}
 use Rattle.reg_core.specs.declared.delivery.Delivery.{Delivery}
 use Rattle.reg_service.specs.Deliveries.{Exchange, Serves, key_of, served, is_backend_fault}
 use Rattle.reg_service.specs.Services.{SpellsOn, ServesTo, ServesOver}
-use Rattle.reg_service.proofs.Alone.{serves_keyless, serves_first, serves_again, serves_refused}
-use Rattle.reg_service.proofs.Together.{serves_none, kept_after-nil}
+use Rattle.reg_service.proofs.SingleDeliveries.{serves_keyless, serves_first, serves_again, serves_refused}
+use Rattle.reg_service.proofs.JoinedExchanges.{serves_none, kept_after-nil}
 use Rattle.std.proofs.lemmas.Slice.Eq.{bytes_eq-Decides}
-use Rattle.reg_service.proofs.Lists.{serves_next}
-use Rattle.reg_service.proofs.Again.{serves-KeepsAll}
+use Rattle.reg_service.proofs.ExchangeLists.{serves_next}
+use Rattle.reg_service.proofs.DueReplies.{serves-KeepsAll}
 
 led : {xs : List Exchange} {new : State} (g : Registry) (k : Kept) (g' : Registry) (k' : Kept) → Serves g k xs g' k' → SpellsWhileOpen new g' k' → ServesTo g k xs new
 led g k g' k' s spells = record { registry = g'; kept = k'; serves = s; keeps = serves-KeepsAll _ _ _ _ _ s; spells = spells }

@@ -11,7 +11,7 @@ use Rattle.reg_core.specs.Replies.{Told}
 use Rattle.reg_core.specs.declared.delivery.Delivery.{Delivery}
 use Rattle.reg_core.specs.KeptReplies.{Kept, Entry}
 use Rattle.reg_service.specs.Deliveries.{Exchange, key_of, has_key, entry_of, kept_after, is_first, is_new, IsDue, Answers, Serves, RepeatsAgree, NoOtherAnswers, KeepsAll}
-use Rattle.reg_service.proofs.Together.{kept_after-append, is_none-kept_after}
+use Rattle.reg_service.proofs.JoinedExchanges.{kept_after-append, is_none-kept_after}
 
 -- two texts are the same, or they aren't
 same_or_other : (a b : List ℕ) → (a ≡ b) ⊎ (a ≢ b)

@@ -12,8 +12,8 @@ use Rattle.avroreg.specs.declared.stream.Ended.{Ended}
 use Rattle.avroreg.specs.declared.stream.Ended.TheVariants.{Memory}
 use Rattle.avroreg.specs.Output.{Answered, answers}
 use Rattle.avroreg.specs.Sessions.{EndsAs, Session}
-use Rattle.avroreg.specs.Steps.{StopsAs, AnswersAs, ended_as}
-use Rattle.avroreg.proofs.Carrying.{Carries-nil}
+use Rattle.avroreg.specs.SessionSteps.{StopsAs, AnswersAs, ended_as}
+use Rattle.avroreg.proofs.SessionLemmas.{Carries-nil}
 
 ends : (reader : Option (List ℕ)) (xs : List Answered) (rest out : List ℕ) (reading : Reading) (stop : Stop)
     → (reading ≡ Whole → IsAtEnd reader) → reading ≢ Unread → StopsAs xs rest out stop → EndsAs reader xs rest out (ended_as reading stop)
