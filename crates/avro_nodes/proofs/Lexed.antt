@@ -84,9 +84,11 @@ in_word_passes (c ∷ cs) rest e =
 abbrev Onward : List ℕ → Type 0
 Onward t = (rest : List ℕ) → length rest < length t → AllGood (pieces Outside rest) → Fine (lex between rest)
 
+-- a word, and what the lexer goes on with behind its first byte
 abbrev FineWord : List ℕ → Token → Type 0
 FineWord t w = FineToken w (Fine (lex in_word (drop 1 t)))
 
+-- either of two words
 fine_pick : (t : List ℕ) (b : Bool) (x y : Token) → (b ≡ true → FineWord t x) → FineWord t y → FineWord t (cond b x y)
 fine_pick t true x y p q = p refl
 fine_pick t false x y p q = q
@@ -181,6 +183,7 @@ fine_text : (o : Option (List ℕ)) (ls : List Lexeme) → Fine ls → Fine (tok
 fine_text None ls h = tt
 fine_text (Some s) ls h = h
 
+-- either of two lexemes
 mark : (b : Bool) (x y : Lexeme) (ls : List Lexeme) → Fine (x ∷ ls) → Fine (y ∷ ls) → Fine (cond b x y ∷ ls)
 mark true x y ls p q = p
 mark false x y ls p q = q
@@ -222,6 +225,7 @@ module _ (c : ℕ) (cs : List ℕ) (good : AllGood (pieces (after Inside c) cs))
   fine_letter false false false true eq eb = inside (into Inside (rw (eq, eb) refl))
   fine_letter false false false false eq eb = inside (into Inside (rw (eq, eb) refl))
 
+-- the lexer goes along with the pieces, outside the strings, inside one and behind a backslash; n bounds what is left
 mutual
   unfolding lex pieces
 

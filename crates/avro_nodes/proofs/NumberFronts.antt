@@ -37,6 +37,7 @@ optional : (t : List ℕ) (b : Bool) → (b ≡ true → Front t (drop 1 t)) →
 optional t true f = f refl
 optional t false f = ([], refl, refl)
 
+-- behind a digit and those after it
 digit_front : (b : Bool) (x : ℕ) (xs : List ℕ) (n : ℕ) → is_ascii_digit x ≡ b → Front xs (drop n xs) → Front (x ∷ xs) (drop (cond b (1 + n) 0) (x ∷ xs))
 digit_front false x xs n e f = ([], refl, refl)
 digit_front true x xs n e f =
@@ -49,29 +50,37 @@ digits_front : (t : List ℕ) → Front t (drop (prefix_len is_ascii_digit t) t)
 digits_front [] = ([], refl, refl)
 digits_front (x ∷ xs) = digit_front (is_ascii_digit x) x xs (prefix_len is_ascii_digit xs) refl (digits_front xs)
 
+-- behind one digit or more
 digits : (t : List ℕ) → Leaves t (after_digits t)
 digits t = pick t (prefix_len is_ascii_digit t == 0) None (Some (drop (prefix_len is_ascii_digit t) t)) (λ e. tt) (digits_front t)
 
+-- behind a minus, if there is one
 minus_front : (t : List ℕ) → Front t (after_minus t)
 minus_front t = optional t (head t == 45) (one_front 45 t refl refl)
 
+-- behind a sign
 either_front : (t : List ℕ) → ((head t == 45) ≡ true) ⊎ ((head t == 43) ≡ true) → Front t (drop 1 t)
 either_front t (inl e) = one_front 45 t refl refl e
 either_front t (inr e) = one_front 43 t refl refl e
 
+-- behind a sign, if there is one
 sign_front : (t : List ℕ) → Front t (after_sign t)
 sign_front t = optional t ((head t == 45) || (head t == 43)) (λ e. either_front t (or_cases (head t == 45) (head t == 43) e))
 
+-- behind the whole part
 whole : (t : List ℕ) → Leaves t (after_whole t)
 whole t = pick t (head t == 48) (Some (drop 1 t)) (after_digits t) (one_front 48 t refl refl) (digits t)
 
+-- behind a fraction, if there is one
 fraction : (t : List ℕ) → Leaves t (after_fraction t)
 fraction t = pick t (head t == 46) (after_digits (drop 1 t)) (Some t) (λ e. further t (drop 1 t) (after_digits (drop 1 t)) (one_front 46 t refl refl e) (digits (drop 1 t))) ([], refl, refl)
 
+-- behind an e
 power_front : (t : List ℕ) → ((head t == 101) ≡ true) ⊎ ((head t == 69) ≡ true) → Front t (drop 1 t)
 power_front t (inl e) = one_front 101 t refl refl e
 power_front t (inr e) = one_front 69 t refl refl e
 
+-- behind an exponent, if there is one
 exponent : (t : List ℕ) → Leaves t (after_exponent t)
 exponent t =
     let u = drop 1 t in
@@ -79,6 +88,7 @@ exponent t =
     pick t ((head t == 101) || (head t == 69)) o (Some t)
     (λ e. further t u o (power_front t (or_cases (head t == 101) (head t == 69) e)) (further u (after_sign u) o (sign_front u) (digits (after_sign u)))) ([], refl, refl)
 
+-- one part behind another
 then : (t : List ℕ) (f : List ℕ → Option (List ℕ)) → ((u : List ℕ) → Leaves u (f u)) → (o : Option (List ℕ)) → Leaves t o → Leaves t (option_and_then f o)
 then t f g None h = tt
 then t f g (Some r) h = further t r (f r) h (g r)
@@ -97,6 +107,7 @@ found : (f : List ℕ → Option (List ℕ)) (o : Option (List ℕ)) → is_some
 found f None h = h
 found f (Some t) h = refl
 
+-- digits begin with a digit
 first_digit : (b : Bool) (n : ℕ) (t : List ℕ) → is_some (cond (cond b (1 + n) 0 == 0) None (Some (drop (cond b (1 + n) 0) t))) ≡ true → b ≡ true
 first_digit true n t h = refl
 first_digit false n t h = h
@@ -105,10 +116,12 @@ digits_first : (t : List ℕ) → is_some (after_digits t) ≡ true → is_ascii
 digits_first [] h = absurd (false≢true h)
 digits_first (x ∷ xs) h = first_digit (is_ascii_digit x) (prefix_len is_ascii_digit xs) (x ∷ xs) h
 
+-- so does the whole part
 whole_first : (t : List ℕ) (z : Bool) → (z ≡ true → head t ≡ 48) → is_some (cond z (Some (drop 1 t)) (after_digits t)) ≡ true → is_ascii_digit (head t) ≡ true
 whole_first t true e h = ap is_ascii_digit (e refl)
 whole_first t false e h = digits_first t h
 
+-- before it a minus may stand
 minus_first : (t : List ℕ) (m : Bool) → is_some (after_whole (cond m (drop 1 t) t)) ≡ true → (is_ascii_digit (head t) || m) ≡ true
 minus_first t true h = or-true (is_ascii_digit (head t))
 minus_first t false h = rw (whole_first t (head t == 48) (eqb-true (head t) 48) h) refl

@@ -58,14 +58,17 @@ module _ (test : Data → Bool) where
 
 -- E holds of what passes the test, and F of members that do
 module _ (test : Data → Bool) (E : Data → Type 0) (F : Members → Type 0) (value : (d : Data) → E d → test d ≡ true) (members : (ms : Members) → F ms → members_pass test ms ≡ true) where
+  -- a default, if there is one
   value_passing : (o : Option Data) → IfSome o E → value_passes test o ≡ true
   value_passing None h = refl
   value_passing (Some d) h = value d h
 
+  -- fields
   fields_passing : (fs : List FieldView) → AllByRecursion (OfField E F) fs → list_all (field_passes test) fs ≡ true
   fields_passing [] h = refl
   fields_passing (f ∷ fs) h = rw (value_passing f.value h.0.0, members f.extra h.0.1) (fields_passing fs h.1)
 
+  -- a node
   node_passing : (node : NodeView) → OfNode E F node → node_passes test node ≡ true
   node_passing (primitive kind extra) h = members extra h
   node_passing (array items extra) h = members extra h

@@ -19,18 +19,22 @@ ShallowNodes nodes = AllByRecursion (OfNode IsShallow AreShallow) nodes
 abbrev Nests : ℕ → Data → Type 0
 Nests n d = depth d ≤ n + max_nesting
 
+-- so are all of other attributes
 members_nest : (n : ℕ) (ms : Members) → AreShallow ms → AllMembers (Nests n) ms
 members_nest n no_members h = tt
 members_nest n (member k d ms) h = (omega arith, members_nest n ms (omega arith))
 
+-- members nest as deep as each of them may
 nest_members : (n : ℕ) (ms : Members) → AllMembers (Nests n) ms → members_depth ms ≤ n + max_nesting
 nest_members n no_members h = omega arith
 nest_members n (member k d ms) h = omega (arith, h.0, nest_members n ms h.1)
 
+-- and items
 nest_items : (n : ℕ) (ds : Items) → AllItems (Nests n) ds → items_depth ds ≤ n + max_nesting
 nest_items n no_items h = omega arith
 nest_items n (item d ds) h = omega (arith, h.0, nest_items n ds h.1)
 
+-- texts don't nest
 nest_texts : (ts : List (List ℕ)) → items_depth (texts ts) ≡ 0
 nest_texts [] = refl
 nest_texts (t ∷ ts) = omega (arith, nest_texts ts)

@@ -83,10 +83,12 @@ tidy_nodes_whole nodes t = nodes_passing has_whole_numbers IsTidy TidyMembers ti
 
 -- ---- the identity value
 
+-- texts are tidy
 tidy_texts : (ts : List (List ℕ)) → TidyItems (texts ts)
 tidy_texts [] = tt
 tidy_texts (t ∷ ts) = (tt, tidy_texts ts)
 
+-- items are, where each of them is
 tidy_items : (ds : Items) → AllItems IsTidy ds → TidyItems ds
 tidy_items no_items h = tt
 tidy_items (item d ds) h = (h.0, tidy_items ds h.1)

@@ -20,6 +20,7 @@ use Rattle.avro_schema.specs.Denotes.{Others, IsField, Denotes, a_primitive, a_r
 use Rattle.avro_schema.specs.Denotes.{Branches, no_branch, branch, Fields, no_field, field}
 use Rattle.avro_schema.proofs.Inversion.{bind_some, guard_some}
 
+-- what holds of each in two lists holds of each in both together
 all_append : {A : Type 0} (P : A → Type 0) (xs ys : List A) → AllByRecursion P xs → AllByRecursion P ys → AllByRecursion P (xs ++ ys)
 all_append P [] ys h g = g
 all_append P (x ∷ xs) ys h g = (h.0, all_append P xs ys h.1 g)
@@ -32,6 +33,7 @@ size_below o size e =
     let g = guard_some (nat_lt n.0 (2 ^ 31)) (Some n.0) size n.2 in
     subst (λ (x : ℕ). x < 2 ^ 31) (same_Some _ _ g.1) (ltb-true n.0 (2 ^ 31) g.0)
 
+-- what is taken for an array is one
 as_array_is : (d : Data) (items : Items) → as_array d ≡ Some items → d ≡ json.array items
 as_array_is (json.array ds) items e = ap json.array (same_Some _ _ e)
 as_array_is json.null items e = absurd cc
@@ -40,6 +42,7 @@ as_array_is (json.number x) items e = absurd cc
 as_array_is (string s) items e = absurd cc
 as_array_is (json.object ms) items e = absurd cc
 
+-- an attribute that is an array
 array_there : (k : List ℕ) (ms : Members) (items : Items) → array_in k ms ≡ Some items → get_member k ms ≡ Some (json.array items)
 unfolding array_in
 array_there k ms items e = let p = bind_some (get_member k ms) as_array items e in p.1 ∙ ap (λ (d : Data). Some d) (as_array_is p.0 items p.2)
@@ -48,10 +51,12 @@ array_there k ms items e = let p = bind_some (get_member k ms) as_array items e 
 module _ (P : Data → Type 0) (E : Data → Type 0) (F : Members → Type 0) (of_member : (ms : Members) (k : List ℕ) (d : Data) → P (json.object ms) → get_member k ms ≡ Some d → P d) (of_items : (ds : Items) → P (json.array ds) → AllItems P ds)
     (of_others : (keys : List (List ℕ)) (ms extra : Members) → P (json.object ms) → Others keys ms extra → F extra) (of_value : (d : Data) → P d → depth d ≤ max_nesting → E d) (of_size : (n : ℕ) → n < 2 ^ 31 → E (number (unsigned n)))
     (of_nothing : F no_members) where
+  -- the default, if there is one
   value_is : (ms : Members) (o : Option Data) → P (json.object ms) → get_member (codes "default") ms ≡ o → ((d : Data) → o ≡ Some d → depth d ≤ max_nesting) → IfSome o E
   value_is ms None p e h = tt
   value_is ms (Some d) p e h = of_value d (of_member ms (codes "default") d p e) (h d refl)
 
+  -- a field
   field_is : (ms : Members) (f : FieldView) → P (json.object ms) → IsField ms f → OfField E F f
   field_is ms f p i = (value_is ms f.value p i.value i.shallow, of_others _ ms f.extra p i.others)
 
@@ -96,27 +101,33 @@ denoted_nest t =
 
 -- ---- tidy values
 
+-- one of the members, or what is found behind it
 tidy_value_at : (o : Ordering) (d e : Data) (rest : Option Data) → IsTidy e → ((x : Data) → rest ≡ Some x → IsTidy x) → match_ordering o rest (Some e) rest ≡ Some d → IsTidy d
 tidy_value_at Less d e rest h later is = later d is
 tidy_value_at Equal d e rest h later is = subst IsTidy (same_Some _ _ is) h
 tidy_value_at Greater d e rest h later is = later d is
 
+-- each value of tidy members is tidy
 tidy_member : (ms : Members) (k : List ℕ) (d : Data) → TidyMembers ms → get_member k ms ≡ Some d → IsTidy d
 tidy_member no_members k d t e = absurd cc
 tidy_member (member l x ms) k d t e = tidy_value_at (slice_cmp nat_cmp k l) d x (get_member k ms) t.0 (λ y is. tidy_member ms k y t.2 is) e
 
+-- and each of tidy items
 each_tidy : (ds : Items) → TidyItems ds → AllItems IsTidy ds
 each_tidy no_items t = tt
 each_tidy (item d ds) t = (t.0, each_tidy ds t.1)
 
+-- what stands behind a name does so where one member is left out
 behind_at : (same : Bool) (j l : List ℕ) (d : Data) (rest : Members) → slice_cmp nat_cmp j l ≡ Less → AllBehind j rest → AllBehind j (cond same rest (member l d rest))
 behind_at true j l d rest below h = h
 behind_at false j l d rest below h = (below, h)
 
+-- and where those of a name are
 behind_without : (j k : List ℕ) (ms : Members) → AllBehind j ms → AllBehind j (without k ms)
 behind_without j k no_members h = tt
 behind_without j k (member l d ms) h = behind_at (bytes_eq k l) j l d (without k ms) h.0 (behind_without j k ms h.1)
 
+-- a member before the others, or left out
 tidy_at : (same : Bool) (l : List ℕ) (d : Data) (rest : Members) → IsTidy d → AllBehind l rest → TidyMembers rest → TidyMembers (cond same rest (member l d rest))
 tidy_at true l d rest p h t = t
 tidy_at false l d rest p h t = (p, h, t)
@@ -126,10 +137,12 @@ tidy_without : (k : List ℕ) (ms : Members) → TidyMembers ms → TidyMembers 
 tidy_without k no_members t = tt
 tidy_without k (member l d ms) t = tidy_at (bytes_eq k l) l d (without k ms) t.0 (behind_without l k ms t.1) (tidy_without k ms t.2)
 
+-- or of some names
 tidy_without_all : (ks : List (List ℕ)) (ms : Members) → TidyMembers ms → TidyMembers (without_all ks ms)
 tidy_without_all [] ms t = t
 tidy_without_all (k ∷ ks) ms t = tidy_without_all ks (without k ms) (tidy_without k ms t)
 
+-- a size is a whole number of 64 bits
 whole_size : (n : ℕ) → n < 2 ^ 31 → nat_lt n (2 ^ 64) ≡ true
 whole_size n h = lt-ltb n (2 ^ 64) (omega arith)
 
