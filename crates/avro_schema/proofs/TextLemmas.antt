@@ -1,7 +1,7 @@
 -- What a text denotes, computed and by the rules.
 use Rattle.std.proofs.Common.{Bool, ◌≡◌, ◌≢◌, ℕ, ◌≤◌, List, [], length, true, false, cond, Option, Some, None, refl, sym, ap, subst, ◌∙◌, true≢false, length-append, arith, ◌<◌, ◌+◌}
-use Rattle.std.specs.Prelude.{nat_le, IsTrue}
-use Rattle.std.proofs.lemmas.Bool.{le-leb, leb-true}
+use Rattle.std.specs.Prelude.{nat_le, IsTrue, ◌&&◌}
+use Rattle.std.proofs.lemmas.Bool.{and_parts, le-leb, leb-true}
 use Rattle.std.proofs.lemmas.Option.{same_Some}
 use Rattle.serde_json.specs.Data.{Data, Items}
 use Rattle.serde_json.specs.Read.{read}
@@ -179,6 +179,15 @@ denotes_fitting text nodes t = defaults_compute nodes nodes t.defaults (denoted_
 pub denotes_computes : (text : List ℕ) (nodes : List NodeView) → TextDenotes text nodes → denoted text ≡ Some nodes
 unfolding denoted checked
 denotes_computes text nodes t = rw (denotes_typed text nodes t, denotes_fitting text nodes t, le-leb (length (identity nodes)) max_text t.bounded) refl
+
+-- what is computed of a whole text is denoted
+pub computed_denotes : (text : List ℕ) (nodes : List NodeView) → denoted text ≡ Some nodes → TextDenotes text nodes
+unfolding denoted checked
+computed_denotes text nodes e =
+    let b = bind_some (typed text) checked nodes e in
+    let g = guard_some (node_defaults_fit b.0 b.0 && nat_le (length (identity b.0)) max_text) (Some b.0) nodes b.2 in
+    let passed = and_parts (node_defaults_fit b.0 b.0) (nat_le (length (identity b.0)) max_text) g.0 in
+    subst (λ (x : List NodeView). TextDenotes text x) (same_Some _ _ g.1) (denoted_says text b.0 b.1 passed.0 (leb-true (length (identity b.0)) max_text passed.1))
 
 -- a text denotes at most one schema
 pub one_schema : (text : List ℕ) (xs ys : List NodeView) → TextDenotes text xs → TextDenotes text ys → xs ≡ ys

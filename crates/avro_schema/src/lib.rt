@@ -18,4 +18,4 @@ mod weight;
 mod words;
 
 pub use error::SchemaError;
-pub use schema::{Schema, identity_denotes};
+pub use schema::{Schema, denoting_is_decided, identity_denotes};

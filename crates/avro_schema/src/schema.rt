@@ -1,9 +1,9 @@
 //! A schema, and how it is read.
-ghost use Rattle.std.specs.Prelude.{◌≡◌, ◌≢◌, ◌<◌, ◌≤◌, ◌↔◌, List, Some, length, IsTrue, slice_get, string_bytes, IfOk, IfErr};
+ghost use Rattle.std.specs.Prelude.{◌≡◌, ◌≢◌, ◌<◌, ◌≤◌, ◌↔◌, ℕ, List, Some, length, IsTrue, slice_get, string_bytes, IfOk, IfErr};
 ghost use Rattle.serde_json.specs.View.{view};
 ghost use Rattle.avro_nodes.specs.Identity.{identity};
 ghost use Rattle.avro_nodes.specs.Nodes.{NodeView, nodes_view};
-ghost use Rattle.avro_schema.specs.Texts.{TextDenotes, IsSchema, value_in, typed};
+ghost use Rattle.avro_schema.specs.Texts.{TextDenotes, IsSchema, value_in, typed, denoted};
 ghost use Rattle.avro_schema.specs.Outcome.{Gives};
 
 use crate::defaults::defaults_fit;
@@ -154,4 +154,10 @@ impl Schema {
 /// that some text denotes its nodes is enough.
 pub fn identity_denotes()
     ensures { (nodes : List NodeView) → IsSchema nodes → TextDenotes (identity nodes) nodes }
+{}
+
+/// A law: what a text denotes can be computed.
+pub fn denoting_is_decided()
+    ensures { (text : List ℕ) (nodes : List NodeView)
+        → (denoted text ≡ Some nodes) ↔ TextDenotes text nodes }
 {}
