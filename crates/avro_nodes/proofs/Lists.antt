@@ -14,7 +14,7 @@ use Rattle.avro_nodes.specs.Identity.{with_text, kind_text, primitive_value, fie
 use Rattle.avro_nodes.specs.Objects.{WritesSpelt}
 use Rattle.avro_nodes.proofs.Written.{items_on}
 
-drop_item : {A : Type 0} (xs : List A) (i : ℕ) (x : A) → i < length xs → drop i xs ≡ get_or xs i x ∷ drop (i + 1) xs
+pub drop_item : {A : Type 0} (xs : List A) (i : ℕ) (x : A) → i < length xs → drop i xs ≡ get_or xs i x ∷ drop (i + 1) xs
 drop_item xs i x h = rw (add-one, drop-cons xs i x)
 
 pub primitive_alone : (kind : Kind) (es : List Entry) → length es ≡ 0 → string (kind_text kind) ≡ primitive_value kind (members_view es)

@@ -3,12 +3,11 @@ use Rattle.std.proofs.Common.{◌≡◌, ℕ, List, [], ◌∷◌, Bool, true, �
 use Rattle.std.specs.Ordering.{nat_cmp, is_lt}
 use Rattle.std.specs.Cmp.Lexicographic.{slice_cmp}
 use Rattle.std.proofs.lemmas.Cmp.{nat_list_cmp_total}
-use Rattle.std.proofs.lemmas.Bool.{false≢true}
+use Rattle.std.proofs.lemmas.Bool.{false≢true, and_parts}
 use Rattle.std.proofs.lemmas.Map.Text.{is_eq-slice_cmp}
 use Rattle.std.proofs.lemmas.Slice.Eq.{bytes_eq-Decides}
 use Rattle.serde_json.specs.Data.{Data, Members, no_members, member, put}
 use Rattle.avro_nodes.specs.Objects.{Part, put_parts, before_then, behind, merged}
-use Rattle.avro_nodes.proofs.Plainness.{both}
 
 abbrev pub order : List ℕ → List ℕ → Ordering
 order k l = slice_cmp nat_cmp k l
@@ -72,23 +71,23 @@ is_less Greater e = absurd (false≢true e)
 module _ (k : List ℕ) where
   before_later : (ps : List Part) (others more : Members) → all_after k ps ≡ true → before_then k (put_parts ps others) more ≡ before_then k others more
   before_later [] others more e = refl
-  before_later ((l, None) ∷ ps) others more e = let h = both (is_lt (order k l)) (all_after k ps) e in before_later ps others more h.1
+  before_later ((l, None) ∷ ps) others more e = let h = and_parts (is_lt (order k l)) (all_after k ps) e in before_later ps others more h.1
   before_later ((l, Some d) ∷ ps) others more e =
-      let h = both (is_lt (order k l)) (all_after k ps) e in
+      let h = and_parts (is_lt (order k l)) (all_after k ps) e in
       (apart k l d (is_less (order k l) h.0) (put_parts ps others)).0 more ∙ before_later ps others more h.1
 
   behind_later : (ps : List Part) (others : Members) → all_after k ps ≡ true → behind k (put_parts ps others) ≡ put_parts ps (behind k others)
   behind_later [] others e = refl
-  behind_later ((l, None) ∷ ps) others e = let h = both (is_lt (order k l)) (all_after k ps) e in behind_later ps others h.1
+  behind_later ((l, None) ∷ ps) others e = let h = and_parts (is_lt (order k l)) (all_after k ps) e in behind_later ps others h.1
   behind_later ((l, Some d) ∷ ps) others e =
-      let h = both (is_lt (order k l)) (all_after k ps) e in
+      let h = and_parts (is_lt (order k l)) (all_after k ps) e in
       (apart k l d (is_less (order k l) h.0) (put_parts ps others)).1 ∙ ap (put l d) (behind_later ps others h.1)
 
 pub merged-put_parts : (ps : List Part) (others : Members) → ascending ps ≡ true → merged ps others ≡ put_parts ps others
 merged-put_parts [] others e = refl
-merged-put_parts ((k, None) ∷ ps) others e = merged-put_parts ps others (both (all_after k ps) (ascending ps) e).1
+merged-put_parts ((k, None) ∷ ps) others e = merged-put_parts ps others (and_parts (all_after k ps) (ascending ps) e).1
 merged-put_parts ((k, Some d) ∷ ps) others e =
-    let h = both (all_after k ps) (ascending ps) e in
+    let h = and_parts (all_after k ps) (ascending ps) e in
     ap (λ (ms : Members). before_then k others (member k d ms)) (merged-put_parts ps (behind k others) h.1 ∙ sym (behind_later k ps others h.0))
     ∙ sym (before_later k ps others (member k d (behind k (put_parts ps others))) h.0)
     ∙ sym (put-before_then k d (put_parts ps others))

@@ -6,7 +6,7 @@ use Rattle.std.specs.Fmt.{signed_decimal}
 use Rattle.std.specs.List.{list_all}
 use Rattle.std.specs.Result.{result_ok, OkIff}
 use Rattle.std.specs.Str.Parse.{digits_value, ParsesUnsigned}
-use Rattle.std.proofs.lemmas.Bool.{false≢true}
+use Rattle.std.proofs.lemmas.Bool.{false≢true, and_parts, lt-ltb, ltb-true}
 use Rattle.std.proofs.lemmas.Bool.Decides.{eqb_tells}
 use Rattle.std.proofs.lemmas.Fmt.{decimal-digits_value}
 use Rattle.std.proofs.lemmas.Str.Parse.{IsDigitsTest, IsNumeralModel, numerals_by_value, parse_digits}
@@ -21,11 +21,6 @@ tells = search (rules, tests)
 pub own : IsNumeralModel AllAreDigits (digits_value 10)
 own = numerals_by_value AllAreDigits tells
 
-both : (a b : Bool) → (a && b) ≡ true → (a ≡ true) × (b ≡ true)
-both true true e = (refl, refl)
-both true false e = absurd (false≢true e)
-both false b e = absurd (false≢true e)
-
 some_digits : (ds : List ℕ) → not (length ds == 0) ≡ true → 0 < length ds
 some_digits [] e = absurd (false≢true e)
 some_digits (d ∷ ds) e = omega arith
@@ -36,28 +31,22 @@ first_zero c n h e = grind (arith, tests)
 -- digits are what is written for their value
 pub spells : (ds : List ℕ) → are_digits ds ≡ true → digits_value 10 ds < 2 ^ 64 → decimal (digits_value 10 ds) ≡ ds
 spells ds e small =
-    let parts = both (not (length ds == 0) && list_all is_ascii_digit ds) (not (slice_index ds 0 == 48) || (length ds == 1)) e in
-    let front = both (not (length ds == 0)) (list_all is_ascii_digit ds) parts.0 in
+    let parts = and_parts (not (length ds == 0) && list_all is_ascii_digit ds) (not (slice_index ds 0 == 48) || (length ds == 1)) e in
+    let front = and_parts (not (length ds == 0)) (list_all is_ascii_digit ds) parts.0 in
     decimal-digits_value own ds front.1 (some_digits ds front.0) (first_zero (slice_index ds 0) (length ds) parts.1) small
 
 pub digits_of_digits : (ds : List ℕ) → are_digits ds ≡ true → AllAreDigits ds
 digits_of_digits ds e =
-    let parts = both (not (length ds == 0) && list_all is_ascii_digit ds) (not (slice_index ds 0 == 48) || (length ds == 1)) e in
-    (both (not (length ds == 0)) (list_all is_ascii_digit ds) parts.0).1
+    let parts = and_parts (not (length ds == 0) && list_all is_ascii_digit ds) (not (slice_index ds 0 == 48) || (length ds == 1)) e in
+    (and_parts (not (length ds == 0)) (list_all is_ascii_digit ds) parts.0).1
 
 pub some_of_digits : (ds : List ℕ) → are_digits ds ≡ true → 0 < length ds
 some_of_digits ds e =
-    let parts = both (not (length ds == 0) && list_all is_ascii_digit ds) (not (slice_index ds 0 == 48) || (length ds == 1)) e in
-    some_digits ds (both (not (length ds == 0)) (list_all is_ascii_digit ds) parts.0).0
-
-lt-true : (m n : ℕ) → m < n → nat_lt m n ≡ true
-lt-true m n h = search (rules, tests)
+    let parts = and_parts (not (length ds == 0) && list_all is_ascii_digit ds) (not (slice_index ds 0 == 48) || (length ds == 1)) e in
+    some_digits ds (and_parts (not (length ds == 0)) (list_all is_ascii_digit ds) parts.0).0
 
 lt-false : (m n : ℕ) → (m < n → ⊥) → nat_lt m n ≡ false
 lt-false m n h = search (rules, tests)
-
-lt-is : (m n : ℕ) → nat_lt m n ≡ true → m < n
-lt-is m n h = search (rules, tests)
 
 le-is : (m n : ℕ) → nat_le m n ≡ true → m ≤ n
 le-is m n h = search (rules, tests)
@@ -66,7 +55,7 @@ abbrev pub Magnitude : List ℕ → Option ℕ
 Magnitude ds = cond (are_digits ds && nat_lt (digits_value 10 ds) (2 ^ 64)) (Some (digits_value 10 ds)) None
 
 parsed_is : {E : Type 0} (some : Bool) (n : ℕ) (r : Result ℕ E) → some ≡ true → OkIff r (n < 2 ^ 64) n → result_ok r ≡ cond (some && nat_lt n (2 ^ 64)) (Some n) None
-parsed_is some n (Ok x) e h = rw (e, lt-true n (2 ^ 64) h.0, h.1) refl
+parsed_is some n (Ok x) e h = rw (e, lt-ltb n (2 ^ 64) h.0, h.1) refl
 parsed_is some n (Err x) e h = rw (e, lt-false n (2 ^ 64) h) refl
 
 narrowed : {E : Type 0} (n : ℕ) (A : Type 0) (r : Result ℕ E) → A → OkIff r (A × (n < 2 ^ 64)) n → OkIff r (n < 2 ^ 64) n
@@ -83,7 +72,7 @@ no_minus (c ∷ cs) h = elim (eqb_tells c 45) [ inl p ↦ absurd (h cs (ap (λ d
 
 at_unsigned : (ds : List ℕ) (some small : Bool) → are_digits ds ≡ some → nat_lt (digits_value 10 ds) (2 ^ 64) ≡ small
     → respelt_digits false ds ≡ option_map (λ _. ds) (cond (some && small) (Some (digits_value 10 ds)) None)
-at_unsigned ds true true e f = rw (e, f) (ap (λ s. Some s) (spells ds e (lt-is (digits_value 10 ds) (2 ^ 64) f)))
+at_unsigned ds true true e f = rw (e, f) (ap (λ s. Some s) (spells ds e (ltb-true (digits_value 10 ds) (2 ^ 64) f)))
 at_unsigned ds true false e f = rw (e, f) refl
 at_unsigned ds false small e f = rw e refl
 
@@ -130,7 +119,7 @@ module _ (ds : List ℕ) (m : Option ℕ) (is : m ≡ Magnitude ds) where
   pub respelt_negative : (n : ℕ) → m ≡ Some n → (n ≡ 0 → ⊥) → n ≤ 2 ^ 63 → respelt_digits true ds ≡ Some (45 ∷ ds)
   respelt_negative n e some small =
       let k = known (are_digits ds) (nat_lt v (2 ^ 64)) v n (sym is ∙ e) in
-      rw (k.0, le-true v (2 ^ 63) (omega (arith, k.2))) (ap (λ s. Some s) (spelt_below v ds (λ z. some (sym k.2 ∙ z)) (spells ds k.0 (lt-is v (2 ^ 64) k.1))))
+      rw (k.0, le-true v (2 ^ 63) (omega (arith, k.2))) (ap (λ s. Some s) (spelt_below v ds (λ z. some (sym k.2 ∙ z)) (spells ds k.0 (ltb-true v (2 ^ 64) k.1))))
 
   pub respelt_past : (n : ℕ) → m ≡ Some n → 2 ^ 63 < n → respelt_digits true ds ≡ None
   respelt_past n e big =

@@ -1,8 +1,8 @@
 -- What is written for nodes with whole numbers has such numbers alone.
-use Rattle.std.proofs.Common.{◌≡◌, ℕ, List, [], ◌∷◌, Bool, true, false, ◌&&◌, Option, Some, None, refl}
+use Rattle.std.proofs.Common.{◌≡◌, ℕ, List, [], ◌∷◌, Bool, true, false, Option, Some, None, refl}
 use Rattle.std.specs.Prelude.{IfSome, IsTrue}
 use Rattle.std.specs.List.{list_all, AllByRecursion}
-use Rattle.std.proofs.lemmas.Bool.{false≢true}
+use Rattle.std.proofs.lemmas.Bool.{false≢true, and_parts}
 use Rattle.serde_json.specs.Data.{Num, negative, float, Data, null, boolean, string, number, unsigned, object, Items, no_items, item, Members, no_members, member, depth, items_depth, members_depth}
 use Rattle.serde_json.specs.Data as json
 use Rattle.serde_json.specs.Find.{is_float}
@@ -12,10 +12,6 @@ use Rattle.avro_nodes.specs.Identity.{texts, identity_value, max_nesting, member
 use Rattle.avro_nodes.specs.Whole.{is_whole_number, has_whole_numbers, items_have_whole_numbers, members_have_whole_numbers}
 use Rattle.avro_nodes.proofs.Carried.{AllMembers, AllItems, OfField, OfNode, all_put, spelt_is}
 
-pub both : (a b : Bool) → (a && b) ≡ true → (a ≡ true) × (b ≡ true)
-both true b e = (refl, e)
-both false b e = absurd (false≢true e)
-
 -- ---- what passes a test
 
 module _ (test : Data → Bool) where
@@ -24,7 +20,7 @@ module _ (test : Data → Bool) where
 
   of_members : (ms : Members) → members_pass test ms ≡ true → AllMembers Passes ms
   of_members no_members e = tt
-  of_members (member k d ms) e = let h = both (test d) (members_pass test ms) e in (h.0, of_members ms h.1)
+  of_members (member k d ms) e = let h = and_parts (test d) (members_pass test ms) e in (h.0, of_members ms h.1)
 
   of_value : (o : Option Data) → value_passes test o ≡ true → IfSome o Passes
   of_value None e = tt
@@ -33,8 +29,8 @@ module _ (test : Data → Bool) where
   of_fields : (fs : List FieldView) → list_all (field_passes test) fs ≡ true → AllByRecursion (OfField Passes (AllMembers Passes)) fs
   of_fields [] e = tt
   of_fields (f ∷ fs) e =
-      let h = both (field_passes test f) (list_all (field_passes test) fs) e in
-      let g = both (value_passes test f.value) (members_pass test f.extra) h.0 in
+      let h = and_parts (field_passes test f) (list_all (field_passes test) fs) e in
+      let g = and_parts (value_passes test f.value) (members_pass test f.extra) h.0 in
       ((of_value f.value g.0, of_members f.extra g.1), of_fields fs h.1)
 
   of_node : (node : NodeView) → node_passes test node ≡ true → OfNode Passes (AllMembers Passes) node
@@ -43,14 +39,14 @@ module _ (test : Data → Bool) where
   of_node (mapping values extra) e = of_members extra e
   of_node (union branches) e = tt
   of_node (enumeration named symbols fallback extra) e = of_members extra e
-  of_node (fixed named size extra) e = let h = both (test (number (unsigned size))) (members_pass test extra) e in (h.0, of_members extra h.1)
+  of_node (fixed named size extra) e = let h = and_parts (test (number (unsigned size))) (members_pass test extra) e in (h.0, of_members extra h.1)
   of_node (rec named fields extra) e =
-      let h = both (list_all (field_passes test) fields) (members_pass test extra) e in
+      let h = and_parts (list_all (field_passes test) fields) (members_pass test extra) e in
       (of_fields fields h.0, of_members extra h.1)
 
   of_nodes : (nodes : List NodeView) → list_all (node_passes test) nodes ≡ true → AllByRecursion (OfNode Passes (AllMembers Passes)) nodes
   of_nodes [] e = tt
-  of_nodes (node ∷ nodes) e = let h = both (node_passes test node) (list_all (node_passes test) nodes) e in (of_node node h.0, of_nodes nodes h.1)
+  of_nodes (node ∷ nodes) e = let h = and_parts (node_passes test node) (list_all (node_passes test) nodes) e in (of_node node h.0, of_nodes nodes h.1)
 
   nodes_are : (nodes : List NodeView) → IsTrue (nodes_pass test nodes) → AllByRecursion (OfNode Passes (AllMembers Passes)) nodes
   unfolding nodes_pass
@@ -125,11 +121,11 @@ mutual
 
   no_float_items : (ds : Items) → items_have_whole_numbers ds ≡ true → items_have_float ds ≡ false
   no_float_items no_items e = refl
-  no_float_items (item d ds) e = let h = both (has_whole_numbers d) (items_have_whole_numbers ds) e in rw (no_float d h.0) (no_float_items ds h.1)
+  no_float_items (item d ds) e = let h = and_parts (has_whole_numbers d) (items_have_whole_numbers ds) e in rw (no_float d h.0) (no_float_items ds h.1)
 
   no_float_members : (ms : Members) → members_have_whole_numbers ms ≡ true → members_have_float ms ≡ false
   no_float_members no_members e = refl
-  no_float_members (member k d ms) e = let h = both (has_whole_numbers d) (members_have_whole_numbers ms) e in rw (no_float d h.0) (no_float_members ms h.1)
+  no_float_members (member k d ms) e = let h = and_parts (has_whole_numbers d) (members_have_whole_numbers ms) e in rw (no_float d h.0) (no_float_members ms h.1)
 
 pub identity_has_no_float : (nodes : List NodeView) → IsTrue (nodes_pass has_whole_numbers nodes) → has_float (identity_value nodes) ≡ false
 identity_has_no_float nodes e = no_float (identity_value nodes) (identity_is_whole nodes e)

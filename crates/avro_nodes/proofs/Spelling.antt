@@ -1,10 +1,9 @@
 -- What is written for a place, by its node.
-use Rattle.std.proofs.Common.{◌≡◌, ℕ, suc, ◌-◌, ◌<◌, ◌==◌, List, true, false, Option, refl, sym, ap, subst, ◌∙◌, eq-eqb, arith}
+use Rattle.std.proofs.Common.{◌≡◌, ℕ, suc, ◌-◌, ◌<◌, List, Option, refl, sym, ap, subst, ◌∙◌, eq-eqb, arith}
+use Rattle.std.proofs.lemmas.Bool.{eq-eqb, ne_eqb}
 use Rattle.std.specs.Prelude.{slice_get}
 use Rattle.std.specs.Option.{option_map}
 use Rattle.std.proofs.lemmas.Option.{slice_get-map}
-use Rattle.std.proofs.lemmas.Bool.Decides.{eqb_tells}
-use Rattle.std.proofs.Common.{inl, inr}
 use Rattle.json.specs.Token.{Token}
 use Rattle.serde_json.specs.Data.{Data, null, string}
 use Rattle.avro_nodes.specs.Nodes.{NodeView, node_view, nodes_view}
@@ -15,12 +14,6 @@ use Rattle.avro_nodes.specs.Objects.{WritesSpelt}
 pub shape_found : (nodes : List Node) (place : ℕ) (o : Option Node) → slice_get nodes place ≡ o → slice_get (nodes_view nodes) place ≡ option_map node_view o
 shape_found nodes place o e = slice_get-map node_view nodes place ∙ ap (option_map node_view) e
 
-pub same_eqb : (a b : ℕ) → a ≡ b → (a == b) ≡ true
-same_eqb a b e = eq-eqb a b e
-
-pub other_eqb : (a b : ℕ) → (a ≡ b → ⊥) → (a == b) ≡ false
-other_eqb a b other = elim (eqb_tells a b) [ inl p ↦ absurd (other p.1) | inr p ↦ p.0 ]
-
 module _ (n : ℕ) (nodes : List NodeView) (space : List ℕ) (place written : ℕ) where
   pub spelt_too_deep : n ≡ 0 → spelt_at n nodes space place written ≡ (null, written)
   unfolding spelt_at
@@ -28,11 +21,11 @@ module _ (n : ℕ) (nodes : List NodeView) (space : List ℕ) (place written : �
 
   pub at_suc : (m : ℕ) → place ≡ written → spelt_at (suc m) nodes space place written ≡ spelt_node (spelt_at m nodes) space written (slice_get nodes place)
   unfolding spelt_at
-  at_suc m e = rw (same_eqb place written e) refl
+  at_suc m e = rw (eq-eqb place written e) refl
 
   pub again_suc : (m : ℕ) → (place ≡ written → ⊥) → spelt_at (suc m) nodes space place written ≡ (string (name_of (slice_get nodes place)), written)
   unfolding spelt_at
-  again_suc m other = rw (other_eqb place written other) refl
+  again_suc m other = rw (ne_eqb place written other) refl
 
   pub spelt_first : (o : Option NodeView) → 0 < n → place ≡ written → slice_get nodes place ≡ o → spelt_at n nodes space place written ≡ spelt_node (spelt_at (n - 1) nodes) space written o
   spelt_first o some e found =

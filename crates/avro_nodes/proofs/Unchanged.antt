@@ -6,7 +6,7 @@ use Rattle.std.specs.List.{list_all, position_or_len}
 use Rattle.std.specs.Str.Parse.{digits_value}
 use Rattle.std.proofs.lemmas.Nat.{mod_below}
 use Rattle.std.proofs.Math.Nat.{div-lt_iff_lt-mul}
-use Rattle.std.proofs.lemmas.Bool.{false≢true, true≢false, ltb-true, lt-ltb, le-leb}
+use Rattle.std.proofs.lemmas.Bool.{false≢true, true≢false, ltb-true, lt-ltb, le-leb, and_parts, and_from, eq-eqb, ne_eqb}
 use Rattle.std.proofs.lemmas.Fmt.{decimal_is_IsNumeral, decimal_digit, first_decimal}
 use Rattle.std.proofs.lemmas.List.{append-nil, take_all}
 use Rattle.std.proofs.lemmas.Str.Parse.{digit_at}
@@ -22,8 +22,7 @@ use Rattle.avro_nodes.specs.Nodes.{NodeView}
 use Rattle.avro_nodes.specs.Identity.{identity, identity_value, nodes_pass}
 use Rattle.avro_nodes.proofs.Runs.{before_before, before_nothing, number_next, no_number_next, alone}
 use Rattle.avro_nodes.proofs.Numbers.{own}
-use Rattle.avro_nodes.proofs.Plainness.{both, identity_is_whole}
-use Rattle.avro_nodes.proofs.Spelling.{other_eqb, same_eqb}
+use Rattle.avro_nodes.proofs.Plainness.{identity_is_whole}
 
 -- ---- bytes that are copied, and leave the place as it was
 
@@ -81,7 +80,7 @@ abbrev pub escaped : ℕ → List ℕ
 escaped x = cond (nat_lt 0 (letter_of x)) (92 ∷ letter_of x ∷ []) (cond (nat_lt x 32) (92 ∷ 117 ∷ 48 ∷ 48 ∷ digit_char (x / 16) ∷ digit_char (x % 16) ∷ []) (x ∷ []))
 
 inside_still : (c : ℕ) → (c ≡ 34 → ⊥) → (c ≡ 92 → ⊥) → after Inside c ≡ Inside
-inside_still c a b = rw (other_eqb c 34 a, other_eqb c 92 b) refl
+inside_still c a b = rw (ne_eqb c 34 a, ne_eqb c 92 b) refl
 
 ten_up : (m n : ℕ) → nat_lt m n ≡ false → n ≤ m
 ten_up m n e = search (rules, tests)
@@ -131,9 +130,9 @@ run_ends c [] s = alone c
 run_ends c (d ∷ ds) s = ap (in_run c) (no_number_next d ds s) ∙ ap (λ ps. run (c ∷ []) ∷ ps) (sym (no_number_next d ds s))
 
 pub run_copies : (c : ℕ) (cs rest : List ℕ) → list_all is_number_char (c ∷ cs) ≡ true → Stops rest → pieces Outside ((c ∷ cs) ++ rest) ≡ run (c ∷ cs) ∷ pieces Outside rest
-run_copies c [] rest e s = number_next c rest (both (is_number_char c) true e).0 ∙ run_ends c rest s
+run_copies c [] rest e s = number_next c rest (and_parts (is_number_char c) true e).0 ∙ run_ends c rest s
 run_copies c (d ∷ ds) rest e s =
-    let h = both (is_number_char c) (list_all is_number_char (d ∷ ds)) e in
+    let h = and_parts (is_number_char c) (list_all is_number_char (d ∷ ds)) e in
     number_next c ((d ∷ ds) ++ rest) h.0 ∙ ap (in_run c) (run_copies d ds rest h.1 s)
 
 joined_run : (s : List ℕ) (ps : List Piece) → piece_text (run s) ≡ Some s → joined (run s ∷ ps) ≡ before s (joined ps)
@@ -150,7 +149,7 @@ either_spelt false s e = refl
 
 pub number_chars : (ds : List ℕ) → list_all is_ascii_digit ds ≡ true → list_all is_number_char ds ≡ true
 number_chars [] e = refl
-number_chars (c ∷ cs) e = let h = both (is_ascii_digit c) (list_all is_ascii_digit cs) e in rw (h.0) (number_chars cs h.1)
+number_chars (c ∷ cs) e = let h = and_parts (is_ascii_digit c) (list_all is_ascii_digit cs) e in rw (h.0) (number_chars cs h.1)
 
 digit_no_point : (c : ℕ) → is_ascii_digit c ≡ true → (c ≡ 46 → ⊥) × (c ≡ 45 → ⊥)
 digit_no_point c e = (λ is. false≢true (sym (ap is_ascii_digit is) ∙ e), λ is. false≢true (sym (ap is_ascii_digit is) ∙ e))
@@ -158,12 +157,12 @@ digit_no_point c e = (λ is. false≢true (sym (ap is_ascii_digit is) ∙ e), λ
 no_point : (ds : List ℕ) → list_all is_ascii_digit ds ≡ true → position_or_len is_point ds ≡ length ds
 no_point [] e = refl
 no_point (c ∷ cs) e =
-    let h = both (is_ascii_digit c) (list_all is_ascii_digit cs) e in
-    rw (other_eqb c 46 (digit_no_point c h.0).0, no_point cs h.1) (omega arith)
+    let h = and_parts (is_ascii_digit c) (list_all is_ascii_digit cs) e in
+    rw (ne_eqb c 46 (digit_no_point c h.0).0, no_point cs h.1) (omega arith)
 
 whole_alone : (s : List ℕ) → position_or_len is_point s ≡ length s → respelt s ≡ respelt_whole s
 unfolding respelt
-whole_alone s e = rw (e, same_eqb (length s) (length s) refl, take_all (length s) s (omega arith)) refl
+whole_alone s e = rw (e, eq-eqb (length s) (length s) refl, take_all (length s) s (omega arith)) refl
 
 -- the digits of a number
 module _ (n : ℕ) (small : n < 2 ^ 64) where
@@ -182,21 +181,18 @@ module _ (n : ℕ) (small : n < 2 ^ 64) where
   first_is : 48 ≤ get_or digits 0 0
   first_is = (digit_at digits 0 (decimal_is_IsNumeral n small).0.1 some_digits).0
 
-both_true : (a b : Bool) → a ≡ true → b ≡ true → (a && b) ≡ true
-both_true a b e f = rw (e, f) refl
-
 digits_are : (n : ℕ) → n < 2 ^ 64 → are_digits (decimal n) ≡ true
 digits_are zero h = ap are_digits (decimal_digit 0 (omega arith))
 digits_are (suc n) h =
     let ds = decimal (suc n) in
-    let some : not (length ds == 0) ≡ true = rw (other_eqb (length ds) 0 (λ e. omega (arith, e, some_digits (suc n) h))) refl in
-    let first : (not (slice_index ds 0 == 48) || (length ds == 1)) ≡ true = rw (other_eqb (get_or ds 0 0) 48 (λ e. omega (arith, e, first_decimal (suc n) (omega arith) h))) refl in
-    both_true (not (length ds == 0) && list_all is_ascii_digit ds) (not (slice_index ds 0 == 48) || (length ds == 1)) (both_true (not (length ds == 0)) (list_all is_ascii_digit ds) some (all_digits (suc n) h)) first
+    let some : not (length ds == 0) ≡ true = rw (ne_eqb (length ds) 0 (λ e. omega (arith, e, some_digits (suc n) h))) refl in
+    let first : (not (slice_index ds 0 == 48) || (length ds == 1)) ≡ true = rw (ne_eqb (get_or ds 0 0) 48 (λ e. omega (arith, e, first_decimal (suc n) (omega arith) h))) refl in
+    and_from (not (length ds == 0) && list_all is_ascii_digit ds) (not (slice_index ds 0 == 48) || (length ds == 1)) (and_from (not (length ds == 0)) (list_all is_ascii_digit ds) some (all_digits (suc n) h)) first
 
 digits_respelt : (n : ℕ) → n < 2 ^ 64 → respelt (decimal n) ≡ Some (decimal n)
 digits_respelt n h =
     let ds = decimal n in
-    let bare : is_minus (slice_index ds 0) ≡ false = other_eqb (get_or ds 0 0) 45 (λ e. omega (arith, e, first_is n h)) in
+    let bare : is_minus (slice_index ds 0) ≡ false = ne_eqb (get_or ds 0 0) 45 (λ e. omega (arith, e, first_is n h)) in
     whole_alone ds (no_point ds (all_digits n h)) ∙ rw (bare, digits_are n h, value_is n h, lt-ltb n (2 ^ 64) h) refl
 
 below_respelt : (n : ℕ) → n < 2 ^ 63 → respelt (45 ∷ decimal (suc n)) ≡ Some (45 ∷ decimal (suc n))
@@ -268,13 +264,13 @@ mutual
   items_copy : (later : Bool) (ds : Items) → items_have_whole_numbers ds ≡ true → Copies (items_text later ds)
   items_copy later no_items e = copies_byte 93 refl refl
   items_copy later (item d ds) e =
-      let h = both (has_whole_numbers d) (items_have_whole_numbers ds) e in
+      let h = and_parts (has_whole_numbers d) (items_have_whole_numbers ds) e in
       copies_both (comma_if later) (compact_text d ++ items_text true ds) (comma_copies later) (copies_then (compact_text d) (items_text true ds) (text_copies d h.0) (stops_items ds) (items_copy true ds h.1))
 
   members_copy : (later : Bool) (ms : Members) → members_have_whole_numbers ms ≡ true → Copies (members_text later ms)
   members_copy later no_members e = copies_byte 125 refl refl
   members_copy later (member k d ms) e =
-      let h = both (has_whole_numbers d) (members_have_whole_numbers ms) e in
+      let h = and_parts (has_whole_numbers d) (members_have_whole_numbers ms) e in
       let rest = compact_text d ++ members_text true ms in
       copies_both (comma_if later) (quoted k ++ 58 ∷ rest) (comma_copies later)
       (copies_both (quoted k) (58 ∷ rest) (quoted_copies k) (copies_both (58 ∷ []) rest (copies_byte 58 refl refl) (copies_then (compact_text d) (members_text true ms) (text_copies d h.0) (stops_members ms) (members_copy true ms h.1))))

@@ -1,5 +1,6 @@
 -- Sources of fields, found among the fields of the code.
-use Rattle.std.proofs.Common.{◌≡◌, ℕ, ◌+◌, ◌<◌, ◌≤◌, List, [], ◌∷◌, Option, Some, None, Bool, true, false, cond, length, drop, map, get_or, String, Global, string_bytes, refl, sym, ap, ◌∙◌, drop-cons, add-one}
+use Rattle.std.proofs.Common.{◌≡◌, ℕ, ◌+◌, ◌<◌, ◌≤◌, List, [], ◌∷◌, Option, Some, None, Bool, true, false, cond, length, drop, map, get_or, String, Global, string_bytes, refl, sym, ap, ◌∙◌}
+use Rattle.avro_nodes.proofs.Lists.{drop_item}
 use Rattle.std.specs.Prelude.{find, option_map}
 use Rattle.std.specs.Option.{option_or}
 use Rattle.std.specs.Str.{bytes_eq}
@@ -35,9 +36,6 @@ place_by-cons name names fs = place-or (find (λ f. bytes_eq f.name name) (map f
 pub place_by-nil : (fs : List Field) → place_by [] fs ≡ None
 unfolding first_named
 place_by-nil fs = refl
-
-drop_item : {A : Type 0} (xs : List A) (i : ℕ) (x : A) → i < length xs → drop i xs ≡ get_or xs i x ∷ drop (i + 1) xs
-drop_item xs i x h = rw (add-one, drop-cons xs i x)
 
 pub place_next : (names : List (String Global)) (fs : List Field) (i : ℕ) (name : String Global) → i < length names → name ≡ get_or names i name
     → place_by (texts_view (drop i names)) fs ≡ option_or (place_in fs (string_bytes name)) (place_by (texts_view (drop (i + 1) names)) fs)

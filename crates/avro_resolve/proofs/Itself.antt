@@ -1,11 +1,10 @@
 -- Every schema resolves with itself.
-use Rattle.std.proofs.Common.{◌≡◌, ℕ, ◌<◌, List, Option, Some, None, Bool, true, false, ◌||◌, ◌&&◌, length, get_or, refl, sym, subst, ◌∙◌, true≢false, inl, inr, arith}
+use Rattle.std.proofs.Common.{◌≡◌, ℕ, ◌<◌, List, Option, Some, None, Bool, true, false, ◌||◌, ◌&&◌, length, get_or, refl, sym, subst, ◌∙◌, true≢false, inl, inr}
 use Rattle.std.specs.Prelude.{IsTrue, ◌⊎◌, ◌==◌, nat_lt, All, Any, MatchOption, IsSome, slice_get}
 use Rattle.std.specs.List.{list_any}
 use Rattle.std.proofs.lemmas.List.{get_or_default}
 use Rattle.std.proofs.lemmas.List.Elements.{All-contains_itself}
-use Rattle.std.proofs.lemmas.Bool.{and_parts}
-use Rattle.std.proofs.lemmas.Bool.Decides.{nat_tests}
+use Rattle.std.proofs.lemmas.Bool.{and_parts, and_from, or_cases, or_left, or_right, lt-ltb, ltb-true, eq-eqb, eqb-true}
 use Rattle.std.proofs.lemmas.Option.{slice_get-get_or}
 use Rattle.std.proofs.lemmas.List.Folds.{Any-from_list_any, list_any-from_Any}
 use Rattle.serde_json.specs.Data.{no_members}
@@ -40,30 +39,9 @@ own_kind Double = tt
 own_kind Bytes = tt
 own_kind Text = tt
 
-both : (x y : Bool) → x ≡ true → y ≡ true → (x && y) ≡ true
-both true y e f = f
-both false y e f = absurd (true≢false (sym e))
-
-left_true : (x y : Bool) → x ≡ true → (x || y) ≡ true
-left_true true y e = refl
-left_true false y e = absurd (true≢false (sym e))
-
-right_true : (x y : Bool) → y ≡ true → (x || y) ≡ true
-right_true true y e = refl
-right_true false y e = e
-
-is_below : (i n : ℕ) → i < n → nat_lt i n ≡ true
-is_below i n l = grind (arith, nat_tests)
-
-is_same : (i : ℕ) → (i == i) ≡ true
-is_same i = grind (arith, nat_tests)
-
-same_of : (i j : ℕ) → (i == j) ≡ true → i ≡ j
-same_of i j e = grind (arith, nat_tests)
-
 same_pair : (w : List NodeView) (i : ℕ) → i < length w → itself w i i ≡ true
 unfolding itself
-same_pair w i l = both (nat_lt i (length w)) ((i == i) || branch_of (slice_get w i) i) (is_below i (length w) l) (left_true (i == i) (branch_of (slice_get w i) i) (is_same i))
+same_pair w i l = and_from (nat_lt i (length w)) ((i == i) || branch_of (slice_get w i) i) (lt-ltb i (length w) l) (or_left (i == i) (branch_of (slice_get w i) i) (eq-eqb i i refl))
 
 own_field : (w : List NodeView) (fs : List FieldView) (f : FieldView) (o : Option FieldView) → f.place < length w → o ≡ Some f → MatchOption o (IsSome f.value) (λ g. IsTrue (itself w g.place f.place))
 own_field w fs f None l e = absurd cc
@@ -79,14 +57,14 @@ own w i (fixed m size x) e n h = (inl refl, refl)
 own w i (rec m fs x) e n h = (inl refl, λ k d l. let f = get_or fs k d in own_field w fs f (source fs f) (n k d l) (h k d l))
 own w i (union bs) e n h = λ k d l.
     let p = get_or bs k d in
-    both (nat_lt p (length w)) ((p == i) || branch_of (slice_get w i) p) (is_below p (length w) (n k d l))
-    (right_true (p == i) (branch_of (slice_get w i) p) (subst (λ (x : Option NodeView). branch_of x p ≡ true) (sym e) (list_any-from_Any (λ q. q == p) bs (k, p, l, get_or_default bs k p d l, is_same p))))
+    and_from (nat_lt p (length w)) ((p == i) || branch_of (slice_get w i) p) (lt-ltb p (length w) (n k d l))
+    (or_right (p == i) (branch_of (slice_get w i) p) (subst (λ (x : Option NodeView). branch_of x p ≡ true) (sym e) (list_any-from_Any (λ q. q == p) bs (k, p, l, get_or_default bs k p d l, eq-eqb p p refl))))
 
 any_own : (w : List NodeView) (i : ℕ) (bs : List ℕ) → i < length w → Any (λ p. (p == i) ≡ true) bs → Any (λ p. IsTrue (itself w i p)) bs
-any_own w i bs l (k, x, lk, e, s) = (k, x, lk, e, subst (λ (y : ℕ). itself w i y ≡ true) (sym (same_of x i s)) (same_pair w i l))
+any_own w i bs l (k, x, lk, e, s) = (k, x, lk, e, subst (λ (y : ℕ). itself w i y ≡ true) (sym (eqb-true x i s)) (same_pair w i l))
 
 no_union : (w : List NodeView) (i : ℕ) (a : NodeView) (bs : List ℕ) → slice_get w i ≡ Some a → All (NoUnionAt w) bs → Any (λ p. (p == i) ≡ true) bs → IsNoUnion a
-no_union w i a bs e h (k, x, lk, f, s) = h k x lk a (subst (λ (y : ℕ). slice_get w y ≡ Some a) (sym (f ∙ same_of x i s)) e)
+no_union w i a bs e h (k, x, lk, f, s) = h k x lk a (subst (λ (y : ℕ). slice_get w y ≡ Some a) (sym (f ∙ eqb-true x i s)) e)
 
 other_at : (w : List NodeView) (i j : ℕ) (a : NodeView) (bs : List ℕ) → IsNoUnion a → Any (λ p. IsTrue (itself w i p)) bs → Fits (itself w) i j a (union bs)
 other_at w i j (union cs) bs n h = absurd n
@@ -102,19 +80,12 @@ other w i j a _ e l h m = absurd (true≢false (sym m))
 pair_cases : (w : List NodeView) (i j : ℕ) (x y : Option NodeView) → slice_get w i ≡ x → slice_get w j ≡ y → i < length w → IsWhole w → All (IsPlain w) w → ((i == j) ≡ true) ⊎ (branch_of y i ≡ true) → Supports w w (itself w) i j
 unfolding branch_of
 pair_cases w i j None y e f l whole plain c = absurd (some_not_none w i l e)
-pair_cases w i j (Some a) None e f l whole plain (inl s) = absurd (some_not_none w i l (subst (λ (z : ℕ). slice_get w z ≡ None) (sym (same_of i j s)) f))
+pair_cases w i j (Some a) None e f l whole plain (inl s) = absurd (some_not_none w i l (subst (λ (z : ℕ). slice_get w z ≡ None) (sym (eqb-true i j s)) f))
 pair_cases w i j (Some a) None e f l whole plain (inr m) = absurd (true≢false (sym m))
 pair_cases w i j (Some a) (Some b) e f l whole plain (inl s) =
-    let g : slice_get w j ≡ Some a = subst (λ (z : ℕ). slice_get w z ≡ Some a) (same_of i j s) e in
-    (supports_at w w (itself w) i j a a e g).1 (subst (λ (z : ℕ). Fits (itself w) i z a a) (same_of i j s) (own w i a e (at_place w (Names (length w)) i a whole e) (at_place w (IsPlain w) i a plain e)))
+    let g : slice_get w j ≡ Some a = subst (λ (z : ℕ). slice_get w z ≡ Some a) (eqb-true i j s) e in
+    (supports_at w w (itself w) i j a a e g).1 (subst (λ (z : ℕ). Fits (itself w) i z a a) (eqb-true i j s) (own w i a e (at_place w (Names (length w)) i a whole e) (at_place w (IsPlain w) i a plain e)))
 pair_cases w i j (Some a) (Some b) e f l whole plain (inr m) = (supports_at w w (itself w) i j a b e f).1 (other w i j a b e l (at_place w (IsPlain w) j b plain f) m)
-
-or_cases : (x y : Bool) → (x || y) ≡ true → (x ≡ true) ⊎ (y ≡ true)
-or_cases true y e = inl refl
-or_cases false y e = inr e
-
-below_of : (i n : ℕ) → nat_lt i n ≡ true → i < n
-below_of i n e = grind (arith, nat_tests)
 
 resolves_own : (w : List NodeView) → 0 < length w → IsWhole w → All (IsPlain w) w → Resolves w w
 unfolding Resolves itself
@@ -123,7 +94,7 @@ resolves_own w l whole plain = (
   same_pair w 0 l,
   λ i j h.
       let p = and_parts (nat_lt i (length w)) ((i == j) || branch_of (slice_get w j) i) h in
-      pair_cases w i j (slice_get w i) (slice_get w j) refl refl (below_of i (length w) p.0) whole plain (or_cases (i == j) (branch_of (slice_get w j) i) p.1),
+      pair_cases w i j (slice_get w i) (slice_get w j) refl refl (ltb-true i (length w) p.0) whole plain (or_cases (i == j) (branch_of (slice_get w j) i) p.1),
 )
 
 pub schema_resolves : (w : List NodeView) → IsSchema w → Resolves w w

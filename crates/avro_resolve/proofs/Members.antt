@@ -1,5 +1,6 @@
 -- Lists of pairs as sets.
 use Rattle.std.proofs.Common.{◌≡◌, ℕ, zero, suc, List, [], ◌∷◌, ◌++◌, Bool, true, false, ◌&&◌, ◌||◌, not, take, refl, sym, ap, subst, ◌∙◌, arith, append_assoc, append-nil, true≢false, inl, inr}
+use Rattle.std.proofs.lemmas.Bool.{or_cases, or_left, or_right}
 use Rattle.std.specs.Prelude.{◌==◌, ◌⊎◌}
 use Rattle.std.proofs.lemmas.Bool.Decides.{nat_tests}
 use Rattle.avro_nodes.specs.Nodes.{NodeView}
@@ -15,18 +16,6 @@ test_same : (i j a b : ℕ) → (i == a && j == b) ≡ true → (a ≡ i) × (b 
 test_same i j a b e =
     let p : a ≡ i = grind (arith, nat_tests) in
     let q : b ≡ j = grind (arith, nat_tests) in (p, q)
-
-or_cases : (x y : Bool) → (x || y) ≡ true → (x ≡ true) ⊎ (y ≡ true)
-or_cases true y e = inl refl
-or_cases false y e = inr e
-
-or_right : (x y : Bool) → y ≡ true → (x || y) ≡ true
-or_right true y e = refl
-or_right false y e = e
-
-or_left : (x y : Bool) → x ≡ true → (x || y) ≡ true
-or_left true y e = refl
-or_left false y e = absurd (true≢false (sym e))
 
 pub member-cons : (p : Pair) (ps : List Pair) (i j : ℕ) → member (p ∷ ps) i j ≡ ((p.0 == i && p.1 == j) || member ps i j)
 unfolding member

@@ -1,5 +1,6 @@
 -- The reading by computation gives what the rules say.
 use Rattle.std.proofs.Common.{◌≡◌, ℕ, ◌<◌, ◌≤◌, List, [], ◌∷◌, map, Option, Some, None, codes, refl, arith}
+use Rattle.avro_schema.proofs.Steps.{made}
 use Rattle.std.proofs.lemmas.Bool.{le-leb}
 use Rattle.serde_json.specs.Data.{Data, Items, Members, no_members, depth, members_depth}
 use Rattle.serde_json.specs.Find.{get_member}
@@ -12,9 +13,6 @@ use Rattle.avro_schema.specs.Reading.{reference_to, primitive_at, name_at, conta
 use Rattle.avro_schema.specs.Denotes.{Others, IsNamed, IsEnum, IsField, Denotes, a_primitive, a_reference, primitive_type, reference_type, array_type, map_type, fixed_type, enum_type, record_type, union_type}
 use Rattle.avro_schema.specs.Denotes.{Branches, no_branch, branch, Fields, no_field, field}
 use Rattle.avro_schema.proofs.Inversion.{room_there, get_past, text_past, items_past, text_if_any_past, texts_apart, numbers_apart}
-
-abbrev made : {A : Type 0} → A → List NodeView → Known → Option (Part A)
-made it nodes known = Some (record { it = it; nodes = nodes; known = known })
 
 pub bound_there : (ms : Members) → members_depth ms ≤ max_nesting → bounded ms ≡ Some ms
 unfolding bounded

@@ -1,5 +1,6 @@
 -- That it is enough to look at the fields that a table says.
 use Rattle.std.proofs.Common.{◌≡◌, ◌⊎◌, inl, inr, ℕ, zero, suc, ◌<◌, ◌≤◌, ◌+◌, ◌≢◌, List, [], ◌∷◌, length, map, get_or, Bool, true, false, ◌&&◌, ◌||◌, ◌++◌, Option, Some, None, Ordering, Less, Equal, Greater, nat_cmp, bytes_eq, refl, sym, ap, subst, ◌∙◌, true≢false, arith}
+use Rattle.std.proofs.lemmas.Bool.{and_parts, and_from, or_right, eqb-true, eq-eqb}
 use Rattle.std.specs.Prelude.{◌==◌, IfSome, option_map, is_some, slice_get}
 use Rattle.std.specs.Cmp.Lexicographic.{slice_cmp}
 use Rattle.std.specs.List.{list_all}
@@ -20,16 +21,11 @@ use Rattle.avro_nodes.specs.Nodes.{NamedView, FieldView, NodeView, primitive, ar
 use Rattle.avro_schema.specs.declared.tables.FieldTable.{FieldTable}
 use Rattle.avro_schema.specs.Defaults.{Fitting, field_fits_by, fields_fit}
 use Rattle.avro_schema.specs.Tables.{is_always, IsFound, named_in, CoversFirst, IsTable, IsTableOf, AreTables, fits_if_any, index_fits, named_fit}
-use Rattle.avro_schema.proofs.Fitting.{and_left, and_right, both, same_number, number_itself}
 use Rattle.avro_schema.proofs.Inversion.{same_bytes}
 
 or_more : (a b c : Bool) → (b ≡ true → c ≡ true) → (a || b) ≡ true → (a || c) ≡ true
 or_more true b c f h = refl
 or_more false b c f h = f h
-
-or_right : (a b : Bool) → b ≡ true → (a || b) ≡ true
-or_right true b h = refl
-or_right false b h = h
 
 same_tests : (a b : Bool) → (a ≡ true → b ≡ true) → (b ≡ true → a ≡ true) → a ≡ b
 same_tests true true f g = refl
@@ -38,25 +34,25 @@ same_tests false true f g = g refl
 same_tests false false f g = refl
 
 among_here : (test : ℕ → Bool) (i j : ℕ) (same : Bool) (rest : Bool) → (j == i) ≡ same → (same || rest) ≡ true → test j ≡ true → (rest ≡ true → test i ≡ true) → test i ≡ true
-among_here test i j true rest is h here later = subst (λ (k : ℕ). test k ≡ true) (same_number j i is) here
+among_here test i j true rest is h here later = subst (λ (k : ℕ). test k ≡ true) (eqb-true j i is) here
 among_here test i j false rest is h here later = later h
 
 among_passes : (test : ℕ → Bool) (xs : List ℕ) (i : ℕ) → list_all test xs ≡ true → is_always xs i ≡ true → test i ≡ true
 among_passes test [] i h among = absurd (true≢false (sym among))
 among_passes test (j ∷ js) i h among =
-    among_here test i j (j == i) (is_always js i) refl among (and_left (test j) (list_all test js) h) (λ later. among_passes test js i (and_right (test j) (list_all test js) h) later)
+    among_here test i j (j == i) (is_always js i) refl among (and_parts (test j) (list_all test js) h).0 (λ later. among_passes test js i (and_parts (test j) (list_all test js) h).1 later)
 
 always_more : (xs : List ℕ) (i j : ℕ) → is_always xs i ≡ true → is_always (xs ++ j ∷ []) i ≡ true
 always_more [] i j h = absurd (true≢false (sym h))
 always_more (x ∷ xs) i j h = or_more (x == i) (is_always xs i) (is_always (xs ++ j ∷ []) i) (λ later. always_more xs i j later) h
 
 always_last : (xs : List ℕ) (j : ℕ) → is_always (xs ++ j ∷ []) j ≡ true
-always_last [] j = rw (number_itself j) refl
+always_last [] j = rw (eq-eqb j j refl) refl
 always_last (x ∷ xs) j = or_right (x == j) (is_always (xs ++ j ∷ []) j) (always_last xs j)
 
 all_pass : {A : Type 0} (test : A → Bool) (xs : List A) → ((x : A) → test x ≡ true) → list_all test xs ≡ true
 all_pass test [] each = refl
-all_pass test (x ∷ xs) each = both (test x) (list_all test xs) (each x) (all_pass test xs each)
+all_pass test (x ∷ xs) each = and_from (test x) (list_all test xs) (each x) (all_pass test xs each)
 
 below : {A : Type 0} (xs : List A) (i : ℕ) (x : A) → slice_get xs i ≡ Some x → i < length xs
 below [] i x e = absurd cc
@@ -71,8 +67,8 @@ module _ (one : Fitting) (ms : Members) where
 
   each_fits : (fields : List FieldView) → fields_fit one ms fields ≡ true → (i : ℕ) → fits_if_any one ms (slice_get fields i) ≡ true
   each_fits [] h i = refl
-  each_fits (f ∷ fields) h zero = and_left (fits_here f) (fields_fit one ms fields) h
-  each_fits (f ∷ fields) h (suc i) = each_fits fields (and_right (fits_here f) (fields_fit one ms fields) h) i
+  each_fits (f ∷ fields) h zero = (and_parts (fits_here f) (fields_fit one ms fields) h).0
+  each_fits (f ∷ fields) h (suc i) = each_fits fields (and_parts (fits_here f) (fields_fit one ms fields) h).1 i
 
   index_fits_all : (fields : List FieldView) → fields_fit one ms fields ≡ true → (o : Option ℕ) → index_fits one ms fields o ≡ true
   index_fits_all fields h None = refl
@@ -80,13 +76,13 @@ module _ (one : Fitting) (ms : Members) where
 
   named_all : (fields : List FieldView) (t : FieldTable) → fields_fit one ms fields ≡ true → (more : Members) → named_fit one ms fields t more ≡ true
   named_all fields t h no_members = refl
-  named_all fields t h (member k d more) = both (index_fits one ms fields (named_in t k)) (named_fit one ms fields t more) (index_fits_all fields h (named_in t k)) (named_all fields t h more)
+  named_all fields t h (member k d more) = and_from (index_fits one ms fields (named_in t k)) (named_fit one ms fields t more) (index_fits_all fields h (named_in t k)) (named_all fields t h more)
 
   -- ---- where those fit that the table says
 
   all_fit : (fields : List FieldView) → ((i : ℕ) (f : FieldView) → slice_get fields i ≡ Some f → fits_here f ≡ true) → fields_fit one ms fields ≡ true
   all_fit [] each = refl
-  all_fit (f ∷ fields) each = both (fits_here f) (fields_fit one ms fields) (each zero f refl) (all_fit fields (λ i g e. each (suc i) g e))
+  all_fit (f ∷ fields) each = and_from (fits_here f) (fields_fit one ms fields) (each zero f refl) (all_fit fields (λ i g e. each (suc i) g e))
 
   -- a member that is found is one of those that are looked at
   found_at : (fields : List FieldView) (t : FieldTable) (k l : List ℕ) (o : Ordering) (d e : Data) (more : Members) → slice_cmp nat_cmp k l ≡ o → match_ordering o (get_member k more) (Some e) (get_member k more) ≡ Some d
@@ -100,8 +96,8 @@ module _ (one : Fitting) (ms : Members) where
   named_passes : (fields : List FieldView) (t : FieldTable) (k : List ℕ) (d : Data) (more : Members) → get_member k more ≡ Some d → named_fit one ms fields t more ≡ true → index_fits one ms fields (named_in t k) ≡ true
   named_passes fields t k d no_members found h = absurd cc
   named_passes fields t k d (member l e more) found h =
-      let here = and_left (index_fits one ms fields (named_in t l)) (named_fit one ms fields t more) h in
-      let rest = and_right (index_fits one ms fields (named_in t l)) (named_fit one ms fields t more) h in
+      let here = (and_parts (index_fits one ms fields (named_in t l)) (named_fit one ms fields t more) h).0 in
+      let rest = (and_parts (index_fits one ms fields (named_in t l)) (named_fit one ms fields t more) h).1 in
       found_at fields t k l (slice_cmp nat_cmp k l) d e more refl found here (λ later. named_passes fields t k d more later rest)
 
   left_out : (fields : List FieldView) (t : FieldTable) (i : ℕ) (f : FieldView) (o : Option Data) → slice_get fields i ≡ Some f → get_member f.name ms ≡ o → is_some f.value ≡ true → named_in t f.name ≡ Some i
@@ -119,9 +115,9 @@ module _ (one : Fitting) (ms : Members) where
   table_decides fields t is =
       same_tests (list_all (λ j. fits_if_any one ms (slice_get fields j)) t.always.items && named_fit one ms fields t ms) (fields_fit one ms fields)
       (λ h. all_fit fields (λ i f at. one_fits fields t i f at (is i f (below fields i f at) at)
-      (and_left (list_all (λ j. fits_if_any one ms (slice_get fields j)) t.always.items) (named_fit one ms fields t ms) h)
-      (and_right (list_all (λ j. fits_if_any one ms (slice_get fields j)) t.always.items) (named_fit one ms fields t ms) h)))
-      (λ h. both (list_all (λ j. fits_if_any one ms (slice_get fields j)) t.always.items) (named_fit one ms fields t ms) (all_pass (λ j. fits_if_any one ms (slice_get fields j)) t.always.items (each_fits fields h)) (named_all fields t h ms))
+      (and_parts (list_all (λ j. fits_if_any one ms (slice_get fields j)) t.always.items) (named_fit one ms fields t ms) h).0
+      (and_parts (list_all (λ j. fits_if_any one ms (slice_get fields j)) t.always.items) (named_fit one ms fields t ms) h).1))
+      (λ h. and_from (list_all (λ j. fits_if_any one ms (slice_get fields j)) t.always.items) (named_fit one ms fields t ms) (all_pass (λ j. fits_if_any one ms (slice_get fields j)) t.always.items (each_fits fields h)) (named_all fields t h ms))
 
 pub last_decides : (a b c : Bool) → a ≡ true → (a && b) ≡ c → b ≡ c
 last_decides true b c e h = h
@@ -182,7 +178,7 @@ named_still always named named2 i n f g false is new more (inr found) = inr (fou
 module _ (n : ℕ) (always : List ℕ) (named : List ℕ → Option ℕ) (fields : List FieldView) (so_far : CoversFirst n always named fields) where
   pushed_at : (same : Bool) (i : ℕ) (f : FieldView) → (i == n) ≡ same → i < n + 1 → slice_get fields i ≡ Some f → IsFound (always ++ n ∷ []) named i f
   unfolding CoversFirst
-  pushed_at true i f is h e = inl (subst (λ (k : ℕ). is_always (always ++ n ∷ []) k ≡ true) (sym (same_number i n is)) (always_last always n))
+  pushed_at true i f is h e = inl (subst (λ (k : ℕ). is_always (always ++ n ∷ []) k ≡ true) (sym (eqb-true i n is)) (always_last always n))
   pushed_at false i f is h e = still_found always named i n f (so_far i f (omega (arith, other_index n i is)) e)
 
   -- one that is always asked for
@@ -194,7 +190,7 @@ module _ (n : ℕ) (always : List ℕ) (named : List ℕ → Option ℕ) (fields
     named_at : (same : Bool) (i : ℕ) (f : FieldView) → (i == n) ≡ same → i < n + 1 → slice_get fields i ≡ Some f → IsFound always named2 i f
     unfolding CoversFirst
     named_at true i f is h e =
-        let i_is : i ≡ n = same_number i n is in
+        let i_is : i ≡ n = eqb-true i n is in
         let f_is : g ≡ f = same_Some _ _ (sym here ∙ ap (slice_get fields) (sym i_is) ∙ e) in
         inr (
           ap (λ (x : FieldView). is_some x.value) (sym f_is) ∙ has,

@@ -1,5 +1,6 @@
 -- A set of what a loop has seen, beside `all_new`.
 use Rattle.std.proofs.Common.{◌≡◌, ℕ, ◌+◌, ◌<◌, ◌≤◌, List, [], ◌∷◌, length, map, drop, get_or, Bool, true, false, not, cond, ◌||◌, nat_cmp, is_eq, bytes_eq, Bor, string_bytes, refl, sym, ap, ◌∙◌, add-one, drop-cons, arith}
+use Rattle.avro_nodes.proofs.Lists.{drop_item}
 use Rattle.std.proofs.Math.Path.{fun_ext}
 use Rattle.std.proofs.lemmas.List.{drop_all}
 use Rattle.std.proofs.lemmas.Map.Text.{is_eq-slice_cmp}
@@ -11,9 +12,6 @@ use Rattle.std.proofs.lemmas.Bool.Decides.{nat_tests}
 use Rattle.avro_nodes.specs.declared.node.Field.{Field}
 use Rattle.avro_nodes.specs.Nodes.{field_view}
 use Rattle.avro_schema.specs.Distinct.{all_new}
-
-pub drop_from : {A : Type 0} (xs : List A) (i : ℕ) (x : A) → i < length xs → drop i xs ≡ get_or xs i x ∷ drop (i + 1) xs
-drop_from xs i x h = rw (add-one, drop-cons xs i x)
 
 -- the next of a list is new, or it is not
 pub new_here : {X : Type 0} (same : X → X → Bool) (seen : X → Bool) (x : X) (xs : List X) → seen x ≡ false → all_new same seen (x ∷ xs) ≡ all_new same (λ y. cond (same x y) true (seen y)) xs
@@ -65,7 +63,7 @@ is_new false a e f = refl
 
 module _ {A B : Type 0} (f : A → B) (same : B → B → Bool) (xs : List A) (i : ℕ) (d x : A) (x_is : x ≡ get_or xs i d) (seen : B → Bool) (all : Bool) (so_far : all_new same seen (map f (drop i xs)) ≡ all) where
   from_here : i < length xs → all_new same seen (f x ∷ map f (drop (i + 1) xs)) ≡ all
-  from_here h = rw (drop_from xs i d h, ← x_is) at so_far
+  from_here h = rw (drop_item xs i d h, ← x_is) at so_far
 
   pub stands_twice : (added : Bool) → i < length xs → added ≡ not (seen (f x)) → added ≡ false → false ≡ all
   stands_twice added h e was = sym (old_here same seen (f x) (map f (drop (i + 1) xs)) (not_new (seen (f x)) added e was)) ∙ from_here h

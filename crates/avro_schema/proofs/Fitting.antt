@@ -1,5 +1,6 @@
 -- Which defaults fit, computed and by the rules.
 use Rattle.std.proofs.Common.{◌≡◌, ℕ, zero, suc, ◌<◌, ◌≤◌, max, List, [], ◌∷◌, length, Bool, true, false, ◌&&◌, ◌==◌, ℤ, Option, Some, None, Ordering, Less, Equal, Greater, nat_cmp, refl, sym, ap, subst, ◌∙◌, true≢false, arith}
+use Rattle.std.proofs.lemmas.Bool.{and_parts, and_from, eqb-true, eq-eqb}
 use Rattle.std.specs.Prelude.{is_some, slice_get, IfSome}
 use Rattle.std.specs.List.{AllByRecursion}
 use Rattle.std.specs.Str.{chars}
@@ -19,23 +20,6 @@ use Rattle.avro_schema.specs.Members.{max_nesting}
 use Rattle.avro_schema.specs.Defaults.{is_int, is_bytes, FitsDefault, fits_type, fits_union, FitsNode, fits_null, fits_boolean, fits_int, fits_long, fits_float, fits_double, fits_bytes, fits_string, fits_enum, fits_fixed, fits_array, fits_map, fits_record}
 use Rattle.avro_schema.specs.Defaults.{ItemsFit, no_item_left, item_fits, MembersFit, no_member_left, member_fits, FieldsFit, no_field_left, field_fits, field_missing, ValueFits, FieldDefaultsFit, NodeDefaultsFit}
 use Rattle.avro_schema.specs.Defaults.{whole_fits, primitive_fits, items_fit, members_fit, field_fits_by, fields_fit, node_fits, entered, fits, value_fits, field_defaults_fit, node_defaults_fit}
-
-pub and_left : (a b : Bool) → (a && b) ≡ true → a ≡ true
-and_left true b e = refl
-and_left false b e = e
-
-pub and_right : (a b : Bool) → (a && b) ≡ true → b ≡ true
-and_right true b e = e
-and_right false b e = absurd (true≢false (sym e))
-
-pub both : (a b : Bool) → a ≡ true → b ≡ true → (a && b) ≡ true
-both a b e f = rw (e, f) refl
-
-pub same_number : (a b : ℕ) → (a == b) ≡ true → a ≡ b
-same_number a b h = grind (arith, nat_tests)
-
-pub number_itself : (a : ℕ) → (a == a) ≡ true
-number_itself a = grind (arith, nat_tests)
 
 found_at : (o : Ordering) (d e : Data) (ms : Members) (rest : Option Data) → ((x : Data) → rest ≡ Some x → depth x ≤ members_depth ms) → match_ordering o rest (Some e) rest ≡ Some d → depth d ≤ max (depth e) (members_depth ms)
 found_at Less d e ms rest later is = omega (arith, later d is)
@@ -68,23 +52,23 @@ module _ (nodes : List NodeView) where
     node_computes (fits_bytes b) n h = (refl, b)
     node_computes fits_string n h = (refl, refl)
     node_computes fits_enum n h = (refl, refl)
-    node_computes (fits_fixed {s = s} b) n h = (refl, both (is_bytes s) (length (chars s) == length (chars s)) b (number_itself (length (chars s))))
+    node_computes (fits_fixed {s = s} b) n h = (refl, and_from (is_bytes s) (length (chars s) == length (chars s)) b (eq-eqb (length (chars s)) (length (chars s)) refl))
     node_computes (fits_array f) n h = (refl, items_compute f n (omega arith))
     node_computes (fits_map f) n h = (refl, members_compute f n (omega arith))
     node_computes (fits_record f) n h = (refl, fields_compute f n (omega arith))
 
     items_compute : {ds : Items} {place : ℕ} → ItemsFit nodes ds place → (n : ℕ) → items_depth ds < n → items_fit (fits n nodes) ds place ≡ true
     items_compute no_item_left n h = refl
-    items_compute (item_fits {d = d} {ds = ds} {place = place} f more) n h = both (fits n nodes d place) (items_fit (fits n nodes) ds place) (fits_computes f n (omega arith)) (items_compute more n (omega arith))
+    items_compute (item_fits {d = d} {ds = ds} {place = place} f more) n h = and_from (fits n nodes d place) (items_fit (fits n nodes) ds place) (fits_computes f n (omega arith)) (items_compute more n (omega arith))
 
     members_compute : {ms : Members} {place : ℕ} → MembersFit nodes ms place → (n : ℕ) → members_depth ms < n → members_fit (fits n nodes) ms place ≡ true
     members_compute no_member_left n h = refl
-    members_compute (member_fits {d = d} {ms = ms} {place = place} f more) n h = both (fits n nodes d place) (members_fit (fits n nodes) ms place) (fits_computes f n (omega arith)) (members_compute more n (omega arith))
+    members_compute (member_fits {d = d} {ms = ms} {place = place} f more) n h = and_from (fits n nodes d place) (members_fit (fits n nodes) ms place) (fits_computes f n (omega arith)) (members_compute more n (omega arith))
 
     fields_compute : {ms : Members} {fields : List FieldView} → FieldsFit nodes ms fields → (n : ℕ) → members_depth ms < n → fields_fit (fits n nodes) ms fields ≡ true
     fields_compute no_field_left n h = refl
     fields_compute (field_fits {ms = ms} {f = f} {fields = fields} {d = d} e g more) n h =
-        rw e (both (fits n nodes d f.place) (fields_fit (fits n nodes) ms fields) (fits_computes g n (omega (arith, member_depth f.name ms d e))) (fields_compute more n h))
+        rw e (and_from (fits n nodes d f.place) (fields_fit (fits n nodes) ms fields) (fits_computes g n (omega (arith, member_depth f.name ms d e))) (fields_compute more n h))
     fields_compute (field_missing e g more) n h = rw (e, g) (fields_compute more n h)
 
 -- ---- to the rules
@@ -112,12 +96,12 @@ module _ (nodes : List NodeView) where
   module _ (n : ℕ) (says : (v : Data) (place : ℕ) → fits n nodes v place ≡ true → FitsDefault nodes v place) where
     items_say : (ds : Items) (place : ℕ) → items_fit (fits n nodes) ds place ≡ true → ItemsFit nodes ds place
     items_say no_items place h = no_item_left
-    items_say (item d ds) place h = item_fits (says d place (and_left (fits n nodes d place) (items_fit (fits n nodes) ds place) h)) (items_say ds place (and_right (fits n nodes d place) (items_fit (fits n nodes) ds place) h))
+    items_say (item d ds) place h = item_fits (says d place (and_parts (fits n nodes d place) (items_fit (fits n nodes) ds place) h).0) (items_say ds place (and_parts (fits n nodes d place) (items_fit (fits n nodes) ds place) h).1)
 
     members_say : (ms : Members) (place : ℕ) → members_fit (fits n nodes) ms place ≡ true → MembersFit nodes ms place
     members_say no_members place h = no_member_left
     members_say (member k d ms) place h =
-        member_fits (says d place (and_left (fits n nodes d place) (members_fit (fits n nodes) ms place) h)) (members_say ms place (and_right (fits n nodes d place) (members_fit (fits n nodes) ms place) h))
+        member_fits (says d place (and_parts (fits n nodes d place) (members_fit (fits n nodes) ms place) h).0) (members_say ms place (and_parts (fits n nodes d place) (members_fit (fits n nodes) ms place) h).1)
 
     field_says : (o v : Option Data) (ms : Members) (f : FieldView) (fields : List FieldView) → get_member f.name ms ≡ o → f.value ≡ v → field_fits_by (fits n nodes) f o ≡ true → FieldsFit nodes ms fields → FieldsFit nodes ms (f ∷ fields)
     field_says (Some d) v ms f fields e g h more = field_fits e (says d f.place h) more
@@ -127,8 +111,8 @@ module _ (nodes : List NodeView) where
     fields_say : (ms : Members) (fields : List FieldView) → fields_fit (fits n nodes) ms fields ≡ true → FieldsFit nodes ms fields
     fields_say ms [] h = no_field_left
     fields_say ms (f ∷ fields) h =
-        let here = and_left (field_fits_by (fits n nodes) f (get_member f.name ms)) (fields_fit (fits n nodes) ms fields) h in
-        let rest = and_right (field_fits_by (fits n nodes) f (get_member f.name ms)) (fields_fit (fits n nodes) ms fields) h in
+        let here = (and_parts (field_fits_by (fits n nodes) f (get_member f.name ms)) (fields_fit (fits n nodes) ms fields) h).0 in
+        let rest = (and_parts (field_fits_by (fits n nodes) f (get_member f.name ms)) (fields_fit (fits n nodes) ms fields) h).1 in
         field_says (get_member f.name ms) f.value ms f fields refl refl here (fields_say ms fields rest)
 
     node_says : (v : Data) (node : NodeView) → node_fits (fits n nodes) v (Some node) ≡ true → FitsNode nodes v node
@@ -137,7 +121,7 @@ module _ (nodes : List NodeView) where
     node_says (json.object ms) (mapping place extra) h = fits_map (members_say ms place h)
     node_says (string s) (enumeration named symbols fallback extra) h = fits_enum
     node_says (string s) (fixed named size extra) h =
-        subst (λ (x : ℕ). FitsNode nodes (string s) (fixed named x extra)) (same_number (length (chars s)) size (and_right (is_bytes s) (length (chars s) == size) h)) (fits_fixed (and_left (is_bytes s) (length (chars s) == size) h))
+        subst (λ (x : ℕ). FitsNode nodes (string s) (fixed named x extra)) (eqb-true (length (chars s)) size (and_parts (is_bytes s) (length (chars s) == size) h).1) (fits_fixed (and_parts (is_bytes s) (length (chars s) == size) h).0)
     node_says (json.object ms) (rec named fields extra) h = fits_record (fields_say ms fields h)
     node_says v node h = absurd (true≢false (sym h))
 
@@ -174,13 +158,13 @@ module _ (nodes : List NodeView) where
   fields_say_all : (fields : List FieldView) → field_defaults_fit nodes fields ≡ true → FieldDefaultsFit nodes fields
   fields_say_all [] h = tt
   fields_say_all (f ∷ fields) h = (
-    value_says f.value f.place (and_left (value_fits nodes f.value f.place) (field_defaults_fit nodes fields) h),
-    fields_say_all fields (and_right (value_fits nodes f.value f.place) (field_defaults_fit nodes fields) h),
+    value_says f.value f.place (and_parts (value_fits nodes f.value f.place) (field_defaults_fit nodes fields) h).0,
+    fields_say_all fields (and_parts (value_fits nodes f.value f.place) (field_defaults_fit nodes fields) h).1,
   )
 
   fields_compute_all : (fields : List FieldView) → FieldDefaultsFit nodes fields → AllByRecursion (OfField IsShallow AreShallow) fields → field_defaults_fit nodes fields ≡ true
   fields_compute_all [] f h = refl
-  fields_compute_all (g ∷ fields) f h = both (value_fits nodes g.value g.place) (field_defaults_fit nodes fields) (value_computes g.value g.place f.0 h.0.0) (fields_compute_all fields f.1 h.1)
+  fields_compute_all (g ∷ fields) f h = and_from (value_fits nodes g.value g.place) (field_defaults_fit nodes fields) (value_computes g.value g.place f.0 h.0.0) (fields_compute_all fields f.1 h.1)
 
   pub defaults_say : (more : List NodeView) → node_defaults_fit nodes more ≡ true → NodeDefaultsFit nodes more
   defaults_say [] h = tt
@@ -191,7 +175,7 @@ module _ (nodes : List NodeView) where
   defaults_say (enumeration named symbols fallback extra ∷ more) h = defaults_say more h
   defaults_say (fixed named size extra ∷ more) h = defaults_say more h
   defaults_say (rec named fields extra ∷ more) h =
-      (fields_say_all fields (and_left (field_defaults_fit nodes fields) (node_defaults_fit nodes more) h), defaults_say more (and_right (field_defaults_fit nodes fields) (node_defaults_fit nodes more) h))
+      (fields_say_all fields (and_parts (field_defaults_fit nodes fields) (node_defaults_fit nodes more) h).0, defaults_say more (and_parts (field_defaults_fit nodes fields) (node_defaults_fit nodes more) h).1)
 
   pub defaults_compute : (more : List NodeView) → NodeDefaultsFit nodes more → ShallowNodes more → node_defaults_fit nodes more ≡ true
   defaults_compute [] f h = refl
@@ -201,4 +185,4 @@ module _ (nodes : List NodeView) where
   defaults_compute (union branches ∷ more) f h = defaults_compute more f h.1
   defaults_compute (enumeration named symbols fallback extra ∷ more) f h = defaults_compute more f h.1
   defaults_compute (fixed named size extra ∷ more) f h = defaults_compute more f h.1
-  defaults_compute (rec named fields extra ∷ more) f h = both (field_defaults_fit nodes fields) (node_defaults_fit nodes more) (fields_compute_all fields f.0 h.0.0) (defaults_compute more f.1 h.1)
+  defaults_compute (rec named fields extra ∷ more) f h = and_from (field_defaults_fit nodes fields) (node_defaults_fit nodes more) (fields_compute_all fields f.0 h.0.0) (defaults_compute more f.1 h.1)

@@ -11,7 +11,7 @@ use Rattle.std.proofs.lemmas.Option.{same_Some}
 use Rattle.serde_json.specs.Data.{Data, Members, no_members, member}
 use Rattle.serde_json.specs.Find.{get_member}
 use Rattle.std.proofs.lemmas.Slice.Eq.{bytes_eq-Decides}
-use Rattle.std.proofs.lemmas.Bool.{ltb-true, lt-ltb}
+use Rattle.std.proofs.lemmas.Bool.{ltb-true, lt-ltb, and_parts, not-true}
 use Rattle.avro_schema.specs.Members.{◌>>=◌, without, without_all, text_in, array_in, text_if_any}
 use Rattle.avro_schema.specs.Parts.{room_at, max_places}
 
@@ -111,18 +111,6 @@ abbrev pub AllUnseen : {X : Type 0} → (X → Bool) → List X → Type 0
 AllUnseen seen [] = Unit {0}
 AllUnseen seen (x ∷ xs) = (seen x ≡ false) × AllUnseen seen xs
 
-and_left : (a b : Bool) → (a && b) ≡ true → a ≡ true
-and_left true b e = refl
-and_left false b e = e
-
-and_right : (a b : Bool) → (a && b) ≡ true → b ≡ true
-and_right true b e = e
-and_right false b e = absurd (true≢false (sym e))
-
-not_true : (a : Bool) → not a ≡ true → a ≡ false
-not_true true e = absurd (true≢false (sym e))
-not_true false e = refl
-
 cond_unseen : (same before : Bool) → cond same true before ≡ false → (same ≡ false) × (before ≡ false)
 cond_unseen true before e = absurd (true≢false e)
 cond_unseen false before e = (refl, e)
@@ -143,9 +131,9 @@ module _ {X : Type 0} (same : X → X → Bool) (tells : (x y : X) → same x y 
   unfolding all_new
   new_says seen [] e = (tt, tt)
   new_says seen (x ∷ xs) e =
-      let rest = new_says (λ y. cond (same x y) true (seen y)) xs (and_right (not (seen x)) (all_new same (λ y. cond (same x y) true (seen y)) xs) e) in
+      let rest = new_says (λ y. cond (same x y) true (seen y)) xs (and_parts (not (seen x)) (all_new same (λ y. cond (same x y) true (seen y)) xs) e).1 in
       let parts = split seen x xs rest.0 in
-      ((not_true (seen x) (and_left (not (seen x)) (all_new same (λ y. cond (same x y) true (seen y)) xs) e), parts.1), (parts.0, rest.1))
+      ((not-true (seen x) (and_parts (not (seen x)) (all_new same (λ y. cond (same x y) true (seen y)) xs) e).0, parts.1), (parts.0, rest.1))
 
   new_from : (seen : X → Bool) (xs : List X) → AllUnseen seen xs → AllDiffer xs → all_new same seen xs ≡ true
   unfolding all_new

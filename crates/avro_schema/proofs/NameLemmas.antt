@@ -1,5 +1,6 @@
 -- Lemmas on names, for loops over their bytes.
 use Rattle.std.proofs.Common.{◌≡◌, ℕ, zero, suc, ◌+◌, ◌<◌, List, [], ◌∷◌, ◌++◌, length, take, drop, Bool, true, false, cond, get_or, ◌≤◌, ◌-◌, ◌⊎◌, inl, inr, refl, sym, ap, ◌∙◌, arith}
+use Rattle.std.proofs.lemmas.Bool.{or_right}
 use Rattle.std.proofs.Math.Seq.{take-suc}
 use Rattle.std.specs.Str.{IsCharBoundary, IsUtf8}
 use Rattle.std.proofs.lemmas.Str.{IsCharBoundary-after_ascii, IsCharBoundary-start}
@@ -26,14 +27,10 @@ not_dot c other = elim (eqb_tells c 46) [ inl p ↦ absurd (other p.1) | inr p �
 back : (i : ℕ) → (i + 1) - 1 ≡ i
 back i = omega arith
 
-or_true : (b : Bool) → (b || true) ≡ true
-or_true true = refl
-or_true false = refl
-
 pub last_at_dot : (xs : List ℕ) (c : ℕ) → is_dot c ≡ true → last_part (xs ++ c ∷ []) ≡ []
 unfolding last_part
 last_at_dot [] c h = rw h refl
-last_at_dot (x ∷ xs) c h = rw (any_push xs c h, or_true (is_dot x)) (last_at_dot xs c h)
+last_at_dot (x ∷ xs) c h = rw (any_push xs c h, or_right (is_dot x) true refl) (last_at_dot xs c h)
 
 last_by : (x c : ℕ) (xs : List ℕ) (b : Bool) → last_part (xs ++ c ∷ []) ≡ last_part xs ++ c ∷ [] → cond b (last_part (xs ++ c ∷ [])) (x ∷ xs ++ c ∷ []) ≡ cond b (last_part xs) (x ∷ xs) ++ c ∷ []
 last_by x c xs true e = e

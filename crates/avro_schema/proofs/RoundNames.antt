@@ -1,5 +1,6 @@
 -- Full names are well formed, and so are their namespaces.
 use Rattle.std.proofs.Common.{◌≡◌, ℕ, List, [], ◌∷◌, ◌++◌, Bool, true, false, cond, ◌&&◌, ◌||◌, Option, Some, None, codes, bytes_eq, refl, sym, ap, subst, ◌∙◌, true≢false, inl, inr}
+use Rattle.std.proofs.lemmas.Bool.{and_parts, or_parts, or_right}
 use Rattle.std.specs.List.{list_any}
 use Rattle.std.proofs.lemmas.List.Folds.{list_any-append}
 use Rattle.std.proofs.lemmas.Option.{same_Some}
@@ -12,38 +13,23 @@ use Rattle.avro_schema.specs.Names.{Known, is_start, is_part, is_rest, is_dotted
 use Rattle.avro_schema.specs.Words.{kind_of}
 use Rattle.avro_schema.proofs.Inversion.{guard_some, differ}
 
-pub and_left : (a b : Bool) → (a && b) ≡ true → a ≡ true
-and_left true b e = refl
-and_left false b e = e
-
-pub and_right : (a b : Bool) → (a && b) ≡ true → b ≡ true
-and_right true b e = e
-and_right false b e = absurd (true≢false (sym e))
-
-or_left : (a b : Bool) → (a || b) ≡ true → b ≡ false → a ≡ true
-or_left true b e f = refl
-or_left false b e f = absurd (true≢false (sym e ∙ f))
-
-or_false : (a b : Bool) → (a || b) ≡ false → b ≡ false
-or_false true b e = absurd (true≢false e)
-or_false false b e = e
-
-pub or_true : (b : Bool) → (b || true) ≡ true
-or_true true = refl
-or_true false = refl
+-- the left one holds where the right one does not
+left_alone : (a b : Bool) → (a || b) ≡ true → b ≡ false → a ≡ true
+left_alone true b e f = refl
+left_alone false b e f = absurd (true≢false (sym e ∙ f))
 
 -- ---- a name in a namespace
 
 joined_at : (dot : Bool) (c : ℕ) (cs t : List ℕ) → ((fresh : Bool) → is_rest fresh cs ≡ true → is_rest fresh (cs ++ 46 ∷ t) ≡ true)
     → cond dot (is_rest true cs) (is_part c && is_rest false cs) ≡ true → cond dot (is_rest true (cs ++ 46 ∷ t)) (is_part c && is_rest false (cs ++ 46 ∷ t)) ≡ true
 joined_at true c cs t ih e = ih true e
-joined_at false c cs t ih e = rw (and_left (is_part c) (is_rest false cs) e, ih false (and_right (is_part c) (is_rest false cs) e)) refl
+joined_at false c cs t ih e = rw ((and_parts (is_part c) (is_rest false cs) e).0, ih false (and_parts (is_part c) (is_rest false cs) e).1) refl
 
 rest_joined : (fresh : Bool) (s t : List ℕ) → is_rest fresh s ≡ true → is_rest true t ≡ true → is_rest fresh (s ++ 46 ∷ t) ≡ true
 unfolding is_rest
 rest_joined true [] t e f = absurd (true≢false (sym e))
 rest_joined false [] t e f = f
-rest_joined true (c ∷ cs) t e f = rw (and_left (is_start c) (is_rest false cs) e, rest_joined false cs t (and_right (is_start c) (is_rest false cs) e) f) refl
+rest_joined true (c ∷ cs) t e f = rw ((and_parts (is_start c) (is_rest false cs) e).0, rest_joined false cs t (and_parts (is_start c) (is_rest false cs) e).1 f) refl
 rest_joined false (c ∷ cs) t e f = joined_at (is_dot c) c cs t (λ fresh h. rest_joined fresh cs t h f) e
 
 dotted_joined : (space name : List ℕ) → is_space space ≡ true → is_dotted name ≡ true → is_dotted (joined space name) ≡ true
@@ -53,7 +39,7 @@ dotted_joined (c ∷ space) name e f = rest_joined true (c ∷ space) name e f
 
 joined_dot : (c : ℕ) (space name : List ℕ) → has_dot (joined (c ∷ space) name) ≡ true
 unfolding has_dot joined
-joined_dot c space name = rw (list_any-append is_dot space (46 ∷ name), or_true (list_any is_dot space), or_true (is_dot c)) refl
+joined_dot c space name = rw (list_any-append is_dot space (46 ∷ name), or_right (list_any is_dot space) true refl, or_right (is_dot c) true refl) refl
 
 no_space : (name : List ℕ) → joined [] name ≡ name
 unfolding joined
@@ -70,12 +56,12 @@ Cuts cs = (fresh : Bool) → is_rest fresh cs ≡ true → list_any is_dot cs �
 cut_at_dot : (dot : Bool) (c : ℕ) (cs : List ℕ) → Cuts cs → list_any is_dot cs ≡ true → cond dot (is_rest true cs) (is_part c && is_rest false cs) ≡ true
     → cond dot (is_rest true (namespace_of cs)) (is_part c && is_rest false (namespace_of cs)) ≡ true
 cut_at_dot true c cs ih a e = ih true e a
-cut_at_dot false c cs ih a e = rw (and_left (is_part c) (is_rest false cs) e, ih false (and_right (is_part c) (is_rest false cs) e) a) refl
+cut_at_dot false c cs ih a e = rw ((and_parts (is_part c) (is_rest false cs) e).0, ih false (and_parts (is_part c) (is_rest false cs) e).1 a) refl
 
 cut_at : (fresh any : Bool) (c : ℕ) (cs : List ℕ) → Cuts cs → list_any is_dot cs ≡ any → is_rest fresh (c ∷ cs) ≡ true → (is_dot c || any) ≡ true → is_rest fresh (cond any (c ∷ namespace_of cs) []) ≡ true
 unfolding is_rest
-cut_at true true c cs ih a e f = rw (and_left (is_start c) (is_rest false cs) e, ih false (and_right (is_start c) (is_rest false cs) e) a) refl
-cut_at true false c cs ih a e f = absurd (true≢false (sym (and_left (is_start c) (is_rest false cs) e) ∙ not_start c (or_left (is_dot c) false f refl)))
+cut_at true true c cs ih a e f = rw ((and_parts (is_start c) (is_rest false cs) e).0, ih false (and_parts (is_start c) (is_rest false cs) e).1 a) refl
+cut_at true false c cs ih a e f = absurd (true≢false (sym (and_parts (is_start c) (is_rest false cs) e).0 ∙ not_start c (left_alone (is_dot c) false f refl)))
 cut_at false true c cs ih a e f = cut_at_dot (is_dot c) c cs ih a e
 cut_at false false c cs ih a e f = refl
 
@@ -87,7 +73,7 @@ cut_rest fresh (c ∷ cs) e f = cut_at fresh (list_any is_dot cs) c cs (λ inner
 pub no_namespace : (s : List ℕ) → list_any is_dot s ≡ false → namespace_of s ≡ []
 unfolding namespace_of
 no_namespace [] e = refl
-no_namespace (c ∷ cs) e = rw (or_false (is_dot c) (list_any is_dot cs) e) refl
+no_namespace (c ∷ cs) e = rw ((or_parts (is_dot c) (list_any is_dot cs) e).1) refl
 
 space_from : (s : List ℕ) → is_rest true s ≡ true → is_space s ≡ true
 unfolding is_rest

@@ -19,7 +19,7 @@ use Rattle.avro_schema.specs.Reading.{name_at, reference_to, key_of, container_n
 use Rattle.avro_schema.specs.Outcome.{Adds}
 use Rattle.avro_schema.proofs.Sequence.{settled}
 
-abbrev made : {A : Type 0} → A → List NodeView → Known → Option (Part A)
+abbrev pub made : {A : Type 0} → A → List NodeView → Known → Option (Part A)
 made it nodes known = Some (record { it = it; nodes = nodes; known = known })
 
 -- ---- types
