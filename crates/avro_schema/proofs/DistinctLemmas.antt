@@ -1,5 +1,5 @@
 -- A set of what a loop has seen, beside `all_new`.
-use Rattle.std.proofs.Common.{◌≡◌, ℕ, ◌+◌, ◌<◌, ◌≤◌, List, [], ◌∷◌, length, map, drop, get_or, Bool, true, false, not, cond, ◌||◌, nat_cmp, is_eq, bytes_eq, Bor, string_bytes, refl, sym, ap, ◌∙◌, add-one, drop-cons, arith}
+use Rattle.std.proofs.Common.{◌≡◌, ℕ, ◌+◌, ◌<◌, ◌≤◌, List, [], ◌∷◌, length, map, drop, get_or, Bool, true, false, not, cond, ◌||◌, nat_cmp, is_eq, bytes_eq, Bor, string_bytes, refl, sym, ap, ◌∙◌, arith}
 use Rattle.avro_nodes.proofs.Lists.{drop_item}
 use Rattle.std.proofs.Math.Path.{fun_ext}
 use Rattle.std.proofs.lemmas.List.{drop_all}

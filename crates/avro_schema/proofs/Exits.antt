@@ -7,20 +7,12 @@ use Rattle.avro_schema.specs.Names.{Known}
 use Rattle.avro_schema.specs.Parts.{Part}
 use Rattle.avro_schema.specs.Outcome.{Fails, Gives, Reads}
 use Rattle.avro_schema.specs.declared.error.SchemaError.{SchemaError}
-use Rattle.avro_schema.specs.declared.error.SchemaError.TheVariants.{NotJson, BadNumber, BadName, Undefined, Redefined, BadShape, BadUnion, BadDefault, TooLarge, OutOfMemory}
+use Rattle.avro_schema.specs.declared.error.SchemaError.TheVariants.{OutOfMemory}
 
 -- where one thing gives nothing, so does what rests on it
 pub fails_from : {A B : Type 0} (e : SchemaError) (o : Option A) (u : Option B) → (o ≡ None → u ≡ None) → Fails e o → Fails e u
 fails_from OutOfMemory o u h f = tt
-fails_from NotJson o u h f = h f
-fails_from BadNumber o u h f = h f
-fails_from BadName o u h f = h f
-fails_from Undefined o u h f = h f
-fails_from Redefined o u h f = h f
-fails_from BadShape o u h f = h f
-fails_from BadUnion o u h f = h f
-fails_from BadDefault o u h f = h f
-fails_from TooLarge o u h f = h f
+fails_from _ o u h f = h f
 
 -- the exit of a `?`
 pub gives_exit : {X A : Type 0} (shown : X → A) (r : Result X SchemaError) (e : SchemaError) (o : Option A) → IsErrAnd r (λ y. y ≡ e) → Fails e o → Gives shown r o

@@ -23,7 +23,7 @@ use Rattle.avro_schema.specs.Weight.{weight}
 use Rattle.avro_schema.specs.Mentions.{mentions}
 use Rattle.avro_schema.specs.Outcome.{Fails, Adds}
 use Rattle.avro_schema.specs.declared.error.SchemaError.{SchemaError}
-use Rattle.avro_schema.specs.declared.error.SchemaError.TheVariants.{NotJson, BadNumber, BadName, Undefined, Redefined, BadShape, BadUnion, BadDefault, TooLarge, OutOfMemory}
+use Rattle.avro_schema.specs.declared.error.SchemaError.TheVariants.{OutOfMemory}
 use Rattle.avro_schema.proofs.Inversion.{bind_some, bind2, guard_some}
 use Rattle.avro_schema.proofs.Computes.{computes}
 use Rattle.avro_schema.proofs.Sound.{says}
@@ -35,15 +35,7 @@ use Rattle.avro_schema.proofs.WeightLemmas.{weighs}
 -- an error other than of memory says that nothing is given
 pub refused : {A : Type 0} (e : SchemaError) (o : Option A) → e ≢ OutOfMemory → Fails e o → o ≡ None
 refused OutOfMemory o other f = absurd (other refl)
-refused NotJson o other f = f
-refused BadNumber o other f = f
-refused BadName o other f = f
-refused Undefined o other f = f
-refused Redefined o other f = f
-refused BadShape o other f = f
-refused BadUnion o other f = f
-refused BadDefault o other f = f
-refused TooLarge o other f = f
+refused _ o other f = f
 
 pub typed_is : (text : List ℕ) (d : Data) (p : ℕ) (after : List NodeView) (known2 : Known) → length text ≤ max_text → value_in text ≡ Some d → nat_le (weight max_nesting [] d) max_text ≡ true
     → Adds (type_at max_nesting [] d none_known 0) p [] after known2 → typed text ≡ Some after

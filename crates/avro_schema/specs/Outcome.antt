@@ -6,20 +6,12 @@ use Rattle.avro_nodes.specs.Nodes.{NodeView}
 use Rattle.avro_schema.specs.Names.{Known}
 use Rattle.avro_schema.specs.Parts.{Part}
 use Rattle.avro_schema.specs.declared.error.SchemaError.{SchemaError}
-use Rattle.avro_schema.specs.declared.error.SchemaError.TheVariants.{NotJson, BadNumber, BadName, Undefined, Redefined, BadShape, BadUnion, BadDefault, TooLarge, OutOfMemory}
+use Rattle.avro_schema.specs.declared.error.SchemaError.TheVariants.{OutOfMemory}
 
 -- an error other than of memory is given only where there is nothing to read
 abbrev pub Fails : {A : Type 0} → SchemaError → Option A → Type 0
 Fails OutOfMemory o = Unit {0}
-Fails NotJson o = o ≡ None
-Fails BadNumber o = o ≡ None
-Fails BadName o = o ≡ None
-Fails Undefined o = o ≡ None
-Fails Redefined o = o ≡ None
-Fails BadShape o = o ≡ None
-Fails BadUnion o = o ≡ None
-Fails BadDefault o = o ≡ None
-Fails TooLarge o = o ≡ None
+Fails _ o = o ≡ None
 
 -- the value that the definitions give, seen by the first
 abbrev pub Gives : {X A : Type 0} → (X → A) → Result X SchemaError → Option A → Type 0

@@ -1,5 +1,5 @@
 //! Whether none stands twice.
-ghost use Rattle.std.specs.Prelude.{◌≡◌, ◌==◌, IfOk, map, string_bytes};
+ghost use Rattle.std.specs.Prelude.{◌≡◌, ◌==◌, List, ℕ, IfOk, map, string_bytes};
 ghost use Rattle.std.specs.Str.{bytes_eq};
 ghost use Rattle.avro_schema.specs.Distinct.{all_differ};
 
@@ -7,26 +7,37 @@ use avro_nodes::Field;
 use std::alloc::{AllocError, Global};
 use std::collections::BTreeSet;
 
-/// Whether no text stands twice.
-pub fn texts_differ(alloc: Global, texts: &[String]) -> Result<bool, AllocError>
-    ensures { IfOk result (λ b. b ≡ all_differ bytes_eq (map string_bytes texts.now)) }
-{
-    let mut seen = BTreeSet::new(alloc);
-    for text in texts {
-        if !seen.insert(text.as_str())? {
-            return Ok(false);
-        }
-    }
-    Ok(true)
+/// What a text names in its list.
+pub trait Titled {
+    ghost title_of: { Self → List ℕ };
+
+    fn title(&self) -> &str
+        ensures { result.now ≡ title_of self.now };
 }
 
-/// Whether no field's name stands twice.
-pub fn fields_differ(alloc: Global, fields: &[Field]) -> Result<bool, AllocError>
-    ensures { IfOk result (λ b. b ≡ all_differ bytes_eq (map (λ f. string_bytes f.name) fields.now)) }
+impl Titled for String {
+    ghost title_of = { string_bytes };
+
+    fn title(&self) -> &str {
+        self.as_str()
+    }
+}
+
+impl Titled for Field {
+    ghost title_of = { λ f. string_bytes f.name };
+
+    fn title(&self) -> &str {
+        self.name.as_str()
+    }
+}
+
+/// Whether no text, or no field's name, stands twice.
+pub fn texts_differ<T: Titled>(alloc: Global, items: &[T]) -> Result<bool, AllocError>
+    ensures { IfOk result (λ b. b ≡ all_differ bytes_eq (map T.title_of items.now)) }
 {
     let mut seen = BTreeSet::new(alloc);
-    for field in fields {
-        if !seen.insert(field.name.as_str())? {
+    for item in items {
+        if !seen.insert(item.title())? {
             return Ok(false);
         }
     }

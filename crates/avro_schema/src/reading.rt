@@ -10,7 +10,7 @@ ghost use Rattle.avro_schema.specs.Outcome.{Reads, known_in};
 
 use crate::attributes::{members_of, take, take_items, take_text};
 use crate::definitions::{Label, bound, enum_at, fixed_at, label_of, named_of, others, room};
-use crate::distinct::{fields_differ, kinds_differ};
+use crate::distinct::{kinds_differ, texts_differ};
 use crate::error::SchemaError;
 use crate::names::{Places, define, resolve};
 use crate::words::{Container, Word, kind_of, word_of};
@@ -359,7 +359,7 @@ fn record_at(
     define(alloc, known, named.name.as_str(), place)?;
     let inside = namespace_of(named.name.as_str());
     let fields = fields_at(alloc, items, inside, depth, nodes, known)?;
-    if !fields_differ(alloc, &fields)? {
+    if !texts_differ(alloc, &fields)? {
         return Err(SchemaError::Redefined);
     }
     settle(

@@ -279,7 +279,7 @@ record_at-returns-then-not-branch t c =
     let next = one_more _ _ _ c.in_ok-push.ensures.items in
     let inside : c.namespace_of-inside.result.now ≡ namespace_of (string_bytes c.in_ok-named.named.name) = c.namespace_of-inside.ensures ∙ ap namespace_of c.as_str-2.ensures.value in
     let known = rw c.as_str.ensures.value at c.in_ok-define.ensures in
-    let alike = rw c.deref.ensures.value at (sym c.in_ok-fields_differ.ensures ∙ c.if-not-branch.true) in
+    let alike = rw c.deref.ensures.value at (sym c.in_ok-texts_differ.ensures ∙ c.if-not-branch.true) in
     fields_alike _ _ _ _ _ _ c.in_ok-place.ensures.room _ c.in_ok-named.ensures.named _ listed _ (rw rest at c.in_ok-extra.ensures) _ _ _ _ (rw (inside, known, next) at c.in_ok-fields.ensures) (ap (all_differ bytes_eq) (field_names c.in_ok-fields.fields.items) ∙ alike)
 
 pub record_at-settle-requires : goal.record_at-settle-requires
@@ -294,6 +294,6 @@ record_at-returns t c =
     let next = one_more _ _ _ c.in_ok-push.ensures.items in
     let inside : c.namespace_of-inside.result.now ≡ namespace_of (string_bytes c.in_ok-named.named.name) = c.namespace_of-inside.ensures ∙ ap namespace_of c.as_str-2.ensures.value in
     let known = rw c.as_str.ensures.value at c.in_ok-define.ensures in
-    let differ = rw c.deref.ensures.value at (sym c.in_ok-fields_differ.ensures ∙ c.if-not-branch.false) in
+    let differ = rw c.deref.ensures.value at (sym c.in_ok-texts_differ.ensures ∙ c.if-not-branch.false) in
     rw c.settle.ensures
     (record_done _ _ _ _ _ _ c.in_ok-place.ensures.room _ c.in_ok-named.ensures.named _ listed _ (rw rest at c.in_ok-extra.ensures) _ _ _ _ _ _ (c.in_ok-place.ensures.place ∙ sym (length-nodes _)) (nodes_push _ _ _ c.in_ok-push.ensures.items) (rw (inside, known, next) at c.in_ok-fields.ensures) (ap (all_differ bytes_eq) (field_names c.in_ok-fields.fields.items) ∙ differ))
