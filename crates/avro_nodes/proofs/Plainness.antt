@@ -7,8 +7,9 @@ use Rattle.serde_json.specs.Data.{Num, negative, float, Data, null, boolean, str
 use Rattle.serde_json.specs.Data as json
 use Rattle.serde_json.specs.Find.{is_float}
 use Rattle.serde_json.specs.Written.{has_float, items_have_float, members_have_float}
+use Rattle.avro_nodes.specs.Limits.{max_nesting}
 use Rattle.avro_nodes.specs.Nodes.{FieldView, NodeView, primitive, array, mapping, union, enumeration, fixed, rec}
-use Rattle.avro_nodes.specs.Identity.{texts, identity_value, max_nesting, members_pass, value_passes, field_passes, node_passes, nodes_pass}
+use Rattle.avro_nodes.specs.Identity.{texts, identity_value, members_pass, value_passes, field_passes, node_passes, nodes_pass}
 use Rattle.avro_nodes.specs.Whole.{is_whole_number, has_whole_numbers, items_have_whole_numbers, members_have_whole_numbers}
 use Rattle.avro_nodes.proofs.Carried.{AllMembers, AllItems, OfField, OfNode, all_put, spelt_is}
 

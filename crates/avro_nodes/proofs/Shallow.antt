@@ -2,8 +2,9 @@
 use Rattle.std.proofs.Common.{◌≡◌, ℕ, ◌+◌, ◌*◌, ◌≤◌, List, [], ◌∷◌, refl, arith}
 use Rattle.std.specs.List.{AllByRecursion}
 use Rattle.serde_json.specs.Data.{Data, Items, no_items, item, Members, no_members, member, depth, items_depth, members_depth}
+use Rattle.avro_nodes.specs.Limits.{max_nesting}
 use Rattle.avro_nodes.specs.Nodes.{NodeView}
-use Rattle.avro_nodes.specs.Identity.{texts, identity_value, max_nesting}
+use Rattle.avro_nodes.specs.Identity.{texts, identity_value}
 use Rattle.avro_nodes.proofs.Carried.{AllMembers, AllItems, OfNode, all_put, spelt_is}
 
 abbrev pub IsShallow : Data → Type 0

@@ -9,6 +9,7 @@ use Rattle.avro_nodes.specs.declared.node.Kind.{Kind}
 use Rattle.avro_nodes.specs.declared.node.Kind.TheVariants.{Null, Boolean, Int, Long, Float, Double, Bytes, Text}
 use Rattle.avro_nodes.specs.declared.node.Order.{Order}
 use Rattle.avro_nodes.specs.declared.node.Order.TheVariants.{Ascending, Descending, Ignore}
+use Rattle.avro_nodes.specs.Limits.{max_nesting}
 use Rattle.avro_nodes.specs.Names.{has_dot, namespace_of}
 use Rattle.avro_nodes.specs.Nodes.{NamedView, FieldView, NodeView, primitive, array, mapping, union, enumeration, fixed, rec}
 
@@ -136,10 +137,6 @@ unfoldable pub spelt_at : ℕ → List NodeView → List ℕ → Speller
 spelt_at zero nodes enclosing place written = (null, written)
 spelt_at (suc n) nodes enclosing place written =
     if place == written then spelt_node (spelt_at n nodes) enclosing written (slice_get nodes place) else (string (name_of (slice_get nodes place)), written)
-
--- how deep the types of a schema nest, the root being at 1 (this project's choice)
-abbrev pub max_nesting : ℕ
-max_nesting = 24
 
 abbrev pub identity_value : List NodeView → Data
 identity_value nodes = (spelt_at max_nesting nodes [] 0 0).0

@@ -1,5 +1,6 @@
 pub mod Names
 pub mod Nodes
+pub mod Limits
 pub mod Identity
 pub mod Objects
 pub mod Plain

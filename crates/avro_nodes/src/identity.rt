@@ -18,12 +18,11 @@ use crate::attributes::{
 };
 use crate::compact::Compact;
 use crate::error::OutOfMemory;
+use crate::limits::MAX_NESTING;
 use crate::names::namespace_of;
 use crate::node::{Extra, Field, Kind, Named, Node};
 use crate::value::{Others, others_of, write_rest};
 use std::alloc::{AllocError, Global};
-
-const MAX_NESTING: u32 = 24;
 
 fn kind_text(kind: Kind) -> &'static str
     ensures { result.now ≡ kind_text_of kind }
@@ -318,8 +317,8 @@ fn write_fields(
 /// project's choice of form). Two schemas are the same where these texts are equal.
 ///
 /// The nodes are to be those of a schema: places number them depth first, and types nest at most
-/// 24 deep. A default or another attribute that has a float is written, but no clause says how.
-/// The error says that memory was refused.
+/// `MAX_NESTING` deep. A default or another attribute that has a float is written, but no clause
+/// says how. The error says that memory was refused.
 pub fn identity_of(alloc: Global, nodes: &[Node]) -> Result<String, OutOfMemory>
     ensures text { IfOk result (λ s. IsTrue (nodes_pass has_whole_numbers (nodes_view nodes.now))
         → string_bytes s ≡ identity (nodes_view nodes.now)) }

@@ -6,6 +6,7 @@ use Rattle.std.proofs.lemmas.Option.{same_Some}
 use Rattle.serde_json.specs.Data.{Data, string, Items, no_items, item, Members, no_members, member}
 use Rattle.serde_json.specs.Data as json
 use Rattle.serde_json.specs.Find.{get_member}
+use Rattle.avro_nodes.specs.Limits.{max_nesting, max_places}
 use Rattle.avro_nodes.specs.declared.node.Kind.{Kind}
 use Rattle.avro_nodes.specs.Names.{namespace_of}
 use Rattle.avro_nodes.specs.Nodes.{NamedView, FieldView, NodeView, primitive, array, mapping, union, enumeration, fixed, rec}
@@ -15,8 +16,7 @@ use Rattle.avro_nodes.proofs.Spelling.{at_suc, again_suc}
 use Rattle.avro_schema.specs.declared.words.Word.TheVariants as word
 use Rattle.avro_schema.specs.Names.{Known, none_known, is_space, defined, resolved}
 use Rattle.avro_schema.specs.Words.{kind_of, word_of, kind_or_other}
-use Rattle.avro_schema.specs.Members.{max_nesting, size_of}
-use Rattle.avro_schema.specs.Parts.{max_places}
+use Rattle.avro_schema.specs.Members.{size_of}
 use Rattle.avro_schema.specs.Weight.{names_size}
 use Rattle.avro_schema.specs.Mentions.{mention, places_mentions, fields_mentions, mentions}
 use Rattle.avro_schema.specs.Reading.{branch_kind}

@@ -6,6 +6,7 @@ use Rattle.std.proofs.lemmas.Option.{same_Some}
 use Rattle.serde_json.specs.Data.{Data, string, Items, no_items, item, Members, no_members, depth, members_depth}
 use Rattle.serde_json.specs.Data as json
 use Rattle.serde_json.specs.Find.{get_member, as_object}
+use Rattle.avro_nodes.specs.Limits.{max_nesting}
 use Rattle.avro_nodes.specs.declared.node.Kind.{Kind}
 use Rattle.avro_nodes.specs.Nodes.{NamedView, FieldView, primitive, array, mapping, union, enumeration, fixed, rec}
 use Rattle.avro_schema.specs.declared.words.Word.{Word}
@@ -14,7 +15,7 @@ use Rattle.avro_schema.specs.declared.words.Container.TheVariants as container
 use Rattle.avro_schema.specs.Names.{Known, is_simple, last_part, allowed, full_name, alias_in, defined, resolved}
 use Rattle.avro_nodes.specs.Names.{namespace_of}
 use Rattle.avro_schema.specs.Words.{kind_of, word_of}
-use Rattle.avro_schema.specs.Members.{◌>>=◌, without_all, text_in, array_in, text_if_any, texts_in, texts_if_any, bounded, bounded_value, max_nesting, size_of}
+use Rattle.avro_schema.specs.Members.{◌>>=◌, without_all, text_in, array_in, text_if_any, texts_in, texts_if_any, bounded, bounded_value, size_of}
 use Rattle.avro_schema.specs.Distinct.{all_differ}
 use Rattle.avro_schema.specs.Definitions.{naming, if_new, new_name, named_in, symbols_in, fallback_in, order_in, enum_at, fixed_at, LabelView, label_in, labelling}
 use Rattle.avro_schema.specs.Parts.{Part, parts_of, room_at}

@@ -5,6 +5,7 @@ use Rattle.std.proofs.lemmas.Bool.{and_parts, le-leb, leb-true}
 use Rattle.std.proofs.lemmas.Option.{same_Some}
 use Rattle.serde_json.specs.Data.{Data, Items}
 use Rattle.serde_json.specs.Read.{read}
+use Rattle.avro_nodes.specs.Limits.{max_nesting, max_places, max_text}
 use Rattle.avro_nodes.specs.Nodes.{FieldView, NodeView}
 use Rattle.avro_nodes.specs.Names.{has_dot}
 use Rattle.avro_nodes.specs.Identity.{identity, nodes_pass}
@@ -13,12 +14,11 @@ use Rattle.avro_nodes.specs.Whole.{has_whole_numbers}
 use Rattle.avro_nodes.proofs.Tidy.{tidy_nodes_whole}
 use Rattle.avro_nodes.proofs.TidyRead.{tidy_read}
 use Rattle.avro_schema.specs.Names.{Known, none_known, or_else, resolved}
-use Rattle.avro_schema.specs.Parts.{max_places}
-use Rattle.avro_schema.specs.Members.{◌>>=◌, max_nesting}
+use Rattle.avro_schema.specs.Members.{◌>>=◌}
 use Rattle.avro_schema.specs.Reading.{type_at}
 use Rattle.avro_schema.specs.Defaults.{node_defaults_fit}
 use Rattle.avro_schema.specs.Denotes.{Denotes, a_primitive, a_reference, primitive_type, reference_type, array_type, map_type, fixed_type, enum_type, record_type, union_type, Branches, no_branch, branch, Fields, no_field, field}
-use Rattle.avro_schema.specs.Texts.{max_text, TextDenotes, IsSchema, value_in, root_in, typed, checked, denoted}
+use Rattle.avro_schema.specs.Texts.{TextDenotes, IsSchema, value_in, root_in, typed, checked, denoted}
 use Rattle.avro_schema.specs.Weight.{weight}
 use Rattle.avro_schema.specs.Mentions.{mentions}
 use Rattle.avro_schema.specs.Outcome.{Fails, Adds}

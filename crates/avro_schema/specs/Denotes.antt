@@ -3,6 +3,7 @@ use Rattle.std.specs.Prelude.{◌≡◌, ◌≢◌, ℕ, suc, ◌+◌, ◌<◌, 
 use Rattle.serde_json.specs.Data.{Data, string, Items, no_items, item, Members, depth, members_depth}
 use Rattle.serde_json.specs.Data as json
 use Rattle.serde_json.specs.Find.{get_member}
+use Rattle.avro_nodes.specs.Limits.{max_nesting, max_places}
 use Rattle.avro_nodes.specs.declared.node.Kind.{Kind}
 use Rattle.avro_nodes.specs.Nodes.{NamedView, FieldView, NodeView, primitive, array, mapping, union, enumeration, fixed, rec}
 use Rattle.avro_schema.specs.declared.words.Word.{Word}
@@ -10,9 +11,8 @@ use Rattle.avro_schema.specs.declared.words.Word.TheVariants as word
 use Rattle.avro_schema.specs.Names.{Known, is_simple, last_part, allowed, full_name, alias_in, resolved, defined}
 use Rattle.avro_nodes.specs.Names.{namespace_of}
 use Rattle.avro_schema.specs.Words.{kind_of, word_of}
-use Rattle.avro_schema.specs.Members.{without_all, text_in, array_in, text_if_any, texts_in, texts_if_any, max_nesting, size_of}
+use Rattle.avro_schema.specs.Members.{without_all, text_in, array_in, text_if_any, texts_in, texts_if_any, size_of}
 use Rattle.avro_schema.specs.Definitions.{fallback_in, order_in}
-use Rattle.avro_schema.specs.Parts.{max_places}
 use Rattle.avro_schema.specs.Reading.{branch_kind}
 
 -- none of the list is this one
@@ -25,7 +25,7 @@ abbrev pub AllDiffer : {X : Type 0} → List X → Type 0
 AllDiffer [] = Unit {0}
 AllDiffer (x ∷ xs) = Lacks xs x × AllDiffer xs
 
--- The other attributes are those of no key with a meaning. Each nests no deeper than 24 (this project's choice).
+-- The other attributes are those of no key with a meaning. Each nests within the limit.
 pub record Others (keys : List (List ℕ)) (ms extra : Members) : Type 0 where
   pub are : extra ≡ without_all keys ms
   pub shallow : members_depth extra ≤ max_nesting
@@ -49,7 +49,7 @@ pub record IsEnum (ms : Members) (symbols : List (List ℕ)) (fallback : Option 
   pub differ : AllDiffer symbols
   pub fallback_is : fallback_in symbols (get_member (codes "default") ms) ≡ Some fallback
 
--- What a field says beside its type (Complex Types, Records). A default nests no deeper than 24 (this project's choice).
+-- What a field says beside its type (Complex Types, Records). A default nests within the limit.
 pub record IsField (ms : Members) (field : FieldView) : Type 0 where
   pub name : text_in (codes "name") ms ≡ Some field.name
   pub simple : is_simple field.name ≡ true

@@ -2,6 +2,7 @@
 use Rattle.std.specs.Prelude.{ℕ, List, [], ◌∷◌, nat_le, nat_lt, if◌then◌else◌, ◌^◌, Option, Some, None, option_map, option_and_then}
 use Rattle.std.specs.Str.{bytes_eq}
 use Rattle.serde_json.specs.Data.{Data, Items, no_items, item, Members, no_members, member, depth, members_depth}
+use Rattle.avro_nodes.specs.Limits.{max_nesting}
 use Rattle.avro_schema.specs.Names.{allowed, is_simple, alias_in}
 use Rattle.serde_json.specs.Find.{get_member, as_str, as_array, as_number, as_u64}
 
@@ -53,10 +54,6 @@ rule_by (Some space) text = alias_in space text
 abbrev pub texts_if_any : (List ℕ → Option (List ℕ)) → Option Data → Option (List (List ℕ))
 texts_if_any rule None = Some []
 texts_if_any rule (Some d) = as_array d >>= λ ds. texts_in rule ds
-
--- how deep a default and each other attribute may nest, and types too (this project's choice)
-abbrev pub max_nesting : ℕ
-max_nesting = 24
 
 -- other attributes, none of which nests too deep
 unfoldable pub bounded : Members → Option Members

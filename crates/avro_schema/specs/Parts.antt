@@ -1,13 +1,10 @@
 -- What is read from JSON values in turn.
 use Rattle.std.specs.Prelude.{ℕ, ◌+◌, List, [], ◌∷◌, ◌++◌, length, nat_lt, if◌then◌else◌, Option, Some, None}
 use Rattle.serde_json.specs.Data.{Data, Items, no_items, item}
+use Rattle.avro_nodes.specs.Limits.{max_places}
 use Rattle.avro_nodes.specs.Nodes.{NodeView}
 use Rattle.avro_schema.specs.Names.{Known}
 use Rattle.avro_schema.specs.Members.{◌>>=◌}
-
--- the most places of a schema (this project's choice)
-abbrev pub max_places : ℕ
-max_places = 4096
 
 -- something read from a value, with the nodes that it adds and the names known after it
 pub record Part (A : Type 0) : Type 0 where
@@ -31,6 +28,6 @@ parts_of one (item d ds) known first = do
   more ← parts_of one ds p.known (first + length p.nodes)
   Some (record { it = p.it ∷ more.it; nodes = p.nodes ++ more.nodes; known = more.known })
 
--- the place of a new node, which is one of the first 4,096
+-- the place of a new node, if there is room
 unfoldable pub room_at : ℕ → Option ℕ
 room_at first = if nat_lt first max_places then Some first else None

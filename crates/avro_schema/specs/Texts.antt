@@ -2,20 +2,17 @@
 use Rattle.std.specs.Prelude.{◌≡◌, ℕ, ◌≤◌, List, [], length, nat_le, ◌&&◌, if◌then◌else◌, Option, Some, None}
 use Rattle.serde_json.specs.Data.{Data}
 use Rattle.serde_json.specs.Read.{read}
+use Rattle.avro_nodes.specs.Limits.{max_nesting, max_text}
 use Rattle.avro_nodes.specs.Nodes.{NodeView}
 use Rattle.avro_nodes.specs.Plain.{plain}
 use Rattle.avro_nodes.specs.Identity.{identity}
 use Rattle.avro_schema.specs.Names.{Known, none_known}
-use Rattle.avro_schema.specs.Members.{◌>>=◌, max_nesting}
+use Rattle.avro_schema.specs.Members.{◌>>=◌}
 use Rattle.avro_schema.specs.Parts.{Part}
 use Rattle.avro_schema.specs.Weight.{weight}
 use Rattle.avro_schema.specs.Reading.{type_at}
 use Rattle.avro_schema.specs.Defaults.{DefaultsFit, node_defaults_fit}
 use Rattle.avro_schema.specs.Denotes.{Denotes}
-
--- the most bytes of a schema text, as it is sent, and of its identity text (this project's choice)
-abbrev pub max_text : ℕ
-max_text = 1048576
 
 -- The text, whose numbers are whole ones of 64 bits, is read as JSON, and the value denotes these nodes: in the null namespace, with no names known
 -- before, and from place 0 on, where the root is. Each default fits its field, and the identity text is no longer than a text may be.

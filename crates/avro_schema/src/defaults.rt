@@ -10,12 +10,9 @@ ghost use Rattle.avro_schema.specs.Tables.{IsTable, IsTableOf, AreTables, fits_i
 
 use crate::attributes::find;
 use crate::tables::{FieldTable, tables_of};
-use avro_nodes::{Extra, Field, Kind, Node};
+use avro_nodes::{Extra, Field, Kind, MAX_NESTING, Node};
 use serde_json::Value;
 use std::alloc::{AllocError, Global};
-
-/// One more than a default may nest.
-const MAX_DEPTH: u32 = 25;
 
 /// Whether each code point stands for a byte.
 fn is_bytes(text: &str) -> bool
@@ -335,7 +332,7 @@ fn field_defaults_fit(fields: &[Field], nodes: &[Node], tables: &[Option<FieldTa
 {
     for field in fields {
         if let Some(value) = &field.value
-            && !fits(value, field.place, nodes, tables, MAX_DEPTH)
+            && !fits(value, field.place, nodes, tables, MAX_NESTING + 1)
         {
             return false;
         }

@@ -18,15 +18,9 @@ use crate::error::SchemaError;
 use crate::names::{Places, define, full_name, is_simple, last_part, place_of};
 use crate::nesting::{members_within, nests_within};
 use crate::words::{kind_of, order_of};
-use avro_nodes::{Extra, Named, Node, Order, namespace_of};
+use avro_nodes::{Extra, MAX_NESTING, MAX_PLACES, Named, Node, Order, namespace_of};
 use serde_json::Value;
 use std::alloc::Global;
-
-/// The most places of a schema.
-const MAX_PLACES: usize = 4096;
-
-/// How deep a default and each other attribute may nest.
-const MAX_NESTING: u32 = 24;
 
 /// The place of the next node, if there is room.
 #[tactic(auto, unfolding(crate::specs::Parts::room_at))]

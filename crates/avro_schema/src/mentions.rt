@@ -2,13 +2,10 @@
 //! refers to a type by its full name, so that it may be far longer than the nodes are large.
 ghost use Rattle.std.specs.Prelude.{◌≡◌, ◌-◌, length, map, nat_le};
 ghost use Rattle.avro_nodes.specs.Nodes.{field_view, node_view, nodes_view};
-ghost use Rattle.avro_schema.specs.Texts.{max_text};
+ghost use Rattle.avro_nodes.specs.Limits.{max_text};
 ghost use Rattle.avro_schema.specs.Mentions.{mention, places_mentions, fields_mentions, node_mentions, mentions};
 
-use avro_nodes::{Field, Node};
-
-/// The most bytes of these names: they stand in the identity text, which may not be longer.
-const MAX_MENTIONS: usize = 1048576;
+use avro_nodes::{Field, MAX_TEXT, Node};
 
 /// How long the full name of the type at the place is.
 #[tactic(auto, unfolding(crate::specs::Mentions::mention))]
@@ -79,5 +76,5 @@ fn after_nodes(left: usize, nodes: &[Node]) -> usize
 pub fn mentions_fit(nodes: &[Node]) -> bool
     ensures { result ≡ nat_le (mentions (nodes_view nodes.now) (nodes_view nodes.now)) max_text }
 {
-    after_nodes(MAX_MENTIONS + 1, nodes) > 0
+    after_nodes(MAX_TEXT + 1, nodes) > 0
 }

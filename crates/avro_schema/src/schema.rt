@@ -2,6 +2,7 @@
 ghost use Rattle.std.specs.Prelude.{◌≡◌, ◌≢◌, ◌<◌, ◌≤◌, ◌↔◌, ℕ, List, Some, length, IsTrue, slice_get, string_bytes, IfOk, IfErr};
 ghost use Rattle.serde_json.specs.View.{view};
 ghost use Rattle.avro_nodes.specs.Identity.{identity};
+ghost use Rattle.avro_nodes.specs.Limits.{max_places};
 ghost use Rattle.avro_nodes.specs.Nodes.{NodeView, nodes_view};
 ghost use Rattle.avro_schema.specs.Texts.{TextDenotes, IsSchema, value_in, typed, denoted};
 ghost use Rattle.avro_schema.specs.Outcome.{Gives};
@@ -12,16 +13,10 @@ use crate::mentions::mentions_fit;
 use crate::names::Places;
 use crate::reading::type_at;
 use crate::weight::names_fit;
-use avro_nodes::{Node, OutOfMemory, identity_of, plain_of};
+use avro_nodes::{MAX_NESTING, MAX_TEXT, Node, OutOfMemory, identity_of, plain_of};
 use serde_json::Value;
 use std::alloc::Global;
 use std::marker::Model;
-
-/// The most bytes of a schema text, and of its identity text.
-const MAX_TEXT: usize = 1048576;
-
-/// How deep types may nest.
-const MAX_NESTING: u32 = 24;
 
 /// An Avro schema: the nodes that its text denotes, numbered from the root, which is node 0
 /// (Avro 1.11 specification, Schema Declaration).
@@ -132,10 +127,11 @@ impl Schema {
         self.text == other.text
     }
 
-    /// The number of places, at most 4,096. As for every schema, some text denotes its nodes.
+    /// The number of places, at most `MAX_PLACES`. As for every schema, some text denotes its
+    /// nodes.
     pub fn places(&self) -> u32
         ensures places { result ≡ length self.now }
-        ensures few { result ≤ 4096 }
+        ensures few { result ≤ max_places }
         ensures schema { IsSchema (nodes_view self.now) }
     {
         self.nodes.len() as u32

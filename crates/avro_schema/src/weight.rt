@@ -3,20 +3,14 @@
 ghost use Rattle.std.specs.Prelude.{◌≡◌, ◌-◌, length, option_map, nat_le, codes, []};
 ghost use Rattle.serde_json.specs.Find.{get_member};
 ghost use Rattle.serde_json.specs.View.{view, items_view, members_view};
-ghost use Rattle.avro_schema.specs.Members.{text_in, array_in, max_nesting};
-ghost use Rattle.avro_schema.specs.Texts.{max_text};
+ghost use Rattle.avro_nodes.specs.Limits.{max_nesting, max_text};
+ghost use Rattle.avro_schema.specs.Members.{text_in, array_in};
 ghost use Rattle.avro_schema.specs.Weight.{if_any, items_weight, full_in, alias_weight, space_in, names_weight, definition_weight, field_weight, record_weight, object_weight, weight};
 
 use crate::attributes::find;
 use crate::words::{Word, word_of};
-use avro_nodes::{Extra, has_dot, namespace_of};
+use avro_nodes::{Extra, MAX_NESTING, MAX_TEXT, has_dot, namespace_of};
 use serde_json::Value;
-
-/// The most bytes of the names: they stand in the identity text, which may not be longer.
-const MAX_NAMES: usize = 1048576;
-
-/// How deep types may nest.
-const MAX_NESTING: u32 = 24;
 
 /// The attribute of this name, if it is a string.
 #[tactic(auto, unfolding(crate::specs::Members::text_in))]
@@ -203,9 +197,10 @@ fn after_field(left: usize, field: &Value, space: &str, depth: u32) -> usize
     }
 }
 
-/// Whether the names of the value's definitions, as full names, keep to their limit.
+/// Whether the names of the value's definitions, as full names, keep to their limit: they stand in
+/// the identity text, which may not be longer.
 pub fn names_fit(value: &Value) -> bool
     ensures { result ≡ nat_le (weight max_nesting [] (view value.now)) max_text }
 {
-    after_type(MAX_NAMES + 1, value, "", MAX_NESTING) > 0
+    after_type(MAX_TEXT + 1, value, "", MAX_NESTING) > 0
 }

@@ -1,8 +1,8 @@
 use Rattle.std.proofs.Common.{◌<◌, ◌≤◌, length, sym, ap, ◌∙◌, arith}
 use Rattle.std.proofs.lemmas.Result.{err_from_is_err_and}
+use Rattle.avro_nodes.specs.Limits.{max_text}
 use Rattle.avro_nodes.specs.Identity.{identity}
 use Rattle.avro_nodes.specs.Nodes.{nodes_view}
-use Rattle.avro_schema.specs.Texts.{max_text}
 use Rattle.avro_schema.proofs.TextLemmas.{refused, typed_whole, denoted_says, one_schema, none_typed, none_mentioned, none_fitting, none_bounded}
 use Rattle.avro_schema.proofs.schema.Schema.read.Goals as goal
 
