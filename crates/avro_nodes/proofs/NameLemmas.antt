@@ -1,12 +1,13 @@
 -- Lemmas on names, for loops over their bytes.
-use Rattle.std.proofs.Common.{◌≡◌, ℕ, ◌+◌, ◌<◌, List, [], ◌∷◌, ◌++◌, length, take, true, false, get_or, ◌≤◌, ◌⊎◌, inl, inr, refl, sym, ap, ◌∙◌, arith}
+use Rattle.std.proofs.Common.{◌≡◌, ℕ, ◌+◌, ◌<◌, List, [], ◌∷◌, ◌++◌, length, take, drop, Bool, true, false, not, get_or, ◌-◌, subst, ◌≤◌, ◌⊎◌, inl, inr, refl, sym, ap, ◌∙◌, arith}
 use Rattle.std.proofs.Math.Seq.{take-suc}
 use Rattle.std.specs.Str.{IsCharBoundary, IsUtf8}
-use Rattle.std.proofs.lemmas.Str.{IsCharBoundary-before_ascii, IsCharBoundary-start}
+use Rattle.std.proofs.lemmas.Str.{IsCharBoundary-after_ascii, IsCharBoundary-before_ascii, IsCharBoundary-start}
+use Rattle.std.proofs.lemmas.List.Sums.{suffix_len-take_no}
 use Rattle.std.proofs.Common.{add-one}
 use Rattle.std.proofs.lemmas.Bool.Decides.{eqb_tells}
-use Rattle.std.specs.List.{list_any}
-use Rattle.avro_nodes.specs.Names.{is_dot, namespace_of}
+use Rattle.std.specs.List.{list_any, suffix_len}
+use Rattle.avro_nodes.specs.Names.{is_dot, last_part, namespace_of}
 
 any_push : (xs : List ℕ) (c : ℕ) → is_dot c ≡ true → list_any is_dot (xs ++ c ∷ []) ≡ true
 any_push [] c h = rw h
@@ -47,3 +48,28 @@ past_dot s end i h other so_far =
 pub boundary : (s : List ℕ) (end i : ℕ) → IsUtf8 s → i ≤ length s → (end ≡ 0) ⊎ ((end < i) × (get_or s end 0 ≡ 46)) → IsCharBoundary s end
 boundary s end i u h (inl e) = rw e (IsCharBoundary-start s u)
 boundary s end i u h (inr e) = IsCharBoundary-before_ascii s end (omega arith) (omega arith)
+
+-- ---- the part behind the last dot, looked for from the end
+
+abbrev pub Stops : List ℕ → ℕ → Type 0
+Stops s start = (start ≡ 0) ⊎ ((0 < start) × (get_or s (start - 1) 0 ≡ 46))
+
+pub stop_boundary : (s : List ℕ) (start : ℕ) → IsUtf8 s → start ≤ length s → Stops s start → IsCharBoundary s start
+stop_boundary s start u h (inl e) = rw e (IsCharBoundary-start s u)
+stop_boundary s start u h (inr e) =
+    let same : start - 1 + 1 ≡ start = omega (arith, e.0) in
+    subst (λ (n : ℕ). IsCharBoundary s n) same (IsCharBoundary-after_ascii s (start - 1) u (omega (arith, e.0)) (omega (arith, e.1)))
+
+abbrev pub is_no_dot : ℕ → Bool
+is_no_dot c = not (is_dot c)
+
+none_before : (s : List ℕ) (start : ℕ) → start ≤ length s → Stops s start → suffix_len is_no_dot (take start s) ≡ 0
+none_before s start h (inl e) = rw e refl
+none_before s start h (inr e) = suffix_len-take_no is_no_dot s start 0 e.0 h (rw e.1 refl)
+
+pub part_behind : (s : List ℕ) (start : ℕ) → start ≤ length s → start + suffix_len is_no_dot s ≡ length s + suffix_len is_no_dot (take start s) → Stops s start → drop start s ≡ last_part s
+unfolding last_part
+part_behind s start h passed stops =
+    let none = none_before s start h stops in
+    let same : start ≡ length s - suffix_len is_no_dot s = omega arith in
+    ap (λ (n : ℕ). drop n s) same

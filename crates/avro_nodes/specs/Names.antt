@@ -1,6 +1,6 @@
 -- Full names and namespaces, as bytes (Avro 1.11 specification, Names). The null namespace is the empty text.
 use Rattle.std.specs.Prelude.{ℕ, List, [], ◌∷◌, Bool, ◌==◌, if◌then◌else◌}
-use Rattle.std.specs.List.{list_any}
+use Rattle.std.specs.List.{list_any, after_last}
 
 abbrev pub is_dot : ℕ → Bool
 is_dot c = c == 46
@@ -12,3 +12,7 @@ has_dot name = list_any is_dot name
 unfoldable pub namespace_of : List ℕ → List ℕ
 namespace_of [] = []
 namespace_of (c ∷ cs) = if list_any is_dot cs then c ∷ namespace_of cs else []
+
+-- all after the last dot, or the whole where there is none: the name without its namespace
+unfoldable pub last_part : List ℕ → List ℕ
+last_part name = after_last is_dot name

@@ -14,7 +14,7 @@ mod value;
 pub use error::OutOfMemory;
 pub use identity::identity_of;
 pub use limits::{MAX_NESTING, MAX_PLACES, MAX_TEXT};
-pub use names::{has_dot, namespace_of};
+pub use names::{has_dot, last_part, namespace_of};
 pub use node::{Extra, Field, Kind, Named, Node, Order};
 pub use plain::plain_of;
 

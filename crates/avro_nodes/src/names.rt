@@ -1,7 +1,7 @@
 //! Full names and namespaces (Avro 1.11 specification, Names).
 
 ghost use Rattle.std.specs.Prelude.{◌≡◌};
-ghost use Rattle.avro_nodes.specs.Names.{has_dot as has_dot_of, namespace_of as namespace};
+ghost use Rattle.avro_nodes.specs.Names.{has_dot as has_dot_of, last_part as last_part_of, namespace_of as namespace};
 
 /// Whether the name has a dot, as a full name outside the null namespace has.
 #[tactic(auto, unfolding(crate::specs::Names::has_dot))]
@@ -22,4 +22,17 @@ pub fn namespace_of(name: &str) -> &str
         }
     }
     &name[..end]
+}
+
+/// A full name without its namespace: all after its last dot.
+#[tactic(auto, unfolding(crate::specs::Names::last_part))]
+pub fn last_part(name: &str) -> &str
+    ensures { result.now ≡ last_part_of name.now }
+{
+    let bytes = name.as_bytes();
+    let mut start = bytes.len();
+    while start > 0 && bytes[start - 1] != b'.' {
+        start -= 1;
+    }
+    &name[start..]
 }

@@ -1,20 +1,15 @@
 -- What it means that a reader's schema can read what a writer's schema wrote (Avro 1.11 specification, Schema Resolution).
 use Rattle.std.specs.Prelude.{◌≡◌, ℕ, ◌⊎◌, Bool, Option, None, IsSome, MatchOption, List, [], ◌∷◌, All, Any, Contains, find, slice_get, IsTrue}
-use Rattle.std.specs.List.{after_last}
 use Rattle.std.specs.Option.{option_or}
 use Rattle.std.specs.Str.{bytes_eq}
 use Rattle.avro_nodes.specs.declared.node.Kind.{Kind}
 use Rattle.avro_nodes.specs.declared.node.Kind.TheVariants.{Null, Boolean, Int, Long, Float, Double, Bytes, Text}
-use Rattle.avro_nodes.specs.Names.{is_dot}
+use Rattle.avro_nodes.specs.Names.{last_part}
 use Rattle.avro_nodes.specs.Nodes.{NamedView, FieldView, NodeView, primitive, array, mapping, union, enumeration, fixed, rec}
 
 -- a set of pairs of places, the writer's first
 abbrev pub Pairs : Type 0
 Pairs = ℕ → ℕ → Bool
-
--- a name without its namespace (Names)
-unfoldable pub last_part : List ℕ → List ℕ
-last_part name = after_last is_dot name
 
 -- The names match without their namespaces (Schema Resolution), or the reader has the writer's full name among its aliases (Aliases). That an
 -- alias counts beside the own name, and not in place of it, is this project's choice.

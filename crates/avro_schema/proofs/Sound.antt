@@ -12,8 +12,8 @@ use Rattle.avro_nodes.specs.Nodes.{NamedView, FieldView, primitive, array, mappi
 use Rattle.avro_schema.specs.declared.words.Word.{Word}
 use Rattle.avro_schema.specs.declared.words.Word.TheVariants as word
 use Rattle.avro_schema.specs.declared.words.Container.TheVariants as container
-use Rattle.avro_schema.specs.Names.{Known, is_simple, last_part, allowed, full_name, alias_in, defined, resolved}
-use Rattle.avro_nodes.specs.Names.{namespace_of}
+use Rattle.avro_schema.specs.Names.{Known, is_simple, allowed, full_name, alias_in, defined, resolved}
+use Rattle.avro_nodes.specs.Names.{namespace_of, last_part}
 use Rattle.avro_schema.specs.Words.{kind_of, word_of}
 use Rattle.avro_schema.specs.Members.{◌>>=◌, without_all, text_in, array_in, text_if_any, texts_in, texts_if_any, bounded, bounded_value, size_of}
 use Rattle.avro_schema.specs.Distinct.{all_differ}

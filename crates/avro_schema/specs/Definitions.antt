@@ -9,8 +9,8 @@ use Rattle.avro_nodes.specs.declared.node.Order.{Order}
 use Rattle.avro_nodes.specs.declared.node.Order.TheVariants.{Ascending}
 use Rattle.avro_nodes.specs.Nodes.{NamedView, texts_view, enumeration, fixed}
 use Rattle.avro_schema.specs.declared.definitions.Label.{Label}
-use Rattle.avro_schema.specs.Names.{Known, is_simple, last_part, allowed, full_name, alias_in, defined}
-use Rattle.avro_nodes.specs.Names.{namespace_of}
+use Rattle.avro_schema.specs.Names.{Known, is_simple, allowed, full_name, alias_in, defined}
+use Rattle.avro_nodes.specs.Names.{namespace_of, last_part}
 use Rattle.avro_schema.specs.Words.{kind_of, order_of}
 use Rattle.avro_schema.specs.Members.{◌>>=◌, without_all, text_in, array_in, text_if_any, texts_in, texts_if_any, bounded, bounded_value, size_of}
 use Rattle.avro_schema.specs.Distinct.{all_differ}

@@ -32,11 +32,6 @@ abbrev pub is_space : List ℕ → Bool
 is_space [] = true
 is_space (c ∷ cs) = is_dotted (c ∷ cs)
 
--- the last part of a full name: all after its last dot
-unfoldable pub last_part : List ℕ → List ℕ
-last_part [] = []
-last_part (c ∷ cs) = if is_dot c || list_any is_dot cs then last_part cs else c ∷ cs
-
 -- the full name that a simple name has in a namespace
 unfoldable pub joined : List ℕ → List ℕ → List ℕ
 joined [] name = name

@@ -15,10 +15,10 @@ use crate::attributes::{
 };
 use crate::distinct::texts_differ;
 use crate::error::SchemaError;
-use crate::names::{Places, define, full_name, is_simple, last_part, place_of};
+use crate::names::{Places, define, full_name, is_simple, place_of};
 use crate::nesting::{members_within, nests_within};
 use crate::words::{kind_of, order_of};
-use avro_nodes::{Extra, MAX_NESTING, MAX_PLACES, Named, Node, Order, namespace_of};
+use avro_nodes::{Extra, MAX_NESTING, MAX_PLACES, Named, Node, Order, last_part, namespace_of};
 use serde_json::Value;
 use std::alloc::Global;
 

@@ -1,6 +1,6 @@
 //! Names and namespaces.
 ghost use Rattle.std.specs.Prelude.{◌≡◌, ◌<◌, length, Some, None, IfOk, OnOk, option_map, string_bytes, true};
-ghost use Rattle.avro_schema.specs.Names.{is_start as is_start_of, is_part as is_part_of, is_dotted as is_dotted_of, is_simple as is_simple_of, last_part as last_part_of, joined as joined_of, resolved, is_space as is_space_of, full_name as full_name_of, alias_in as alias, defined};
+ghost use Rattle.avro_schema.specs.Names.{is_start as is_start_of, is_part as is_part_of, is_dotted as is_dotted_of, is_simple as is_simple_of, joined as joined_of, resolved, is_space as is_space_of, full_name as full_name_of, alias_in as alias, defined};
 ghost use Rattle.avro_nodes.specs.Names.{namespace_of as namespace};
 ghost use Rattle.avro_schema.specs.Outcome.{known_in};
 
@@ -55,19 +55,6 @@ pub fn is_space(text: &str) -> bool
     ensures { result ≡ is_space_of text.now }
 {
     text.is_empty() || is_dotted(text)
-}
-
-/// All after the last dot.
-pub fn last_part(text: &str) -> &str
-    ensures { result.now ≡ last_part_of text.now }
-{
-    let mut start = 0;
-    for (i, c) in text.as_bytes().iter().enumerate() {
-        if *c == 46 {
-            start = i + 1;
-        }
-    }
-    &text[start..]
 }
 
 /// The name behind a namespace that is not the null one.
