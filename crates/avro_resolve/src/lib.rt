@@ -2,7 +2,6 @@
 //! Schema Resolution).
 #![tactic(auto)]
 
-mod error;
 mod fields;
 mod kinds;
 mod names;
@@ -11,7 +10,7 @@ mod striking;
 mod support;
 mod table;
 
-pub use error::OutOfMemory;
+pub use avro_nodes::OutOfMemory;
 pub use resolving::{Verdict, resolves, resolves_itself, resolves_plain};
 
 #[cfg(test)]

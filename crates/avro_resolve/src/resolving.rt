@@ -5,8 +5,8 @@ ghost use Rattle.avro_nodes.specs.Nodes.{nodes_view};
 ghost use Rattle.avro_resolve.specs.Resolution.{Resolves};
 ghost use Rattle.avro_resolve.specs.Witnesses.{HasClosedSet, HasRefutation};
 
-use crate::error::OutOfMemory;
 use crate::striking::largest_closed;
+use avro_nodes::OutOfMemory;
 use avro_schema::Schema;
 use std::alloc::Global;
 
