@@ -1,3 +1,4 @@
+pub mod Dotted
 pub mod NameLemmas
 pub mod AttributeLemmas
 pub mod DistinctLemmas

@@ -9,8 +9,9 @@ use Rattle.avro_nodes.specs.declared.node.Kind.{Kind}
 use Rattle.avro_nodes.specs.declared.node.Kind.TheVariants.{Null, Boolean, Int, Long, Float, Double, Bytes, Text}
 use Rattle.avro_nodes.specs.Identity.{kind_text}
 use Rattle.avro_nodes.specs.Names.{is_dot, has_dot, namespace_of}
-use Rattle.avro_schema.specs.Names.{Known, is_start, is_part, is_rest, is_dotted, is_space, joined, name_in, full_name, alias_in, allowed, or_else, resolved}
+use Rattle.avro_schema.specs.Names.{Known, is_start, is_part, is_dotted, is_space, joined, name_in, full_name, alias_in, allowed, or_else, resolved}
 use Rattle.avro_schema.specs.Words.{kind_of}
+use Rattle.avro_schema.proofs.Dotted.{is_rest, not_start, dotted_is}
 use Rattle.avro_schema.proofs.Inversion.{guard_some, differ}
 
 -- the left one holds where the right one does not
@@ -35,7 +36,8 @@ rest_joined false (c ∷ cs) t e f = joined_at (is_dot c) c cs t (λ fresh h. re
 dotted_joined : (space name : List ℕ) → is_space space ≡ true → is_dotted name ≡ true → is_dotted (joined space name) ≡ true
 unfolding joined
 dotted_joined [] name e f = f
-dotted_joined (c ∷ space) name e f = rest_joined true (c ∷ space) name e f
+dotted_joined (c ∷ space) name e f =
+    dotted_is (c ∷ (space ++ 46 ∷ name)) ∙ rest_joined true (c ∷ space) name (sym (dotted_is (c ∷ space)) ∙ e) (sym (dotted_is name) ∙ f)
 
 joined_dot : (c : ℕ) (space name : List ℕ) → has_dot (joined (c ∷ space) name) ≡ true
 unfolding has_dot joined
@@ -46,9 +48,6 @@ unfolding joined
 no_space name = refl
 
 -- ---- the namespace of a name
-
-not_start : (c : ℕ) → is_dot c ≡ true → is_start c ≡ false
-not_start c e = elim (eqb_tells c 46) [ inl p ↦ rw p.1 refl | inr p ↦ absurd (true≢false (sym e ∙ p.0)) ]
 
 abbrev Cuts : List ℕ → Type 0
 Cuts cs = (fresh : Bool) → is_rest fresh cs ≡ true → list_any is_dot cs ≡ true → is_rest fresh (namespace_of cs) ≡ true
@@ -76,12 +75,11 @@ no_namespace [] e = refl
 no_namespace (c ∷ cs) e = rw ((or_parts (is_dot c) (list_any is_dot cs) e).1) refl
 
 space_from : (s : List ℕ) → is_rest true s ≡ true → is_space s ≡ true
-unfolding is_rest
 space_from [] e = refl
-space_from (c ∷ cs) e = e
+space_from (c ∷ cs) e = dotted_is (c ∷ cs) ∙ e
 
 good_by : (full : List ℕ) (any : Bool) → list_any is_dot full ≡ any → is_dotted full ≡ true → is_space (namespace_of full) ≡ true
-good_by full true a e = space_from (namespace_of full) (cut_rest true full e a)
+good_by full true a e = space_from (namespace_of full) (cut_rest true full (sym (dotted_is full) ∙ e) a)
 good_by full false a e = rw (no_namespace full a) refl
 
 pub good_namespace : (full : List ℕ) → is_dotted full ≡ true → is_space (namespace_of full) ≡ true

@@ -1,6 +1,6 @@
 -- Names and namespaces, as bytes (Avro 1.11 specification, Names; Aliases). The null namespace is the empty text.
 use Rattle.std.specs.Prelude.{ℕ, List, [], ◌∷◌, ◌++◌, Bool, true, false, not, ◌&&◌, ◌||◌, ◌==◌, nat_le, if◌then◌else◌, Option, Some, None}
-use Rattle.std.specs.List.{list_any}
+use Rattle.std.specs.List.{list_all, slice_split}
 use Rattle.std.specs.Map.{update}
 use Rattle.std.specs.Str.{bytes_eq}
 use Rattle.avro_nodes.specs.Names.{is_dot, has_dot}
@@ -13,19 +13,14 @@ is_start c = (nat_le 65 c && nat_le c 90) || (nat_le 97 c && nat_le c 122) || (c
 abbrev pub is_part : ℕ → Bool
 is_part c = is_start c || (nat_le 48 c && nat_le c 57)
 
--- the rest of simple names joined by dots; the first: whether a simple name begins here
-unfoldable pub is_rest : Bool → List ℕ → Bool
-is_rest fresh [] = not fresh
-is_rest true (c ∷ cs) = is_start c && is_rest false cs
-is_rest false (c ∷ cs) = if is_dot c then is_rest true cs else is_part c && is_rest false cs
-
--- simple names joined by dots
-abbrev pub is_dotted : List ℕ → Bool
-is_dotted text = is_rest true text
-
 -- a simple name: `[A-Za-z_][A-Za-z0-9_]*`
 unfoldable pub is_simple : List ℕ → Bool
-is_simple text = is_dotted text && not (has_dot text)
+is_simple [] = false
+is_simple (c ∷ cs) = is_start c && list_all is_part cs
+
+-- simple names joined by dots: what stands between the dots are simple names
+unfoldable pub is_dotted : List ℕ → Bool
+is_dotted text = list_all is_simple (slice_split is_dot text)
 
 -- a namespace: nothing, or simple names joined by dots
 abbrev pub is_space : List ℕ → Bool

@@ -44,7 +44,6 @@ pub fn is_dotted(text: &str) -> bool
     !fresh
 }
 
-#[tactic(auto, unfolding(crate::specs::Names::is_simple))]
 pub fn is_simple(text: &str) -> bool
     ensures { result ≡ is_simple_of text.now }
 {

@@ -1,15 +1,15 @@
-use Rattle.std.proofs.Common.{arith}
+use Rattle.std.proofs.Common.{◌≡◌, true, false, not, sym, ◌∙◌, arith}
 use Rattle.std.proofs.lemmas.Grind.{common_steps}
-use Rattle.avro_schema.specs.Names.{is_rest}
+use Rattle.avro_schema.proofs.Dotted.{is_rest, dotted_is}
 use Rattle.avro_schema.proofs.names.is_dotted.Goals as goal
 
 pub returns-then-not-is_start : goal.returns-then-not-is_start
 unfolding is_rest
-returns-then-not-is_start c = grind (arith, common_steps)
+returns-then-not-is_start c = let is : false ≡ is_rest true c.args.text.now = grind (arith, common_steps) in is ∙ sym (dotted_is c.args.text.now)
 
 pub returns-then-not-is_part : goal.returns-then-not-is_part
 unfolding is_rest
-returns-then-not-is_part c = grind (arith, common_steps)
+returns-then-not-is_part c = let is : false ≡ is_rest true c.args.text.now = grind (arith, common_steps) in is ∙ sym (dotted_is c.args.text.now)
 
 pub loop-c-preserved : goal.loop-c-preserved
 unfolding is_rest
@@ -17,4 +17,4 @@ loop-c-preserved c = grind (arith, common_steps)
 
 pub returns : goal.returns
 unfolding is_rest
-returns c = grind (arith, common_steps)
+returns c = let is : not c.loop-c.fresh ≡ is_rest true c.args.text.now = grind (arith, common_steps) in is ∙ sym (dotted_is c.args.text.now)

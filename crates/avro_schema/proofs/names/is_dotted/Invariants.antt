@@ -1,5 +1,5 @@
 use Rattle.std.proofs.Common.{◌≡◌, true, drop}
-use Rattle.avro_schema.specs.Names.{is_rest}
+use Rattle.avro_schema.proofs.Dotted.{is_rest}
 use Rattle.avro_schema.proofs.names.is_dotted.Given as goal
 
 abbrev pub invariant-loop-c : goal.invariant-loop-c

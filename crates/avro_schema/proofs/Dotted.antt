@@ -1,0 +1,93 @@
+-- Simple names joined by dots, byte by byte.
+use Rattle.std.proofs.Common.{◌≡◌, ℕ, List, [], ◌∷◌, Bool, true, false, not, cond, ◌&&◌, ◌||◌, refl, sym, ap, ◌∙◌, true≢false, inl, inr}
+use Rattle.std.specs.List.{list_all, list_any, slice_split, onto_first}
+use Rattle.std.proofs.lemmas.Bool.Decides.{eqb_tells}
+use Rattle.avro_nodes.specs.Names.{is_dot, has_dot}
+use Rattle.avro_schema.specs.Names.{is_start, is_part, is_simple, is_dotted}
+
+-- the rest of simple names joined by dots; the first: whether a simple name begins here
+unfoldable pub is_rest : Bool → List ℕ → Bool
+is_rest fresh [] = not fresh
+is_rest true (c ∷ cs) = is_start c && is_rest false cs
+is_rest false (c ∷ cs) = cond (is_dot c) (is_rest true cs) (is_part c && is_rest false cs)
+
+pub not_start : (c : ℕ) → is_dot c ≡ true → is_start c ≡ false
+not_start c e = elim (eqb_tells c 46) [ inl p ↦ rw p.1 refl | inr p ↦ absurd (true≢false (sym e ∙ p.0)) ]
+
+not_part : (c : ℕ) → is_dot c ≡ true → is_part c ≡ false
+not_part c e = elim (eqb_tells c 46) [ inl p ↦ rw p.1 refl | inr p ↦ absurd (true≢false (sym e ∙ p.0)) ]
+
+and_again : (a b c : Bool) → ((a && b) && c) ≡ (a && (b && c))
+and_again true b c = refl
+and_again false b c = refl
+
+and_false : (a : Bool) → (a && false) ≡ false
+and_false true = refl
+and_false false = refl
+
+-- ---- parts at the dots, of which the first may be the rest of a name
+
+are_parts : Bool → List (List ℕ) → Bool
+are_parts true ps = list_all is_simple ps
+are_parts false [] = true
+are_parts false (p ∷ ps) = list_all is_part p && list_all is_simple ps
+
+begun_at : (c : ℕ) (ps : List (List ℕ)) → are_parts true (onto_first c ps) ≡ (is_start c && are_parts false ps)
+unfolding are_parts is_simple
+begun_at c [] = and_again (is_start c) true true
+begun_at c (p ∷ ps) = and_again (is_start c) (list_all is_part p) (list_all is_simple ps)
+
+gone_on_at : (c : ℕ) (ps : List (List ℕ)) → are_parts false (onto_first c ps) ≡ (is_part c && are_parts false ps)
+unfolding are_parts is_simple
+gone_on_at c [] = and_again (is_part c) true true
+gone_on_at c (p ∷ ps) = and_again (is_part c) (list_all is_part p) (list_all is_simple ps)
+
+begun : (dot : Bool) (c : ℕ) (cs : List ℕ) → is_dot c ≡ dot → is_rest false cs ≡ are_parts false (slice_split is_dot cs)
+    → (is_start c && is_rest false cs) ≡ are_parts true (cond dot ([] ∷ slice_split is_dot cs) (onto_first c (slice_split is_dot cs)))
+unfolding are_parts is_simple
+begun true c cs e rest = rw (not_start c e) refl
+begun false c cs e rest = ap (λ b. is_start c && b) rest ∙ sym (begun_at c (slice_split is_dot cs))
+
+gone_on : (dot : Bool) (c : ℕ) (cs : List ℕ) → ((fresh : Bool) → is_rest fresh cs ≡ are_parts fresh (slice_split is_dot cs))
+    → cond dot (is_rest true cs) (is_part c && is_rest false cs) ≡ are_parts false (cond dot ([] ∷ slice_split is_dot cs) (onto_first c (slice_split is_dot cs)))
+unfolding are_parts
+gone_on true c cs rest = rest true
+gone_on false c cs rest = ap (λ b. is_part c && b) (rest false) ∙ sym (gone_on_at c (slice_split is_dot cs))
+
+rest_is : (fresh : Bool) (cs : List ℕ) → is_rest fresh cs ≡ are_parts fresh (slice_split is_dot cs)
+unfolding is_rest are_parts is_simple
+rest_is true [] = refl
+rest_is false [] = refl
+rest_is true (c ∷ cs) = begun (is_dot c) c cs refl (rest_is false cs)
+rest_is false (c ∷ cs) = gone_on (is_dot c) c cs (λ fresh. rest_is fresh cs)
+
+-- byte by byte
+pub dotted_is : (text : List ℕ) → is_dotted text ≡ is_rest true text
+unfolding is_dotted are_parts
+dotted_is text = sym (rest_is true text)
+
+-- ---- a simple name has no dot, and is dotted
+
+parts_at : (dot : Bool) (c : ℕ) (cs : List ℕ) → is_dot c ≡ dot → list_all is_part cs ≡ (is_rest false cs && not (list_any is_dot cs))
+    → (is_part c && list_all is_part cs) ≡ (cond dot (is_rest true cs) (is_part c && is_rest false cs) && not (dot || list_any is_dot cs))
+parts_at true c cs e rest = rw (not_part c e) (sym (and_false (is_rest true cs)))
+parts_at false c cs e rest = ap (λ b. is_part c && b) rest ∙ sym (and_again (is_part c) (is_rest false cs) (not (list_any is_dot cs)))
+
+parts_only : (cs : List ℕ) → list_all is_part cs ≡ (is_rest false cs && not (list_any is_dot cs))
+unfolding is_rest
+parts_only [] = refl
+parts_only (c ∷ cs) = parts_at (is_dot c) c cs refl (parts_only cs)
+
+simple_at : (dot : Bool) (c : ℕ) (cs : List ℕ) → is_dot c ≡ dot → (is_start c && list_all is_part cs) ≡ ((is_start c && is_rest false cs) && not (dot || list_any is_dot cs))
+simple_at true c cs e = rw (not_start c e) refl
+simple_at false c cs e = ap (λ b. is_start c && b) (parts_only cs) ∙ sym (and_again (is_start c) (is_rest false cs) (not (list_any is_dot cs)))
+
+simple_rest : (text : List ℕ) → is_simple text ≡ (is_rest true text && not (list_any is_dot text))
+unfolding is_simple is_rest
+simple_rest [] = refl
+simple_rest (c ∷ cs) = simple_at (is_dot c) c cs refl
+
+-- a simple name is a dotted one without a dot
+pub simple_is : (text : List ℕ) → is_simple text ≡ (is_dotted text && not (has_dot text))
+unfolding has_dot
+simple_is text = simple_rest text ∙ ap (λ b. b && not (list_any is_dot text)) (sym (dotted_is text))
