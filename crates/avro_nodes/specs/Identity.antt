@@ -131,8 +131,9 @@ spelt_node types enclosing written (Some (enumeration named symbols fallback ext
 spelt_node types enclosing written (Some (fixed named size extra)) = (fixed_value enclosing named size extra, written + 1)
 spelt_node types enclosing written (Some (rec named fields extra)) = let fs = field_items (types (namespace_of named.name)) fields (written + 1) in (record_value enclosing named fs.0 extra, fs.1)
 
--- The type at a place, nested no deeper than the number. Places are written in their order, so a type is written for the first time
--- where so many have been written before it. Later it is a reference, by its full name.
+-- The type at a place, nested no deeper than the number. `written` counts the places that have been written. A schema's places are
+-- numbered in the order in which they are first reached, and each is written when it is: so a place is reached for the first time
+-- exactly where so many were written before it, `place == written`. There its type is written, and later a reference, by its full name.
 unfoldable pub spelt_at : ℕ → List NodeView → List ℕ → Speller
 spelt_at zero nodes enclosing place written = (null, written)
 spelt_at (suc n) nodes enclosing place written =

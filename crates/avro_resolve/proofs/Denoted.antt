@@ -9,7 +9,7 @@ use Rattle.serde_json.specs.Data.{Data, Items}
 use Rattle.avro_nodes.specs.Names.{has_dot}
 use Rattle.avro_nodes.specs.Nodes.{FieldView, NodeView, primitive, array, mapping, union, enumeration, fixed, rec}
 use Rattle.avro_schema.specs.Names.{Known, none_known, defined, resolved, joined, or_else}
-use Rattle.avro_schema.specs.Reading.{branch_kind}
+use Rattle.avro_schema.specs.Kinds.{branch_kind}
 use Rattle.avro_schema.specs.Denotes.{Denotes, a_primitive, a_reference, primitive_type, reference_type, array_type, map_type, fixed_type, enum_type, record_type, union_type}
 use Rattle.avro_schema.specs.Denotes.{Branches, no_branch, branch, Fields, no_field, field, Lacks, AllDiffer}
 use Rattle.avro_schema.specs.Texts.{IsSchema}

@@ -7,8 +7,8 @@ use Rattle.serde_json.specs.Data.{Data, Items, Members, no_members, depth, membe
 use Rattle.serde_json.specs.Find.{get_member}
 use Rattle.avro_nodes.specs.Nodes.{NamedView, FieldView, NodeView, enumeration, fixed}
 use Rattle.avro_schema.specs.Names.{Known, defined}
-use Rattle.avro_schema.specs.Members.{without_all, bounded, bounded_value, size_of}
-use Rattle.avro_schema.specs.Definitions.{naming, new_name, named_in, symbols_in, enum_at, fixed_at, LabelView, label_in, labelling}
+use Rattle.avro_schema.specs.Members.{without_all, size_of}
+use Rattle.avro_schema.specs.Definitions.{naming, new_name, named_in, symbols_in, enum_at, fixed_at, LabelView, label_in, labelling, bounded, bounded_value}
 use Rattle.avro_schema.specs.Parts.{parts_of}
 use Rattle.avro_schema.specs.Reading.{reference_to, primitive_at, name_at, container_at, branch_of, union_at, field_of, record_at, object_at, type_at}
 use Rattle.avro_schema.specs.Denotes.{Others, IsNamed, IsEnum, IsField, Denotes, a_primitive, a_reference, primitive_type, reference_type, array_type, map_type, fixed_type, enum_type, record_type, union_type}

@@ -19,7 +19,7 @@ use Rattle.avro_schema.specs.Words.{kind_of, word_of, kind_or_other}
 use Rattle.avro_schema.specs.Members.{size_of}
 use Rattle.avro_schema.specs.Weight.{names_size}
 use Rattle.avro_schema.specs.Mentions.{mention, places_mentions, fields_mentions, mentions}
-use Rattle.avro_schema.specs.Reading.{branch_kind}
+use Rattle.avro_schema.specs.Kinds.{branch_kind}
 use Rattle.avro_schema.specs.Denotes.{Others, IsNamed, IsEnum, IsField, Denotes, a_primitive, a_reference, primitive_type, reference_type, array_type, map_type, fixed_type, enum_type, record_type, union_type}
 use Rattle.avro_schema.specs.Denotes.{Branches, no_branch, branch, Fields, no_field, field, array_keys, map_keys, fixed_keys, enum_keys, record_keys, AllDiffer}
 use Rattle.avro_schema.proofs.Inversion.{same_bytes}

@@ -16,7 +16,7 @@ use Rattle.avro_nodes.proofs.TidyRead.{tidy_read}
 use Rattle.avro_schema.specs.Names.{Known, none_known, or_else, resolved}
 use Rattle.avro_schema.specs.Members.{◌>>=◌}
 use Rattle.avro_schema.specs.Reading.{type_at}
-use Rattle.avro_schema.specs.Defaults.{node_defaults_fit}
+use Rattle.avro_schema.specs.Fitting.{node_defaults_fit}
 use Rattle.avro_schema.specs.Denotes.{Denotes, a_primitive, a_reference, primitive_type, reference_type, array_type, map_type, fixed_type, enum_type, record_type, union_type, Branches, no_branch, branch, Fields, no_field, field}
 use Rattle.avro_schema.specs.Texts.{TextDenotes, IsSchema, value_in, root_in, typed, checked, denoted}
 use Rattle.avro_schema.specs.Weight.{weight}

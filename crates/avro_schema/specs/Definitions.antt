@@ -1,20 +1,35 @@
--- What a declaration says beside the types inside it.
-use Rattle.std.specs.Prelude.{ℕ, List, [], ◌∷◌, ◌||◌, if◌then◌else◌, Option, Some, None, option_map, is_some, codes, string_bytes}
-use Rattle.std.specs.List.{list_any}
+-- What a declaration says beside the types inside it, computed.
+use Rattle.std.specs.Prelude.{ℕ, List, [], ◌∷◌, ◌||◌, nat_le, if◌then◌else◌, Option, Some, None, option_map, is_some, codes, string_bytes}
 use Rattle.std.specs.Str.{bytes_eq}
-use Rattle.serde_json.specs.Data.{Data, Members}
-use Rattle.serde_json.specs.Find.{get_member, as_str}
+use Rattle.serde_json.specs.Data.{Data, Members, depth, members_depth}
+use Rattle.serde_json.specs.Find.{get_member}
 use Rattle.serde_json.specs.View.{view}
 use Rattle.avro_nodes.specs.declared.node.Order.{Order}
-use Rattle.avro_nodes.specs.declared.node.Order.TheVariants.{Ascending}
+use Rattle.avro_nodes.specs.Limits.{max_nesting}
 use Rattle.avro_nodes.specs.Nodes.{NamedView, texts_view, enumeration, fixed}
 use Rattle.avro_schema.specs.declared.definitions.Label.{Label}
 use Rattle.avro_schema.specs.Names.{Known, is_simple, allowed, full_name, alias_in, defined}
 use Rattle.avro_nodes.specs.Names.{namespace_of, last_part}
-use Rattle.avro_schema.specs.Words.{kind_of, order_of}
-use Rattle.avro_schema.specs.Members.{◌>>=◌, without_all, text_in, array_in, text_if_any, texts_in, texts_if_any, bounded, bounded_value, size_of}
+use Rattle.avro_schema.specs.Words.{kind_of}
+use Rattle.avro_schema.specs.Members.{◌>>=◌, without_all, text_in, array_in, text_if_any, texts_in, texts_if_any, size_of, fallback_in, order_in}
 use Rattle.avro_schema.specs.Distinct.{all_differ}
 use Rattle.avro_schema.specs.Parts.{Part, room_at}
+
+-- other attributes, none of which nests too deep
+unfoldable pub bounded : Members → Option Members
+bounded ms = if nat_le (members_depth ms) max_nesting then Some ms else None
+
+-- a default that does not nest too deep, and may be missing
+abbrev pub bounded_value : Option Data → Option (Option Data)
+bounded_value None = Some None
+bounded_value (Some d) = if nat_le (depth d) max_nesting then Some (Some d) else None
+
+-- ---- names
+
+-- the rule for a name in a list: an alias of a type in the namespace, or else a simple name
+abbrev pub rule_by : Option (List ℕ) → List ℕ → Option (List ℕ)
+rule_by None text = allowed is_simple text
+rule_by (Some space) text = alias_in space text
 
 -- a full name that may be defined: not known, and its last part no primitive's name
 abbrev pub if_new : Known → List ℕ → Option (List ℕ)
@@ -39,15 +54,6 @@ named_in space ms known = do
   aliases ← texts_if_any (alias_in (namespace_of full)) (get_member (codes "aliases") (without_all (codes "name" ∷ codes "namespace" ∷ []) ms))
   Some (record { name = full; aliases = aliases })
 
--- one of the symbols
-abbrev pub symbol_in : List (List ℕ) → Data → Option (List ℕ)
-symbol_in symbols d = as_str d >>= λ s. if list_any (λ t. bytes_eq t s) symbols then Some s else None
-
--- an enum's default, which may be missing
-abbrev pub fallback_in : List (List ℕ) → Option Data → Option (Option (List ℕ))
-fallback_in symbols None = Some None
-fallback_in symbols (Some d) = symbol_in symbols d >>= λ s. Some (Some s)
-
 -- an enum's symbols
 unfoldable pub symbols_in : Members → Option (List (List ℕ))
 symbols_in ms = do
@@ -71,11 +77,6 @@ fixed_at space ms known first = do
   size ← size_of (get_member (codes "size") (without_all naming ms))
   extra ← bounded (without_all (codes "size" ∷ []) (without_all naming ms))
   Some (record { it = place; nodes = fixed named size extra ∷ []; known = defined known named.name place })
-
--- a field's order, ascending where it is missing
-abbrev pub order_in : Option Data → Option Order
-order_in None = Some Ascending
-order_in (Some d) = as_str d >>= order_of
 
 -- what a field says beside its type
 pub record LabelView : Type 0 where

@@ -1,6 +1,7 @@
 pub mod Names
 pub mod Words
 pub mod Members
+pub mod Kinds
 pub mod Outcome
 pub mod Denotes
 pub mod Distinct
@@ -8,6 +9,7 @@ pub mod Definitions
 pub mod Parts
 pub mod Reading
 pub mod Defaults
+pub mod Fitting
 pub mod Tables
 pub mod Weight
 pub mod Mentions

@@ -1,10 +1,13 @@
--- The attributes of a declaration, as the members of a JSON object (Avro 1.11 specification, Schema Declaration).
-use Rattle.std.specs.Prelude.{ℕ, List, [], ◌∷◌, nat_le, nat_lt, if◌then◌else◌, ◌^◌, Option, Some, None, option_map, option_and_then}
+-- The attributes of a declaration, as the members of a JSON object (Avro 1.11 specification, Schema Declaration). The rules and what
+-- computes them share these.
+use Rattle.std.specs.Prelude.{ℕ, List, [], ◌∷◌, nat_lt, if◌then◌else◌, ◌^◌, Option, Some, None, option_map, option_and_then}
+use Rattle.std.specs.List.{list_any}
 use Rattle.std.specs.Str.{bytes_eq}
-use Rattle.serde_json.specs.Data.{Data, Items, no_items, item, Members, no_members, member, depth, members_depth}
-use Rattle.avro_nodes.specs.Limits.{max_nesting}
-use Rattle.avro_schema.specs.Names.{allowed, is_simple, alias_in}
+use Rattle.serde_json.specs.Data.{Data, Items, no_items, item, Members, no_members, member}
 use Rattle.serde_json.specs.Find.{get_member, as_str, as_array, as_number, as_u64}
+use Rattle.avro_nodes.specs.declared.node.Order.{Order}
+use Rattle.avro_nodes.specs.declared.node.Order.TheVariants.{Ascending}
+use Rattle.avro_schema.specs.Words.{order_of}
 
 infixl 10 ◌>>=◌
 abbrev pub ◌>>=◌ : {A B : Type 0} → Option A → (A → Option B) → Option B
@@ -45,25 +48,25 @@ texts_in rule (item d ds) = do
   more ← texts_in rule ds
   Some (name ∷ more)
 
--- the rule for a name in a list: an alias of a type in the namespace, or else a simple name
-abbrev pub rule_by : Option (List ℕ) → List ℕ → Option (List ℕ)
-rule_by None text = allowed is_simple text
-rule_by (Some space) text = alias_in space text
-
 -- an array of texts, which may be missing
 abbrev pub texts_if_any : (List ℕ → Option (List ℕ)) → Option Data → Option (List (List ℕ))
 texts_if_any rule None = Some []
 texts_if_any rule (Some d) = as_array d >>= λ ds. texts_in rule ds
 
--- other attributes, none of which nests too deep
-unfoldable pub bounded : Members → Option Members
-bounded ms = if nat_le (members_depth ms) max_nesting then Some ms else None
-
--- a default that does not nest too deep, and may be missing
-abbrev pub bounded_value : Option Data → Option (Option Data)
-bounded_value None = Some None
-bounded_value (Some d) = if nat_le (depth d) max_nesting then Some (Some d) else None
-
 -- a fixed's size: a whole number below 2^31 (this project's choice)
 unfoldable pub size_of : Option Data → Option ℕ
 size_of o = o >>= as_number >>= as_u64 >>= λ n. if nat_lt n (2 ^ 31) then Some n else None
+
+-- one of the symbols
+abbrev pub symbol_in : List (List ℕ) → Data → Option (List ℕ)
+symbol_in symbols d = as_str d >>= λ s. if list_any (λ t. bytes_eq t s) symbols then Some s else None
+
+-- an enum's default, which may be missing
+abbrev pub fallback_in : List (List ℕ) → Option Data → Option (Option (List ℕ))
+fallback_in symbols None = Some None
+fallback_in symbols (Some d) = symbol_in symbols d >>= λ s. Some (Some s)
+
+-- a field's order, ascending where it is missing
+abbrev pub order_in : Option Data → Option Order
+order_in None = Some Ascending
+order_in (Some d) = as_str d >>= order_of

@@ -6,18 +6,18 @@ use Rattle.serde_json.specs.Data.{Data, string, Items, Members, no_members}
 use Rattle.serde_json.specs.Data as json
 use Rattle.serde_json.specs.Find.{get_member, as_object}
 use Rattle.avro_nodes.specs.declared.node.Kind.{Kind}
-use Rattle.avro_nodes.specs.declared.node.Kind.TheVariants.{Null, Boolean, Int, Long, Float, Double, Bytes, Text}
-use Rattle.avro_nodes.specs.Nodes.{FieldView, NodeView, primitive, array, mapping, union, enumeration, fixed, rec}
+use Rattle.avro_nodes.specs.Nodes.{FieldView, NodeView, primitive, array, mapping, union, rec}
 use Rattle.avro_schema.specs.declared.words.Word.{Word}
 use Rattle.avro_schema.specs.declared.words.Word.TheVariants as word
 use Rattle.avro_schema.specs.declared.words.Container.{Container}
 use Rattle.avro_schema.specs.declared.words.Container.TheVariants.{Items as of_items, Values as of_values}
+use Rattle.avro_schema.specs.Kinds.{branch_kind}
 use Rattle.avro_schema.specs.Names.{Known, resolved, defined}
 use Rattle.avro_nodes.specs.Names.{namespace_of}
 use Rattle.avro_schema.specs.Words.{kind_of, word_of}
-use Rattle.avro_schema.specs.Members.{◌>>=◌, without_all, text_in, array_in, bounded}
+use Rattle.avro_schema.specs.Members.{◌>>=◌, without_all, text_in, array_in}
 use Rattle.avro_schema.specs.Distinct.{all_differ}
-use Rattle.avro_schema.specs.Definitions.{naming, named_in, enum_at, fixed_at, LabelView, label_in, labelling}
+use Rattle.avro_schema.specs.Definitions.{naming, named_in, enum_at, fixed_at, LabelView, label_in, labelling, bounded}
 use Rattle.avro_schema.specs.Parts.{Part, Reader, Types, parts_of, room_at}
 
 -- a reference makes no node
@@ -57,28 +57,6 @@ container_at container one ms known first = do
   Some (record { it = place; nodes = container_node container p.it extra ∷ p.nodes; known = p.known })
 
 -- ---- unions
-
-abbrev pub kind_number : Kind → ℕ
-kind_number Null = 0
-kind_number Boolean = 1
-kind_number Int = 2
-kind_number Long = 3
-kind_number Float = 4
-kind_number Double = 5
-kind_number Bytes = 6
-kind_number Text = 7
-
--- The kind of a branch at this place that adds these nodes: a number for each primitive type, one for all arrays, one for all maps and one for
--- each named type. A union is no branch.
-unfoldable pub branch_kind : ℕ → List NodeView → Option ℕ
-branch_kind place [] = Some (10 + place)
-branch_kind place (primitive kind extra ∷ more) = Some (kind_number kind)
-branch_kind place (array items extra ∷ more) = Some 8
-branch_kind place (mapping values extra ∷ more) = Some 9
-branch_kind place (union branches ∷ more) = None
-branch_kind place (enumeration named symbols fallback extra ∷ more) = Some (10 + place)
-branch_kind place (fixed named size extra ∷ more) = Some (10 + place)
-branch_kind place (rec named fields extra ∷ more) = Some (10 + place)
 
 -- a branch: its place and its kind
 unfoldable pub branch_of : Reader ℕ → Reader (ℕ × ℕ)

@@ -11,7 +11,8 @@ use Rattle.avro_schema.specs.Members.{◌>>=◌}
 use Rattle.avro_schema.specs.Parts.{Part}
 use Rattle.avro_schema.specs.Weight.{weight}
 use Rattle.avro_schema.specs.Reading.{type_at}
-use Rattle.avro_schema.specs.Defaults.{DefaultsFit, node_defaults_fit}
+use Rattle.avro_schema.specs.Fitting.{node_defaults_fit}
+use Rattle.avro_schema.specs.Defaults.{DefaultsFit}
 use Rattle.avro_schema.specs.Denotes.{Denotes}
 
 -- The text, whose numbers are whole ones of 64 bits, is read as JSON, and the value denotes these nodes: in the null namespace, with no names known

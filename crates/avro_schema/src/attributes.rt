@@ -3,7 +3,8 @@ ghost use Rattle.std.specs.Prelude.{◌≡◌, Some, None, option_map, option_an
 ghost use Rattle.serde_json.specs.Find.{get_member, as_str, as_array, as_object};
 ghost use Rattle.serde_json.specs.View.{view, items_view, members_view};
 ghost use Rattle.avro_nodes.specs.Nodes.{texts_view};
-ghost use Rattle.avro_schema.specs.Members.{without, text_in, array_in, text_if_any as text_or_none, texts_in, texts_if_any as texts_or_none, rule_by, size_of as size_in};
+ghost use Rattle.avro_schema.specs.Definitions.{rule_by};
+ghost use Rattle.avro_schema.specs.Members.{without, text_in, array_in, text_if_any as text_or_none, texts_in, texts_if_any as texts_or_none, size_of as size_in};
 ghost use Rattle.avro_schema.specs.Outcome.{Gives};
 
 use crate::error::SchemaError;
@@ -107,7 +108,7 @@ pub fn take_text_if_any(attributes: &mut Extra, key: &str) -> Result<Option<Stri
 }
 
 /// The name as the rule gives it: an alias of a type in the namespace, or else a simple name.
-#[tactic(auto, unfolding(crate::specs::Members::rule_by))]
+#[tactic(auto, unfolding(crate::specs::Definitions::rule_by))]
 fn name_by(alloc: Global, text: String, space: Option<&str>) -> Result<String, SchemaError>
     ensures { Gives string_bytes result
         (rule_by (option_map (λ s. s.now) space.entry) (string_bytes text)) }

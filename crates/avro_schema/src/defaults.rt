@@ -5,7 +5,8 @@ ghost use Rattle.std.specs.Str.{chars};
 ghost use Rattle.serde_json.specs.Find.{get_member};
 ghost use Rattle.serde_json.specs.View.{view, items_view, members_view};
 ghost use Rattle.avro_nodes.specs.Nodes.{field_view, node_view, nodes_view};
-ghost use Rattle.avro_schema.specs.Defaults.{is_bytes as spells_bytes, primitive_fits as primitive_takes, items_fit as items_go, members_fit as members_go, field_fits_by, fields_fit as fields_go, node_fits as node_takes, entered as entered_node, fits as goes, field_defaults_fit as field_defaults_go, node_default_fits as node_default_goes, node_defaults_fit as node_defaults_go};
+ghost use Rattle.avro_schema.specs.Fitting.{primitive_fits as primitive_takes, items_fit as items_go, members_fit as members_go, field_fits_by, fields_fit as fields_go, node_fits as node_takes, entered as entered_node, fits as goes, field_defaults_fit as field_defaults_go, node_default_fits as node_default_goes, node_defaults_fit as node_defaults_go};
+ghost use Rattle.avro_schema.specs.Defaults.{is_bytes as spells_bytes};
 ghost use Rattle.avro_schema.specs.Tables.{IsTable, IsTableOf, AreTables, fits_if_any, index_fits as index_go, named_fit as named_go, named_in};
 
 use crate::attributes::find;
@@ -91,7 +92,7 @@ fn table_at<'a, 'b>(
 
 /// Whether the value, which nests less deep than the number, fits the type at the place.
 #[cycle(fit)]
-#[tactic(auto, unfolding(crate::specs::Defaults::fits))]
+#[tactic(auto, unfolding(crate::specs::Fitting::fits))]
 fn fits(
     value: &Value,
     place: u32,

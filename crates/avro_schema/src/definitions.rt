@@ -5,8 +5,8 @@ ghost use Rattle.std.specs.List.{list_any};
 ghost use Rattle.serde_json.specs.Find.{get_member};
 ghost use Rattle.serde_json.specs.View.{view, members_view};
 ghost use Rattle.avro_nodes.specs.Nodes.{texts_view, named_view, nodes_view};
-ghost use Rattle.avro_schema.specs.Members.{without_all, bounded, bounded_value};
-ghost use Rattle.avro_schema.specs.Definitions.{naming, labelling, if_new, new_name as name_in, named_in, symbols_in, fallback_in, enum_at as enum_in, fixed_at as fixed_in, order_in, label_in, label_view};
+ghost use Rattle.avro_schema.specs.Members.{without_all, fallback_in, order_in};
+ghost use Rattle.avro_schema.specs.Definitions.{naming, labelling, if_new, new_name as name_in, named_in, symbols_in, enum_at as enum_in, fixed_at as fixed_in, label_in, label_view, bounded, bounded_value};
 ghost use Rattle.avro_schema.specs.Parts.{room_at};
 ghost use Rattle.avro_schema.specs.Outcome.{Gives, Reads, known_in};
 
@@ -36,7 +36,7 @@ pub fn room(nodes: &Vec<Node>) -> Result<u32, SchemaError>
 }
 
 /// Whether the other attributes nest within the limit.
-#[tactic(auto, unfolding(crate::specs::Members::bounded))]
+#[tactic(auto, unfolding(crate::specs::Definitions::bounded))]
 pub fn bound(attributes: &Extra) -> Result<(), SchemaError>
     ensures { Gives (λ _. members_view attributes.now.entries) result
         (bounded (members_view attributes.now.entries)) }

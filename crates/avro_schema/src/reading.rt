@@ -4,7 +4,8 @@ ghost use Rattle.serde_json.specs.View.{view, items_view, members_view};
 ghost use Rattle.avro_nodes.specs.Nodes.{field_view, node_view, nodes_view};
 ghost use Rattle.avro_nodes.specs.Names.{namespace_of as namespace};
 ghost use Rattle.avro_schema.specs.Parts.{parts_of};
-ghost use Rattle.avro_schema.specs.Reading.{kind_number as number, branch_kind as kind_at, reference_to as reference_of, primitive_at as primitive_of, name_at as name_of, container_at as container_of, container_node as node_of, key_of as key_in, branch_of, union_at as union_of, field_at as field_in, field_of, record_at as record_of, object_at as object_of, type_at as type_of};
+ghost use Rattle.avro_schema.specs.Kinds.{kind_number as number, branch_kind as kind_at};
+ghost use Rattle.avro_schema.specs.Reading.{reference_to as reference_of, primitive_at as primitive_of, name_at as name_of, container_at as container_of, container_node as node_of, key_of as key_in, branch_of, union_at as union_of, field_at as field_in, field_of, record_at as record_of, object_at as object_of, type_at as type_of};
 ghost use Rattle.avro_schema.specs.Definitions.{label_view};
 ghost use Rattle.avro_schema.specs.Outcome.{Reads, known_in};
 
@@ -92,7 +93,7 @@ fn kind_number(kind: Kind) -> u32
 
 /// The kind of a branch at the place that added these nodes: a number that two branches share
 /// where a union may not hold both.
-#[tactic(auto, unfolding(crate::specs::Reading::branch_kind))]
+#[tactic(auto, unfolding(crate::specs::Kinds::branch_kind))]
 fn branch_kind(place: u32, added: &[Node]) -> Option<u64>
     ensures { result ≡ kind_at place (nodes_view added.now) }
 {
