@@ -1,6 +1,6 @@
 //! Whether a writer's schema resolves with a reader's.
 
-ghost use Rattle.std.specs.Prelude.{◌≡◌, ◌<◌, ◌≤◌, ◌↔◌, IsTrue, IfOk, false};
+ghost use Rattle.std.specs.Prelude.{◌≡◌, ◌<◌, ◌≤◌, ◌*◌, ◌↔◌, length, IsTrue, IfOk, false};
 ghost use Rattle.avro_nodes.specs.Nodes.{nodes_view};
 ghost use Rattle.avro_resolve.specs.Resolution.{Resolves};
 ghost use Rattle.avro_resolve.specs.Witnesses.{HasClosedSet, HasRefutation};
@@ -29,8 +29,8 @@ pub fn resolves_plain(alloc: Global, writer: &Schema, reader: &Schema) -> Result
 }
 
 /// Whether the writer's schema resolves with the reader's (Avro 1.11 specification, Schema
-/// Resolution), and how many pairs of places were looked at for it. A small number of them comes
-/// with a small witness: a closed set, or a list of pairs that refutes the roots.
+/// Resolution), and how many pairs of places were looked at for it: all of them. A small number
+/// comes with a small witness: a closed set, or a list of pairs that refutes the roots.
 pub fn resolves(alloc: Global, writer: &Schema, reader: &Schema) -> Result<Verdict, OutOfMemory>
     ensures yes { IfOk result (λ v. IsTrue v.yes ↔ Resolves (nodes_view writer.now) (nodes_view reader.now)) }
     ensures at_least { IfOk result (λ v. 1 ≤ v.visits) }
@@ -38,6 +38,7 @@ pub fn resolves(alloc: Global, writer: &Schema, reader: &Schema) -> Result<Verdi
         → HasClosedSet (nodes_view writer.now) (nodes_view reader.now) v.visits) }
     ensures refuted { IfOk result (λ v. v.yes ≡ false → v.visits < 1000
         → HasRefutation (nodes_view writer.now) (nodes_view reader.now) v.visits) }
+    ensures all_pairs { IfOk result (λ v. v.visits ≡ length writer.now * length reader.now) }
 {
     let left = largest_closed(alloc, writer, reader)?;
     Ok(Verdict {
