@@ -3,8 +3,10 @@ pub mod FieldLemmas
 pub mod Flags
 pub mod Monotone
 pub mod Members
+pub mod PairLemmas
 pub mod SupportLemmas
 pub mod Strikes
 pub mod Ends
 pub mod Denoted
 pub mod Itself
+pub mod VerdictLemmas

@@ -2,17 +2,17 @@
 use Rattle.std.proofs.Common.{◌≡◌, ℕ, zero, suc, List, [], ◌∷◌, ◌++◌, Bool, true, false, ◌&&◌, ◌||◌, not, take, refl, sym, ap, subst, ◌∙◌, arith, append_assoc, append-nil, true≢false, inl, inr}
 use Rattle.std.proofs.lemmas.Bool.{or_cases, or_left, or_right}
 use Rattle.std.specs.Prelude.{◌==◌, ◌⊎◌}
+use Rattle.std.proofs.lemmas.Bool.{or_cases, or_left, or_right}
 use Rattle.std.proofs.lemmas.Bool.Decides.{nat_tests}
 use Rattle.avro_nodes.specs.Nodes.{NodeView}
 use Rattle.avro_resolve.specs.Resolution.{Pairs, Supports, Closed}
-use Rattle.avro_resolve.specs.Places.{IsWhole}
-use Rattle.avro_resolve.proofs.Monotone.{Within, supports_more}
+use Rattle.avro_resolve.proofs.Monotone.{Within, supports_within}
 use Rattle.avro_resolve.specs.Witnesses.{Pair, member, without, RefutesAfter, Differ}
 
 same_test : (i j : ℕ) → (i == i && j == j) ≡ true
 same_test i j = grind (arith, nat_tests)
 
-test_same : (i j a b : ℕ) → (i == a && j == b) ≡ true → (a ≡ i) × (b ≡ j)
+pub test_same : (i j a b : ℕ) → (i == a && j == b) ≡ true → (a ≡ i) × (b ≡ j)
 test_same i j a b e =
     let p : a ≡ i = grind (arith, nat_tests) in
     let q : b ≡ j = grind (arith, nat_tests) in (p, q)
@@ -87,12 +87,12 @@ refutes_push w r before [] i j h never = ((λ s. never (subst (λ (x : List Pair
 refutes_push w r before (p ∷ ps) i j h never = (h.0, refutes_push w r (before ++ p ∷ []) ps i j h.1 (subst (λ (x : List Pair). Supports w r (without x) i j → ⊥) (sym (append_assoc before (p ∷ []) ps)) never))
 
 -- no closed set has a pair of a list that refutes
-never_in : (w r : List NodeView) (R : Pairs) → IsWhole w → IsWhole r → Closed w r R → (before ps : List Pair) → Within R (without before) → RefutesAfter w r before ps → Within R (without (before ++ ps))
+never_in : (w r : List NodeView) (R : Pairs) → Closed w r R → (before ps : List Pair) → Within R (without before) → RefutesAfter w r before ps → Within R (without (before ++ ps))
 unfolding RefutesAfter
-never_in w r R ww wr closed before [] within h = subst (λ (x : List Pair). Within R (without x)) (sym (append-nil before)) within
-never_in w r R ww wr closed before (p ∷ ps) within h =
+never_in w r R closed before [] within h = subst (λ (x : List Pair). Within R (without x)) (sym (append-nil before)) within
+never_in w r R closed before (p ∷ ps) within h =
     subst (λ (x : List Pair). Within R (without x)) (append_assoc before (p ∷ []) ps)
-    (never_in w r R ww wr closed (before ++ p ∷ []) ps (λ i j m. not_last before p i j (within i j m) (λ e f. h.0 (supports_more w r R (without before) ww wr within p.0 p.1 (closed p.0 p.1 (moved R i j p.0 p.1 e f m))))) h.1)
+    (never_in w r R closed (before ++ p ∷ []) ps (λ i j m. not_last before p i j (within i j m) (λ e f. h.0 (supports_within R (without before) within w r p.0 p.1 (closed p.0 p.1 (moved R i j p.0 p.1 e f m))))) h.1)
   where
     moved : (R : Pairs) (i j a b : ℕ) → i ≡ a → j ≡ b → R i j ≡ true → R a b ≡ true
     moved R i j a b e f h = subst (λ (x : ℕ). R x b ≡ true) e (subst (λ (y : ℕ). R i y ≡ true) f h)
@@ -108,8 +108,8 @@ never_in w r R ww wr closed before (p ∷ ps) within h =
     not_last : (before : List Pair) (p : Pair) (i j : ℕ) → without before i j ≡ true → (i ≡ p.0 → j ≡ p.1 → ⊥) → without (before ++ p ∷ []) i j ≡ true
     not_last before p i j h never = not_of (member (before ++ p ∷ []) i j) (λ m. elim (push_cases before p.0 p.1 i j m) [ inl g ↦ of_not (member before i j) h g | inr g ↦ never g.0 g.1 ])
 
-pub refuted : (w r : List NodeView) (R : Pairs) (ps : List Pair) → IsWhole w → IsWhole r → Closed w r R → RefutesAfter w r [] ps → (i j : ℕ) → R i j ≡ true → member ps i j ≡ true → ⊥
-refuted w r R ps ww wr closed h i j m n = clash (member ps i j) (never_in w r R ww wr closed [] ps (λ a b g. all_in a b) h i j m) n
+pub refuted : (w r : List NodeView) (R : Pairs) (ps : List Pair) → Closed w r R → RefutesAfter w r [] ps → (i j : ℕ) → R i j ≡ true → member ps i j ≡ true → ⊥
+refuted w r R ps closed h i j m n = clash (member ps i j) (never_in w r R closed [] ps (λ a b g. all_in a b) h i j m) n
   where
     all_in : (a b : ℕ) → without [] a b ≡ true
     all_in a b = ap not (member-nil a b)

@@ -94,5 +94,37 @@ pub supports_below : (w r : List NodeView) (R S : Pairs) → IsWhole w → IsWho
 unfolding Supports
 supports_below w r R S ww wr within i j h = both_more w r R S ww wr within i j (slice_get w i) (slice_get r j) refl refl h
 
-pub supports_more : (w r : List NodeView) (R S : Pairs) → IsWhole w → IsWhole r → Within R S → (i j : ℕ) → Supports w r R i j → Supports w r S i j
-supports_more w r R S ww wr within i j h = supports_below w r R S ww wr (λ a b la lb. within a b) i j h
+-- ---- a set with each pair of another, wherever it lies
+
+module _ (R S : Pairs) (within : Within R S) where
+  match_within : (f : FieldView) (o : Option FieldView) → MatchOption o (IsSome f.value) (λ g. IsTrue (R g.place f.place)) → MatchOption o (IsSome f.value) (λ g. IsTrue (S g.place f.place))
+  match_within f None h = h
+  match_within f (Some g) h = within g.place f.place h
+
+  any_within : (i : ℕ) (places : List ℕ) → Any (λ p. IsTrue (R i p)) places → Any (λ p. IsTrue (S i p)) places
+  any_within i places (k, x, l, e, h) = (k, x, l, e, within i x h)
+
+  fits_within : (i j : ℕ) (a b : NodeView) → Fits R i j a b → Fits S i j a b
+  fits_within i j (union bs) b h = λ k d l. within _ j (h k d l)
+  fits_within i j (primitive k x) (union bs) h = any_within i bs h
+  fits_within i j (array p x) (union bs) h = any_within i bs h
+  fits_within i j (mapping p x) (union bs) h = any_within i bs h
+  fits_within i j (enumeration n s f x) (union bs) h = any_within i bs h
+  fits_within i j (fixed n s x) (union bs) h = any_within i bs h
+  fits_within i j (rec n fs x) (union bs) h = any_within i bs h
+  fits_within i j (primitive k x) (primitive l y) h = h
+  fits_within i j (array p x) (array q y) h = within p q h
+  fits_within i j (mapping p x) (mapping q y) h = within p q h
+  fits_within i j (enumeration n s f x) (enumeration m t g y) h = h
+  fits_within i j (fixed n s x) (fixed m t y) h = h
+  fits_within i j (rec n fs x) (rec m gs y) h = (h.0, λ k d l. let f = get_or gs k d in match_within f (source fs f) (h.1 k d l))
+  fits_within i j _ _ h = absurd h
+
+  both_within : (i j : ℕ) (x y : Option NodeView) → MatchOption x ⊥ (λ a. MatchOption y ⊥ (λ b. Fits R i j a b)) → MatchOption x ⊥ (λ a. MatchOption y ⊥ (λ b. Fits S i j a b))
+  both_within i j None y h = h
+  both_within i j (Some a) None h = h
+  both_within i j (Some a) (Some b) h = fits_within i j a b h
+
+  pub supports_within : (w r : List NodeView) (i j : ℕ) → Supports w r R i j → Supports w r S i j
+  unfolding Supports
+  supports_within w r i j h = both_within i j (slice_get w i) (slice_get r j) h

@@ -11,7 +11,7 @@ mod support;
 mod table;
 
 pub use avro_nodes::OutOfMemory;
-pub use resolving::{Verdict, resolves, resolves_itself, resolves_plain};
+pub use resolving::{Verdict, resolution_is_decided, resolves, resolves_itself, resolves_plain};
 
 #[cfg(test)]
 mod tests;

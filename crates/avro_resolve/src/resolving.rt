@@ -1,9 +1,10 @@
 //! Whether a writer's schema resolves with a reader's.
 
-ghost use Rattle.std.specs.Prelude.{◌≡◌, ◌<◌, ◌≤◌, ◌*◌, ◌↔◌, length, IsTrue, IfOk, false};
-ghost use Rattle.avro_nodes.specs.Nodes.{nodes_view};
+ghost use Rattle.std.specs.Prelude.{◌≡◌, ◌<◌, ◌≤◌, ◌*◌, ◌↔◌, List, length, IsTrue, IfOk, false};
+ghost use Rattle.avro_nodes.specs.Nodes.{NodeView, nodes_view};
 ghost use Rattle.avro_resolve.specs.Resolution.{Resolves};
 ghost use Rattle.avro_resolve.specs.Witnesses.{HasClosedSet, HasRefutation};
+ghost use Rattle.avro_resolve.specs.Verdicts.{is_resolved};
 
 use crate::striking::largest_closed;
 use avro_nodes::OutOfMemory;
@@ -54,3 +55,9 @@ pub fn resolves_itself(schema: &Schema)
 {
     let _places = schema.places();
 }
+
+/// Whether one schema resolves with another can be computed: a law of the rules, for any two lists
+/// of nodes.
+pub fn resolution_is_decided()
+    ensures { (w r : List NodeView) → IsTrue (is_resolved w r) ↔ Resolves w r }
+{}

@@ -1,0 +1,82 @@
+-- Whether a schema resolves with another, computed: each rule of Resolution.antt as a test, and a search among all sets of pairs of places.
+use Rattle.std.specs.Prelude.{ℕ, zero, suc, ◌==◌, Bool, true, false, ◌&&◌, ◌||◌, Option, Some, None, is_some, List, [], ◌∷◌, ◌++◌, length, slice_get, bytes_eq}
+use Rattle.std.specs.List.{list_any, list_all}
+use Rattle.std.specs.Set.{is_member}
+use Rattle.avro_nodes.specs.declared.node.Kind.{Kind}
+use Rattle.avro_nodes.specs.declared.node.Kind.TheVariants.{Null, Boolean, Int, Long, Float, Double, Bytes, Text}
+use Rattle.avro_nodes.specs.Nodes.{NamedView, FieldView, NodeView, primitive, array, mapping, union, enumeration, fixed, rec}
+use Rattle.avro_resolve.specs.Resolution.{Pairs, last_part, source}
+use Rattle.avro_resolve.specs.Witnesses.{Pair, member}
+
+-- whether names match (NameMatch)
+abbrev pub have_match : NamedView → NamedView → Bool
+have_match w r = bytes_eq (last_part w.name) (last_part r.name) || is_member bytes_eq r.aliases w.name
+
+-- whether a primitive is read as another (Promotes)
+abbrev pub may_promote : Kind → Kind → Bool
+may_promote Null Null = true
+may_promote Boolean Boolean = true
+may_promote Int Int = true
+may_promote Int Long = true
+may_promote Int Float = true
+may_promote Int Double = true
+may_promote Long Long = true
+may_promote Long Float = true
+may_promote Long Double = true
+may_promote Float Float = true
+may_promote Float Double = true
+may_promote Double Double = true
+may_promote Bytes Bytes = true
+may_promote Bytes Text = true
+may_promote Text Text = true
+may_promote Text Bytes = true
+may_promote _ _ = false
+
+-- whether a reader's field with this source can be read (Readable)
+abbrev pub is_read_from : Pairs → FieldView → Option FieldView → Bool
+is_read_from R f None = is_some f.value
+is_read_from R f (Some g) = R g.place f.place
+
+-- whether the set supports the pair of these two nodes (Fits)
+abbrev pub do_fit : Pairs → ℕ → ℕ → NodeView → NodeView → Bool
+do_fit R i j (union branches) b = list_all (λ place. R place j) branches
+do_fit R i j a (union branches) = list_any (λ place. R i place) branches
+do_fit R i j (primitive k _) (primitive l _) = may_promote k l
+do_fit R i j (array p _) (array q _) = R p q
+do_fit R i j (mapping p _) (mapping q _) = R p q
+do_fit R i j (enumeration n symbols _ _) (enumeration m known fallback _) = have_match n m && (is_some fallback || list_all (is_member bytes_eq known) symbols)
+do_fit R i j (fixed n size _) (fixed m wanted _) = have_match n m && size == wanted
+do_fit R i j (rec n fields _) (rec m wanted _) = have_match n m && list_all (λ f. is_read_from R f (source fields f)) wanted
+do_fit R i j _ _ = false
+
+-- the same of nodes that are there
+abbrev pub both_fit : Pairs → ℕ → ℕ → Option NodeView → Option NodeView → Bool
+both_fit R i j (Some a) (Some b) = do_fit R i j a b
+both_fit R i j _ _ = false
+
+-- whether the set supports the pair of these places (Supports)
+unfoldable pub is_supported : List NodeView → List NodeView → Pairs → ℕ → ℕ → Bool
+is_supported w r R i j = both_fit R i j (slice_get w i) (slice_get r j)
+
+-- the pairs of the writer's place i with the reader's places below the number
+abbrev pub row_below : ℕ → ℕ → List Pair
+row_below i zero = []
+row_below i (suc j) = (i, j) ∷ row_below i j
+
+-- the pairs of the writer's places below the one number with the reader's below the other
+unfoldable pub pairs_below : ℕ → ℕ → List Pair
+pairs_below zero m = []
+pairs_below (suc i) m = row_below i m ++ pairs_below i m
+
+-- whether some part of the list passes the test: some of its elements, in their order
+unfoldable pub some_part : {X : Type 0} → (List X → Bool) → List X → Bool
+some_part test [] = test []
+some_part test (x ∷ xs) = some_part (λ ys. test (x ∷ ys)) xs || some_part test xs
+
+-- whether the list's pairs are a closed set, and have that of the roots
+unfoldable pub is_closed_set : List NodeView → List NodeView → List Pair → Bool
+is_closed_set w r ps = member ps 0 0 && list_all (λ p. is_supported w r (member ps) p.0 p.1) ps
+
+-- whether the writer's schema resolves with the reader's (Resolves): a closed set has pairs of places alone, so the search is over all of them
+unfoldable pub is_resolved : List NodeView → List NodeView → Bool
+is_resolved w r = some_part (is_closed_set w r) (pairs_below (length w) (length r))
