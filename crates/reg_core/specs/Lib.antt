@@ -11,3 +11,4 @@ pub mod Machine
 pub mod CommandTexts
 pub mod Views
 pub mod Compatibility
+pub mod Verdicts

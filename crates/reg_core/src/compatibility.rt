@@ -1,9 +1,10 @@
 //! Whether a level admits a new schema after the earlier versions of its subject.
 
-ghost use Rattle.std.specs.Prelude.{◌≡◌, ◌↔◌, IsTrue, IfOk, map};
-ghost use Rattle.avro_nodes.specs.Nodes.{nodes_view};
+ghost use Rattle.std.specs.Prelude.{◌≡◌, ◌↔◌, IsTrue, IfOk, List, map};
+ghost use Rattle.avro_nodes.specs.Nodes.{NodeView, nodes_view};
 ghost use Rattle.avro_resolve.specs.Resolution.{Resolves};
 ghost use Rattle.reg_core.specs.Compatibility.{Admits, Compatible, latest, named_versions};
+ghost use Rattle.reg_core.specs.Verdicts.{is_admitted};
 
 use crate::error::OutOfMemory;
 use crate::level::Level;
@@ -86,3 +87,9 @@ fn can_read(alloc: Global, writer: &Schema, reader: &Schema) -> Result<bool, Out
 {
     Ok(resolves(alloc, writer, reader)?.yes)
 }
+
+/// Whether a level admits a schema can be computed: a law of the rules, for any lists of nodes.
+pub fn admission_is_decided()
+    ensures { (level : Level) (live : List (List NodeView)) (new : List NodeView)
+        → IsTrue (is_admitted level live new) ↔ Admits level live new }
+{}

@@ -18,7 +18,7 @@ mod text;
 
 pub use code::Code;
 pub use command::{Command, print_of};
-pub use compatibility::admits;
+pub use compatibility::{admission_is_decided, admits};
 pub use decision::{Change, Decision, View, decide};
 pub use delivery::Delivery;
 pub use error::OutOfMemory;
