@@ -1,4 +1,5 @@
 pub mod Resolution
+pub mod Parts
 pub mod Places
 pub mod Witnesses
 pub mod Left
