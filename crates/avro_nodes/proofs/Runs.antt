@@ -1,5 +1,5 @@
 -- The runs of a text, for loops over its bytes.
-use Rattle.std.proofs.Common.{◌≡◌, ℕ, zero, suc, ◌+◌, ◌-◌, ◌<◌, ◌≤◌, ◌⊎◌, inl, inr, List, [], ◌∷◌, ◌++◌, length, take, drop, get_or, Bool, true, false, ◌&&◌, cond, Option, Some, None, refl, sym, ap, ◌∙◌, append_assoc, subst, drop-cons, add-one, length-drop, arith}
+use Rattle.std.proofs.Common.{◌≡◌, ℕ, zero, suc, ◌+◌, ◌-◌, ◌<◌, ◌≤◌, ◌⊎◌, inl, inr, List, [], ◌∷◌, ◌++◌, length, take, drop, get_or, Bool, true, false, ◌&&◌, cond, Option, Some, None, refl, sym, ap, ◌∙◌, append_assoc, subst, length-drop, arith}
 use Rattle.std.proofs.Common.{tests}
 use Rattle.std.specs.List.{prefix_len}
 use Rattle.std.specs.Str.{IsCharBoundary, IsUtf8}
@@ -11,10 +11,8 @@ use Rattle.std.proofs.lemmas.Bool.{false≢true, cases_lt}
 use Rattle.std.proofs.lemmas.List.{drop_all, get_or-drop, drop-drop}
 use Rattle.avro_nodes.specs.declared.plain.Quoting.{Quoting}
 use Rattle.avro_nodes.specs.declared.plain.Quoting.TheVariants.{Outside, Inside, Escaped}
+use Rattle.avro_nodes.proofs.Lists.{drop_item}
 use Rattle.avro_nodes.specs.Plain.{after, is_number_char, is_outside, run, other, in_run, pieces, joined, before, piece_text, is_whole, whole_part, respelt, respelt_whole, begins_number}
-
-pub drop_from : (xs : List ℕ) (i : ℕ) → i < length xs → drop i xs ≡ get_or xs i 0 ∷ drop (i + 1) xs
-drop_from xs i h = rw (add-one, drop-cons xs i 0)
 
 pub before_before : (a b : List ℕ) (o : Option (List ℕ)) → before a (before b o) ≡ before (a ++ b) o
 before_before a b None = refl
@@ -39,7 +37,7 @@ range_more xs i j a b =
 pub other_more : (bs : List ℕ) (from at : ℕ) (q : Quoting) → from ≤ at → at < length bs → (is_outside q && is_number_char (get_or bs at 0)) ≡ false
     → before (slice_range bs from (at + 1)) (joined (pieces (after q (get_or bs at 0)) (drop (at + 1) bs))) ≡ before (slice_range bs from at) (joined (pieces q (drop at bs)))
 other_more bs from at q a b e =
-    rw (range_more bs from at a b, drop_from bs at b, other_next q (get_or bs at 0) (drop (at + 1) bs) e)
+    rw (range_more bs from at a b, drop_item bs at 0 b, other_next q (get_or bs at 0) (drop (at + 1) bs) e)
     (sym (before_before (slice_range bs from at) (get_or bs at 0 ∷ []) (joined (pieces (after q (get_or bs at 0)) (drop (at + 1) bs)))))
 
 pub from_outside : (q : Quoting) (c : ℕ) → (is_outside q && is_number_char c) ≡ true → (q ≡ Outside) × (is_number_char c ≡ true)
@@ -102,7 +100,7 @@ unfolding pieces joined
 run_of_none = refl
 
 run_from : (bs : List ℕ) (start : ℕ) (more : (start < length bs) ⊎ (length bs ≤ start)) → (start < length bs → is_number_char (get_or bs start 0) ≡ true) → FromRun (drop start bs) (take (run_len (drop start bs)) (drop start bs)) (drop (run_len (drop start bs)) (drop start bs))
-run_from bs start (inl h) found = rw (drop_from bs start h) (run_then (get_or bs start 0 ∷ drop (start + 1) bs) (run_len (get_or bs start 0 ∷ drop (start + 1) bs)) (run_first (get_or bs start 0) (drop (start + 1) bs) (found h)))
+run_from bs start (inl h) found = rw (drop_item bs start 0 h) (run_then (get_or bs start 0 ∷ drop (start + 1) bs) (run_len (get_or bs start 0 ∷ drop (start + 1) bs)) (run_first (get_or bs start 0) (drop (start + 1) bs) (found h)))
 run_from bs start (inr h) found = rw (drop_all start bs h) run_of_none
 
 pub run_at : (bs : List ℕ) (start end : ℕ) → (start < length bs → is_number_char (get_or bs start 0) ≡ true) → end ≡ start + prefix_len is_number_char (drop start bs) → FromRun (drop start bs) (slice_range bs start end) (drop end bs)

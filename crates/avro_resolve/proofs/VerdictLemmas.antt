@@ -13,7 +13,8 @@ use Rattle.std.proofs.lemmas.Slice.Eq.{bytes_eq-Decides}
 use Rattle.avro_nodes.specs.declared.node.Kind.{Kind}
 use Rattle.avro_nodes.specs.declared.node.Kind.TheVariants.{Null, Boolean, Int, Long, Float, Double, Bytes, Text}
 use Rattle.avro_nodes.specs.Nodes.{NamedView, FieldView, NodeView, primitive, array, mapping, union, enumeration, fixed, rec}
-use Rattle.avro_resolve.specs.Resolution.{Pairs, last_part, NameMatch, Promotes, source, Readable, Fits, Supports, Resolves}
+use Rattle.avro_nodes.specs.Names.{last_part}
+use Rattle.avro_resolve.specs.Resolution.{Pairs, NameMatch, Promotes, source, Readable, Fits, Supports, Resolves}
 use Rattle.avro_resolve.specs.Witnesses.{member}
 use Rattle.avro_resolve.specs.Verdicts.{have_match, may_promote, is_read_from, do_fit, both_fit, is_supported, pairs_below, some_part, is_closed_set, is_resolved}
 use Rattle.avro_resolve.proofs.Monotone.{Within, supported_in, supports_within}

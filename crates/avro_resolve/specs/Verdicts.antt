@@ -5,7 +5,8 @@ use Rattle.std.specs.Set.{is_member}
 use Rattle.avro_nodes.specs.declared.node.Kind.{Kind}
 use Rattle.avro_nodes.specs.declared.node.Kind.TheVariants.{Null, Boolean, Int, Long, Float, Double, Bytes, Text}
 use Rattle.avro_nodes.specs.Nodes.{NamedView, FieldView, NodeView, primitive, array, mapping, union, enumeration, fixed, rec}
-use Rattle.avro_resolve.specs.Resolution.{Pairs, last_part, source}
+use Rattle.avro_nodes.specs.Names.{last_part}
+use Rattle.avro_resolve.specs.Resolution.{Pairs, source}
 use Rattle.avro_resolve.specs.Witnesses.{Pair, member}
 
 -- whether names match (NameMatch)

@@ -4,9 +4,9 @@ ghost use Rattle.std.specs.Prelude.{◌≡◌, true, IfOk, option_copied, string
 ghost use Rattle.reg_core.specs.CommandTexts.{command_text};
 ghost use Rattle.reg_core.specs.Machine.{is_write, subject_of};
 
-use crate::error::OutOfMemory;
 use crate::subject::Subject;
 use crate::text::Text;
+use avro_nodes::OutOfMemory;
 use serde_json::json;
 use std::alloc::Global;
 

@@ -6,8 +6,8 @@ ghost use Rattle.avro_resolve.specs.Resolution.{Resolves};
 ghost use Rattle.reg_core.specs.Compatibility.{Admits, Compatible, latest, named_versions};
 ghost use Rattle.reg_core.specs.Verdicts.{is_admitted};
 
-use crate::error::OutOfMemory;
 use crate::level::Level;
+use avro_nodes::OutOfMemory;
 use avro_resolve::resolves;
 use avro_schema::Schema;
 use std::alloc::Global;

@@ -8,10 +8,10 @@ ghost use Rattle.reg_core.specs.Views.{IsViewOf, after_changes};
 
 use crate::command::Command;
 use crate::decision::levels::{level_reply, level_shown, set_level, shown_reply};
-use crate::error::OutOfMemory;
 use crate::level::Level;
 use crate::reply::Reply;
 use crate::subject::Subject;
+use avro_nodes::OutOfMemory;
 use std::alloc::Global;
 
 mod levels;

@@ -4,7 +4,7 @@ ghost use Rattle.std.specs.Prelude.{◌≡◌, SomeIff, IfOk, string_bytes};
 ghost use Rattle.reg_core.specs.Replies.{IsStatus, answer, fault};
 
 use crate::code::Code;
-use crate::error::OutOfMemory;
+use avro_nodes::OutOfMemory;
 use std::marker::Model;
 
 /// An answer that was written, or the fault of a code, which takes no memory.

@@ -5,7 +5,7 @@ ghost use Rattle.std.specs.List.{list_any};
 ghost use Rattle.std.specs.Str.{chars};
 ghost use Rattle.reg_core.specs.Subjects.{is_control, is_subject};
 
-use crate::error::OutOfMemory;
+use avro_nodes::OutOfMemory;
 use std::marker::Model;
 
 /// The name under which versions of a schema are registered. Contracts see its bytes. (Schema

@@ -9,10 +9,10 @@ ghost use Rattle.reg_core.specs.Views.{after_changes};
 
 use crate::code::Code;
 use crate::decision::{Change, Decision, View, unchanged};
-use crate::error::OutOfMemory;
 use crate::level::Level;
 use crate::reply::Reply;
 use crate::subject::Subject;
+use avro_nodes::OutOfMemory;
 use serde_json::json;
 use std::alloc::Global;
 
