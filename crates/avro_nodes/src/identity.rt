@@ -9,7 +9,7 @@ ghost use Rattle.serde_json.specs.View.{members_view};
 ghost use Rattle.serde_json.specs.Written.{WritesValue};
 ghost use Rattle.avro_nodes.specs.Whole.{has_whole_numbers};
 ghost use Rattle.avro_nodes.specs.Nodes.{texts_view, named_view, field_view, node_view, nodes_view};
-ghost use Rattle.avro_nodes.specs.Identity.{kind_text as kind_text_of, primitive_value, array_value, map_value, enum_value, fixed_value, record_value, field_value, name_of as name_of_view, spelt_at, branch_items, field_items, identity, nodes_pass};
+ghost use Rattle.avro_nodes.specs.Identity.{kind_text, primitive_value, array_value, map_value, enum_value, fixed_value, record_value, field_value, name_of, spelt_at, branch_items, field_items, identity, nodes_pass};
 ghost use Rattle.avro_nodes.specs.Objects.{merged, Ends, Awaits, array_end, record_end, WritesSpelt, spelt_array};
 
 use crate::attributes::{
@@ -25,7 +25,7 @@ use crate::value::{Others, others_of, write_rest};
 use std::alloc::{AllocError, Global};
 
 fn kind_text(kind: Kind) -> &'static str
-    ensures { result.now ≡ kind_text_of kind }
+    ensures { result.now ≡ kind_text kind }
 {
     match kind {
         Kind::Null => "null",
@@ -181,7 +181,7 @@ fn begin_field<'a>(out: &mut Compact, field: &'a Field) -> Result<Others<'a>, Al
 }
 
 fn name_of(nodes: &[Node], place: usize) -> &str
-    ensures { result.now ≡ name_of_view (slice_get (nodes_view nodes.now) place) }
+    ensures { result.now ≡ name_of (slice_get (nodes_view nodes.now) place) }
 {
     match nodes.get(place) {
         None => "",

@@ -4,7 +4,7 @@ ghost use Rattle.serde_json.specs.Find.{get_member, as_str, as_array, as_object}
 ghost use Rattle.serde_json.specs.View.{view, items_view, members_view};
 ghost use Rattle.avro_nodes.specs.Nodes.{texts_view};
 ghost use Rattle.avro_schema.specs.Definitions.{rule_by};
-ghost use Rattle.avro_schema.specs.Members.{without, text_in, array_in, text_if_any as text_or_none, texts_in, texts_if_any as texts_or_none, size_of as size_in};
+ghost use Rattle.avro_schema.specs.Members.{without, text_in, array_in, text_if_any, texts_in, texts_if_any, size_of};
 ghost use Rattle.avro_schema.specs.Outcome.{Gives};
 
 use crate::error::SchemaError;
@@ -94,7 +94,7 @@ pub fn take_items(attributes: &mut Extra, key: &str) -> Option<Vec<Value>>
 #[tactic(auto, unfolding(crate::specs::Members::text_if_any))]
 pub fn take_text_if_any(attributes: &mut Extra, key: &str) -> Result<Option<String>, SchemaError>
     ensures text { Gives (option_map string_bytes) result
-        (text_or_none key.now (members_view attributes.old.entries)) }
+        (text_if_any key.now (members_view attributes.old.entries)) }
     ensures rest { members_view attributes.new.entries
         ≡ without key.now (members_view attributes.old.entries) }
 {
@@ -152,7 +152,7 @@ pub fn names_if_any(
     space: Option<&str>,
 ) -> Result<Vec<String>, SchemaError>
     ensures { Gives (λ v. texts_view v.items) result
-        (texts_or_none (rule_by (option_map (λ s. s.now) space.entry)) (option_map view attribute)) }
+        (texts_if_any (rule_by (option_map (λ s. s.now) space.entry)) (option_map view attribute)) }
 {
     let Some(value) = attribute else {
         return Ok(Vec::new(alloc));
@@ -166,7 +166,7 @@ pub fn names_if_any(
 /// A fixed's size in bytes, below 2^31.
 #[tactic(auto, unfolding(crate::specs::Members::size_of))]
 pub fn size_of(attribute: Option<Value>) -> Option<u32>
-    ensures { result ≡ size_in (option_map view attribute) }
+    ensures { result ≡ size_of (option_map view attribute) }
 {
     let Some(value) = attribute else {
         return None;

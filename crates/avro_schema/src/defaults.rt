@@ -5,9 +5,9 @@ ghost use Rattle.std.specs.Str.{chars};
 ghost use Rattle.serde_json.specs.Find.{get_member};
 ghost use Rattle.serde_json.specs.View.{view, items_view, members_view};
 ghost use Rattle.avro_nodes.specs.Nodes.{field_view, node_view, nodes_view};
-ghost use Rattle.avro_schema.specs.Fitting.{primitive_fits as primitive_takes, items_fit as items_go, members_fit as members_go, field_fits_by, fields_fit as fields_go, node_fits as node_takes, entered as entered_node, fits as goes, field_defaults_fit as field_defaults_go, node_default_fits as node_default_goes, node_defaults_fit as node_defaults_go};
-ghost use Rattle.avro_schema.specs.Defaults.{is_bytes as spells_bytes};
-ghost use Rattle.avro_schema.specs.Tables.{IsTable, IsTableOf, AreTables, fits_if_any, index_fits as index_go, named_fit as named_go, named_in};
+ghost use Rattle.avro_schema.specs.Fitting.{primitive_fits, items_fit, members_fit, field_fits_by, fields_fit, node_fits, entered, fits, field_defaults_fit, node_default_fits, node_defaults_fit};
+ghost use Rattle.avro_schema.specs.Defaults.{is_bytes};
+ghost use Rattle.avro_schema.specs.Tables.{IsTable, IsTableOf, AreTables, fits_if_any, index_fits, named_fit, named_in};
 
 use crate::attributes::find;
 use crate::tables::{FieldTable, tables_of};
@@ -17,7 +17,7 @@ use std::alloc::{AllocError, Global};
 
 /// Whether each code point stands for a byte.
 fn is_bytes(text: &str) -> bool
-    ensures { result ≡ spells_bytes text.now }
+    ensures { result ≡ is_bytes text.now }
 {
     text.chars().all(|c| (c as u32) < 256)
 }
@@ -30,14 +30,14 @@ fn char_count(text: &str) -> usize
 
 /// Whether the text has so many code points, each of which stands for a byte.
 fn is_bytes_of(text: &str, size: u32) -> bool
-    ensures { result ≡ (spells_bytes text.now && (length (chars text.now) == size)) }
+    ensures { result ≡ (is_bytes text.now && (length (chars text.now) == size)) }
 {
     is_bytes(text) && char_count(text) == size as usize
 }
 
 /// Whether the value fits a primitive type.
 fn primitive_fits(value: &Value, kind: Kind) -> bool
-    ensures { result ≡ primitive_takes (view value.now) kind }
+    ensures { result ≡ primitive_fits (view value.now) kind }
 {
     match kind {
         Kind::Null => value.is_null(),
@@ -58,7 +58,7 @@ fn primitive_fits(value: &Value, kind: Kind) -> bool
 /// The type at the place, or where that is a union its first branch, with the place where it is.
 fn entered(nodes: &[Node], place: u32) -> Option<(u32, &Node)>
     ensures node { option_map (λ p. node_view p.1.now) result
-        ≡ entered_node (nodes_view nodes.now) (slice_get (nodes_view nodes.now) place) }
+        ≡ entered (nodes_view nodes.now) (slice_get (nodes_view nodes.now) place) }
     ensures place { IfSome result (λ p. slice_get (nodes_view nodes.now) p.0 ≡ Some (node_view p.1.now)) }
 {
     match nodes.get(place as usize) {
@@ -101,7 +101,7 @@ fn fits(
     depth: u32,
 ) -> bool
     requires tables { AreTables (nodes_view nodes.now) tables.now }
-    ensures { result ≡ goes depth (nodes_view nodes.now) (view value.now) place }
+    ensures { result ≡ fits depth (nodes_view nodes.now) (view value.now) place }
 {
     if depth == 0 {
         return false;
@@ -127,7 +127,7 @@ fn node_fits(
 ) -> bool
     requires tables { AreTables (nodes_view nodes.now) tables.now }
     requires table { IfSome table (λ t. IsTableOf t.now (node_view node.now)) }
-    ensures { result ≡ node_takes (goes depth (nodes_view nodes.now)) (view value.now) (Some (node_view node.now)) }
+    ensures { result ≡ node_fits (fits depth (nodes_view nodes.now)) (view value.now) (Some (node_view node.now)) }
 {
     match node {
         Node::Primitive { kind, .. } => primitive_fits(value, *kind),
@@ -164,7 +164,7 @@ fn items_fit(
     depth: u32,
 ) -> bool
     requires tables { AreTables (nodes_view nodes.now) tables.now }
-    ensures { result ≡ items_go (goes depth (nodes_view nodes.now)) (items_view values.now.items) place }
+    ensures { result ≡ items_fit (fits depth (nodes_view nodes.now)) (items_view values.now.items) place }
 {
     for value in values {
         if !fits(value, place, nodes, tables, depth) {
@@ -183,7 +183,7 @@ fn members_fit(
     depth: u32,
 ) -> bool
     requires tables { AreTables (nodes_view nodes.now) tables.now }
-    ensures { result ≡ members_go (goes depth (nodes_view nodes.now)) (members_view members.now.entries) place }
+    ensures { result ≡ members_fit (fits depth (nodes_view nodes.now)) (members_view members.now.entries) place }
 {
     for (_key, value) in members.iter() {
         if !fits(value, place, nodes, tables, depth) {
@@ -202,7 +202,7 @@ fn fields_fit(
     depth: u32,
 ) -> bool
     requires tables { AreTables (nodes_view nodes.now) tables.now }
-    ensures { result ≡ fields_go (goes depth (nodes_view nodes.now)) (members_view members.now.entries) (map field_view fields.now.items) }
+    ensures { result ≡ fields_fit (fits depth (nodes_view nodes.now)) (members_view members.now.entries) (map field_view fields.now.items) }
 {
     for field in fields {
         if !field_fits(members, field, nodes, tables, depth) {
@@ -224,7 +224,7 @@ fn table_fits(
 ) -> bool
     requires tables { AreTables (nodes_view nodes.now) tables.now }
     requires table { IsTable table.now (map field_view fields.now.items) }
-    ensures { result ≡ fields_go (goes depth (nodes_view nodes.now)) (members_view members.now.entries) (map field_view fields.now.items) }
+    ensures { result ≡ fields_fit (fits depth (nodes_view nodes.now)) (members_view members.now.entries) (map field_view fields.now.items) }
 {
     always_fit(members, fields, &table.always, nodes, tables, depth)
         && named_fit(members, fields, table, nodes, tables, depth)
@@ -240,7 +240,7 @@ fn always_fit(
     depth: u32,
 ) -> bool
     requires tables { AreTables (nodes_view nodes.now) tables.now }
-    ensures { result ≡ list_all (λ i. fits_if_any (goes depth (nodes_view nodes.now)) (members_view members.now.entries) (slice_get (map field_view fields.now.items) i)) always.now.items }
+    ensures { result ≡ list_all (λ i. fits_if_any (fits depth (nodes_view nodes.now)) (members_view members.now.entries) (slice_get (map field_view fields.now.items) i)) always.now.items }
 {
     for at in always {
         if !index_fits(members, fields, *at, nodes, tables, depth) {
@@ -260,7 +260,7 @@ fn named_fit(
     depth: u32,
 ) -> bool
     requires tables { AreTables (nodes_view nodes.now) tables.now }
-    ensures { result ≡ named_go (goes depth (nodes_view nodes.now)) (members_view members.now.entries) (map field_view fields.now.items) table.now (members_view members.now.entries) }
+    ensures { result ≡ named_fit (fits depth (nodes_view nodes.now)) (members_view members.now.entries) (map field_view fields.now.items) table.now (members_view members.now.entries) }
 {
     for (key, _value) in members.iter() {
         if !name_fits(key.as_str(), members, fields, table, nodes, tables, depth) {
@@ -282,7 +282,7 @@ fn name_fits(
     depth: u32,
 ) -> bool
     requires tables { AreTables (nodes_view nodes.now) tables.now }
-    ensures { result ≡ index_go (goes depth (nodes_view nodes.now)) (members_view members.now.entries) (map field_view fields.now.items) (named_in table.now name.now) }
+    ensures { result ≡ index_fits (fits depth (nodes_view nodes.now)) (members_view members.now.entries) (map field_view fields.now.items) (named_in table.now name.now) }
 {
     match table.by_name.get(name) {
         Some(at) => index_fits(members, fields, *at, nodes, tables, depth),
@@ -301,7 +301,7 @@ fn index_fits(
     depth: u32,
 ) -> bool
     requires tables { AreTables (nodes_view nodes.now) tables.now }
-    ensures { result ≡ fits_if_any (goes depth (nodes_view nodes.now)) (members_view members.now.entries) (slice_get (map field_view fields.now.items) at) }
+    ensures { result ≡ fits_if_any (fits depth (nodes_view nodes.now)) (members_view members.now.entries) (slice_get (map field_view fields.now.items) at) }
 {
     match fields.get(at) {
         Some(field) => field_fits(members, field, nodes, tables, depth),
@@ -318,7 +318,7 @@ fn field_fits(
     depth: u32,
 ) -> bool
     requires tables { AreTables (nodes_view nodes.now) tables.now }
-    ensures { result ≡ field_fits_by (goes depth (nodes_view nodes.now)) (field_view field.now) (get_member (string_bytes field.now.name) (members_view members.now.entries)) }
+    ensures { result ≡ field_fits_by (fits depth (nodes_view nodes.now)) (field_view field.now) (get_member (string_bytes field.now.name) (members_view members.now.entries)) }
 {
     match find(members, field.name.as_str()) {
         Some(value) => fits(value, field.place, nodes, tables, depth),
@@ -329,7 +329,7 @@ fn field_fits(
 /// Whether each default of the fields fits its field.
 fn field_defaults_fit(fields: &[Field], nodes: &[Node], tables: &[Option<FieldTable>]) -> bool
     requires tables { AreTables (nodes_view nodes.now) tables.now }
-    ensures { result ≡ field_defaults_go (nodes_view nodes.now) (map field_view fields.now) }
+    ensures { result ≡ field_defaults_fit (nodes_view nodes.now) (map field_view fields.now) }
 {
     for field in fields {
         if let Some(value) = &field.value
@@ -343,7 +343,7 @@ fn field_defaults_fit(fields: &[Field], nodes: &[Node], tables: &[Option<FieldTa
 
 fn node_default_fits(node: &Node, nodes: &[Node], tables: &[Option<FieldTable>]) -> bool
     requires tables { AreTables (nodes_view nodes.now) tables.now }
-    ensures { result ≡ node_default_goes (nodes_view nodes.now) (node_view node.now) }
+    ensures { result ≡ node_default_fits (nodes_view nodes.now) (node_view node.now) }
 {
     match node {
         Node::Rec { fields, .. } => field_defaults_fit(fields, nodes, tables),
@@ -362,7 +362,7 @@ fn node_default_fits(node: &Node, nodes: &[Node], tables: &[Option<FieldTable>])
 ///
 /// `AllocError` where room for the tables of the fields is refused.
 pub fn defaults_fit(alloc: Global, nodes: &[Node]) -> Result<bool, AllocError>
-    ensures { IfOk result (λ b. b ≡ node_defaults_go (nodes_view nodes.now) (nodes_view nodes.now)) }
+    ensures { IfOk result (λ b. b ≡ node_defaults_fit (nodes_view nodes.now) (nodes_view nodes.now)) }
 {
     let tables = tables_of(alloc, nodes)?;
     for node in nodes {

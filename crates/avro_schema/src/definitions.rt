@@ -6,7 +6,7 @@ ghost use Rattle.serde_json.specs.Find.{get_member};
 ghost use Rattle.serde_json.specs.View.{view, members_view};
 ghost use Rattle.avro_nodes.specs.Nodes.{texts_view, named_view, nodes_view};
 ghost use Rattle.avro_schema.specs.Members.{without_all, fallback_in, order_in};
-ghost use Rattle.avro_schema.specs.Definitions.{naming, labelling, if_new, new_name as name_in, named_in, symbols_in, enum_at as enum_in, fixed_at as fixed_in, label_in, label_view, bounded, bounded_value};
+ghost use Rattle.avro_schema.specs.Definitions.{naming, labelling, if_new, new_name, named_in, symbols_in, enum_at, fixed_at, label_in, label_view, bounded, bounded_value};
 ghost use Rattle.avro_schema.specs.Parts.{room_at};
 ghost use Rattle.avro_schema.specs.Outcome.{Gives, Reads, known_in};
 
@@ -84,7 +84,7 @@ fn new_name(
     known: &Places,
 ) -> Result<String, SchemaError>
     ensures name { Gives string_bytes result
-        (name_in space.now (members_view attributes.old.entries) (known_in known.now)) }
+        (new_name space.now (members_view attributes.old.entries) (known_in known.now)) }
     ensures rest { OnOk result (members_view attributes.new.entries
         ≡ without_all (codes "name" ∷ codes "namespace" ∷ []) (members_view attributes.old.entries)) }
 {
@@ -170,7 +170,7 @@ pub fn enum_at(
     known: &mut Places,
 ) -> Result<u32, SchemaError>
     ensures { Reads (λ p. p) result
-        (enum_in space.now (members_view attributes.entries) (known_in known.old) (length nodes.old.items))
+        (enum_at space.now (members_view attributes.entries) (known_in known.old) (length nodes.old.items))
         (nodes_view nodes.old.items) (nodes_view nodes.new.items) (known_in known.new) }
 {
     let mut rest = attributes;
@@ -199,7 +199,7 @@ pub fn fixed_at(
     known: &mut Places,
 ) -> Result<u32, SchemaError>
     ensures { Reads (λ p. p) result
-        (fixed_in space.now (members_view attributes.entries) (known_in known.old) (length nodes.old.items))
+        (fixed_at space.now (members_view attributes.entries) (known_in known.old) (length nodes.old.items))
         (nodes_view nodes.old.items) (nodes_view nodes.new.items) (known_in known.new) }
 {
     let mut rest = attributes;

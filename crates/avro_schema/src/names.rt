@@ -1,7 +1,7 @@
 //! Names and namespaces.
 ghost use Rattle.std.specs.Prelude.{◌≡◌, ◌<◌, length, Some, None, IfOk, OnOk, option_map, string_bytes, true};
-ghost use Rattle.avro_schema.specs.Names.{is_start as is_start_of, is_part as is_part_of, is_dotted as is_dotted_of, is_simple as is_simple_of, joined as joined_of, resolved, is_space as is_space_of, full_name as full_name_of, alias_in as alias, defined};
-ghost use Rattle.avro_nodes.specs.Names.{namespace_of as namespace};
+ghost use Rattle.avro_schema.specs.Names.{is_start, is_part, is_dotted, is_simple, joined, resolved, is_space, full_name, alias_in, defined};
+ghost use Rattle.avro_nodes.specs.Names.{namespace_of};
 ghost use Rattle.avro_schema.specs.Outcome.{known_in};
 
 use avro_nodes::has_dot;
@@ -12,20 +12,20 @@ use std::collections::BTreeMap;
 pub type Places = BTreeMap<String, u32>;
 
 fn is_start(c: u8) -> bool
-    ensures { result ≡ is_start_of c }
+    ensures { result ≡ is_start c }
 {
     (65 <= c && c <= 90) || (97 <= c && c <= 122) || c == 95
 }
 
 fn is_part(c: u8) -> bool
-    ensures { result ≡ is_part_of c }
+    ensures { result ≡ is_part c }
 {
     is_start(c) || (48 <= c && c <= 57)
 }
 
 /// Whether these are simple names joined by dots.
 pub fn is_dotted(text: &str) -> bool
-    ensures { result ≡ is_dotted_of text.now }
+    ensures { result ≡ is_dotted text.now }
 {
     let bytes = text.as_bytes();
     let mut fresh = true;
@@ -45,13 +45,13 @@ pub fn is_dotted(text: &str) -> bool
 }
 
 pub fn is_simple(text: &str) -> bool
-    ensures { result ≡ is_simple_of text.now }
+    ensures { result ≡ is_simple text.now }
 {
     is_dotted(text) && !has_dot(text)
 }
 
 pub fn is_space(text: &str) -> bool
-    ensures { result ≡ is_space_of text.now }
+    ensures { result ≡ is_space text.now }
 {
     text.is_empty() || is_dotted(text)
 }
@@ -60,7 +60,7 @@ pub fn is_space(text: &str) -> bool
 #[tactic(auto, unfolding(crate::specs::Names::joined))]
 fn dotted(alloc: Global, space: &str, name: &str) -> Result<String, AllocError>
     requires { 0 < length space.now }
-    ensures { IfOk result (λ s. string_bytes s ≡ joined_of space.now name.now) }
+    ensures { IfOk result (λ s. string_bytes s ≡ joined space.now name.now) }
 {
     let mut full = String::from_str(alloc, space)?;
     full.push_str(".")?;
@@ -71,7 +71,7 @@ fn dotted(alloc: Global, space: &str, name: &str) -> Result<String, AllocError>
 /// The full name that the simple name has in the namespace.
 #[tactic(auto, unfolding(crate::specs::Names::joined))]
 fn joined(alloc: Global, space: &str, name: String) -> Result<String, AllocError>
-    ensures { IfOk result (λ s. string_bytes s ≡ joined_of space.now (string_bytes name)) }
+    ensures { IfOk result (λ s. string_bytes s ≡ joined space.now (string_bytes name)) }
 {
     if space.is_empty() {
         return Ok(name);
@@ -127,7 +127,7 @@ pub fn full_name(
     enclosing: &str,
 ) -> Result<Option<String>, AllocError>
     ensures { IfOk result (λ o. option_map string_bytes o
-        ≡ full_name_of (string_bytes name) (option_map string_bytes attribute) enclosing.now) }
+        ≡ full_name (string_bytes name) (option_map string_bytes attribute) enclosing.now) }
 {
     if !is_dotted(name.as_str()) {
         return Ok(None);
@@ -150,7 +150,7 @@ pub fn full_name(
 /// The full name of an alias of a type in the namespace.
 #[tactic(auto, unfolding(crate::specs::Names::alias_in))]
 pub fn alias_in(alloc: Global, space: &str, name: String) -> Result<Option<String>, AllocError>
-    ensures { IfOk result (λ o. option_map string_bytes o ≡ alias space.now (string_bytes name)) }
+    ensures { IfOk result (λ o. option_map string_bytes o ≡ alias_in space.now (string_bytes name)) }
 {
     if !is_dotted(name.as_str()) {
         return Ok(None);

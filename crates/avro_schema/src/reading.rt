@@ -2,10 +2,10 @@
 ghost use Rattle.std.specs.Prelude.{◌≡◌, ◌<◌, length, map, Some, None, option_map, string_bytes, slice_set, true, false};
 ghost use Rattle.serde_json.specs.View.{view, items_view, members_view};
 ghost use Rattle.avro_nodes.specs.Nodes.{field_view, node_view, nodes_view};
-ghost use Rattle.avro_nodes.specs.Names.{namespace_of as namespace};
+ghost use Rattle.avro_nodes.specs.Names.{namespace_of};
 ghost use Rattle.avro_schema.specs.Parts.{parts_of};
-ghost use Rattle.avro_schema.specs.Kinds.{kind_number as number, branch_kind as kind_at};
-ghost use Rattle.avro_schema.specs.Reading.{reference_to as reference_of, primitive_at as primitive_of, name_at as name_of, container_at as container_of, container_node as node_of, key_of as key_in, branch_of, union_at as union_of, field_at as field_in, field_of, record_at as record_of, object_at as object_of, type_at as type_of};
+ghost use Rattle.avro_schema.specs.Kinds.{kind_number, branch_kind};
+ghost use Rattle.avro_schema.specs.Reading.{reference_to, primitive_at, name_at, container_at, container_node, key_of, branch_of, union_at, field_at, field_of, record_at, object_at, type_at};
 ghost use Rattle.avro_schema.specs.Definitions.{label_view};
 ghost use Rattle.avro_schema.specs.Outcome.{Reads, known_in};
 
@@ -29,7 +29,7 @@ fn primitive_at(
     known: &Places,
 ) -> Result<u32, SchemaError>
     ensures { Reads (λ p. p) result
-        (primitive_of kind (members_view attributes.entries) (known_in known.now) (length nodes.old.items))
+        (primitive_at kind (members_view attributes.entries) (known_in known.now) (length nodes.old.items))
         (nodes_view nodes.old.items) (nodes_view nodes.new.items) (known_in known.now) }
 {
     let place = room(nodes)?;
@@ -47,7 +47,7 @@ fn reference_to(
     nodes: &Vec<Node>,
     known: &Places,
 ) -> Result<u32, SchemaError>
-    ensures { Reads (λ p. p) result (reference_of space.now name.now (known_in known.now))
+    ensures { Reads (λ p. p) result (reference_to space.now name.now (known_in known.now))
         (nodes_view nodes.now.items) (nodes_view nodes.now.items) (known_in known.now) }
 {
     match resolve(alloc, known, space, name)? {
@@ -66,7 +66,7 @@ fn name_at(
     known: &Places,
 ) -> Result<u32, SchemaError>
     ensures { Reads (λ p. p) result
-        (name_of space.now name.now (known_in known.now) (length nodes.old.items))
+        (name_at space.now name.now (known_in known.now) (length nodes.old.items))
         (nodes_view nodes.old.items) (nodes_view nodes.new.items) (known_in known.now) }
 {
     match kind_of(name) {
@@ -77,7 +77,7 @@ fn name_at(
 
 /// A number for each primitive type.
 fn kind_number(kind: Kind) -> u32
-    ensures { result ≡ number kind }
+    ensures { result ≡ kind_number kind }
 {
     match kind {
         Kind::Null => 0,
@@ -95,7 +95,7 @@ fn kind_number(kind: Kind) -> u32
 /// where a union may not hold both.
 #[tactic(auto, unfolding(crate::specs::Kinds::branch_kind))]
 fn branch_kind(place: u32, added: &[Node]) -> Option<u64>
-    ensures { result ≡ kind_at place (nodes_view added.now) }
+    ensures { result ≡ branch_kind place (nodes_view added.now) }
 {
     match added.first() {
         None => Some(10 + u64::from(place)),
@@ -113,7 +113,7 @@ fn branch_kind(place: u32, added: &[Node]) -> Option<u64>
 
 /// The attribute that holds what an array or a map is of.
 fn key_of(container: Container) -> &'static str
-    ensures { result.now ≡ key_in container }
+    ensures { result.now ≡ key_of container }
 {
     match container {
         Container::Items => "items",
@@ -122,7 +122,7 @@ fn key_of(container: Container) -> &'static str
 }
 
 fn container_node(container: Container, place: u32, extra: Extra) -> Node
-    ensures { node_view result ≡ node_of container place (members_view extra.entries) }
+    ensures { node_view result ≡ container_node container place (members_view extra.entries) }
 {
     match container {
         Container::Items => Node::Array {
@@ -153,7 +153,7 @@ fn settle(nodes: &mut Vec<Node>, place: u32, node: Node)
 }
 
 fn field_from(label: Label, place: u32, extra: Extra) -> Field
-    ensures { field_view result ≡ field_in (label_view label) place (members_view extra.entries) }
+    ensures { field_view result ≡ field_at (label_view label) place (members_view extra.entries) }
 {
     let Label {
         name,
@@ -182,7 +182,7 @@ pub fn type_at(
     known: &mut Places,
 ) -> Result<u32, SchemaError>
     ensures { Reads (λ p. p) result
-        (type_of depth space.now (view value) (known_in known.old) (length nodes.old.items))
+        (type_at depth space.now (view value) (known_in known.old) (length nodes.old.items))
         (nodes_view nodes.old.items) (nodes_view nodes.new.items) (known_in known.new) }
 {
     if depth == 0 {
@@ -208,7 +208,7 @@ fn object_at(
     known: &mut Places,
 ) -> Result<u32, SchemaError>
     ensures { Reads (λ p. p) result
-        (object_of (type_of depth) space.now (members_view object.entries) (known_in known.old) (length nodes.old.items))
+        (object_at (type_at depth) space.now (members_view object.entries) (known_in known.old) (length nodes.old.items))
         (nodes_view nodes.old.items) (nodes_view nodes.new.items) (known_in known.new) }
 {
     let mut attributes = object;
@@ -256,7 +256,7 @@ fn container_at(
     known: &mut Places,
 ) -> Result<u32, SchemaError>
     ensures { Reads (λ p. p) result
-        (container_of container (type_of depth space.now) (members_view attributes.entries) (known_in known.old) (length nodes.old.items))
+        (container_at container (type_at depth space.now) (members_view attributes.entries) (known_in known.old) (length nodes.old.items))
         (nodes_view nodes.old.items) (nodes_view nodes.new.items) (known_in known.new) }
 {
     let mut rest = attributes;
@@ -281,7 +281,7 @@ fn union_at(
     known: &mut Places,
 ) -> Result<u32, SchemaError>
     ensures { Reads (λ p. p) result
-        (union_of (type_of depth space.now) (items_view items.items) (known_in known.old) (length nodes.old.items))
+        (union_at (type_at depth space.now) (items_view items.items) (known_in known.old) (length nodes.old.items))
         (nodes_view nodes.old.items) (nodes_view nodes.new.items) (known_in known.new) }
 {
     let place = room(nodes)?;
@@ -305,7 +305,7 @@ fn branches_at(
     known: &mut Places,
 ) -> Result<Vec<(u32, u64)>, SchemaError>
     ensures { Reads (λ v. v.items) result
-        (parts_of (branch_of (type_of depth space.now)) (items_view items.items) (known_in known.old) (length nodes.old.items))
+        (parts_of (branch_of (type_at depth space.now)) (items_view items.items) (known_in known.old) (length nodes.old.items))
         (nodes_view nodes.old.items) (nodes_view nodes.new.items) (known_in known.new) }
 {
     let mut branches = Vec::with_capacity(alloc, items.len())?;
@@ -325,7 +325,7 @@ fn branch_at(
     known: &mut Places,
 ) -> Result<(u32, u64), SchemaError>
     ensures { Reads (λ b. b) result
-        (branch_of (type_of depth space.now) (view value) (known_in known.old) (length nodes.old.items))
+        (branch_of (type_at depth space.now) (view value) (known_in known.old) (length nodes.old.items))
         (nodes_view nodes.old.items) (nodes_view nodes.new.items) (known_in known.new) }
 {
     let before = nodes.len();
@@ -346,7 +346,7 @@ fn record_at(
     known: &mut Places,
 ) -> Result<u32, SchemaError>
     ensures { Reads (λ p. p) result
-        (record_of (type_of depth) space.now (members_view attributes.entries) (known_in known.old) (length nodes.old.items))
+        (record_at (type_at depth) space.now (members_view attributes.entries) (known_in known.old) (length nodes.old.items))
         (nodes_view nodes.old.items) (nodes_view nodes.new.items) (known_in known.new) }
 {
     let mut rest = attributes;
@@ -385,7 +385,7 @@ fn fields_at(
     known: &mut Places,
 ) -> Result<Vec<Field>, SchemaError>
     ensures { Reads (λ v. map field_view v.items) result
-        (parts_of (field_of (type_of depth space.now)) (items_view items.items) (known_in known.old) (length nodes.old.items))
+        (parts_of (field_of (type_at depth space.now)) (items_view items.items) (known_in known.old) (length nodes.old.items))
         (nodes_view nodes.old.items) (nodes_view nodes.new.items) (known_in known.new) }
 {
     let mut fields = Vec::with_capacity(alloc, items.len())?;
@@ -405,7 +405,7 @@ fn field_at(
     known: &mut Places,
 ) -> Result<Field, SchemaError>
     ensures { Reads field_view result
-        (field_of (type_of depth space.now) (view value) (known_in known.old) (length nodes.old.items))
+        (field_of (type_at depth space.now) (view value) (known_in known.old) (length nodes.old.items))
         (nodes_view nodes.old.items) (nodes_view nodes.new.items) (known_in known.new) }
 {
     let Some(mut rest) = members_of(value) else {

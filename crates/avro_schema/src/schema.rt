@@ -28,13 +28,13 @@ pub struct Schema {
 
 impl Model for Schema {
     ghost use Rattle.std.specs.Prelude.{List, string_bytes};
-    ghost use Rattle.avro_nodes.specs.declared.node.Node.{Node as NodeData};
+    ghost use Rattle.avro_nodes.specs.declared.node.Node.{Node};
     ghost use Rattle.std.specs.Coded.{coded_list};
-    ghost use Rattle.avro_nodes.specs.contracts.node.Node.{the_row as node_row};
+    ghost use Rattle.avro_nodes.specs.contracts.node.Node.{the_row};
 
-    ghost Value = { List NodeData };
+    ghost Value = { List Node };
 
-    ghost coded = { coded_list node_row.coded };
+    ghost coded = { coded_list the_row.coded };
 
     ghost use Rattle.avro_nodes.specs.Nodes.{nodes_view};
     ghost use Rattle.avro_schema.specs.Texts.{Keeps};

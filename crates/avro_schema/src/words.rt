@@ -1,6 +1,6 @@
 //! The words of a declaration.
 ghost use Rattle.std.specs.Prelude.{◌≡◌, Some, None};
-ghost use Rattle.avro_schema.specs.Words.{kind_of as kind_named, word_of as word_named, order_of as order_named};
+ghost use Rattle.avro_schema.specs.Words.{kind_of, word_of, order_of};
 
 use avro_nodes::{Kind, Order};
 
@@ -35,7 +35,7 @@ pub enum Container {
 /// The primitive type of this name.
 #[tactic(auto, unfolding(crate::specs::Words::kind_of))]
 pub fn kind_of(name: &str) -> Option<Kind>
-    ensures { result ≡ kind_named name.now }
+    ensures { result ≡ kind_of name.now }
 {
     if name == "null" {
         Some(Kind::Null)
@@ -61,7 +61,7 @@ pub fn kind_of(name: &str) -> Option<Kind>
 /// What the word says in an object's `type`.
 #[tactic(auto, unfolding(crate::specs::Words::word_of))]
 pub fn word_of(name: &str) -> Word
-    ensures { result ≡ word_named name.now }
+    ensures { result ≡ word_of name.now }
 {
     if let Some(kind) = kind_of(name) {
         return Word::Primitive(kind);
@@ -84,7 +84,7 @@ pub fn word_of(name: &str) -> Word
 /// The sort order of this name.
 #[tactic(auto, unfolding(crate::specs::Words::order_of))]
 pub fn order_of(name: &str) -> Option<Order>
-    ensures { result ≡ order_named name.now }
+    ensures { result ≡ order_of name.now }
 {
     if name == "ascending" {
         Some(Order::Ascending)
