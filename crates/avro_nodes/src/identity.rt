@@ -2,183 +2,25 @@
 //! stands where it is first reached, and names are full names (Avro 1.11 specification, Schema
 //! Declaration, Names; the form is this project's choice).
 
-ghost use Rattle.std.specs.Prelude.{IsTrue, ◌≡◌, ◌<◌, ◌≤◌, ℕ, List, length, option_map, string_bytes, slice_get, IfSome, IfOk, OnOk, map};
-ghost use Rattle.json.specs.Token.{Token};
-ghost use Rattle.serde_json.specs.Data.{Items, array};
-ghost use Rattle.serde_json.specs.View.{members_view};
-ghost use Rattle.serde_json.specs.Written.{WritesValue};
+ghost use Rattle.std.specs.Prelude.{IsTrue, ◌≡◌, ◌<◌, ◌≤◌, length, option_map, string_bytes, slice_get, IfSome, IfOk, OnOk, map};
 ghost use Rattle.avro_nodes.specs.Whole.{has_whole_numbers};
-ghost use Rattle.avro_nodes.specs.Nodes.{texts_view, named_view, field_view, node_view, nodes_view};
-ghost use Rattle.avro_nodes.specs.Identity.{kind_text, primitive_value, array_value, map_value, enum_value, fixed_value, record_value, field_value, name_of, spelt_at, branch_items, field_items, identity, nodes_pass};
-ghost use Rattle.avro_nodes.specs.Objects.{merged, Ends, Awaits, array_end, record_end, WritesSpelt, spelt_array};
+ghost use Rattle.avro_nodes.specs.Nodes.{field_view, node_view, nodes_view};
+ghost use Rattle.avro_nodes.specs.Identity.{name_of, spelt_at, branch_items, field_items, identity, nodes_pass};
+ghost use Rattle.avro_nodes.specs.Objects.{WritesSpelt, spelt_array};
 
-use crate::attributes::{
-    write_aliases, write_default, write_fallback, write_name, write_namespace, write_order,
-    write_text, write_texts,
-};
 use crate::compact::Compact;
 use crate::error::OutOfMemory;
+use crate::identity::types::{
+    begin_array, begin_field, begin_map, begin_record, end_array, end_record, write_enum,
+    write_fixed, write_primitive,
+};
 use crate::limits::MAX_NESTING;
 use crate::names::namespace_of;
-use crate::node::{Extra, Field, Kind, Named, Node};
-use crate::value::{Others, others_of, write_rest};
+use crate::node::{Field, Node};
+use crate::value::write_rest;
 use std::alloc::{AllocError, Global};
 
-fn kind_text(kind: Kind) -> &'static str
-    ensures { result.now ≡ kind_text kind }
-{
-    match kind {
-        Kind::Null => "null",
-        Kind::Boolean => "boolean",
-        Kind::Int => "int",
-        Kind::Long => "long",
-        Kind::Float => "float",
-        Kind::Double => "double",
-        Kind::Bytes => "bytes",
-        Kind::Text => "string",
-    }
-}
-
-fn write_primitive(out: &mut Compact, kind: Kind, extra: &Extra) -> Result<(), AllocError>
-    ensures { OnOk result (WritesValue (primitive_value kind (members_view extra.now.entries))
-        out.old out.new) }
-{
-    if extra.is_empty() {
-        return out.string(kind_text(kind));
-    }
-    let mut others = others_of(extra);
-    out.begin_object()?;
-    write_text(out, &mut others, "type", kind_text(kind))?;
-    write_rest(out, others)
-}
-
-fn write_enum(
-    out: &mut Compact,
-    enclosing: &str,
-    named: &Named,
-    symbols: &[String],
-    fallback: &Option<String>,
-    extra: &Extra,
-) -> Result<(), AllocError>
-    ensures { OnOk result (WritesValue (enum_value enclosing.now (named_view named.now)
-        (texts_view symbols.now) (option_map string_bytes fallback.now)
-        (members_view extra.now.entries)) out.old out.new) }
-{
-    let name = named.name.as_str();
-    let mut others = others_of(extra);
-    out.begin_object()?;
-    write_aliases(out, &mut others, &named.aliases)?;
-    write_fallback(out, &mut others, fallback)?;
-    write_text(out, &mut others, "name", name)?;
-    write_namespace(out, &mut others, enclosing, name)?;
-    write_name(out, &mut others, "symbols")?;
-    write_texts(out, symbols)?;
-    write_text(out, &mut others, "type", "enum")?;
-    write_rest(out, others)
-}
-
-fn write_fixed(
-    out: &mut Compact,
-    enclosing: &str,
-    named: &Named,
-    size: u32,
-    extra: &Extra,
-) -> Result<(), AllocError>
-    ensures { OnOk result (WritesValue (fixed_value enclosing.now (named_view named.now) size
-        (members_view extra.now.entries)) out.old out.new) }
-{
-    let name = named.name.as_str();
-    let mut others = others_of(extra);
-    out.begin_object()?;
-    write_aliases(out, &mut others, &named.aliases)?;
-    write_text(out, &mut others, "name", name)?;
-    write_namespace(out, &mut others, enclosing, name)?;
-    write_name(out, &mut others, "size")?;
-    out.unsigned(u64::from(size))?;
-    write_text(out, &mut others, "type", "fixed")?;
-    write_rest(out, others)
-}
-
-// An array up to its items, which are to be written next.
-fn begin_array<'a>(out: &mut Compact, extra: &'a Extra) -> Result<Others<'a>, AllocError>
-    ensures { IfOk result (λ others. Awaits
-        (λ items. array_value items (members_view extra.now.entries))
-        (merged array_end (members_view others)) out.old out.new) }
-{
-    let mut others = others_of(extra);
-    out.begin_object()?;
-    write_name(out, &mut others, "items")?;
-    Ok(others)
-}
-
-fn end_array(out: &mut Compact, mut others: Others<'_>) -> Result<(), AllocError>
-    ensures { OnOk result (Ends (merged array_end (members_view others.entry)) out.old out.new) }
-{
-    write_text(out, &mut others, "type", "array")?;
-    write_rest(out, others)
-}
-
-// A map up to its values, which are to be written next.
-fn begin_map<'a>(out: &mut Compact, extra: &'a Extra) -> Result<Others<'a>, AllocError>
-    ensures { IfOk result (λ others. Awaits
-        (λ values. map_value values (members_view extra.now.entries))
-        (members_view others) out.old out.new) }
-{
-    let mut others = others_of(extra);
-    out.begin_object()?;
-    write_text(out, &mut others, "type", "map")?;
-    write_name(out, &mut others, "values")?;
-    Ok(others)
-}
-
-// A record up to its fields, which are to be written next.
-fn begin_record<'a>(
-    out: &mut Compact,
-    named: &Named,
-    extra: &'a Extra,
-) -> Result<Others<'a>, AllocError>
-    ensures { IfOk result (λ others. (enclosing : List ℕ) (fields : Items) (new end : List Token)
-        → WritesValue (array fields) out.new new
-        → Ends (merged (record_end enclosing (string_bytes named.now.name)) (members_view others)) new end
-        → WritesValue (record_value enclosing (named_view named.now) fields
-        (members_view extra.now.entries)) out.old end) }
-{
-    let mut others = others_of(extra);
-    out.begin_object()?;
-    write_aliases(out, &mut others, &named.aliases)?;
-    write_name(out, &mut others, "fields")?;
-    Ok(others)
-}
-
-fn end_record(
-    out: &mut Compact,
-    mut others: Others<'_>,
-    enclosing: &str,
-    name: &str,
-) -> Result<(), AllocError>
-    ensures { OnOk result (Ends (merged (record_end enclosing.now name.now)
-        (members_view others.entry)) out.old out.new) }
-{
-    write_text(out, &mut others, "name", name)?;
-    write_namespace(out, &mut others, enclosing, name)?;
-    write_text(out, &mut others, "type", "record")?;
-    write_rest(out, others)
-}
-
-// A field up to its type, which is to be written next.
-fn begin_field<'a>(out: &mut Compact, field: &'a Field) -> Result<Others<'a>, AllocError>
-    ensures { IfOk result (λ others. Awaits (field_value (field_view field.now))
-        (members_view others) out.old out.new) }
-{
-    let mut others = others_of(&field.extra);
-    out.begin_object()?;
-    write_aliases(out, &mut others, &field.aliases)?;
-    write_default(out, &mut others, &field.value)?;
-    write_text(out, &mut others, "name", field.name.as_str())?;
-    write_order(out, &mut others, field.order)?;
-    write_name(out, &mut others, "type")?;
-    Ok(others)
-}
+mod types;
 
 fn name_of(nodes: &[Node], place: usize) -> &str
     ensures { result.now ≡ name_of (slice_get (nodes_view nodes.now) place) }

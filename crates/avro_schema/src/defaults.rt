@@ -1,99 +1,30 @@
 //! Which JSON values fit a type as a default.
-ghost use Rattle.std.specs.Prelude.{◌≡◌, ◌&&◌, ◌==◌, length, map, option_map, option_and_then, Some, IfOk, IfSome, slice_get, string_bytes};
+
+ghost use Rattle.std.specs.Prelude.{◌≡◌, map, Some, IfOk, IfSome, slice_get, string_bytes};
 ghost use Rattle.std.specs.List.{list_all};
-ghost use Rattle.std.specs.Str.{chars};
 ghost use Rattle.serde_json.specs.Find.{get_member};
 ghost use Rattle.serde_json.specs.View.{view, items_view, members_view};
 ghost use Rattle.avro_nodes.specs.Nodes.{field_view, node_view, nodes_view};
-ghost use Rattle.avro_schema.specs.Fitting.{primitive_fits, items_fit, members_fit, field_fits_by, fields_fit, node_fits, entered, fits, field_defaults_fit, node_default_fits, node_defaults_fit};
-ghost use Rattle.avro_schema.specs.Defaults.{is_bytes};
+ghost use Rattle.avro_schema.specs.Fitting.{items_fit, members_fit, field_fits_by, fields_fit, node_fits, fits, node_defaults_fit};
 ghost use Rattle.avro_schema.specs.Tables.{IsTable, IsTableOf, AreTables, fits_if_any, index_fits, named_fit, named_in};
 
 use crate::attributes::find;
+use crate::defaults::fields::node_default_fits;
+use crate::defaults::lookups::{entered, table_at};
+use crate::defaults::primitives::{is_bytes_of, primitive_fits};
 use crate::tables::{FieldTable, tables_of};
-use avro_nodes::{Extra, Field, Kind, MAX_NESTING, Node};
+use avro_nodes::{Extra, Field, Node};
 use serde_json::Value;
 use std::alloc::{AllocError, Global};
 
-/// Whether each code point stands for a byte.
-fn is_bytes(text: &str) -> bool
-    ensures { result ≡ is_bytes text.now }
-{
-    text.chars().all(|c| (c as u32) < 256)
-}
-
-fn char_count(text: &str) -> usize
-    ensures { result ≡ length (chars text.now) }
-{
-    text.chars().count()
-}
-
-/// Whether the text has so many code points, each of which stands for a byte.
-fn is_bytes_of(text: &str, size: u32) -> bool
-    ensures { result ≡ (is_bytes text.now && (length (chars text.now) == size)) }
-{
-    is_bytes(text) && char_count(text) == size as usize
-}
-
-/// Whether the value fits a primitive type.
-fn primitive_fits(value: &Value, kind: Kind) -> bool
-    ensures { result ≡ primitive_fits (view value.now) kind }
-{
-    match kind {
-        Kind::Null => value.is_null(),
-        Kind::Boolean => value.is_boolean(),
-        Kind::Int => match value.as_i64() {
-            Some(number) => -2147483648 <= number && number <= 2147483647,
-            None => false,
-        },
-        Kind::Long | Kind::Float | Kind::Double => value.as_i64().is_some(),
-        Kind::Bytes => match value.as_str() {
-            Some(text) => is_bytes(text),
-            None => false,
-        },
-        Kind::Text => value.is_string(),
-    }
-}
-
-/// The type at the place, or where that is a union its first branch, with the place where it is.
-fn entered(nodes: &[Node], place: u32) -> Option<(u32, &Node)>
-    ensures node { option_map (λ p. node_view p.1.now) result
-        ≡ entered (nodes_view nodes.now) (slice_get (nodes_view nodes.now) place) }
-    ensures place { IfSome result (λ p. slice_get (nodes_view nodes.now) p.0 ≡ Some (node_view p.1.now)) }
-{
-    match nodes.get(place as usize) {
-        Some(Node::Union { branches }) => {
-            let first = *branches.first()?;
-            Some((first, nodes.get(first as usize)?))
-        }
-        Some(node) => Some((place, node)),
-        None => None,
-    }
-}
-
-/// The table of the node at the place, where it has one.
-#[tactic(auto, unfolding(crate::specs::Tables::AreTables))]
-fn table_at<'a, 'b>(
-    tables: &'a [Option<FieldTable<'b>>],
-    place: u32,
-    nodes: &[Node],
-    node: &Node,
-) -> Option<&'a FieldTable<'b>>
-    requires tables { AreTables (nodes_view nodes.now) tables.now }
-    requires node { slice_get (nodes_view nodes.now) place ≡ Some (node_view node.now) }
-    ensures { IfSome result (λ t. IsTableOf t.now (node_view node.now)) }
-{
-    match tables.get(place as usize) {
-        Some(Some(table)) => Some(table),
-        Some(None) => None,
-        None => None,
-    }
-}
+mod fields;
+mod lookups;
+mod primitives;
 
 /// Whether the value, which nests less deep than the number, fits the type at the place.
 #[cycle(fit)]
 #[tactic(auto, unfolding(crate::specs::Fitting::fits))]
-fn fits(
+pub fn fits(
     value: &Value,
     place: u32,
     nodes: &[Node],
@@ -323,36 +254,6 @@ fn field_fits(
     match find(members, field.name.as_str()) {
         Some(value) => fits(value, field.place, nodes, tables, depth),
         None => field.value.is_some(),
-    }
-}
-
-/// Whether each default of the fields fits its field.
-fn field_defaults_fit(fields: &[Field], nodes: &[Node], tables: &[Option<FieldTable>]) -> bool
-    requires tables { AreTables (nodes_view nodes.now) tables.now }
-    ensures { result ≡ field_defaults_fit (nodes_view nodes.now) (map field_view fields.now) }
-{
-    for field in fields {
-        if let Some(value) = &field.value
-            && !fits(value, field.place, nodes, tables, MAX_NESTING + 1)
-        {
-            return false;
-        }
-    }
-    true
-}
-
-fn node_default_fits(node: &Node, nodes: &[Node], tables: &[Option<FieldTable>]) -> bool
-    requires tables { AreTables (nodes_view nodes.now) tables.now }
-    ensures { result ≡ node_default_fits (nodes_view nodes.now) (node_view node.now) }
-{
-    match node {
-        Node::Rec { fields, .. } => field_defaults_fit(fields, nodes, tables),
-        Node::Primitive { .. }
-        | Node::Array { .. }
-        | Node::Map { .. }
-        | Node::Union { .. }
-        | Node::Enum { .. }
-        | Node::Fixed { .. } => true,
     }
 }
 

@@ -1,175 +1,28 @@
 //! From a JSON value to the nodes of a type.
-ghost use Rattle.std.specs.Prelude.{◌≡◌, ◌<◌, length, map, Some, None, option_map, string_bytes, slice_set, true, false};
+
+ghost use Rattle.std.specs.Prelude.{length, map};
 ghost use Rattle.serde_json.specs.View.{view, items_view, members_view};
-ghost use Rattle.avro_nodes.specs.Nodes.{field_view, node_view, nodes_view};
-ghost use Rattle.avro_nodes.specs.Names.{namespace_of};
+ghost use Rattle.avro_nodes.specs.Nodes.{field_view, nodes_view};
 ghost use Rattle.avro_schema.specs.Parts.{parts_of};
-ghost use Rattle.avro_schema.specs.Kinds.{kind_number, branch_kind};
-ghost use Rattle.avro_schema.specs.Reading.{reference_to, primitive_at, name_at, container_at, container_node, key_of, branch_of, union_at, field_at, field_of, record_at, object_at, type_at};
-ghost use Rattle.avro_schema.specs.Definitions.{label_view};
+ghost use Rattle.avro_schema.specs.Reading.{container_at, branch_of, union_at, field_of, record_at, object_at, type_at};
 ghost use Rattle.avro_schema.specs.Outcome.{Reads, known_in};
 
 use crate::attributes::{members_of, take, take_items, take_text};
-use crate::definitions::{Label, bound, enum_at, fixed_at, label_of, named_of, others, room};
+use crate::definitions::{bound, enum_at, fixed_at, label_of, named_of, others, room};
 use crate::distinct::{kinds_differ, texts_differ};
 use crate::error::SchemaError;
-use crate::names::{Places, define, resolve};
-use crate::words::{Container, Word, kind_of, word_of};
-use avro_nodes::{Extra, Field, Kind, Node, namespace_of};
+use crate::names::{Places, define};
+use crate::reading::kinds::{branch_kind, key_of};
+use crate::reading::names::{name_at, primitive_at, reference_to};
+use crate::reading::nodes::{blank, container_node, field_from, settle};
+use crate::words::{Container, Word, word_of};
+use avro_nodes::{Extra, Field, Node, namespace_of};
 use serde_json::Value;
 use std::alloc::Global;
 
-/// Reads a primitive type, whose other attributes are left.
-#[tactic(auto, unfolding(crate::specs::Reading::primitive_at))]
-fn primitive_at(
-    alloc: Global,
-    kind: Kind,
-    attributes: Extra,
-    nodes: &mut Vec<Node>,
-    known: &Places,
-) -> Result<u32, SchemaError>
-    ensures { Reads (λ p. p) result
-        (primitive_at kind (members_view attributes.entries) (known_in known.now) (length nodes.old.items))
-        (nodes_view nodes.old.items) (nodes_view nodes.new.items) (known_in known.now) }
-{
-    let place = room(nodes)?;
-    let extra = others(alloc, attributes)?;
-    nodes.push(Node::Primitive { kind, extra })?;
-    Ok(place)
-}
-
-/// Finds what a reference names.
-#[tactic(auto, unfolding(crate::specs::Reading::reference_to))]
-fn reference_to(
-    alloc: Global,
-    name: &str,
-    space: &str,
-    nodes: &Vec<Node>,
-    known: &Places,
-) -> Result<u32, SchemaError>
-    ensures { Reads (λ p. p) result (reference_to space.now name.now (known_in known.now))
-        (nodes_view nodes.now.items) (nodes_view nodes.now.items) (known_in known.now) }
-{
-    match resolve(alloc, known, space, name)? {
-        Some(place) => Ok(place),
-        None => Err(SchemaError::Undefined),
-    }
-}
-
-/// Reads a string: a primitive's name, or else a reference.
-#[tactic(auto, unfolding(crate::specs::Reading::name_at))]
-fn name_at(
-    alloc: Global,
-    name: &str,
-    space: &str,
-    nodes: &mut Vec<Node>,
-    known: &Places,
-) -> Result<u32, SchemaError>
-    ensures { Reads (λ p. p) result
-        (name_at space.now name.now (known_in known.now) (length nodes.old.items))
-        (nodes_view nodes.old.items) (nodes_view nodes.new.items) (known_in known.now) }
-{
-    match kind_of(name) {
-        Some(kind) => primitive_at(alloc, kind, Extra::new(alloc), nodes, known),
-        None => reference_to(alloc, name, space, nodes, known),
-    }
-}
-
-/// A number for each primitive type.
-fn kind_number(kind: Kind) -> u32
-    ensures { result ≡ kind_number kind }
-{
-    match kind {
-        Kind::Null => 0,
-        Kind::Boolean => 1,
-        Kind::Int => 2,
-        Kind::Long => 3,
-        Kind::Float => 4,
-        Kind::Double => 5,
-        Kind::Bytes => 6,
-        Kind::Text => 7,
-    }
-}
-
-/// The kind of a branch at the place that added these nodes: a number that two branches share
-/// where a union may not hold both.
-#[tactic(auto, unfolding(crate::specs::Kinds::branch_kind))]
-fn branch_kind(place: u32, added: &[Node]) -> Option<u64>
-    ensures { result ≡ branch_kind place (nodes_view added.now) }
-{
-    match added.first() {
-        None => Some(10 + u64::from(place)),
-        Some(node) => match node {
-            Node::Primitive { kind, .. } => Some(u64::from(kind_number(*kind))),
-            Node::Array { .. } => Some(8),
-            Node::Map { .. } => Some(9),
-            Node::Union { .. } => None,
-            Node::Enum { .. } | Node::Fixed { .. } | Node::Rec { .. } => {
-                Some(10 + u64::from(place))
-            }
-        },
-    }
-}
-
-/// The attribute that holds what an array or a map is of.
-fn key_of(container: Container) -> &'static str
-    ensures { result.now ≡ key_of container }
-{
-    match container {
-        Container::Items => "items",
-        Container::Values => "values",
-    }
-}
-
-fn container_node(container: Container, place: u32, extra: Extra) -> Node
-    ensures { node_view result ≡ container_node container place (members_view extra.entries) }
-{
-    match container {
-        Container::Items => Node::Array {
-            items: place,
-            extra,
-        },
-        Container::Values => Node::Map {
-            values: place,
-            extra,
-        },
-    }
-}
-
-/// A node that stands until the types inside it are read.
-fn blank(alloc: Global) -> Node {
-    Node::Union {
-        branches: Vec::new(alloc),
-    }
-}
-
-/// Puts a node in the place of the one that stands there.
-fn settle(nodes: &mut Vec<Node>, place: u32, node: Node)
-    requires { place < length nodes.old.items }
-    ensures { nodes_view nodes.new.items
-        ≡ slice_set (nodes_view nodes.old.items) place (node_view node) }
-{
-    nodes[place as usize] = node;
-}
-
-fn field_from(label: Label, place: u32, extra: Extra) -> Field
-    ensures { field_view result ≡ field_at (label_view label) place (members_view extra.entries) }
-{
-    let Label {
-        name,
-        aliases,
-        order,
-        value,
-    } = label;
-    Field {
-        name,
-        place,
-        aliases,
-        order,
-        value,
-        extra,
-    }
-}
+mod kinds;
+mod names;
+mod nodes;
 
 /// Reads a type, nested no deeper than the number, and answers its place.
 #[cycle(read)]

@@ -3,9 +3,9 @@ use Rattle.std.specs.Prelude.{[], ◌∷◌, map}
 use Rattle.sqlite.specs.Table.{Table}
 use Rattle.sqlite_schema.specs.declared.schema.Column.{Column}
 use Rattle.sqlite_schema.specs.declared.schema.Index.{Index}
-use Rattle.reg_tables.specs.declared.declared.ColumnForm.{ColumnForm}
-use Rattle.reg_tables.specs.declared.declared.ColumnForm.TheVariants.{Nullable, Required}
-use Rattle.reg_tables.specs.declared.declared.TableForm.{TableForm}
+use Rattle.reg_tables.specs.declared.declared.forms.ColumnForm.{ColumnForm}
+use Rattle.reg_tables.specs.declared.declared.forms.ColumnForm.TheVariants.{Nullable, Required}
+use Rattle.reg_tables.specs.declared.declared.forms.TableForm.{TableForm}
 use Rattle.reg_tables.specs.Layout.{column, required, keyed_table, automatic_index}
 
 -- the column of a STRICT table

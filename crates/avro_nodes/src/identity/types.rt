@@ -1,0 +1,184 @@
+//! What an identity text writes of a type, but for the types that it is made of.
+
+ghost use Rattle.std.specs.Prelude.{◌≡◌, ℕ, List, option_map, string_bytes, IfOk, OnOk};
+ghost use Rattle.json.specs.Token.{Token};
+ghost use Rattle.serde_json.specs.Data.{Items, array};
+ghost use Rattle.serde_json.specs.View.{members_view};
+ghost use Rattle.serde_json.specs.Written.{WritesValue};
+ghost use Rattle.avro_nodes.specs.Nodes.{texts_view, named_view, field_view};
+ghost use Rattle.avro_nodes.specs.Identity.{kind_text, primitive_value, array_value, map_value, enum_value, fixed_value, record_value, field_value};
+ghost use Rattle.avro_nodes.specs.Objects.{merged, Ends, Awaits, array_end, record_end};
+
+use crate::attributes::{
+    write_aliases, write_default, write_fallback, write_name, write_namespace, write_order,
+    write_text, write_texts,
+};
+use crate::compact::Compact;
+use crate::node::{Extra, Field, Kind, Named};
+use crate::value::{Others, others_of, write_rest};
+use std::alloc::AllocError;
+
+fn kind_text(kind: Kind) -> &'static str
+    ensures { result.now ≡ kind_text kind }
+{
+    match kind {
+        Kind::Null => "null",
+        Kind::Boolean => "boolean",
+        Kind::Int => "int",
+        Kind::Long => "long",
+        Kind::Float => "float",
+        Kind::Double => "double",
+        Kind::Bytes => "bytes",
+        Kind::Text => "string",
+    }
+}
+
+/// Writes a primitive type: its name, or an object where it has other attributes.
+pub fn write_primitive(out: &mut Compact, kind: Kind, extra: &Extra) -> Result<(), AllocError>
+    ensures { OnOk result (WritesValue (primitive_value kind (members_view extra.now.entries))
+        out.old out.new) }
+{
+    if extra.is_empty() {
+        return out.string(kind_text(kind));
+    }
+    let mut others = others_of(extra);
+    out.begin_object()?;
+    write_text(out, &mut others, "type", kind_text(kind))?;
+    write_rest(out, others)
+}
+
+/// Writes an enum.
+pub fn write_enum(
+    out: &mut Compact,
+    enclosing: &str,
+    named: &Named,
+    symbols: &[String],
+    fallback: &Option<String>,
+    extra: &Extra,
+) -> Result<(), AllocError>
+    ensures { OnOk result (WritesValue (enum_value enclosing.now (named_view named.now)
+        (texts_view symbols.now) (option_map string_bytes fallback.now)
+        (members_view extra.now.entries)) out.old out.new) }
+{
+    let name = named.name.as_str();
+    let mut others = others_of(extra);
+    out.begin_object()?;
+    write_aliases(out, &mut others, &named.aliases)?;
+    write_fallback(out, &mut others, fallback)?;
+    write_text(out, &mut others, "name", name)?;
+    write_namespace(out, &mut others, enclosing, name)?;
+    write_name(out, &mut others, "symbols")?;
+    write_texts(out, symbols)?;
+    write_text(out, &mut others, "type", "enum")?;
+    write_rest(out, others)
+}
+
+/// Writes a fixed.
+pub fn write_fixed(
+    out: &mut Compact,
+    enclosing: &str,
+    named: &Named,
+    size: u32,
+    extra: &Extra,
+) -> Result<(), AllocError>
+    ensures { OnOk result (WritesValue (fixed_value enclosing.now (named_view named.now) size
+        (members_view extra.now.entries)) out.old out.new) }
+{
+    let name = named.name.as_str();
+    let mut others = others_of(extra);
+    out.begin_object()?;
+    write_aliases(out, &mut others, &named.aliases)?;
+    write_text(out, &mut others, "name", name)?;
+    write_namespace(out, &mut others, enclosing, name)?;
+    write_name(out, &mut others, "size")?;
+    out.unsigned(u64::from(size))?;
+    write_text(out, &mut others, "type", "fixed")?;
+    write_rest(out, others)
+}
+
+// An array up to its items, which are to be written next.
+/// Writes an array up to its items.
+pub fn begin_array<'a>(out: &mut Compact, extra: &'a Extra) -> Result<Others<'a>, AllocError>
+    ensures { IfOk result (λ others. Awaits
+        (λ items. array_value items (members_view extra.now.entries))
+        (merged array_end (members_view others)) out.old out.new) }
+{
+    let mut others = others_of(extra);
+    out.begin_object()?;
+    write_name(out, &mut others, "items")?;
+    Ok(others)
+}
+
+/// Writes the rest of an array.
+pub fn end_array(out: &mut Compact, mut others: Others<'_>) -> Result<(), AllocError>
+    ensures { OnOk result (Ends (merged array_end (members_view others.entry)) out.old out.new) }
+{
+    write_text(out, &mut others, "type", "array")?;
+    write_rest(out, others)
+}
+
+// A map up to its values, which are to be written next.
+/// Writes a map up to its values.
+pub fn begin_map<'a>(out: &mut Compact, extra: &'a Extra) -> Result<Others<'a>, AllocError>
+    ensures { IfOk result (λ others. Awaits
+        (λ values. map_value values (members_view extra.now.entries))
+        (members_view others) out.old out.new) }
+{
+    let mut others = others_of(extra);
+    out.begin_object()?;
+    write_text(out, &mut others, "type", "map")?;
+    write_name(out, &mut others, "values")?;
+    Ok(others)
+}
+
+// A record up to its fields, which are to be written next.
+/// Writes a record up to its fields.
+pub fn begin_record<'a>(
+    out: &mut Compact,
+    named: &Named,
+    extra: &'a Extra,
+) -> Result<Others<'a>, AllocError>
+    ensures { IfOk result (λ others. (enclosing : List ℕ) (fields : Items) (new end : List Token)
+        → WritesValue (array fields) out.new new
+        → Ends (merged (record_end enclosing (string_bytes named.now.name)) (members_view others)) new end
+        → WritesValue (record_value enclosing (named_view named.now) fields
+        (members_view extra.now.entries)) out.old end) }
+{
+    let mut others = others_of(extra);
+    out.begin_object()?;
+    write_aliases(out, &mut others, &named.aliases)?;
+    write_name(out, &mut others, "fields")?;
+    Ok(others)
+}
+
+/// Writes the rest of a record.
+pub fn end_record(
+    out: &mut Compact,
+    mut others: Others<'_>,
+    enclosing: &str,
+    name: &str,
+) -> Result<(), AllocError>
+    ensures { OnOk result (Ends (merged (record_end enclosing.now name.now)
+        (members_view others.entry)) out.old out.new) }
+{
+    write_text(out, &mut others, "name", name)?;
+    write_namespace(out, &mut others, enclosing, name)?;
+    write_text(out, &mut others, "type", "record")?;
+    write_rest(out, others)
+}
+
+// A field up to its type, which is to be written next.
+/// Writes a field up to its type.
+pub fn begin_field<'a>(out: &mut Compact, field: &'a Field) -> Result<Others<'a>, AllocError>
+    ensures { IfOk result (λ others. Awaits (field_value (field_view field.now))
+        (members_view others) out.old out.new) }
+{
+    let mut others = others_of(&field.extra);
+    out.begin_object()?;
+    write_aliases(out, &mut others, &field.aliases)?;
+    write_default(out, &mut others, &field.value)?;
+    write_text(out, &mut others, "name", field.name.as_str())?;
+    write_order(out, &mut others, field.order)?;
+    write_name(out, &mut others, "type")?;
+    Ok(others)
+}

@@ -1,0 +1,50 @@
+//! Whether a value fits a primitive type, or a text some bytes.
+
+ghost use Rattle.std.specs.Prelude.{◌≡◌, ◌&&◌, ◌==◌, length};
+ghost use Rattle.std.specs.Str.{chars};
+ghost use Rattle.serde_json.specs.View.{view};
+ghost use Rattle.avro_schema.specs.Fitting.{primitive_fits};
+ghost use Rattle.avro_schema.specs.Defaults.{is_bytes};
+
+use avro_nodes::Kind;
+use serde_json::Value;
+
+/// Whether each code point stands for a byte.
+fn is_bytes(text: &str) -> bool
+    ensures { result ≡ is_bytes text.now }
+{
+    text.chars().all(|c| (c as u32) < 256)
+}
+
+fn char_count(text: &str) -> usize
+    ensures { result ≡ length (chars text.now) }
+{
+    text.chars().count()
+}
+
+/// Whether the text has so many code points, each of which stands for a byte.
+pub fn is_bytes_of(text: &str, size: u32) -> bool
+    ensures { result ≡ (is_bytes text.now && (length (chars text.now) == size)) }
+{
+    is_bytes(text) && char_count(text) == size as usize
+}
+
+/// Whether the value fits a primitive type.
+pub fn primitive_fits(value: &Value, kind: Kind) -> bool
+    ensures { result ≡ primitive_fits (view value.now) kind }
+{
+    match kind {
+        Kind::Null => value.is_null(),
+        Kind::Boolean => value.is_boolean(),
+        Kind::Int => match value.as_i64() {
+            Some(number) => -2147483648 <= number && number <= 2147483647,
+            None => false,
+        },
+        Kind::Long | Kind::Float | Kind::Double => value.as_i64().is_some(),
+        Kind::Bytes => match value.as_str() {
+            Some(text) => is_bytes(text),
+            None => false,
+        },
+        Kind::Text => value.is_string(),
+    }
+}

@@ -1,0 +1,55 @@
+//! The kinds of a union's branches.
+
+ghost use Rattle.std.specs.Prelude.{◌≡◌};
+ghost use Rattle.avro_nodes.specs.Nodes.{nodes_view};
+ghost use Rattle.avro_schema.specs.Kinds.{kind_number, branch_kind};
+ghost use Rattle.avro_schema.specs.Reading.{key_of};
+
+use crate::words::Container;
+use avro_nodes::{Kind, Node};
+
+/// A number for each primitive type.
+fn kind_number(kind: Kind) -> u32
+    ensures { result ≡ kind_number kind }
+{
+    match kind {
+        Kind::Null => 0,
+        Kind::Boolean => 1,
+        Kind::Int => 2,
+        Kind::Long => 3,
+        Kind::Float => 4,
+        Kind::Double => 5,
+        Kind::Bytes => 6,
+        Kind::Text => 7,
+    }
+}
+
+/// The kind of a branch at the place that added these nodes: a number that two branches share
+/// where a union may not hold both.
+#[tactic(auto, unfolding(crate::specs::Kinds::branch_kind))]
+pub fn branch_kind(place: u32, added: &[Node]) -> Option<u64>
+    ensures { result ≡ branch_kind place (nodes_view added.now) }
+{
+    match added.first() {
+        None => Some(10 + u64::from(place)),
+        Some(node) => match node {
+            Node::Primitive { kind, .. } => Some(u64::from(kind_number(*kind))),
+            Node::Array { .. } => Some(8),
+            Node::Map { .. } => Some(9),
+            Node::Union { .. } => None,
+            Node::Enum { .. } | Node::Fixed { .. } | Node::Rec { .. } => {
+                Some(10 + u64::from(place))
+            }
+        },
+    }
+}
+
+/// The attribute that holds what an array or a map is of.
+pub fn key_of(container: Container) -> &'static str
+    ensures { result.now ≡ key_of container }
+{
+    match container {
+        Container::Items => "items",
+        Container::Values => "values",
+    }
+}

@@ -1,0 +1,64 @@
+//! Nodes from what was read of them.
+
+ghost use Rattle.std.specs.Prelude.{◌≡◌, ◌<◌, length, slice_set};
+ghost use Rattle.serde_json.specs.View.{members_view};
+ghost use Rattle.avro_nodes.specs.Nodes.{field_view, node_view, nodes_view};
+ghost use Rattle.avro_schema.specs.Reading.{container_node, field_at};
+ghost use Rattle.avro_schema.specs.Definitions.{label_view};
+
+use crate::definitions::Label;
+use crate::words::Container;
+use avro_nodes::{Extra, Field, Node};
+use std::alloc::Global;
+
+/// The node of an array or a map, of the type at a place.
+pub fn container_node(container: Container, place: u32, extra: Extra) -> Node
+    ensures { node_view result ≡ container_node container place (members_view extra.entries) }
+{
+    match container {
+        Container::Items => Node::Array {
+            items: place,
+            extra,
+        },
+        Container::Values => Node::Map {
+            values: place,
+            extra,
+        },
+    }
+}
+
+/// A node that stands until the types inside it are read.
+pub fn blank(alloc: Global) -> Node {
+    Node::Union {
+        branches: Vec::new(alloc),
+    }
+}
+
+/// Puts a node in the place of the one that stands there.
+pub fn settle(nodes: &mut Vec<Node>, place: u32, node: Node)
+    requires { place < length nodes.old.items }
+    ensures { nodes_view nodes.new.items
+        ≡ slice_set (nodes_view nodes.old.items) place (node_view node) }
+{
+    nodes[place as usize] = node;
+}
+
+/// A field, of the type at a place.
+pub fn field_from(label: Label, place: u32, extra: Extra) -> Field
+    ensures { field_view result ≡ field_at (label_view label) place (members_view extra.entries) }
+{
+    let Label {
+        name,
+        aliases,
+        order,
+        value,
+    } = label;
+    Field {
+        name,
+        place,
+        aliases,
+        order,
+        value,
+        extra,
+    }
+}
