@@ -36,7 +36,7 @@ pub fn branch_kind(place: u32, added: &[Node]) -> Option<u64>
             Node::Primitive { kind, .. } => Some(u64::from(kind_number(*kind))),
             Node::Array { .. } => Some(8),
             Node::Map { .. } => Some(9),
-            Node::Union { .. } => Some(8),
+            Node::Union { .. } => None,
             Node::Enum { .. } | Node::Fixed { .. } | Node::Rec { .. } => {
                 Some(10 + u64::from(place))
             }
