@@ -46,11 +46,6 @@ ends low (r ∷ rows) h =
       },
     )
 
--- fewer is asked of rows that ascend from higher up
-lower : (low high : ℕ) (rows : List Row) → low ≤ high → Ascends high rows → Ascends low rows
-lower low high [] up h = tt
-lower low high (r ∷ rows) up h = (h.0, h.1, omega (arith, h.2), h.3)
-
 -- the rows ascend from here, and the next rowid is no higher than this
 abbrev Shrinks : ℕ → List Row → ℕ → Type 0
 Shrinks start rows next = Ascends start rows × ((after : ℕ) × (next_from start rows ≡ pos after) × (after ≤ next))
