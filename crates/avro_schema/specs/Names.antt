@@ -1,17 +1,18 @@
 -- Names and namespaces, as bytes (Avro 1.11 specification, Names; Aliases). The null namespace is the empty text.
-use Rattle.std.specs.Prelude.{ℕ, List, [], ◌∷◌, ◌++◌, Bool, true, false, ◌&&◌, ◌||◌, ◌==◌, nat_le, if◌then◌else◌, Option, Some, None}
-use Rattle.std.specs.List.{list_all, slice_split}
+use Rattle.std.specs.Prelude.{ℕ, List, [], ◌∷◌, ◌++◌, Bool, true, false, ◌&&◌, ◌||◌, ◌==◌, if◌then◌else◌, Option, Some, None, codes}
+use Rattle.std.specs.Char.{is_ascii_alphabetic, is_ascii_digit}
+use Rattle.std.specs.List.{list_all, list_any, slice_split}
 use Rattle.std.specs.Map.{update}
 use Rattle.std.specs.Str.{bytes_eq}
 use Rattle.avro_nodes.specs.Names.{is_dot, has_dot}
 
--- a letter of `A` to `Z` or `a` to `z`, or `_`
+-- a letter of ASCII, or `_`
 abbrev pub is_start : ℕ → Bool
-is_start c = (nat_le 65 c && nat_le c 90) || (nat_le 97 c && nat_le c 122) || (c == 95)
+is_start c = is_ascii_alphabetic c || list_any (λ mark. c == mark) (codes "_")
 
 -- one of those, or a digit
 abbrev pub is_part : ℕ → Bool
-is_part c = is_start c || (nat_le 48 c && nat_le c 57)
+is_part c = is_start c || is_ascii_digit c
 
 -- a simple name: `[A-Za-z_][A-Za-z0-9_]*`
 unfoldable pub is_simple : List ℕ → Bool
@@ -30,7 +31,7 @@ is_space (c ∷ cs) = is_dotted (c ∷ cs)
 -- the full name that a simple name has in a namespace
 unfoldable pub joined : List ℕ → List ℕ → List ℕ
 joined [] name = name
-joined (c ∷ space) name = c ∷ (space ++ 46 ∷ name)
+joined (c ∷ space) name = c ∷ (space ++ (codes "." ++ name))
 
 -- the names that are defined so far: the place of each, and none for any other name
 abbrev pub Known : Type 0

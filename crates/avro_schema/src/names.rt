@@ -14,13 +14,13 @@ pub type Places = BTreeMap<String, u32>;
 fn is_start(c: u8) -> bool
     ensures { result ≡ is_start c }
 {
-    (65 <= c && c <= 90) || (97 <= c && c <= 122) || c == 95
+    c.is_ascii_alphabetic() || c == b'_'
 }
 
 fn is_part(c: u8) -> bool
     ensures { result ≡ is_part c }
 {
-    is_start(c) || (48 <= c && c <= 57)
+    is_start(c) || c.is_ascii_digit()
 }
 
 /// Whether these are simple names joined by dots.
@@ -35,7 +35,7 @@ pub fn is_dotted(text: &str) -> bool
                 return false;
             }
             fresh = false;
-        } else if *c == 46 {
+        } else if *c == b'.' {
             fresh = true;
         } else if !is_part(*c) {
             return false;
