@@ -7,7 +7,7 @@ use Rattle.std.proofs.lemmas.List.Elements.{All-head, All-tail}
 use Rattle.std.proofs.lemmas.Option.{slice_get_within, get_or_from_slice_get}
 use Rattle.avro_nodes.specs.Nodes.{FieldView, NodeView, primitive, array, mapping, union, enumeration, fixed, rec}
 use Rattle.avro_resolve.specs.Resolution.{Pairs, first_named, source, Fits, Supports}
-use Rattle.avro_resolve.specs.Places.{Names, IsWhole}
+use Rattle.avro_resolve.specs.Places.{Names, NamesAll, IsWhole}
 
 -- each pair of the one set is one of the other
 abbrev pub Within : Pairs → Pairs → Type 0
@@ -38,16 +38,20 @@ named_in P g (name ∷ names) fs h e = or_step P g (find (λ f. bytes_eq f.name 
 
 -- ---- one pair of nodes
 
-module _ (n m : ℕ) (R S : Pairs) (within : WithinBelow n m R S) where
-  match_more : (fields : List FieldView) (f : FieldView) (o : Option FieldView) → source fields f ≡ o → All (λ g. g.place < n) fields → f.place < m
+-- each pair of places that have the two properties
+abbrev WithinAmong : (ℕ → Type 0) → (ℕ → Type 0) → Pairs → Pairs → Type 0
+WithinAmong P Q R S = (i j : ℕ) → P i → Q j → IsTrue (R i j) → IsTrue (S i j)
+
+module _ (P Q : ℕ → Type 0) (R S : Pairs) (within : WithinAmong P Q R S) where
+  match_more : (fields : List FieldView) (f : FieldView) (o : Option FieldView) → source fields f ≡ o → All (λ g. P g.place) fields → Q f.place
       → MatchOption o (IsSome f.value) (λ g. IsTrue (R g.place f.place)) → MatchOption o (IsSome f.value) (λ g. IsTrue (S g.place f.place))
   match_more fields f None e lf lg h = h
-  match_more fields f (Some g) e lf lg h = within g.place f.place (named_in (λ g. g.place < n) g (f.name ∷ f.aliases) fields lf e) lg h
+  match_more fields f (Some g) e lf lg h = within g.place f.place (named_in (λ g. P g.place) g (f.name ∷ f.aliases) fields lf e) lg h
 
-  any_more : (i : ℕ) (places : List ℕ) → i < n → All (λ p. p < m) places → Any (λ p. IsTrue (R i p)) places → Any (λ p. IsTrue (S i p)) places
-  any_more i places li lp (k, x, l, e, h) = (k, x, l, e, within i x li (subst (λ (y : ℕ). y < m) e (lp k x l)) h)
+  any_more : (i : ℕ) (places : List ℕ) → P i → All Q places → Any (λ p. IsTrue (R i p)) places → Any (λ p. IsTrue (S i p)) places
+  any_more i places li lp (k, x, l, e, h) = (k, x, l, e, within i x li (subst Q e (lp k x l)) h)
 
-  pub fits_more : (i j : ℕ) (a b : NodeView) → i < n → j < m → Names n a → Names m b → Fits R i j a b → Fits S i j a b
+  fits_more : (i j : ℕ) (a b : NodeView) → P i → Q j → NamesAll P a → NamesAll Q b → Fits R i j a b → Fits S i j a b
   fits_more i j (union bs) b li lj la lb h = λ k d l. within _ j (la k d l) lj (h k d l)
   fits_more i j (primitive k x) (union bs) li lj la lb h = any_more i bs li lb h
   fits_more i j (array p x) (union bs) li lj la lb h = any_more i bs li lb h
@@ -88,7 +92,7 @@ both_more : (w r : List NodeView) (R S : Pairs) → IsWhole w → IsWhole r → 
 both_more w r R S ww wr within i j None y e f h = h
 both_more w r R S ww wr within i j (Some a) None e f h = h
 both_more w r R S ww wr within i j (Some a) (Some b) e f h =
-    fits_more (length w) (length r) R S within i j a b (slice_get_within w i a e) (slice_get_within r j b f) (at_place w (Names (length w)) i a ww e) (at_place r (Names (length r)) j b wr f) h
+    fits_more (λ p. p < length w) (λ p. p < length r) R S within i j a b (slice_get_within w i a e) (slice_get_within r j b f) (at_place w (Names (length w)) i a ww e) (at_place r (Names (length r)) j b wr f) h
 
 pub supports_below : (w r : List NodeView) (R S : Pairs) → IsWhole w → IsWhole r → WithinBelow (length w) (length r) R S → (i j : ℕ) → Supports w r R i j → Supports w r S i j
 unfolding Supports
@@ -96,29 +100,18 @@ supports_below w r R S ww wr within i j h = both_more w r R S ww wr within i j (
 
 -- ---- a set with each pair of another, wherever it lies
 
+everywhere : (a : NodeView) → NamesAll (λ _. Unit {0}) a
+everywhere (primitive k x) = tt
+everywhere (array p x) = tt
+everywhere (mapping p x) = tt
+everywhere (union bs) = λ k d l. tt
+everywhere (enumeration n s f x) = tt
+everywhere (fixed n s x) = tt
+everywhere (rec n fs x) = λ k d l. tt
+
 module _ (R S : Pairs) (within : Within R S) where
-  match_within : (f : FieldView) (o : Option FieldView) → MatchOption o (IsSome f.value) (λ g. IsTrue (R g.place f.place)) → MatchOption o (IsSome f.value) (λ g. IsTrue (S g.place f.place))
-  match_within f None h = h
-  match_within f (Some g) h = within g.place f.place h
-
-  any_within : (i : ℕ) (places : List ℕ) → Any (λ p. IsTrue (R i p)) places → Any (λ p. IsTrue (S i p)) places
-  any_within i places (k, x, l, e, h) = (k, x, l, e, within i x h)
-
   fits_within : (i j : ℕ) (a b : NodeView) → Fits R i j a b → Fits S i j a b
-  fits_within i j (union bs) b h = λ k d l. within _ j (h k d l)
-  fits_within i j (primitive k x) (union bs) h = any_within i bs h
-  fits_within i j (array p x) (union bs) h = any_within i bs h
-  fits_within i j (mapping p x) (union bs) h = any_within i bs h
-  fits_within i j (enumeration n s f x) (union bs) h = any_within i bs h
-  fits_within i j (fixed n s x) (union bs) h = any_within i bs h
-  fits_within i j (rec n fs x) (union bs) h = any_within i bs h
-  fits_within i j (primitive k x) (primitive l y) h = h
-  fits_within i j (array p x) (array q y) h = within p q h
-  fits_within i j (mapping p x) (mapping q y) h = within p q h
-  fits_within i j (enumeration n s f x) (enumeration m t g y) h = h
-  fits_within i j (fixed n s x) (fixed m t y) h = h
-  fits_within i j (rec n fs x) (rec m gs y) h = (h.0, λ k d l. let f = get_or gs k d in match_within f (source fs f) (h.1 k d l))
-  fits_within i j _ _ h = absurd h
+  fits_within i j a b h = fits_more (λ _. Unit {0}) (λ _. Unit {0}) R S (λ p q _ _. within p q) i j a b tt tt (everywhere a) (everywhere b) h
 
   both_within : (i j : ℕ) (x y : Option NodeView) → MatchOption x ⊥ (λ a. MatchOption y ⊥ (λ b. Fits R i j a b)) → MatchOption x ⊥ (λ a. MatchOption y ⊥ (λ b. Fits S i j a b))
   both_within i j None y h = h

@@ -2,15 +2,19 @@
 use Rattle.std.specs.Prelude.{ℕ, ◌<◌, List, All, length}
 use Rattle.avro_nodes.specs.Nodes.{NodeView, primitive, array, mapping, union, enumeration, fixed, rec}
 
+-- each place that a node names has the property
+abbrev pub NamesAll : (ℕ → Type 0) → NodeView → Type 0
+NamesAll P (primitive kind _) = Unit {0}
+NamesAll P (array place _) = P place
+NamesAll P (mapping place _) = P place
+NamesAll P (union places) = All P places
+NamesAll P (enumeration named symbols fallback _) = Unit {0}
+NamesAll P (fixed named size _) = Unit {0}
+NamesAll P (rec named fields _) = All (λ f. P f.place) fields
+
 -- the places that a node names are below the number
 abbrev pub Names : ℕ → NodeView → Type 0
-Names n (primitive kind _) = Unit {0}
-Names n (array place _) = place < n
-Names n (mapping place _) = place < n
-Names n (union places) = All (λ place. place < n) places
-Names n (enumeration named symbols fallback _) = Unit {0}
-Names n (fixed named size _) = Unit {0}
-Names n (rec named fields _) = All (λ f. f.place < n) fields
+Names n a = NamesAll (λ place. place < n) a
 
 -- each place that a node names is a node's
 abbrev pub IsWhole : List NodeView → Type 0
