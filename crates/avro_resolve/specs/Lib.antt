@@ -1,5 +1,4 @@
 pub mod Resolution
-pub mod Parts
 pub mod Places
 pub mod Witnesses
 pub mod Left

@@ -1,11 +1,10 @@
 //! Whether the pairs that are left support a pair.
 
-ghost use Rattle.std.specs.Prelude.{◌≡◌, ◌<◌, ◌↔◌, map, string_bytes, slice_get, Some, length, All, Any, IsTrue};
+ghost use Rattle.std.specs.Prelude.{◌≡◌, ◌<◌, ◌↔◌, ◌⊎◌, map, option_map, string_bytes, slice_get, Some, length, All, Any, Contains, IsSome, IsTrue};
 ghost use Rattle.std.specs.List.{list_any, list_all};
 ghost use Rattle.std.specs.Str.{bytes_eq};
-ghost use Rattle.avro_nodes.specs.Nodes.{field_view, node_view, nodes_view};
+ghost use Rattle.avro_nodes.specs.Nodes.{field_view, node_view, nodes_view, texts_view};
 ghost use Rattle.avro_resolve.specs.Resolution.{Readable, Fits, Supports};
-ghost use Rattle.avro_resolve.specs.Parts.{Agree, PartsFit};
 ghost use Rattle.avro_resolve.specs.Places.{Names, IsWhole};
 ghost use Rattle.avro_resolve.specs.Left.{left};
 
@@ -62,58 +61,12 @@ fn all_known(symbols: &[String], known: &[String]) -> bool
     symbols.iter().all(|symbol| has_text(known, symbol))
 }
 
-/// Whether the nodes agree in what they say themselves: their kinds, names, symbols and sizes.
-fn nodes_agree(a: &Node, b: &Node) -> bool
-    ensures { IsTrue result ↔ Agree (node_view a.now) (node_view b.now) }
+/// Whether each of a writer's symbols may come: the reader has a default, or knows all of them.
+fn symbols_fit(symbols: &[String], known: &[String], fallback: &Option<String>) -> bool
+    ensures { IsTrue result ↔ (IsSome (option_map string_bytes fallback.now)
+        ⊎ All (Contains (texts_view known.now)) (texts_view symbols.now)) }
 {
-    match (a, b) {
-        (Node::Union { .. }, _) => true,
-        (_, Node::Union { .. }) => true,
-        (Node::Primitive { kind, .. }, Node::Primitive { kind: wanted, .. }) => {
-            promotes(*kind, *wanted)
-        }
-        (Node::Array { .. }, Node::Array { .. }) => true,
-        (Node::Map { .. }, Node::Map { .. }) => true,
-        (
-            Node::Enum { named, symbols, .. },
-            Node::Enum {
-                named: wanted,
-                symbols: known,
-                fallback,
-                ..
-            },
-        ) => names_match(named, wanted) && (fallback.is_some() || all_known(symbols, known)),
-        (
-            Node::Fixed { named, size, .. },
-            Node::Fixed {
-                named: wanted,
-                size: wanted_size,
-                ..
-            },
-        ) => names_match(named, wanted) && *size == *wanted_size,
-        (Node::Rec { named, .. }, Node::Rec { named: wanted, .. }) => names_match(named, wanted),
-        _ => false,
-    }
-}
-
-/// Whether the pairs that the nodes ask for are left: those of branches, items, values and fields.
-fn parts_fit(a: &Node, b: &Node, i: u32, j: u32, table: &Table) -> bool
-    requires a_in { Names table.now.writers (node_view a.now) }
-    requires b_in { Names table.now.readers (node_view b.now) }
-    requires i_in { i < table.now.writers }
-    requires j_in { j < table.now.readers }
-    ensures { IsTrue result ↔ PartsFit (left table.now) i j (node_view a.now) (node_view b.now) }
-{
-    match (a, b) {
-        (Node::Union { branches }, _) => all_left(branches, j, table),
-        (_, Node::Union { branches }) => any_left(i, branches, table),
-        (Node::Array { items: p, .. }, Node::Array { items: q, .. }) => table.has(*p, *q),
-        (Node::Map { values: p, .. }, Node::Map { values: q, .. }) => table.has(*p, *q),
-        (Node::Rec { fields, .. }, Node::Rec { fields: wanted, .. }) => {
-            all_readable(fields, wanted, table)
-        }
-        _ => true,
-    }
+    fallback.is_some() || all_known(symbols, known)
 }
 
 /// Whether what is left supports the pair of these nodes, by the first case that fits (Avro 1.11
@@ -125,7 +78,41 @@ fn fits(a: &Node, b: &Node, i: u32, j: u32, table: &Table) -> bool
     requires j_in { j < table.now.readers }
     ensures { IsTrue result ↔ Fits (left table.now) i j (node_view a.now) (node_view b.now) }
 {
-    nodes_agree(a, b) && parts_fit(a, b, i, j, table)
+    match (a, b) {
+        (Node::Union { branches }, _) => all_left(branches, j, table),
+        (_, Node::Union { branches }) => any_left(i, branches, table),
+        (Node::Primitive { kind, .. }, Node::Primitive { kind: wanted, .. }) => {
+            promotes(*kind, *wanted)
+        }
+        (Node::Array { items: p, .. }, Node::Array { items: q, .. }) => table.has(*p, *q),
+        (Node::Map { values: p, .. }, Node::Map { values: q, .. }) => table.has(*p, *q),
+        (
+            Node::Enum { named, symbols, .. },
+            Node::Enum {
+                named: wanted,
+                symbols: known,
+                fallback,
+                ..
+            },
+        ) => names_match(named, wanted) && symbols_fit(symbols, known, fallback),
+        (
+            Node::Fixed { named, size, .. },
+            Node::Fixed {
+                named: wanted,
+                size: wanted_size,
+                ..
+            },
+        ) => names_match(named, wanted) && *size == *wanted_size,
+        (
+            Node::Rec { named, fields, .. },
+            Node::Rec {
+                named: wanted,
+                fields: wanted_fields,
+                ..
+            },
+        ) => names_match(named, wanted) && all_readable(fields, wanted_fields, table),
+        _ => false,
+    }
 }
 
 /// The node at a place.
