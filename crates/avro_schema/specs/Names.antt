@@ -6,7 +6,7 @@ use Rattle.std.specs.Map.{update}
 use Rattle.std.specs.Str.{bytes_eq}
 use Rattle.avro_nodes.specs.Names.{is_dot, has_dot}
 
--- a letter of ASCII, or `_`
+-- an ASCII letter, or `_`
 abbrev pub is_start : ℕ → Bool
 is_start c = is_ascii_alphabetic c || list_any (λ mark. c == mark) (codes "_")
 
