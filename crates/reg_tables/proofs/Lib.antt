@@ -19,6 +19,7 @@ pub mod ListingLemmas
 pub mod Opening
 pub mod CheckLemmas
 pub mod UniqueKeys
+pub mod References
 pub mod UniqueLemmas
 pub mod WriteFaults
 pub mod TableFaults

@@ -35,7 +35,7 @@ use Rattle.reg_tables.proofs.MapLemmas.{IsKeyOrder, tied_key}
 use Rattle.reg_tables.proofs.Members.{has_mapped}
 
 -- rowids that don't differ are the same
-same_number : (i j : ℤ) → differ (Int i) (Int j) ≡ false → i ≡ j
+pub same_number : (i j : ℤ) → differ (Int i) (Int j) ≡ false → i ≡ j
 unfolding binary
 same_number i j h = go (int_cmp i j) refl (rw (value_cmp-Int i j) at h)
   where
@@ -61,16 +61,17 @@ version_agrees a b q here there =
     let number_b : column b 2 ≡ Int (pos q.1) = cc in
     rw (of_a, of_b, number_a, number_b, value_cmp-Text q.0 q.0, tied_key text_cmp text_order q.0 q.0 refl, value_cmp-Int (pos q.1) (pos q.1), tied_itself int_cmp_total (pos q.1)) refl
 
+-- two rows with one key have one rowid
+pub one_rowid : (schema : Schema) (db : Trees) → Obeys schema db → (table : Table) (index : Index) → Has schema.tables table → Has schema.indexes index → guards index table ≡ true
+    → (a b : Row) → Has (db table.tree) a → Has (db table.tree) b → agree index.order index.columns a index.columns b ≡ true → differ (rowid a) (rowid b) ≡ false
+one_rowid schema db obeys table index listed indexed guarded a b here there same = false_from_ne_true _ (λ apart.
+    both_ways _ (not-true _ (test_has _ schema.indexes index (keeps_at Unique schema db table b (obeys.rules Unique) listed there) indexed))
+    (and_from _ _ guarded (some_from _ _ a here (and_from _ _ same apart))))
+
 module _ {K V : Type 0} (form : Form K V) (R : K → K → Ordering) (order : IsKeyOrder R) (distinct : (a b : K) → form.key_cells a ≡ form.key_cells b → a ≡ b)
     (schema : Schema) (db : Trees) (obeys : Obeys schema db) (table : Table) (index : Index) (listed : Has schema.tables table) (indexed : Has schema.indexes index) (guarded : guards index table ≡ true)
     (agrees : (a b : Row) (key : K) → form.key_of a ≡ form.key_cells key → form.key_of b ≡ form.key_cells key → agree index.order index.columns a index.columns b ≡ true)
     (es : List (ℤ × K × V)) (lists : Lists form (db table.tree) es) where
-  -- two rows with one key have one rowid
-  one_rowid : (a b : Row) → Has (db table.tree) a → Has (db table.tree) b → agree index.order index.columns a index.columns b ≡ true → differ (rowid a) (rowid b) ≡ false
-  one_rowid a b here there same = false_from_ne_true _ (λ apart.
-      both_ways _ (not-true _ (test_has _ schema.indexes index (keeps_at Unique schema db table b (obeys.rules Unique) listed there) indexed))
-      (and_from _ _ guarded (some_from _ _ a here (and_from _ _ same apart))))
-
   -- so the keys are apart where the rowids are
   pub apart_by_key : IsDistinct (eq_by_cmp int_cmp) (map (λ (e : ℤ × K × V). e.0) es) → HasNoTwins R es
   apart_by_key ids = record { rowids = ids; keys = keys_distinct R order es one_id ids }
@@ -81,7 +82,7 @@ module _ {K V : Type 0} (form : Form K V) (R : K → K → Ordering) (order : Is
           let b = stored form R order distinct (db table.tree) es lists f there in
           let key_a = sym (ap (λ (p : Parts). p.1) a.2) in
           let key_b = sym (ap (λ (p : Parts). p.1) b.2) ∙ ap form.key_cells (sym same) in
-          let one = one_rowid a.0 b.0 a.1 b.1 (agrees a.0 b.0 e.1 key_a key_b) in
+          let one = one_rowid schema db obeys table index listed indexed guarded a.0 b.0 a.1 b.1 (agrees a.0 b.0 e.1 key_a key_b) in
           same_number e.0 f.0 (ap (λ v. differ v (Int f.0)) (ap (λ (p : Parts). p.0) a.2) ∙ ap (differ (rowid a.0)) (ap (λ (p : Parts). p.0) b.2) ∙ one)
 
 -- an id is its row's rowid
@@ -110,10 +111,10 @@ rowids_of entry rowid_of same (l ∷ ls) = λ i. same l i ∷ rowids_of entry ro
 
 module _ (db : Database) (known : IsLayout db.schema) (sound : IsDatabase db) where
   -- a table of both layouts, and its index
-  has_table : (table : Table) → Has layout.tables table → Has db.schema.tables table
+  pub has_table : (table : Table) → Has layout.tables table → Has db.schema.tables table
   has_table table here = elim known [ inl e ↦ subst (λ (s : Schema). Has s.tables table) (sym e) here | inr e ↦ subst (λ (s : Schema). Has s.tables table) (sym e) here ]
 
-  has_index : (index : Index) → Has unindexed.indexes index → Has layout.indexes index → Has db.schema.indexes index
+  pub has_index : (index : Index) → Has unindexed.indexes index → Has layout.indexes index → Has db.schema.indexes index
   has_index index bare whole = elim known [ inl e ↦ subst (λ (s : Schema). Has s.indexes index) (sym e) whole | inr e ↦ subst (λ (s : Schema). Has s.indexes index) (sym e) bare ]
 
   pub versions_apart : (lines : List VersionLine) → ListsVersions db lines → IsDistinct (eq_by_cmp int_cmp) (map (λ (l : VersionLine). l.rowid) lines) → HasNoTwins version_cmp (map version_entry lines)
