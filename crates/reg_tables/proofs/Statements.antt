@@ -147,6 +147,10 @@ mark_version_is = record { is = refl; plain = (refl, refl) }
 abbrev pub by_id : List Term
 by_id = op2 (Compare Eq Binary) (col 1 0) (col 0 0) ∷ []
 
+-- the text is the parameter
+abbrev pub by_text : List Term
+by_text = op2 (Compare Eq Binary) (col 1 2) (col 0 0) ∷ []
+
 abbrev pub put_level : List ℕ
 put_level = codes "INSERT INTO levels (subject, level) VALUES (?1, ?2)"
 
@@ -217,6 +221,13 @@ find_text = record { sql = codes "SELECT text FROM texts WHERE id = ?1"; tree = 
 pub find_text_is : (schema : Schema) → IsLayout schema → IsQuery find_text schema
 unfolding understood everything
 find_text_is = in_layouts (IsQuery find_text) (record { command = record { is = refl; plain = (refl, refl) }; unlisted = refl }) (record { command = record { is = refl; plain = (refl, refl) }; unlisted = refl })
+
+abbrev pub find_id : TableQuery
+find_id = record { sql = codes "SELECT id FROM texts WHERE text = ?1"; tree = 0; tests = by_text; shown = col 1 0 ∷ []; names = codes "id" ∷ [] }
+
+pub find_id_is : (schema : Schema) → IsLayout schema → IsQuery find_id schema
+unfolding understood everything
+find_id_is = in_layouts (IsQuery find_id) (record { command = record { is = refl; plain = (refl, refl) }; unlisted = refl }) (record { command = record { is = refl; plain = (refl, refl) }; unlisted = refl })
 
 abbrev pub find_level : TableQuery
 find_level = record { sql = codes "SELECT level FROM levels WHERE subject = ?1"; tree = 4; tests = by_key; shown = col 1 2 ∷ []; names = codes "level" ∷ [] }

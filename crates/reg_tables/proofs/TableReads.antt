@@ -1,5 +1,5 @@
 -- What a look-up by its key shows of the contents.
-use Rattle.std.proofs.Common.{pos, ◌≡◌, ◌≢◌, ◌<◌, ℕ, List, [], ◌∷◌, length, Option, None, Some, MatchOption, slice_get, refl, sym, ap, ◌∙◌, arith}
+use Rattle.std.proofs.Common.{inl, pos, ◌≡◌, ◌≢◌, ◌<◌, ℕ, List, [], ◌∷◌, length, Option, None, Some, MatchOption, slice_get, refl, sym, ap, ◌∙◌, arith}
 use Rattle.std.specs.Prelude.{IsUtf8}
 use Rattle.sqlite.specs.declared.error.ErrorCode.TheVariants as code
 use Rattle.sqlite.specs.declared.error.Error.{Error}
@@ -13,9 +13,18 @@ use Rattle.sqlite.specs.Order.{Row, column}
 use Rattle.sqlite.specs.State.{State, Shown}
 use Rattle.sqlite.specs.Schema.{Schema}
 use Rattle.reg_tables.specs.Layout.{IsLayout}
-use Rattle.reg_tables.specs.Contents.{text_cmp, KeptRow, Contents, text_cells, kept_cells, text_form, pair_form, kept_form, HoldsIn}
-use Rattle.reg_tables.proofs.KeyedTables.{text_order, number_order, by_key_test, by_id_test, finds, first_found}
-use Rattle.reg_tables.proofs.Statements.{laid_out, find_text, find_text_is, find_level, find_level_is, find_kept, find_kept_is, find_meta, find_meta_is}
+use Rattle.reg_tables.specs.Contents.{text_cmp, KeptRow, Contents, text_cells, number_cells, kept_cells, text_form, pair_form, kept_form, HoldsIn}
+use Rattle.reg_tables.proofs.KeyedTables.{text_order, number_order, by_key_test, by_id_test, by_text_test, shown_has, has_shown, finds, first_found}
+use Rattle.reg_tables.proofs.MapLemmas.{same_key, tied_key}
+use Rattle.sqlite_rules.specs.Lists.{Has}
+use Rattle.reg_tables.proofs.Statements.{laid_out, IsQuery, find_text, find_text_is, find_id, find_id_is, find_level, find_level_is, find_kept, find_kept_is, find_meta, find_meta_is}
+
+-- by the first of the rows that are shown
+pub first_shown : (found : List Row) (P : Row → Type 0) (Q : Type 0) → ((x : Row) → Has found x → P x) → (((x : Row) → Has found x → ⊥) → Q) → (o : Option Row) → o ≡ slice_get found 0 → MatchOption o Q P
+first_shown [] P Q some none None is = none (λ x there. there)
+first_shown (r ∷ found) P Q some none None is = absurd (cc)
+first_shown [] P Q some none (Some row) is = absurd (cc)
+first_shown (r ∷ found) P Q some none (Some row) is = let same : row ≡ r = cc in some row (inl same)
 
 -- the text that was read is the row's
 pub read_back : (row : Row) (text read : List ℕ) → row ≡ text_cells text → column row 0 ≡ Text read → text ≡ read
@@ -48,6 +57,22 @@ module _ (old new : State) (schema : Schema) (contents : Contents) (h : HoldsIn 
   finds_text id found o first shown =
       first_found text_form (get contents.texts id) found
       (finds text_form nat_cmp number_order find_text (Int (pos id) ∷ []) old new (find_text_is old.now.schema laid) (get contents.texts) h.texts id found (λ row q is. by_id_test row id q is) (λ row. refl) shown) o first
+
+  pub finds_id : (text : List ℕ) (found : List Row) (o : Option Row) → o ≡ slice_get found 0 → Shown find_id.sql (Text text ∷ []) old new found
+      → MatchOption o ((id : ℕ) → get contents.texts id ≢ Some text) (λ row. (id : ℕ) × (get contents.texts id ≡ Some text) × (row ≡ number_cells id))
+  finds_id text found o first shown = first_shown found _ _
+      (λ x there.
+      let r = shown_has find_id (Text text ∷ []) old new it found shown x there in
+      let entry = h.texts.sound r.0 r.1 in
+      let same = same_key text_cmp text_order entry.1 text (sym (by_text_test r.0 text entry.1 entry.3.1) ∙ r.2) in
+      (entry.0, entry.2 ∙ ap Some same, r.3 ∙ entry.3.0))
+      (λ none id there.
+      let r = h.texts.complete id text there in
+      none _ (has_shown find_id (Text text ∷ []) old new it found shown r.0 r.1 (by_text_test r.0 text text r.2.1 ∙ tied_key text_cmp text_order text text refl)))
+      o first
+    where
+      it : IsQuery find_id old.now.schema
+      it = find_id_is old.now.schema laid
 
 -- a text that a `String` holds is read, but for want of memory
 pub text_read : (row : Row) (text : List ℕ) (e : Error) → row ≡ text_cells text → IsUtf8 text → IsReadError 0 (column row 0) e

@@ -27,5 +27,5 @@ pub use lines::{
     text_lines, version_lines,
 };
 pub use meta::{global_level, set_global};
-pub use texts::{put_text, text_of};
+pub use texts::{id_of, put_text, text_of};
 pub use versions::{drop_version, mark_deleted, put_version};

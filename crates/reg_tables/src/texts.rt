@@ -1,16 +1,16 @@
 //! The texts of schemas, by their ids.
 
-ghost use Rattle.std.specs.Prelude.{◌≡◌, ◌≢◌, ℕ, None, Some, OnOk, IfOk, IfErr, MatchOption, false, string_bytes};
+ghost use Rattle.std.specs.Prelude.{◌≡◌, ◌≢◌, ◌<◌, ◌^◌, ℕ, None, Some, OnOk, IfOk, IfErr, MatchOption, false, string_bytes};
 ghost use Rattle.std.specs.FinMap.{get};
 ghost use Rattle.sqlite.specs.Held.{state};
 ghost use Rattle.reg_tables.specs.Frames.{state_in, StaysInside, StaysIdle};
 ghost use Rattle.sqlite.specs.State.{HasCleanDisk};
-ghost use Rattle.reg_tables.specs.Contents.{Contents, Holds};
+ghost use Rattle.reg_tables.specs.Contents.{Contents, number_cells, Holds};
 ghost use Rattle.reg_tables.specs.Changes.{with_text};
 ghost use Rattle.reg_tables.specs.Reading.{CanBeRead, IsFault, IsPutFault};
 
 use crate::statement::{ask, run};
-use sqlite::{Alter, Connection, Error, Transaction, params};
+use sqlite::{Alter, Connection, Error, ErrorCode, Row, Transaction, params};
 
 /// Puts a text under an id, which the caller has seen to have none.
 pub fn put_text<S: Alter>(tx: &mut Transaction<'_, S>, id: u32, text: &str) -> Result<(), Error>
@@ -47,5 +47,33 @@ pub fn text_of<S: Alter>(conn: &mut Connection<S>, id: u32) -> Result<Option<Str
     match rows.first() {
         None => Ok(None),
         Some(row) => Ok(Some(row.get(0)?)),
+    }
+}
+
+/// The number in a row's one column.
+fn number_in(row: &Row) -> Result<u32, Error>
+    ensures ok { IfOk result (λ number. (n : ℕ) → row.now ≡ number_cells n → n ≡ number) }
+    ensures err { IfErr result (λ e. (n : ℕ) → row.now ≡ number_cells n → n < 2 ^ 32
+        → e ≡ Error.SqliteFailure ErrorCode.OutOfMemory) }
+{
+    row.get(0)
+}
+
+/// The id of a text, if it has one.
+pub fn id_of<S: Alter>(conn: &mut Connection<S>, text: &str) -> Result<Option<u32>, Error>
+    requires idle { conn.old.in_transaction ≡ false }
+    ensures frame { StaysIdle S.Store conn.old conn.new result }
+    ensures found { HasCleanDisk (state S.Store conn.new) → IfOk result (λ found.
+        (contents : Contents) → Holds (state S.Store conn.old).now contents
+        → MatchOption found ((id : ℕ) → get contents.texts id ≢ Some text.now)
+        (λ id. get contents.texts id ≡ Some text.now)) }
+    ensures fault { HasCleanDisk (state S.Store conn.new) → IfErr result (λ e.
+        CanBeRead (state S.Store conn.old)
+        → IsFault (state S.Store conn.old) (state S.Store conn.new) e) }
+{
+    let rows = ask(conn, "SELECT id FROM texts WHERE text = ?1", params![text])?;
+    match rows.first() {
+        None => Ok(None),
+        Some(row) => Ok(Some(number_in(row)?)),
     }
 }
