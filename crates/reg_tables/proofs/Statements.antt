@@ -229,6 +229,13 @@ pub find_id_is : (schema : Schema) → IsLayout schema → IsQuery find_id schem
 unfolding understood everything
 find_id_is = in_layouts (IsQuery find_id) (record { command = record { is = refl; plain = (refl, refl) }; unlisted = refl }) (record { command = record { is = refl; plain = (refl, refl) }; unlisted = refl })
 
+abbrev pub find_version : TableQuery
+find_version = record { sql = codes "SELECT id, deleted FROM versions WHERE subject = ?1 AND version = ?2"; tree = 2; tests = by_version; shown = col 1 3 ∷ col 1 4 ∷ []; names = codes "id" ∷ codes "deleted" ∷ [] }
+
+pub find_version_is : (schema : Schema) → IsLayout schema → IsQuery find_version schema
+unfolding understood everything
+find_version_is = in_layouts (IsQuery find_version) (record { command = record { is = refl; plain = (refl, refl) }; unlisted = refl }) (record { command = record { is = refl; plain = (refl, refl) }; unlisted = refl })
+
 abbrev pub find_level : TableQuery
 find_level = record { sql = codes "SELECT level FROM levels WHERE subject = ?1"; tree = 4; tests = by_key; shown = col 1 2 ∷ []; names = codes "level" ∷ [] }
 

@@ -13,11 +13,11 @@ use Rattle.sqlite.specs.Order.{Row, column}
 use Rattle.sqlite.specs.State.{State, Shown}
 use Rattle.sqlite.specs.Schema.{Schema}
 use Rattle.reg_tables.specs.Layout.{IsLayout}
-use Rattle.reg_tables.specs.Contents.{text_cmp, KeptRow, Contents, text_cells, number_cells, kept_cells, text_form, pair_form, kept_form, HoldsIn}
-use Rattle.reg_tables.proofs.KeyedTables.{text_order, number_order, by_key_test, by_id_test, by_text_test, shown_has, has_shown, finds, first_found}
+use Rattle.reg_tables.specs.Contents.{text_cmp, version_cmp, VersionRow, KeptRow, Contents, text_cells, number_cells, version_cells, kept_cells, text_form, version_form, pair_form, kept_form, HoldsIn}
+use Rattle.reg_tables.proofs.KeyedTables.{text_order, number_order, version_order, by_key_test, by_id_test, by_text_test, by_version_test, shown_has, has_shown, finds, first_found}
 use Rattle.reg_tables.proofs.MapLemmas.{same_key, tied_key}
 use Rattle.sqlite_rules.specs.Lists.{Has}
-use Rattle.reg_tables.proofs.Statements.{laid_out, IsQuery, find_text, find_text_is, find_id, find_id_is, find_level, find_level_is, find_kept, find_kept_is, find_meta, find_meta_is}
+use Rattle.reg_tables.proofs.Statements.{laid_out, IsQuery, find_text, find_text_is, find_id, find_id_is, find_version, find_version_is, find_level, find_level_is, find_kept, find_kept_is, find_meta, find_meta_is}
 
 -- by the first of the rows that are shown
 pub first_shown : (found : List Row) (P : Row → Type 0) (Q : Type 0) → ((x : Row) → Has found x → P x) → (((x : Row) → Has found x → ⊥) → Q) → (o : Option Row) → o ≡ slice_get found 0 → MatchOption o Q P
@@ -73,6 +73,12 @@ module _ (old new : State) (schema : Schema) (contents : Contents) (h : HoldsIn 
     where
       it : IsQuery find_id old.now.schema
       it = find_id_is old.now.schema laid
+
+  pub finds_version : (k : List ℕ × ℕ) (found : List Row) (o : Option Row) → o ≡ slice_get found 0 → Shown find_version.sql (Text k.0 ∷ Int (pos k.1) ∷ []) old new found
+      → MatchOption o (get contents.versions k ≡ None) (λ row. (version : VersionRow) × (get contents.versions k ≡ Some version) × (row ≡ version_cells version))
+  finds_version k found o first shown =
+      first_found version_form (get contents.versions k) found
+      (finds version_form version_cmp version_order find_version (Text k.0 ∷ Int (pos k.1) ∷ []) old new (find_version_is old.now.schema laid) (get contents.versions) h.versions k found (λ row q is. by_version_test row k q is) (λ row. refl) shown) o first
 
 -- a text that a `String` holds is read, but for want of memory
 pub text_read : (row : Row) (text : List ℕ) (e : Error) → row ≡ text_cells text → IsUtf8 text → IsReadError 0 (column row 0) e

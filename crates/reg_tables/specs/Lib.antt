@@ -4,6 +4,7 @@ pub mod Contents
 pub mod Changes
 pub mod Reading
 pub mod Replies
+pub mod Entries
 pub mod Listings
 pub mod Checks
 pub mod Frames

@@ -28,4 +28,4 @@ pub use lines::{
 };
 pub use meta::{global_level, set_global};
 pub use texts::{id_of, put_text, text_of};
-pub use versions::{drop_version, mark_deleted, put_version};
+pub use versions::{VersionEntry, drop_version, mark_deleted, put_version, version_of};

@@ -72,7 +72,7 @@ trait Line: Sized {
 }
 
 /// Whether a column that is 0 or 1 is 1.
-fn flag_in(row: &Row, at: usize) -> Result<bool, Error>
+pub(crate) fn flag_in(row: &Row, at: usize) -> Result<bool, Error>
     ensures ok { IfOk result (λ flag. column row.now at ≡ flag_cell flag) }
     ensures err { IfErr result (λ e. at < length row.now
         → (flag : Bool) → column row.now at ≡ flag_cell flag

@@ -1,15 +1,25 @@
-//! The versions of subjects.
+//! The versions of subjects: one is put, dropped, marked as deleted or found, by its subject and its number.
 
-ghost use Rattle.std.specs.Prelude.{◌≡◌, None, IsSome, OnOk, IfErr};
+ghost use Rattle.std.specs.Prelude.{◌≡◌, ◌<◌, ◌^◌, None, Some, IsSome, OnOk, IfOk, IfErr, MatchOption, false};
 ghost use Rattle.std.specs.FinMap.{get};
-ghost use Rattle.reg_tables.specs.Frames.{state_in, StaysInside};
+ghost use Rattle.sqlite.specs.Held.{state};
+ghost use Rattle.reg_tables.specs.Frames.{state_in, StaysInside, StaysIdle};
 ghost use Rattle.sqlite.specs.State.{HasCleanDisk};
-ghost use Rattle.reg_tables.specs.Contents.{Contents, Holds};
+ghost use Rattle.reg_tables.specs.Contents.{VersionRow, Contents, version_cells, Holds};
 ghost use Rattle.reg_tables.specs.Changes.{Changes, with_version, without_version, with_deleted};
-ghost use Rattle.reg_tables.specs.Reading.{IsWriteFault, IsInsertFault};
+ghost use Rattle.reg_tables.specs.Reading.{CanBeRead, IsFault, IsWriteFault, IsInsertFault};
+ghost use Rattle.reg_tables.specs.Entries.{version_row};
 
-use crate::statement::run;
-use sqlite::{Alter, Error, Transaction, params};
+use crate::lines::flag_in;
+use crate::statement::{ask, run};
+use sqlite::{Alter, Connection, Error, ErrorCode, Row, Transaction, params};
+
+/// What a version of a subject is: the id of its text, and whether it is marked as deleted.
+#[derive(Debug, Clone, Copy)]
+pub struct VersionEntry {
+    pub id: u32,
+    pub deleted: bool,
+}
 
 /// Puts a version of a subject under its number, which the caller has seen to have none.
 pub fn put_version<S: Alter>(
@@ -77,4 +87,43 @@ pub fn mark_deleted<S: Alter>(
         "UPDATE versions SET deleted = 1 WHERE subject = ?1 AND version = ?2",
         params![subject, number],
     )
+}
+
+fn entry_in(row: &Row) -> Result<VersionEntry, Error>
+    ensures ok { IfOk result (λ entry. (version : VersionRow) → row.now ≡ version_cells version
+        → version_row entry ≡ version) }
+    ensures err { IfErr result (λ e. (version : VersionRow) → row.now ≡ version_cells version
+        → version.id < 2 ^ 32 → e ≡ Error.SqliteFailure ErrorCode.OutOfMemory) }
+{
+    Ok(VersionEntry {
+        id: row.get(0)?,
+        deleted: flag_in(row, 1)?,
+    })
+}
+
+/// The version of a subject that has the number, if there is one.
+pub fn version_of<S: Alter>(
+    conn: &mut Connection<S>,
+    subject: &str,
+    number: u32,
+) -> Result<Option<VersionEntry>, Error>
+    requires idle { conn.old.in_transaction ≡ false }
+    ensures frame { StaysIdle S.Store conn.old conn.new result }
+    ensures found { HasCleanDisk (state S.Store conn.new) → IfOk result (λ found.
+        (contents : Contents) → Holds (state S.Store conn.old).now contents
+        → MatchOption found (get contents.versions (subject.now, number) ≡ None)
+        (λ entry. get contents.versions (subject.now, number) ≡ Some (version_row entry))) }
+    ensures fault { HasCleanDisk (state S.Store conn.new) → IfErr result (λ e.
+        CanBeRead (state S.Store conn.old)
+        → IsFault (state S.Store conn.old) (state S.Store conn.new) e) }
+{
+    let rows = ask(
+        conn,
+        "SELECT id, deleted FROM versions WHERE subject = ?1 AND version = ?2",
+        params![subject, number],
+    )?;
+    match rows.first() {
+        None => Ok(None),
+        Some(row) => Ok(Some(entry_in(row)?)),
+    }
 }
