@@ -1,6 +1,6 @@
 -- How a query of the five tables fails: for the store, or at the limit on steps.
-use Rattle.std.proofs.Common.{arith, pos, ◌≡◌, ◌≢◌, ◌⊎◌, inl, inr, ℕ, List, [], ◌∷◌, length, ◌≤◌, append-nil, lit≤, true, Option, None, Some, Ok, Err, Result, refl, sym, ap, subst, ◌∙◌}
-use Rattle.std.specs.Prelude.{IsSome, IfErr, IsErrAnd, IsTrue, false}
+use Rattle.std.proofs.Common.{pos, ◌≡◌, ◌≢◌, ◌⊎◌, inl, inr, ℕ, List, [], ◌∷◌, length, ◌≤◌, append-nil, lit≤, true, Option, None, Some, Ok, Err, Result, refl, sym, ap, subst, ◌∙◌}
+use Rattle.std.specs.Prelude.{IsSome, IfErr, IsErrAnd, IsTrue}
 use Rattle.std.proofs.lemmas.Bool.{both_ways, cases_Bool}
 use Rattle.sqlite.specs.declared.types.Value.{Value}
 use Rattle.sqlite.specs.declared.types.Value.TheVariants.{Int, Text}

@@ -301,29 +301,33 @@ pub record FindsValue {K V : Type 0} (form : Form K V) (value : Option V) (found
 
 -- what is shown is what passes
 module _ (q : TableQuery) (params : Row) (old new : State) (it : IsQuery q old.now.schema) (found : List Row) (h : Shown q.sql params old new found) where
-  answer : IsAnswer (body_of q) (overlay old.now.trees []) params found
-  answer = (reads_as q.sql params old new old.now.schema refl (Select (program_of q) q.names) it.command.is it.command.plain it.unlisted found h).answer Null
+  pub answered : IsAnswer (body_of q) (overlay old.now.trees []) params found
+  answered = (reads_as q.sql params old new old.now.schema refl (Select (program_of q) q.names) it.command.is it.command.plain it.unlisted found h).answer Null
 
-  pub shown_has : (x : Row) → Has found x → (row : Row) × Has (old.now.trees q.tree) row × (passes q.tests params row ≡ true) × (x ≡ eval_all q.shown (params ∷ row ∷ []))
-  shown_has x there =
-      let r = answer_has q.tests params q.tree q.shown (overlay old.now.trees []) found answer x there in
-      (r.0, subst (λ l. Has l r.0) (with_nothing old.now.trees q.tree) r.1, r.2, r.3)
+  module _ (plain : body_of q ≡ plain_query q.tree q.tests q.shown) where
+    answer : IsAnswer (plain_query q.tree q.tests q.shown) (overlay old.now.trees []) params found
+    answer = subst (λ b. IsAnswer b (overlay old.now.trees []) params found) plain answered
 
-  pub has_shown : (row : Row) → Has (old.now.trees q.tree) row → passes q.tests params row ≡ true → Has found (eval_all q.shown (params ∷ row ∷ []))
-  has_shown row there = has_answer q.tests params q.tree q.shown (overlay old.now.trees []) found answer row (subst (λ l. Has l row) (sym (with_nothing old.now.trees q.tree)) there)
+    pub shown_has : (x : Row) → Has found x → (row : Row) × Has (old.now.trees q.tree) row × (passes q.tests params row ≡ true) × (x ≡ eval_all q.shown (params ∷ row ∷ []))
+    shown_has x there =
+        let r = answer_has q.tests params q.tree q.shown (overlay old.now.trees []) found answer x there in
+        (r.0, subst (λ l. Has l r.0) (with_nothing old.now.trees q.tree) r.1, r.2, r.3)
 
-module _ {K V : Type 0} (form : Form K V) (R : K → K → Ordering) (order : IsKeyOrder R) (q : TableQuery) (params : Row) (old new : State) (it : IsQuery q old.now.schema) (value_at : K → Option V) (shows : ShowsMap form (old.now.trees q.tree) value_at) where
+    pub has_shown : (row : Row) → Has (old.now.trees q.tree) row → passes q.tests params row ≡ true → Has found (eval_all q.shown (params ∷ row ∷ []))
+    has_shown row there = has_answer q.tests params q.tree q.shown (overlay old.now.trees []) found answer row (subst (λ l. Has l row) (sym (with_nothing old.now.trees q.tree)) there)
+
+module _ {K V : Type 0} (form : Form K V) (R : K → K → Ordering) (order : IsKeyOrder R) (q : TableQuery) (plain : body_of q ≡ plain_query q.tree q.tests q.shown) (params : Row) (old new : State) (it : IsQuery q old.now.schema) (value_at : K → Option V) (shows : ShowsMap form (old.now.trees q.tree) value_at) where
   pub finds : (k : K) (found : List Row) → ((row : Row) (key : K) → form.key_of row ≡ form.key_cells key → passes q.tests params row ≡ is_eq (R key k)) → ((row : Row) → eval_all q.shown (params ∷ row ∷ []) ≡ form.value_of row)
       → Shown q.sql params old new found → FindsValue form (value_at k) found
   finds k found test whole h = record {
     sound = λ x there.
-        let r = shown_has q params old new it found h x there in
+        let r = shown_has q params old new it found h plain x there in
         let entry = shows.sound r.0 r.1 in
         let same = same_key R order entry.0 k (sym (test r.0 entry.0 entry.3.0) ∙ r.2) in
         (entry.1, ap value_at (sym same) ∙ entry.2, r.3 ∙ whole r.0 ∙ entry.3.1);
     complete = λ v is.
         let r = shows.complete k v is in
-        subst (Has found) (whole r.0 ∙ r.2.1) (has_shown q params old new it found h r.0 r.1 (test r.0 k r.2.0 ∙ tied_key R order k k refl));
+        subst (Has found) (whole r.0 ∙ r.2.1) (has_shown q params old new it found h plain r.0 r.1 (test r.0 k r.2.0 ∙ tied_key R order k k refl));
   }
 
 pub none_of : {X : Type 0} (o : Option X) → ((x : X) → o ≡ Some x → ⊥) → o ≡ None

@@ -4,6 +4,7 @@ pub mod MapLemmas
 pub mod RowLemmas
 pub mod Writes
 pub mod Statements
+pub mod OrderedQueries
 pub mod KeyedTables
 pub mod Creation
 pub mod TableWrites

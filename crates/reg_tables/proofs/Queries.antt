@@ -11,6 +11,7 @@ use Rattle.sqlite_value.proofs.OrderLemmas.{value_cmp_total}
 use Rattle.sqlite_rules.proofs.ListLemmas.{all_has}
 use Rattle.reg_tables.specs.TableMaps.{HaveOwnRowids}
 use Rattle.sqlite.specs.declared.types.Value.TheVariants.{Int}
+use Rattle.sqlite_value.specs.declared.keys.Key.{Key}
 use Rattle.sqlite.specs.Order.{Row, value_cmp}
 use Rattle.sqlite.specs.Tree.{Trees, IsAscending, rowid}
 use Rattle.sqlite.specs.Term.{Term, Env, lit, eval_all, holds}
@@ -18,28 +19,36 @@ use Rattle.sqlite.specs.Query.{Query, Output, inner, end, IsAnswer, output}
 use Rattle.sqlite_rules.specs.Lists.{Has}
 use Rattle.reg_tables.proofs.Members.{has_mapped, maps_had, has_permuted}
 
--- SELECT of terms from one table, with no ORDER BY
-abbrev pub plain_query : ℕ → List Term → List Term → Query
-plain_query tree tests shown = record {
+-- no LIMIT
+abbrev pub all_rows : Term
+all_rows = lit (Int (negsuc 0))
+
+-- SELECT of terms from one table, with ORDER BY and LIMIT
+abbrev pub ordered_query : ℕ → List Term → List Term → List (Term × Key) → Term → Query
+ordered_query tree tests shown order limit = record {
   from = inner tree end;
   filter = tests;
   group = None;
   project = shown;
   distinct = false;
   collations = [];
-  order = [];
-  limit = lit (Int (negsuc 0));
+  order = order;
+  limit = limit;
   offset = lit (Int (pos 0));
 }
+
+-- the same with neither
+abbrev pub plain_query : ℕ → List Term → List Term → Query
+plain_query tree tests shown = ordered_query tree tests shown [] all_rows
 
 module _ (tests : List Term) (params : Row) where
   abbrev pub passes : Row → Bool
   passes row = list_all (holds (params ∷ row ∷ [])) tests
 
-  abbrev passing : List Row → List Env
+  abbrev pub passing : List Row → List Env
   passing rows = flat_map (λ row. cond (passes row) ((params ∷ row ∷ []) ∷ []) []) rows
 
-  passing_has : (rows : List Row) (e : Env) → Has (passing rows) e → (row : Row) × Has rows row × (passes row ≡ true) × (e ≡ params ∷ row ∷ [])
+  pub passing_has : (rows : List Row) (e : Env) → Has (passing rows) e → (row : Row) × Has rows row × (passes row ≡ true) × (e ≡ params ∷ row ∷ [])
   passing_has [] e h = absurd h
   passing_has (r ∷ rows) e h = go (passes r) refl h (passing_has rows e)
     where
@@ -77,31 +86,38 @@ module _ (tests : List Term) (params : Row) where
       go true is later = let none : length (passing rows) ≡ 0 = ap length (none_passing rows (alone is)) in omega arith
       go false is later = later
 
+  -- what is ordered are the rows that pass, in another order
+  module _ (tree : ℕ) (shown : List Term) (order : List (Term × Key)) (limit : Term) (db : Trees) (found : List Row) (a : IsAnswer (ordered_query tree tests shown order limit) db params found) where
+    pub ordered_outputs : IsPermutation (map (output (ordered_query tree tests shown order limit)) (passing (db tree))) a.ordered
+    ordered_outputs = subst (λ k. IsPermutation k a.ordered) (a.distinct ∙ ap (map (output (ordered_query tree tests shown order limit))) a.grouped) a.same
+
+    pub ordered_has : (o : Output) → Has a.ordered o → (row : Row) × Has (db tree) row × (passes row ≡ true) × (o ≡ output (ordered_query tree tests shown order limit) (params ∷ row ∷ []))
+    ordered_has o h =
+        let q = ordered_query tree tests shown order limit in
+        let e = has_mapped (output q) (passing (db tree)) o (has_permuted a.ordered _ o (IsPermutation-sym _ a.ordered ordered_outputs) h) in
+        let r = passing_has (db tree) e.0 e.1 in
+        (r.0, r.1, r.2, e.2 ∙ ap (output q) r.3)
+
+    pub has_ordered : (row : Row) → Has (db tree) row → passes row ≡ true → Has a.ordered (output (ordered_query tree tests shown order limit) (params ∷ row ∷ []))
+    has_ordered r h is = has_permuted _ a.ordered _ ordered_outputs (maps_had (output (ordered_query tree tests shown order limit)) (passing (db tree)) (params ∷ r ∷ []) (has_passing (db tree) r h is))
+
   module _ (tree : ℕ) (shown : List Term) (db : Trees) (found : List Row) (a : IsAnswer (plain_query tree tests shown) db params found) where
     abbrev outputs : List Output
     outputs = map (output (plain_query tree tests shown)) (passing (db tree))
 
-    staged : a.kept ≡ outputs
-    staged = a.distinct ∙ ap (map (output (plain_query tree tests shown))) a.grouped
-
     pub found_count : length found ≡ length (passing (db tree))
     found_count =
-        ap length a.shown ∙ length-map a.ordered (λ (o : Output). o.1) ∙ length_permutation outputs a.ordered (subst (λ k. IsPermutation k a.ordered) staged a.same)
+        ap length a.shown ∙ length-map a.ordered (λ (o : Output). o.1) ∙ length_permutation outputs a.ordered (ordered_outputs tree shown [] all_rows db found a)
         ∙ length-map (passing (db tree)) (output (plain_query tree tests shown))
 
     pub answer_has : (x : Row) → Has found x → (row : Row) × Has (db tree) row × (passes row ≡ true) × (x ≡ eval_all shown (params ∷ row ∷ []))
     answer_has x h =
         let o = has_mapped (λ (o : Output). o.1) a.ordered x (subst (λ l. Has l x) a.shown h) in
-        let back : IsPermutation a.ordered outputs = IsPermutation-sym outputs a.ordered (subst (λ k. IsPermutation k a.ordered) staged a.same) in
-        let e = has_mapped (output (plain_query tree tests shown)) (passing (db tree)) o.0 (has_permuted a.ordered outputs o.0 back o.1) in
-        let r = passing_has (db tree) e.0 e.1 in
-        (r.0, r.1, r.2, o.2 ∙ ap (λ (p : Output). p.1) e.2 ∙ ap (eval_all shown) r.3)
+        let r = ordered_has tree shown [] all_rows db found a o.0 o.1 in
+        (r.0, r.1, r.2, o.2 ∙ ap (λ (p : Output). p.1) r.3)
 
     pub has_answer : (row : Row) → Has (db tree) row → passes row ≡ true → Has found (eval_all shown (params ∷ row ∷ []))
-    has_answer r h is =
-        let e = maps_had (output (plain_query tree tests shown)) (passing (db tree)) (params ∷ r ∷ []) (has_passing (db tree) r h is) in
-        let o = has_permuted outputs a.ordered _ (subst (λ k. IsPermutation k a.ordered) staged a.same) e in
-        subst (λ l. Has l (eval_all shown (params ∷ r ∷ []))) (sym a.shown) (maps_had (λ (p : Output). p.1) a.ordered _ o)
+    has_answer r h is = subst (λ l. Has l (eval_all shown (params ∷ r ∷ []))) (sym a.shown) (maps_had (λ (p : Output). p.1) a.ordered _ (has_ordered tree shown [] all_rows db found a r h is))
 
 -- with no test, the answer has each row, shown
 module _ (params : Row) (tree : ℕ) (shown : List Term) (db : Trees) (found : List Row) (a : IsAnswer (plain_query tree [] shown) db params found) where

@@ -1,6 +1,7 @@
 -- What the text of each statement means in a database that is laid out so.
 use Rattle.std.proofs.Common.{◌≡◌, inl, inr, sym, subst, pos, ℕ, List, [], ◌∷◌, codes, false, Ok, refl}
 use Rattle.sqlite.specs.declared.types.Value.TheVariants.{Null, Int}
+use Rattle.sqlite_value.specs.declared.keys.Key.{Key}
 use Rattle.sqlite.specs.Term.{Term, lit, col, op2}
 use Rattle.sqlite.specs.Collation.TheVariants.{Binary}
 use Rattle.sqlite.specs.Query.{Query}
@@ -21,7 +22,7 @@ use Rattle.sqlite_sql.specs.declared.ops.BinaryOp.TheVariants.{Compare}
 use Rattle.sqlite_sql.specs.declared.ops.CompareOp.TheVariants.{Eq}
 use Rattle.sqlite_tied.specs.Compute.{everything}
 use Rattle.reg_tables.specs.Layout.{no_schema, begun, layout, unindexed, IsLayout, texts, versions, levels, kept, meta, versions_of_id}
-use Rattle.reg_tables.proofs.Queries.{plain_query}
+use Rattle.reg_tables.proofs.Queries.{all_rows, ordered_query, plain_query}
 
 -- the text is one command, plainly
 pub record IsCommand (schema : Schema) (sql : List ℕ) (command : Command) : Type 0 where
@@ -188,16 +189,18 @@ drop_meta_is = record { is = refl; plain = (refl, refl) }
 
 -- ---- queries
 
--- the text shows these terms of the rows of a table that pass
+-- the text shows these terms of the rows of a table that pass, in this order
 pub record TableQuery : Type 0 where
   pub sql : List ℕ
   pub tree : ℕ
   pub tests : List Term
   pub shown : List Term
   pub names : List (List ℕ)
+  pub order : List (Term × Key)
+  pub limit : Term
 
 abbrev pub body_of : TableQuery → Query
-body_of q = plain_query q.tree q.tests q.shown
+body_of q = ordered_query q.tree q.tests q.shown q.order q.limit
 
 abbrev pub program_of : TableQuery → Program
 program_of q = record { lets = []; body = body_of q }
@@ -216,77 +219,77 @@ in_layouts P whole bare schema (inl is) = subst P (sym is) whole
 in_layouts P whole bare schema (inr is) = subst P (sym is) bare
 
 abbrev pub find_text : TableQuery
-find_text = record { sql = codes "SELECT text FROM texts WHERE id = ?1"; tree = 0; tests = by_id; shown = col 1 2 ∷ []; names = codes "text" ∷ [] }
+find_text = record { sql = codes "SELECT text FROM texts WHERE id = ?1"; tree = 0; tests = by_id; shown = col 1 2 ∷ []; names = codes "text" ∷ []; order = []; limit = all_rows }
 
 pub find_text_is : (schema : Schema) → IsLayout schema → IsQuery find_text schema
 unfolding understood everything
 find_text_is = in_layouts (IsQuery find_text) (record { command = record { is = refl; plain = (refl, refl) }; unlisted = refl }) (record { command = record { is = refl; plain = (refl, refl) }; unlisted = refl })
 
 abbrev pub find_id : TableQuery
-find_id = record { sql = codes "SELECT id FROM texts WHERE text = ?1"; tree = 0; tests = by_text; shown = col 1 0 ∷ []; names = codes "id" ∷ [] }
+find_id = record { sql = codes "SELECT id FROM texts WHERE text = ?1"; tree = 0; tests = by_text; shown = col 1 0 ∷ []; names = codes "id" ∷ []; order = []; limit = all_rows }
 
 pub find_id_is : (schema : Schema) → IsLayout schema → IsQuery find_id schema
 unfolding understood everything
 find_id_is = in_layouts (IsQuery find_id) (record { command = record { is = refl; plain = (refl, refl) }; unlisted = refl }) (record { command = record { is = refl; plain = (refl, refl) }; unlisted = refl })
 
 abbrev pub find_version : TableQuery
-find_version = record { sql = codes "SELECT id, deleted FROM versions WHERE subject = ?1 AND version = ?2"; tree = 2; tests = by_version; shown = col 1 3 ∷ col 1 4 ∷ []; names = codes "id" ∷ codes "deleted" ∷ [] }
+find_version = record { sql = codes "SELECT id, deleted FROM versions WHERE subject = ?1 AND version = ?2"; tree = 2; tests = by_version; shown = col 1 3 ∷ col 1 4 ∷ []; names = codes "id" ∷ codes "deleted" ∷ []; order = []; limit = all_rows }
 
 pub find_version_is : (schema : Schema) → IsLayout schema → IsQuery find_version schema
 unfolding understood everything
 find_version_is = in_layouts (IsQuery find_version) (record { command = record { is = refl; plain = (refl, refl) }; unlisted = refl }) (record { command = record { is = refl; plain = (refl, refl) }; unlisted = refl })
 
 abbrev pub find_level : TableQuery
-find_level = record { sql = codes "SELECT level FROM levels WHERE subject = ?1"; tree = 4; tests = by_key; shown = col 1 2 ∷ []; names = codes "level" ∷ [] }
+find_level = record { sql = codes "SELECT level FROM levels WHERE subject = ?1"; tree = 4; tests = by_key; shown = col 1 2 ∷ []; names = codes "level" ∷ []; order = []; limit = all_rows }
 
 pub find_level_is : (schema : Schema) → IsLayout schema → IsQuery find_level schema
 unfolding understood everything
 find_level_is = in_layouts (IsQuery find_level) (record { command = record { is = refl; plain = (refl, refl) }; unlisted = refl }) (record { command = record { is = refl; plain = (refl, refl) }; unlisted = refl })
 
 abbrev pub find_meta : TableQuery
-find_meta = record { sql = codes "SELECT value FROM meta WHERE name = ?1"; tree = 8; tests = by_key; shown = col 1 2 ∷ []; names = codes "value" ∷ [] }
+find_meta = record { sql = codes "SELECT value FROM meta WHERE name = ?1"; tree = 8; tests = by_key; shown = col 1 2 ∷ []; names = codes "value" ∷ []; order = []; limit = all_rows }
 
 pub find_meta_is : (schema : Schema) → IsLayout schema → IsQuery find_meta schema
 unfolding understood everything
 find_meta_is = in_layouts (IsQuery find_meta) (record { command = record { is = refl; plain = (refl, refl) }; unlisted = refl }) (record { command = record { is = refl; plain = (refl, refl) }; unlisted = refl })
 
 abbrev pub find_kept : TableQuery
-find_kept = record { sql = codes "SELECT command, status, body FROM kept WHERE key = ?1"; tree = 6; tests = by_key; shown = col 1 2 ∷ col 1 3 ∷ col 1 4 ∷ []; names = codes "command" ∷ codes "status" ∷ codes "body" ∷ [] }
+find_kept = record { sql = codes "SELECT command, status, body FROM kept WHERE key = ?1"; tree = 6; tests = by_key; shown = col 1 2 ∷ col 1 3 ∷ col 1 4 ∷ []; names = codes "command" ∷ codes "status" ∷ codes "body" ∷ []; order = []; limit = all_rows }
 
 pub find_kept_is : (schema : Schema) → IsLayout schema → IsQuery find_kept schema
 unfolding understood everything
 find_kept_is = in_layouts (IsQuery find_kept) (record { command = record { is = refl; plain = (refl, refl) }; unlisted = refl }) (record { command = record { is = refl; plain = (refl, refl) }; unlisted = refl })
 
 abbrev pub all_texts : TableQuery
-all_texts = record { sql = codes "SELECT rowid, id, text FROM texts"; tree = 0; tests = []; shown = col 1 0 ∷ col 1 0 ∷ col 1 2 ∷ []; names = codes "id" ∷ codes "id" ∷ codes "text" ∷ [] }
+all_texts = record { sql = codes "SELECT rowid, id, text FROM texts"; tree = 0; tests = []; shown = col 1 0 ∷ col 1 0 ∷ col 1 2 ∷ []; names = codes "id" ∷ codes "id" ∷ codes "text" ∷ []; order = []; limit = all_rows }
 
 pub all_texts_is : (schema : Schema) → IsLayout schema → IsQuery all_texts schema
 unfolding understood everything
 all_texts_is = in_layouts (IsQuery all_texts) (record { command = record { is = refl; plain = (refl, refl) }; unlisted = refl }) (record { command = record { is = refl; plain = (refl, refl) }; unlisted = refl })
 
 abbrev pub all_versions : TableQuery
-all_versions = record { sql = codes "SELECT rowid, subject, version, id, deleted FROM versions"; tree = 2; tests = []; shown = col 1 0 ∷ col 1 1 ∷ col 1 2 ∷ col 1 3 ∷ col 1 4 ∷ []; names = codes "rowid" ∷ codes "subject" ∷ codes "version" ∷ codes "id" ∷ codes "deleted" ∷ [] }
+all_versions = record { sql = codes "SELECT rowid, subject, version, id, deleted FROM versions"; tree = 2; tests = []; shown = col 1 0 ∷ col 1 1 ∷ col 1 2 ∷ col 1 3 ∷ col 1 4 ∷ []; names = codes "rowid" ∷ codes "subject" ∷ codes "version" ∷ codes "id" ∷ codes "deleted" ∷ []; order = []; limit = all_rows }
 
 pub all_versions_is : (schema : Schema) → IsLayout schema → IsQuery all_versions schema
 unfolding understood everything
 all_versions_is = in_layouts (IsQuery all_versions) (record { command = record { is = refl; plain = (refl, refl) }; unlisted = refl }) (record { command = record { is = refl; plain = (refl, refl) }; unlisted = refl })
 
 abbrev pub all_levels : TableQuery
-all_levels = record { sql = codes "SELECT rowid, subject, level FROM levels"; tree = 4; tests = []; shown = col 1 0 ∷ col 1 1 ∷ col 1 2 ∷ []; names = codes "rowid" ∷ codes "subject" ∷ codes "level" ∷ [] }
+all_levels = record { sql = codes "SELECT rowid, subject, level FROM levels"; tree = 4; tests = []; shown = col 1 0 ∷ col 1 1 ∷ col 1 2 ∷ []; names = codes "rowid" ∷ codes "subject" ∷ codes "level" ∷ []; order = []; limit = all_rows }
 
 pub all_levels_is : (schema : Schema) → IsLayout schema → IsQuery all_levels schema
 unfolding understood everything
 all_levels_is = in_layouts (IsQuery all_levels) (record { command = record { is = refl; plain = (refl, refl) }; unlisted = refl }) (record { command = record { is = refl; plain = (refl, refl) }; unlisted = refl })
 
 abbrev pub all_kept : TableQuery
-all_kept = record { sql = codes "SELECT rowid, key, command, status, body FROM kept"; tree = 6; tests = []; shown = col 1 0 ∷ col 1 1 ∷ col 1 2 ∷ col 1 3 ∷ col 1 4 ∷ []; names = codes "rowid" ∷ codes "key" ∷ codes "command" ∷ codes "status" ∷ codes "body" ∷ [] }
+all_kept = record { sql = codes "SELECT rowid, key, command, status, body FROM kept"; tree = 6; tests = []; shown = col 1 0 ∷ col 1 1 ∷ col 1 2 ∷ col 1 3 ∷ col 1 4 ∷ []; names = codes "rowid" ∷ codes "key" ∷ codes "command" ∷ codes "status" ∷ codes "body" ∷ []; order = []; limit = all_rows }
 
 pub all_kept_is : (schema : Schema) → IsLayout schema → IsQuery all_kept schema
 unfolding understood everything
 all_kept_is = in_layouts (IsQuery all_kept) (record { command = record { is = refl; plain = (refl, refl) }; unlisted = refl }) (record { command = record { is = refl; plain = (refl, refl) }; unlisted = refl })
 
 abbrev pub all_meta : TableQuery
-all_meta = record { sql = codes "SELECT rowid, name, value FROM meta"; tree = 8; tests = []; shown = col 1 0 ∷ col 1 1 ∷ col 1 2 ∷ []; names = codes "rowid" ∷ codes "name" ∷ codes "value" ∷ [] }
+all_meta = record { sql = codes "SELECT rowid, name, value FROM meta"; tree = 8; tests = []; shown = col 1 0 ∷ col 1 1 ∷ col 1 2 ∷ []; names = codes "rowid" ∷ codes "name" ∷ codes "value" ∷ []; order = []; limit = all_rows }
 
 pub all_meta_is : (schema : Schema) → IsLayout schema → IsQuery all_meta schema
 unfolding understood everything

@@ -5,16 +5,13 @@ use Rattle.std.proofs.lemmas.List.Sorted.{IsPermutation-map}
 use Rattle.sqlite.specs.declared.error.ErrorCode.TheVariants as code
 use Rattle.sqlite.specs.declared.error.Error.{Error}
 use Rattle.sqlite.specs.declared.error.Error.TheVariants.{SqliteFailure}
-use Rattle.sqlite.specs.declared.types.Value.TheVariants.{Null}
 use Rattle.sqlite.specs.Order.{Row}
 use Rattle.sqlite.specs.Term.{eval_all}
 use Rattle.sqlite.specs.Schema.{Schema}
 use Rattle.sqlite.specs.Effect.{Database}
 use Rattle.sqlite.specs.Query.{IsAnswer}
 use Rattle.sqlite.specs.Program.{overlay}
-use Rattle.sqlite.specs.Command.TheVariants.{Select}
 use Rattle.sqlite.specs.State.{State, Shown, FailsToQuery, IsTooLate}
-use Rattle.sqlite.proofs.Callers.{reads_as}
 use Rattle.sqlite_rules.specs.Lists.{Has}
 use Rattle.reg_tables.specs.Layout.{IsLayout}
 use Rattle.reg_tables.specs.Reading.{HoldsReadable, CanBeRead, IsFault}
@@ -23,8 +20,8 @@ use Rattle.reg_tables.specs.Contents.{text_form, version_form, pair_form, kept_f
 use Rattle.reg_tables.specs.Listings.{parts_of, entry_parts, Lists, IsReadableText, IsReadableVersion, IsReadablePair, IsReadableKept}
 use Rattle.reg_tables.proofs.Members.{map-map}
 use Rattle.reg_tables.proofs.Queries.{plain_query, answer_has, answer_all}
-use Rattle.reg_tables.proofs.KeyedTables.{with_nothing}
-use Rattle.reg_tables.proofs.Statements.{TableQuery, program_of, IsQuery, laid_out, all_texts, all_texts_is, all_versions, all_versions_is, all_levels, all_levels_is, all_kept, all_kept_is, all_meta, all_meta_is}
+use Rattle.reg_tables.proofs.KeyedTables.{with_nothing, answered}
+use Rattle.reg_tables.proofs.Statements.{TableQuery, body_of, IsQuery, laid_out, all_texts, all_texts_is, all_versions, all_versions_is, all_levels, all_levels_is, all_kept, all_kept_is, all_meta, all_meta_is}
 use Rattle.reg_tables.proofs.Faults.{Takes, takes_all_texts, takes_all_versions, takes_all_levels, takes_all_kept, takes_all_meta, query_faults, read_fault_until, memory_is_fault}
 use Rattle.reg_tables.proofs.Transactions.{shown_open}
 use Rattle.reg_tables.proofs.ReadableRows.{readable_text, readable_version, readable_level, readable_kept, readable_meta}
@@ -33,7 +30,7 @@ use Rattle.reg_tables.proofs.ReadableRows.{readable_text, readable_version, read
 pub record ShowsTable {K V : Type 0} (form : Form K V) (is_readable : Row → Type 0) (q : TableQuery) : Type 0 where
   pub is : (schema : Schema) → IsLayout schema → IsQuery q schema
   pub takes : (schema : Schema) → IsLayout schema → Takes q [] schema
-  pub untested : q.tests ≡ []
+  pub untested : body_of q ≡ plain_query q.tree [] q.shown
   pub whole : (row : Row) → parts_of form (eval_all q.shown ([] ∷ row ∷ [])) ≡ parts_of form row
   pub readable : (db : Database) → HoldsReadable db → (row : Row) → Has (db.trees q.tree) row → is_readable (eval_all q.shown ([] ∷ row ∷ []))
 
@@ -60,10 +57,7 @@ all_if_each P (x ∷ xs) each (suc k) d low = all_if_each P xs (λ y h. each y (
 module _ {K V : Type 0} {form : Form K V} {is_readable : Row → Type 0} {q : TableQuery} (table : ShowsTable form is_readable q) (old new : State) where
   module _ (laid : IsLayout old.now.schema) (found : List Row) (h : Shown q.sql [] old new found) where
     answer : IsAnswer (plain_query q.tree [] q.shown) (overlay old.now.trees []) [] found
-    answer =
-        let it = table.is old.now.schema laid in
-        let read = reads_as q.sql [] old new old.now.schema refl (Select (program_of q) q.names) it.command.is it.command.plain it.unlisted found h in
-        subst (λ tests. IsAnswer (plain_query q.tree tests q.shown) (overlay old.now.trees []) [] found) table.untested (read.answer Null)
+    answer = subst (λ b. IsAnswer b (overlay old.now.trees []) [] found) table.untested (answered q [] old new (table.is old.now.schema laid) found h)
 
     shown_parts : IsPermutation (map (parts_of form) (old.now.trees q.tree)) (map (parts_of form) found)
     shown_parts =

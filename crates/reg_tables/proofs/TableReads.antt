@@ -38,37 +38,37 @@ module _ (old new : State) (schema : Schema) (contents : Contents) (h : HoldsIn 
       → MatchOption o (get contents.levels k ≡ None) (λ row. (level : List ℕ) × (get contents.levels k ≡ Some level) × (row ≡ text_cells level))
   finds_level k found o first shown =
       first_found pair_form (get contents.levels k) found
-      (finds pair_form text_cmp text_order find_level (Text k ∷ []) old new (find_level_is old.now.schema laid) (get contents.levels) h.levels k found (λ row q is. by_key_test row k q is) (λ row. refl) shown) o first
+      (finds pair_form text_cmp text_order find_level refl (Text k ∷ []) old new (find_level_is old.now.schema laid) (get contents.levels) h.levels k found (λ row q is. by_key_test row k q is) (λ row. refl) shown) o first
 
   pub finds_meta : (k : List ℕ) (found : List Row) (o : Option Row) → o ≡ slice_get found 0 → Shown find_meta.sql (Text k ∷ []) old new found
       → MatchOption o (get contents.meta k ≡ None) (λ row. (value : List ℕ) × (get contents.meta k ≡ Some value) × (row ≡ text_cells value))
   finds_meta k found o first shown =
       first_found pair_form (get contents.meta k) found
-      (finds pair_form text_cmp text_order find_meta (Text k ∷ []) old new (find_meta_is old.now.schema laid) (get contents.meta) h.meta k found (λ row q is. by_key_test row k q is) (λ row. refl) shown) o first
+      (finds pair_form text_cmp text_order find_meta refl (Text k ∷ []) old new (find_meta_is old.now.schema laid) (get contents.meta) h.meta k found (λ row q is. by_key_test row k q is) (λ row. refl) shown) o first
 
   pub finds_kept : (k : List ℕ) (found : List Row) (o : Option Row) → o ≡ slice_get found 0 → Shown find_kept.sql (Text k ∷ []) old new found
       → MatchOption o (get contents.kept k ≡ None) (λ row. (reply : KeptRow) × (get contents.kept k ≡ Some reply) × (row ≡ kept_cells reply))
   finds_kept k found o first shown =
       first_found kept_form (get contents.kept k) found
-      (finds kept_form text_cmp text_order find_kept (Text k ∷ []) old new (find_kept_is old.now.schema laid) (get contents.kept) h.kept k found (λ row q is. by_key_test row k q is) (λ row. refl) shown) o first
+      (finds kept_form text_cmp text_order find_kept refl (Text k ∷ []) old new (find_kept_is old.now.schema laid) (get contents.kept) h.kept k found (λ row q is. by_key_test row k q is) (λ row. refl) shown) o first
 
   pub finds_text : (id : ℕ) (found : List Row) (o : Option Row) → o ≡ slice_get found 0 → Shown find_text.sql (Int (pos id) ∷ []) old new found
       → MatchOption o (get contents.texts id ≡ None) (λ row. (text : List ℕ) × (get contents.texts id ≡ Some text) × (row ≡ text_cells text))
   finds_text id found o first shown =
       first_found text_form (get contents.texts id) found
-      (finds text_form nat_cmp number_order find_text (Int (pos id) ∷ []) old new (find_text_is old.now.schema laid) (get contents.texts) h.texts id found (λ row q is. by_id_test row id q is) (λ row. refl) shown) o first
+      (finds text_form nat_cmp number_order find_text refl (Int (pos id) ∷ []) old new (find_text_is old.now.schema laid) (get contents.texts) h.texts id found (λ row q is. by_id_test row id q is) (λ row. refl) shown) o first
 
   pub finds_id : (text : List ℕ) (found : List Row) (o : Option Row) → o ≡ slice_get found 0 → Shown find_id.sql (Text text ∷ []) old new found
       → MatchOption o ((id : ℕ) → get contents.texts id ≢ Some text) (λ row. (id : ℕ) × (get contents.texts id ≡ Some text) × (row ≡ number_cells id))
   finds_id text found o first shown = first_shown found _ _
       (λ x there.
-      let r = shown_has find_id (Text text ∷ []) old new it found shown x there in
+      let r = shown_has find_id (Text text ∷ []) old new it found shown refl x there in
       let entry = h.texts.sound r.0 r.1 in
       let same = same_key text_cmp text_order entry.1 text (sym (by_text_test r.0 text entry.1 entry.3.1) ∙ r.2) in
       (entry.0, entry.2 ∙ ap Some same, r.3 ∙ entry.3.0))
       (λ none id there.
       let r = h.texts.complete id text there in
-      none _ (has_shown find_id (Text text ∷ []) old new it found shown r.0 r.1 (by_text_test r.0 text text r.2.1 ∙ tied_key text_cmp text_order text text refl)))
+      none _ (has_shown find_id (Text text ∷ []) old new it found shown refl r.0 r.1 (by_text_test r.0 text text r.2.1 ∙ tied_key text_cmp text_order text text refl)))
       o first
     where
       it : IsQuery find_id old.now.schema
@@ -78,7 +78,7 @@ module _ (old new : State) (schema : Schema) (contents : Contents) (h : HoldsIn 
       → MatchOption o (get contents.versions k ≡ None) (λ row. (version : VersionRow) × (get contents.versions k ≡ Some version) × (row ≡ version_cells version))
   finds_version k found o first shown =
       first_found version_form (get contents.versions k) found
-      (finds version_form version_cmp version_order find_version (Text k.0 ∷ Int (pos k.1) ∷ []) old new (find_version_is old.now.schema laid) (get contents.versions) h.versions k found (λ row q is. by_version_test row k q is) (λ row. refl) shown) o first
+      (finds version_form version_cmp version_order find_version refl (Text k.0 ∷ Int (pos k.1) ∷ []) old new (find_version_is old.now.schema laid) (get contents.versions) h.versions k found (λ row q is. by_version_test row k q is) (λ row. refl) shown) o first
 
 -- a text that a `String` holds is read, but for want of memory
 pub text_read : (row : Row) (text : List ℕ) (e : Error) → row ≡ text_cells text → IsUtf8 text → IsReadError 0 (column row 0) e

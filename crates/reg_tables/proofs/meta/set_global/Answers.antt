@@ -1,4 +1,4 @@
-use Rattle.std.proofs.Common.{inl, ℕ, ◌+◌, List, [], ◌∷◌, arith, subst, codes}
+use Rattle.std.proofs.Common.{inl, ℕ, ◌+◌, [], ◌∷◌, arith, subst, codes}
 use Rattle.sqlite.specs.Held.{state}
 use Rattle.sqlite.specs.State.{HasCleanDisk}
 use Rattle.reg_tables.specs.Contents.{text_cmp, Contents, Holds}
