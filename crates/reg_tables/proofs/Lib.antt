@@ -18,6 +18,7 @@ pub mod ReadableRows
 pub mod TableLines
 pub mod ListingLemmas
 pub mod Opening
+pub mod VersionLists
 pub mod CheckLemmas
 pub mod UniqueKeys
 pub mod References

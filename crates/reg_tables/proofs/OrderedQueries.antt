@@ -186,8 +186,8 @@ module _ {K V : Type 0} (form : Form K V) (R : K → K → Ordering) (tree : ℕ
         later,
       )
 
-  pub in_order : a.ordered ≡ map out es
-  in_order = same_rising cmp total a.ordered (map out es) risen outs_rise
+  pub in_order_as : a.ordered ≡ map out es
+  in_order_as = same_rising cmp total a.ordered (map out es) risen outs_rise
       (λ o h.
       let r = ordered_has tests params tree shown order limit db found a o h in
       let e = shows.sound r.0 r.1 in

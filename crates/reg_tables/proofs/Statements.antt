@@ -239,6 +239,17 @@ pub find_version_is : (schema : Schema) → IsLayout schema → IsQuery find_ver
 unfolding understood everything
 find_version_is = in_layouts (IsQuery find_version) (record { command = record { is = refl; plain = (refl, refl) }; unlisted = refl }) (record { command = record { is = refl; plain = (refl, refl) }; unlisted = refl })
 
+-- by subject and number
+abbrev pub in_order : List (Term × Key)
+in_order = (col 1 1, record { collation = Binary; descending = false }) ∷ (col 1 2, record { collation = Binary; descending = false }) ∷ []
+
+abbrev pub find_versions : TableQuery
+find_versions = record { sql = codes "SELECT version, id, deleted FROM versions WHERE subject = ?1 ORDER BY subject, version"; tree = 2; tests = by_key; shown = col 1 2 ∷ col 1 3 ∷ col 1 4 ∷ []; names = codes "version" ∷ codes "id" ∷ codes "deleted" ∷ []; order = in_order; limit = all_rows }
+
+pub find_versions_is : (schema : Schema) → IsLayout schema → IsQuery find_versions schema
+unfolding understood everything
+find_versions_is = in_layouts (IsQuery find_versions) (record { command = record { is = refl; plain = (refl, refl) }; unlisted = refl }) (record { command = record { is = refl; plain = (refl, refl) }; unlisted = refl })
+
 abbrev pub find_level : TableQuery
 find_level = record { sql = codes "SELECT level FROM levels WHERE subject = ?1"; tree = 4; tests = by_key; shown = col 1 2 ∷ []; names = codes "level" ∷ []; order = []; limit = all_rows }
 

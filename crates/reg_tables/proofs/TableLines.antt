@@ -49,7 +49,7 @@ shows_kept = record { is = all_kept_is; takes = takes_all_kept; untested = refl;
 pub shows_meta : ShowsTable pair_form IsReadablePair all_meta
 shows_meta = record { is = all_meta_is; takes = takes_all_meta; untested = refl; whole = λ row. refl; readable = readable_meta }
 
-all_if_each : {X : Type 0} (P : X → Type 0) (xs : List X) → ((x : X) → Has xs x → P x) → All P xs
+pub all_if_each : {X : Type 0} (P : X → Type 0) (xs : List X) → ((x : X) → Has xs x → P x) → All P xs
 all_if_each P [] each k d low = absurd (omega arith)
 all_if_each P (x ∷ xs) each zero d low = each x (inl refl)
 all_if_each P (x ∷ xs) each (suc k) d low = all_if_each P xs (λ y h. each y (inr h)) k d (omega (arith, low))

@@ -13,6 +13,7 @@ mod kept;
 mod layout;
 mod levels;
 mod lines;
+mod listed;
 mod meta;
 mod statement;
 mod texts;
@@ -26,6 +27,7 @@ pub use lines::{
     KeptLine, LevelLine, MetaLine, TextLine, VersionLine, kept_lines, level_lines, meta_lines,
     text_lines, version_lines,
 };
+pub use listed::{SubjectVersion, versions_of};
 pub use meta::{global_level, set_global};
 pub use texts::{id_of, put_text, text_of};
 pub use versions::{VersionEntry, drop_version, mark_deleted, put_version, version_of};

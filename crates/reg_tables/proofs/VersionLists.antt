@@ -1,0 +1,152 @@
+-- What the queries of versions list, in the order of subjects and numbers.
+use Rattle.std.proofs.Common.{◌≡◌, ◌⊎◌, ◌≤◌, inl, inr, ℕ, pos, List, [], ◌∷◌, map, filter, All, Bool, Ordering, Less, Equal, Greater, T, refl, sym, ap, subst, ◌∙◌}
+use Rattle.std.specs.Prelude.{bytes_eq, IsUtf8, ◌<ℤ◌, ◌<◌, ◌^◌}
+use Rattle.std.specs.Cmp.{int_cmp_is}
+use Rattle.std.specs.FinMap.{entries, get}
+use Rattle.std.specs.Ordering.{int_cmp, nat_cmp, ordering_then, is_eq, MatchOrdering}
+use Rattle.sqlite.specs.declared.error.ErrorCode.TheVariants as code
+use Rattle.sqlite.specs.declared.error.Error.{Error}
+use Rattle.sqlite.specs.declared.error.Error.TheVariants.{SqliteFailure}
+use Rattle.sqlite.specs.declared.types.Value.TheVariants.{Int, Text}
+use Rattle.sqlite.specs.Order.{Row, column}
+use Rattle.sqlite.specs.Program.{overlay}
+use Rattle.sqlite.specs.Query.{Output, IsAnswer, key_cmp}
+use Rattle.sqlite.specs.State.{State, Shown, FailsToQuery, IsTooLate}
+use Rattle.sqlite.specs.Schema.{Schema}
+use Rattle.sqlite.specs.Term.{Term, eval_all}
+use Rattle.sqlite_rules.specs.Lists.{Has}
+use Rattle.sqlite_rules.proofs.ListLemmas.{has_filtered, has_kept}
+use Rattle.sqlite_trees.proofs.ListLemmas.{ascending-filter, ascending_weaker}
+use Rattle.sqlite_value.specs.declared.keys.Key.{Key}
+use Rattle.sqlite_value.proofs.OrderLemmas.{value_cmp-Int, value_cmp-Text}
+use Rattle.reg_tables.specs.Layout.{IsLayout}
+use Rattle.reg_tables.specs.TableMaps.{IsEntry, ShowsMap}
+use Rattle.reg_tables.specs.Contents.{version_cmp, VersionRow, version_cells, version_key_cells, version_form, text_cmp, Contents, AreReadable, HoldsIn}
+use Rattle.reg_tables.specs.Entries.{NumberedVersion, numbered, numbered_cells, subject_versions, IsReadableNumbered}
+use Rattle.reg_tables.specs.Reading.{HoldsReadable, CanBeRead, IsFault}
+use Rattle.reg_tables.specs.declared.listed.SubjectVersion.{SubjectVersion}
+use Rattle.reg_tables.proofs.Faults.{Takes, query_faults, read_fault_until, memory_is_fault}
+use Rattle.reg_tables.proofs.KeyedTables.{text_order, version_order, by_key_test, with_nothing, answered}
+use Rattle.reg_tables.proofs.Members.{has_mapped, map-map}
+use Rattle.reg_tables.proofs.MapLemmas.{same_key, tied_key}
+use Rattle.reg_tables.proofs.Opening.{distinct_version_rows}
+use Rattle.reg_tables.proofs.OrderedQueries.{entries_rise, entry_got, got_entry, in_order_as}
+use Rattle.reg_tables.proofs.Queries.{all_rows, ordered_query, passes}
+use Rattle.reg_tables.proofs.Statements.{TableQuery, body_of, IsQuery, by_key, in_order, laid_out, find_versions, find_versions_is}
+use Rattle.reg_tables.proofs.TableLines.{all_if_each}
+use Rattle.reg_tables.proofs.Transactions.{shown_open}
+use Rattle.std.proofs.lemmas.Bool.{cases_Bool, both_ways, false_from_ne_true, lt-ltb}
+use Rattle.std.proofs.lemmas.Cmp.{ranked}
+use Rattle.std.proofs.lemmas.Slice.Eq.{bytes_eq-Decides}
+
+-- the key of a version, and what is in its row
+abbrev pub Entry : Type 0
+Entry = (List ℕ × ℕ) × VersionRow
+
+-- a version's key is ordered by its columns
+int_order : (a b : ℕ) → int_cmp (pos a) (pos b) ≡ nat_cmp a b
+int_order a b = sym (int_cmp_is (pos a) (pos b) (nat_cmp a b) (go (nat_cmp a b) (ranked a b (nat_cmp a b) refl)))
+  where
+    go : (r : Ordering) → MatchOrdering r (a < b) (a ≡ b) (b < a) → MatchOrdering r (pos a <ℤ pos b) (pos a ≡ pos b) (pos b <ℤ pos a)
+    go Less h = record { lt = subst T (sym (lt-ltb a b h)) tt }
+    go Equal h = ap pos h
+    go Greater h = record { lt = subst T (sym (lt-ltb b a h)) tt }
+
+ranks : (a b : List ℕ × ℕ) → version_cmp a b ≡ Less → key_cmp 0 (map (λ (k : Term × Key). k.1) in_order) (version_key_cells a) (version_key_cells b) ≡ Less
+ranks a b h = rw (value_cmp-Text a.0 b.0, value_cmp-Int (pos a.1) (pos b.1), int_order a.1 b.1) (go (text_cmp a.0 b.0) (nat_cmp a.1 b.1) h)
+  where
+    go : (x y : Ordering) → ordering_then x y ≡ Less → ordering_then x (ordering_then y Equal) ≡ Less
+    go Less y h = refl
+    go Equal Less h = refl
+    go Equal Equal h = h
+    go Equal Greater h = h
+    go Greater y h = h
+
+-- lists are told apart by their cells where their members are
+same_cells : {A : Type 0} (f : A → Row) → ((a b : A) → f a ≡ f b → a ≡ b) → (xs ys : List A) → map f xs ≡ map f ys → xs ≡ ys
+same_cells f distinct [] [] h = refl
+same_cells f distinct [] (y ∷ ys) h = absurd (cc)
+same_cells f distinct (x ∷ xs) [] h = absurd (cc)
+same_cells f distinct (x ∷ xs) (y ∷ ys) h =
+    let first : f x ≡ f y = cc in
+    let rest : map f xs ≡ map f ys = cc in
+    λ i. distinct x y first i ∷ same_cells f distinct xs ys rest i
+
+-- the query shows its columns of the versions that pass, in order
+module _ (q : TableQuery) (ordered : body_of q ≡ ordered_query 2 q.tests q.shown in_order all_rows) (params : Row) (old new : State) (it : IsQuery q old.now.schema) (found : List Row) (h : Shown q.sql params old new found) (contents : Contents)
+    (shows : ShowsMap version_form (old.now.trees 2) (get contents.versions)) (p : Entry → Bool) (test : (row : Row) (e : Entry) → IsEntry version_form row e.0 e.1 → passes q.tests params row ≡ p e) (cells : Entry → Row)
+    (whole : (row : Row) (e : Entry) → IsEntry version_form row e.0 e.1 → eval_all q.shown (params ∷ row ∷ []) ≡ cells e) where
+  answer : IsAnswer (ordered_query 2 q.tests q.shown in_order all_rows) (overlay old.now.trees []) params found
+  answer = subst (λ b. IsAnswer b (overlay old.now.trees []) params found) ordered (answered q params old new it found h)
+
+  abbrev out : Entry → Output
+  out e = (version_key_cells e.0, cells e)
+
+  pub lists_versions : found ≡ map cells (filter p (entries contents.versions))
+  lists_versions =
+      let es = filter p (entries contents.versions) in
+      let as_ordered = in_order_as version_form version_cmp 2 q.tests q.shown in_order all_rows params (overlay old.now.trees []) found answer contents.versions
+      (subst (λ l. ShowsMap version_form l (get contents.versions)) (sym (with_nothing old.now.trees 2)) shows) es out
+      (λ row e is i. (is.0 i, whole row e is i))
+      (λ row e is got on. has_kept p (entries contents.versions) e (got_entry version_cmp version_order contents.versions e.0 e.1 got) (sym (test row e is) ∙ on))
+      (λ e there. let kept = has_filtered p (entries contents.versions) e there in (entry_got version_cmp version_order contents.versions e kept.0, λ row is. test row e is ∙ kept.1))
+      (ascending-filter _ p (entries contents.versions)
+      (ascending_weaker (λ (a b : Entry). version_cmp a.0 b.0 ≡ Less) _ (λ a b. ranks a.0 b.0) (entries contents.versions) (entries_rise version_cmp version_order contents.versions))) in
+      answer.shown ∙ ap (map (λ (o : Output). o.1)) as_ordered ∙ map-map (λ (o : Output). o.1) out es
+
+  -- of readable contents each row is readable
+  pub readable_versions : (is_readable : Row → Type 0) → ((e : Entry) → IsUtf8 e.0.0 × (e.0.1 < 2 ^ 32) × (e.1.id < 2 ^ 32) → is_readable (cells e)) → AreReadable contents → All is_readable found
+  readable_versions is_readable can readable = all_if_each is_readable found (λ x there.
+      let e = has_mapped cells (filter p (entries contents.versions)) x (subst (λ l. Has l x) lists_versions there) in
+      let kept = has_filtered p (entries contents.versions) e.0 e.1 in
+      subst is_readable (sym e.2) (can e.0 (readable.versions e.0.0 e.0.1 (entry_got version_cmp version_order contents.versions e.0 kept.0))))
+
+-- a query that shows what can be read fails with a fault alone
+module _ (q : TableQuery) (params : Row) (is : (schema : Schema) → IsLayout schema → IsQuery q schema) (takes : (schema : Schema) → IsLayout schema → Takes q params schema) (is_readable : Row → Type 0) where
+  pub list_fault : (old new end : State) → ((found : List Row) → Shown q.sql params old new found → HoldsReadable old.now → All is_readable found) → (e : Error)
+      → ((new.faults ≤ end.faults) × (FailsToQuery q.sql params old new e ⊎ IsTooLate q.sql params old new e)) ⊎ ((found : List Row) × Shown q.sql params old new found × (All is_readable found → e ≡ SqliteFailure code.OutOfMemory)) → CanBeRead old → IsFault old end e
+  list_fault old new end readable e (inl failed) can = read_fault_until old new end failed.0 e (query_faults q is params takes old new can e failed.1)
+  list_fault old new end readable e (inr read) can = memory_is_fault old end e (read.2 (readable read.0 read.1 (can (shown_open q.sql params old new read.0 read.1))))
+
+-- ---- the versions of a subject
+
+same_text : (a b : List ℕ) → is_eq (text_cmp a b) ≡ bytes_eq a b
+same_text a b = elim (cases_Bool (is_eq (text_cmp a b))) [
+  | inl same ↦ same ∙ sym ((bytes_eq-Decides a b).1 (same_key text_cmp text_order a b same))
+  | inr other ↦ other ∙ sym (false_from_ne_true _ (λ same. both_ways _ other (tied_key text_cmp text_order a b ((bytes_eq-Decides a b).0 same))))
+]
+
+distinct_numbered : (a b : NumberedVersion) → numbered_cells a ≡ numbered_cells b → a ≡ b
+distinct_numbered a b h =
+    let number : a.0 ≡ b.0 = cc in
+    let rest : version_cells a.1 ≡ version_cells b.1 = cc in
+    λ i. (number i, distinct_version_rows a.1 b.1 rest i)
+
+module _ (old new : State) (schema : Schema) (contents : Contents) (h : HoldsIn schema old.now contents) (is_layout : IsLayout schema) (subject : List ℕ) (found : List Row) (shown : Shown find_versions.sql (Text subject ∷ []) old new found) where
+  abbrev cells : Entry → Row
+  cells e = numbered_cells (e.0.1, e.1)
+
+  its : IsQuery find_versions old.now.schema
+  its = find_versions_is old.now.schema (laid_out h is_layout)
+
+  test : (row : Row) (e : Entry) → IsEntry version_form row e.0 e.1 → passes by_key (Text subject ∷ []) row ≡ bytes_eq e.0.0 subject
+  test row e is = by_key_test row subject e.0.0 (let k = is.0 in cc) ∙ same_text e.0.0 subject
+
+  whole : (row : Row) (e : Entry) → IsEntry version_form row e.0 e.1 → column row 2 ∷ column row 3 ∷ column row 4 ∷ [] ≡ cells e
+  whole row e is =
+      let number : column row 2 ≡ Int (pos e.0.1) = (let k = is.0 in cc) in
+      λ i. number i ∷ is.1 i
+
+  pub finds_versions : found ≡ map numbered_cells (subject_versions subject contents)
+  finds_versions =
+      lists_versions find_versions refl (Text subject ∷ []) old new its found shown contents h.versions (λ e. bytes_eq e.0.0 subject) test cells whole
+      ∙ sym (map-map numbered_cells (λ (e : Entry). (e.0.1, e.1)) (filter (λ (e : Entry). bytes_eq e.0.0 subject) (entries contents.versions)))
+
+  pub numbered_lines : (lines : List SubjectVersion) → map (λ (row : Row). column row 0 ∷ column row 1 ∷ column row 2 ∷ []) found ≡ map (λ (line : SubjectVersion). numbered_cells (numbered line)) lines → map numbered lines ≡ subject_versions subject contents
+  numbered_lines lines read = same_cells numbered_cells distinct_numbered (map numbered lines) (subject_versions subject contents)
+      (map-map numbered_cells numbered lines ∙ sym read ∙ ap (map (λ (row : Row). column row 0 ∷ column row 1 ∷ column row 2 ∷ [])) finds_versions
+      ∙ map-map (λ (row : Row). column row 0 ∷ column row 1 ∷ column row 2 ∷ []) numbered_cells (subject_versions subject contents))
+
+  pub readable_numbered : AreReadable contents → All IsReadableNumbered found
+  readable_numbered = readable_versions find_versions refl (Text subject ∷ []) old new its found shown contents h.versions (λ e. bytes_eq e.0.0 subject) test cells whole IsReadableNumbered
+      (λ e can. record { number = e.0.1; version = e.1; is = refl; low = can.1; low_id = can.2 })
