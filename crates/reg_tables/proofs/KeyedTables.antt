@@ -1,11 +1,13 @@
 -- What the statements of one table make of the map that it shows, by the key of its rows.
-use Rattle.std.proofs.Common.{◌+◌, ◌≡◌, ◌≢◌, inl, inr, ◌&&◌, ◌==◌, ℕ, ℤ, length, map, drop, List, [], ◌∷◌, ◌/◌, Option, Some, None, Bool, true, false, cond, Ok, MatchOption, slice_get, refl, sym, ap, subst, ◌∙◌}
+use Rattle.std.proofs.Common.{T, ◌+◌, ◌≡◌, ◌≢◌, inl, ◌&&◌, ◌==◌, ℕ, ℤ, length, map, drop, List, [], ◌∷◌, ◌/◌, Option, Some, None, Bool, true, false, cond, Ok, MatchOption, slice_get, refl, sym, ap, subst, ◌∙◌}
 use Rattle.std.specs.List.{AllByRecursion}
-use Rattle.std.specs.Ordering.{is_eq, nat_cmp, int_cmp, ordering_then}
-use Rattle.std.specs.FinMap.{FinMap, get, insert, remove, slice_cmp-IsAntisymmetric, nat_cmp-IsAntisymmetric, int_cmp-IsAntisymmetric, IsAntisymmetric}
+use Rattle.std.specs.Cmp.{int_cmp_is}
+use Rattle.std.specs.Prelude.{◌<ℤ◌, ◌<◌}
+use Rattle.std.specs.Ordering.{is_eq, nat_cmp, int_cmp, ordering_then, MatchOrdering}
+use Rattle.std.specs.FinMap.{FinMap, get, insert, remove, slice_cmp-IsAntisymmetric, nat_cmp-IsAntisymmetric, IsAntisymmetric}
 use Rattle.std.proofs.Common.{Ordering, Less, Equal, Greater, pos, nat_le, ◌^◌}
-use Rattle.std.proofs.lemmas.Cmp.{nat_list_cmp_total, nat_cmp_total, int_cmp_total, on_total, then_total}
-use Rattle.std.proofs.lemmas.Bool.{and_parts, not-true, cases_Bool, both_ways, false_from_ne_true}
+use Rattle.std.proofs.lemmas.Cmp.{ranked, nat_list_cmp_total, nat_cmp_total, on_total, then_total}
+use Rattle.std.proofs.lemmas.Bool.{lt-ltb, and_parts, not-true}
 use Rattle.sqlite.specs.declared.types.Value.{Value}
 use Rattle.sqlite.specs.declared.types.Value.TheVariants.{Null, Int, Text}
 use Rattle.sqlite.specs.Order.{Row, column}
@@ -116,17 +118,17 @@ distinct_versions a b h =
 pub cast-flag : (b : Bool) → cast Integer (flag_cell b) ≡ flag_cell b
 cast-flag b = cast-Int (cond b (pos 1) (pos 0))
 
-number_code_order : IsKeyOrder int_cmp
-number_code_order = record { total = int_cmp_total; antisymmetric = int_cmp-IsAntisymmetric }
+-- integers that are no less than 0 are ordered as numbers
+pub int_order : (a b : ℕ) → int_cmp (pos a) (pos b) ≡ nat_cmp a b
+int_order a b = sym (int_cmp_is (pos a) (pos b) (nat_cmp a b) (go (nat_cmp a b) (ranked a b (nat_cmp a b) refl)))
+  where
+    go : (r : Ordering) → MatchOrdering r (a < b) (a ≡ b) (b < a) → MatchOrdering r (pos a <ℤ pos b) (pos a ≡ pos b) (pos b <ℤ pos a)
+    go Less h = record { lt = subst T (sym (lt-ltb a b h)) tt }
+    go Equal h = ap pos h
+    go Greater h = record { lt = subst T (sym (lt-ltb b a h)) tt }
 
 same_pos : (q k : ℕ) → is_eq (int_cmp (pos q) (pos k)) ≡ is_eq (nat_cmp q k)
-same_pos q k = elim (cases_Bool (is_eq (nat_cmp q k))) [
-  | inl same ↦ tied_key int_cmp number_code_order (pos q) (pos k) (ap pos (same_key nat_cmp number_order q k same)) ∙ sym same
-  | inr other ↦ false_from_ne_true _ (λ tie.
-      let codes_tie : pos q ≡ pos k = same_key int_cmp number_code_order (pos q) (pos k) tie in
-      let same : q ≡ k = cc in
-      both_ways _ other (tied_key nat_cmp number_order q k same)) ∙ sym other
-]
+same_pos q k = ap is_eq (int_order q k)
 
 -- a row passes by its rowid
 pub by_id_test : (row : Row) (k q : ℕ) → rowid row ∷ [] ≡ number_cells q → passes by_id (Int (pos k) ∷ []) row ≡ is_eq (nat_cmp q k)

@@ -17,6 +17,7 @@ pub mod Transactions
 pub mod ReadableRows
 pub mod TableLines
 pub mod ListingLemmas
+pub mod LastIds
 pub mod Opening
 pub mod VersionLists
 pub mod CheckLemmas

@@ -5,9 +5,9 @@ use Rattle.std.specs.FinMap.{FinMap, entries, entries_sorted, get, get-entries, 
 use Rattle.std.specs.FinMap.Entries.{below_all}
 use Rattle.std.specs.List.{AllByRecursion, IsDistinct}
 use Rattle.std.specs.List.Sorted.{IsSorted}
-use Rattle.std.specs.Ordering.{is_eq, is_lt, ordering_reverse}
+use Rattle.std.specs.Ordering.{is_eq, is_gt, is_lt, ordering_reverse}
 use Rattle.std.proofs.lemmas.Bool.{both_ways, cases_Bool, false_from_ne_true}
-use Rattle.std.proofs.lemmas.Cmp.{on_total, then_total, tied_itself}
+use Rattle.std.proofs.lemmas.Cmp.{on_total, then_total, tied_itself, upto}
 use Rattle.std.proofs.lemmas.Map.Keys.{IsDistinct-IsPermutation}
 use Rattle.sqlite.specs.Order.{Row}
 use Rattle.sqlite.specs.Query.{Query, Output, IsAnswer, output, output_cmp, key_cmp}
@@ -50,6 +50,19 @@ module _ {X : Type 0} (cmp : X → X → Ordering) (total : IsTotalOrder cmp) wh
       let tail : IsSorted cmp xs = λ k d p q. rw add-one (rw add-one at (sorted (suc k) d (omega arith) (omega arith))) in
       let up = rises xs tail apart.1 in
       (below x xs sorted apart.0 up, up)
+
+  turned : (o : Ordering) → is_lt o ≡ false → is_gt (ordering_reverse o) ≡ false
+  turned Less h = absurd (cc)
+  turned Equal h = refl
+  turned Greater h = refl
+
+  -- what comes first is above nothing later
+  pub at_most : (x : X) (ys : List X) → IsSorted cmp (x ∷ ys) → AllByRecursion (λ y. is_gt (cmp x y) ≡ false) ys
+  at_most x [] sorted = tt
+  at_most x (y ∷ ys) sorted =
+      let first : is_gt (cmp x y) ≡ false = ap is_gt (total.antisymm x y) ∙ turned (cmp y x) (sorted 0 x (omega arith) (omega arith)) in
+      let tail : IsSorted cmp (y ∷ ys) = λ k d p q. rw add-one (rw add-one at (sorted (suc k) d (omega arith) (omega arith))) in
+      (first, all_weaker (λ z. is_gt (cmp y z) ≡ false) (λ z. is_gt (cmp x z) ≡ false) (λ z. upto total x y z first) ys (at_most y ys tail))
 
   never : (x : X) → cmp x x ≡ Less → ⊥
   never x h = let e = sym h ∙ tied_itself total x in cc
@@ -121,7 +134,7 @@ module _ {K V : Type 0} (R : K → K → Ordering) (order : IsKeyOrder R) where
 
 -- ---- the order of an ORDER BY
 
-key_cmp_total : (at : ℕ) (keys : List Key) → IsTotalOrder (key_cmp at keys)
+pub key_cmp_total : (at : ℕ) (keys : List Key) → IsTotalOrder (key_cmp at keys)
 key_cmp_total at [] = record { antisymm = λ a b. refl; trans = λ a b c h k. h; congr = λ a b c h. refl }
 key_cmp_total at (k ∷ keys) = then_total (on_total (λ (r : Row). column r at) (by_key_total k)) (key_cmp_total (suc at) keys)
 

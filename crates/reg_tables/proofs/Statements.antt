@@ -1,5 +1,5 @@
 -- What the text of each statement means in a database that is laid out so.
-use Rattle.std.proofs.Common.{◌≡◌, inl, inr, sym, subst, pos, ℕ, List, [], ◌∷◌, codes, false, Ok, refl}
+use Rattle.std.proofs.Common.{◌≡◌, inl, inr, sym, subst, pos, ℕ, List, [], ◌∷◌, codes, true, false, Ok, refl}
 use Rattle.sqlite.specs.declared.types.Value.TheVariants.{Null, Int}
 use Rattle.sqlite_value.specs.declared.keys.Key.{Key}
 use Rattle.sqlite.specs.Term.{Term, lit, col, op2}
@@ -238,6 +238,17 @@ find_version = record { sql = codes "SELECT id, deleted FROM versions WHERE subj
 pub find_version_is : (schema : Schema) → IsLayout schema → IsQuery find_version schema
 unfolding understood everything
 find_version_is = in_layouts (IsQuery find_version) (record { command = record { is = refl; plain = (refl, refl) }; unlisted = refl }) (record { command = record { is = refl; plain = (refl, refl) }; unlisted = refl })
+
+-- by id, from the greatest
+abbrev pub from_last : List (Term × Key)
+from_last = (col 1 0, record { collation = Binary; descending = true }) ∷ []
+
+abbrev pub find_last : TableQuery
+find_last = record { sql = codes "SELECT id FROM texts ORDER BY id DESC LIMIT 1"; tree = 0; tests = []; shown = col 1 0 ∷ []; names = codes "id" ∷ []; order = from_last; limit = lit (Int (pos 1)) }
+
+pub find_last_is : (schema : Schema) → IsLayout schema → IsQuery find_last schema
+unfolding understood everything
+find_last_is = in_layouts (IsQuery find_last) (record { command = record { is = refl; plain = (refl, refl) }; unlisted = refl }) (record { command = record { is = refl; plain = (refl, refl) }; unlisted = refl })
 
 -- by subject and number
 abbrev pub in_order : List (Term × Key)

@@ -1,9 +1,8 @@
 -- What the queries of versions list, in the order of subjects and numbers.
-use Rattle.std.proofs.Common.{◌≡◌, ◌⊎◌, ◌≤◌, inl, inr, ℕ, pos, List, [], ◌∷◌, map, filter, All, Bool, Ordering, Less, Equal, Greater, T, refl, sym, ap, subst, ◌∙◌}
-use Rattle.std.specs.Prelude.{bytes_eq, IsUtf8, ◌<ℤ◌, ◌<◌, ◌^◌}
-use Rattle.std.specs.Cmp.{int_cmp_is}
+use Rattle.std.proofs.Common.{◌≡◌, ◌⊎◌, ◌≤◌, inl, inr, ℕ, pos, List, [], ◌∷◌, map, filter, All, Bool, Ordering, Less, Equal, Greater, refl, sym, ap, subst, ◌∙◌}
+use Rattle.std.specs.Prelude.{bytes_eq, IsUtf8, ◌<◌, ◌^◌}
 use Rattle.std.specs.FinMap.{entries, get}
-use Rattle.std.specs.Ordering.{int_cmp, nat_cmp, ordering_then, is_eq, MatchOrdering}
+use Rattle.std.specs.Ordering.{nat_cmp, ordering_then, is_eq}
 use Rattle.sqlite.specs.declared.error.ErrorCode.TheVariants as code
 use Rattle.sqlite.specs.declared.error.Error.{Error}
 use Rattle.sqlite.specs.declared.error.Error.TheVariants.{SqliteFailure}
@@ -26,7 +25,7 @@ use Rattle.reg_tables.specs.Entries.{NumberedVersion, numbered, numbered_cells, 
 use Rattle.reg_tables.specs.Reading.{HoldsReadable, CanBeRead, IsFault}
 use Rattle.reg_tables.specs.declared.listed.SubjectVersion.{SubjectVersion}
 use Rattle.reg_tables.proofs.Faults.{Takes, query_faults, read_fault_until, memory_is_fault}
-use Rattle.reg_tables.proofs.KeyedTables.{text_order, version_order, by_key_test, with_nothing, answered}
+use Rattle.reg_tables.proofs.KeyedTables.{int_order, text_order, version_order, by_key_test, with_nothing, answered}
 use Rattle.reg_tables.proofs.Members.{has_mapped, map-map}
 use Rattle.reg_tables.proofs.MapLemmas.{same_key, tied_key}
 use Rattle.reg_tables.proofs.Opening.{distinct_version_rows}
@@ -35,8 +34,7 @@ use Rattle.reg_tables.proofs.Queries.{all_rows, ordered_query, passes}
 use Rattle.reg_tables.proofs.Statements.{TableQuery, body_of, IsQuery, by_key, in_order, laid_out, find_versions, find_versions_is}
 use Rattle.reg_tables.proofs.TableLines.{all_if_each}
 use Rattle.reg_tables.proofs.Transactions.{shown_open}
-use Rattle.std.proofs.lemmas.Bool.{cases_Bool, both_ways, false_from_ne_true, lt-ltb}
-use Rattle.std.proofs.lemmas.Cmp.{ranked}
+use Rattle.std.proofs.lemmas.Bool.{cases_Bool, both_ways, false_from_ne_true}
 use Rattle.std.proofs.lemmas.Slice.Eq.{bytes_eq-Decides}
 
 -- the key of a version, and what is in its row
@@ -44,14 +42,6 @@ abbrev pub Entry : Type 0
 Entry = (List ℕ × ℕ) × VersionRow
 
 -- a version's key is ordered by its columns
-int_order : (a b : ℕ) → int_cmp (pos a) (pos b) ≡ nat_cmp a b
-int_order a b = sym (int_cmp_is (pos a) (pos b) (nat_cmp a b) (go (nat_cmp a b) (ranked a b (nat_cmp a b) refl)))
-  where
-    go : (r : Ordering) → MatchOrdering r (a < b) (a ≡ b) (b < a) → MatchOrdering r (pos a <ℤ pos b) (pos a ≡ pos b) (pos b <ℤ pos a)
-    go Less h = record { lt = subst T (sym (lt-ltb a b h)) tt }
-    go Equal h = ap pos h
-    go Greater h = record { lt = subst T (sym (lt-ltb b a h)) tt }
-
 ranks : (a b : List ℕ × ℕ) → version_cmp a b ≡ Less → key_cmp 0 (map (λ (k : Term × Key). k.1) in_order) (version_key_cells a) (version_key_cells b) ≡ Less
 ranks a b h = rw (value_cmp-Text a.0 b.0, value_cmp-Int (pos a.1) (pos b.1), int_order a.1 b.1) (go (text_cmp a.0 b.0) (nat_cmp a.1 b.1) h)
   where

@@ -29,5 +29,5 @@ pub use lines::{
 };
 pub use listed::{SubjectVersion, versions_of};
 pub use meta::{global_level, set_global};
-pub use texts::{id_of, put_text, text_of};
+pub use texts::{id_of, last_id, put_text, text_of};
 pub use versions::{VersionEntry, drop_version, mark_deleted, put_version, version_of};

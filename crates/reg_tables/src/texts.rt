@@ -1,6 +1,6 @@
 //! The texts of schemas, by their ids.
 
-ghost use Rattle.std.specs.Prelude.{◌≡◌, ◌≢◌, ◌<◌, ◌^◌, ℕ, None, Some, OnOk, IfOk, IfErr, MatchOption, false, string_bytes};
+ghost use Rattle.std.specs.Prelude.{◌≡◌, ◌≢◌, ◌≤◌, ◌<◌, ◌^◌, ℕ, None, Some, IsSome, OnOk, IfOk, IfErr, MatchOption, false, string_bytes};
 ghost use Rattle.std.specs.FinMap.{get};
 ghost use Rattle.sqlite.specs.Held.{state};
 ghost use Rattle.reg_tables.specs.Frames.{state_in, StaysInside, StaysIdle};
@@ -72,6 +72,26 @@ pub fn id_of<S: Alter>(conn: &mut Connection<S>, text: &str) -> Result<Option<u3
         → IsFault (state S.Store conn.old) (state S.Store conn.new) e) }
 {
     let rows = ask(conn, "SELECT id FROM texts WHERE text = ?1", params![text])?;
+    match rows.first() {
+        None => Ok(None),
+        Some(row) => Ok(Some(number_in(row)?)),
+    }
+}
+
+/// The greatest id that has a text, if one has.
+pub fn last_id<S: Alter>(conn: &mut Connection<S>) -> Result<Option<u32>, Error>
+    requires idle { conn.old.in_transaction ≡ false }
+    ensures frame { StaysIdle S.Store conn.old conn.new result }
+    ensures found { HasCleanDisk (state S.Store conn.new) → IfOk result (λ found.
+        (contents : Contents) → Holds (state S.Store conn.old).now contents
+        → MatchOption found ((id : ℕ) → get contents.texts id ≡ None)
+        (λ id. IsSome (get contents.texts id)
+        × ((other : ℕ) → IsSome (get contents.texts other) → other ≤ id))) }
+    ensures fault { HasCleanDisk (state S.Store conn.new) → IfErr result (λ e.
+        CanBeRead (state S.Store conn.old)
+        → IsFault (state S.Store conn.old) (state S.Store conn.new) e) }
+{
+    let rows = ask(conn, "SELECT id FROM texts ORDER BY id DESC LIMIT 1", &[])?;
     match rows.first() {
         None => Ok(None),
         Some(row) => Ok(Some(number_in(row)?)),
