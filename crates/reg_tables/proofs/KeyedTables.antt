@@ -127,7 +127,7 @@ int_order a b = sym (int_cmp_is (pos a) (pos b) (nat_cmp a b) (go (nat_cmp a b) 
     go Equal h = ap pos h
     go Greater h = record { lt = subst T (sym (lt-ltb b a h)) tt }
 
-same_pos : (q k : ℕ) → is_eq (int_cmp (pos q) (pos k)) ≡ is_eq (nat_cmp q k)
+pub same_pos : (q k : ℕ) → is_eq (int_cmp (pos q) (pos k)) ≡ is_eq (nat_cmp q k)
 same_pos q k = ap is_eq (int_order q k)
 
 -- a row passes by its rowid

@@ -20,6 +20,7 @@ pub mod ListingLemmas
 pub mod LastIds
 pub mod Opening
 pub mod VersionLists
+pub mod KeyedLists
 pub mod CheckLemmas
 pub mod UniqueKeys
 pub mod References

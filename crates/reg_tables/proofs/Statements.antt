@@ -261,6 +261,24 @@ pub find_versions_is : (schema : Schema) → IsLayout schema → IsQuery find_ve
 unfolding understood everything
 find_versions_is = in_layouts (IsQuery find_versions) (record { command = record { is = refl; plain = (refl, refl) }; unlisted = refl }) (record { command = record { is = refl; plain = (refl, refl) }; unlisted = refl })
 
+-- the id of the version is the parameter
+abbrev pub by_its_id : List Term
+by_its_id = op2 (Compare Eq Binary) (col 1 3) (col 0 0) ∷ []
+
+abbrev pub find_of_id : TableQuery
+find_of_id = record { sql = codes "SELECT subject, version, id, deleted FROM versions WHERE id = ?1 ORDER BY subject, version"; tree = 2; tests = by_its_id; shown = col 1 1 ∷ col 1 2 ∷ col 1 3 ∷ col 1 4 ∷ []; names = codes "subject" ∷ codes "version" ∷ codes "id" ∷ codes "deleted" ∷ []; order = in_order; limit = all_rows }
+
+pub find_of_id_is : (schema : Schema) → IsLayout schema → IsQuery find_of_id schema
+unfolding understood everything
+find_of_id_is = in_layouts (IsQuery find_of_id) (record { command = record { is = refl; plain = (refl, refl) }; unlisted = refl }) (record { command = record { is = refl; plain = (refl, refl) }; unlisted = refl })
+
+abbrev pub list_versions : TableQuery
+list_versions = record { sql = codes "SELECT subject, version, id, deleted FROM versions ORDER BY subject, version"; tree = 2; tests = []; shown = col 1 1 ∷ col 1 2 ∷ col 1 3 ∷ col 1 4 ∷ []; names = codes "subject" ∷ codes "version" ∷ codes "id" ∷ codes "deleted" ∷ []; order = in_order; limit = all_rows }
+
+pub list_versions_is : (schema : Schema) → IsLayout schema → IsQuery list_versions schema
+unfolding understood everything
+list_versions_is = in_layouts (IsQuery list_versions) (record { command = record { is = refl; plain = (refl, refl) }; unlisted = refl }) (record { command = record { is = refl; plain = (refl, refl) }; unlisted = refl })
+
 abbrev pub find_level : TableQuery
 find_level = record { sql = codes "SELECT level FROM levels WHERE subject = ?1"; tree = 4; tests = by_key; shown = col 1 2 ∷ []; names = codes "level" ∷ []; order = []; limit = all_rows }
 

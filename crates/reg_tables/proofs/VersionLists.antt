@@ -53,7 +53,7 @@ ranks a b h = rw (value_cmp-Text a.0 b.0, value_cmp-Int (pos a.1) (pos b.1), int
     go Greater y h = h
 
 -- lists are told apart by their cells where their members are
-same_cells : {A : Type 0} (f : A → Row) → ((a b : A) → f a ≡ f b → a ≡ b) → (xs ys : List A) → map f xs ≡ map f ys → xs ≡ ys
+pub same_cells : {A : Type 0} (f : A → Row) → ((a b : A) → f a ≡ f b → a ≡ b) → (xs ys : List A) → map f xs ≡ map f ys → xs ≡ ys
 same_cells f distinct [] [] h = refl
 same_cells f distinct [] (y ∷ ys) h = absurd (cc)
 same_cells f distinct (x ∷ xs) [] h = absurd (cc)

@@ -1,13 +1,14 @@
 //! Rows of `versions`, in the order of their subjects and numbers.
 
 ghost use Rattle.std.specs.Prelude.{◌≡◌, ◌⊎◌, ◌≤◌, List, [], ◌∷◌, IfOk, IfErr, All, false, map};
+ghost use Rattle.std.specs.FinMap.{entries};
 ghost use Rattle.sqlite.specs.Order.{Row as SqlRow, column};
 ghost use Rattle.sqlite.specs.Held.{Held, state};
 ghost use Rattle.sqlite.specs.Values.{bound};
 ghost use Rattle.sqlite.specs.State.{HasCleanDisk, Shown, FailsToQuery, IsTooLate};
 ghost use Rattle.reg_tables.specs.Frames.{once_begun, StaysIdle};
 ghost use Rattle.reg_tables.specs.Contents.{Contents, Holds};
-ghost use Rattle.reg_tables.specs.Entries.{numbered, numbered_cells, subject_versions, IsReadableNumbered};
+ghost use Rattle.reg_tables.specs.Entries.{numbered, numbered_cells, subject_versions, IsReadableNumbered, keyed, keyed_cells, id_versions, IsReadableKeyed};
 ghost use Rattle.reg_tables.specs.Reading.{CanBeRead, IsFault};
 
 use crate::lines::flag_in;
@@ -19,6 +20,15 @@ use std::alloc::Global;
 /// A version of a subject that the caller names.
 #[derive(Debug, Drop)]
 pub struct SubjectVersion {
+    pub number: u32,
+    pub id: u32,
+    pub deleted: bool,
+}
+
+/// A version, with the subject that has it.
+#[derive(Debug, Drop)]
+pub struct ListedVersion {
+    pub subject: String,
     pub number: u32,
     pub id: u32,
     pub deleted: bool,
@@ -52,6 +62,23 @@ impl Listed for SubjectVersion {
             number: row.get(0)?,
             id: row.get(1)?,
             deleted: flag_in(row, 2)?,
+        })
+    }
+}
+
+impl Listed for ListedVersion {
+    ghost shown = { λ row. column row 0 ∷ column row 1 ∷ column row 2 ∷ column row 3 ∷ [] };
+
+    ghost cells = { λ line. keyed_cells (keyed line) };
+
+    ghost is_readable = { IsReadableKeyed };
+
+    fn read(row: &Row) -> Result<ListedVersion, Error> {
+        Ok(ListedVersion {
+            subject: row.get(0)?,
+            number: row.get(1)?,
+            id: row.get(2)?,
+            deleted: flag_in(row, 3)?,
         })
     }
 }
@@ -114,5 +141,50 @@ pub fn versions_of<S: Alter>(
         conn,
         "SELECT version, id, deleted FROM versions WHERE subject = ?1 ORDER BY subject, version",
         params![subject],
+    )
+}
+
+/// The versions of an id, in the order of their subjects and numbers.
+pub fn versions_of_id<S: Alter>(
+    alloc: Global,
+    conn: &mut Connection<S>,
+    id: u32,
+) -> Result<Vec<ListedVersion>, Error>
+    requires idle { conn.old.in_transaction ≡ false }
+    ensures frame { StaysIdle S.Store conn.old conn.new result }
+    ensures found { HasCleanDisk (state S.Store conn.new) → IfOk result (λ lines.
+        (contents : Contents) → Holds (state S.Store conn.old).now contents
+        → map keyed lines.items ≡ id_versions id contents) }
+    ensures fault { HasCleanDisk (state S.Store conn.new) → IfErr result (λ e.
+        CanBeRead (state S.Store conn.old)
+        → IsFault (state S.Store conn.old) (state S.Store conn.new) e) }
+{
+    list(
+        alloc,
+        conn,
+        "SELECT subject, version, id, deleted FROM versions WHERE id = ?1 ORDER BY subject, version",
+        params![id],
+    )
+}
+
+/// All versions, in the order of their subjects and numbers.
+pub fn all_versions<S: Alter>(
+    alloc: Global,
+    conn: &mut Connection<S>,
+) -> Result<Vec<ListedVersion>, Error>
+    requires idle { conn.old.in_transaction ≡ false }
+    ensures frame { StaysIdle S.Store conn.old conn.new result }
+    ensures found { HasCleanDisk (state S.Store conn.new) → IfOk result (λ lines.
+        (contents : Contents) → Holds (state S.Store conn.old).now contents
+        → map keyed lines.items ≡ entries contents.versions) }
+    ensures fault { HasCleanDisk (state S.Store conn.new) → IfErr result (λ e.
+        CanBeRead (state S.Store conn.old)
+        → IsFault (state S.Store conn.old) (state S.Store conn.new) e) }
+{
+    list(
+        alloc,
+        conn,
+        "SELECT subject, version, id, deleted FROM versions ORDER BY subject, version",
+        &[],
     )
 }

@@ -1,0 +1,91 @@
+-- What the queries of versions with their subjects list.
+use Rattle.std.proofs.Common.{◌≡◌, ◌==◌, ◌&&◌, inl, inr, ℕ, pos, List, [], ◌∷◌, map, All, Bool, true, false, Some, refl, sym, ap, ◌∙◌}
+use Rattle.std.specs.Cmp.{unsigned_Decides}
+use Rattle.std.specs.FinMap.{entries}
+use Rattle.std.specs.Prelude.{IsUtf8, ◌<◌, ◌^◌}
+use Rattle.std.specs.Ordering.{is_eq, nat_cmp}
+use Rattle.std.proofs.lemmas.Bool.{cases_Bool, both_ways, false_from_ne_true}
+use Rattle.sqlite.specs.declared.types.Value.TheVariants.{Int, Text}
+use Rattle.sqlite.specs.Order.{Row, column}
+use Rattle.sqlite.specs.Schema.{Schema}
+use Rattle.sqlite.specs.State.{State, Shown}
+use Rattle.sqlite_sql.specs.Ops.{binary, is_true, from_truth}
+use Rattle.sqlite_trees.proofs.ListLemmas.{all_of, filter_all}
+use Rattle.sqlite_value.proofs.OrderLemmas.{value_cmp-Int}
+use Rattle.reg_tables.specs.Layout.{IsLayout}
+use Rattle.reg_tables.specs.TableMaps.{IsEntry}
+use Rattle.reg_tables.specs.Contents.{version_cells, version_form, Contents, AreReadable, HoldsIn}
+use Rattle.reg_tables.specs.Entries.{KeyedVersion, keyed, keyed_cells, id_versions, IsReadableKeyed}
+use Rattle.reg_tables.specs.declared.listed.ListedVersion.{ListedVersion}
+use Rattle.reg_tables.proofs.KeyedTables.{number_order, same_pos}
+use Rattle.reg_tables.proofs.MapLemmas.{same_key, tied_key}
+use Rattle.reg_tables.proofs.Members.{map-map}
+use Rattle.reg_tables.proofs.Opening.{distinct_version_rows}
+use Rattle.reg_tables.proofs.Queries.{passes}
+use Rattle.reg_tables.proofs.Statements.{IsQuery, by_its_id, laid_out, find_of_id, find_of_id_is, list_versions, list_versions_is}
+use Rattle.reg_tables.proofs.VersionLists.{same_cells, lists_versions, readable_versions}
+
+distinct_keyed : (a b : KeyedVersion) → keyed_cells a ≡ keyed_cells b → a ≡ b
+distinct_keyed a b h =
+    let subject : a.0.0 ≡ b.0.0 = cc in
+    let number : a.0.1 ≡ b.0.1 = cc in
+    let rest : version_cells a.1 ≡ version_cells b.1 = cc in
+    λ i. ((subject i, number i), distinct_version_rows a.1 b.1 rest i)
+
+whole : (row : Row) (e : KeyedVersion) → IsEntry version_form row e.0 e.1 → column row 1 ∷ column row 2 ∷ column row 3 ∷ column row 4 ∷ [] ≡ keyed_cells e
+whole row e is =
+    let subject : column row 1 ≡ Text e.0.0 = (let k = is.0 in cc) in
+    let number : column row 2 ≡ Int (pos e.0.1) = (let k = is.0 in cc) in
+    λ i. subject i ∷ number i ∷ is.1 i
+
+can_be_held : (e : KeyedVersion) → IsUtf8 e.0.0 × (e.0.1 < 2 ^ 32) × (e.1.id < 2 ^ 32) → IsReadableKeyed (keyed_cells e)
+can_be_held e can = record { subject = e.0.0; number = e.0.1; version = e.1; is = refl; utf8 = can.0; low = can.1; low_id = can.2 }
+
+-- the lines that were read are what the rows spell
+keyed_lines : (es : List KeyedVersion) (found : List Row) → found ≡ map keyed_cells es → (lines : List ListedVersion)
+    → map (λ (row : Row). column row 0 ∷ column row 1 ∷ column row 2 ∷ column row 3 ∷ []) found ≡ map (λ (line : ListedVersion). keyed_cells (keyed line)) lines → map keyed lines ≡ es
+keyed_lines es found is lines read = same_cells keyed_cells distinct_keyed (map keyed lines) es
+    (map-map keyed_cells keyed lines ∙ sym read ∙ ap (map (λ (row : Row). column row 0 ∷ column row 1 ∷ column row 2 ∷ column row 3 ∷ [])) is
+    ∙ map-map (λ (row : Row). column row 0 ∷ column row 1 ∷ column row 2 ∷ column row 3 ∷ []) keyed_cells es)
+
+-- ---- by the id
+
+same_id : (a b : ℕ) → is_eq (nat_cmp a b) ≡ (a == b)
+same_id a b = elim (cases_Bool (is_eq (nat_cmp a b))) [
+  | inl same ↦ same ∙ sym ((unsigned_Decides a b).1 (same_key nat_cmp number_order a b same))
+  | inr other ↦ other ∙ sym (false_from_ne_true _ (λ same. both_ways _ other (tied_key nat_cmp number_order a b ((unsigned_Decides a b).0 same))))
+]
+
+by_its_id_test : (row : Row) (id its : ℕ) → column row 3 ≡ Int (pos its) → passes by_its_id (Int (pos id) ∷ []) row ≡ (its == id)
+unfolding binary
+by_its_id_test row id its is = rw (is, value_cmp-Int (pos its) (pos id), same_pos its id) (truth (is_eq (nat_cmp its id))) ∙ same_id its id
+  where
+    truth : (b : Bool) → (is_true (from_truth (Some b)) && true) ≡ b
+    truth true = refl
+    truth false = refl
+
+module _ (old new : State) (schema : Schema) (contents : Contents) (h : HoldsIn schema old.now contents) (is_layout : IsLayout schema) (found : List Row) where
+  module _ (id : ℕ) (shown : Shown find_of_id.sql (Int (pos id) ∷ []) old new found) where
+    its : IsQuery find_of_id old.now.schema
+    its = find_of_id_is old.now.schema (laid_out h is_layout)
+
+    test : (row : Row) (e : KeyedVersion) → IsEntry version_form row e.0 e.1 → passes by_its_id (Int (pos id) ∷ []) row ≡ (e.1.id == id)
+    test row e is = by_its_id_test row id e.1.id (let v = is.1 in cc)
+
+    pub lines_of_id : (lines : List ListedVersion) → map (λ (row : Row). column row 0 ∷ column row 1 ∷ column row 2 ∷ column row 3 ∷ []) found ≡ map (λ (line : ListedVersion). keyed_cells (keyed line)) lines → map keyed lines ≡ id_versions id contents
+    lines_of_id = keyed_lines (id_versions id contents) found (lists_versions find_of_id refl (Int (pos id) ∷ []) old new its found shown contents h.versions (λ e. e.1.id == id) test keyed_cells whole)
+
+    pub readable_of_id : AreReadable contents → All IsReadableKeyed found
+    readable_of_id = readable_versions find_of_id refl (Int (pos id) ∷ []) old new its found shown contents h.versions (λ e. e.1.id == id) test keyed_cells whole IsReadableKeyed can_be_held
+
+  module _ (shown : Shown list_versions.sql [] old new found) where
+    it : IsQuery list_versions old.now.schema
+    it = list_versions_is old.now.schema (laid_out h is_layout)
+
+    pub all_lines : (lines : List ListedVersion) → map (λ (row : Row). column row 0 ∷ column row 1 ∷ column row 2 ∷ column row 3 ∷ []) found ≡ map (λ (line : ListedVersion). keyed_cells (keyed line)) lines → map keyed lines ≡ entries contents.versions
+    all_lines = keyed_lines (entries contents.versions) found
+        (lists_versions list_versions refl [] old new it found shown contents h.versions (λ e. true) (λ row e is. refl) keyed_cells whole
+        ∙ ap (map keyed_cells) (filter_all (λ (e : KeyedVersion). true) (entries contents.versions) (all_of (λ (e : KeyedVersion). true ≡ true) (λ e. refl) (entries contents.versions))))
+
+    pub all_readable : AreReadable contents → All IsReadableKeyed found
+    all_readable = readable_versions list_versions refl [] old new it found shown contents h.versions (λ e. true) (λ row e is. refl) keyed_cells whole IsReadableKeyed can_be_held
