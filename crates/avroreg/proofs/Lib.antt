@@ -3,3 +3,4 @@ mod ReplyLemmas
 mod SessionLemmas
 mod EndLemmas
 mod LineLemmas
+mod NameLemmas

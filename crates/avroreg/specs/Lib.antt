@@ -3,6 +3,7 @@ pub mod Sessions
 pub mod OverTables
 pub mod SessionSteps
 pub mod Files
+pub mod Names
 pub mod Outcomes
 pub mod Databases
 pub mod Jobs

@@ -15,7 +15,9 @@ use Rattle.avroreg.specs.declared.outcome.Outcome.{Outcome}
 use Rattle.avroreg.specs.declared.outcome.Outcome.TheVariants.{Session as SessionEnded, Unopened, Text as TextEnded, Check as CheckEnded}
 use Rattle.avroreg.specs.declared.outcome.Fault.{Fault}
 use Rattle.avroreg.specs.declared.outcome.Fault.TheVariants.{ReadFailed as FaultReadFailed, WriteFailed as FaultWriteFailed, MalformedInput as FaultMalformedInput, OutOfMemory as FaultOutOfMemory, CannotRead as FaultCannotRead, NotSchema as FaultNotSchema, CannotOpen as FaultCannotOpen, NotRegistry as FaultNotRegistry, OldLayout as FaultOldLayout, NewerLayout as FaultNewerLayout}
+use Rattle.avroreg.specs.declared.line.Line.{Line}
 use Rattle.avroreg.specs.Output.{Begins}
+use Rattle.avroreg.specs.Names.{shown}
 
 abbrev pub fault_of_file : FileFault → Fault
 fault_of_file CannotRead = FaultCannotRead
@@ -47,7 +49,7 @@ fault_of (CheckEnded (Writer fault)) = Some (fault_of_file fault)
 fault_of (CheckEnded CheckOutOfMemory) = Some FaultOutOfMemory
 fault_of (CheckEnded VerdictNotWritten) = Some FaultWriteFailed
 
--- the line for a fault over a file and a layout's digits
+-- the line for a fault over a file's name and a layout's digits
 abbrev pub line_with : Fault → List ℕ → List ℕ → List ℕ
 line_with FaultReadFailed file layout = codes "avroreg: read failed\n"
 line_with FaultWriteFailed file layout = codes "avroreg: write failed\n"
@@ -66,13 +68,17 @@ layout_of (FaultOldLayout layout) = layout
 layout_of (FaultNewerLayout layout) = layout
 layout_of _ = 0
 
--- the line for a fault
+-- the line for a fault, the file's name as it is shown
 abbrev pub line_of : Fault → List ℕ → List ℕ
-line_of fault file = line_with fault file (decimal (layout_of fault))
+line_of fault file = line_with fault (shown file) (decimal (layout_of fault))
 
--- a line in parts
+-- parts of a line
 abbrev pub text_of_parts : List (Bor (List ℕ)) → List ℕ
 text_of_parts parts = flat_map (λ part. part.now) parts
+
+-- a line, the file's name as it is shown
+abbrev pub text_of_line : Line → List ℕ
+text_of_line line = line.front.now ++ (shown line.name.now ++ text_of_parts line.rest)
 
 -- the program's status for an outcome that is no fault: 1 for a verdict of incompatible
 abbrev pub verdict_status : Outcome → ℕ

@@ -5,6 +5,7 @@ mod database;
 mod files;
 mod job;
 mod line;
+mod name;
 mod outcome;
 mod stream;
 

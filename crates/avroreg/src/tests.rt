@@ -737,6 +737,39 @@ fn what_holds_no_schema_is_told(rt: HostRuntime) -> Result<(), Fail> {
     Ok(())
 }
 
+#[test]
+fn a_line_shows_the_control_characters_of_a_name(rt: HostRuntime) -> Result<(), Fail> {
+    let rows = [
+        ("a b.avsc", "avroreg: cannot read a b.avsc\n"),
+        ("a\nb", "avroreg: cannot read a\\nb\n"),
+        ("\t\r", "avroreg: cannot read \\t\\r\n"),
+        (
+            "\u{0}\u{1b}[2J\u{7f}",
+            "avroreg: cannot read \\u{00}\\u{1b}[2J\\u{7f}\n",
+        ),
+        ("\u{e9}\\n", "avroreg: cannot read \u{e9}\\n\n"),
+    ];
+    for (file, line) in rows {
+        let job = Job::Text {
+            file: String::from_str(rt.alloc(), file)?,
+        };
+        let mut texts = Vec::new(rt.alloc());
+        texts.push(None)?;
+        let mut told = Vec::new(rt.alloc());
+        let (status, _) = do_job(
+            rt.alloc(),
+            &job,
+            Opened::<MemStore>::Texts(texts),
+            &mut b"".as_slice(),
+            &mut Vec::new(rt.alloc()),
+            &mut told,
+        );
+        assert_eq!(rt; str::from_utf8(told.as_slice()), Ok(line));
+        assert_eq!(rt; status, 2);
+    }
+    Ok(())
+}
+
 /// What a run over a database in the file F writes, its line, its status and the connection.
 fn run_over(
     alloc: Global,

@@ -1,4 +1,4 @@
-use Rattle.std.proofs.Common.{rules, ◌≡◌, refl, sym, option_map}
+use Rattle.std.proofs.Common.{rules, refl}
 use Rattle.avroreg.specs.Jobs.{ComesOut, file_of}
 use Rattle.avroreg.specs.Outcomes.{TellsFault, fault_of}
 use Rattle.avroreg.proofs.job.do_job.Goals as goal

@@ -1,0 +1,28 @@
+-- The names of files, as a line on standard error shows them.
+use Rattle.std.specs.Prelude.{◌≡◌, ℕ, false, List, [], ◌∷◌, ◌++◌, ◌==◌, ◌/◌, ◌%◌, codes, slice_index, if◌then◌else◌}
+use Rattle.std.specs.List.{flat_map, list_any}
+use Rattle.std.specs.Char.{is_ascii_control}
+
+-- no byte is a control character of ASCII, U+0000 to U+001F or U+007F
+abbrev pub HasNoControl : List ℕ → Type 0
+HasNoControl text = list_any is_ascii_control text ≡ false
+
+-- the digit of a number below 16
+abbrev pub hex_digit : ℕ → ℕ
+hex_digit n = slice_index (codes "0123456789abcdef") n
+
+-- this project's choice: the escape of a control character is \t, \n, \r, or else \u{..} with two hexadecimal digits
+abbrev pub escape_of : ℕ → List ℕ
+escape_of byte =
+    if byte == 9 then codes "\\t"
+    else (if byte == 10 then codes "\\n"
+    else (if byte == 13 then codes "\\r"
+    else codes "\\u{" ++ (hex_digit (byte / 16) ∷ hex_digit (byte % 16) ∷ codes "}")))
+
+-- a byte of a name, as it is shown
+abbrev pub shown_byte : ℕ → List ℕ
+shown_byte byte = if is_ascii_control byte then escape_of byte else byte ∷ []
+
+-- this project's choice: a name is shown with each control character as its escape, so that a line stays one line
+abbrev pub shown : List ℕ → List ℕ
+shown name = flat_map shown_byte name
