@@ -42,13 +42,13 @@ bytes_of None = None
 bytes_of (Some None) = None
 bytes_of (Some (Some bytes)) = Some bytes.items
 
--- the bytes of the file at a place
+-- the bytes of the file at a position among those that the job names
 abbrev pub text_at : {S : Type 0} → Opened S → ℕ → Option (List ℕ)
-text_at Nothing place = None
-text_at (Texts texts) place = bytes_of (slice_get texts.items place)
-text_at Failed place = None
-text_at (Fresh connection) place = None
-text_at (Database connection) place = None
+text_at Nothing position = None
+text_at (Texts texts) position = bytes_of (slice_get texts.items position)
+text_at Failed position = None
+text_at (Fresh connection) position = None
+text_at (Database connection) position = None
 
 -- the connection that was opened, if there is one
 abbrev pub connection_in : {S : Type 0} → Opened S → Option (Held S)

@@ -64,12 +64,12 @@ impl Job {
 impl<S: Alter> Opened<S> {
     ghost use Rattle.avroreg.specs.Jobs.{text_at, connection_in};
 
-    /// The text at a place, if there is one that could be read.
-    fn text(&self, place: usize) -> Option<&[u8]>
-        ensures { option_map (λ bytes. bytes.now) result ≡ text_at self.entry.now place }
+    /// The text at a position among the files, if there is one that could be read.
+    fn text(&self, position: usize) -> Option<&[u8]>
+        ensures { option_map (λ bytes. bytes.now) result ≡ text_at self.entry.now position }
     {
         match self {
-            Opened::Texts(texts) => match texts.get(place) {
+            Opened::Texts(texts) => match texts.get(position) {
                 Some(Some(text)) => Some(text.as_slice()),
                 _ => None,
             },
