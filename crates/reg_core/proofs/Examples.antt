@@ -10,7 +10,7 @@ use Rattle.reg_core.specs.declared.command.Command.TheVariants.{SetGlobal, SetLe
 use Rattle.reg_core.specs.Levels.{level_of}
 use Rattle.reg_core.specs.Codes.{status_of, fault_body}
 use Rattle.reg_core.specs.Replies.{answer, fault}
-use Rattle.reg_core.specs.Registry.{Registry, new_registry, no_own_levels}
+use Rattle.reg_core.specs.Registry.{Registry, new_registry}
 use Rattle.reg_core.specs.Machine.{step, run_commands}
 use Rattle.reg_core.specs.CommandTexts.{command_text}
 use Rattle.reg_core.specs.Subjects.{is_subject}
@@ -32,7 +32,7 @@ key_reused_length : length (fault_body KeyReused) ≡ 71
 unfolding fault_body digits
 key_reused_length = refl
 
-full_is_set : step new_registry (SetGlobal (codes "FULL")) ≡ (record { global = Full; own = no_own_levels }, answer (codes "{\"compatibility\":\"FULL\"}"))
+full_is_set : step new_registry (SetGlobal (codes "FULL")) ≡ (record new_registry { global = Full }, answer (codes "{\"compatibility\":\"FULL\"}"))
 unfolding step serde_json_on_literals
 full_is_set = refl
 
@@ -44,7 +44,7 @@ new_level : (step new_registry Global).1 ≡ answer (codes "{\"compatibilityLeve
 unfolding step serde_json_on_literals
 new_level = refl
 
-last_level_stays : run_commands new_registry (SetGlobal (codes "FULL") ∷ SetGlobal (codes "x") ∷ Global ∷ []) ≡ record { global = Full; own = no_own_levels }
+last_level_stays : run_commands new_registry (SetGlobal (codes "FULL") ∷ SetGlobal (codes "x") ∷ Global ∷ []) ≡ record new_registry { global = Full }
 unfolding step
 last_level_stays = refl
 
