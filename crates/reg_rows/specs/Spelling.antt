@@ -1,19 +1,55 @@
 -- Which rows of the five tables hold a registry, and what is kept beside it (this project's choice, but where a public
 -- document is named). That no key of a table stands twice, and that each id is that of a text, is the tables' own matter.
-use Rattle.std.specs.Prelude.{◌≡◌, ℕ, ◌==◌, ◌&&◌, Bool, false, not, IsTrue, List, [], ◌∷◌, length, slice_index, nat_lt, nat_le, codes, map, bytes_eq, if◌then◌else◌, Option, None, Some, is_some, option_and_then, String, string_bytes}
+use Rattle.std.specs.Prelude.{◌≡◌, ℕ, ◌+◌, ◌<◌, ◌≤◌, ◌==◌, ◌&&◌, Bool, false, not, IsTrue, List, [], ◌∷◌, length, slice_index, nat_lt, nat_le, codes, map, bytes_eq, if◌then◌else◌, Option, None, Some, is_some, option_and_then, String, string_bytes, ⊤}
 use Rattle.std.specs.declared.alloc.Global.{Global}
 use Rattle.std.specs.Char.{is_ascii_digit}
 use Rattle.std.specs.List.{AllByRecursion, list_any, list_all}
 use Rattle.std.specs.Str.Parse.{digits_value}
+use Rattle.avro_nodes.specs.Nodes.{NodeView}
+use Rattle.avro_nodes.specs.Identity.{identity}
+use Rattle.avro_schema.specs.Texts.{IsSchema}
 use Rattle.reg_core.specs.Keys.{IsKey}
 use Rattle.reg_core.specs.Levels.{level_of}
 use Rattle.reg_core.specs.Replies.{IsKeptStatus}
+use Rattle.reg_core.specs.Registry.{max_number}
 use Rattle.reg_core.specs.Subjects.{is_subject}
 use Rattle.reg_rows.specs.declared.tables.Tables.{Tables}
 
 -- a text, as a row has it
 abbrev pub Text : Type 0
 Text = String Global
+
+-- ---- texts
+
+-- Apache Avro 1.11 Specification, Schema Declaration: the identity text of a schema
+pub record IsIdentity (text : List ℕ) : Type 0 where
+  pub nodes : List NodeView
+  pub schema : IsSchema nodes
+  pub is : text ≡ identity nodes
+
+abbrev pub IsTextRow : ℕ × Text → Type 0
+IsTextRow row = IsIdentity (string_bytes row.1)
+
+-- the numbers from this one on, none left out
+abbrev pub AreNumbered : ℕ → List ℕ → Type 0
+AreNumbered first [] = ⊤
+AreNumbered first (number ∷ numbers) = (number ≡ first) × AreNumbered (first + 1) numbers
+
+-- each row has the identity text of a schema, and the ids are 1 to their count, in order
+pub record AreTexts (rows : List (ℕ × Text)) : Type 0 where
+  pub numbered : AreNumbered 1 (map (λ row. row.0) rows)
+  pub few : length rows ≤ max_number
+  pub identities : AllByRecursion IsTextRow rows
+
+-- ---- versions
+
+-- a subject, and a version's number
+pub record FitsVersions (name : List ℕ) (number : ℕ) : Type 0 where
+  pub subject : IsTrue (is_subject name)
+  pub within : (0 < number) × (number ≤ max_number)
+
+abbrev pub IsVersionRow : Text × ℕ × ℕ × Bool → Type 0
+IsVersionRow row = FitsVersions (string_bytes row.0) row.1
 
 -- ---- levels
 
@@ -84,7 +120,7 @@ is_meta rows = has_value (codes "avroreg") (value_at (codes "format") rows) && h
 
 -- ---- all five
 
--- The rows of each table, in any order.
+-- The rows of each table, in any order, but those of `texts` in the order of their ids.
 pub record Rows : Type 0 where
   pub texts : List (ℕ × Text)
   pub versions : List (Text × ℕ × ℕ × Bool)
@@ -95,10 +131,10 @@ pub record Rows : Type 0 where
 abbrev pub rows_in : Tables → Rows
 rows_in t = record { texts = t.texts.items; versions = t.versions.items; levels = t.levels.items; kept = t.kept.items; meta = t.meta.items }
 
--- No command of today makes a text or a version, so tables with a row of either hold no registry.
+-- the rows hold a registry of layout 1, and what is kept beside it
 pub record IsSpelling (rows : Rows) : Type 0 where
-  pub texts : rows.texts ≡ []
-  pub versions : rows.versions ≡ []
+  pub texts : AreTexts rows.texts
+  pub versions : AllByRecursion IsVersionRow rows.versions
   pub levels : AllByRecursion IsLevelRow rows.levels
   pub kept : AllByRecursion IsKeptRow rows.kept
   pub meta : IsTrue (is_meta (map pair_of rows.meta))

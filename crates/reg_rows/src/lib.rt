@@ -7,8 +7,10 @@ mod rows;
 mod tables;
 #[cfg(test)]
 mod tests;
+mod texts;
 
 pub use meta::{is_meta, layout_of};
 pub use reg_core::OutOfMemory;
-pub use rows::{fits_kept, fits_levels};
+pub use rows::{fits_kept, fits_levels, fits_versions};
 pub use tables::{Tables, spells};
+pub use texts::are_texts;

@@ -1,11 +1,38 @@
-//! The rows of `levels` and `kept`.
+//! The rows of `versions`, `levels` and `kept`.
 
 ghost use Rattle.std.specs.Prelude.{IsTrue, ◌↔◌, ◌≡◌};
 ghost use Rattle.std.specs.List.{AllByRecursion};
 ghost use Rattle.reg_core.specs.Replies.{IsKeptStatus};
-ghost use Rattle.reg_rows.specs.Spelling.{FitsLevels, FitsKept, IsLevelRow, IsKeptRow};
+ghost use Rattle.reg_rows.specs.Spelling.{FitsVersions, FitsLevels, FitsKept, IsVersionRow, IsLevelRow, IsKeptRow};
 
+use crate::texts::MAX_NUMBER;
 use reg_core::{Key, Level, is_subject};
+
+/// Whether a row of `versions` may be known by these two: a subject, and a number from 1 to
+/// 2,147,483,647.
+pub fn fits_versions(subject: &str, number: u32) -> bool
+    ensures { IsTrue result ↔ FitsVersions subject.now number }
+{
+    is_subject(subject) && number > 0 && number <= MAX_NUMBER
+}
+
+fn is_version_row(row: &(String, u32, u32, bool)) -> bool
+    ensures { IsTrue result ↔ IsVersionRow row.now }
+{
+    fits_versions(row.0.as_str(), row.1)
+}
+
+/// Whether each row of `versions` has a subject and a number.
+pub(crate) fn are_version_rows(rows: &[(String, u32, u32, bool)]) -> bool
+    ensures { IsTrue result ↔ AllByRecursion IsVersionRow rows.now }
+{
+    for row in rows {
+        if !is_version_row(row) {
+            return false;
+        }
+    }
+    true
+}
 
 /// Whether a row of `levels` may be these two: a subject, and the text of one of the seven levels.
 pub fn fits_levels(subject: &str, level: &str) -> bool

@@ -4,10 +4,13 @@ ghost use Rattle.std.specs.Prelude.{IfOk, IsTrue, ◌↔◌};
 ghost use Rattle.reg_rows.specs.Spelling.{IsSpelling, rows_in};
 
 use crate::meta::is_meta;
-use crate::rows::{are_kept_rows, are_level_rows};
+use crate::rows::{are_kept_rows, are_level_rows, are_version_rows};
+use crate::texts::are_texts;
 use reg_core::OutOfMemory;
+use std::alloc::Global;
 
-/// The rows of the five tables of layout 1, those of each in any order.
+/// The rows of the five tables of layout 1: those of `texts` in the order of their ids, those of
+/// each other in any order.
 #[derive(Debug, Drop)]
 pub struct Tables {
     /// an id, and its text
@@ -23,25 +26,21 @@ pub struct Tables {
 }
 
 /// Whether the rows hold a registry of layout 1 and what is kept beside it. That no key of a table
-/// stands twice is the table's own matter, and isn't tested.
+/// and no text stands twice, and that each version's id is that of a text, is the tables' own
+/// matter, and isn't tested.
 ///
 /// # Errors
 ///
-/// `OutOfMemory` where memory is refused. No test of today takes any.
-pub fn spells(tables: &Tables) -> Result<bool, OutOfMemory>
+/// `OutOfMemory` where room for a schema is refused.
+pub fn spells(alloc: Global, tables: &Tables) -> Result<bool, OutOfMemory>
     ensures { IfOk result (λ yes. IsTrue yes ↔ IsSpelling (rows_in tables.now)) }
 {
-    if !tables.texts.is_empty() {
+    if !is_meta(&tables.meta)
+        || !are_version_rows(&tables.versions)
+        || !are_level_rows(&tables.levels)
+        || !are_kept_rows(&tables.kept)
+    {
         return Ok(false);
     }
-    if !tables.versions.is_empty() {
-        return Ok(false);
-    }
-    if !are_level_rows(&tables.levels) {
-        return Ok(false);
-    }
-    if !are_kept_rows(&tables.kept) {
-        return Ok(false);
-    }
-    Ok(is_meta(&tables.meta))
+    are_texts(alloc, &tables.texts)
 }

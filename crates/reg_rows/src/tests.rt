@@ -4,6 +4,24 @@ use crate::{Tables, layout_of, spells};
 use std::alloc::{AllocError, Global};
 use std::test::Fail;
 
+/// Rows of `texts`, each an id before its text, and whether they pass.
+const TEXTS: &str = r#"1 "int" 2 "long" true
+1 [] true
+2 "int" false
+1 "int" 3 "long" false
+2 "int" 1 "long" false
+0 "int" false
+1 {"type":"int"} false
+1 "Int" false
+1 int false"#;
+
+/// Rows of `versions`, a subject before its number, and whether they pass.
+const VERSIONS: &str = "s 1 true
+a/b 2147483647 true
+s 0 false
+s 2147483648 false
+\u{7f} 1 false";
+
 /// Rows of `levels`, a subject before its level, and whether they pass.
 const LEVELS: &str = "s FULL true
 a/b NONE true
@@ -51,18 +69,53 @@ fn new_tables(alloc: Global) -> Result<Tables, Fail> {
 #[test]
 fn a_new_registry(rt: HostRuntime) -> Result<(), Fail> {
     let alloc = rt.alloc();
-    assert!(rt; spells(&new_tables(alloc)?)?);
-    let mut with_text = new_tables(alloc)?;
-    with_text.texts.push((1, text(alloc, "\"int\"")?))?;
-    assert!(rt; !spells(&with_text)?);
-    let mut with_version = new_tables(alloc)?;
-    with_version
-        .versions
-        .push((text(alloc, "s")?, 1, 1, false))?;
-    assert!(rt; !spells(&with_version)?);
+    assert!(rt; spells(alloc, &new_tables(alloc)?)?);
     let mut short = new_tables(alloc)?;
     short.meta.pop();
-    assert!(rt; !spells(&short)?);
+    assert!(rt; !spells(alloc, &short)?);
+    Ok(())
+}
+
+#[test]
+fn texts(rt: HostRuntime) -> Result<(), Fail> {
+    let alloc = rt.alloc();
+    for row in TEXTS.lines() {
+        let mut parts = row.split(' ');
+        let mut tables = new_tables(alloc)?;
+        let mut passes = false;
+        while let Some(part) = parts.next() {
+            match part.parse::<u32>() {
+                Ok(id) => {
+                    let json = parts.next().ok_or("no text")?;
+                    tables.texts.push((id, text(alloc, json)?))?;
+                }
+                Err(_) => passes = part == "true",
+            }
+        }
+        assert_eq!(rt; spells(alloc, &tables)?, passes, "{row}");
+    }
+    Ok(())
+}
+
+#[test]
+fn versions(rt: HostRuntime) -> Result<(), Fail> {
+    let alloc = rt.alloc();
+    for row in VERSIONS.lines() {
+        let mut parts = row.split(' ');
+        let subject = parts.next().ok_or("no subject")?;
+        let Ok(number) = parts.next().ok_or("no number")?.parse::<u32>() else {
+            return Err("no number".into());
+        };
+        let mut tables = new_tables(alloc)?;
+        tables
+            .versions
+            .push((text(alloc, subject)?, number, 1, false))?;
+        assert_eq!(rt;
+            spells(alloc, &tables)?,
+            parts.next() == Some("true"),
+            "{row}"
+        );
+    }
     Ok(())
 }
 
@@ -77,7 +130,11 @@ fn levels(rt: HostRuntime) -> Result<(), Fail> {
         tables
             .levels
             .push((text(alloc, subject)?, text(alloc, level)?))?;
-        assert_eq!(rt; spells(&tables)?, parts.next() == Some("true"), "{row}");
+        assert_eq!(rt;
+            spells(alloc, &tables)?,
+            parts.next() == Some("true"),
+            "{row}"
+        );
     }
     Ok(())
 }
@@ -99,7 +156,11 @@ fn kept_replies(rt: HostRuntime) -> Result<(), Fail> {
             status,
             text(alloc, "")?,
         ))?;
-        assert_eq!(rt; spells(&tables)?, parts.next() == Some("true"), "{row}");
+        assert_eq!(rt;
+            spells(alloc, &tables)?,
+            parts.next() == Some("true"),
+            "{row}"
+        );
     }
     Ok(())
 }
@@ -119,7 +180,11 @@ fn what_the_database_is(rt: HostRuntime) -> Result<(), Fail> {
         if name != "global" {
             tables.meta.push((text(alloc, name)?, text(alloc, "")?))?;
         }
-        assert_eq!(rt; spells(&tables)?, parts.next() == Some("true"), "{row}");
+        assert_eq!(rt;
+            spells(alloc, &tables)?,
+            parts.next() == Some("true"),
+            "{row}"
+        );
     }
     Ok(())
 }
