@@ -1,9 +1,9 @@
 -- Rows that hold a registry are those of tables that spell one, and the other way round.
-use Rattle.std.proofs.Common.{◌≡◌, ◌⊎◌, inl, inr, ℕ, ℤ, List, [], ◌∷◌, map, Option, Some, None, Bool, true, false, cond, codes, refl, sym, ap, subst, ◌∙◌, Ordering}
+use Rattle.std.proofs.Common.{◌≡◌, ◌⊎◌, inl, inr, ℕ, ℤ, List, [], ◌∷◌, map, Option, Some, None, Bool, true, false, cond, codes, refl, sym, ap, subst, ◌∙◌, arith}
 use Rattle.std.specs.Prelude.{IsTrue, IsUtf8, ◌&&◌, ◌||◌, bytes_eq, is_some, option_map, option_and_then, string_bytes}
 use Rattle.std.specs.Prelude as list
 use Rattle.std.specs.List.{AllByRecursion}
-use Rattle.std.specs.Ordering.{is_eq, nat_cmp}
+use Rattle.std.specs.Ordering.{is_eq}
 use Rattle.std.specs.FinMap.{get, empty, find, from_entries, get-empty, get-insert, get-from_entries, same_map}
 use Rattle.std.proofs.lemmas.Bool.{cases_Bool, both_ways, and_parts}
 use Rattle.std.proofs.lemmas.Slice.Eq.{bytes_eq-Decides}
@@ -14,26 +14,27 @@ use Rattle.reg_core.specs.declared.level.Level.{Level}
 use Rattle.reg_core.specs.Levels.{level_text, level_of, levels}
 use Rattle.reg_core.specs.Replies.{IsKeptStatus}
 use Rattle.reg_core.specs.Subjects.{is_subject}
-use Rattle.reg_core.specs.Registry.{Registry, OwnLevels}
-use Rattle.reg_tables.specs.declared.lines.TextLine.{TextLine}
-use Rattle.reg_tables.specs.declared.lines.VersionLine.{VersionLine}
+use Rattle.avro_nodes.specs.Identity.{identity}
+use Rattle.reg_core.specs.Registry.{RowKey, Registry, OwnLevels, schema_at}
 use Rattle.reg_tables.specs.declared.lines.LevelLine.{LevelLine}
 use Rattle.reg_tables.specs.declared.lines.KeptLine.{KeptLine}
 use Rattle.reg_tables.specs.declared.lines.MetaLine.{MetaLine}
-use Rattle.reg_tables.specs.Contents.{text_cmp, version_cmp, TextMap, KeptRow, Contents}
+use Rattle.reg_tables.specs.Contents.{text_cmp, TextMap, VersionRow, KeptRow, Contents}
 use Rattle.reg_tables.specs.Changes.{meta_of}
-use Rattle.reg_tables.specs.Listings.{Lines, HasNoTwins, HaveNoTwins, contents_of, without_rowid, text_entry, version_entry, level_entry, kept_entry, meta_entry}
+use Rattle.reg_tables.specs.Listings.{Lines, HasNoTwins, HaveNoTwins, contents_of, without_rowid, level_entry, kept_entry, meta_entry}
 use Rattle.reg_tables.proofs.Members.{has_mapped, maps_had}
-use Rattle.reg_tables.proofs.MapLemmas.{IsKeyOrder, tied_key, other_key, same_or_not, get-insert-same, get-insert-other}
-use Rattle.reg_tables.proofs.KeyedTables.{text_order, number_order, version_order}
+use Rattle.reg_tables.proofs.MapLemmas.{tied_key, other_key, same_or_not, get-insert-same, get-insert-other}
+use Rattle.reg_tables.proofs.KeyedTables.{text_order}
 use Rattle.reg_tables.proofs.ListingLemmas.{found_first, find_had}
 use Rattle.reg_rows.specs.Spelling.{Pair, pair_of, value_at, is_name, names_known, has_value, has_level, is_meta, FitsLevels, IsLevelRow, IsKeptRow, IsSpelling}
 use Rattle.reg_core.specs.KeptReplies.{Entry, Kept}
 use Rattle.reg_store.specs.Spells.{CanBeKept, IsSpelled, row_of}
-use Rattle.reg_store.specs.Opening.{text_row, version_row, level_row, kept_row, meta_row, rows_of}
+use Rattle.reg_store.specs.Opening.{level_row, kept_row, meta_row, rows_of}
 use Rattle.reg_store.proofs.Maps.{same_bytes, other_bytes}
 use Rattle.reg_store.proofs.Reading.{level_of-level_text}
 use Rattle.reg_store.proofs.Texts.{was_written}
+use Rattle.reg_store.proofs.Ids.{schema_within}
+use Rattle.reg_store.proofs.Schemas.{schemas_in, all_schemas, length_schemas, utf8_schemas, texts_spelled, rows_in, versions_spelled, row_there, version_fits}
 
 -- ---- levels and their texts
 
@@ -136,21 +137,6 @@ entry_in row = record { text = row.command; reply = record { status = row.status
 row_back : (o : Option KeptRow) → o ≡ option_map row_of (option_map entry_in o)
 row_back None = refl
 row_back (Some row) = refl
-
-nil_if_mapped : {A B : Type 0} (f : A → B) (xs : List A) → map f xs ≡ [] → xs ≡ []
-nil_if_mapped f [] h = refl
-nil_if_mapped f (x ∷ xs) h = absurd (cc)
-
-nil_if_empty : {K X : Type 0} (R : K → K → Ordering) → IsKeyOrder R → (es : List (K × X)) → from_entries {R = R} es ≡ empty → es ≡ []
-nil_if_empty R order [] h = refl
-nil_if_empty R order (e ∷ es) h = absurd (let some = sym (get-insert-same R order (from_entries es) e.0 e.1) ∙ ap (λ m. get m e.0) h ∙ get-empty R e.0 in cc)
-
--- a table that spells nothing has no row
-pub no_texts : (lines : List TextLine) → from_entries {R = nat_cmp} (map without_rowid (map text_entry lines)) ≡ empty → lines ≡ []
-no_texts lines h = nil_if_mapped text_entry lines (nil_if_mapped without_rowid (map text_entry lines) (nil_if_empty _ number_order (map without_rowid (map text_entry lines)) h))
-
-pub no_versions : (lines : List VersionLine) → from_entries {R = version_cmp} (map without_rowid (map version_entry lines)) ≡ empty → lines ≡ []
-no_versions lines h = nil_if_mapped version_entry lines (nil_if_mapped without_rowid (map version_entry lines) (nil_if_empty _ version_order (map without_rowid (map version_entry lines)) h))
 
 module _ (lines : List LevelLine) where
   abbrev pub levels_in : TextMap (List ℕ)
@@ -296,17 +282,32 @@ module _ (lines : Lines) (apart : HaveNoTwins lines) where
   abbrev held : Contents
   held = contents_of lines
 
-  -- rows that hold a registry spell one
-  pub spelled_if_rows : IsSpelling (rows_of lines) → (g : Registry) × (k : Kept) × IsSpelled held g k
-  spelled_if_rows s =
+  -- rows that hold a registry spell one, where no text stands twice and the id of each version is that of a text
+  pub spelled_if_rows : ((i j : ℕ) (text : List ℕ) → get held.texts i ≡ Some text → get held.texts j ≡ Some text → i ≡ j)
+      → ((key : RowKey) (row : VersionRow) → get held.versions key ≡ Some row → (text : List ℕ) × (get held.texts row.id ≡ Some text)) → IsSpelling (rows_of lines) → (g : Registry) × (k : Kept) × IsSpelled held g k
+  spelled_if_rows unique refers s =
       let meta = meta_is lines.meta s.meta in
+      let schemas = schemas_in lines.texts s.texts.identities in
       let own = λ (subject : List ℕ). option_and_then level_of (get held.levels subject) in
-      let kept = λ (key : List ℕ). option_map entry_in (get held.kept key) in (
-        record { global = meta.0; own = own },
+      let kept = λ (key : List ℕ). option_map entry_in (get held.kept key) in
+      let texts = texts_spelled lines.texts s.texts in (
+        record { schemas = schemas; rows = rows_in held.versions; global = meta.0; own = own },
         kept,
         record {
-          texts = ap (λ l. from_entries (map without_rowid (map text_entry l))) (nil_if_mapped text_row lines.texts s.texts);
-          versions = ap (λ l. from_entries (map without_rowid (map version_entry l))) (nil_if_mapped version_row lines.versions s.versions);
+          registry = record {
+            schemas = all_schemas lines.texts s.texts.identities;
+            few = (let few = s.texts.few in let same = length_schemas lines.texts s.texts.identities in omega (arith, few, same));
+            apart = λ i j one other here there same. unique i j (identity one) (texts i ∙ ap (option_map identity) here) (texts j ∙ ap (option_map identity) there ∙ ap Some (sym same));
+            rows = λ key version there.
+                let row = row_there held.versions key version there in
+                let text = refers key row.0 row.1 in
+                let it = was_written identity (schema_at schemas row.0.id) text.0 (sym (texts row.0.id) ∙ text.1) in
+                record { within = (version_fits lines.versions s.versions key row.0 row.1).within; has_schema = rw row.2 (schema_within schemas row.0.id it.0 it.1) };
+          };
+          texts = texts;
+          utf8 = utf8_schemas lines.texts s.texts.identities;
+          versions = versions_spelled held.versions;
+          registered = λ key version there. let row = row_there held.versions key version there in (version_fits lines.versions s.versions key row.0 row.1).subject;
           meta = meta.1;
           levels = λ subject. spelt_back (get held.levels subject) (λ v there. (level_fits lines.levels s.levels subject v there).level);
           subjects = λ subject level there. subject_fits subject level (get held.levels subject) refl there;
@@ -318,13 +319,3 @@ module _ (lines : Lines) (apart : HaveNoTwins lines) where
       subject_fits : (subject : List ℕ) (level : Level) (o : Option (List ℕ)) → get held.levels subject ≡ o → option_and_then level_of o ≡ Some level → IsTrue (is_subject subject)
       subject_fits subject level None e h = absurd (cc)
       subject_fits subject level (Some v) e h = (level_fits lines.levels s.levels subject v e).subject
-
-  -- rows of tables that spell a registry hold it
-  pub rows_if_spelled : (g : Registry) (k : Kept) → IsSpelled held g k → IsSpelling (rows_of lines)
-  rows_if_spelled g k s = record {
-    texts = ap (map text_row) (no_texts lines.texts s.texts);
-    versions = ap (map version_row) (no_versions lines.versions s.versions);
-    levels = levels_fit lines.levels apart.levels g.own s.levels s.subjects;
-    kept = kept_fit lines.kept apart.kept k s.kept s.keys;
-    meta = meta_fit lines.meta apart.meta g.global s.meta;
-  }

@@ -1,5 +1,5 @@
 -- What a transaction that was committed, or failed, leaves.
-use Rattle.std.proofs.Common.{◌≡◌, ◌⊎◌, inl, inr, true, Ok, Err, Result, refl, sym, ap, subst, ◌∙◌}
+use Rattle.std.proofs.Common.{◌≡◌, ◌⊎◌, inl, inr, ℕ, zero, suc, lit≤, List, [], Some, None, option_map, true, Ok, Err, Result, refl, sym, ap, subst, ◌∙◌}
 use Rattle.std.specs.Prelude.{IfErr, OnOk, OnErr, IsTrue, is_ok}
 use Rattle.std.specs.FinMap.{get-empty}
 use Rattle.sqlite.specs.Held.{Held, state}
@@ -9,13 +9,18 @@ use Rattle.sqlite.specs.Effect.{Database}
 use Rattle.sqlite.specs.Steps.{FailsToCommit}
 use Rattle.sqlite.specs.declared.error.Error.{Error}
 use Rattle.sqlite.specs.State.{State, KeepsCommit, Survives, HasCleanDisk}
-use Rattle.reg_core.specs.Registry.{Registry, new_registry}
+use Rattle.std.specs.Ordering.{nat_cmp}
+use Rattle.std.proofs.lemmas.List.Elements.{All-nil}
+use Rattle.avro_nodes.specs.Nodes.{NodeView}
+use Rattle.avro_nodes.specs.Identity.{identity}
+use Rattle.avro_schema.specs.Texts.{IsSchema}
+use Rattle.reg_core.specs.Registry.{Registry, new_registry, row_cmp, schema_at}
 use Rattle.reg_tables.specs.Layout.{layout}
-use Rattle.reg_tables.specs.Contents.{text_cmp, Contents, Holds}
+use Rattle.reg_tables.specs.Contents.{text_cmp, version_cmp, Contents, Holds}
 use Rattle.reg_tables.specs.Changes.{new_contents}
 use Rattle.reg_tables.proofs.Transactions.{keeps_if_unchanged, keeps_if_undone}
 use Rattle.reg_core.specs.KeptReplies.{Kept, nothing_kept}
-use Rattle.reg_store.specs.Spells.{Spells, Leaves, IsOpenOver, SpellsWhileOpen}
+use Rattle.reg_store.specs.Spells.{version_row, Spells, Leaves, IsOpenOver, SpellsWhileOpen}
 
 -- a commit that fails leaves the last commit
 pub keeps_if_failed : (a b : State) (e : Error) → FailsToCommit a b e → KeepsCommit a b
@@ -43,14 +48,29 @@ pub leaves_if_spelled : (db : Trees) (now : Database) (g : Registry) (k : Kept) 
 leaves_if_spelled db now g k is s =
     subst (λ d. Spells (record { schema = layout; trees = d }) g k) (sym is) (subst (λ x. Spells (record { schema = x; trees = now.trees }) g k) s.holds.declared s)
 
+none_at : (id : ℕ) → schema_at [] id ≡ None
+none_at zero = refl
+none_at (suc n) = refl
+
+no_schema : (id : ℕ) (nodes : List NodeView) → schema_at [] id ≡ Some nodes → ⊥
+no_schema id nodes there = let none = sym (none_at id) ∙ there in absurd (cc)
+
 -- the tables of a new registry spell it
 pub spells_new : (now : Database) → Holds now new_contents → Spells now new_registry nothing_kept
 spells_new now h = record {
   contents = new_contents;
   holds = h;
   spelled = record {
-    texts = refl;
-    versions = refl;
+    registry = record {
+      schemas = All-nil IsSchema;
+      few = lit≤ tt;
+      apart = λ i j one other here there same. absurd (no_schema i one here);
+      rows = λ key version there. absurd (let none = sym (get-empty row_cmp key) ∙ there in cc);
+    };
+    texts = λ id. get-empty nat_cmp id ∙ sym (ap (option_map identity) (none_at id));
+    utf8 = λ id nodes there. absurd (no_schema id nodes there);
+    versions = λ key. get-empty version_cmp key ∙ sym (ap (option_map version_row) (get-empty row_cmp key));
+    registered = λ key version there. absurd (let none = sym (get-empty row_cmp key) ∙ there in cc);
     meta = refl;
     levels = λ subject. get-empty text_cmp subject;
     subjects = λ subject level some. absurd (cc);

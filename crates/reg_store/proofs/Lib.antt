@@ -1,9 +1,12 @@
 pub mod Maps
+pub mod Numbering
+pub mod Ids
 pub mod Spelling
 pub mod Reading
 pub mod Committing
 pub mod Texts
 pub mod Failing
+pub mod Schemas
 pub mod Bridge
 pub mod Rereading
 pub mod Distinct

@@ -1,6 +1,6 @@
 -- What a change of the tables makes of what they spell.
-use Rattle.std.proofs.Common.{◌≡◌, ℕ, ◌+◌, ◌<◌, List, [], ◌∷◌, ◌++◌, length, take, get_or, Option, Some, None, Bool, true, false, cond, codes, refl, ap, subst, ◌∙◌}
-use Rattle.std.specs.Prelude.{option_map, bytes_eq, IsTrue}
+use Rattle.std.proofs.Common.{◌≡◌, ℕ, ◌+◌, ◌<◌, List, [], ◌∷◌, ◌++◌, length, take, get_or, Option, Some, None, Bool, true, false, cond, codes, refl, sym, ap, subst, ◌∙◌}
+use Rattle.std.specs.Prelude.{option_map, bytes_eq, IsTrue, All, ◌≤◌}
 use Rattle.std.specs.FinMap.{get, insert}
 use Rattle.std.proofs.lemmas.List.{take_more}
 use Rattle.std.proofs.lemmas.Slice.Eq.{bytes_eq-Decides}
@@ -10,7 +10,10 @@ use Rattle.reg_core.specs.Views.{after_changes, after_change}
 use Rattle.reg_core.specs.declared.level.Level.{Level}
 use Rattle.reg_core.specs.Levels.{level_text}
 use Rattle.reg_core.specs.Subjects.{is_subject}
-use Rattle.reg_core.specs.Registry.{Registry, own_with}
+use Rattle.avro_nodes.specs.Nodes.{NodeView}
+use Rattle.avro_nodes.specs.Identity.{identity}
+use Rattle.avro_schema.specs.Texts.{IsSchema}
+use Rattle.reg_core.specs.Registry.{Schemas, Rows, Registry, IsRow, IsRegistry, schema_at, max_number, own_with}
 use Rattle.reg_tables.specs.Contents.{Contents, Holds}
 use Rattle.reg_tables.specs.Changes.{Changes, with_global, with_level, with_kept}
 use Rattle.reg_core.specs.KeptReplies.{Entry, Kept, kept_with}
@@ -27,11 +30,26 @@ each_entry P look k v here others q w = go (bytes_eq k q) refl
     go true is some = let value : v ≡ w = cc in subst (λ l. P l w) ((bytes_eq-Decides k q).0 is) (subst (P k) value here)
     go false is some = others q w some
 
+abbrev HaveOwnTexts : Schemas → Type 0
+HaveOwnTexts l = (i j : ℕ) (one other : List NodeView) → schema_at l i ≡ Some one → schema_at l j ≡ Some other → identity one ≡ identity other → i ≡ j
+
+-- levels are no matter of what a registry is
+same_registry : (g h : Registry) → h.schemas ≡ g.schemas → h.rows ≡ g.rows → IsRegistry g → IsRegistry h
+same_registry g h schemas rows is = record {
+  schemas = subst (All IsSchema) (sym schemas) is.schemas;
+  few = subst (λ (l : Schemas). length l ≤ max_number) (sym schemas) is.few;
+  apart = subst HaveOwnTexts (sym schemas) is.apart;
+  rows = λ key version there. subst (λ (l : Schemas). IsRow l key version) (sym schemas) (is.rows key version (ap (λ (m : Rows). get m key) (sym rows) ∙ there));
+}
+
 module _ (contents : Contents) (g : Registry) (k : Kept) (s : IsSpelled contents g k) where
   pub spelled_global : (level : Level) → IsSpelled (with_global (level_text level) contents) (record g { global = level }) k
   spelled_global level = record {
+    registry = same_registry g _ refl refl s.registry;
     texts = s.texts;
+    utf8 = s.utf8;
     versions = s.versions;
+    registered = s.registered;
     meta = ap (λ m. insert m (codes "global") (level_text level)) s.meta ∙ insert-insert _ (codes "global") (level_text g.global) (level_text level);
     levels = s.levels;
     subjects = s.subjects;
@@ -41,8 +59,11 @@ module _ (contents : Contents) (g : Registry) (k : Kept) (s : IsSpelled contents
 
   pub spelled_level : (subject : List ℕ) (level : Level) → IsTrue (is_subject subject) → IsSpelled (with_level subject (level_text level) contents) (record g { own = own_with g.own subject level }) k
   spelled_level subject level within = record {
+    registry = same_registry g _ refl refl s.registry;
     texts = s.texts;
+    utf8 = s.utf8;
     versions = s.versions;
+    registered = s.registered;
     meta = s.meta;
     levels = insert_both level_text contents.levels g.own subject level s.levels;
     subjects = each_entry (λ q _. IsTrue (is_subject q)) g.own subject level within s.subjects;
@@ -52,8 +73,11 @@ module _ (contents : Contents) (g : Registry) (k : Kept) (s : IsSpelled contents
 
   pub spelled_kept : (key : List ℕ) (entry : Entry) → CanBeKept key entry → IsSpelled (with_kept key (row_of entry) contents) g (kept_with k key entry)
   spelled_kept key entry fits = record {
+    registry = same_registry g _ refl refl s.registry;
     texts = s.texts;
+    utf8 = s.utf8;
     versions = s.versions;
+    registered = s.registered;
     meta = s.meta;
     levels = s.levels;
     subjects = s.subjects;

@@ -1,7 +1,9 @@
 -- What the tests of the tables say, both ways.
-use Rattle.std.proofs.Common.{◌≡◌, List, [], ◌∷◌, map, Bool, false, None, Ok, Err, Result, IsTrue, refl, sym, ap, subst, ◌∙◌, arith}
+use Rattle.std.proofs.Common.{◌≡◌, ℕ, List, [], ◌∷◌, map, Bool, false, None, Ok, Err, Result, IsTrue, refl, sym, ap, subst, ◌∙◌, arith}
 use Rattle.std.specs.Prelude.{IfErr, OnOk, IsErrAnd}
 use Rattle.std.specs.List.{AllByRecursion, IsDistinct}
+use Rattle.std.specs.List.Sorted.{IsPermutation}
+use Rattle.std.proofs.lemmas.List.Sorted.{IsPermutation-map, IsPermutation-trans}
 use Rattle.std.specs.FinMap.{get}
 use Rattle.sqlite.specs.Schema.{Schema}
 use Rattle.sqlite.specs.Effect.{Database, IsDatabase}
@@ -18,21 +20,24 @@ use Rattle.reg_tables.specs.declared.lines.MetaLine.{MetaLine}
 use Rattle.reg_tables.specs.Layout.{IsLayout, texts, versions, levels, kept, meta}
 use Rattle.reg_tables.specs.Contents.{text_form, version_form, pair_form, kept_form, text_cmp, version_cmp}
 use Rattle.reg_tables.specs.Frames.{StaysIdle}
-use Rattle.reg_tables.specs.Listings.{text_entry, version_entry, level_entry, kept_entry, meta_entry, ListsTexts, ListsVersions, ListsLevels, ListsKept, ListsMeta, ListsAll, HaveNoTwins, Lines, contents_of}
+use Rattle.reg_tables.specs.Listings.{entry_parts, text_entry, version_entry, level_entry, kept_entry, meta_entry, ListsTexts, ListsVersions, ListsLevels, ListsKept, ListsMeta, ListsAll, HaveNoTwins, Lines, contents_of}
 use Rattle.reg_tables.specs.Reading.{CanBeRead, IsFault}
 use Rattle.reg_tables.proofs.KeyedTables.{text_order, distinct_texts, number_order, distinct_numbers, version_order, distinct_versions}
 use Rattle.reg_tables.proofs.ListingLemmas.{listed_if_shown}
 use Rattle.reg_tables.proofs.Opening.{holds_if_listed, distinct_version_rows, distinct_kept_rows}
 use Rattle.reg_tables.proofs.UniqueKeys.{apart_by_id, versions_apart, levels_apart, kept_apart, meta_apart, rowids_of}
-use Rattle.reg_rows.specs.Spelling.{pair_of, is_meta, IsLevelRow, IsKeptRow, IsSpelling}
+use Rattle.reg_rows.specs.Spelling.{Text, pair_of, is_meta, AreTexts, IsVersionRow, IsLevelRow, IsKeptRow, IsSpelling}
 use Rattle.reg_store.specs.declared.error.StoreError.{StoreError}
 use Rattle.reg_store.specs.declared.error.StoreError.TheVariants.{Memory, NotARegistry}
 use Rattle.reg_store.specs.Failures.{failure_of, IsFaultBy}
-use Rattle.reg_store.specs.Opening.{level_row, kept_row, meta_row, rows_of}
+use Rattle.reg_store.specs.Opening.{text_row, version_row, level_row, kept_row, meta_row, rows_of}
 use Rattle.reg_core.specs.KeptReplies.{Kept}
 use Rattle.reg_store.specs.Spells.{SpellsIn, SpellsUnopened}
-use Rattle.reg_store.specs.Testing.{AreApart, level_fits, kept_fits, Tests, TablesPass, IsFaultUnopened}
-use Rattle.reg_store.proofs.Bridge.{no_texts, no_versions, levels_fit, kept_fit, meta_fit, spelled_if_rows}
+use Rattle.reg_store.specs.Testing.{AreApart, version_fits, level_fits, kept_fits, Tests, TablesPass, IsFaultUnopened}
+use Rattle.reg_store.proofs.Bridge.{levels_fit, kept_fit, meta_fit, spelled_if_rows}
+use Rattle.reg_store.proofs.Numbering.{Rises, ids_apart}
+use Rattle.reg_store.proofs.Schemas.{texts_fit, versions_fit}
+use Rattle.reg_tables.proofs.References.{one_id, has_text}
 use Rattle.reg_tables.proofs.Transactions.{survives_both, on_ok}
 use Rattle.reg_store.proofs.Failing.{fault_by, by_since}
 use Rattle.reg_store.proofs.Rereading.{reads_then, same_now}
@@ -48,21 +53,27 @@ each_line : {A B : Type 0} (f : A → B) (P : B → Type 0) (xs : List A) → Al
 each_line f P [] h = tt
 each_line f P (x ∷ xs) h = (h.0, each_line f P xs h.1)
 
+-- lines that are sorted are those of the same table
+pub lists_sorted : (db : Database) (old new : List TextLine) → IsPermutation old new → ListsTexts db old → ListsTexts db new
+lists_sorted db old new same lists = IsPermutation-trans _ _ _ lists (IsPermutation-map (entry_parts text_form) _ _ (IsPermutation-map text_entry old new same))
+
 -- ---- tables that spell a registry pass
 
 pub is_known : (db : Database) (g : Registry) (k : Kept) → SpellsUnopened db g k → IsLayout db.schema
 is_known db g k s = subst IsLayout (sym s.spells.holds.declared) s.known
 
 module _ (schema : Schema) (db : Database) (g : Registry) (k : Kept) (s : SpellsIn schema db g k) where
-  pub texts_pass : (lines : List TextLine) → ListsTexts db lines → lines ≡ []
-  texts_pass lines lists =
+  pub texts_pass : (lines : List TextLine) → ListsTexts db lines → Rises (map (λ (row : ℕ × Text). row.0) (map text_row lines)) → AreTexts (map text_row lines)
+  texts_pass lines lists rising =
       let shown = listed_if_shown text_form _ number_order distinct_numbers (db.trees texts.tree) (map text_entry lines) lists s.contents.texts distinct_texts s.holds.texts in
-      no_texts lines (sym shown.is ∙ s.spelled.texts)
+      texts_fit lines shown.apart g.schemas s.spelled.registry.schemas s.spelled.registry.few (λ id. sym (ap (λ m. get m id) shown.is) ∙ s.spelled.texts id) rising
 
-  pub versions_pass : (lines : List VersionLine) → ListsVersions db lines → lines ≡ []
+  pub versions_pass : (lines : List VersionLine) → ListsVersions db lines → AreApart (map (λ (line : VersionLine). line.rowid) lines) × AllByRecursion version_fits lines
   versions_pass lines lists =
-      let shown = listed_if_shown version_form version_cmp version_order distinct_versions (db.trees versions.tree) (map version_entry lines) lists s.contents.versions distinct_version_rows s.holds.versions in
-      no_versions lines (sym shown.is ∙ s.spelled.versions)
+      let shown = listed_if_shown version_form version_cmp version_order distinct_versions (db.trees versions.tree) (map version_entry lines) lists s.contents.versions distinct_version_rows s.holds.versions in (
+        subst AreApart (rowids_of version_entry (λ (line : VersionLine). line.rowid) (λ line. refl) lines) shown.apart.rowids,
+        each_line version_row IsVersionRow lines (versions_fit lines shown.apart g.schemas g.rows (λ key. sym (ap (λ m. get m key) shown.is) ∙ s.spelled.versions key) s.spelled.registry.rows s.spelled.registered),
+      )
 
   pub levels_pass : (lines : List LevelLine) → ListsLevels db lines → AreApart (map (λ (line : LevelLine). line.rowid) lines) × AllByRecursion level_fits lines
   levels_pass lines lists =
@@ -89,17 +100,17 @@ module _ (schema : Schema) (db : Database) (g : Registry) (k : Kept) (s : Spells
 
 module _ (db : Database) (known : IsLayout db.schema) (sound : IsDatabase db) (p : TablesPass db) where
   lines : Lines
-  lines = record { texts = []; versions = []; levels = p.rest.levels.lines; kept = p.rest.kept.lines; meta = p.meta.lines }
+  lines = record { texts = p.rest.texts.lines; versions = p.rest.versions.lines; levels = p.rest.levels.lines; kept = p.rest.kept.lines; meta = p.meta.lines }
 
   lists : ListsAll db lines
   unfolding lines
-  lists = record { texts = p.rest.texts; versions = p.rest.versions; levels = p.rest.levels.lists; kept = p.rest.kept.lists; meta = p.meta.lists }
+  lists = record { texts = p.rest.texts.lists; versions = p.rest.versions.lists; levels = p.rest.levels.lists; kept = p.rest.kept.lists; meta = p.meta.lists }
 
   apart : HaveNoTwins lines
   unfolding lines IsDistinct
   apart = record {
-    texts = apart_by_id [] tt;
-    versions = versions_apart db known sound [] p.rest.versions tt;
+    texts = apart_by_id p.rest.texts.lines (ids_apart p.rest.texts.lines p.rest.texts.fit.numbered);
+    versions = versions_apart db known sound p.rest.versions.lines p.rest.versions.lists p.rest.versions.apart;
     levels = levels_apart db known sound p.rest.levels.lines p.rest.levels.lists p.rest.levels.apart;
     kept = kept_apart db known sound p.rest.kept.lines p.rest.kept.lists p.rest.kept.apart;
     meta = meta_apart db known sound p.meta.lines p.meta.lists p.meta.apart;
@@ -108,8 +119,8 @@ module _ (db : Database) (known : IsLayout db.schema) (sound : IsDatabase db) (p
   hold : IsSpelling (rows_of lines)
   unfolding lines
   hold = record {
-    texts = refl;
-    versions = refl;
+    texts = p.rest.texts.fit;
+    versions = each_row version_row IsVersionRow p.rest.versions.lines p.rest.versions.fit;
     levels = each_row level_row IsLevelRow p.rest.levels.lines p.rest.levels.fit;
     kept = each_row kept_row IsKeptRow p.rest.kept.lines p.rest.kept.fit;
     meta = p.meta.fit;
@@ -117,8 +128,9 @@ module _ (db : Database) (known : IsLayout db.schema) (sound : IsDatabase db) (p
 
   pub spelled_if_passed : (g : Registry) × (k : Kept) × SpellsUnopened db g k
   spelled_if_passed =
-      let it = spelled_if_rows lines apart hold in
-      (it.0, it.1, record { schema = db.schema; known = known; spells = record { contents = contents_of lines; holds = holds_if_listed db.schema db lines refl lists sound apart; spelled = it.2 } })
+      let holds = holds_if_listed db.schema db lines refl lists sound apart in
+      let it = spelled_if_rows lines apart (one_id db.schema db (contents_of lines) known holds) (has_text db.schema db (contents_of lines) known holds) hold in
+      (it.0, it.1, record { schema = db.schema; known = known; spells = record { contents = contents_of lines; holds = holds; spelled = it.2 } })
 
 -- ---- how a test comes out
 

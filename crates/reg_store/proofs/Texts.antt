@@ -13,13 +13,15 @@ use Rattle.reg_core.specs.Keys.{is_key_byte, IsKey}
 use Rattle.reg_core.specs.Levels.{level_text}
 use Rattle.reg_core.specs.Subjects.{is_subject}
 use Rattle.reg_core.specs.Replies.{IsKeptStatus}
-use Rattle.reg_core.specs.Registry.{Registry}
-use Rattle.reg_tables.specs.Contents.{text_cmp, TextMap, Contents, AreReadable}
+use Rattle.avro_nodes.specs.Identity.{identity}
+use Rattle.reg_core.specs.Registry.{Registry, schema_at}
+use Rattle.reg_tables.specs.Contents.{text_cmp, TextMap, VersionRow, Contents, AreReadable}
 use Rattle.reg_tables.specs.Changes.{meta_of}
 use Rattle.reg_tables.proofs.MapLemmas.{get-insert-same, get-insert-other, same_or_not}
 use Rattle.reg_tables.proofs.KeyedTables.{text_order}
 use Rattle.reg_core.specs.KeptReplies.{Kept}
-use Rattle.reg_store.specs.Spells.{IsSpelled, row_of}
+use Rattle.reg_store.specs.Spells.{IsSpelled, row_of, version_row}
+use Rattle.reg_store.proofs.Ids.{schema_within}
 
 key_byte_ascii : (c : ℕ) → is_key_byte c ≡ true → c < 128
 key_byte_ascii c e = grind (arith, nat_tests)
@@ -80,8 +82,19 @@ utf8_meta level =
 -- what the tables spell can be read
 pub readable_if_spelled : (contents : Contents) (g : Registry) (k : Kept) → IsSpelled contents g k → AreReadable contents
 readable_if_spelled contents g k s = record {
-  texts = λ id text there. absurd (let e = sym (ap (λ m. get m id) s.texts ∙ get-empty _ id) ∙ there in cc);
-  versions = λ key version there. absurd (let e = sym (ap (λ m. get m key) s.versions ∙ get-empty _ key) ∙ there in cc);
+  texts = λ id text there.
+      let it = was_written identity (schema_at g.schemas id) text (sym (s.texts id) ∙ there) in
+      let within = (schema_within g.schemas id it.0 it.1).1 in
+      let few = s.registry.few in
+      (omega (arith, within, few), subst IsUtf8 (sym it.2) (s.utf8 id it.0 it.1));
+  versions = λ key version there.
+      let it = was_written version_row (get g.rows key) version (sym (s.versions key) ∙ there) in
+      let row = s.registry.rows key it.0 it.1 in
+      let number = row.within.1 in
+      let id = row.has_schema.1 in
+      let few = s.registry.few in
+      let same : version.id ≡ it.0.id = ap (λ (r : VersionRow). r.id) it.2 in
+      (utf8_subject key.0 (s.registered key it.0 it.1), omega (arith, number), omega (arith, id, few, same));
   levels = λ subject level there.
       let it = was_written level_text (g.own subject) level (sym (s.levels subject) ∙ there) in
       (utf8_subject subject (s.subjects subject it.0 it.1), subst IsUtf8 (sym it.2) (utf8_level it.0));

@@ -1,24 +1,30 @@
 -- What the tables say of a registry and of the replies that it keeps.
 use Rattle.std.specs.Prelude.{◌≡◌, ℕ, List, Some, IsTrue, IsUtf8, option_map}
-use Rattle.std.specs.FinMap.{get, empty}
+use Rattle.std.specs.FinMap.{get}
 use Rattle.sqlite.specs.Tree.{Trees}
 use Rattle.sqlite.specs.Schema.{Schema}
 use Rattle.sqlite.specs.Effect.{Database}
 use Rattle.sqlite.specs.State.{State}
+use Rattle.avro_nodes.specs.Nodes.{NodeView}
+use Rattle.avro_nodes.specs.Identity.{identity}
 use Rattle.reg_core.specs.declared.level.Level.{Level}
 use Rattle.reg_core.specs.Levels.{level_text}
 use Rattle.reg_core.specs.Keys.{IsKey}
 use Rattle.reg_core.specs.Subjects.{is_subject}
 use Rattle.reg_core.specs.Replies.{IsKeptStatus}
-use Rattle.reg_core.specs.Registry.{Registry}
+use Rattle.reg_core.specs.Registry.{RowKey, Version, Registry, IsRegistry, schema_at}
 use Rattle.reg_tables.specs.Layout.{layout, IsLayout}
-use Rattle.reg_tables.specs.Contents.{KeptRow, Contents, HoldsIn}
+use Rattle.reg_tables.specs.Contents.{VersionRow, KeptRow, Contents, HoldsIn}
 use Rattle.reg_tables.specs.Changes.{meta_of}
 use Rattle.reg_core.specs.KeptReplies.{Entry, Kept}
 
 -- this project's choice: a row of `kept` has the command's text, and the status and the body of its reply
 abbrev pub row_of : Entry → KeptRow
 row_of entry = record { command = entry.text; status = entry.reply.status; body = entry.reply.body }
+
+-- this project's choice: a row of `versions` has the version's id, and whether it is soft-deleted
+abbrev pub version_row : Version → VersionRow
+version_row version = record { id = version.id; deleted = version.deleted }
 
 -- this project's choice: a retry key, the status of a reply that is kept, and two texts
 pub record CanBeKept (key : List ℕ) (entry : Entry) : Type 0 where
@@ -29,9 +35,12 @@ pub record CanBeKept (key : List ℕ) (entry : Entry) : Type 0 where
 
 -- this project's choice: what the tables hold spells this registry and these kept replies
 pub record IsSpelled (contents : Contents) (g : Registry) (k : Kept) : Type 0 where
-  -- no command registers a schema yet
-  pub texts : contents.texts ≡ empty
-  pub versions : contents.versions ≡ empty
+  pub registry : IsRegistry g
+  -- the text of an id is the identity text of its schema
+  pub texts : (id : ℕ) → get contents.texts id ≡ option_map identity (schema_at g.schemas id)
+  pub utf8 : (id : ℕ) (nodes : List NodeView) → schema_at g.schemas id ≡ Some nodes → IsUtf8 (identity nodes)
+  pub versions : (key : RowKey) → get contents.versions key ≡ option_map version_row (get g.rows key)
+  pub registered : (key : RowKey) (version : Version) → get g.rows key ≡ Some version → IsTrue (is_subject key.0)
   -- the format, the layout and the global level, and no more
   pub meta : contents.meta ≡ meta_of (level_text g.global)
   pub levels : (subject : List ℕ) → get contents.levels subject ≡ option_map level_text (g.own subject)

@@ -1,23 +1,25 @@
 -- What the tables are tested for before a store is opened over them.
-use Rattle.std.specs.Prelude.{◌≡◌, ◌<◌, ◌≤◌, ℕ, ℤ, List, [], map, string_bytes, Bool, false, Option, Some, Result, Ok, Err, IfErr, OnOk, IsTrue}
+use Rattle.std.specs.Prelude.{◌≡◌, ◌<◌, ◌≤◌, ℕ, ℤ, List, map, string_bytes, Bool, false, Option, Some, Result, Ok, Err, IfErr, OnOk, IsTrue}
 use Rattle.std.specs.List.{IsDistinct, AllByRecursion}
 use Rattle.std.specs.Ordering.{int_cmp, eq_by_cmp}
 use Rattle.sqlite.specs.Effect.{Database}
 use Rattle.sqlite.specs.Held.{Held, state}
 use Rattle.sqlite.specs.State.{State, HasCleanDisk}
 use Rattle.sqlite_trees.specs.declared.store.Store.{Ghosts}
+use Rattle.reg_tables.specs.declared.lines.TextLine.{TextLine}
+use Rattle.reg_tables.specs.declared.lines.VersionLine.{VersionLine}
 use Rattle.reg_tables.specs.declared.lines.LevelLine.{LevelLine}
 use Rattle.reg_tables.specs.declared.lines.KeptLine.{KeptLine}
 use Rattle.reg_tables.specs.declared.lines.MetaLine.{MetaLine}
 use Rattle.reg_tables.specs.Layout.{IsLayout}
 use Rattle.reg_tables.specs.Listings.{ListsTexts, ListsVersions, ListsLevels, ListsKept, ListsMeta}
 use Rattle.reg_tables.specs.Frames.{StaysIdle}
-use Rattle.reg_rows.specs.Spelling.{Pair, pair_of, is_meta, layout_in, FitsLevels, FitsKept}
+use Rattle.reg_rows.specs.Spelling.{Pair, pair_of, is_meta, layout_in, AreTexts, FitsVersions, FitsLevels, FitsKept}
 use Rattle.reg_core.specs.Registry.{Registry}
 use Rattle.reg_store.specs.declared.error.StoreError.{StoreError}
 use Rattle.reg_store.specs.declared.error.StoreError.TheVariants.{Memory, Disk, NotARegistry, OldLayout, NewerLayout}
 use Rattle.reg_store.specs.Failures.{IsFaultBy}
-use Rattle.reg_store.specs.Opening.{meta_row}
+use Rattle.reg_store.specs.Opening.{text_row, meta_row}
 use Rattle.reg_core.specs.KeptReplies.{Kept}
 use Rattle.reg_store.specs.Spells.{SpellsUnopened}
 
@@ -26,6 +28,9 @@ abbrev pub AreApart : List ℤ → Type 0
 AreApart = IsDistinct (eq_by_cmp int_cmp)
 
 -- ---- what passes, table by table
+
+abbrev pub version_fits : VersionLine → Type 0
+version_fits line = FitsVersions (string_bytes line.subject) line.version
 
 abbrev pub level_fits : LevelLine → Type 0
 level_fits line = FitsLevels (string_bytes line.subject) (string_bytes line.level)
@@ -54,12 +59,17 @@ pub record MetaPass (db : Database) : Type 0 where
   pub apart : AreApart (map (λ (line : MetaLine). line.rowid) lines)
   pub fit : IsTrue (is_meta (pairs_of lines))
 
--- no command of today makes a text or a version
-abbrev pub TextsPass : Database → Type 0
-TextsPass db = ListsTexts db []
+-- the rows of `texts`, in the order of their ids
+pub record TextsPass (db : Database) : Type 0 where
+  pub lines : List TextLine
+  pub lists : ListsTexts db lines
+  pub fit : AreTexts (map text_row lines)
 
-abbrev pub VersionsPass : Database → Type 0
-VersionsPass db = ListsVersions db []
+pub record VersionsPass (db : Database) : Type 0 where
+  pub lines : List VersionLine
+  pub lists : ListsVersions db lines
+  pub apart : AreApart (map (λ (line : VersionLine). line.rowid) lines)
+  pub fit : AllByRecursion version_fits lines
 
 pub record RestPasses (db : Database) : Type 0 where
   pub texts : TextsPass db

@@ -4,6 +4,7 @@ ghost use Rattle.std.specs.Prelude.{◌≡◌};
 ghost use Rattle.sqlite.specs.declared.error.Error.TheVariants.{SqliteFailure};
 ghost use Rattle.reg_store.specs.Failures.{failure_of};
 
+use reg_core::OutOfMemory;
 use sqlite::{Constraint, ErrorCode};
 use std::alloc::AllocError;
 use thiserror::Error;
@@ -50,6 +51,17 @@ impl From<AllocError> for StoreError {
     ghost from_gives = { λ _ failure. failure ≡ Memory };
 
     fn from(_error: AllocError) -> StoreError {
+        StoreError::Memory
+    }
+}
+
+impl From<OutOfMemory> for StoreError {
+    ghost use Rattle.std.specs.Prelude.{◌≡◌};
+    ghost use Rattle.reg_store.specs.declared.error.StoreError.TheVariants.{Memory};
+
+    ghost from_gives = { λ _ failure. failure ≡ Memory };
+
+    fn from(_error: OutOfMemory) -> StoreError {
         StoreError::Memory
     }
 }

@@ -1,22 +1,23 @@
 //! What the tables are tested for before a store is opened over them: one table is read, tested and
 //! let go before the next.
 
-ghost use Rattle.std.specs.Prelude.{◌≡◌, ◌↔◌, ℤ, [], map, IfOk, IfErr, OnOk, OnErr, IsTrue, None, false};
+ghost use Rattle.std.specs.Prelude.{◌≡◌, ◌↔◌, ℤ, map, IfOk, IfErr, OnOk, OnErr, IsTrue, None, false};
 ghost use Rattle.std.specs.List.{AllByRecursion};
 ghost use Rattle.sqlite.specs.Held.{state};
 ghost use Rattle.sqlite.specs.State.{HasCleanDisk};
 ghost use Rattle.reg_tables.specs.Layout.{IsLayout};
 ghost use Rattle.reg_store.specs.Failures.{IsNumberless};
-ghost use Rattle.reg_store.specs.Opening.{meta_row, IsRefusedBy, TellsNewer};
-ghost use Rattle.reg_rows.specs.Spelling.{pair_of, is_meta};
-ghost use Rattle.reg_store.specs.Testing.{Allows, AreApart, level_fits, kept_fits, JudgesMeta, Tests, TextsPass, VersionsPass, LevelsPass, KeptPass, RestPasses, MetaPass, TablesPass};
+ghost use Rattle.reg_store.specs.Opening.{text_row, meta_row, IsRefusedBy, TellsNewer};
+ghost use Rattle.reg_rows.specs.Spelling.{pair_of, is_meta, AreTexts};
+ghost use Rattle.reg_store.specs.Testing.{Allows, AreApart, version_fits, level_fits, kept_fits, JudgesMeta, Tests, TextsPass, VersionsPass, LevelsPass, KeptPass, RestPasses, MetaPass, TablesPass};
 
 use crate::error::StoreError;
 use crate::rowids::are_apart;
-use reg_rows::{fits_kept, fits_levels, is_meta, layout_of};
+use reg_core::OutOfMemory;
+use reg_rows::{are_texts, fits_kept, fits_levels, fits_versions, is_meta, layout_of};
 use reg_tables::{
-    KeptLine, LevelLine, MetaLine, has_layout, is_unindexed, kept_lines, level_lines, meta_lines,
-    text_lines, version_lines,
+    KeptLine, LevelLine, MetaLine, TextLine, VersionLine, has_layout, is_unindexed, kept_lines,
+    level_lines, meta_lines, text_lines, version_lines,
 };
 use sqlite::{Alter, Connection};
 use std::alloc::{AllocError, Global};
@@ -32,6 +33,20 @@ trait Line {
 
     fn fits(&self) -> bool
         ensures { IsTrue result ↔ fits_table self.now };
+}
+
+impl Line for VersionLine {
+    ghost rowid_of = { λ line. line.rowid };
+
+    ghost fits_table = { version_fits };
+
+    fn rowid(&self) -> i64 {
+        self.rowid
+    }
+
+    fn fits(&self) -> bool {
+        fits_versions(self.subject.as_str(), self.version)
+    }
 }
 
 impl Line for LevelLine {
@@ -111,12 +126,6 @@ fn pass<L: Line>(alloc: Global, lines: &[L]) -> Result<bool, AllocError>
     Ok(are_apart(&mut rowids))
 }
 
-fn are_none<L>(lines: &[L]) -> bool
-    ensures { IsTrue result ↔ (lines.now ≡ []) }
-{
-    lines.is_empty()
-}
-
 /// An error for what doesn't pass.
 fn allow(passes: bool) -> Result<(), StoreError>
     ensures ok { OnOk result (IsTrue passes) }
@@ -129,6 +138,24 @@ fn allow(passes: bool) -> Result<(), StoreError>
     }
 }
 
+fn text_rows(alloc: Global, lines: Vec<TextLine>) -> Result<Vec<(u32, String)>, AllocError>
+    ensures { IfOk result (λ rows. rows.items ≡ map text_row lines.items) }
+{
+    let mut rows = Vec::new(alloc);
+    for line in lines {
+        rows.push((line.id, line.text))?;
+    }
+    Ok(rows)
+}
+
+/// Whether the lines are those of schemas whose ids are 1 to their count, in order.
+fn pass_texts(alloc: Global, lines: Vec<TextLine>) -> Result<bool, OutOfMemory>
+    ensures { IfOk result (λ yes. IsTrue yes ↔ AreTexts (map text_row lines.items)) }
+{
+    let rows = text_rows(alloc, lines)?;
+    are_texts(alloc, &rows)
+}
+
 /// Reads `texts`, and tests it.
 fn test_texts<S: Alter>(alloc: Global, conn: &mut Connection<S>) -> Result<(), StoreError>
     requires idle { conn.old.in_transaction ≡ false }
@@ -136,8 +163,9 @@ fn test_texts<S: Alter>(alloc: Global, conn: &mut Connection<S>) -> Result<(), S
     ensures tests { Tests S.Store conn.old conn.new result TextsPass }
     ensures plain { IfErr result IsNumberless }
 {
-    let lines = text_lines(alloc, conn)?;
-    allow(are_none(&lines))
+    let mut lines = text_lines(alloc, conn)?;
+    lines.sort_unstable_by_key(|line| line.id);
+    allow(pass_texts(alloc, lines)?)
 }
 
 /// Reads `versions`, and tests it.
@@ -148,7 +176,7 @@ fn test_versions<S: Alter>(alloc: Global, conn: &mut Connection<S>) -> Result<()
     ensures plain { IfErr result IsNumberless }
 {
     let lines = version_lines(alloc, conn)?;
-    allow(are_none(&lines))
+    allow(pass(alloc, &lines)?)
 }
 
 /// Reads `levels`, and tests it.

@@ -1,7 +1,9 @@
-use Rattle.std.proofs.Common.{sym, subst, ◌∙◌}
+use Rattle.std.proofs.Common.{List, map, sym, subst}
+use Rattle.std.specs.List.{AllByRecursion}
 use Rattle.std.proofs.lemmas.Bool.{both_ways}
 use Rattle.sqlite.specs.Held.{state}
-use Rattle.reg_tables.specs.Listings.{ListsVersions}
+use Rattle.reg_tables.specs.declared.lines.VersionLine.{VersionLine}
+use Rattle.reg_store.specs.Testing.{AreApart, version_fits}
 use Rattle.reg_store.specs.Failures.{IsNumberless}
 use Rattle.reg_store.proofs.Failing.{numberless, passed}
 use Rattle.reg_store.proofs.TestLemmas.{test_unread, test_judged, is_known, versions_pass}
@@ -18,8 +20,11 @@ pub returns-clause-tests : goal.returns-clause-tests
 returns-clause-tests g c =
     let db = (state g.S.Store c.args.conn.now).now in
     let lines = c.in_ok-lines.lines.items in
-    test_judged g.S.Store c.args.conn.now c.version_lines.new.conn c.allow.result c.in_ok-lines.lines c.are_none.result c.in_ok-lines.ensures.frame c.allow.ensures.ok c.allow.ensures.err
-    (λ clean yes known. subst (ListsVersions db) (sym c.deref.ensures.value ∙ c.are_none.ensures.0 yes) (c.in_ok-lines.ensures.listed clean known))
+    let Passes : List VersionLine → Type 0 = λ l. AreApart (map (λ (line : VersionLine). line.rowid) l) × AllByRecursion version_fits l in
+    test_judged g.S.Store c.args.conn.now c.version_lines.new.conn c.allow.result c.in_ok-lines.lines c.in_ok-pass.field-0 c.in_ok-lines.ensures.frame c.allow.ensures.ok c.allow.ensures.err
+    (λ clean yes known.
+    let both = subst Passes c.deref.ensures.value (c.in_ok-pass.ensures.0 yes) in
+    record { lines = lines; lists = c.in_ok-lines.ensures.listed clean known; apart = both.0; fit = both.1 })
     (λ clean no registry k s.
-    let none = versions_pass s.schema db registry k s.spells lines (c.in_ok-lines.ensures.listed clean (is_known db registry k s)) in
-    both_ways _ no (c.are_none.ensures.1 (c.deref.ensures.value ∙ none)))
+    let both = versions_pass s.schema db registry k s.spells lines (c.in_ok-lines.ensures.listed clean (is_known db registry k s)) in
+    both_ways _ no (c.in_ok-pass.ensures.1 (subst Passes (sym c.deref.ensures.value) both)))

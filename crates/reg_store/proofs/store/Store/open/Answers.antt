@@ -1,8 +1,13 @@
 use Rattle.std.proofs.Common.{◌⊎◌, subst}
 use Rattle.sqlite.specs.Held.{state}
-use Rattle.reg_store.specs.Opening.{IsIndexed, TellsNewer}
+use Rattle.reg_store.specs.Opening.{IsIndexed, OpensOver, TellsNewer}
 use Rattle.reg_store.specs.Testing.{IsFaultUnopened}
 use Rattle.reg_store.proofs.store.Store.open.Goals as goal
+
+pub returns-in-Ok-clause-done : goal.returns-in-Ok-clause-done
+returns-in-Ok-clause-done g c clean =
+    let it = subst (λ h. OpensOver (state g.S.Store h) (state g.S.Store c.make_ready.new.conn)) c.set_step_limit.ensures (c.in-Ok.ensures.done clean) in
+    record { registry = it.registry; kept = it.kept; spelled = it.spelled; spells = it.spells }
 
 pub returns-in-Ok-clause-crash_after : goal.returns-in-Ok-clause-crash_after
 returns-in-Ok-clause-crash_after g c clean db it =
