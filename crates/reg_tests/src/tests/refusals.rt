@@ -65,8 +65,14 @@ fn what_is_no_registry_is_left_as_it_was(rt: HostRuntime) -> Result<(), Fail> {
         "INSERT INTO levels VALUES ('', 'FULL')",
         "INSERT INTO kept VALUES ('no key', '[]', 200, '{}')",
         "INSERT INTO kept VALUES ('k', '[]', 500, '{}')",
-        "INSERT INTO texts VALUES (1, '\"int\"')",
-        "INSERT INTO texts VALUES (1, '\"int\"'); INSERT INTO versions VALUES ('s', 1, 1, 0)",
+        "INSERT INTO texts VALUES (0, '\"int\"')",
+        "INSERT INTO texts VALUES (2, '\"int\"')",
+        "INSERT INTO texts VALUES (1, '\"int\"'); INSERT INTO texts VALUES (3, '\"long\"')",
+        "INSERT INTO texts VALUES (1, 'int')",
+        "INSERT INTO texts VALUES (1, '{\"type\":\"int\"}')",
+        "INSERT INTO texts VALUES (1, '\"int\"'); INSERT INTO versions VALUES ('s', 0, 1, 0)",
+        "INSERT INTO texts VALUES (1, '\"int\"'); INSERT INTO versions VALUES ('s', 2147483648, 1, 0)",
+        "INSERT INTO texts VALUES (1, '\"int\"'); INSERT INTO versions VALUES ('', 1, 1, 0)",
     ];
     let files = registry(alloc)?;
     for sql in rows {
@@ -76,6 +82,22 @@ fn what_is_no_registry_is_left_as_it_was(rt: HostRuntime) -> Result<(), Fail> {
     let nothing = empty_disk(alloc);
     let foreign = spoilt(alloc, &nothing, "CREATE TABLE other (a TEXT) STRICT")?;
     refuses(&rt, alloc, foreign, StoreError::NotARegistry)
+}
+
+#[test]
+fn schemas_and_versions_are_a_registry(rt: HostRuntime) -> Result<(), Fail> {
+    let alloc = rt.alloc();
+    let rows = "INSERT INTO texts VALUES (2, '\"long\"'); INSERT INTO texts VALUES (1, '\"int\"');
+        INSERT INTO versions VALUES ('s', 1, 2, 1); INSERT INTO versions VALUES ('a/b', 2147483647, 1, 0);
+        INSERT INTO versions VALUES ('s', 7, 1, 0); INSERT INTO levels VALUES ('s', 'FULL')";
+    let mut connection = spoilt(alloc, &registry(alloc)?, rows)?;
+    let before = contents(alloc, &mut connection)?;
+    let mut connection = opened(alloc, connection)?.into_connection();
+    let after = contents(alloc, &mut connection)?;
+    assert_eq!(rt; after.as_str(), before.as_str());
+    let again = over(alloc, close(connection)?)?;
+    opened(alloc, again)?;
+    Ok(())
 }
 
 #[test]
