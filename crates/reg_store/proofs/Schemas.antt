@@ -1,5 +1,5 @@
 -- Rows of `texts` and `versions` that hold schemas and versions are those of tables that spell them, and the other way round.
-use Rattle.std.proofs.Common.{◌≡◌, ◌≢◌, ℕ, ℤ, zero, suc, ◌+◌, ◌<◌, ◌≤◌, List, [], ◌∷◌, map, length, Option, Some, None, Bool, true, false, cond, refl, sym, ap, subst, ◌∙◌, arith, Ordering}
+use Rattle.std.proofs.Common.{◌≡◌, ℕ, ℤ, zero, suc, ◌+◌, ◌<◌, ◌≤◌, List, [], ◌∷◌, map, length, Option, Some, None, Bool, true, false, cond, refl, sym, ap, subst, ◌∙◌, arith, Ordering}
 use Rattle.std.specs.Prelude.{IsTrue, IsUtf8, All, slice_get, option_map, string_bytes}
 use Rattle.std.specs.List.{AllByRecursion}
 use Rattle.std.specs.Ordering.{is_eq, nat_cmp, eq_by_cmp}
@@ -12,17 +12,17 @@ use Rattle.avro_nodes.specs.Identity.{identity}
 use Rattle.avro_schema.specs.Texts.{IsSchema}
 use Rattle.sqlite_rules.specs.Lists.{Has}
 use Rattle.sqlite_rules.proofs.ListLemmas.{all_has, all_from}
-use Rattle.reg_core.specs.Registry.{Schemas, RowKey, Version, Rows, Registry, IsRow, IsRegistry, schema_at, max_number}
+use Rattle.reg_core.specs.Registry.{Schemas, RowKey, Version, Rows, IsRow, schema_at, max_number}
 use Rattle.reg_core.specs.Subjects.{is_subject}
 use Rattle.reg_tables.specs.declared.lines.TextLine.{TextLine}
 use Rattle.reg_tables.specs.declared.lines.VersionLine.{VersionLine}
 use Rattle.reg_tables.specs.Contents.{version_cmp, VersionRow}
 use Rattle.reg_tables.specs.Listings.{HasNoTwins, without_rowid, text_entry, version_entry}
-use Rattle.reg_tables.proofs.Members.{has_mapped, maps_had, map-map}
-use Rattle.reg_tables.proofs.MapLemmas.{IsKeyOrder, tied_key, other_key}
+use Rattle.reg_tables.proofs.Members.{has_mapped, maps_had}
+use Rattle.reg_tables.proofs.MapLemmas.{tied_key, other_key}
 use Rattle.reg_tables.proofs.KeyedTables.{number_order, version_order}
 use Rattle.reg_tables.proofs.ListingLemmas.{found_first, find_had}
-use Rattle.reg_rows.specs.Spelling.{Text, AreNumbered, IsIdentity, IsTextRow, AreTexts, FitsVersions, IsVersionRow}
+use Rattle.reg_rows.specs.Spelling.{Text, AreNumbered, IsTextRow, AreTexts, FitsVersions, IsVersionRow}
 use Rattle.reg_store.specs.Spells.{version_row}
 use Rattle.reg_store.specs.Opening.{text_row}
 use Rattle.reg_store.specs.Opening.{version_row as row_of_line}

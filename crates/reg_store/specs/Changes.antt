@@ -1,5 +1,5 @@
 -- What a call makes of a registry and of the kept replies.
-use Rattle.std.specs.Prelude.{◌≡◌, ◌≢◌, ◌⊎◌, ◌+◌, ℕ, length, codes, ◌∷◌, List, [], Option, None, Some, IsSome, IsTrue, false, ⊤}
+use Rattle.std.specs.Prelude.{◌≡◌, ◌≢◌, ◌⊎◌, ◌+◌, length, codes, ◌∷◌, List, [], Option, None, Some, IsSome, IsTrue, false, ⊤}
 use Rattle.sqlite.specs.State.{State}
 use Rattle.sqlite.specs.declared.error.Error.{Error}
 use Rattle.reg_core.specs.declared.decision.Change.{Change}

@@ -9,7 +9,7 @@ use Rattle.reg_store.specs.Failures.{IsNumberless}
 use Rattle.reg_store.specs.Opening.{text_row}
 use Rattle.reg_store.proofs.Failing.{numberless, passed}
 use Rattle.reg_store.proofs.Numbering.{Rises, rises}
-use Rattle.reg_store.proofs.TestLemmas.{test_unread, test_refused, test_judged, is_known, lists_sorted, texts_pass}
+use Rattle.reg_store.proofs.TestLemmas.{test_unread, test_judged, is_known, lists_sorted, texts_pass}
 use Rattle.reg_store.proofs.testing.test_texts.Goals as goal
 
 pub returns-in_err-lines-clause-tests : goal.returns-in_err-lines-clause-tests
