@@ -5,7 +5,7 @@ use Rattle.std.proofs.lemmas.Bool.{both_ways, cases_Bool}
 use Rattle.sqlite_disk.specs.Disk.{MoreFaults}
 use Rattle.sqlite_trees.specs.declared.error.StoreError.{StoreError}
 use Rattle.sqlite_trees.specs.declared.error.StoreError.TheVariants.{OutOfMemory, Io, Corrupt, Full, Broken, Unstorable}
-use Rattle.sqlite.specs.State.{State, HasCause, HasCleanDisk, Survives}
+use Rattle.sqlite.specs.State.{State, HasCause}
 use Rattle.reg_tables.specs.Reading.{HasDiskFault, HasReason}
 
 -- the store's own cause, or what was too large
