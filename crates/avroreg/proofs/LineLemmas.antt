@@ -40,9 +40,3 @@ Begins-item text old mid new items i d lt a b =
     let whole : (before ++ here) ++ after ≡ flat_map text items =
     ap (λ t. t ++ after) (sym (flat_map-more text items i d lt)) ∙ (sym (flat_map-append text (take (i + 1) items) (drop (i + 1) items)) ∙ ap (flat_map text) (take-append-drop (i + 1) items)) in
     subst (Begins old new) whole (Begins-more old new (before ++ here) after (Begins-after old mid new before here a b))
-
--- the items before one were written whole, and that one too
-pub Appends-item : {A : Type 0} (text : A → List ℕ) (old mid new : Option (List ℕ)) (items : List A) (i : ℕ) (d : A) → i < length items
-    → Appends old mid (flat_map text (take i items)) → Appends mid new (text (get_or items i d)) → Appends old new (flat_map text (take (i + 1) items))
-Appends-item text old mid new items i d lt a b =
-    subst (Appends old new) (sym (flat_map-more text items i d lt)) (Appends-trans old mid new _ _ a b)

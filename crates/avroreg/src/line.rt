@@ -12,7 +12,7 @@ use std::io::Write;
 
 /// A line: a text, the name of a file that it may name, and what follows, in three parts at most.
 #[derive(Clone, Copy)]
-pub struct Line<'a> {
+struct Line<'a> {
     front: &'a str,
     name: &'a str,
     rest: [&'a str; 3],
