@@ -21,7 +21,7 @@ Text = String Global
 
 -- ---- texts
 
--- Apache Avro 1.11 Specification, Schema Declaration: the identity text of a schema
+-- the identity text of a schema
 pub record IsIdentity (text : List ℕ) : Type 0 where
   pub nodes : List NodeView
   pub schema : IsSchema nodes

@@ -59,12 +59,6 @@ few_numbered first most (n ∷ ns) h high l =
     let rest = few_numbered (first + 1) most ns h.1 (λ m there. high m (inr there)) (omega (arith, a, e)) in
     omega (arith, rest)
 
--- none is below the first
-pub from_first : (first : ℕ) (ns : List ℕ) → AreNumbered first ns → (n : ℕ) → Has ns n → first ≤ n
-from_first first [] h n there = absurd there
-from_first first (m ∷ ns) h n (inl e) = let a = h.0 in omega (arith, a, e)
-from_first first (m ∷ ns) h n (inr later) = let a = from_first (first + 1) ns h.1 n later in omega (arith, a)
-
 abbrev ids : List TextLine → List ℕ
 ids lines = map (λ (row : ℕ × Text). row.0) (map text_row lines)
 
