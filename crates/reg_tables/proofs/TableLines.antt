@@ -1,4 +1,4 @@
--- What a query of all rows of a table lists, and how it fails.
+-- What a query of all rows of a table lists, and how a list of rows fails.
 use Rattle.std.proofs.Common.{◌≤◌, ◌≡◌, ◌⊎◌, inl, inr, ℤ, zero, suc, List, [], ◌∷◌, map, All, refl, sym, subst, ◌∙◌, arith}
 use Rattle.std.specs.List.Sorted.{IsPermutation}
 use Rattle.std.proofs.lemmas.List.Sorted.{IsPermutation-map}
@@ -54,6 +54,13 @@ all_if_each P [] each k d low = absurd (omega arith)
 all_if_each P (x ∷ xs) each zero d low = each x (inl refl)
 all_if_each P (x ∷ xs) each (suc k) d low = all_if_each P xs (λ y h. each y (inr h)) k d (omega (arith, low))
 
+-- a query that shows what can be read fails with a fault alone
+module _ (q : TableQuery) (params : Row) (is : (schema : Schema) → IsLayout schema → IsQuery q schema) (takes : (schema : Schema) → IsLayout schema → Takes q params schema) (is_readable : Row → Type 0) where
+  pub list_fault : (old new end : State) → ((found : List Row) → Shown q.sql params old new found → HoldsReadable old.now → All is_readable found) → (e : Error)
+      → ((new.faults ≤ end.faults) × (FailsToQuery q.sql params old new e ⊎ IsTooLate q.sql params old new e)) ⊎ ((found : List Row) × Shown q.sql params old new found × (All is_readable found → e ≡ SqliteFailure code.OutOfMemory)) → CanBeRead old → IsFault old end e
+  list_fault old new end readable e (inl failed) can = read_fault_until old new end failed.0 e (query_faults q is params takes old new can e failed.1)
+  list_fault old new end readable e (inr read) can = memory_is_fault old end e (read.2 (readable read.0 read.1 (can (shown_open q.sql params old new read.0 read.1))))
+
 module _ {K V : Type 0} {form : Form K V} {is_readable : Row → Type 0} {q : TableQuery} (table : ShowsTable form is_readable q) (old new : State) where
   module _ (laid : IsLayout old.now.schema) (found : List Row) (h : Shown q.sql [] old new found) where
     answer : IsAnswer (plain_query q.tree [] q.shown) (overlay old.now.trees []) [] found
@@ -73,13 +80,9 @@ module _ {K V : Type 0} {form : Form K V} {is_readable : Row → Type 0} {q : Ta
         subst is_readable (sym r.3) (table.readable old.now there r.0 (subst (λ l. Has l r.0) (with_nothing old.now.trees q.tree) r.1)))
 
   -- the lines that were read from what is shown list the table
-  pub lists_lines : {L : Type 0} (entry : L → ℤ × K × V) (lines : List L) → ((found : List Row) × Shown q.sql [] old new found × (map (parts_of form) found ≡ map (λ line. entry_parts form (entry line)) lines)) → IsLayout old.now.schema
-      → Lists form (old.now.trees q.tree) (map entry lines)
-  lists_lines entry lines read laid = subst (IsPermutation (map (parts_of form) (old.now.trees q.tree))) (read.2 ∙ sym (map-map (entry_parts form) entry lines)) (shown_parts laid read.0 read.1)
+  pub lists_lines : {L : Type 0} (entry : L → ℤ × K × V) (lines : List L) (found : List Row) → Shown q.sql [] old new found → map (parts_of form) found ≡ map (λ line. entry_parts form (entry line)) lines → IsLayout old.now.schema → Lists form (old.now.trees q.tree) (map entry lines)
+  lists_lines entry lines found h read laid = subst (IsPermutation (map (parts_of form) (old.now.trees q.tree))) (read ∙ sym (map-map (entry_parts form) entry lines)) (shown_parts laid found h)
 
   -- of readable contents the lines fail with a fault alone
   pub lines_fault : (end : State) (e : Error) → ((new.faults ≤ end.faults) × (FailsToQuery q.sql [] old new e ⊎ IsTooLate q.sql [] old new e)) ⊎ ((found : List Row) × Shown q.sql [] old new found × (All is_readable found → e ≡ SqliteFailure code.OutOfMemory)) → CanBeRead old → IsFault old end e
-  lines_fault end e (inl failed) can = read_fault_until old new end failed.0 e (query_faults q table.is [] table.takes old new can e failed.1)
-  lines_fault end e (inr read) can =
-      let there = can (shown_open q.sql [] old new read.0 read.1) in
-      memory_is_fault old end e (read.2 (shown_readable (laid_out there.holds there.is_layout) read.0 read.1 there))
+  lines_fault end = list_fault q [] table.is table.takes is_readable old new end (λ found h there. shown_readable (laid_out there.holds there.is_layout) found h there)

@@ -1,16 +1,13 @@
 -- What the queries of versions list, in the order of subjects and numbers.
-use Rattle.std.proofs.Common.{◌≡◌, ◌⊎◌, ◌≤◌, inl, inr, ℕ, pos, List, [], ◌∷◌, map, filter, All, Bool, Ordering, Less, Equal, Greater, refl, sym, ap, subst, ◌∙◌}
+use Rattle.std.proofs.Common.{◌≡◌, inl, inr, ℕ, pos, List, [], ◌∷◌, map, filter, All, Bool, Ordering, Less, Equal, Greater, refl, sym, ap, subst, ◌∙◌}
 use Rattle.std.specs.Prelude.{bytes_eq, IsUtf8, ◌<◌, ◌^◌}
 use Rattle.std.specs.FinMap.{entries, get}
 use Rattle.std.specs.Ordering.{nat_cmp, ordering_then, is_eq}
-use Rattle.sqlite.specs.declared.error.ErrorCode.TheVariants as code
-use Rattle.sqlite.specs.declared.error.Error.{Error}
-use Rattle.sqlite.specs.declared.error.Error.TheVariants.{SqliteFailure}
 use Rattle.sqlite.specs.declared.types.Value.TheVariants.{Int, Text}
 use Rattle.sqlite.specs.Order.{Row, column}
 use Rattle.sqlite.specs.Program.{overlay}
 use Rattle.sqlite.specs.Query.{Output, IsAnswer, key_cmp}
-use Rattle.sqlite.specs.State.{State, Shown, FailsToQuery, IsTooLate}
+use Rattle.sqlite.specs.State.{State, Shown}
 use Rattle.sqlite.specs.Schema.{Schema}
 use Rattle.sqlite.specs.Term.{Term, eval_all}
 use Rattle.sqlite_rules.specs.Lists.{Has}
@@ -22,9 +19,7 @@ use Rattle.reg_tables.specs.Layout.{IsLayout}
 use Rattle.reg_tables.specs.TableMaps.{IsEntry, ShowsMap}
 use Rattle.reg_tables.specs.Contents.{version_cmp, VersionRow, version_cells, version_key_cells, version_form, text_cmp, Contents, AreReadable, HoldsIn}
 use Rattle.reg_tables.specs.Entries.{NumberedVersion, numbered, numbered_cells, subject_versions, IsReadableNumbered}
-use Rattle.reg_tables.specs.Reading.{HoldsReadable, CanBeRead, IsFault}
 use Rattle.reg_tables.specs.declared.listed.SubjectVersion.{SubjectVersion}
-use Rattle.reg_tables.proofs.Faults.{Takes, query_faults, read_fault_until, memory_is_fault}
 use Rattle.reg_tables.proofs.KeyedTables.{int_order, text_order, version_order, by_key_test, with_nothing, answered}
 use Rattle.reg_tables.proofs.Members.{has_mapped, map-map}
 use Rattle.reg_tables.proofs.MapLemmas.{same_key, tied_key}
@@ -33,7 +28,6 @@ use Rattle.reg_tables.proofs.OrderedQueries.{entries_rise, entry_got, got_entry,
 use Rattle.reg_tables.proofs.Queries.{all_rows, ordered_query, passes}
 use Rattle.reg_tables.proofs.Statements.{TableQuery, body_of, IsQuery, by_key, in_order, laid_out, find_versions, find_versions_is}
 use Rattle.reg_tables.proofs.TableLines.{all_if_each}
-use Rattle.reg_tables.proofs.Transactions.{shown_open}
 use Rattle.std.proofs.lemmas.Bool.{cases_Bool, both_ways, false_from_ne_true}
 use Rattle.std.proofs.lemmas.Slice.Eq.{bytes_eq-Decides}
 
@@ -90,13 +84,6 @@ module _ (q : TableQuery) (ordered : body_of q ≡ ordered_query 2 q.tests q.sho
       let e = has_mapped cells (filter p (entries contents.versions)) x (subst (λ l. Has l x) lists_versions there) in
       let kept = has_filtered p (entries contents.versions) e.0 e.1 in
       subst is_readable (sym e.2) (can e.0 (readable.versions e.0.0 e.0.1 (entry_got version_cmp version_order contents.versions e.0 kept.0))))
-
--- a query that shows what can be read fails with a fault alone
-module _ (q : TableQuery) (params : Row) (is : (schema : Schema) → IsLayout schema → IsQuery q schema) (takes : (schema : Schema) → IsLayout schema → Takes q params schema) (is_readable : Row → Type 0) where
-  pub list_fault : (old new end : State) → ((found : List Row) → Shown q.sql params old new found → HoldsReadable old.now → All is_readable found) → (e : Error)
-      → ((new.faults ≤ end.faults) × (FailsToQuery q.sql params old new e ⊎ IsTooLate q.sql params old new e)) ⊎ ((found : List Row) × Shown q.sql params old new found × (All is_readable found → e ≡ SqliteFailure code.OutOfMemory)) → CanBeRead old → IsFault old end e
-  list_fault old new end readable e (inl failed) can = read_fault_until old new end failed.0 e (query_faults q is params takes old new can e failed.1)
-  list_fault old new end readable e (inr read) can = memory_is_fault old end e (read.2 (readable read.0 read.1 (can (shown_open q.sql params old new read.0 read.1))))
 
 -- ---- the versions of a subject
 

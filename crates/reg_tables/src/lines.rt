@@ -1,17 +1,17 @@
 //! All rows of each table, with their rowids, as the test of a database needs them.
 
-ghost use Rattle.std.specs.Prelude.{◌≡◌, ◌⊎◌, ◌<◌, ◌≤◌, Bool, List, [], length, IfOk, IfErr, All, false, map};
-ghost use Rattle.sqlite.specs.Order.{Row as SqlRow, column};
-ghost use Rattle.sqlite.specs.Held.{Held, state};
-ghost use Rattle.reg_tables.specs.Frames.{once_begun, StaysIdle};
-ghost use Rattle.sqlite.specs.State.{HasCleanDisk, Shown, FailsToQuery, IsTooLate};
+ghost use Rattle.std.specs.Prelude.{◌≡◌, ◌<◌, Bool, length, IfOk, IfErr, false};
+ghost use Rattle.sqlite.specs.Order.{column};
+ghost use Rattle.sqlite.specs.Held.{state};
+ghost use Rattle.reg_tables.specs.Frames.{StaysIdle};
+ghost use Rattle.sqlite.specs.State.{HasCleanDisk};
 ghost use Rattle.reg_tables.specs.Layout.{IsLayout};
 ghost use Rattle.reg_tables.specs.Contents.{flag_cell, text_form, version_form, pair_form, kept_form};
 ghost use Rattle.reg_tables.specs.Listings.{Parts, parts_of, entry_parts, text_entry, version_entry, level_entry, kept_entry, meta_entry, ListsTexts, ListsVersions, ListsLevels, ListsKept, ListsMeta, IsReadableText, IsReadableVersion, IsReadablePair, IsReadableKept};
 ghost use Rattle.reg_tables.specs.Reading.{CanBeRead, IsFault};
 
 use crate::kept::KeptReply;
-use crate::statement::ask;
+use crate::statement::{Line, list};
 use sqlite::{Alter, Connection, Error, ErrorCode, Row};
 use std::alloc::Global;
 
@@ -56,21 +56,6 @@ pub struct MetaLine {
     pub value: String,
 }
 
-/// A row as a query shows it, its rowid first and then its columns.
-trait Line: Sized {
-    ghost shown: { SqlRow → Parts };
-
-    ghost parts: { Self → Parts };
-
-    // A row that the line holds.
-    ghost is_readable: { SqlRow → Type 0 };
-
-    fn read(row: &Row) -> Result<Self, Error>
-        ensures ok { IfOk result (λ line. shown row.now ≡ parts line) }
-        ensures err { IfErr result (λ e. is_readable row.now
-            → e ≡ Error.SqliteFailure ErrorCode.OutOfMemory) };
-}
-
 /// Whether a column that is 0 or 1 is 1.
 pub(crate) fn flag_in(row: &Row, at: usize) -> Result<bool, Error>
     ensures ok { IfOk result (λ flag. column row.now at ≡ flag_cell flag) }
@@ -87,9 +72,11 @@ pub(crate) fn flag_in(row: &Row, at: usize) -> Result<bool, Error>
 }
 
 impl Line for TextLine {
+    ghost Cells = { Parts };
+
     ghost shown = { parts_of text_form };
 
-    ghost parts = { λ line. entry_parts text_form (text_entry line) };
+    ghost cells = { λ line. entry_parts text_form (text_entry line) };
 
     ghost is_readable = { IsReadableText };
 
@@ -102,9 +89,11 @@ impl Line for TextLine {
 }
 
 impl Line for VersionLine {
+    ghost Cells = { Parts };
+
     ghost shown = { parts_of version_form };
 
-    ghost parts = { λ line. entry_parts version_form (version_entry line) };
+    ghost cells = { λ line. entry_parts version_form (version_entry line) };
 
     ghost is_readable = { IsReadableVersion };
 
@@ -120,9 +109,11 @@ impl Line for VersionLine {
 }
 
 impl Line for LevelLine {
+    ghost Cells = { Parts };
+
     ghost shown = { parts_of pair_form };
 
-    ghost parts = { λ line. entry_parts pair_form (level_entry line) };
+    ghost cells = { λ line. entry_parts pair_form (level_entry line) };
 
     ghost is_readable = { IsReadablePair };
 
@@ -136,9 +127,11 @@ impl Line for LevelLine {
 }
 
 impl Line for KeptLine {
+    ghost Cells = { Parts };
+
     ghost shown = { parts_of kept_form };
 
-    ghost parts = { λ line. entry_parts kept_form (kept_entry line) };
+    ghost cells = { λ line. entry_parts kept_form (kept_entry line) };
 
     ghost is_readable = { IsReadableKept };
 
@@ -156,9 +149,11 @@ impl Line for KeptLine {
 }
 
 impl Line for MetaLine {
+    ghost Cells = { Parts };
+
     ghost shown = { parts_of pair_form };
 
-    ghost parts = { λ line. entry_parts pair_form (meta_entry line) };
+    ghost cells = { λ line. entry_parts pair_form (meta_entry line) };
 
     ghost is_readable = { IsReadablePair };
 
@@ -169,43 +164,6 @@ impl Line for MetaLine {
             value: row.get(2)?,
         })
     }
-}
-
-/// The lines of the rows. Each row is let go once it is read, so no text is held twice.
-fn lines_in<L: Line + Drop>(alloc: Global, rows: Vec<Row>) -> Result<Vec<L>, Error>
-    ensures ok { IfOk result (λ lines. map L.shown rows.items ≡ map L.parts lines.items) }
-    ensures err { IfErr result (λ e. All L.is_readable rows.items
-        → e ≡ Error.SqliteFailure ErrorCode.OutOfMemory) }
-{
-    let mut lines = Vec::new(alloc);
-    for row in rows {
-        lines.push(L::read(&row)?)?;
-    }
-    Ok(lines)
-}
-
-/// The lines of the rows that a query with no parameter shows.
-fn lines_shown<S: Alter, L: Line + Drop>(
-    alloc: Global,
-    conn: &mut Connection<S>,
-    sql: &str,
-) -> Result<Vec<L>, Error>
-    requires idle { conn.old.in_transaction ≡ false }
-    ensures frame { StaysIdle S.Store conn.old conn.new result }
-    ensures read { HasCleanDisk (state S.Store conn.new) → IfOk result (λ lines. (last : Held S)
-        × (found : List SqlRow)
-        × Shown sql.now [] (once_begun S.Store conn.old) (state S.Store last) found
-        × (map L.shown found ≡ map L.parts lines.items)) }
-    ensures failed { HasCleanDisk (state S.Store conn.new) → IfErr result (λ e. (last : Held S)
-        × ((((state S.Store last).faults ≤ (state S.Store conn.new).faults)
-        × (FailsToQuery sql.now [] (once_begun S.Store conn.old) (state S.Store last) e
-        ⊎ IsTooLate sql.now [] (once_begun S.Store conn.old) (state S.Store last) e))
-        ⊎ ((found : List SqlRow)
-        × Shown sql.now [] (once_begun S.Store conn.old) (state S.Store last) found
-        × (All L.is_readable found → e ≡ Error.SqliteFailure ErrorCode.OutOfMemory)))) }
-{
-    let rows = ask(conn, sql, &[])?;
-    lines_in(alloc, rows)
 }
 
 /// All rows of `texts`, in any order. It fails too where a row holds what the line can't.
@@ -219,7 +177,7 @@ pub fn text_lines<S: Alter>(alloc: Global, conn: &mut Connection<S>) -> Result<V
         CanBeRead (state S.Store conn.old)
         → IsFault (state S.Store conn.old) (state S.Store conn.new) e) }
 {
-    lines_shown(alloc, conn, "SELECT rowid, id, text FROM texts")
+    list(alloc, conn, "SELECT rowid, id, text FROM texts", &[])
 }
 
 /// All rows of `versions`, in any order. It fails too where a row holds what the line can't.
@@ -236,10 +194,11 @@ pub fn version_lines<S: Alter>(
         CanBeRead (state S.Store conn.old)
         → IsFault (state S.Store conn.old) (state S.Store conn.new) e) }
 {
-    lines_shown(
+    list(
         alloc,
         conn,
         "SELECT rowid, subject, version, id, deleted FROM versions",
+        &[],
     )
 }
 
@@ -257,7 +216,7 @@ pub fn level_lines<S: Alter>(
         CanBeRead (state S.Store conn.old)
         → IsFault (state S.Store conn.old) (state S.Store conn.new) e) }
 {
-    lines_shown(alloc, conn, "SELECT rowid, subject, level FROM levels")
+    list(alloc, conn, "SELECT rowid, subject, level FROM levels", &[])
 }
 
 /// All rows of `kept`, in any order. It fails too where a row holds what the line can't.
@@ -271,10 +230,11 @@ pub fn kept_lines<S: Alter>(alloc: Global, conn: &mut Connection<S>) -> Result<V
         CanBeRead (state S.Store conn.old)
         → IsFault (state S.Store conn.old) (state S.Store conn.new) e) }
 {
-    lines_shown(
+    list(
         alloc,
         conn,
         "SELECT rowid, key, command, status, body FROM kept",
+        &[],
     )
 }
 
@@ -289,5 +249,5 @@ pub fn meta_lines<S: Alter>(alloc: Global, conn: &mut Connection<S>) -> Result<V
         CanBeRead (state S.Store conn.old)
         → IsFault (state S.Store conn.old) (state S.Store conn.new) e) }
 {
-    lines_shown(alloc, conn, "SELECT rowid, name, value FROM meta")
+    list(alloc, conn, "SELECT rowid, name, value FROM meta", &[])
 }

@@ -1,20 +1,18 @@
 //! Rows of `versions`, in the order of their subjects and numbers.
 
-ghost use Rattle.std.specs.Prelude.{◌≡◌, ◌⊎◌, ◌≤◌, List, [], ◌∷◌, IfOk, IfErr, All, false, map};
+ghost use Rattle.std.specs.Prelude.{◌≡◌, [], ◌∷◌, IfOk, IfErr, false, map};
 ghost use Rattle.std.specs.FinMap.{entries};
-ghost use Rattle.sqlite.specs.Order.{Row as SqlRow, column};
-ghost use Rattle.sqlite.specs.Held.{Held, state};
-ghost use Rattle.sqlite.specs.Values.{bound};
-ghost use Rattle.sqlite.specs.State.{HasCleanDisk, Shown, FailsToQuery, IsTooLate};
-ghost use Rattle.reg_tables.specs.Frames.{once_begun, StaysIdle};
+ghost use Rattle.sqlite.specs.Order.{column};
+ghost use Rattle.sqlite.specs.Held.{state};
+ghost use Rattle.sqlite.specs.State.{HasCleanDisk};
+ghost use Rattle.reg_tables.specs.Frames.{StaysIdle};
 ghost use Rattle.reg_tables.specs.Contents.{Contents, Holds};
 ghost use Rattle.reg_tables.specs.Entries.{numbered, numbered_cells, subject_versions, IsReadableNumbered, keyed, keyed_cells, id_versions, IsReadableKeyed};
 ghost use Rattle.reg_tables.specs.Reading.{CanBeRead, IsFault};
 
 use crate::lines::flag_in;
-use crate::statement::ask;
-use sqlite::types::ValueRef;
-use sqlite::{Alter, Connection, Error, ErrorCode, Row, params};
+use crate::statement::{Line, list};
+use sqlite::{Alter, Connection, Error, Row, params};
 use std::alloc::Global;
 
 /// A version of a subject that the caller names.
@@ -34,23 +32,7 @@ pub struct ListedVersion {
     pub deleted: bool,
 }
 
-/// A row as a query shows it.
-trait Listed: Sized {
-    // The columns that are read.
-    ghost shown: { SqlRow → SqlRow };
-
-    ghost cells: { Self → SqlRow };
-
-    // A row that the line holds.
-    ghost is_readable: { SqlRow → Type 0 };
-
-    fn read(row: &Row) -> Result<Self, Error>
-        ensures ok { IfOk result (λ line. shown row.now ≡ cells line) }
-        ensures err { IfErr result (λ e. is_readable row.now
-            → e ≡ Error.SqliteFailure ErrorCode.OutOfMemory) };
-}
-
-impl Listed for SubjectVersion {
+impl Line for SubjectVersion {
     ghost shown = { λ row. column row 0 ∷ column row 1 ∷ column row 2 ∷ [] };
 
     ghost cells = { λ line. numbered_cells (numbered line) };
@@ -66,7 +48,7 @@ impl Listed for SubjectVersion {
     }
 }
 
-impl Listed for ListedVersion {
+impl Line for ListedVersion {
     ghost shown = { λ row. column row 0 ∷ column row 1 ∷ column row 2 ∷ column row 3 ∷ [] };
 
     ghost cells = { λ line. keyed_cells (keyed line) };
@@ -81,44 +63,6 @@ impl Listed for ListedVersion {
             deleted: flag_in(row, 3)?,
         })
     }
-}
-
-/// The lines of the rows. Each row is let go once it is read, so no text is held twice.
-fn listed_in<L: Listed + Drop>(alloc: Global, rows: Vec<Row>) -> Result<Vec<L>, Error>
-    ensures ok { IfOk result (λ lines. map L.shown rows.items ≡ map L.cells lines.items) }
-    ensures err { IfErr result (λ e. All L.is_readable rows.items
-        → e ≡ Error.SqliteFailure ErrorCode.OutOfMemory) }
-{
-    let mut lines = Vec::new(alloc);
-    for row in rows {
-        lines.push(L::read(&row)?)?;
-    }
-    Ok(lines)
-}
-
-/// The lines of the rows that a query shows.
-fn list<S: Alter, L: Listed + Drop>(
-    alloc: Global,
-    conn: &mut Connection<S>,
-    sql: &str,
-    values: &[ValueRef<'_>],
-) -> Result<Vec<L>, Error>
-    requires idle { conn.old.in_transaction ≡ false }
-    ensures frame { StaysIdle S.Store conn.old conn.new result }
-    ensures read { HasCleanDisk (state S.Store conn.new) → IfOk result (λ lines. (last : Held S)
-        × (found : List SqlRow)
-        × Shown sql.now (bound values.now) (once_begun S.Store conn.old) (state S.Store last) found
-        × (map L.shown found ≡ map L.cells lines.items)) }
-    ensures failed { HasCleanDisk (state S.Store conn.new) → IfErr result (λ e. (last : Held S)
-        × ((((state S.Store last).faults ≤ (state S.Store conn.new).faults)
-        × (FailsToQuery sql.now (bound values.now) (once_begun S.Store conn.old) (state S.Store last) e
-        ⊎ IsTooLate sql.now (bound values.now) (once_begun S.Store conn.old) (state S.Store last) e))
-        ⊎ ((found : List SqlRow)
-        × Shown sql.now (bound values.now) (once_begun S.Store conn.old) (state S.Store last) found
-        × (All L.is_readable found → e ≡ Error.SqliteFailure ErrorCode.OutOfMemory)))) }
-{
-    let rows = ask(conn, sql, values)?;
-    listed_in(alloc, rows)
 }
 
 /// The versions of a subject, in the order of their numbers.

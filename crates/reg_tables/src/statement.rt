@@ -1,6 +1,8 @@
-//! One statement: a write in a transaction, or a query in a transaction of its own.
+//! One statement: a write in a transaction, or a query in a transaction of its own, whose rows can
+//! be read as lines.
 
-ghost use Rattle.std.specs.Prelude.{◌≡◌, ◌⊎◌, ◌≤◌, ℕ, Ok, Err, IfErr, OnOk, IfOk, false};
+ghost use Rattle.std.specs.Prelude.{◌≡◌, ◌⊎◌, ◌≤◌, ℕ, Ok, Err, IfErr, OnOk, IfOk, List, map, All, false};
+ghost use Rattle.sqlite.specs.Order.{Row as SqlRow};
 ghost use Rattle.sqlite.specs.Held.{Held, state};
 ghost use Rattle.reg_tables.specs.Frames.{once_begun, state_in, StaysInside, StaysIdle};
 ghost use Rattle.sqlite.specs.State.{HasCleanDisk, ExecutesInside, Shown, FailsToQuery, IsTooLate};
@@ -8,6 +10,7 @@ ghost use Rattle.sqlite.specs.Values.{bound};
 
 use sqlite::types::ValueRef;
 use sqlite::{Alter, Connection, Error, ErrorCode, Row, Transaction};
+use std::alloc::Global;
 
 /// Runs one statement that shows no rows.
 pub(crate) fn run<S: Alter>(
@@ -51,4 +54,60 @@ pub(crate) fn ask<S: Alter>(
     let rows = tx.query_all(sql, values);
     tx.rollback();
     rows
+}
+
+/// A line of a list, as it is read from a row that a query shows.
+pub(crate) trait Line: Sized {
+    // The cells that are read: a row, or its parts.
+    ghost Cells: { Type 0 } = { SqlRow };
+
+    ghost shown: { SqlRow → Cells };
+
+    ghost cells: { Self → Cells };
+
+    // A row that the line holds.
+    ghost is_readable: { SqlRow → Type 0 };
+
+    fn read(row: &Row) -> Result<Self, Error>
+        ensures ok { IfOk result (λ line. shown row.now ≡ cells line) }
+        ensures err { IfErr result (λ e. is_readable row.now
+            → e ≡ Error.SqliteFailure ErrorCode.OutOfMemory) };
+}
+
+/// The lines of the rows. Each row is let go once it is read, so no text is held twice.
+fn lines_in<L: Line + Drop>(alloc: Global, rows: Vec<Row>) -> Result<Vec<L>, Error>
+    ensures ok { IfOk result (λ lines. map L.shown rows.items ≡ map L.cells lines.items) }
+    ensures err { IfErr result (λ e. All L.is_readable rows.items
+        → e ≡ Error.SqliteFailure ErrorCode.OutOfMemory) }
+{
+    let mut lines = Vec::new(alloc);
+    for row in rows {
+        lines.push(L::read(&row)?)?;
+    }
+    Ok(lines)
+}
+
+/// The lines of the rows that a query shows.
+pub(crate) fn list<S: Alter, L: Line + Drop>(
+    alloc: Global,
+    conn: &mut Connection<S>,
+    sql: &str,
+    values: &[ValueRef<'_>],
+) -> Result<Vec<L>, Error>
+    requires idle { conn.old.in_transaction ≡ false }
+    ensures frame { StaysIdle S.Store conn.old conn.new result }
+    ensures read { HasCleanDisk (state S.Store conn.new) → IfOk result (λ lines. (last : Held S)
+        × (found : List SqlRow)
+        × Shown sql.now (bound values.now) (once_begun S.Store conn.old) (state S.Store last) found
+        × (map L.shown found ≡ map L.cells lines.items)) }
+    ensures failed { HasCleanDisk (state S.Store conn.new) → IfErr result (λ e. (last : Held S)
+        × ((((state S.Store last).faults ≤ (state S.Store conn.new).faults)
+        × (FailsToQuery sql.now (bound values.now) (once_begun S.Store conn.old) (state S.Store last) e
+        ⊎ IsTooLate sql.now (bound values.now) (once_begun S.Store conn.old) (state S.Store last) e))
+        ⊎ ((found : List SqlRow)
+        × Shown sql.now (bound values.now) (once_begun S.Store conn.old) (state S.Store last) found
+        × (All L.is_readable found → e ≡ Error.SqliteFailure ErrorCode.OutOfMemory)))) }
+{
+    let rows = ask(conn, sql, values)?;
+    lines_in(alloc, rows)
 }

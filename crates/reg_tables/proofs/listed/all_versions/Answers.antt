@@ -1,10 +1,9 @@
 use Rattle.std.proofs.Common.{inl, refl, []}
 use Rattle.sqlite.specs.Held.{state}
 use Rattle.reg_tables.specs.Layout.{layout}
-use Rattle.reg_tables.specs.Frames.{once_begun}
 use Rattle.reg_tables.specs.Entries.{IsReadableKeyed}
 use Rattle.reg_tables.proofs.Transactions.{if_ok, if_err}
-use Rattle.reg_tables.proofs.VersionLists.{list_fault}
+use Rattle.reg_tables.proofs.TableLines.{list_fault}
 use Rattle.reg_tables.proofs.Faults.{takes_list}
 use Rattle.reg_tables.proofs.Statements.{list_versions, list_versions_is}
 use Rattle.reg_tables.proofs.KeyedLists.{all_lines, all_readable}
@@ -12,12 +11,12 @@ use Rattle.reg_tables.proofs.listed.all_versions.Goals as goal
 
 pub returns-clause-found : goal.returns-clause-found
 returns-clause-found g c clean =
-    if_ok c.list.result (λ lines read contents holds. all_lines (once_begun g.S.Store c.args.conn.now) (state g.S.Store read.0) layout contents holds (inl refl) read.1 read.2 lines.items read.3)
+    if_ok c.list.result (λ lines read contents holds. all_lines _ _ layout contents holds (inl refl) read.1 read.2 lines.items read.3)
     (c.list.ensures.read clean)
 
 pub returns-clause-fault : goal.returns-clause-fault
 returns-clause-fault g c clean =
     if_err c.list.result (λ e why.
-    list_fault list_versions [] list_versions_is takes_list IsReadableKeyed (once_begun g.S.Store c.args.conn.now) (state g.S.Store why.0) (state g.S.Store c.list.new.conn)
-    (λ found shown there. all_readable (once_begun g.S.Store c.args.conn.now) (state g.S.Store why.0) there.schema there.contents there.holds there.is_layout found shown there.readable) e why.1)
+    list_fault list_versions [] list_versions_is takes_list IsReadableKeyed _ _ (state g.S.Store c.list.new.conn)
+    (λ found shown there. all_readable _ _ there.schema there.contents there.holds there.is_layout found shown there.readable) e why.1)
     (c.list.ensures.failed clean)

@@ -1,11 +1,11 @@
 use Rattle.std.proofs.Common.{inl, inr}
 use Rattle.reg_tables.proofs.Transactions.{if_ok, if_err, if_err_is}
-use Rattle.reg_tables.proofs.listed.list.Goals as goal
+use Rattle.reg_tables.proofs.statement.list.Goals as goal
 
 pub returns-clause-read : goal.returns-clause-read
 returns-clause-read g c clean =
     let shown = c.in_ok-rows.ensures.shown clean in
-    if_ok c.listed_in.result (λ lines read. (shown.0, c.in_ok-rows.rows.items, shown.1, read)) c.listed_in.ensures.ok
+    if_ok c.lines_in.result (λ lines read. (shown.0, c.in_ok-rows.rows.items, shown.1, read)) c.lines_in.ensures.ok
 
 pub returns-in_err-rows-clause-failed : goal.returns-in_err-rows-clause-failed
 returns-in_err-rows-clause-failed g c clean =
@@ -15,4 +15,4 @@ returns-in_err-rows-clause-failed g c clean =
 pub returns-clause-failed : goal.returns-clause-failed
 returns-clause-failed g c clean =
     let shown = c.in_ok-rows.ensures.shown clean in
-    if_err c.listed_in.result (λ e why. (shown.0, inr (c.in_ok-rows.rows.items, shown.1, why))) c.listed_in.ensures.err
+    if_err c.lines_in.result (λ e why. (shown.0, inr (c.in_ok-rows.rows.items, shown.1, why))) c.lines_in.ensures.err

@@ -1,5 +1,0 @@
-use Rattle.std.proofs.Common.{◌≡◌, ◌++◌, map}
-use Rattle.reg_tables.proofs.lines.lines_in.Given as goal
-
-abbrev pub invariant-loop-row : goal.invariant-loop-row
-invariant-loop-row g l = map g.L.Line.parts l.lines.items ++ map g.L.Line.shown l.row-iterator.rest.items ≡ map g.L.Line.shown l.fn.rows.items
