@@ -1,5 +1,13 @@
 pub mod Examples
+pub mod RegisterExamples
+pub mod Arrays
 pub mod Steps
 pub mod Texts
 pub mod Versions
 pub mod VerdictLemmas
+pub mod IdLemmas
+pub mod RowLemmas
+pub mod ViewLemmas
+pub mod RegisterLemmas
+pub mod RegistryLemmas
+pub mod AdditionLemmas

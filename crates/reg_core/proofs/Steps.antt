@@ -1,62 +1,190 @@
 -- What is known of each step.
-use Rattle.std.proofs.Common.{◌≡◌, ◌≢◌, ℕ, List, false, refl, ap, get_or, true≢false}
-use Rattle.std.specs.Prelude.{Option, None, Some}
+use Rattle.std.proofs.Common.{◌≡◌, ◌≢◌, ℕ, Bool, true, List, [], ◌∷◌, false, refl, ap, get_or, sym, subst, ◌∙◌, true≢false}
+use Rattle.std.specs.Prelude.{Option, None, Some, Result, Ok, Err}
+use Rattle.std.specs.Option.{ok_or}
+use Rattle.std.specs.List.{last_or}
 use Rattle.std.specs.Fmt.{digits}
 use Rattle.std.proofs.lemmas.Bool.{eqb-false}
+use Rattle.avro_nodes.specs.Nodes.{NodeView}
 use Rattle.reg_core.specs.declared.level.Level.{Level}
-use Rattle.reg_core.specs.declared.code.Code.TheVariants.{KeyReused}
+use Rattle.reg_core.specs.declared.number.Choice.{Choice}
+use Rattle.reg_core.specs.declared.code.Code.{Code}
+use Rattle.reg_core.specs.declared.code.Code.TheVariants.{KeyReused, SubjectNotFound, VersionNotFound, SchemaNotFound, NoOwnLevel, Incompatible, InvalidSchema, InvalidVersion, InvalidLevel, NoNumberLeft}
 use Rattle.reg_core.specs.declared.command.Command.{Command}
-use Rattle.reg_core.specs.declared.command.Command.TheVariants.{SetGlobal, SetLevel, Global, LevelOf}
+use Rattle.reg_core.specs.declared.command.Command.TheVariants.{SetGlobal, SetLevel, Register, Global, LevelOf, Lookup, Subjects, Versions, Version, Text, ById, VersionsOfId, Types, Check, CheckAll}
 use Rattle.reg_core.specs.Codes.{fault_body}
 use Rattle.reg_core.specs.Levels.{level_of}
-use Rattle.reg_core.specs.Replies.{Told, fault, IsOwnReply}
-use Rattle.reg_core.specs.Registry.{Registry}
+use Rattle.reg_core.specs.Numbers.{id_in, choice_in}
+use Rattle.reg_core.specs.Replies.{Told, IsStatus, IsKeptStatus, answer, fault, IsOwnReply}
+use Rattle.reg_core.specs.Registry.{Registry, Row}
+use Rattle.reg_core.specs.Rows.{rows_of, shown_rows, live_rows, chosen_row, text_at}
 use Rattle.reg_core.specs.LevelCommands.{set_level, level_shown, shown_reply}
+use Rattle.reg_core.specs.ReadCommands.{Texts, versions_reply, found_row, looked_up, rows_with_id, text_reply, version_reply, version_text_reply, id_reply, id_versions_reply, lookup_reply}
+use Rattle.reg_core.specs.RegisterCommands.{schema_in, register, registered, check_reply, check_all_reply, verdict_reply}
 use Rattle.reg_core.specs.Machine.{is_write, step}
 
 other_status : (m n : Told) → m.status ≢ n.status → m ≢ n
 other_status m n ne e = ne (ap (λ (t : Told). t.status) e)
 
-pub set_level-IsOwnReply : (g : Registry) (s : Option (List ℕ)) (o : Option Level) → IsOwnReply (set_level g s o).1
-unfolding fault_body digits
-set_level-IsOwnReply g s None = record {
-  status = refl;
-  kept = refl;
-  no_backend_fault = eqb-false 422 500 refl;
-  no_reused_key = λ e. eqb-false 48 57 refl (ap (λ (t : Told). get_or t.body 17 0) e);
-}
-set_level-IsOwnReply g s (Some level) = record {
+-- a reply with a body that isn't refused
+pub answer-IsOwnReply : (body : List ℕ) → IsOwnReply (answer body)
+answer-IsOwnReply body = record {
   status = refl;
   kept = refl;
   no_backend_fault = eqb-false 200 500 refl;
   no_reused_key = other_status _ _ (eqb-false 200 422 refl);
 }
 
+-- something wasn't found
+not_found : (code : Code) → (fault code).status ≡ 404 → IsOwnReply (fault code)
+not_found code e = record {
+  status = subst IsStatus (sym e) refl;
+  kept = subst IsKeptStatus (sym e) refl;
+  no_backend_fault = λ h. eqb-false 404 500 refl (sym e ∙ h);
+  no_reused_key = other_status _ _ (λ h. eqb-false 404 422 refl (sym e ∙ h));
+}
+
+-- something of the command can't be, and the number differs from that of a reused key in this digit
+unprocessable : (code : Code) (place : ℕ) → (fault code).status ≡ 422 → get_or (fault code).body place 0 ≢ get_or (fault KeyReused).body place 0 → IsOwnReply (fault code)
+unprocessable code place e ne = record {
+  status = subst IsStatus (sym e) refl;
+  kept = subst IsKeptStatus (sym e) refl;
+  no_backend_fault = λ h. eqb-false 422 500 refl (sym e ∙ h);
+  no_reused_key = λ h. ne (ap (λ (t : Told). get_or t.body place 0) h);
+}
+
+pub subject_not_found-IsOwnReply : IsOwnReply (fault SubjectNotFound)
+subject_not_found-IsOwnReply = not_found SubjectNotFound refl
+
+pub version_not_found-IsOwnReply : IsOwnReply (fault VersionNotFound)
+version_not_found-IsOwnReply = not_found VersionNotFound refl
+
+pub schema_not_found-IsOwnReply : IsOwnReply (fault SchemaNotFound)
+schema_not_found-IsOwnReply = not_found SchemaNotFound refl
+
+no_own_level-IsOwnReply : IsOwnReply (fault NoOwnLevel)
+no_own_level-IsOwnReply = not_found NoOwnLevel refl
+
+invalid_level-IsOwnReply : IsOwnReply (fault InvalidLevel)
+unfolding fault_body digits
+invalid_level-IsOwnReply = unprocessable InvalidLevel 17 refl (eqb-false 48 57 refl)
+
+pub invalid_schema-IsOwnReply : IsOwnReply (fault InvalidSchema)
+unfolding fault_body digits
+invalid_schema-IsOwnReply = unprocessable InvalidSchema 17 refl (eqb-false 48 57 refl)
+
+pub invalid_version-IsOwnReply : IsOwnReply (fault InvalidVersion)
+unfolding fault_body digits
+invalid_version-IsOwnReply = unprocessable InvalidVersion 17 refl (eqb-false 48 57 refl)
+
+pub no_number_left-IsOwnReply : IsOwnReply (fault NoNumberLeft)
+unfolding fault_body digits
+no_number_left-IsOwnReply = unprocessable NoNumberLeft 18 refl (eqb-false 50 48 refl)
+
+pub incompatible-IsOwnReply : IsOwnReply (fault Incompatible)
+incompatible-IsOwnReply = record {
+  status = refl;
+  kept = refl;
+  no_backend_fault = eqb-false 409 500 refl;
+  no_reused_key = other_status _ _ (eqb-false 409 422 refl);
+}
+
+pub set_level-IsOwnReply : (g : Registry) (s : Option (List ℕ)) (o : Option Level) → IsOwnReply (set_level g s o).1
+set_level-IsOwnReply g s None = invalid_level-IsOwnReply
+set_level-IsOwnReply g s (Some level) = answer-IsOwnReply _
+
 pub shown_reply-IsOwnReply : (o : Option Level) → IsOwnReply (shown_reply o)
-shown_reply-IsOwnReply None = record {
-  status = refl;
-  kept = refl;
-  no_backend_fault = eqb-false 404 500 refl;
-  no_reused_key = other_status _ _ (eqb-false 404 422 refl);
-}
-shown_reply-IsOwnReply (Some level) = record {
-  status = refl;
-  kept = refl;
-  no_backend_fault = eqb-false 200 500 refl;
-  no_reused_key = other_status _ _ (eqb-false 200 422 refl);
-}
+shown_reply-IsOwnReply None = no_own_level-IsOwnReply
+shown_reply-IsOwnReply (Some level) = answer-IsOwnReply _
+
+pub versions_reply-IsOwnReply : (rows : List Row) → IsOwnReply (versions_reply rows)
+versions_reply-IsOwnReply [] = subject_not_found-IsOwnReply
+versions_reply-IsOwnReply (row ∷ rows) = answer-IsOwnReply _
+
+pub text_reply-IsOwnReply : (body : List ℕ → List ℕ) (text : Option (List ℕ)) → IsOwnReply (text_reply body text)
+text_reply-IsOwnReply body None = schema_not_found-IsOwnReply
+text_reply-IsOwnReply body (Some text) = answer-IsOwnReply _
+
+-- why a version isn't found is a reply of the registry's own
+abbrev pub HasOwnFault : Result Row Code → Type 0
+HasOwnFault (Err code) = IsOwnReply (fault code)
+HasOwnFault (Ok row) = Unit {0}
+
+ok_or_fault : (row : Option Row) (code : Code) → IsOwnReply (fault code) → HasOwnFault (ok_or row code)
+ok_or_fault None code own = own
+ok_or_fault (Some row) code own = tt
+
+pub found_row-fault : (choice : Option Choice) (rows : List Row) → HasOwnFault (found_row choice rows)
+found_row-fault None rows = invalid_version-IsOwnReply
+found_row-fault (Some choice) [] = subject_not_found-IsOwnReply
+found_row-fault (Some choice) (row ∷ rows) = ok_or_fault (chosen_row choice (row ∷ rows)) VersionNotFound version_not_found-IsOwnReply
+
+pub looked_up-fault : (known : Option ℕ) (rows : List Row) → HasOwnFault (looked_up known rows)
+looked_up-fault known [] = subject_not_found-IsOwnReply
+looked_up-fault known (row ∷ rows) = ok_or_fault (last_or None (rows_with_id known (row ∷ rows))) SchemaNotFound schema_not_found-IsOwnReply
+
+pub version_reply-IsOwnReply : (texts : Texts) (found : Result Row Code) → HasOwnFault found → IsOwnReply (version_reply texts found)
+version_reply-IsOwnReply texts (Err code) own = own
+version_reply-IsOwnReply texts (Ok row) own = text_reply-IsOwnReply _ (texts row.1.id)
+
+pub version_text_reply-IsOwnReply : (texts : Texts) (found : Result Row Code) → HasOwnFault found → IsOwnReply (version_text_reply texts found)
+version_text_reply-IsOwnReply texts (Err code) own = own
+version_text_reply-IsOwnReply texts (Ok row) own = text_reply-IsOwnReply _ (texts row.1.id)
+
+pub id_reply-IsOwnReply : (texts : Texts) (id : Option ℕ) (rows : List Row) → IsOwnReply (id_reply texts id rows)
+id_reply-IsOwnReply texts None rows = schema_not_found-IsOwnReply
+id_reply-IsOwnReply texts (Some id) [] = schema_not_found-IsOwnReply
+id_reply-IsOwnReply texts (Some id) (row ∷ rows) = text_reply-IsOwnReply _ (texts id)
+
+pub id_versions_reply-IsOwnReply : (id : Option ℕ) (deleted : Bool) (rows : List Row) → IsOwnReply (id_versions_reply id deleted rows)
+id_versions_reply-IsOwnReply None deleted rows = schema_not_found-IsOwnReply
+id_versions_reply-IsOwnReply (Some id) deleted [] = schema_not_found-IsOwnReply
+id_versions_reply-IsOwnReply (Some id) deleted (row ∷ rows) = answer-IsOwnReply _
+
+pub lookup_reply-IsOwnReply : (texts : Texts) (schema : Option (List NodeView)) (known : Option ℕ) (rows : List Row) → IsOwnReply (lookup_reply texts schema known rows)
+lookup_reply-IsOwnReply texts None known rows = invalid_schema-IsOwnReply
+lookup_reply-IsOwnReply texts (Some nodes) known rows = version_reply-IsOwnReply texts (looked_up known rows) (looked_up-fault known rows)
+
+pub check_all_reply-IsOwnReply : (g : Registry) (subject : List ℕ) (schema : Option (List NodeView)) → IsOwnReply (check_all_reply g subject schema)
+check_all_reply-IsOwnReply g subject None = invalid_schema-IsOwnReply
+check_all_reply-IsOwnReply g subject (Some new) = answer-IsOwnReply _
+
+verdict_reply-IsOwnReply : (g : Registry) (subject : List ℕ) (new : List NodeView) (found : Result Row Code) → HasOwnFault found → IsOwnReply (verdict_reply g subject new found)
+verdict_reply-IsOwnReply g subject new (Err code) own = own
+verdict_reply-IsOwnReply g subject new (Ok row) own = answer-IsOwnReply _
+
+pub check_reply-IsOwnReply : (g : Registry) (subject : List ℕ) (choice : Option Choice) (schema : Option (List NodeView)) → IsOwnReply (check_reply g subject choice schema)
+check_reply-IsOwnReply g subject None schema = invalid_version-IsOwnReply
+check_reply-IsOwnReply g subject (Some choice) None = invalid_schema-IsOwnReply
+check_reply-IsOwnReply g subject (Some choice) (Some new) = verdict_reply-IsOwnReply g subject new _ (found_row-fault (Some choice) (live_rows (rows_of g subject)))
+
+registered-IsOwnReply : (g : Registry) (subject : List ℕ) (new : List NodeView) (is_there admitted left : Bool) → IsOwnReply (registered g subject new is_there admitted left).1
+registered-IsOwnReply g subject new true admitted left = answer-IsOwnReply _
+registered-IsOwnReply g subject new false false left = incompatible-IsOwnReply
+registered-IsOwnReply g subject new false true false = no_number_left-IsOwnReply
+registered-IsOwnReply g subject new false true true = answer-IsOwnReply _
+
+pub register-IsOwnReply : (g : Registry) (subject : List ℕ) (schema : Option (List NodeView)) → IsOwnReply (register g subject schema).1
+register-IsOwnReply g subject None = invalid_schema-IsOwnReply
+register-IsOwnReply g subject (Some new) = registered-IsOwnReply g subject new _ _ _
 
 pub step-IsOwnReply : (g : Registry) (c : Command) → IsOwnReply (step g c).1
 unfolding step
 step-IsOwnReply g (SetGlobal text) = set_level-IsOwnReply g None (level_of text)
 step-IsOwnReply g (SetLevel subject text) = set_level-IsOwnReply g (Some subject) (level_of text)
+step-IsOwnReply g (Register subject text supported) = register-IsOwnReply g subject (schema_in text supported)
+step-IsOwnReply g Global = answer-IsOwnReply _
 step-IsOwnReply g (LevelOf subject default) = shown_reply-IsOwnReply (level_shown (g.own subject) g.global default)
-step-IsOwnReply g Global = record {
-  status = refl;
-  kept = refl;
-  no_backend_fault = eqb-false 200 500 refl;
-  no_reused_key = other_status _ _ (eqb-false 200 422 refl);
-}
+step-IsOwnReply g (Lookup subject text supported deleted) = lookup_reply-IsOwnReply (text_at g.schemas) (schema_in text supported) _ _
+step-IsOwnReply g (Subjects deleted) = answer-IsOwnReply _
+step-IsOwnReply g (Versions subject deleted) = versions_reply-IsOwnReply (shown_rows deleted (rows_of g subject))
+step-IsOwnReply g (Version subject version deleted) = version_reply-IsOwnReply (text_at g.schemas) _ (found_row-fault (choice_in version) (shown_rows deleted (rows_of g subject)))
+step-IsOwnReply g (Text subject version deleted) = version_text_reply-IsOwnReply (text_at g.schemas) _ (found_row-fault (choice_in version) (shown_rows deleted (rows_of g subject)))
+step-IsOwnReply g (ById id) = id_reply-IsOwnReply (text_at g.schemas) (id_in id) _
+step-IsOwnReply g (VersionsOfId id deleted) = id_versions_reply-IsOwnReply (id_in id) deleted _
+step-IsOwnReply g Types = answer-IsOwnReply _
+step-IsOwnReply g (Check subject version text supported) = check_reply-IsOwnReply g subject (choice_in version) (schema_in text supported)
+step-IsOwnReply g (CheckAll subject text supported) = check_all_reply-IsOwnReply g subject (schema_in text supported)
 
 -- no reply is a fault of the backend
 pub step-never_backend : (g : Registry) (c : Command) → (step g c).1.status ≢ 500
@@ -71,17 +199,49 @@ pub step-read : (g : Registry) (c : Command) → is_write c ≡ false → (step 
 unfolding step
 step-read g (SetGlobal text) e = absurd (true≢false e)
 step-read g (SetLevel subject text) e = absurd (true≢false e)
+step-read g (Register subject text supported) e = absurd (true≢false e)
 step-read g Global e = refl
 step-read g (LevelOf subject default) e = refl
+step-read g (Lookup subject text supported deleted) e = refl
+step-read g (Subjects deleted) e = refl
+step-read g (Versions subject deleted) e = refl
+step-read g (Version subject version deleted) e = refl
+step-read g (Text subject version deleted) e = refl
+step-read g (ById id) e = refl
+step-read g (VersionsOfId id deleted) e = refl
+step-read g Types e = refl
+step-read g (Check subject version text supported) e = refl
+step-read g (CheckAll subject text supported) e = refl
 
 set_level-refusal : (g : Registry) (s : Option (List ℕ)) (o : Option Level) → (set_level g s o).1.status ≢ 200 → (set_level g s o).0 ≡ g
 set_level-refusal g s None ne = refl
 set_level-refusal g s (Some level) ne = absurd (ne refl)
+
+registered-refusal : (g : Registry) (subject : List ℕ) (new : List NodeView) (is_there admitted left : Bool) → (registered g subject new is_there admitted left).1.status ≢ 200 → (registered g subject new is_there admitted left).0 ≡ g
+registered-refusal g subject new true admitted left ne = refl
+registered-refusal g subject new false false left ne = refl
+registered-refusal g subject new false true false ne = refl
+registered-refusal g subject new false true true ne = absurd (ne refl)
+
+register-refusal : (g : Registry) (subject : List ℕ) (schema : Option (List NodeView)) → (register g subject schema).1.status ≢ 200 → (register g subject schema).0 ≡ g
+register-refusal g subject None ne = refl
+register-refusal g subject (Some new) ne = registered-refusal g subject new _ _ _ ne
 
 -- and so does a refusal
 pub step-refusal : (g : Registry) (c : Command) → (step g c).1.status ≢ 200 → (step g c).0 ≡ g
 unfolding step
 step-refusal g (SetGlobal text) ne = set_level-refusal g None (level_of text) ne
 step-refusal g (SetLevel subject text) ne = set_level-refusal g (Some subject) (level_of text) ne
+step-refusal g (Register subject text supported) ne = register-refusal g subject (schema_in text supported) ne
 step-refusal g Global ne = refl
 step-refusal g (LevelOf subject default) ne = refl
+step-refusal g (Lookup subject text supported deleted) ne = refl
+step-refusal g (Subjects deleted) ne = refl
+step-refusal g (Versions subject deleted) ne = refl
+step-refusal g (Version subject version deleted) ne = refl
+step-refusal g (Text subject version deleted) ne = refl
+step-refusal g (ById id) ne = refl
+step-refusal g (VersionsOfId id deleted) ne = refl
+step-refusal g Types ne = refl
+step-refusal g (Check subject version text supported) ne = refl
+step-refusal g (CheckAll subject text supported) ne = refl

@@ -2,13 +2,13 @@
 use Rattle.std.proofs.Common.{◌≡◌, ℕ, ◌≤◌, List, [], lit≤, true, refl, ap, sym, ◌∙◌, codes, true≢false}
 use Rattle.std.specs.Prelude.{Option, Some, None, bytes_eq, if◌then◌else◌}
 use Rattle.std.specs.Option.{option_map_or}
-use Rattle.serde_json.specs.Data.{Data, string, array, Items, item, no_items, depth}
+use Rattle.serde_json.specs.Data.{Data, boolean, string, array, Items, item, no_items, depth}
 use Rattle.serde_json.specs.Read.{max_depth, read}
 use Rattle.serde_json.specs.Written.{compact_text}
 use Rattle.avro_nodes.proofs.Tidy.{IsTidy}
 use Rattle.avro_nodes.proofs.Reread.{read-compact_text}
 use Rattle.reg_core.specs.declared.command.Command.{Command}
-use Rattle.reg_core.specs.declared.command.Command.TheVariants.{SetGlobal, SetLevel, Global, LevelOf}
+use Rattle.reg_core.specs.declared.command.Command.TheVariants.{SetGlobal, SetLevel, Register}
 use Rattle.reg_core.specs.Machine.{is_write}
 use Rattle.reg_core.specs.CommandTexts.{command_data, command_text}
 
@@ -16,6 +16,7 @@ use Rattle.reg_core.specs.CommandTexts.{command_data, command_text}
 abbrev write_of : List ℕ → Items → Option Command
 write_of name (item (string level) no_items) = if bytes_eq name (codes "set-global") then Some (SetGlobal level) else None
 write_of name (item (string subject) (item (string level) no_items)) = if bytes_eq name (codes "set-level") then Some (SetLevel subject level) else None
+write_of name (item (string subject) (item (string text) (item (boolean supported) no_items))) = if bytes_eq name (codes "register") then Some (Register subject text supported) else None
 write_of name members = None
 
 -- the write that a JSON value is, if it is one
@@ -34,8 +35,8 @@ record HasValue (command : Command) : Type 0 where
 value_of : (command : Command) → is_write command ≡ true → HasValue command
 value_of (SetGlobal level) w = record { value = _; is_value = refl; tidy = (tt, (tt, tt)); shallow = lit≤ tt; write = refl }
 value_of (SetLevel subject level) w = record { value = _; is_value = refl; tidy = (tt, (tt, (tt, tt))); shallow = lit≤ tt; write = refl }
-value_of Global w = absurd (true≢false (sym w))
-value_of (LevelOf subject default_to_global) w = absurd (true≢false (sym w))
+value_of (Register subject text supported) w = record { value = _; is_value = refl; tidy = (tt, (tt, (tt, (tt, tt)))); shallow = lit≤ tt; write = refl }
+value_of _ w = absurd (true≢false (sym w))
 
 -- a write's text is read as its value
 read_back : (command : Command) (it : HasValue command) → read (command_text command) ≡ Some it.value

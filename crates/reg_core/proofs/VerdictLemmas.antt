@@ -11,7 +11,7 @@ use Rattle.reg_core.specs.declared.level.Level.TheVariants.{Backward, BackwardTr
 use Rattle.reg_core.specs.Compatibility.{Admits, Compatible, named_versions}
 use Rattle.reg_core.specs.Verdicts.{is_compatible, is_admitted}
 
-compatible_decides : (level : Level) (earlier new : List NodeView) → Decides (is_compatible level earlier new) (Compatible level earlier new)
+pub compatible_decides : (level : Level) (earlier new : List NodeView) → Decides (is_compatible level earlier new) (Compatible level earlier new)
 compatible_decides Backward earlier new = resolves_decided earlier new
 compatible_decides BackwardTransitive earlier new = resolves_decided earlier new
 compatible_decides Forward earlier new = resolves_decided new earlier

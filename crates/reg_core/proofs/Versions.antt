@@ -32,7 +32,7 @@ latest-map f (x ∷ []) = refl
 latest-map f (x ∷ y ∷ ys) = latest-map f (y ∷ ys)
 
 -- which versions are named doesn't depend on what they hold
-named-map : {X Y : Type 0} (f : X → Y) (level : Level) (xs : List X) → named_versions level (map f xs) ≡ map f (named_versions level xs)
+pub named-map : {X Y : Type 0} (f : X → Y) (level : Level) (xs : List X) → named_versions level (map f xs) ≡ map f (named_versions level xs)
 named-map f Backward xs = latest-map f xs
 named-map f BackwardTransitive xs = refl
 named-map f Forward xs = latest-map f xs

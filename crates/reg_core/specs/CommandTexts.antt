@@ -1,17 +1,17 @@
 -- The text by which a write is kept and compared (this project's choice).
 use Rattle.std.specs.Prelude.{ℕ, List, [], codes, Option, Some, None}
 use Rattle.std.specs.Option.{option_map_or}
-use Rattle.serde_json.specs.Data.{Data, string, array, item, no_items}
+use Rattle.serde_json.specs.Data.{Data, boolean, string, array, item, no_items}
 use Rattle.serde_json.specs.Written.{compact_text}
 use Rattle.reg_core.specs.declared.command.Command.{Command}
-use Rattle.reg_core.specs.declared.command.Command.TheVariants.{SetGlobal, SetLevel, Global, LevelOf}
+use Rattle.reg_core.specs.declared.command.Command.TheVariants.{SetGlobal, SetLevel, Register}
 
 -- a write as a JSON array (RFC 8259, sections 5 and 7) of its name and its members; a read is none
 abbrev pub command_data : Command → Option Data
 command_data (SetGlobal level) = Some (array (item (string (codes "set-global")) (item (string level) no_items)))
 command_data (SetLevel subject level) = Some (array (item (string (codes "set-level")) (item (string subject) (item (string level) no_items))))
-command_data Global = None
-command_data (LevelOf subject default_to_global) = None
+command_data (Register subject text supported) = Some (array (item (string (codes "register")) (item (string subject) (item (string text) (item (boolean supported) no_items)))))
+command_data _ = None
 
 -- the compact text of a write; a read has none
 unfoldable pub command_text : Command → List ℕ

@@ -6,9 +6,17 @@ pub mod Contents
 pub mod Keys
 pub mod Subjects
 pub mod Registry
+pub mod Numbers
+pub mod Rows
+pub mod Bodies
 pub mod LevelCommands
+pub mod ReadCommands
+pub mod RegisterCommands
 pub mod Machine
 pub mod CommandTexts
 pub mod Views
 pub mod Compatibility
 pub mod Verdicts
+pub mod Additions
+pub mod Comparisons
+pub mod Registering

@@ -1,23 +1,132 @@
 -- What a decision looks at, and what it changes.
-use Rattle.std.specs.Prelude.{◌≡◌, List, [], ◌∷◌, option_and_then}
+use Rattle.std.specs.Prelude.{◌≡◌, ◌≤◌, ◌+◌, ⊤, ℕ, Bool, true, false, IsTrue, All, List, [], ◌∷◌, ◌++◌, length, string_bytes, if◌then◌else◌, unwrap_or, Option, None, Some, IfSome, option_map, option_and_then, option_to_list, Result, Ok, Err}
+use Rattle.std.specs.BTreeMap as tree
+use Rattle.std.specs.Ordering.{nat_cmp}
+use Rattle.std.specs.FinMap.{get, insert, entries}
+use Rattle.avro_nodes.specs.Nodes.{NodeView}
+use Rattle.avro_nodes.specs.Identity.{identity}
+use Rattle.avro_schema.specs.Texts.{IsSchema, denoted}
+use Rattle.reg_core.specs.declared.level.Level.{Level}
 use Rattle.reg_core.specs.declared.command.Command.{Command}
+use Rattle.reg_core.specs.declared.command.Command.TheVariants.{Register, Global, LevelOf, Lookup, Subjects, Versions, Version, Text, ById, VersionsOfId, Check, CheckAll}
 use Rattle.reg_core.specs.declared.decision.View.{View}
 use Rattle.reg_core.specs.declared.decision.Change.{Change}
-use Rattle.reg_core.specs.declared.decision.Change.TheVariants.{SetGlobal, SetLevel}
-use Rattle.reg_core.specs.Registry.{Registry, own_with}
-use Rattle.reg_core.specs.Machine.{subject_of}
+use Rattle.reg_core.specs.declared.decision.Change.TheVariants as change
+use Rattle.reg_core.specs.Numbers.{id_in, choice_in}
+use Rattle.reg_core.specs.Registry.{Registry, IsRegistry, Row, IsRow, Schemas, max_number, own_with}
+use Rattle.reg_core.specs.Rows.{rows_of, shown_rows, live_rows, known_id, id_of, text_at}
+use Rattle.reg_core.specs.ReadCommands.{found_row, looked_up, rows_with_id}
+use Rattle.reg_core.specs.RegisterCommands.{is_among}
+use Rattle.reg_core.specs.Compatibility.{latest, named_versions}
+use Rattle.reg_core.specs.Machine.{subject_of, schema_sent}
 
--- this project's choice: the view shows what the command needs of the registry: the global level, and the own level of the command's subject
+-- ---- what a command needs to know
+
+-- Schema Registry API reference: the versions that a command looks at, deleted ones too: those of its subject, those of its id, or all
+abbrev pub rows_needed : Registry → Command → Option (List Row)
+rows_needed g (Register subject text supported) = Some (rows_of g subject)
+rows_needed g (Lookup subject text supported deleted) = Some (rows_of g subject)
+rows_needed g (Subjects deleted) = Some (entries g.rows)
+rows_needed g (Versions subject deleted) = Some (rows_of g subject)
+rows_needed g (Version subject version deleted) = Some (rows_of g subject)
+rows_needed g (Text subject version deleted) = Some (rows_of g subject)
+rows_needed g (ById id) = Some (rows_with_id (id_in id) (entries g.rows))
+rows_needed g (VersionsOfId id deleted) = Some (rows_with_id (id_in id) (entries g.rows))
+rows_needed g (Check subject version text supported) = Some (rows_of g subject)
+rows_needed g (CheckAll subject text supported) = Some (rows_of g subject)
+rows_needed g _ = None
+
+-- Schema Registry API reference, Config and Compatibility: whether a command looks at levels
+abbrev pub needs_levels : Command → Bool
+needs_levels (Register subject text supported) = true
+needs_levels Global = true
+needs_levels (LevelOf subject default_to_global) = true
+needs_levels (Check subject version text supported) = true
+needs_levels (CheckAll subject text supported) = true
+needs_levels _ = false
+
+-- Schema Registry API reference, Schemas: whether a command looks at the number of schemas, after which new ids come
+abbrev pub needs_count : Command → Bool
+needs_count (Register subject text supported) = true
+needs_count _ = false
+
+-- Schema Registry API reference, Compatibility: the level in force, as a view has it
+abbrev pub level_of_view : View → Level
+level_of_view view = unwrap_or view.own view.global
+
+-- the version that was found, if one was
+abbrev pub row_found : {E : Type 0} → Result Row E → List Row
+row_found (Ok row) = row ∷ []
+row_found (Err code) = []
+
+-- Schema Registry API reference: the versions of a view whose schemas a command shows, or compares with the one that it sends
+abbrev pub rows_read : Command → View → List Row
+rows_read (Register subject text supported) view =
+    let live = live_rows view.rows.items in
+    if is_among view.known live then [] else named_versions (level_of_view view) live
+rows_read (Lookup subject text supported deleted) view = row_found (looked_up view.known (shown_rows deleted view.rows.items))
+rows_read (Version subject version deleted) view = row_found (found_row (choice_in version) (shown_rows deleted view.rows.items))
+rows_read (Text subject version deleted) view = row_found (found_row (choice_in version) (shown_rows deleted view.rows.items))
+rows_read (ById id) view = latest view.rows.items
+rows_read (Check subject version text supported) view = named_versions (level_of_view view) (row_found (found_row (choice_in version) (live_rows view.rows.items)))
+rows_read (CheckAll subject text supported) view = named_versions (level_of_view view) (live_rows view.rows.items)
+rows_read _ view = []
+
+-- Schema Registry API reference, Schemas: the text that a view has for an id
+abbrev pub text_in : View → ℕ → Option (List ℕ)
+text_in view id = option_map string_bytes (tree.get nat_cmp view.texts id)
+
+-- This project's choice: the view shows what the command needs of the registry. More may be there, but no text that isn't the id's.
 pub record IsViewOf (view : View) (g : Registry) (command : Command) : Type 0 where
-  pub own : view.own ≡ option_and_then g.own (subject_of command)
-  pub global : view.global ≡ g.global
+  pub rows : IfSome (rows_needed g command) (λ rows. view.rows.items ≡ rows)
+  pub levels : IsTrue (needs_levels command) → (view.own ≡ option_and_then g.own (subject_of command)) × (view.global ≡ g.global)
+  pub known : view.known ≡ known_id g.schemas (schema_sent command)
+  pub count : IsTrue (needs_count command) → view.count ≡ length g.schemas
+  pub texts : All (λ (row : Row). text_in view row.1.id ≡ text_at g.schemas row.1.id) (rows_read command view)
+  pub true_texts : (id : ℕ) (text : List ℕ) → text_in view id ≡ Some text → text_at g.schemas id ≡ Some text
 
--- Schema Registry API reference, Config: the registry after one change
+-- this project's choice: what a decision stands on: a registry, the schema that the command sends, and a view
+pub record IsGround (g : Registry) (command : Command) (schema : Option (List NodeView)) (view : View) : Type 0 where
+  pub registry : IsRegistry g
+  pub sent : schema ≡ schema_sent command
+  pub shows : IsViewOf view g command
+
+-- ---- changes
+
+-- Schema Registry API reference, Schemas, Subjects and Config: the registry after one change
 abbrev pub after_change : Change → Registry → Registry
-after_change (SetGlobal level) g = record g { global = level }
-after_change (SetLevel subject level) g = record g { own = own_with g.own subject level }
+after_change (change.SetGlobal level) g = record g { global = level }
+after_change (change.SetLevel subject level) g = record g { own = own_with g.own subject level }
+after_change (change.AddText id text) g = record g { schemas = g.schemas ++ option_to_list (denoted text) }
+after_change (change.AddRow row) g = record g { rows = insert g.rows row.0 row.1 }
 
 -- this project's choice: the registry after the changes, one after the other
 abbrev pub after_changes : List Change → Registry → Registry
 after_changes [] g = g
 after_changes (change ∷ changes) g = after_changes changes (after_change change g)
+
+-- this project's choice: the text of a new schema, and the next id
+pub record IsNewText (schemas : Schemas) (id : ℕ) (text : List ℕ) : Type 0 where
+  pub nodes : List NodeView
+  pub schema : IsSchema nodes
+  pub is : text ≡ identity nodes
+  pub next : id ≡ length schemas + 1
+  pub within : id ≤ max_number
+  pub unknown : id_of schemas text ≡ None
+
+-- this project's choice: a new version of a subject, whose schema the registry has
+pub record IsNewRow (g : Registry) (row : Row) : Type 0 where
+  pub absent : get g.rows row.0 ≡ None
+  pub fits : IsRow g.schemas row.0 row.1
+
+-- this project's choice: the registry can have the change
+abbrev pub ChangeFits : Change → Registry → Type 0
+ChangeFits (change.SetGlobal level) g = ⊤
+ChangeFits (change.SetLevel subject level) g = ⊤
+ChangeFits (change.AddText id text) g = IsNewText g.schemas id text
+ChangeFits (change.AddRow row) g = IsNewRow g row
+
+-- this project's choice: so it can each change, at its turn
+abbrev pub ChangesFit : List Change → Registry → Type 0
+ChangesFit [] g = ⊤
+ChangesFit (change ∷ changes) g = ChangeFits change g × ChangesFit changes (after_change change g)

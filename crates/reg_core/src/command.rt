@@ -1,8 +1,10 @@
 //! Commands, and the text by which a write is kept and compared.
 
-ghost use Rattle.std.specs.Prelude.{◌≡◌, true, IfOk, option_copied, string_bytes};
+ghost use Rattle.std.specs.Prelude.{◌≡◌, true, IfOk, option_and_then, option_copied, string_bytes};
+ghost use Rattle.avro_schema.specs.Texts.{denoted};
 ghost use Rattle.reg_core.specs.CommandTexts.{command_text};
-ghost use Rattle.reg_core.specs.Machine.{is_write, subject_of};
+ghost use Rattle.reg_core.specs.Machine.{is_write, schema_sent, subject_of};
+ghost use Rattle.reg_core.specs.Views.{needs_count, needs_levels};
 
 use crate::subject::Subject;
 use crate::text::Text;
@@ -10,7 +12,10 @@ use avro_nodes::OutOfMemory;
 use serde_json::json;
 use std::alloc::Global;
 
-/// What a client asks of the registry. Levels are texts as they were sent.
+/// What a client asks of the registry. Levels, schemas, versions and ids are texts as they were sent.
+/// A schema is `supported` where its type is Avro and it refers to no other. Where `deleted` is on,
+/// soft-deleted versions are shown too. (Schema Registry API reference, Schemas, Subjects,
+/// Compatibility and Config.)
 #[derive(Debug, Drop)]
 pub enum Command {
     /// Sets the global compatibility level.
@@ -23,6 +28,13 @@ pub enum Command {
         subject: Subject,
         level: Text,
     },
+    /// Adds the schema to the subject as its next version, if no live version has it and the
+    /// subject's level admits it. Answers the schema's id.
+    Register {
+        subject: Subject,
+        text: Text,
+        supported: bool,
+    },
     /// Answers the global compatibility level.
     Global,
     /// Answers the level that the subject has of its own; where it has none, and that is asked for,
@@ -30,6 +42,59 @@ pub enum Command {
     LevelOf {
         subject: Subject,
         default_to_global: bool,
+    },
+    /// Answers the last version of the subject that has this schema.
+    Lookup {
+        subject: Subject,
+        text: Text,
+        supported: bool,
+        deleted: bool,
+    },
+    /// Answers the subjects that have versions.
+    Subjects {
+        deleted: bool,
+    },
+    /// Answers the numbers of the subject's versions.
+    Versions {
+        subject: Subject,
+        deleted: bool,
+    },
+    /// Answers the version of the subject that is chosen, with its schema.
+    Version {
+        subject: Subject,
+        version: Text,
+        deleted: bool,
+    },
+    /// Answers the schema of that version alone.
+    Text {
+        subject: Subject,
+        version: Text,
+        deleted: bool,
+    },
+    /// Answers the schema of the id.
+    ById {
+        id: Text,
+    },
+    /// Answers the versions that have the id.
+    VersionsOfId {
+        id: Text,
+        deleted: bool,
+    },
+    /// Answers the types of schemas that are supported.
+    Types,
+    /// Answers whether the schema is compatible with the live version that is chosen, by the
+    /// subject's level.
+    Check {
+        subject: Subject,
+        version: Text,
+        text: Text,
+        supported: bool,
+    },
+    /// Answers whether the subject's level would admit the schema.
+    CheckAll {
+        subject: Subject,
+        text: Text,
+        supported: bool,
     },
 }
 
@@ -39,8 +104,8 @@ impl Command {
         ensures { result ≡ is_write self.now }
     {
         match self {
-            Command::SetGlobal { .. } | Command::SetLevel { .. } => true,
-            Command::Global | Command::LevelOf { .. } => false,
+            Command::SetGlobal { .. } | Command::SetLevel { .. } | Command::Register { .. } => true,
+            _ => false,
         }
     }
 
@@ -49,14 +114,81 @@ impl Command {
         ensures { option_copied result ≡ subject_of self.now }
     {
         match self {
-            Command::SetLevel { subject, .. } | Command::LevelOf { subject, .. } => Some(subject),
-            Command::SetGlobal { .. } | Command::Global => None,
+            Command::SetLevel { subject, .. }
+            | Command::Register { subject, .. }
+            | Command::LevelOf { subject, .. }
+            | Command::Lookup { subject, .. }
+            | Command::Versions { subject, .. }
+            | Command::Version { subject, .. }
+            | Command::Text { subject, .. }
+            | Command::Check { subject, .. }
+            | Command::CheckAll { subject, .. } => Some(subject),
+            Command::SetGlobal { .. }
+            | Command::Global
+            | Command::Subjects { .. }
+            | Command::ById { .. }
+            | Command::VersionsOfId { .. }
+            | Command::Types => None,
+        }
+    }
+
+    /// The text of the schema that the command sends, if it sends one that is supported.
+    #[tactic(auto, unfolding(crate::specs::RegisterCommands::schema_in))]
+    pub fn schema_text(&self) -> Option<&Text>
+        ensures { option_and_then denoted (option_copied result) ≡ schema_sent self.now }
+    {
+        match self {
+            Command::Register {
+                text,
+                supported,
+                ..
+            }
+            | Command::Lookup {
+                text,
+                supported,
+                ..
+            }
+            | Command::Check {
+                text,
+                supported,
+                ..
+            }
+            | Command::CheckAll {
+                text,
+                supported,
+                ..
+            } => { if *supported { Some(text) } else { None } }
+            _ => None,
+        }
+    }
+
+    /// Whether the command looks at levels.
+    pub fn needs_levels(&self) -> bool
+        ensures { result ≡ needs_levels self.now }
+    {
+        match self {
+            Command::Register { .. }
+            | Command::Global
+            | Command::LevelOf { .. }
+            | Command::Check { .. }
+            | Command::CheckAll { .. } => true,
+            _ => false,
+        }
+    }
+
+    /// Whether the command looks at the number of schemas.
+    pub fn needs_count(&self) -> bool
+        ensures { result ≡ needs_count self.now }
+    {
+        match self {
+            Command::Register { .. } => true,
+            _ => false,
         }
     }
 }
 
 /// The text by which a write is kept and compared: a compact JSON array of its name and members,
-/// as `["set-global","FULL"]` and `["set-level","s","FULL"]`. Different writes have different texts.
+/// as `["set-global","FULL"]` and `["register","s","\"int\"",true]`. Different writes have different texts.
 /// A read has the empty text.
 ///
 /// # Errors
@@ -75,7 +207,23 @@ pub fn print_of(alloc: Global, command: &Command) -> Result<String, OutOfMemory>
         Command::SetLevel { subject, level } => {
             set_level_text(alloc, subject.as_str(), level.as_str())
         }
-        Command::Global | Command::LevelOf { .. } => Ok(String::new(alloc)),
+        Command::Register {
+            subject,
+            text,
+            supported,
+        } => register_text(alloc, subject.as_str(), text.as_str(), *supported),
+        Command::Global
+        | Command::LevelOf { .. }
+        | Command::Lookup { .. }
+        | Command::Subjects { .. }
+        | Command::Versions { .. }
+        | Command::Version { .. }
+        | Command::Text { .. }
+        | Command::ById { .. }
+        | Command::VersionsOfId { .. }
+        | Command::Types
+        | Command::Check { .. }
+        | Command::CheckAll { .. } => Ok(String::new(alloc)),
     }
 }
 
@@ -84,5 +232,18 @@ fn set_level_text(alloc: Global, subject: &str, level: &str) -> Result<String, O
     ensures { IfOk result (λ text. string_bytes text ≡ command_text (Command.SetLevel subject.now level.now)) }
 {
     let array = json!(in alloc; ["set-level", subject, level])?;
+    Ok(array.to_string(alloc)?)
+}
+
+/// The text of the command that registers a schema.
+fn register_text(
+    alloc: Global,
+    subject: &str,
+    text: &str,
+    supported: bool,
+) -> Result<String, OutOfMemory>
+    ensures { IfOk result (λ print. string_bytes print ≡ command_text (Command.Register subject.now text.now supported)) }
+{
+    let array = json!(in alloc; ["register", subject, text, supported])?;
     Ok(array.to_string(alloc)?)
 }

@@ -43,7 +43,7 @@ pub fn admits(
 }
 
 /// The versions that the level compares a new schema with.
-fn named(level: Level, earlier: &[Schema]) -> &[Schema]
+pub(crate) fn named<T>(level: Level, earlier: &[T]) -> &[T]
     ensures { result.now ≡ named_versions level earlier.now }
 {
     match level {
@@ -54,14 +54,14 @@ fn named(level: Level, earlier: &[Schema]) -> &[Schema]
 }
 
 /// The last of the versions, if there is one.
-fn latest(versions: &[Schema]) -> &[Schema]
+pub(crate) fn latest<T>(versions: &[T]) -> &[T]
     ensures { result.now ≡ latest versions.now }
 {
     &versions[versions.len().saturating_sub(1)..]
 }
 
 /// Whether the earlier schema and the new one are compatible in each direction of the level.
-fn is_compatible(
+pub(crate) fn is_compatible(
     alloc: Global,
     level: Level,
     earlier: &Schema,

@@ -1,28 +1,55 @@
 //! What a command does to the registry, and its reply.
 
-ghost use Rattle.std.specs.Prelude.{◌≡◌, ◌≢◌, [], false, IfOk};
+ghost use Rattle.std.specs.Prelude.{◌≡◌, ◌≢◌, [], false, IfOk, option_copied, option_map};
+ghost use Rattle.avro_nodes.specs.Nodes.{nodes_view};
 ghost use Rattle.reg_core.specs.Machine.{is_write, step};
 ghost use Rattle.reg_core.specs.Registry.{Registry};
 ghost use Rattle.reg_core.specs.Replies.{IsOwnReply};
-ghost use Rattle.reg_core.specs.Views.{IsViewOf, after_changes};
+ghost use Rattle.reg_core.specs.Views.{ChangesFit, IsGround, after_changes};
 
 use crate::command::Command;
 use crate::decision::levels::{level_reply, level_shown, set_level, shown_reply};
+use crate::decision::reading::{
+    by_id, lookup, subjects, types, version, version_text, versions, versions_of_id,
+};
+use crate::decision::registering::{check, check_all, register};
 use crate::level::Level;
 use crate::reply::Reply;
+use crate::row::Row;
 use crate::subject::Subject;
+use crate::text::Text;
 use avro_nodes::OutOfMemory;
+use avro_schema::Schema;
 use std::alloc::Global;
+use std::collections::BTreeMap;
 
+mod bodies;
+mod comparing;
 mod levels;
+mod needs;
+mod reading;
+mod registering;
+mod rows;
 
-/// What a command needs to know of the registry.
-#[derive(Clone, Copy, Debug, PartialEq, Eq)]
+pub use comparing::schema_of;
+pub use needs::ids_read;
+
+/// What a command needs to know of the registry. The rest may be anything.
+#[derive(Drop)]
 pub struct View {
-    /// The level that the command's subject has of its own, if it is about one that has a level.
+    /// The versions of the command's subject or id, or of all subjects, deleted ones too, in the
+    /// order of the bytes of their subjects, and then of their numbers.
+    pub rows: Vec<Row>,
+    /// The identity texts of ids: of those that the command shows or compares with.
+    pub texts: BTreeMap<u32, String>,
+    /// The level that the command's subject has of its own, if it has one.
     pub own: Option<Level>,
     /// The global compatibility level.
     pub global: Level,
+    /// The id of the schema that the command sends, if it has one.
+    pub known: Option<u32>,
+    /// The number of schemas, which is the greatest id.
+    pub count: u32,
 }
 
 /// One change of the registry.
@@ -32,6 +59,10 @@ pub enum Change {
     SetGlobal { level: Level },
     /// The level that the subject has of its own becomes this one.
     SetLevel { subject: Subject, level: Level },
+    /// A new schema, which has this identity text, gets the id.
+    AddText { id: u32, text: Text },
+    /// A subject gets a new version.
+    AddRow { row: Row },
 }
 
 /// What a command does, and its reply.
@@ -43,17 +74,30 @@ pub struct Decision {
     pub reply: Reply,
 }
 
-/// What the command does to the registry that the view is of, and its reply. It is pure.
+/// What the command does to the registry that the view is of, and its reply. The schema is the one
+/// that the command sends, if its text denotes one and its type is supported. It is pure.
 ///
 /// # Errors
 ///
-/// `OutOfMemory` where room for the changes or for the reply is refused.
+/// `OutOfMemory` where room for the changes, for the reply or for a comparison is refused.
 #[tactic(auto, unfolding(crate::specs::Machine::step))]
-pub fn decide(alloc: Global, view: &View, command: &Command) -> Result<Decision, OutOfMemory>
-    ensures reply { IfOk result (λ decision. (g : Registry) → IsViewOf view.now g command.now
+pub fn decide(
+    alloc: Global,
+    view: &View,
+    command: &Command,
+    schema: Option<&Schema>,
+) -> Result<Decision, OutOfMemory>
+    ensures reply { IfOk result (λ decision. (g : Registry)
+        → IsGround g command.now (option_map nodes_view (option_copied schema.entry)) view.now
         → decision.reply ≡ (step g command.now).1) }
-    ensures changes { IfOk result (λ decision. (g : Registry) → IsViewOf view.now g command.now
+    ensures changes { IfOk result (λ decision. (g : Registry)
+        → IsGround g command.now (option_map nodes_view (option_copied schema.entry)) view.now
         → after_changes decision.changes.items g ≡ (step g command.now).0) }
+
+    // The registry can have each change, at its turn.
+    ensures fit { IfOk result (λ decision. (g : Registry)
+        → IsGround g command.now (option_map nodes_view (option_copied schema.entry)) view.now
+        → ChangesFit decision.changes.items g) }
 
     // A read changes nothing, and a refusal neither.
     ensures read { IfOk result (λ decision. is_write command.now ≡ false → decision.changes.items ≡ []) }
@@ -65,6 +109,7 @@ pub fn decide(alloc: Global, view: &View, command: &Command) -> Result<Decision,
     match command {
         Command::SetGlobal { level } => set_level(alloc, None, level.as_str()),
         Command::SetLevel { subject, level } => set_level(alloc, Some(subject), level.as_str()),
+        Command::Register { subject, .. } => register(alloc, view, subject, schema),
         Command::Global => {
             let reply = level_reply(alloc, "compatibilityLevel", view.global)?;
             Ok(unchanged(alloc, reply))
@@ -74,6 +119,54 @@ pub fn decide(alloc: Global, view: &View, command: &Command) -> Result<Decision,
             ..
         } => {
             let reply = shown_reply(alloc, level_shown(view, *default_to_global))?;
+            Ok(unchanged(alloc, reply))
+        }
+        Command::Lookup { deleted, .. } => {
+            let reply = lookup(alloc, view, schema, *deleted)?;
+            Ok(unchanged(alloc, reply))
+        }
+        Command::Subjects { deleted } => {
+            let reply = subjects(alloc, *deleted, view.rows.as_slice())?;
+            Ok(unchanged(alloc, reply))
+        }
+        Command::Versions { deleted, .. } => {
+            let reply = versions(alloc, *deleted, view.rows.as_slice())?;
+            Ok(unchanged(alloc, reply))
+        }
+        Command::Version {
+            version: chosen,
+            deleted,
+            ..
+        } => {
+            let reply = version(alloc, view, chosen.as_str(), *deleted)?;
+            Ok(unchanged(alloc, reply))
+        }
+        Command::Text {
+            version: chosen,
+            deleted,
+            ..
+        } => {
+            let reply = version_text(alloc, view, chosen.as_str(), *deleted)?;
+            Ok(unchanged(alloc, reply))
+        }
+        Command::ById { id } => {
+            let reply = by_id(alloc, view, id.as_str())?;
+            Ok(unchanged(alloc, reply))
+        }
+        Command::VersionsOfId { id, deleted } => {
+            let reply = versions_of_id(alloc, *deleted, view.rows.as_slice(), id.as_str())?;
+            Ok(unchanged(alloc, reply))
+        }
+        Command::Types => {
+            let reply = types(alloc)?;
+            Ok(unchanged(alloc, reply))
+        }
+        Command::Check { version, .. } => {
+            let reply = check(alloc, view, version.as_str(), schema)?;
+            Ok(unchanged(alloc, reply))
+        }
+        Command::CheckAll { .. } => {
+            let reply = check_all(alloc, view, schema)?;
             Ok(unchanged(alloc, reply))
         }
     }

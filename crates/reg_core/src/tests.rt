@@ -1,8 +1,12 @@
 //! Expected values are those of the registry's profile, written out.
 
 use crate::{
-    Change, Code, Command, Decision, Key, Level, Reply, Subject, Text, View, decide, print_of,
+    Change, Choice, Code, Command, Decision, Key, Level, MAX_NUMBER, Reply, Row, Subject, Text,
+    View, choice_in, decide, id_in, print_of,
 };
+use avro_schema::Schema;
+use std::alloc::Global;
+use std::collections::BTreeMap;
 use std::test::Fail;
 
 const SPELLINGS: [(&str, Level); 7] = [
@@ -332,8 +336,21 @@ fn level_of(rt: &HostRuntime, subject: &str, default_to_global: bool) -> Result<
     })
 }
 
+/// A view of a registry without versions.
+fn view_of(alloc: Global, own: Option<Level>, global: Level) -> View {
+    View {
+        rows: Vec::new(alloc),
+        texts: BTreeMap::new(alloc),
+        own,
+        global,
+        known: None,
+        count: 0,
+    }
+}
+
 fn decided(rt: &HostRuntime, global: Level, command: &Command) -> Result<Decision, Fail> {
-    Ok(decide(rt.alloc(), &View { own: None, global }, command)?)
+    let view = view_of(rt.alloc(), None, global);
+    Ok(decide(rt.alloc(), &view, command, None)?)
 }
 
 #[test]
@@ -343,7 +360,7 @@ fn set_global_sets_a_level(rt: HostRuntime) -> Result<(), Fail> {
         assert_eq!(rt; decision.changes.len(), 1, "{text}");
         match &decision.changes[0] {
             Change::SetGlobal { level: set } => assert_eq!(rt; *set, level),
-            Change::SetLevel { .. } => panic!(rt; "no subject's level"),
+            _ => panic!(rt; "no other change"),
         }
         assert_eq!(rt; decision.reply.status(), 200, "{text}");
     }
@@ -366,7 +383,7 @@ fn set_level_sets_a_subjects_level(rt: HostRuntime) -> Result<(), Fail> {
                 assert_eq!(rt; subject.as_str(), "a/b");
                 assert_eq!(rt; *set, level);
             }
-            Change::SetGlobal { .. } => panic!(rt; "not the global level"),
+            _ => panic!(rt; "no other change"),
         }
         assert_eq!(rt; decision.reply.status(), 200, "{text}");
     }
@@ -432,12 +449,9 @@ const LEVELS_SHOWN: [(Option<Level>, bool, u16, &str); 4] = [
 #[test]
 fn level_of_answers_the_subjects_level(rt: HostRuntime) -> Result<(), Fail> {
     for (own, default_to_global, status, body) in LEVELS_SHOWN {
-        let view = View {
-            own,
-            global: Level::Full,
-        };
+        let view = view_of(rt.alloc(), own, Level::Full);
         let command = level_of(&rt, "s", default_to_global)?;
-        let decision = decide(rt.alloc(), &view, &command)?;
+        let decision = decide(rt.alloc(), &view, &command, None)?;
         assert!(rt; decision.changes.is_empty());
         assert_eq!(rt; decision.reply.status(), status);
         assert_eq!(rt; decision.reply.body(), body);
@@ -484,10 +498,84 @@ fn command_texts(rt: HostRuntime) -> Result<(), Fail> {
     assert!(rt; command.is_write());
     let text = print_of(rt.alloc(), &command)?;
     assert_eq!(rt; text.as_str(), "[\"set-level\",\"a/b\",\"FULL\"]");
+    let command = register(&rt, "s", "\"int\"")?;
+    assert!(rt; command.is_write());
+    let text = print_of(rt.alloc(), &command)?;
+    assert_eq!(rt; text.as_str(), "[\"register\",\"s\",\"\\\"int\\\"\",true]");
     for read in [Command::Global, level_of(&rt, "s", true)?] {
         assert!(rt; !read.is_write());
         let text = print_of(rt.alloc(), &read)?;
         assert_eq!(rt; text.as_str(), "");
     }
+    Ok(())
+}
+
+#[test]
+fn numbers(rt: HostRuntime) -> Result<(), Fail> {
+    for (text, number) in [("1", 1), ("10", 10), ("2147483647", MAX_NUMBER)] {
+        assert_eq!(rt; id_in(text), Some(number));
+        assert_eq!(rt; choice_in(text), Some(Choice::Numbered(number)));
+    }
+    assert_eq!(rt; choice_in("latest"), Some(Choice::Latest));
+    assert!(rt; id_in("latest").is_none());
+    for text in [
+        "",
+        "0",
+        "01",
+        "-1",
+        "+1",
+        "1 ",
+        " 1",
+        "1.0",
+        "2147483648",
+        "Latest",
+        "99999999999999999999",
+    ] {
+        assert!(rt; id_in(text).is_none(), "{text}");
+        assert!(rt; choice_in(text).is_none(), "{text}");
+    }
+    Ok(())
+}
+
+fn register(rt: &HostRuntime, subject: &str, text: &str) -> Result<Command, Fail> {
+    Ok(Command::Register {
+        subject: subject_of(rt, subject)?,
+        text: text_of(rt, text)?,
+        supported: true,
+    })
+}
+
+/// The decision on registering `"int"` in a subject with one deleted version of this number, which
+/// has the one schema of the registry.
+fn after_deleted(rt: &HostRuntime, number: u32) -> Result<Decision, Fail> {
+    let alloc = rt.alloc();
+    let mut view = view_of(alloc, None, Level::Backward);
+    view.rows
+        .push(Row::new(subject_of(rt, "s")?, number, 1, true))?;
+    view.known = Some(1);
+    view.count = 1;
+    let schema = match Schema::read(alloc, "\"int\"") {
+        Ok(schema) => schema,
+        Err(_) => return Err("a schema".into()),
+    };
+    Ok(decide(alloc, &view, &register(rt, "s", "\"int\"")?, Some(&schema))?)
+}
+
+#[test]
+fn next_number_is_behind_the_deleted_ones(rt: HostRuntime) -> Result<(), Fail> {
+    let decision = after_deleted(&rt, 2_147_483_646)?;
+    assert_eq!(rt; decision.reply.status(), 200);
+    assert_eq!(rt; decision.reply.body(), "{\"id\":1}");
+    assert_eq!(rt; decision.changes.len(), 1);
+    match &decision.changes[0] {
+        Change::AddRow { row } => assert_eq!(rt; row.version(), MAX_NUMBER),
+        _ => panic!(rt; "no other change"),
+    }
+    let decision = after_deleted(&rt, MAX_NUMBER)?;
+    assert!(rt; decision.changes.is_empty());
+    assert_eq!(rt;
+        decision.reply.body(),
+        "{\"error_code\":42292,\"message\":\"No number is left\"}"
+    );
     Ok(())
 }

@@ -2,15 +2,14 @@
 -- document is named). That no key of a table stands twice, and that each id is that of a text, is the tables' own matter.
 use Rattle.std.specs.Prelude.{◌≡◌, ℕ, ◌+◌, ◌<◌, ◌≤◌, ◌==◌, ◌&&◌, Bool, false, not, IsTrue, List, [], ◌∷◌, length, slice_index, nat_lt, nat_le, codes, map, bytes_eq, if◌then◌else◌, Option, None, Some, is_some, option_and_then, String, string_bytes, ⊤}
 use Rattle.std.specs.declared.alloc.Global.{Global}
-use Rattle.std.specs.Char.{is_ascii_digit}
 use Rattle.std.specs.List.{AllByRecursion, list_any, list_all}
-use Rattle.std.specs.Str.Parse.{digits_value}
 use Rattle.avro_nodes.specs.Nodes.{NodeView}
 use Rattle.avro_nodes.specs.Identity.{identity}
 use Rattle.avro_schema.specs.Texts.{IsSchema}
 use Rattle.reg_core.specs.Keys.{IsKey}
 use Rattle.reg_core.specs.Levels.{level_of}
 use Rattle.reg_core.specs.Replies.{IsKeptStatus}
+use Rattle.reg_core.specs.Numbers.{number_up_to}
 use Rattle.reg_core.specs.Registry.{max_number}
 use Rattle.reg_core.specs.Subjects.{is_subject}
 use Rattle.reg_rows.specs.declared.tables.Tables.{Tables}
@@ -102,13 +101,9 @@ abbrev pub has_level : Option (List ℕ) → Bool
 has_level None = false
 has_level (Some value) = is_some (level_of value)
 
--- decimal digits, the first of which isn't 0
-abbrev pub is_number : List ℕ → Bool
-is_number text = nat_lt 0 (length text) && not (slice_index text 0 == 48) && list_all is_ascii_digit text
-
 -- a number from 1 to 999,999,999 in decimal digits without a leading zero
 abbrev pub number_in : List ℕ → Option ℕ
-number_in text = if is_number text && nat_le (digits_value 10 text) 999999999 then Some (digits_value 10 text) else None
+number_in text = number_up_to 999999999 text
 
 -- the number of the layout that the rows name beside this format, if they name one
 abbrev pub layout_in : List Pair → Option ℕ

@@ -1,9 +1,9 @@
 //! The rows of `meta`, which say what the database is.
 
 ghost use Rattle.std.specs.Prelude.{IsTrue, ◌↔◌, ◌≡◌, map, option_map, string_bytes};
-ghost use Rattle.reg_rows.specs.Spelling.{pair_of, value_at, is_name, names_known, number_in, layout_in, is_meta};
+ghost use Rattle.reg_rows.specs.Spelling.{pair_of, value_at, is_name, names_known, layout_in, is_meta};
 
-use reg_core::Level;
+use reg_core::{Level, number_up_to};
 
 /// The value of the first row of this name.
 fn value_of<'a>(rows: &'a [(String, String)], name: &str) -> Option<&'a str>
@@ -18,27 +18,7 @@ fn value_of<'a>(rows: &'a [(String, String)], name: &str) -> Option<&'a str>
 }
 
 /// The greatest number that a layout may have.
-const MAX_LAYOUT: u64 = 999_999_999;
-
-/// The number from 1 to 999,999,999 that a text writes in decimal digits without a leading zero.
-fn number_in(text: &[u8]) -> Option<u32>
-    ensures { result ≡ number_in text.now }
-{
-    if text.is_empty() || text[0] == b'0' {
-        return None;
-    }
-    let mut number: u64 = 0;
-    for digit in text {
-        if !digit.is_ascii_digit() {
-            return None;
-        }
-        number = (number * 10 + u64::from(*digit - b'0')).min(MAX_LAYOUT + 1);
-    }
-    if number > MAX_LAYOUT {
-        return None;
-    }
-    Some(number as u32)
-}
+const MAX_LAYOUT: u32 = 999_999_999;
 
 /// The number of the layout, 1 to 999,999,999, that the rows of `meta` name beside the format
 /// `avroreg`; `None` where they name none.
@@ -48,7 +28,7 @@ pub fn layout_of(rows: &[(String, String)]) -> Option<u32>
     if value_of(rows, "format") != Some("avroreg") {
         return None;
     }
-    number_in(value_of(rows, "layout")?.as_bytes())
+    number_up_to(MAX_LAYOUT, value_of(rows, "layout")?.as_bytes())
 }
 
 fn is_name(name: &str) -> bool

@@ -5,8 +5,7 @@ ghost use Rattle.std.specs.List.{AllByRecursion};
 ghost use Rattle.reg_core.specs.Replies.{IsKeptStatus};
 ghost use Rattle.reg_rows.specs.Spelling.{FitsVersions, FitsLevels, FitsKept, IsVersionRow, IsLevelRow, IsKeptRow};
 
-use crate::texts::MAX_NUMBER;
-use reg_core::{Key, Level, is_subject};
+use reg_core::{Key, Level, MAX_NUMBER, is_subject};
 
 /// Whether a row of `versions` may be known by these two: a subject, and a number from 1 to
 /// 2,147,483,647.

@@ -5,11 +5,8 @@ ghost use Rattle.std.specs.List.{AllByRecursion};
 ghost use Rattle.reg_rows.specs.Spelling.{AreNumbered, AreTexts, IsIdentity, IsTextRow};
 
 use avro_schema::{Schema, SchemaError};
-use reg_core::OutOfMemory;
+use reg_core::{MAX_NUMBER, OutOfMemory};
 use std::alloc::Global;
-
-/// The greatest id, and the greatest number of a version.
-pub const MAX_NUMBER: u32 = 2_147_483_647;
 
 /// Whether the text is the identity text of a schema.
 fn is_identity(alloc: Global, text: &str) -> Result<bool, OutOfMemory>

@@ -22,7 +22,7 @@ use Rattle.reg_service.specs.Crashes.{LeavesAfter, LeavesUnderWay, IsFoundAfter,
 use Rattle.reg_service.proofs.JoinedExchanges.{kept_after-append, is_first-append, registry-append, serves_none}
 use Rattle.reg_service.proofs.ExchangeLists.{served-append, zip-push}
 use Rattle.reg_service.proofs.SingleDeliveries.{is_first-keyless, is_first-keyed, kept_after-keyed, kept_after-known, run_commands-one, serves_keyless, serves_first, serves_again, serves_refused}
-use Rattle.reg_service.proofs.OverTables.{step_read}
+use Rattle.reg_core.proofs.Steps.{step-read}
 
 -- ---- lists
 
@@ -131,12 +131,12 @@ module _ (g : Registry) (k : Kept) (d : Delivery) (db : Trees) where
       → IfOk r (λ reply. (g : Registry) (k : Kept) → SpellsWhileOpen old g k → (reply ≡ (step g d.command).1) × SpellsWhileOpen new (step g d.command).0 k)
       → IfOk r (λ reply. IsOwnReply reply) → LeavesOne r old db (step g d.command).0 k → IsFoundAfter g k ((d, reply_of r) ∷ []) db
   found_keyless old new (Ok reply) keyless was over done own leaves =
-      inl (leaves_served g (step g d.command).0 k k (served ((d, reply) ∷ [])) db (serves_keyless g (step g d.command).0 k k d reply keyless (done g k over).0 own.no_backend_fault refl (step_read g d.command) refl) leaves)
+      inl (leaves_served g (step g d.command).0 k k (served ((d, reply) ∷ [])) db (serves_keyless g (step g d.command).0 k k d reply keyless (done g k over).0 own.no_backend_fault refl (step-read g d.command) refl) leaves)
   found_keyless old new (Err e) keyless was over done own (inl before) = inl (unanswered (was before))
   found_keyless old new (Err e) keyless was over done own (inr after) =
       elim (cases_Bool (is_write d.command)) [
         | inl write ↦ inr (under_way k (is_first-keyless k [] d keyless ∙ write) (sym (kept_after-known k d (step g d.command).1 (λ key some. absurd (let none : None ≡ Some key = sym keyless ∙ some in cc)))) after)
-        | inr read ↦ inl (unanswered (subst (λ (r : Registry). Leaves db r k) (step_read g d.command read) after))
+        | inr read ↦ inl (unanswered (subst (λ (r : Registry). Leaves db r k) (step-read g d.command read) after))
       ]
 
   -- the first delivery of a key

@@ -8,3 +8,4 @@ pub mod OverTables
 pub mod CrashLemmas
 pub mod OpenConnections
 pub mod Examples
+pub mod AdmissionLemmas

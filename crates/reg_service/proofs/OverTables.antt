@@ -1,12 +1,11 @@
 -- What each way of answering serves, over whatever the tables spell.
-use Rattle.std.proofs.Common.{◌≡◌, ◌≢◌, ℕ, true, false, ◌<◌, ◌+◌, List, [], ◌∷◌, ◌++◌, length, take, zip, get_or, Some, None, Result, Ok, Err, refl, ap, subst, ◌∙◌, true≢false}
+use Rattle.std.proofs.Common.{◌≡◌, ◌≢◌, ℕ, true, false, ◌<◌, ◌+◌, List, [], ◌∷◌, ◌++◌, length, take, zip, get_or, Some, None, Result, Ok, Err, refl, ap, subst, ◌∙◌}
 use Rattle.std.specs.Prelude.{IfOk}
 use Rattle.sqlite.specs.State.{State}
 use Rattle.reg_core.specs.declared.code.Code.TheVariants.{KeyReused, BackendFault}
-use Rattle.reg_core.specs.declared.command.Command.{Command}
-use Rattle.reg_core.specs.declared.command.Command.TheVariants.{SetGlobal, SetLevel, Global, LevelOf}
+use Rattle.reg_core.proofs.Steps.{step-read}
 use Rattle.reg_core.specs.CommandTexts.{command_text}
-use Rattle.reg_core.specs.Machine.{is_write, step}
+use Rattle.reg_core.specs.Machine.{step}
 use Rattle.reg_core.specs.Registry.{Registry}
 use Rattle.reg_core.specs.Replies.{Told, IsOwnReply, fault}
 use Rattle.reg_core.specs.KeptReplies.{Kept, Entry, kept_with}
@@ -23,14 +22,6 @@ use Rattle.reg_service.proofs.DueReplies.{serves-KeepsAll}
 led : {xs : List Exchange} {new : State} (g : Registry) (k : Kept) (g' : Registry) (k' : Kept) → Serves g k xs g' k' → SpellsWhileOpen new g' k' → ServesTo g k xs new
 led g k g' k' s spells = record { registry = g'; kept = k'; serves = s; keeps = serves-KeepsAll _ _ _ _ _ s; spells = spells }
 
--- a read leaves the registry
-pub step_read : (g : Registry) (c : Command) → is_write c ≡ false → (step g c).0 ≡ g
-unfolding step
-step_read g (SetGlobal level) h = absurd (true≢false h)
-step_read g (SetLevel subject level) h = absurd (true≢false h)
-step_read g Global h = refl
-step_read g (LevelOf subject default_to_global) h = refl
-
 module _ {E : Type 0} (old new : State) (d : Delivery) where
   -- a read, or a write without a key
   pub keyless_over : (r : Result Told E) → key_of d ≡ None
@@ -39,7 +30,7 @@ module _ {E : Type 0} (old new : State) (d : Delivery) where
   keyless_over (Err e) keyless done own = tt
   keyless_over (Ok reply) keyless done own = λ g k over.
       let it = done g k over in
-      led g k (step g d.command).0 k (serves_keyless g (step g d.command).0 k k d reply keyless it.0 own.no_backend_fault refl (step_read g d.command) refl) it.1
+      led g k (step g d.command).0 k (serves_keyless g (step g d.command).0 k k d reply keyless it.0 own.no_backend_fault refl (step-read g d.command) refl) it.1
 
   -- the first delivery of a key
   pub first_over : (r : Result Told E) (mid : State) (key text : List ℕ) → key_of d ≡ Some key → text ≡ command_text d.command

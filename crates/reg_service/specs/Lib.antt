@@ -1,3 +1,4 @@
 pub mod Deliveries
+pub mod Admissions
 pub mod Crashes
 pub mod Services

@@ -4,6 +4,7 @@
 mod delivery;
 mod error;
 mod kept;
+mod schema;
 mod service;
 
 pub use reg_core::{Delivery, OutOfMemory};

@@ -5,17 +5,19 @@ ghost use Rattle.reg_core.specs.CommandTexts.{command_text};
 ghost use Rattle.reg_core.specs.Machine.{step};
 ghost use Rattle.reg_core.specs.Registry.{Registry};
 ghost use Rattle.reg_core.specs.Replies.{IsOwnReply, fault};
-ghost use Rattle.reg_core.specs.Views.{after_changes};
+ghost use Rattle.reg_core.specs.Views.{ChangesFit, after_changes};
 ghost use Rattle.reg_core.specs.KeptReplies.{Kept, kept_with};
 ghost use Rattle.reg_store.specs.Spells.{Leaves, IsOpenOver, SpellsWhileOpen};
 ghost use Rattle.reg_store.specs.Stores.{has_failed, KeepsOpen};
 ghost use Rattle.reg_service.specs.Deliveries.{served, RepeatsAgree, NoOtherAnswers};
+ghost use Rattle.reg_service.specs.Admissions.{AllAdmitted};
 ghost use Rattle.reg_service.specs.Crashes.{IsFoundAfter, reply_of, LeavesOne, LeavesNoMore};
 ghost use Rattle.reg_service.specs.Services.{store_in, state_in, SpellsOn, ServesOver};
 
 use crate::delivery::retry_key;
 use crate::error::Unanswered;
 use crate::kept::answer_again;
+use crate::schema::{identity_text, schema_sent};
 use reg_core::{Code, Command, Decision, Delivery, Key, OutOfMemory, Reply, decide, print_of};
 use reg_store::{Keep, Store};
 use sqlite::Alter;
@@ -64,6 +66,11 @@ impl<S: Alter> Service<S> {
         ensures fault { HasCleanDisk (state_in self.new) → result ≡ fault Code.BackendFault
             → SpellsOn (state_in self.old) (state_in self.new) }
 
+        // Each version that is added was admitted by its subject's level.
+        ensures admitted { HasCleanDisk (state_in self.new) → (g : Registry) (k : Kept)
+            → IsOpenOver (state_in self.old) g k
+            → AllAdmitted g k (served ((delivery.now, result) ∷ [])) }
+
         // A crash leaves what was answered, and may leave a delivery that was answered 50001.
         ensures crash { HasCleanDisk (state_in self.new) → (g : Registry) (k : Kept)
             → IsOpenOver (state_in self.old) g k → (db : Trees) → (state_in self.new).may_leave db
@@ -104,6 +111,11 @@ impl<S: Alter> Service<S> {
             (g : Registry) (k : Kept) → SpellsWhileOpen (state_in self.old) g k
             → NoOtherAnswers g k (served (zip list.now replies.items))) }
         ensures err { OnErr result (self.new ≡ self.old) }
+
+        // Each version that was added was admitted by its subject's level, as that was then.
+        ensures admitted { HasCleanDisk (state_in self.new) → IfOk result (λ replies.
+            (g : Registry) (k : Kept) → IsOpenOver (state_in self.old) g k
+            → AllAdmitted g k (served (zip list.now replies.items))) }
 
         // A crash leaves all that was answered, with or without the one delivery under way.
         ensures crash { HasCleanDisk (state_in self.new) → IfOk result (λ replies.
@@ -222,7 +234,8 @@ impl<S: Alter> Service<S> {
         ensures same { HasCleanDisk (state_in self.new) → SpellsOn (state_in self.old) (state_in self.new) }
         ensures decided { HasCleanDisk (state_in self.new) → IfOk result (λ d. (g : Registry) (k : Kept)
             → SpellsWhileOpen (state_in self.old) g k
-            → (d.reply ≡ (step g command.now).1) × (after_changes d.changes.items g ≡ (step g command.now).0)) }
+            → (d.reply ≡ (step g command.now).1) × (after_changes d.changes.items g ≡ (step g command.now).0)
+            × ChangesFit d.changes.items g) }
         ensures own { IfOk result (λ d. IsOwnReply d.reply) }
         ensures crash { HasCleanDisk (state_in self.new)
             → LeavesNoMore (state_in self.old) (state_in self.new) }
@@ -230,7 +243,9 @@ impl<S: Alter> Service<S> {
             → OnOk result (IsTrue (state_in self.old).is_open) }
         ensures keeps { KeepsOpen (state_in self.old) (state_in self.new) }
     {
-        let view = self.store.view(command)?;
-        Ok(decide(self.alloc, &view, command)?)
+        let schema = schema_sent(self.alloc, command)?;
+        let identity = identity_text(self.alloc, schema.as_ref())?;
+        let view = self.store.view(command, identity.as_deref())?;
+        Ok(decide(self.alloc, &view, command, schema.as_ref())?)
     }
 }

@@ -15,3 +15,7 @@ pub mod MetaLemmas
 pub mod OpenLemmas
 pub mod Keeping
 pub mod Writing
+pub mod Additions
+pub mod ViewLemmas
+pub mod RowLemmas
+pub mod ViewTexts

@@ -151,7 +151,7 @@ version_back None = refl
 version_back (Some row) = refl
 
 -- a map whose values are written otherwise
-find-mapped : {K V W : Type 0} (R : K → K → Ordering) (write : V → W) (q : K) (es : List (K × V)) → find R q (map (λ (e : K × V). (e.0, write e.1)) es) ≡ option_map write (find R q es)
+pub find-mapped : {K V W : Type 0} (R : K → K → Ordering) (write : V → W) (q : K) (es : List (K × V)) → find R q (map (λ (e : K × V). (e.0, write e.1)) es) ≡ option_map write (find R q es)
 find-mapped R write q [] = refl
 find-mapped R write q (e ∷ es) = rw (find-mapped R write q es) (by (is_eq (R q e.0)))
   where

@@ -1,12 +1,13 @@
 -- What a change of the tables makes of what they spell.
-use Rattle.std.proofs.Common.{◌≡◌, ℕ, ◌+◌, ◌<◌, List, [], ◌∷◌, ◌++◌, length, take, get_or, Option, Some, None, Bool, true, false, cond, codes, refl, sym, ap, subst, ◌∙◌}
+use Rattle.std.proofs.Common.{◌≡◌, ℕ, zero, suc, arith, ◌+◌, ◌<◌, List, [], ◌∷◌, ◌++◌, length, take, get_or, Option, Some, None, Bool, true, false, cond, codes, refl, sym, ap, subst, ◌∙◌}
 use Rattle.std.specs.Prelude.{option_map, bytes_eq, IsTrue, All, ◌≤◌}
 use Rattle.std.specs.FinMap.{get, insert}
 use Rattle.std.proofs.lemmas.List.{take_more}
 use Rattle.std.proofs.lemmas.Slice.Eq.{bytes_eq-Decides}
 use Rattle.sqlite.specs.State.{State}
 use Rattle.reg_core.specs.declared.decision.Change.{Change}
-use Rattle.reg_core.specs.Views.{after_changes, after_change}
+use Rattle.reg_core.specs.declared.decision.Change.TheVariants.{SetGlobal, SetLevel}
+use Rattle.reg_core.specs.Views.{ChangeFits, ChangesFit, after_changes, after_change}
 use Rattle.reg_core.specs.declared.level.Level.{Level}
 use Rattle.reg_core.specs.Levels.{level_text}
 use Rattle.reg_core.specs.Subjects.{is_subject}
@@ -18,7 +19,7 @@ use Rattle.reg_tables.specs.Contents.{Contents, Holds}
 use Rattle.reg_tables.specs.Changes.{Changes, with_global, with_level, with_kept}
 use Rattle.reg_core.specs.KeptReplies.{Entry, Kept, kept_with}
 use Rattle.reg_store.specs.Spells.{CanBeKept, IsSpelled, Spells, row_of}
-use Rattle.reg_store.specs.Changes.{Respells}
+use Rattle.reg_store.specs.Changes.{Makes}
 use Rattle.reg_store.proofs.Maps.{insert_both, insert-insert}
 
 -- what holds of each entry holds with one more
@@ -88,11 +89,11 @@ module _ (contents : Contents) (g : Registry) (k : Kept) (s : IsSpelled contents
 -- ---- the tables
 
 module _ (old new : State) where
-  pub respells_global : (level : Level) → Changes old new (with_global (level_text level)) → Respells old new (λ g. record g { global = level }) (λ k. k)
-  respells_global level changes g k s = record { contents = with_global (level_text level) s.contents; holds = changes s.contents s.holds; spelled = spelled_global s.contents g k s.spelled level }
+  pub respells_global : (level : Level) → Changes old new (with_global (level_text level)) → Makes old new (SetGlobal level)
+  respells_global level changes g k s fits = record { contents = with_global (level_text level) s.contents; holds = changes s.contents s.holds; spelled = spelled_global s.contents g k s.spelled level }
 
-  pub respells_level : (subject : List ℕ) (level : Level) → IsTrue (is_subject subject) → Changes old new (with_level subject (level_text level)) → Respells old new (λ g. record g { own = own_with g.own subject level }) (λ k. k)
-  respells_level subject level within changes g k s =
+  pub respells_level : (subject : List ℕ) (level : Level) → IsTrue (is_subject subject) → Changes old new (with_level subject (level_text level)) → Makes old new (SetLevel subject level)
+  respells_level subject level within changes g k s fits =
       record { contents = with_level subject (level_text level) s.contents; holds = changes s.contents s.holds; spelled = spelled_level s.contents g k s.spelled subject level within }
 
   pub respells_kept : (key : List ℕ) (entry : Entry) → CanBeKept key entry
@@ -112,3 +113,9 @@ after_changes-append (c ∷ cs) change g = after_changes-append cs change (after
 
 pub after_changes-more : (changes : List Change) (i : ℕ) (change : Change) (g : Registry) → i < length changes → after_changes (take (i + 1) changes) g ≡ after_change (get_or changes i change) (after_changes (take i changes) g)
 after_changes-more changes i change g lt = ap (λ l. after_changes l g) (take_more changes i change lt) ∙ after_changes-append (take i changes) (get_or changes i change) g
+
+-- what fits at its turn fits the registry after those before it
+pub fits_at : (changes : List Change) (i : ℕ) (change : Change) (g : Registry) → i < length changes → change ≡ get_or changes i change → ChangesFit changes g → ChangeFits change (after_changes (take i changes) g)
+fits_at [] i change g low is fits = absurd (omega (arith, low))
+fits_at (c ∷ cs) zero change g low is fits = subst (λ x. ChangeFits x g) (sym is) fits.0
+fits_at (c ∷ cs) (suc i) change g low is fits = fits_at cs i change (after_change c g) (omega (arith, low)) is fits.1

@@ -10,6 +10,8 @@ use Rattle.sqlite.specs.State.{State, HasCleanDisk, Survives}
 use Rattle.sqlite.specs.Held.{Held, state}
 use Rattle.sqlite_trees.specs.declared.store.Store.{Ghosts}
 use Rattle.reg_core.specs.Registry.{Registry}
+use Rattle.reg_core.specs.declared.decision.Change.{Change}
+use Rattle.reg_core.specs.Views.{ChangeFits}
 use Rattle.reg_tables.specs.Contents.{Contents, Holds}
 use Rattle.reg_tables.specs.Reading.{IsWriteFault, IsInsertFault}
 use Rattle.reg_store.specs.declared.error.StoreError.{StoreError}
@@ -75,8 +77,8 @@ module _ (s new : State) (e : Error) (unlimited : s.step_limit ≡ None) (inside
   fault_of_commit (inr late) = absurd (both_ways _ late.1 inside)
 
 module _ (s new : State) (e : Error) (shut : IsTrue s.is_open ⊎ IsWriteFault s new e) where
-  pub fault_of_change : ((contents : Contents) → Holds s.now contents → IsInsertFault s new e) → IsFaultOfChange s new e
-  fault_of_change fails g k spells = elim shut [ inl is_open ↦ let it = spells is_open in fails it.contents it.holds | inr fault ↦ inl (inl fault) ]
+  pub fault_of_change : (change : Change) → ((g : Registry) (k : Kept) → Spells s.now g k → ChangeFits change g → IsInsertFault s new e) → IsFaultOfChange s new change e
+  fault_of_change change fails g k spells fits = elim shut [ inl is_open ↦ fails g k (spells is_open) fits | inr fault ↦ inl (inl fault) ]
 
   pub fault_of_reply : (keep : Keep) → ((contents : Contents) → Holds s.now contents → get contents.kept keep.key.now ≡ None → IsInsertFault s new e) → IsFaultOfReply s new (Some keep) e
   fault_of_reply keep fails g k spells fresh = elim shut [

@@ -1,21 +1,22 @@
 -- What a call makes of a registry and of the kept replies.
-use Rattle.std.specs.Prelude.{◌≡◌, ◌≢◌, ◌⊎◌, ◌+◌, length, codes, ◌∷◌, List, [], Option, None, Some, IsSome, IsTrue, false, ⊤}
+use Rattle.std.specs.Prelude.{◌≡◌, ◌≢◌, ◌⊎◌, ◌+◌, length, codes, ◌∷◌, ◌++◌, List, [], Option, None, Some, IsSome, IsTrue, false, ⊤}
 use Rattle.sqlite.specs.State.{State}
 use Rattle.sqlite.specs.declared.error.Error.{Error}
 use Rattle.reg_core.specs.declared.decision.Change.{Change}
 use Rattle.reg_core.specs.Replies.{IsKeptStatus}
 use Rattle.reg_core.specs.Registry.{Registry}
+use Rattle.reg_core.specs.Views.{ChangeFits, ChangesFit, after_change, after_changes}
 use Rattle.std.specs.List.{AllByRecursion}
 use Rattle.sqlite.specs.declared.types.Value.TheVariants.{Text}
-use Rattle.reg_core.specs.declared.decision.Change.TheVariants.{SetGlobal, SetLevel}
+use Rattle.reg_core.specs.declared.decision.Change.TheVariants.{SetGlobal, SetLevel, AddText, AddRow}
 use Rattle.reg_core.specs.Levels.{level_text}
-use Rattle.reg_tables.specs.Layout.{levels, kept, meta}
-use Rattle.reg_tables.specs.Contents.{kept_cells}
+use Rattle.reg_tables.specs.Layout.{texts, versions, levels, kept, meta}
+use Rattle.reg_tables.specs.Contents.{text_row_cells, kept_cells, version_key_cells, version_cells}
 use Rattle.reg_tables.specs.Rooms.{HasRooms, CanBeStored}
 use Rattle.reg_tables.specs.Reading.{IsInsertFault}
 use Rattle.reg_store.specs.declared.keep.Keep.{Keep}
 use Rattle.reg_core.specs.KeptReplies.{Entry, Kept, kept_with}
-use Rattle.reg_store.specs.Spells.{row_of, Spells}
+use Rattle.reg_store.specs.Spells.{row_of, version_row, Spells}
 
 -- this project's choice: what is kept of a command and its reply
 abbrev pub entry_of : Keep → Entry
@@ -35,9 +36,13 @@ IsNewTo k (Some keep) = k keep.key.now ≡ None
 abbrev pub IsKeepable : Keep → Type 0
 IsKeepable keep = IsKeptStatus keep.reply.now.status
 
--- the tables spelled some registry and kept replies, and now spell what the two functions make of them
-abbrev pub Respells : State → State → (Registry → Registry) → (Kept → Kept) → Type 0
-Respells old new change keep = (g : Registry) (k : Kept) → Spells old.now g k → Spells new.now (change g) (keep k)
+-- the tables spelled a registry that can have the change, and now spell it after the change
+abbrev pub Makes : State → State → Change → Type 0
+Makes old new change = (g : Registry) (k : Kept) → Spells old.now g k → ChangeFits change g → Spells new.now (after_change change g) k
+
+-- the same of several changes, each of which it can have at its turn
+abbrev pub MakesAll : State → State → List Change → Type 0
+MakesAll old new changes = (g : Registry) (k : Kept) → Spells old.now g k → ChangesFit changes g → Spells new.now (after_changes changes g) k
 
 -- this project's choice: there is a change to make, or a reply to keep
 abbrev pub ActsOn : List Change → Option Keep → Type 0
@@ -47,11 +52,15 @@ ActsOn changes keep = (changes ≢ []) ⊎ IsSome keep
 abbrev pub SpellsInside : State → Registry → Kept → Type 0
 SpellsInside s g k = IsTrue s.is_open → Spells s.now g k
 
--- a change of tables that spell a registry fails for a reason that each write has
-abbrev pub IsFaultOfChange : State → State → Error → Type 0
-IsFaultOfChange old new e = (g : Registry) (k : Kept) → SpellsInside old g k → IsInsertFault old new e
+-- a change that a registry can have fails for a reason that each write has
+abbrev pub IsFaultOfChange : State → State → Change → Error → Type 0
+IsFaultOfChange old new change e = (g : Registry) (k : Kept) → SpellsInside old g k → ChangeFits change g → IsInsertFault old new e
 
--- the same, where nothing is kept under the key yet
+-- so do several
+abbrev pub IsFaultOfChanges : State → State → List Change → Error → Type 0
+IsFaultOfChanges old new changes e = (g : Registry) (k : Kept) → SpellsInside old g k → ChangesFit changes g → IsInsertFault old new e
+
+-- so does a reply, where nothing is kept under its key yet
 abbrev pub IsFaultOfReply : State → State → Option Keep → Error → Type 0
 IsFaultOfReply old new keep e = (g : Registry) (k : Kept) → SpellsInside old g k → IsNewTo k keep → IsInsertFault old new e
 
@@ -59,6 +68,8 @@ IsFaultOfReply old new keep e = (g : Registry) (k : Kept) → SpellsInside old g
 abbrev pub CanStoreChange : Change → Type 0
 CanStoreChange (SetGlobal level) = CanBeStored meta (Text (codes "global") ∷ Text (level_text level) ∷ [])
 CanStoreChange (SetLevel subject level) = CanBeStored levels (Text subject ∷ Text (level_text level) ∷ [])
+CanStoreChange (AddText id text) = CanBeStored texts (text_row_cells text)
+CanStoreChange (AddRow row) = CanBeStored versions (version_key_cells row.0 ++ version_cells (version_row row.1))
 
 abbrev pub CanStoreReply : Option Keep → Type 0
 CanStoreReply None = ⊤

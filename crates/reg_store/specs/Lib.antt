@@ -4,3 +4,4 @@ pub mod Changes
 pub mod Failures
 pub mod Stores
 pub mod Testing
+pub mod Viewing

@@ -2,9 +2,9 @@
 
 ghost use Rattle.std.specs.Prelude.{◌≢◌, ◌+◌, ℕ, length, [], OnOk, IfErr, IfSome, IsSome, IsTrue};
 ghost use Rattle.sqlite.specs.State.{HasCleanDisk};
-ghost use Rattle.reg_core.specs.Views.{after_changes, after_change};
+ghost use Rattle.reg_core.specs.Views.{ChangeFits, ChangesFit};
 ghost use Rattle.reg_tables.specs.Frames.{state_in, StaysInside, KeepsInside};
-ghost use Rattle.reg_store.specs.Changes.{with_reply, IsNewTo, IsKeepable, Respells, SpellsInside, IsFaultOfChange, IsFaultOfReply, CanStoreChange, CanStoreReply, GoesOn};
+ghost use Rattle.reg_store.specs.Changes.{with_reply, IsNewTo, IsKeepable, Makes, MakesAll, SpellsInside, IsFaultOfChange, IsFaultOfChanges, IsFaultOfReply, CanStoreChange, CanStoreReply, GoesOn};
 ghost use Rattle.std.specs.List.{AllByRecursion};
 ghost use Rattle.reg_tables.specs.Rooms.{HasRooms};
 ghost use Rattle.reg_tables.specs.Reading.{IsWriteFault};
@@ -14,26 +14,34 @@ ghost use Rattle.reg_core.specs.Registry.{Registry};
 
 use crate::keep::Keep;
 use reg_core::Change;
-use reg_tables::{keep_reply as keep_row, set_global, set_level};
+use reg_tables::{keep_reply as keep_row, put_text, put_version, set_global, set_level};
 use sqlite::{Alter, Error, Transaction};
 
 /// Makes one change.
 fn make<S: Alter>(tx: &mut Transaction<'_, S>, change: &Change) -> Result<(), Error>
     ensures frame { StaysInside S.Store tx.old tx.new result }
     ensures made { HasCleanDisk (state_in S.Store tx.new)
-        → OnOk result (Respells (state_in S.Store tx.old) (state_in S.Store tx.new)
-        (after_change change.now) (λ k. k)) }
+        → OnOk result (Makes (state_in S.Store tx.old) (state_in S.Store tx.new) change.now) }
     ensures fault { HasCleanDisk (state_in S.Store tx.new)
-        → IfErr result (IsFaultOfChange (state_in S.Store tx.old) (state_in S.Store tx.new)) }
+        → IfErr result (IsFaultOfChange (state_in S.Store tx.old) (state_in S.Store tx.new) change.now) }
     ensures room { HasCleanDisk (state_in S.Store tx.new) → OnOk result ((g : Registry) (k : Kept)
-        → Spells (state_in S.Store tx.old).now g k → (n : ℕ) → HasRooms (state_in S.Store tx.old).now (n + 1) → HasRooms (state_in S.Store tx.new).now n) }
+        → Spells (state_in S.Store tx.old).now g k → ChangeFits change.now g
+        → (n : ℕ) → HasRooms (state_in S.Store tx.old).now (n + 1) → HasRooms (state_in S.Store tx.new).now n) }
     ensures fits { HasCleanDisk (state_in S.Store tx.new) → IfErr result (λ e. (g : Registry) (k : Kept)
-        → SpellsInside (state_in S.Store tx.old) g k → (n : ℕ) → (IsTrue (state_in S.Store tx.old).is_open → HasRooms (state_in S.Store tx.old).now (n + 1))
+        → SpellsInside (state_in S.Store tx.old) g k → ChangeFits change.now g → (n : ℕ) → (IsTrue (state_in S.Store tx.old).is_open → HasRooms (state_in S.Store tx.old).now (n + 1))
         → CanStoreChange change.now → IsWriteFault (state_in S.Store tx.old) (state_in S.Store tx.new) e) }
 {
     match change {
         Change::SetGlobal { level } => set_global(tx, level.text()),
         Change::SetLevel { subject, level } => set_level(tx, subject.as_str(), level.text()),
+        Change::AddText { id, text } => put_text(tx, *id, text.as_str()),
+        Change::AddRow { row } => put_version(
+            tx,
+            row.subject().as_str(),
+            row.version(),
+            row.id(),
+            row.deleted(),
+        ),
     }
 }
 
@@ -48,15 +56,14 @@ pub(crate) fn make_all<S: Alter>(
     ensures goes_on { HasCleanDisk (state_in S.Store tx.new)
         → OnOk result (GoesOn (state_in S.Store tx.old) (state_in S.Store tx.new)) }
     ensures made { HasCleanDisk (state_in S.Store tx.new)
-        → OnOk result (Respells (state_in S.Store tx.old) (state_in S.Store tx.new)
-        (after_changes changes.now) (λ k. k)) }
+        → OnOk result (MakesAll (state_in S.Store tx.old) (state_in S.Store tx.new) changes.now) }
     ensures fault { HasCleanDisk (state_in S.Store tx.new)
-        → IfErr result (IsFaultOfChange (state_in S.Store tx.old) (state_in S.Store tx.new)) }
+        → IfErr result (IsFaultOfChanges (state_in S.Store tx.old) (state_in S.Store tx.new) changes.now) }
     ensures room { HasCleanDisk (state_in S.Store tx.new) → OnOk result ((g : Registry) (k : Kept)
-        → Spells (state_in S.Store tx.old).now g k → (n : ℕ) → HasRooms (state_in S.Store tx.old).now (length changes.now + n)
+        → Spells (state_in S.Store tx.old).now g k → ChangesFit changes.now g → (n : ℕ) → HasRooms (state_in S.Store tx.old).now (length changes.now + n)
         → HasRooms (state_in S.Store tx.new).now n) }
     ensures fits { HasCleanDisk (state_in S.Store tx.new) → IfErr result (λ e. (g : Registry) (k : Kept)
-        → SpellsInside (state_in S.Store tx.old) g k → (n : ℕ)
+        → SpellsInside (state_in S.Store tx.old) g k → ChangesFit changes.now g → (n : ℕ)
         → (IsTrue (state_in S.Store tx.old).is_open → HasRooms (state_in S.Store tx.old).now (length changes.now + n))
         → AllByRecursion CanStoreChange changes.now → IsWriteFault (state_in S.Store tx.old) (state_in S.Store tx.new) e) }
 {

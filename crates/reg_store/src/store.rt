@@ -6,9 +6,13 @@ use sqlite::{Alter, Connection};
 use std::alloc::Global;
 
 mod applying;
+mod levels;
 mod making;
 mod opening;
 mod reading;
+mod rows;
+mod texts;
+mod viewing;
 
 /// A registry and its kept replies in a database. Contracts see what its connection shows
 /// (`state_of`), and whether the disk has failed (`has_failed`).

@@ -1,5 +1,5 @@
 -- How the statements that write texts and versions fail.
-use Rattle.std.proofs.Common.{arith, ◌≡◌, ◌/◌, not, length, ◌<◌, ◌^◌, inl, inr, ℕ, pos, List, [], ◌∷◌, lit≤, true, false, Bool, ◌&&◌, None, Some, Err, Option, refl, sym, ap, subst, ◌∙◌}
+use Rattle.std.proofs.Common.{arith, ◌≡◌, ◌⊎◌, ◌+◌, ◌++◌, ◌/◌, not, length, ◌<◌, ◌^◌, inl, inr, ℕ, pos, List, [], ◌∷◌, lit≤, true, false, Bool, ◌&&◌, None, Some, Err, Option, refl, sym, ap, subst, ◌∙◌}
 use Rattle.std.specs.Prelude.{IsSome}
 use Rattle.std.specs.FinMap.{get, int_cmp-IsAntisymmetric}
 use Rattle.std.specs.Ordering.{is_eq, int_cmp, nat_cmp}
@@ -19,6 +19,9 @@ use Rattle.sqlite_sql.specs.declared.ops.CompareOp.TheVariants.{Eq}
 use Rattle.sqlite.specs.State.{State, ExecutesInside}
 use Rattle.sqlite.specs.Listing.{understood}
 use Rattle.sqlite.specs.declared.error.Error.{Error}
+use Rattle.sqlite.specs.declared.error.Error.TheVariants.{SqliteFailure}
+use Rattle.sqlite.specs.declared.error.ErrorCode.TheVariants as code
+use Rattle.sqlite_rules.specs.Edit.{IsOversized}
 use Rattle.sqlite_rules.specs.Lists.{Has}
 use Rattle.sqlite_rules.proofs.ListLemmas.{some_has, some_from}
 use Rattle.sqlite_rules.proofs.TableLemmas.{put_all_has, put_all_keeps, without_all_has}
@@ -28,13 +31,14 @@ use Rattle.sqlite_sql.specs.Ops.{binary, is_true, is_false, from_truth}
 use Rattle.sqlite_value.proofs.OrderLemmas.{value_cmp-Text, value_cmp-Int}
 use Rattle.sqlite_value.specs.Keys.{plain, first_key}
 use Rattle.sqlite_tied.specs.Compute.{everything}
-use Rattle.reg_tables.specs.Layout.{texts, versions}
-use Rattle.reg_tables.specs.Contents.{text_cmp, version_cmp, version_key_cells, number_cells, flag_cell, VersionRow, Contents, version_form, Holds}
+use Rattle.reg_tables.specs.Layout.{layout, texts, versions}
+use Rattle.reg_tables.specs.Contents.{text_cmp, version_cmp, version_key_cells, number_cells, flag_cell, version_cells, text_row_cells, VersionRow, Contents, version_form, Holds}
 use Rattle.reg_tables.specs.Reading.{IsFault, IsPutFault, IsInsertFault}
+use Rattle.reg_tables.specs.Rooms.{HasRoom, CanBeStored}
 use Rattle.reg_tables.proofs.MapLemmas.{IsKeyOrder, same_key, tied_key}
 use Rattle.reg_tables.proofs.KeyedTables.{text_order, number_order, version_order, by_id_test, by_version_test, cast-Null, cast-Int, cast-flag}
 use Rattle.reg_tables.proofs.Statements.{text_terms, four_terms, put_text, put_text_is, put_version, put_version_is, by_version, drop_version, drop_version_is}
-use Rattle.reg_tables.proofs.TableFaults.{texts_at, versions_at, has_text, refers_if, new_key, delete_fails, insert_fails, as_insert_fault}
+use Rattle.reg_tables.proofs.TableFaults.{texts_at, versions_at, has_text, refers_if, new_key, delete_fails, insert_fails, IsRowTrouble, as_insert_fault, fault_alone}
 
 -- rows that agree on a text have one text
 text_agrees : (place : ℕ) (row r : Row) (t k : List ℕ) → column row place ≡ Text k → column r place ≡ Text t → agree (record { digits = 0 }) (place ∷ []) r (place ∷ []) row ≡ true → t ≡ k
@@ -89,17 +93,20 @@ module _ (old new : State) (contents : Contents) (h : Holds old.now contents) (e
       (λ found next applies. refers_if old.now.trees next (λ had row there.
       subst (λ l. has_text l row ≡ true) (sym (applies.tables.0 (λ e. omega (arith, e)))) (had row (without_all_has (ids_of found) (old.now.trees 2) row (subst (λ l. Has l row) applies.rows there))))) e
 
-  pub put_version_fails : (key : List ℕ × ℕ) (version : VersionRow) → get contents.versions key ≡ None → (text : List ℕ) → get contents.texts version.id ≡ Some text
-      → ExecutesInside 0 put_version (Text key.0 ∷ Int (pos key.1) ∷ Int (pos version.id) ∷ flag_cell version.deleted ∷ []) old new (Err e) → IsInsertFault old new e
+  -- why the row is not put in
+  abbrev put_version_row : (key : List ℕ × ℕ) (version : VersionRow) → Row
+  put_version_row key version = Int (next_rowid (old.now.trees versions.tree)) ∷ Text key.0 ∷ Int (pos key.1) ∷ Int (pos version.id) ∷ flag_cell version.deleted ∷ []
+
+  put_version_stops : (key : List ℕ × ℕ) (version : VersionRow) → get contents.versions key ≡ None → (text : List ℕ) → get contents.texts version.id ≡ Some text
+      → ExecutesInside 0 put_version (Text key.0 ∷ Int (pos key.1) ∷ Int (pos version.id) ∷ flag_cell version.deleted ∷ []) old new (Err e) → IsFault old new e ⊎ IsRowTrouble versions (old.now.trees versions.tree) (put_version_row key version) e
   unfolding understood everything
-  put_version_fails key version none text known ran =
+  put_version_stops key version none text known ran =
       let params : Row = Text key.0 ∷ Int (pos key.1) ∷ Int (pos version.id) ∷ flag_cell version.deleted ∷ [] in
       let row : Row = Int (next_rowid (old.now.trees versions.tree)) ∷ params in
       let its = h.texts.complete version.id text known in
       let put : Edit = edit_of old.now.trees versions [] Chosen 0 (value_rows (stamped versions params) 5 (length four_terms / 5) four_terms) in
       let news : put.news ≡ row ∷ [] = rw (cast-Null, cast-Int (pos key.1), cast-Int (pos version.id), cast-flag version.deleted) in
-      as_insert_fault old new versions (old.now.trees versions.tree) row e
-      (insert_fails 1 versions versions_at old new h.declared h.sound four_terms 5 params row put_version refl put_version_is (lit≤ tt, refl) refl news (record {
+      insert_fails 1 versions versions_at old new h.declared h.sound four_terms 5 params row put_version refl put_version_is (lit≤ tt, refl) refl news (record {
         keyed = refl;
         typed = refl;
         present = refl;
@@ -116,12 +123,23 @@ module _ (old new : State) (contents : Contents) (h : Holds old.now contents) (e
       subst (λ l. has_text l r ≡ true) (sym (applies.tables.0 (λ e. omega (arith, e)))) (elim (put_all_has put.news (old.now.trees 2) r (subst (λ l. Has l r) applies.rows there)) [
         | inl fresh ↦ text_of_version (old.now.trees 0) its.0 r version.id its.1 its.2.0 (ap (λ (x : Row). column x 3) (the_one put.news r row news fresh))
         | inr was ↦ had r was
-      ]))) e ran)
+      ]))) e ran
 
-  pub put_text_fails : (id : ℕ) (text : List ℕ) → id < 2 ^ 32 → get contents.texts id ≡ None → ((other : ℕ) → get contents.texts other ≡ Some text → ⊥)
-      → ExecutesInside 0 put_text (Int (pos id) ∷ Text text ∷ []) old new (Err e) → IsPutFault old new e
+  pub put_version_fails : (key : List ℕ × ℕ) (version : VersionRow) → get contents.versions key ≡ None → (text : List ℕ) → get contents.texts version.id ≡ Some text
+      → ExecutesInside 0 put_version (Text key.0 ∷ Int (pos key.1) ∷ Int (pos version.id) ∷ flag_cell version.deleted ∷ []) old new (Err e) → IsInsertFault old new e
+  put_version_fails key version none text known ran = as_insert_fault old new versions (old.now.trees versions.tree) (put_version_row key version) e (put_version_stops key version none text known ran)
+
+  pub put_version_faults : (key : List ℕ × ℕ) (version : VersionRow) → get contents.versions key ≡ None → (text : List ℕ) → get contents.texts version.id ≡ Some text
+      → ExecutesInside 0 put_version (Text key.0 ∷ Int (pos key.1) ∷ Int (pos version.id) ∷ flag_cell version.deleted ∷ []) old new (Err e)
+      → (n : ℕ) → HasRoom (old.now.trees versions.tree) (n + 1) → CanBeStored versions (version_key_cells key ++ version_cells version) → IsFault old new e
+  put_version_faults key version none text known ran n room stored =
+      fault_alone old new versions (old.now.trees versions.tree) (put_version_row key version) e n room refl (stored (next_rowid (old.now.trees versions.tree))) (put_version_stops key version none text known ran)
+
+  -- why the row is not put in: its rowid is the id, which is free
+  put_text_stops : (id : ℕ) (text : List ℕ) → id < 2 ^ 32 → get contents.texts id ≡ None → ((other : ℕ) → get contents.texts other ≡ Some text → ⊥)
+      → ExecutesInside 0 put_text (Int (pos id) ∷ Text text ∷ []) old new (Err e) → IsFault old new e ⊎ ((e ≡ SqliteFailure code.TooBig) × IsOversized layout texts (Int (pos id) ∷ text_row_cells text))
   unfolding understood everything
-  put_text_fails id text low none unheld ran =
+  put_text_stops id text low none unheld ran =
       let params : Row = Int (pos id) ∷ Text text ∷ [] in
       let row : Row = Int (pos id) ∷ Null ∷ Text text ∷ [] in
       let put : Edit = edit_of old.now.trees texts [] Chosen 0 (value_rows (stamped texts params) 3 (length text_terms / 3) text_terms) in
@@ -139,8 +157,8 @@ module _ (old new : State) (contents : Contents) (h : Holds old.now contents) (e
       }) (λ next applies. refers_if old.now.trees next (λ had r there.
       more_texts (old.now.trees 0) (next 0) (λ x was. subst (λ l. Has l x) (sym applies.rows) (put_all_keeps put.news (old.now.trees 0) x applies.fresh was)) r
       (had r (subst (λ l. Has l r) (applies.tables.1.0 (λ e. omega (arith, e))) there)))) e ran) [
-        | inl fault ↦ inl (inl fault)
-        | inr (inl large) ↦ inr large.0
+        | inl fault ↦ inl fault
+        | inr (inl large) ↦ inr large
         | inr (inr why) ↦ absurd (elim why.1 [
           | inl high ↦ both_ways _ high.1 (lt-ltb id (2 ^ 63) (omega arith))
           | inr taken ↦
@@ -154,3 +172,11 @@ module _ (old new : State) (contents : Contents) (h : Holds old.now contents) (e
               cc
         ])
       ]
+
+  pub put_text_fails : (id : ℕ) (text : List ℕ) → id < 2 ^ 32 → get contents.texts id ≡ None → ((other : ℕ) → get contents.texts other ≡ Some text → ⊥)
+      → ExecutesInside 0 put_text (Int (pos id) ∷ Text text ∷ []) old new (Err e) → IsPutFault old new e
+  put_text_fails id text low none unheld ran = elim (put_text_stops id text low none unheld ran) [ inl fault ↦ inl (inl fault) | inr large ↦ inr large.0 ]
+
+  pub put_text_faults : (id : ℕ) (text : List ℕ) → id < 2 ^ 32 → get contents.texts id ≡ None → ((other : ℕ) → get contents.texts other ≡ Some text → ⊥)
+      → ExecutesInside 0 put_text (Int (pos id) ∷ Text text ∷ []) old new (Err e) → CanBeStored texts (text_row_cells text) → IsFault old new e
+  put_text_faults id text low none unheld ran stored = elim (put_text_stops id text low none unheld ran) [ inl fault ↦ fault | inr large ↦ absurd (stored (pos id) large.1) ]

@@ -2,6 +2,7 @@
 use Rattle.std.proofs.Common.{arith, ◌≡◌, inl, inr, None, Option, ℕ, ◌+◌, ◌+ℤ◌, ◌^◌, ◌<◌, ◌≤◌, ◌<ℤ◌, ℤ, pos, List, [], ◌∷◌, fold, filter, not, Bool, true, false, refl, sym, ap, subst, ◌∙◌}
 use Rattle.std.specs.Prelude.{if◌then◌else◌}
 use Rattle.std.specs.Ordering.{is_eq, match_ordering}
+use Rattle.std.specs.declared.cmp.Ordering.{Ordering}
 use Rattle.std.specs.declared.cmp.Ordering.TheVariants.{Less}
 use Rattle.std.specs.Cmp.{int_cmp_is}
 use Rattle.std.proofs.lemmas.Int.{ints}
@@ -14,9 +15,9 @@ use Rattle.sqlite.specs.Edit.{next_rowid, id_in, without_all}
 use Rattle.sqlite_rules.specs.Lists.{Has}
 use Rattle.sqlite_value.proofs.OrderLemmas.{value_cmp-Int}
 use Rattle.sqlite.specs.Effect.{Database}
-use Rattle.reg_tables.specs.Layout.{levels, kept, meta}
+use Rattle.reg_tables.specs.Layout.{versions, levels, kept, meta}
 use Rattle.reg_tables.specs.TableMaps.{Form, ShowsMap}
-use Rattle.reg_tables.specs.Contents.{text_cmp, pair_form, kept_form, Holds}
+use Rattle.reg_tables.specs.Contents.{text_cmp, version_cmp, version_form, pair_form, kept_form, Holds}
 use Rattle.reg_tables.specs.Changes.{no_contents}
 use Rattle.reg_tables.specs.Rooms.{Ascends, HasRoom, HasRooms}
 
@@ -112,6 +113,14 @@ room_after rows count h row its =
 pub room_for_fewer : (rows : List Row) (more count : ℕ) → count ≤ more → HasRoom rows more → HasRoom rows count
 room_for_fewer rows more count low h = record { ascends = h.ascends; next = h.next; is_next = h.is_next; room = let room = h.room in omega (arith, low, room) }
 
+pub fewer_rooms : (db : Database) (count : ℕ) → HasRooms db (count + 1) → HasRooms db count
+fewer_rooms db count h = record {
+  versions = room_for_fewer (db.trees versions.tree) (count + 1) count (omega arith) h.versions;
+  levels = room_for_fewer (db.trees levels.tree) (count + 1) count (omega arith) h.levels;
+  kept = room_for_fewer (db.trees kept.tree) (count + 1) count (omega arith) h.kept;
+  meta = room_for_fewer (db.trees meta.tree) (count + 1) count (omega arith) h.meta;
+}
+
 pub room_without_all : (ids : List ℤ) (rows : List Row) (count : ℕ) → HasRoom rows count → HasRoom (without_all rows ids) count
 room_without_all [] rows count h = h
 room_without_all (id ∷ ids) rows count h = room_without_all ids (without_rowid id rows) count (room_without id rows count h)
@@ -123,14 +132,15 @@ no_rows : {K V : Type 0} (form : Form K V) (rows : List Row) (value_at : K → O
 no_rows form [] value_at none shows = refl
 no_rows form (row ∷ rows) value_at none shows = let it = shows.sound row (inl refl) in absurd (let clash = sym (none it.0) ∙ it.2 in cc)
 
-room_if_none : {V : Type 0} (form : Form (List ℕ) V) (rows : List Row) → ShowsMap form rows (get {R = text_cmp} empty) → (count : ℕ) → count < 2 ^ 63 → HasRoom rows count
-room_if_none form rows shows count low =
-    subst (λ rows. HasRoom rows count) (sym (no_rows form rows (get {R = text_cmp} empty) (get-empty text_cmp) shows)) (record { ascends = tt; next = 1; is_next = refl; room = omega (arith, low) })
+room_if_none : {K V : Type 0} (form : Form K V) (R : K → K → Ordering) (rows : List Row) → ShowsMap form rows (get {R = R} empty) → (count : ℕ) → count < 2 ^ 63 → HasRoom rows count
+room_if_none form R rows shows count low =
+    subst (λ rows. HasRoom rows count) (sym (no_rows form rows (get {R = R} empty) (get-empty R) shows)) (record { ascends = tt; next = 1; is_next = refl; room = omega (arith, low) })
 
 -- new tables have room
 pub rooms_if_new : (db : Database) → Holds db no_contents → (count : ℕ) → count < 2 ^ 63 → HasRooms db count
 rooms_if_new db holds count low = record {
-  levels = room_if_none pair_form (db.trees levels.tree) holds.levels count low;
-  kept = room_if_none kept_form (db.trees kept.tree) holds.kept count low;
-  meta = room_if_none pair_form (db.trees meta.tree) holds.meta count low;
+  versions = room_if_none version_form version_cmp (db.trees versions.tree) holds.versions count low;
+  levels = room_if_none pair_form text_cmp (db.trees levels.tree) holds.levels count low;
+  kept = room_if_none kept_form text_cmp (db.trees kept.tree) holds.kept count low;
+  meta = room_if_none pair_form text_cmp (db.trees meta.tree) holds.meta count low;
 }

@@ -86,8 +86,25 @@ module _ (old new : Database) (more count : ℕ) (low : count ≤ more) (rooms :
   same_room : (a b : List Row) → a ≡ b → HasRoom b more → HasRoom a count
   same_room a b is h = subst (λ r. HasRoom r count) (sym is) (room_for_fewer b more count low h)
 
+  texts_rooms : KeepsOthers texts old new → HasRooms new count
+  texts_rooms others = record {
+    versions = same_room _ _ (others.1.0 (λ e. omega (arith, e))) rooms.versions;
+    levels = same_room _ _ (others.1.1.0 (λ e. omega (arith, e))) rooms.levels;
+    kept = same_room _ _ (others.1.1.1.0 (λ e. omega (arith, e))) rooms.kept;
+    meta = same_room _ _ (others.1.1.1.1.0 (λ e. omega (arith, e))) rooms.meta;
+  }
+
+  versions_rooms : KeepsOthers versions old new → HasRoom (new.trees versions.tree) count → HasRooms new count
+  versions_rooms others own = record {
+    versions = own;
+    levels = same_room _ _ (others.1.1.0 (λ e. omega (arith, e))) rooms.levels;
+    kept = same_room _ _ (others.1.1.1.0 (λ e. omega (arith, e))) rooms.kept;
+    meta = same_room _ _ (others.1.1.1.1.0 (λ e. omega (arith, e))) rooms.meta;
+  }
+
   levels_rooms : KeepsOthers levels old new → HasRoom (new.trees levels.tree) count → HasRooms new count
   levels_rooms others own = record {
+    versions = same_room _ _ (others.1.0 (λ e. omega (arith, e))) rooms.versions;
     levels = own;
     kept = same_room _ _ (others.1.1.1.0 (λ e. omega (arith, e))) rooms.kept;
     meta = same_room _ _ (others.1.1.1.1.0 (λ e. omega (arith, e))) rooms.meta;
@@ -95,6 +112,7 @@ module _ (old new : Database) (more count : ℕ) (low : count ≤ more) (rooms :
 
   kept_rooms : KeepsOthers kept old new → HasRoom (new.trees kept.tree) count → HasRooms new count
   kept_rooms others own = record {
+    versions = same_room _ _ (others.1.0 (λ e. omega (arith, e))) rooms.versions;
     levels = same_room _ _ (others.1.1.0 (λ e. omega (arith, e))) rooms.levels;
     kept = own;
     meta = same_room _ _ (others.1.1.1.1.0 (λ e. omega (arith, e))) rooms.meta;
@@ -102,6 +120,7 @@ module _ (old new : Database) (more count : ℕ) (low : count ≤ more) (rooms :
 
   meta_rooms : KeepsOthers meta old new → HasRoom (new.trees meta.tree) count → HasRooms new count
   meta_rooms others own = record {
+    versions = same_room _ _ (others.1.0 (λ e. omega (arith, e))) rooms.versions;
     levels = same_room _ _ (others.1.1.0 (λ e. omega (arith, e))) rooms.levels;
     kept = same_room _ _ (others.1.1.1.0 (λ e. omega (arith, e))) rooms.kept;
     meta = own;
@@ -116,20 +135,23 @@ marked_entry row key version is =
     (rw (subject, number, cast-Int (pos key.1)) refl, rw (id, cast-Int (pos version.id), cast-Int (pos 1)) refl)
 
 module _ (old new : State) (count : ℕ) (contents : Contents) (h : Holds old.now contents) where
+  puts_text_turns : (id : ℕ) (text : List ℕ) → get contents.texts id ≡ None → Executes put_text (Int (pos id) ∷ Text text ∷ []) old new (Ok count) → TurnsTable text_form texts.tree old.now new.now (get (insert contents.texts id text))
+  puts_text_turns id text free ran = inserts text_form nat_cmp number_order distinct_numbers 0 texts refl old new h.declared contents.texts h.texts id put_text (Int (pos id) ∷ Text text ∷ []) count text_terms 3
+      (Int (pos id) ∷ Null ∷ Text text ∷ []) text refl put_text_is (rw (cast-Null, cast-Int (pos id))) (record { has_id = refl; has_key = refl; has_value = refl }) free ran
+
   pub puts_text : (id : ℕ) (text : List ℕ) → get contents.texts id ≡ None → Executes put_text (Int (pos id) ∷ Text text ∷ []) old new (Ok count) → Holds new.now (with_text id text contents)
-  puts_text id text free ran =
-      texts_turned old.now new.now contents h (insert contents.texts id text)
-      (inserts text_form nat_cmp number_order distinct_numbers 0 texts refl old new h.declared contents.texts h.texts id put_text (Int (pos id) ∷ Text text ∷ []) count text_terms 3
-      (Int (pos id) ∷ Null ∷ Text text ∷ []) text refl put_text_is (rw (cast-Null, cast-Int (pos id))) (record { has_id = refl; has_key = refl; has_value = refl }) free ran)
+  puts_text id text free ran = texts_turned old.now new.now contents h (insert contents.texts id text) (puts_text_turns id text free ran)
+
+  puts_version_turns : (key : List ℕ × ℕ) (version : VersionRow) → get contents.versions key ≡ None
+      → Executes put_version (Text key.0 ∷ Int (pos key.1) ∷ Int (pos version.id) ∷ flag_cell version.deleted ∷ []) old new (Ok count) → TurnsTable version_form versions.tree old.now new.now (get (insert contents.versions key version))
+  puts_version_turns key version free ran = inserts version_form version_cmp version_order distinct_versions 1 versions refl old new h.declared contents.versions h.versions key put_version
+      (Text key.0 ∷ Int (pos key.1) ∷ Int (pos version.id) ∷ flag_cell version.deleted ∷ []) count four_terms 5
+      (Int (next_rowid (old.now.trees versions.tree)) ∷ Text key.0 ∷ Int (pos key.1) ∷ Int (pos version.id) ∷ flag_cell version.deleted ∷ []) version refl put_version_is
+      (rw (cast-Null, cast-Int (pos key.1), cast-Int (pos version.id), cast-flag version.deleted)) (record { has_id = refl; has_key = refl; has_value = refl }) free ran
 
   pub puts_version : (key : List ℕ × ℕ) (version : VersionRow) → get contents.versions key ≡ None
       → Executes put_version (Text key.0 ∷ Int (pos key.1) ∷ Int (pos version.id) ∷ flag_cell version.deleted ∷ []) old new (Ok count) → Holds new.now (with_version key version contents)
-  puts_version key version free ran =
-      versions_turned old.now new.now contents h (insert contents.versions key version)
-      (inserts version_form version_cmp version_order distinct_versions 1 versions refl old new h.declared contents.versions h.versions key put_version
-      (Text key.0 ∷ Int (pos key.1) ∷ Int (pos version.id) ∷ flag_cell version.deleted ∷ []) count four_terms 5
-      (Int (next_rowid (old.now.trees versions.tree)) ∷ Text key.0 ∷ Int (pos key.1) ∷ Int (pos version.id) ∷ flag_cell version.deleted ∷ []) version refl put_version_is
-      (rw (cast-Null, cast-Int (pos key.1), cast-Int (pos version.id), cast-flag version.deleted)) (record { has_id = refl; has_key = refl; has_value = refl }) free ran)
+  puts_version key version free ran = versions_turned old.now new.now contents h (insert contents.versions key version) (puts_version_turns key version free ran)
 
   pub drops_version : (key : List ℕ × ℕ) → Executes drop_version (Text key.0 ∷ Int (pos key.1) ∷ []) old new (Ok count) → Holds new.now (without_version key contents)
   drops_version key ran =
@@ -175,6 +197,18 @@ module _ (old new : State) (count : ℕ) (contents : Contents) (h : Holds old.no
 
   pub drops_meta : (name : List ℕ) → Executes drop_meta (Text name ∷ []) old new (Ok count) → Holds new.now (without_meta name contents)
   drops_meta name ran = meta_turned old.now new.now contents h (remove contents.meta name) (drops_meta_turns name ran)
+
+  pub puts_text_rooms : (id : ℕ) (text : List ℕ) → get contents.texts id ≡ None → Executes put_text (Int (pos id) ∷ Text text ∷ []) old new (Ok count) → (n : ℕ) → HasRooms old.now n → HasRooms new.now n
+  puts_text_rooms id text free ran n rooms = texts_rooms old.now new.now n n (omega arith) rooms (puts_text_turns id text free ran).others
+
+  pub puts_version_rooms : (key : List ℕ × ℕ) (version : VersionRow) → get contents.versions key ≡ None
+      → Executes put_version (Text key.0 ∷ Int (pos key.1) ∷ Int (pos version.id) ∷ flag_cell version.deleted ∷ []) old new (Ok count) → (n : ℕ) → HasRooms old.now (n + 1) → HasRooms new.now n
+  puts_version_rooms key version free ran n rooms =
+      versions_rooms old.now new.now (n + 1) n (omega arith) rooms (puts_version_turns key version free ran).others
+      (inserts_room version_form version_cmp version_order distinct_versions 1 versions refl old new h.declared contents.versions h.versions key put_version
+      (Text key.0 ∷ Int (pos key.1) ∷ Int (pos version.id) ∷ flag_cell version.deleted ∷ []) count four_terms 5
+      (Int (next_rowid (old.now.trees versions.tree)) ∷ Text key.0 ∷ Int (pos key.1) ∷ Int (pos version.id) ∷ flag_cell version.deleted ∷ []) refl put_version_is
+      (rw (cast-Null, cast-Int (pos key.1), cast-Int (pos version.id), cast-flag version.deleted)) refl ran n rooms.versions)
 
   pub puts_level_rooms : (subject level : List ℕ) → get contents.levels subject ≡ None → Executes put_level (Text subject ∷ Text level ∷ []) old new (Ok count) → (n : ℕ) → HasRooms old.now (n + 1) → HasRooms new.now n
   puts_level_rooms subject level free ran n rooms =

@@ -5,7 +5,7 @@ use Rattle.std.specs.Ordering.{nat_cmp, on, then_cmp}
 use Rattle.std.specs.Cmp.Lexicographic.{slice_cmp}
 use Rattle.std.specs.FinMap.{FinMap, get}
 use Rattle.sqlite.specs.declared.types.Value.{Value}
-use Rattle.sqlite.specs.declared.types.Value.TheVariants.{Int, Text}
+use Rattle.sqlite.specs.declared.types.Value.TheVariants.{Null, Int, Text}
 use Rattle.sqlite.specs.Order.{Row, column}
 use Rattle.sqlite.specs.Schema.{Schema}
 use Rattle.sqlite.specs.Effect.{Database, IsDatabase}
@@ -62,6 +62,10 @@ version_cells version = Int (pos version.id) ∷ flag_cell version.deleted ∷ [
 
 abbrev pub kept_cells : KeptRow → Row
 kept_cells reply = Text reply.command ∷ Int (pos reply.status) ∷ Text reply.body ∷ []
+
+-- a row of `texts` after its rowid, which stands for the id
+abbrev pub text_row_cells : List ℕ → Row
+text_row_cells text = Null ∷ text_cells text
 
 -- The id is the rowid.
 abbrev pub text_form : Form ℕ (List ℕ)

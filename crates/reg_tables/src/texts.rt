@@ -5,9 +5,11 @@ ghost use Rattle.std.specs.FinMap.{get};
 ghost use Rattle.sqlite.specs.Held.{state};
 ghost use Rattle.reg_tables.specs.Frames.{state_in, StaysInside, StaysIdle};
 ghost use Rattle.sqlite.specs.State.{HasCleanDisk};
-ghost use Rattle.reg_tables.specs.Contents.{Contents, number_cells, Holds};
+ghost use Rattle.reg_tables.specs.Contents.{Contents, number_cells, text_row_cells, Holds};
+ghost use Rattle.reg_tables.specs.Layout.{texts};
+ghost use Rattle.reg_tables.specs.Rooms.{HasRooms, CanBeStored};
 ghost use Rattle.reg_tables.specs.Changes.{with_text};
-ghost use Rattle.reg_tables.specs.Reading.{CanBeRead, IsFault, IsPutFault};
+ghost use Rattle.reg_tables.specs.Reading.{CanBeRead, IsFault, IsWriteFault, IsPutFault};
 
 use crate::statement::{ask, run};
 use sqlite::{Alter, Connection, Error, ErrorCode, Row, Transaction, params};
@@ -23,6 +25,14 @@ pub fn put_text<S: Alter>(tx: &mut Transaction<'_, S>, id: u32, text: &str) -> R
         → get contents.texts id ≡ None
         → ((other : ℕ) → get contents.texts other ≢ Some text.now)
         → IsPutFault (state_in S.Store tx.old) (state_in S.Store tx.new) e) }
+    ensures room { HasCleanDisk (state_in S.Store tx.new) → OnOk result ((contents : Contents)
+        → Holds (state_in S.Store tx.old).now contents → get contents.texts id ≡ None
+        → (n : ℕ) → HasRooms (state_in S.Store tx.old).now n → HasRooms (state_in S.Store tx.new).now n) }
+    ensures fits { HasCleanDisk (state_in S.Store tx.new) → IfErr result (λ e. (contents : Contents)
+        → Holds (state_in S.Store tx.old).now contents → get contents.texts id ≡ None
+        → ((other : ℕ) → get contents.texts other ≢ Some text.now)
+        → CanBeStored texts (text_row_cells text.now)
+        → IsWriteFault (state_in S.Store tx.old) (state_in S.Store tx.new) e) }
 {
     run(
         tx,

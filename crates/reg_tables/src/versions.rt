@@ -1,11 +1,13 @@
 //! The versions of subjects: one is put, dropped, marked as deleted or found, by its subject and its number.
 
-ghost use Rattle.std.specs.Prelude.{◌≡◌, ◌<◌, ◌^◌, None, Some, IsSome, OnOk, IfOk, IfErr, MatchOption, false};
+ghost use Rattle.std.specs.Prelude.{◌≡◌, ◌+◌, ◌++◌, ◌<◌, ◌^◌, ℕ, None, Some, IsSome, OnOk, IfOk, IfErr, MatchOption, false};
 ghost use Rattle.std.specs.FinMap.{get};
 ghost use Rattle.sqlite.specs.Held.{state};
 ghost use Rattle.reg_tables.specs.Frames.{state_in, StaysInside, StaysIdle};
 ghost use Rattle.sqlite.specs.State.{HasCleanDisk};
-ghost use Rattle.reg_tables.specs.Contents.{VersionRow, Contents, version_cells, Holds};
+ghost use Rattle.reg_tables.specs.Contents.{VersionRow, Contents, version_key_cells, version_cells, Holds};
+ghost use Rattle.reg_tables.specs.Layout.{versions};
+ghost use Rattle.reg_tables.specs.Rooms.{HasRooms, CanBeStored};
 ghost use Rattle.reg_tables.specs.Changes.{Changes, with_version, without_version, with_deleted};
 ghost use Rattle.reg_tables.specs.Reading.{CanBeRead, IsFault, IsWriteFault, IsInsertFault};
 ghost use Rattle.reg_tables.specs.Entries.{version_row};
@@ -39,6 +41,16 @@ pub fn put_version<S: Alter>(
         (contents : Contents) → Holds (state_in S.Store tx.old).now contents
         → get contents.versions (subject.now, number) ≡ None → IsSome (get contents.texts id)
         → IsInsertFault (state_in S.Store tx.old) (state_in S.Store tx.new) e) }
+    ensures room { HasCleanDisk (state_in S.Store tx.new) → OnOk result ((contents : Contents)
+        → Holds (state_in S.Store tx.old).now contents
+        → get contents.versions (subject.now, number) ≡ None
+        → (n : ℕ) → HasRooms (state_in S.Store tx.old).now (n + 1) → HasRooms (state_in S.Store tx.new).now n) }
+    ensures fits { HasCleanDisk (state_in S.Store tx.new) → IfErr result (λ e. (contents : Contents)
+        → Holds (state_in S.Store tx.old).now contents
+        → get contents.versions (subject.now, number) ≡ None → IsSome (get contents.texts id)
+        → (n : ℕ) → HasRooms (state_in S.Store tx.old).now (n + 1)
+        → CanBeStored versions (version_key_cells (subject.now, number) ++ version_cells (record { id = id; deleted = deleted }))
+        → IsWriteFault (state_in S.Store tx.old) (state_in S.Store tx.new) e) }
 {
     run(
         tx,

@@ -3,6 +3,7 @@ mod deliveries;
 mod disks;
 mod faults;
 mod refusals;
+mod registering;
 mod services;
 mod stores;
 mod tables;

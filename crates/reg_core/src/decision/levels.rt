@@ -5,7 +5,7 @@ ghost use Rattle.reg_core.specs.LevelCommands.{level_object, level_shown, set_le
 ghost use Rattle.reg_core.specs.Levels.{level_of};
 ghost use Rattle.reg_core.specs.Registry.{Registry};
 ghost use Rattle.reg_core.specs.Replies.{answer};
-ghost use Rattle.reg_core.specs.Views.{after_changes};
+ghost use Rattle.reg_core.specs.Views.{ChangesFit, after_changes};
 
 use crate::code::Code;
 use crate::decision::{Change, Decision, View, unchanged};
@@ -27,6 +27,7 @@ pub fn set_level(
         → decision.reply ≡ (set_level g (option_copied subject.entry) (level_of text.now)).1) }
     ensures changes { IfOk result (λ decision. (g : Registry)
         → after_changes decision.changes.items g ≡ (set_level g (option_copied subject.entry) (level_of text.now)).0) }
+    ensures fit { IfOk result (λ decision. (g : Registry) → ChangesFit decision.changes.items g) }
     ensures refusal { IfOk result (λ decision. decision.reply.status ≢ 200 → decision.changes.items ≡ []) }
 {
     let Some(level) = Level::parse(text) else {

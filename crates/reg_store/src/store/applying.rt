@@ -5,7 +5,7 @@ ghost use Rattle.sqlite.specs.Tree.{Trees};
 ghost use Rattle.sqlite.specs.Held.{state};
 ghost use Rattle.sqlite.specs.State.{HasCleanDisk, Survives, KeepsCommit};
 ghost use Rattle.reg_core.specs.Registry.{Registry};
-ghost use Rattle.reg_core.specs.Views.{after_changes};
+ghost use Rattle.reg_core.specs.Views.{ChangesFit, after_changes};
 ghost use Rattle.reg_tables.specs.Reading.{OnlyReads};
 ghost use Rattle.reg_core.specs.KeptReplies.{Kept};
 ghost use Rattle.reg_store.specs.Spells.{Leaves, IsOpenOver, SpellsWhileOpen};
@@ -31,14 +31,15 @@ fn commit_all<S: Alter>(
     requires keepable { IfSome keep IsKeepable }
     ensures idle { conn.new.in_transaction ≡ false }
     ensures done { HasCleanDisk (state S.Store conn.new) → OnOk result ((g : Registry) (k : Kept)
-        → SpellsWhileOpen (state S.Store conn.old) g k → IsNewTo k keep.entry
+        → SpellsWhileOpen (state S.Store conn.old) g k → IsNewTo k keep.entry → ChangesFit changes.now g
         → IsOpenOver (state S.Store conn.new) (after_changes changes.now g) (with_reply keep.entry k)) }
     ensures fault { HasCleanDisk (state S.Store conn.new) → IfErr result (λ e.
         (g : Registry) (k : Kept) → SpellsWhileOpen (state S.Store conn.old) g k
-        → IsNewTo k keep.entry → IsTrue (is_fault (failure_of e))) }
+        → IsNewTo k keep.entry → ChangesFit changes.now g → IsTrue (is_fault (failure_of e))) }
     ensures fits { HasCleanDisk (state S.Store conn.new) → IfErr result (λ e.
         (g : Registry) (k : Kept) → SpellsWhileOpen (state S.Store conn.old) g k
-        → IsNewTo k keep.entry → HasPlace (state S.Store conn.old) changes.now keep.entry
+        → IsNewTo k keep.entry → ChangesFit changes.now g
+        → HasPlace (state S.Store conn.old) changes.now keep.entry
         → IsFaultBy (state S.Store conn.old) (state S.Store conn.new) (failure_of e)) }
     ensures was_open { HasCleanDisk (state S.Store conn.new)
         → OnOk result (IsTrue (state S.Store conn.old).is_open) }
@@ -46,7 +47,7 @@ fn commit_all<S: Alter>(
         → OnErr result (KeepsCommit (state S.Store conn.old) (state S.Store conn.new)) }
     ensures survives { Survives (state S.Store conn.old) (state S.Store conn.new) (λ db.
         (g : Registry) (k : Kept)
-        → SpellsWhileOpen (state S.Store conn.old) g k → IsNewTo k keep.entry
+        → SpellsWhileOpen (state S.Store conn.old) g k → IsNewTo k keep.entry → ChangesFit changes.now g
         → IsTrue (state S.Store conn.old).is_open ⊎ ActsOn changes.now keep.entry
         → Leaves db (after_changes changes.now g) (with_reply keep.entry k)) }
 {
@@ -58,40 +59,42 @@ fn commit_all<S: Alter>(
 
 impl<S: Alter> Store<S> {
     /// Makes the changes in order, and keeps the reply if there is one, in one transaction: all or
-    /// nothing. The reply's status is 200, 404, 409 or 422, and nothing is kept under its key yet.
+    /// nothing. The registry can have each change at its turn. The reply's status is 200, 404, 409
+    /// or 422, and nothing is kept under its key yet.
     ///
     /// # Errors
     ///
-    /// `Memory` and `Disk`. `NotARegistry` comes only where the tables no longer are those of one, or
-    /// something is kept under the key. Nothing is changed then; but after `Disk` a crash may leave
-    /// the database with all of the changes and the reply.
+    /// `Memory` and `Disk`. `NotARegistry` comes only where the tables no longer are those of one,
+    /// the registry can't have a change, or something is kept under the key. Nothing is changed then;
+    /// but after `Disk` a crash may leave the database with all of the changes and the reply.
     pub fn apply(&mut self, changes: &[Change], keep: Option<Keep<'_>>) -> Result<(), StoreError>
         requires { IfSome keep IsKeepable }
         ensures frame { KeepsStore self.old self.new result }
         ensures done { HasCleanDisk (state_of self.new) → OnOk result ((g : Registry) (k : Kept)
-            → SpellsWhileOpen (state_of self.old) g k → IsNewTo k keep.entry
+            → SpellsWhileOpen (state_of self.old) g k → IsNewTo k keep.entry → ChangesFit changes.now g
             → IsOpenOver (state_of self.new) (after_changes changes.now g) (with_reply keep.entry k)) }
         ensures fault { HasCleanDisk (state_of self.new) → IfErr result (λ e.
             (g : Registry) (k : Kept) → SpellsWhileOpen (state_of self.old) g k
-            → IsNewTo k keep.entry → IsTrue (is_fault e)) }
+            → IsNewTo k keep.entry → ChangesFit changes.now g → IsTrue (is_fault e)) }
 
         // Where there is room for its rows, it answers `Disk` only for a fault of the disk.
         ensures fits { HasCleanDisk (state_of self.new) → has_failed self.old ≡ false
             → IfErr result (λ e. (g : Registry) (k : Kept) → SpellsWhileOpen (state_of self.old) g k
-            → IsNewTo k keep.entry → HasPlace (state_of self.old) changes.now keep.entry
+            → IsNewTo k keep.entry → ChangesFit changes.now g
+            → HasPlace (state_of self.old) changes.now keep.entry
             → IsFaultBy (state_of self.old) (state_of self.new) e) }
         ensures nothing { HasCleanDisk (state_of self.new) → OnErr result ((g : Registry) (k : Kept)
             → SpellsWhileOpen (state_of self.old) g k → SpellsWhileOpen (state_of self.new) g k) }
 
         // A crash leaves the database before the call, or the one after it.
         ensures crash { HasCleanDisk (state_of self.new) → (g : Registry) (k : Kept)
-            → IsOpenOver (state_of self.old) g k → IsNewTo k keep.entry
+            → IsOpenOver (state_of self.old) g k → IsNewTo k keep.entry → ChangesFit changes.now g
             → (db : Trees) → (state_of self.new).may_leave db
             → Leaves db g k ⊎ Leaves db (after_changes changes.now g) (with_reply keep.entry k) }
 
         // So it does where a fault may have shut the connection, if there was something to do.
         ensures crash_shut { HasCleanDisk (state_of self.new) → (g : Registry) (k : Kept)
-            → SpellsWhileOpen (state_of self.old) g k → IsNewTo k keep.entry
+            → SpellsWhileOpen (state_of self.old) g k → IsNewTo k keep.entry → ChangesFit changes.now g
             → ActsOn changes.now keep.entry → (db : Trees) → (state_of self.new).may_leave db
             → (state_of self.old).may_leave db
             ⊎ Leaves db (after_changes changes.now g) (with_reply keep.entry k) }

@@ -1,7 +1,7 @@
 //! Stores in memory and over a disk.
 use super::deliveries::{Ask, Row, answers_each, subject};
 use super::disks::{close, empty_disk, over};
-use reg_core::{Change, Command, Key, Level, Reply, View};
+use reg_core::{Change, Command, Key, Level, Reply};
 use reg_service::Service;
 use reg_store::{Keep, Store};
 use reg_tables::kept_lines;
@@ -57,8 +57,9 @@ fn shows<S: Alter + Drop>(
         subject: subject(alloc)?,
         default_to_global: false,
     };
-    let view = store.view(&command)?;
-    assert_eq!(rt; view, View { own, global });
+    let view = store.view(&command, None)?;
+    assert_eq!(rt; view.own, own);
+    assert_eq!(rt; view.global, global);
     Ok(())
 }
 

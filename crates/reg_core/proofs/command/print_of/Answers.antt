@@ -25,6 +25,11 @@ returns-in-SetLevel-clause-one c =
     let text : IfOk c.set_level_text.result (λ text. string_bytes text ≡ command_text c.args.command.now) = search rules in
     IfOk-weaker c.set_level_text.result _ _ (λ text h other v w e. command_text-injective other c.args.command.now w v (e ∙ h)) text
 
+pub returns-in-Register-clause-one : goal.returns-in-Register-clause-one
+returns-in-Register-clause-one c =
+    let text : IfOk c.register_text.result (λ text. string_bytes text ≡ command_text c.args.command.now) = search rules in
+    IfOk-weaker c.register_text.result _ _ (λ text h other v w e. command_text-injective other c.args.command.now w v (e ∙ h)) text
+
 pub returns-in-Global-clause-text : goal.returns-in-Global-clause-text
 unfolding command_text
 returns-in-Global-clause-text c = search rules

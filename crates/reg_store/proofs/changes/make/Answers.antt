@@ -2,6 +2,9 @@ use Rattle.std.proofs.Common.{inl, inr}
 use Rattle.sqlite.specs.Held.{state}
 use Rattle.reg_tables.proofs.Transactions.{on_ok}
 use Rattle.reg_store.proofs.Spelling.{respells_global, respells_level}
+use Rattle.reg_core.specs.declared.decision.Change.TheVariants.{AddText, AddRow}
+use Rattle.reg_store.proofs.Additions.{makes_text, makes_row, id_is_free, text_is_new, number_is_free, id_has_text}
+use Rattle.reg_tables.proofs.Rooms.{fewer_rooms}
 use Rattle.reg_store.proofs.Writing.{if_err_both, fault_of_change}
 use Rattle.reg_store.proofs.changes.make.Goals as goal
 
@@ -20,26 +23,88 @@ returns-in-SetLevel-clause-made g c clean =
 
 pub returns-in-SetGlobal-clause-fault : goal.returns-in-SetGlobal-clause-fault
 returns-in-SetGlobal-clause-fault g c clean =
-    if_err_both c.set_global.result (λ e fails shut. fault_of_change (state g.S.Store c.args.tx.now.conn.now) (state g.S.Store c.set_global.new.tx.conn.now) e shut fails) (c.set_global.ensures.fault clean) (c.set_global.ensures.frame.shut clean)
+    if_err_both c.set_global.result (λ e fails shut. fault_of_change (state g.S.Store c.args.tx.now.conn.now) (state g.S.Store c.set_global.new.tx.conn.now) e shut c.args.change.now (λ registry k spells fit. fails spells.contents spells.holds))
+    (c.set_global.ensures.fault clean) (c.set_global.ensures.frame.shut clean)
 
 pub returns-in-SetLevel-clause-fault : goal.returns-in-SetLevel-clause-fault
 returns-in-SetLevel-clause-fault g c clean =
-    if_err_both c.set_level.result (λ e fails shut. fault_of_change (state g.S.Store c.args.tx.now.conn.now) (state g.S.Store c.set_level.new.tx.conn.now) e shut fails) (c.set_level.ensures.fault clean) (c.set_level.ensures.frame.shut clean)
+    if_err_both c.set_level.result (λ e fails shut. fault_of_change (state g.S.Store c.args.tx.now.conn.now) (state g.S.Store c.set_level.new.tx.conn.now) e shut c.args.change.now (λ registry k spells fit. fails spells.contents spells.holds))
+    (c.set_level.ensures.fault clean) (c.set_level.ensures.frame.shut clean)
 
 pub returns-in-SetGlobal-clause-room : goal.returns-in-SetGlobal-clause-room
-returns-in-SetGlobal-clause-room g c clean = on_ok c.set_global.result (λ room registry k spells n rooms. room spells.contents spells.holds n rooms) (c.set_global.ensures.room clean)
+returns-in-SetGlobal-clause-room g c clean = on_ok c.set_global.result (λ room registry k spells fit n rooms. room spells.contents spells.holds n rooms) (c.set_global.ensures.room clean)
 
 pub returns-in-SetGlobal-clause-fits : goal.returns-in-SetGlobal-clause-fits
 returns-in-SetGlobal-clause-fits g c clean =
     rw c.in-SetGlobal.is
-    (if_err_both c.set_global.result (λ e fits shut registry k spells n rooms stored. elim shut [ inl is_open ↦ let it = spells is_open in fits it.contents it.holds n (rooms is_open) stored | inr fault ↦ fault ])
+    (if_err_both c.set_global.result (λ e fits shut registry k spells fit n rooms stored. elim shut [ inl is_open ↦ let it = spells is_open in fits it.contents it.holds n (rooms is_open) stored | inr fault ↦ fault ])
     (rw c.text.ensures.value at (c.set_global.ensures.fits clean)) (c.set_global.ensures.frame.shut clean))
 
 pub returns-in-SetLevel-clause-room : goal.returns-in-SetLevel-clause-room
-returns-in-SetLevel-clause-room g c clean = on_ok c.set_level.result (λ room registry k spells n rooms. room spells.contents spells.holds n rooms) (c.set_level.ensures.room clean)
+returns-in-SetLevel-clause-room g c clean = on_ok c.set_level.result (λ room registry k spells fit n rooms. room spells.contents spells.holds n rooms) (c.set_level.ensures.room clean)
 
 pub returns-in-SetLevel-clause-fits : goal.returns-in-SetLevel-clause-fits
 returns-in-SetLevel-clause-fits g c clean =
     rw c.in-SetLevel.is
-    (if_err_both c.set_level.result (λ e fits shut registry k spells n rooms stored. elim shut [ inl is_open ↦ let it = spells is_open in fits it.contents it.holds n (rooms is_open) stored | inr fault ↦ fault ])
+    (if_err_both c.set_level.result (λ e fits shut registry k spells fit n rooms stored. elim shut [ inl is_open ↦ let it = spells is_open in fits it.contents it.holds n (rooms is_open) stored | inr fault ↦ fault ])
     (rw (c.as_str.ensures.text, c.text-in-SetLevel.ensures.value) at (c.set_level.ensures.fits clean)) (c.set_level.ensures.frame.shut clean))
+
+pub returns-in-AddText-clause-made : goal.returns-in-AddText-clause-made
+returns-in-AddText-clause-made g c clean =
+    rw c.in-AddText.is
+    (on_ok c.put_text.result
+    (makes_text (state g.S.Store c.args.tx.now.conn.now) (state g.S.Store c.put_text.new.tx.conn.now) c.in-AddText.id c.in-AddText.text (rw c.as_str-in-AddText.ensures at c.as_str-in-AddText.utf8))
+    (rw c.as_str-in-AddText.ensures at (c.put_text.ensures.put clean)))
+
+pub returns-in-AddText-clause-fault : goal.returns-in-AddText-clause-fault
+returns-in-AddText-clause-fault g c clean =
+    rw c.in-AddText.is
+    (if_err_both c.put_text.result (λ e fails shut. fault_of_change (state g.S.Store c.args.tx.now.conn.now) (state g.S.Store c.put_text.new.tx.conn.now) e shut (AddText c.in-AddText.id c.in-AddText.text) (λ registry k it fit.
+    inl (fails it.contents it.holds (id_is_free it.contents registry k it.spelled c.in-AddText.id c.in-AddText.text fit) (text_is_new it.contents registry k it.spelled c.in-AddText.id c.in-AddText.text fit))))
+    (rw c.as_str-in-AddText.ensures at (c.put_text.ensures.fault clean)) (c.put_text.ensures.frame.shut clean))
+
+pub returns-in-AddText-clause-room : goal.returns-in-AddText-clause-room
+returns-in-AddText-clause-room g c clean =
+    rw c.in-AddText.is
+    (on_ok c.put_text.result (λ room registry k it fit n rooms.
+    room it.contents it.holds (id_is_free it.contents registry k it.spelled c.in-AddText.id c.in-AddText.text fit) n (fewer_rooms (state g.S.Store c.args.tx.now.conn.now).now n rooms)) (c.put_text.ensures.room clean))
+
+pub returns-in-AddText-clause-fits : goal.returns-in-AddText-clause-fits
+returns-in-AddText-clause-fits g c clean =
+    rw c.in-AddText.is
+    (if_err_both c.put_text.result (λ e fits shut registry k spells fit n rooms stored. elim shut [
+      | inl is_open ↦ let it = spells is_open in
+          fits it.contents it.holds (id_is_free it.contents registry k it.spelled c.in-AddText.id c.in-AddText.text fit) (text_is_new it.contents registry k it.spelled c.in-AddText.id c.in-AddText.text fit) stored
+      | inr fault ↦ fault
+    ])
+    (rw c.as_str-in-AddText.ensures at (c.put_text.ensures.fits clean)) (c.put_text.ensures.frame.shut clean))
+
+pub returns-in-AddRow-clause-made : goal.returns-in-AddRow-clause-made
+returns-in-AddRow-clause-made g c clean =
+    rw c.in-AddRow.is
+    (on_ok c.put_version.result
+    (makes_row (state g.S.Store c.args.tx.now.conn.now) (state g.S.Store c.put_version.new.tx.conn.now) c.in-AddRow.row (rw (c.as_str-in-AddRow.ensures.text, c.subject.ensures) at c.as_str-in-AddRow.ensures.subject))
+    (rw (c.as_str-in-AddRow.ensures.text, c.subject.ensures, c.version.ensures, c.id.ensures, c.deleted.ensures) at (c.put_version.ensures.put clean)))
+
+pub returns-in-AddRow-clause-fault : goal.returns-in-AddRow-clause-fault
+returns-in-AddRow-clause-fault g c clean =
+    rw c.in-AddRow.is
+    (if_err_both c.put_version.result (λ e fails shut. fault_of_change (state g.S.Store c.args.tx.now.conn.now) (state g.S.Store c.put_version.new.tx.conn.now) e shut (AddRow c.in-AddRow.row) (λ registry k it fit.
+    fails it.contents it.holds (number_is_free it.contents registry k it.spelled c.in-AddRow.row fit) (id_has_text it.contents registry k it.spelled c.in-AddRow.row fit)))
+    (rw (c.as_str-in-AddRow.ensures.text, c.subject.ensures, c.version.ensures, c.id.ensures) at (c.put_version.ensures.fault clean)) (c.put_version.ensures.frame.shut clean))
+
+pub returns-in-AddRow-clause-room : goal.returns-in-AddRow-clause-room
+returns-in-AddRow-clause-room g c clean =
+    rw c.in-AddRow.is
+    (on_ok c.put_version.result (λ room registry k it fit n rooms. room it.contents it.holds (number_is_free it.contents registry k it.spelled c.in-AddRow.row fit) n rooms)
+    (rw (c.as_str-in-AddRow.ensures.text, c.subject.ensures, c.version.ensures) at (c.put_version.ensures.room clean)))
+
+pub returns-in-AddRow-clause-fits : goal.returns-in-AddRow-clause-fits
+returns-in-AddRow-clause-fits g c clean =
+    rw c.in-AddRow.is
+    (if_err_both c.put_version.result (λ e fits shut registry k spells fit n rooms stored. elim shut [
+      | inl is_open ↦ let it = spells is_open in
+          fits it.contents it.holds (number_is_free it.contents registry k it.spelled c.in-AddRow.row fit) (id_has_text it.contents registry k it.spelled c.in-AddRow.row fit) n (rooms is_open) stored
+      | inr fault ↦ fault
+    ])
+    (rw (c.as_str-in-AddRow.ensures.text, c.subject.ensures, c.version.ensures, c.id.ensures, c.deleted.ensures) at (c.put_version.ensures.fits clean)) (c.put_version.ensures.frame.shut clean))

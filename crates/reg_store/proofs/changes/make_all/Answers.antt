@@ -8,12 +8,12 @@ use Rattle.std.proofs.lemmas.List.{take_all}
 use Rattle.std.proofs.lemmas.Bool.{both_ways}
 use Rattle.sqlite.specs.Held.{state}
 use Rattle.sqlite.specs.State.{HasCleanDisk}
-use Rattle.reg_core.specs.Views.{after_changes, after_change}
+use Rattle.reg_core.specs.Views.{ChangesFit, after_changes, after_change}
 use Rattle.reg_store.specs.Spells.{Spells}
 use Rattle.reg_tables.proofs.Transactions.{keeps_then, survives_both}
 use Rattle.reg_tables.proofs.WriteFaults.{erred_with}
-use Rattle.reg_store.specs.Changes.{SpellsInside, IsFaultOfChange, CanStoreChange}
-use Rattle.reg_store.proofs.Spelling.{after_changes-more}
+use Rattle.reg_store.specs.Changes.{SpellsInside, IsFaultOfChanges, CanStoreChange}
+use Rattle.reg_store.proofs.Spelling.{after_changes-more, fits_at}
 use Rattle.reg_store.proofs.Writing.{fault_later, write_later, all_got, nonempty}
 use Rattle.reg_store.proofs.changes.make_all.Goals as goal
 
@@ -30,22 +30,23 @@ loop-change-preserved g c =
     let early = λ (clean : HasCleanDisk new). (let e : HasCleanDisk mid = omega (arith, it.frame.keeps.survives.clean) in e) in
     record {
       same = it.frame.keeps.same_reference ∙ before.same;
-      made = λ clean registry k s.
+      made = λ clean registry k s fits.
           let before_this = after_changes (take i changes) registry in
-          let step = it.made clean before_this k (before.made (early clean) registry k s) in
+          let step = it.made clean before_this k (before.made (early clean) registry k s fits) (fits_at changes i item registry c.loop-change-test.true c.change-item.is fits) in
           let more = ap (λ d. after_change d before_this) c.change-item.is ∙ sym (after_changes-more changes i item registry (omega arith)) in
           subst (λ x. Spells new.now x k) more step;
       was_open = λ clean _. (before.commit_stays (early clean)).was_open (it.frame.was_open clean);
       goes_on = λ clean ended. absurd (both_ways _ ended (it.frame.inside clean));
       commit_stays = λ clean. keeps_then old mid new (before.commit_stays (early clean)) (it.frame.keeps.commit_stays clean);
       survives = survives_both old mid new before.survives it.frame.keeps.survives;
-      room = λ clean registry k s n rooms.
-          it.room clean (after_changes (take i changes) registry) k (before.made (early clean) registry k s) n (before.room (early clean) registry k s (n + 1) (subst (HasRooms old.now) (let e : i + 1 + n ≡ i + (n + 1) = omega arith in e) rooms));
+      room = λ clean registry k s fits n rooms.
+          it.room clean (after_changes (take i changes) registry) k (before.made (early clean) registry k s fits) (fits_at changes i item registry c.loop-change-test.true c.change-item.is fits) n
+          (before.room (early clean) registry k s fits (n + 1) (subst (HasRooms old.now) (let e : i + 1 + n ≡ i + (n + 1) = omega arith in e) rooms));
     }
 
 pub returns-clause-made : goal.returns-clause-made
-returns-clause-made g c clean registry k s =
-    subst (λ l. Spells (state g.S.Store c.loop-change.tx.conn.now).now (after_changes l registry) k) (take_all c.loop-change.change-index c.args.changes.now (omega arith)) (c.loop-change.invariant.made clean registry k s)
+returns-clause-made g c clean registry k s fits =
+    subst (λ l. Spells (state g.S.Store c.loop-change.tx.conn.now).now (after_changes l registry) k) (take_all c.loop-change.change-index c.args.changes.now (omega arith)) (c.loop-change.invariant.made clean registry k s fits)
 
 pub returns-in_err-make-clause-fault : goal.returns-in_err-make-clause-fault
 returns-in_err-make-clause-fault g c clean =
@@ -54,8 +55,11 @@ returns-in_err-make-clause-fault g c clean =
     let before = c.loop-change.invariant in
     let early : HasCleanDisk mid = omega (arith, c.in_err-make.ensures.frame.keeps.survives.clean) in
     let e = c.in_err-make.field-0.0 in
-    erred_with c.from_residual.result e (IsFaultOfChange old (state g.S.Store c.make.new.tx.conn.now)) c.from_residual.ensures.1 (λ registry k spells. fault_later old mid (state g.S.Store c.make.new.tx.conn.now) before.survives early c.make.ensures.frame.keeps.survives.counts (before.goes_on early) e
-    (c.in_err-make.ensures.fault clean (after_changes (take c.loop-change.change-index c.args.changes.now) registry) k (λ is_open. before.made early registry k (spells ((before.commit_stays early).was_open is_open)))))
+    let changes = c.args.changes.now in
+    let i = c.loop-change.change-index in
+    erred_with c.from_residual.result e (IsFaultOfChanges old (state g.S.Store c.make.new.tx.conn.now) changes) c.from_residual.ensures.1 (λ registry k spells fits. fault_later old mid (state g.S.Store c.make.new.tx.conn.now) before.survives early c.make.ensures.frame.keeps.survives.counts (before.goes_on early) e
+    (c.in_err-make.ensures.fault clean (after_changes (take i changes) registry) k (λ is_open. before.made early registry k (spells ((before.commit_stays early).was_open is_open)) fits)
+    (fits_at changes i c.change-item.result registry c.loop-change-test.true c.change-item.is fits)))
 
 pub returns-clause-was_open : goal.returns-clause-was_open
 returns-clause-was_open g c clean some =
@@ -63,10 +67,10 @@ returns-clause-was_open g c clean some =
     c.loop-change.invariant.was_open clean (omega arith)
 
 pub returns-clause-room : goal.returns-clause-room
-returns-clause-room g c clean registry k s n rooms =
+returns-clause-room g c clean registry k s fits n rooms =
     let old = state g.S.Store c.args.tx.now.conn.now in
     let all : c.loop-change.change-index ≡ length c.args.changes.now = omega arith in
-    c.loop-change.invariant.room clean registry k s n (subst (λ (m : ℕ). HasRooms old.now (m + n)) (sym all) rooms)
+    c.loop-change.invariant.room clean registry k s fits n (subst (λ (m : ℕ). HasRooms old.now (m + n)) (sym all) rooms)
 
 pub returns-in_err-make-clause-fits : goal.returns-in_err-make-clause-fits
 returns-in_err-make-clause-fits g c clean =
@@ -79,11 +83,12 @@ returns-in_err-make-clause-fits g c clean =
     let changes = c.args.changes.now in
     let i = c.loop-change.change-index in
     erred_with c.from_residual.result e
-    (λ e. (registry : Registry) (k : Kept) → SpellsInside old registry k → (n : ℕ) → (IsTrue old.is_open → HasRooms old.now (length changes + n)) → AllByRecursion CanStoreChange changes → IsWriteFault old last e) c.from_residual.ensures.1
-    (λ registry k spells n rooms stored.
+    (λ e. (registry : Registry) (k : Kept) → SpellsInside old registry k → ChangesFit changes registry → (n : ℕ) → (IsTrue old.is_open → HasRooms old.now (length changes + n)) → AllByRecursion CanStoreChange changes → IsWriteFault old last e) c.from_residual.ensures.1
+    (λ registry k spells fits n rooms stored.
     let more = length changes - (i + 1) + n in
     let enough : length changes + n ≡ i + (more + 1) = omega arith in
     write_later old mid last before.survives early c.make.ensures.frame.keeps.survives.counts (before.goes_on early) e
-    (c.in_err-make.ensures.fits clean (after_changes (take i changes) registry) k (λ is_open. before.made early registry k (spells ((before.commit_stays early).was_open is_open))) more
-    (λ is_open. let was = (before.commit_stays early).was_open is_open in before.room early registry k (spells was) (more + 1) (subst (HasRooms old.now) enough (rooms was)))
+    (c.in_err-make.ensures.fits clean (after_changes (take i changes) registry) k (λ is_open. before.made early registry k (spells ((before.commit_stays early).was_open is_open)) fits)
+    (fits_at changes i c.change-item.result registry c.loop-change-test.true c.change-item.is fits) more
+    (λ is_open. let was = (before.commit_stays early).was_open is_open in before.room early registry k (spells was) fits (more + 1) (subst (HasRooms old.now) enough (rooms was)))
     (all_got CanStoreChange changes i c.change-item.result c.change-item.result c.loop-change-test.true c.change-item.is stored)))

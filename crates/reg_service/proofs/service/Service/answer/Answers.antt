@@ -1,5 +1,6 @@
 use Rattle.reg_service.specs.Services.{state_in}
 use Rattle.reg_service.proofs.OverTables.{refused_over, fault_over}
+use Rattle.reg_service.proofs.AdmissionLemmas.{all_admitted}
 use Rattle.reg_service.proofs.CrashLemmas.{leaves_open}
 use Rattle.reg_service.proofs.service.Service.answer.Goals as goal
 
@@ -17,3 +18,9 @@ returns-in-Ok-clause-settled g c registry k over db it = leaves_open (state_in c
 
 pub returns-in-Err-clause-settled : goal.returns-in-Err-clause-settled
 returns-in-Err-clause-settled g c registry k over db it = leaves_open (state_in c.try_answer.new.self) registry k db (g.met.S.Store.settled c.try_answer.new.self.store.conn.store db) over it
+
+pub returns-in-Ok-clause-admitted : goal.returns-in-Ok-clause-admitted
+returns-in-Ok-clause-admitted g c clean registry k over = all_admitted registry k over.spells.spelled.registry _
+
+pub returns-in-Err-clause-admitted : goal.returns-in-Err-clause-admitted
+returns-in-Err-clause-admitted g c clean registry k over = all_admitted registry k over.spells.spelled.registry _

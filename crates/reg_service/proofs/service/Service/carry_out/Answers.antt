@@ -2,7 +2,7 @@ use Rattle.std.proofs.Common.{inl, inr, sym, ap, subst, ◌∙◌, rules}
 use Rattle.std.specs.Prelude.{OnOk}
 use Rattle.reg_core.specs.Machine.{step}
 use Rattle.reg_core.specs.Registry.{Registry}
-use Rattle.reg_core.specs.Views.{after_changes}
+use Rattle.reg_core.specs.Views.{ChangesFit, after_changes}
 use Rattle.reg_store.specs.Spells.{Leaves}
 use Rattle.reg_service.specs.Services.{state_in}
 use Rattle.reg_service.proofs.StoreCalls.{whatever_fails, no_changes, some_changes, spells_changed}
@@ -23,7 +23,8 @@ returns-clause-done g c =
       | then-not-is_empty+in_ok-apply w ↦ rw w.self-is (λ clean registry k over.
           let mid = c.in_ok-changes.ensures.same (w.in_ok-apply.ensures.frame.clean clean) registry k over in
           let decided = c.in_ok-changes.ensures.decided (w.in_ok-apply.ensures.frame.clean clean) registry k over in
-          let made = rw w.deref.ensures.value at (w.in_ok-apply.ensures.done clean registry k mid tt) in
+          let fit = subst (λ l. ChangesFit l registry) (sym w.deref.ensures.value) decided.2 in
+          let made = rw w.deref.ensures.value at (w.in_ok-apply.ensures.done clean registry k mid tt fit) in
           (decided.0, λ _. rw (← decided.1) made))
       | else-not-is_empty w ↦ rw w.self-is (λ clean registry k over.
           let mid = c.in_ok-changes.ensures.same clean registry k over in
@@ -40,7 +41,7 @@ returns-in_err-apply-clause-crash g c clean registry k over db it =
     let some = some_changes c.in_ok-changes.field-0.changes (sym c.is_empty.ensures ∙ c.if-not-is_empty.true) in
     let none : OnOk c.from_residual-in_err-apply.result ⊥ = search rules in
     leaves_failed c.from_residual-in_err-apply.result (state_in c.args.self.now) db (step registry c.args.command.now).0 k none
-    (elim (c.apply.ensures.crash_shut clean registry k mid tt (inl (λ e. some (sym c.deref.ensures.value ∙ e))) db it) [
+    (elim (c.apply.ensures.crash_shut clean registry k mid tt (subst (λ l. ChangesFit l registry) (sym c.deref.ensures.value) decided.2) (inl (λ e. some (sym c.deref.ensures.value ∙ e))) db it) [
       | inl was ↦ inl (c.in_ok-changes.ensures.crash early db was)
       | inr made ↦ inr (subst (λ (r : Registry). Leaves db r k) (ap (λ l. after_changes l registry) c.deref.ensures.value ∙ decided.1) made)
     ])
@@ -52,7 +53,8 @@ returns-clause-crash g c =
           let early = w.in_ok-apply.ensures.frame.clean clean in
           let mid = c.in_ok-changes.ensures.same early registry k (λ _. over) in
           let decided = c.in_ok-changes.ensures.decided early registry k (λ _. over) in
-          let made = w.in_ok-apply.ensures.done clean registry k mid tt in
+          let fit = subst (λ l. ChangesFit l registry) (sym w.deref.ensures.value) decided.2 in
+          let made = w.in_ok-apply.ensures.done clean registry k mid tt fit in
           subst (λ (r : Registry). Leaves db r k) (ap (λ l. after_changes l registry) w.deref.ensures.value ∙ decided.1) (w.in_ok-apply.ensures.settled (after_changes w.deref.result.now registry) k made db it))
       | else-not-is_empty w ↦ rw w.self-is (λ clean registry k over db it.
           let decided = c.in_ok-changes.ensures.decided clean registry k (λ _. over) in

@@ -6,6 +6,7 @@ use Rattle.reg_service.specs.Crashes.{IsFoundAfter}
 use Rattle.reg_service.proofs.DueReplies.{repeats_agree, no_other_answers}
 use Rattle.reg_service.specs.Services.{state_in}
 use Rattle.reg_service.proofs.OverTables.{none_over, next_over}
+use Rattle.reg_service.proofs.AdmissionLemmas.{all_admitted}
 use Rattle.reg_service.proofs.CrashLemmas.{leaves_open, found_none, found_next}
 use Rattle.reg_service.proofs.OpenConnections.{keeps_open, keeps_then}
 use Rattle.reg_service.proofs.service.Service.run.Goals as goal
@@ -64,3 +65,6 @@ returns-in_err-replies-clause-settled g c registry k over db it = leaves_open (s
 
 pub returns-clause-settled : goal.returns-clause-settled
 returns-clause-settled g c registry k over db it = leaves_open (state_in c.loop-delivery.self) registry k db (g.met.S.Store.settled c.loop-delivery.self.store.conn.store db) over it
+
+pub returns-clause-admitted : goal.returns-clause-admitted
+returns-clause-admitted g c clean registry k over = all_admitted registry k over.spells.spelled.registry _

@@ -5,6 +5,7 @@ use Rattle.sqlite.specs.Effect.{Database}
 use Rattle.sqlite.specs.Held.{state}
 use Rattle.reg_core.specs.Registry.{Registry}
 use Rattle.reg_core.specs.KeptReplies.{Kept}
+use Rattle.reg_core.specs.Views.{ChangesFit}
 use Rattle.reg_store.specs.Spells.{SpellsWhileOpen}
 use Rattle.reg_store.specs.Changes.{IsNewTo, HasPlace}
 use Rattle.reg_store.specs.Failures.{is_fault, IsFaultBy}
@@ -25,16 +26,16 @@ returns-clause-settled g c registry k over db it =
     leaves_if_spelled db (state g.S.Store c.commit_all-done.new.conn).now registry k (g.met.S.Store.settled c.commit_all-done.new.conn.store db over.is_open it ∙ ap (λ (d : Database). d.trees) over.settled) over.spells
 
 pub returns-clause-crash : goal.returns-clause-crash
-returns-clause-crash g c clean registry k over fresh db it =
+returns-clause-crash g c clean registry k over fresh fits db it =
     let old = state g.S.Store c.args.self.now.conn in
     elim (c.commit_all-done.ensures.survives.crash clean db it) [
       | inl was ↦ inl (leaves_if_spelled db old.now registry k (g.met.S.Store.settled c.args.self.now.conn.store db over.is_open was ∙ ap (λ (d : Database). d.trees) over.settled) over.spells)
-      | inr made ↦ inr (made registry k (λ _. over) fresh (inl over.is_open))
+      | inr made ↦ inr (made registry k (λ _. over) fresh fits (inl over.is_open))
     ]
 
 pub returns-clause-fault : goal.returns-clause-fault
 returns-clause-fault g c clean =
-    mapped_err (λ e. (registry : Registry) (k : Kept) → SpellsWhileOpen (state g.S.Store c.args.self.now.conn) registry k → IsNewTo k c.args.keep → IsTrue (is_fault e)) c.commit_all-done.result c.map_err-done.result c.map_err-done.ensures.cases
+    mapped_err (λ e. (registry : Registry) (k : Kept) → SpellsWhileOpen (state g.S.Store c.args.self.now.conn) registry k → IsNewTo k c.args.keep → ChangesFit c.args.changes.now registry → IsTrue (is_fault e)) c.commit_all-done.result c.map_err-done.result c.map_err-done.ensures.cases
     (c.commit_all-done.ensures.fault clean)
 
 pub returns-clause-frame : goal.returns-clause-frame
@@ -48,12 +49,12 @@ returns-clause-frame g c =
     (λ clean. opens_none old new c.commit_all-done.result (it.was_open clean) (it.nothing clean))
 
 pub returns-clause-crash_shut : goal.returns-clause-crash_shut
-returns-clause-crash_shut g c clean registry k over fresh acts db it =
-    elim (c.commit_all-done.ensures.survives.crash clean db it) [ inl was ↦ inl was | inr made ↦ inr (made registry k over fresh (inr acts)) ]
+returns-clause-crash_shut g c clean registry k over fresh fits acts db it =
+    elim (c.commit_all-done.ensures.survives.crash clean db it) [ inl was ↦ inl was | inr made ↦ inr (made registry k over fresh fits (inr acts)) ]
 
 pub returns-clause-fits : goal.returns-clause-fits
 returns-clause-fits g c clean unfailed =
     let old = state g.S.Store c.args.self.now.conn in
     let new = state g.S.Store c.commit_all-done.new.conn in
-    mapped_err (λ e. (registry : Registry) (k : Kept) → SpellsWhileOpen old registry k → IsNewTo k c.args.keep → HasPlace old c.args.changes.now c.args.keep → IsFaultBy old new e) c.commit_all-done.result c.map_err-done.result c.map_err-done.ensures.cases
+    mapped_err (λ e. (registry : Registry) (k : Kept) → SpellsWhileOpen old registry k → IsNewTo k c.args.keep → ChangesFit c.args.changes.now registry → HasPlace old c.args.changes.now c.args.keep → IsFaultBy old new e) c.commit_all-done.result c.map_err-done.result c.map_err-done.ensures.cases
     (c.commit_all-done.ensures.fits clean)

@@ -6,7 +6,7 @@ use Rattle.sqlite.specs.State.{HasCleanDisk, Survives, KeepsCommit}
 use Rattle.sqlite.proofs.StateLemmas.{survives_then}
 use Rattle.sqlite.proofs.Callers.{survives_begin}
 use Rattle.reg_core.specs.Registry.{Registry}
-use Rattle.reg_core.specs.Views.{after_changes}
+use Rattle.reg_core.specs.Views.{ChangesFit, after_changes}
 use Rattle.reg_tables.proofs.Transactions.{on_ok, if_err, keeps_then, keeps_if_undone, survives_both}
 use Rattle.reg_tables.proofs.WriteFaults.{erred_with}
 use Rattle.reg_core.specs.KeptReplies.{Kept}
@@ -28,14 +28,14 @@ returns-clause-done g c clean =
     let late : HasCleanDisk (state g.S.Store end) = search rules in
     let clean_last : HasCleanDisk last = omega (arith, c.commit.ensures.survives.clean) in
     let clean_mid : HasCleanDisk (state g.S.Store c.make_all.new.tx.conn.now) = omega (arith, c.keep_reply.ensures.frame.survives.clean) in
-    on_ok c.commit.result (λ done registry k spells fresh.
+    on_ok c.commit.result (λ done registry k spells fresh fits.
     let after = after_changes c.args.changes.now registry in
     let kept = with_reply c.args.keep k in
     let mid_open = (c.keep_reply.ensures.frame.commit_stays clean_last).was_open done.1.was_open in
     let begun_open = (c.make_all.ensures.frame.commit_stays clean_mid).was_open mid_open in
     let was = spells (subst (λ h. IsTrue (state g.S.Store h).is_open) c.transaction-tx.ensures.begun begun_open) in
     let begun = subst (λ h. Spells (state g.S.Store h).now registry k) (sym c.transaction-tx.ensures.begun) was.spells in
-    let made = c.in_ok-make_all.ensures.made clean_mid registry k begun in
+    let made = c.in_ok-make_all.ensures.made clean_mid registry k begun fits in
     let put = c.in_ok-keep_reply.ensures.put clean_last after k made fresh in
     let all : IsOpenOver (state g.S.Store end) after kept =
     record { is_open = done.1.is_open; settled = done.1.committed_is ∙ sym done.1.now_is; spells = subst (λ d. Spells d after kept) (sym done.1.now_is) put } in
@@ -49,9 +49,9 @@ returns-clause-survives g c =
     let begun = state g.S.Store c.transaction-tx.result.conn.now in
     let mid = state g.S.Store c.make_all.new.tx.conn.now in
     let last = state g.S.Store c.keep_reply.new.tx.conn.now in
-    let P = λ (db : Trees). (registry : Registry) (k : Kept) → SpellsWhileOpen first registry k → IsNewTo k c.args.keep → IsTrue first.is_open ⊎ ActsOn c.args.changes.now c.args.keep → Leaves db (after_changes c.args.changes.now registry) (with_reply c.args.keep k) in
+    let P = λ (db : Trees). (registry : Registry) (k : Kept) → SpellsWhileOpen first registry k → IsNewTo k c.args.keep → ChangesFit c.args.changes.now registry → IsTrue first.is_open ⊎ ActsOn c.args.changes.now c.args.keep → Leaves db (after_changes c.args.changes.now registry) (with_reply c.args.keep k) in
     let inside = survives_both begun mid last c.make_all.ensures.frame.survives c.keep_reply.ensures.frame.survives in
-    let commits = λ (clean : HasCleanDisk (state g.S.Store end)) (db : Trees) (is : db ≡ last.now.trees) (registry : Registry) (k : Kept) (spells : SpellsWhileOpen first registry k) (fresh : IsNewTo k c.args.keep) (acts : IsTrue first.is_open ⊎ ActsOn c.args.changes.now c.args.keep).
+    let commits = λ (clean : HasCleanDisk (state g.S.Store end)) (db : Trees) (is : db ≡ last.now.trees) (registry : Registry) (k : Kept) (spells : SpellsWhileOpen first registry k) (fresh : IsNewTo k c.args.keep) (fits : ChangesFit c.args.changes.now registry) (acts : IsTrue first.is_open ⊎ ActsOn c.args.changes.now c.args.keep).
     let clean_last : HasCleanDisk last = omega (arith, c.commit.ensures.survives.clean) in
     let clean_mid : HasCleanDisk mid = omega (arith, c.keep_reply.ensures.frame.survives.clean) in
     let opened = subst (λ h. IsTrue (state g.S.Store h).is_open) c.transaction-tx.ensures.begun in
@@ -63,7 +63,7 @@ returns-clause-survives g c =
       ])
     ] in
     let spelled = subst (λ h. Spells (state g.S.Store h).now registry k) (sym c.transaction-tx.ensures.begun) (spells was_open).spells in
-    let made = c.in_ok-make_all.ensures.made clean_mid registry k spelled in
+    let made = c.in_ok-make_all.ensures.made clean_mid registry k spelled fits in
     let put = c.in_ok-keep_reply.ensures.put clean_last (after_changes c.args.changes.now registry) k made fresh in
     leaves_if_spelled db last.now (after_changes c.args.changes.now registry) (with_reply c.args.keep k) is put in
     let whole = survives_then first last (state g.S.Store end) _ _ P (λ _ db none. absurd none) commits
@@ -78,9 +78,9 @@ returns-in_err-make_all-clause-fault g c clean =
     let e = c.in_err-make_all.field-0.0 in
     let late : HasCleanDisk (state g.S.Store c.drop-tx.new.self.0) = search rules in
     let clean_mid : HasCleanDisk (state g.S.Store c.make_all.new.tx.conn.now) = omega (arith, c.drop-tx.ensures.survives.clean) in
-    erred_with c.from_residual.result e (λ e. (registry : Registry) (k : Kept) → SpellsWhileOpen first registry k → IsNewTo k c.args.keep → IsTrue (is_fault (failure_of e))) c.from_residual.ensures.1
-    (λ registry k over fresh. is_fault_of_insert begun (state g.S.Store c.make_all.new.tx.conn.now) e (ap (λ (h : Held _). h.step_limit) is ∙ c.requires.unlimited) (ap (λ (h : Held _). h.in_transaction) is)
-    (c.in_err-make_all.ensures.fault clean_mid registry k (begun_spells g.S.Store c.args.conn.now c.transaction-tx.result.conn.now is registry k over)))
+    erred_with c.from_residual.result e (λ e. (registry : Registry) (k : Kept) → SpellsWhileOpen first registry k → IsNewTo k c.args.keep → ChangesFit c.args.changes.now registry → IsTrue (is_fault (failure_of e))) c.from_residual.ensures.1
+    (λ registry k over fresh fits. is_fault_of_insert begun (state g.S.Store c.make_all.new.tx.conn.now) e (ap (λ (h : Held _). h.step_limit) is ∙ c.requires.unlimited) (ap (λ (h : Held _). h.in_transaction) is)
+    (c.in_err-make_all.ensures.fault clean_mid registry k (begun_spells g.S.Store c.args.conn.now c.transaction-tx.result.conn.now is registry k over) fits))
 
 pub returns-in_err-keep_reply-clause-fault : goal.returns-in_err-keep_reply-clause-fault
 returns-in_err-keep_reply-clause-fault g c clean =
@@ -92,13 +92,13 @@ returns-in_err-keep_reply-clause-fault g c clean =
     let late : HasCleanDisk (state g.S.Store c.drop-tx-in_err-keep_reply.new.self.0) = search rules in
     let clean_last : HasCleanDisk (state g.S.Store c.keep_reply.new.tx.conn.now) = omega (arith, c.drop-tx-in_err-keep_reply.ensures.survives.clean) in
     let clean_mid : HasCleanDisk mid = omega (arith, c.keep_reply.ensures.frame.survives.clean) in
-    erred_with c.from_residual-in_err-keep_reply.result e (λ e. (registry : Registry) (k : Kept) → SpellsWhileOpen first registry k → IsNewTo k c.args.keep → IsTrue (is_fault (failure_of e))) c.from_residual-in_err-keep_reply.ensures.1
-    (λ registry k over fresh.
+    erred_with c.from_residual-in_err-keep_reply.result e (λ e. (registry : Registry) (k : Kept) → SpellsWhileOpen first registry k → IsNewTo k c.args.keep → ChangesFit c.args.changes.now registry → IsTrue (is_fault (failure_of e))) c.from_residual-in_err-keep_reply.ensures.1
+    (λ registry k over fresh fits.
     let spelled = begun_spells g.S.Store c.args.conn.now c.transaction-tx.result.conn.now is registry k over in
     is_fault_of_insert begun (state g.S.Store c.keep_reply.new.tx.conn.now) e (ap (λ (h : Held _). h.step_limit) is ∙ c.requires.unlimited) (ap (λ (h : Held _). h.in_transaction) is)
     (fault_later begun mid (state g.S.Store c.keep_reply.new.tx.conn.now) c.make_all.ensures.frame.survives clean_mid c.keep_reply.ensures.frame.survives.counts (c.in_ok-make_all.ensures.goes_on clean_mid) e
     (c.in_err-keep_reply.ensures.fault clean_last (after_changes c.args.changes.now registry) k
-    (λ is_open. c.in_ok-make_all.ensures.made clean_mid registry k (spelled ((c.make_all.ensures.frame.commit_stays clean_mid).was_open is_open))) fresh)))
+    (λ is_open. c.in_ok-make_all.ensures.made clean_mid registry k (spelled ((c.make_all.ensures.frame.commit_stays clean_mid).was_open is_open)) fits) fresh)))
 
 pub returns-clause-fault : goal.returns-clause-fault
 returns-clause-fault g c clean =
@@ -112,7 +112,7 @@ returns-clause-fault g c clean =
     let clean_mid : HasCleanDisk mid = omega (arith, c.keep_reply.ensures.frame.survives.clean) in
     let unlimited = c.keep_reply.ensures.frame.survives.limit ∙ c.make_all.ensures.frame.survives.limit ∙ ap (λ (h : Held _). h.step_limit) is ∙ c.requires.unlimited in
     let inside = still_inside mid last (still_inside begun mid (ap (λ (h : Held _). h.in_transaction) is) (c.in_ok-make_all.ensures.goes_on clean_mid)) (c.in_ok-keep_reply.ensures.goes_on clean_last) in
-    if_err c.commit.result (λ e fails registry k over fresh. fault_if_by last end _ (fault_of_commit last end e unlimited inside fails)) (c.commit.ensures.err late)
+    if_err c.commit.result (λ e fails registry k over fresh fits. fault_if_by last end _ (fault_of_commit last end e unlimited inside fails)) (c.commit.ensures.err late)
 
 pub returns-clause-was_open : goal.returns-clause-was_open
 returns-clause-was_open g c clean =
@@ -184,9 +184,9 @@ returns-in_err-make_all-clause-fits g c clean =
     let late : HasCleanDisk (state g.S.Store end) = search rules in
     let clean_mid : HasCleanDisk (state g.S.Store last) = omega (arith, c.drop-tx.ensures.survives.clean) in
     erred_with c.from_residual.result e
-    (λ e. (registry : Registry) (k : Kept) → SpellsWhileOpen (state g.S.Store conn) registry k → IsNewTo k c.args.keep → HasPlace (state g.S.Store conn) c.args.changes.now c.args.keep → IsFaultBy (state g.S.Store conn) (state g.S.Store c.conn-1.given.0) (failure_of e)) c.from_residual.ensures.1
-    (λ registry k over fresh place.
-    let write = c.in_err-make_all.ensures.fits clean_mid registry k (begun_spells g.S.Store conn begun is registry k over) 1 (begun_rooms g.S.Store conn begun is (length c.args.changes.now + 1) place.rooms) place.changes_fit in
+    (λ e. (registry : Registry) (k : Kept) → SpellsWhileOpen (state g.S.Store conn) registry k → IsNewTo k c.args.keep → ChangesFit c.args.changes.now registry → HasPlace (state g.S.Store conn) c.args.changes.now c.args.keep → IsFaultBy (state g.S.Store conn) (state g.S.Store c.conn-1.given.0) (failure_of e)) c.from_residual.ensures.1
+    (λ registry k over fresh fits place.
+    let write = c.in_err-make_all.ensures.fits clean_mid registry k (begun_spells g.S.Store conn begun is registry k over) fits 1 (begun_rooms g.S.Store conn begun is (length c.args.changes.now + 1) place.rooms) place.changes_fit in
     subst (λ h. IsFaultBy (state g.S.Store conn) (state g.S.Store h) (failure_of e)) same
     (of_call g.S.Store conn begun last end is c.drop-tx.ensures.survives.counts (failure_of e)
     (fault_of_write (state g.S.Store begun) (state g.S.Store last) e (ap (λ (h : Held _). h.step_limit) is ∙ c.requires.unlimited) (ap (λ (h : Held _). h.in_transaction) is) write)))
@@ -205,14 +205,14 @@ returns-in_err-keep_reply-clause-fits g c clean =
     let clean_last : HasCleanDisk (state g.S.Store last) = omega (arith, c.drop-tx-in_err-keep_reply.ensures.survives.clean) in
     let clean_mid : HasCleanDisk (state g.S.Store mid) = omega (arith, c.keep_reply.ensures.frame.survives.clean) in
     erred_with c.from_residual-in_err-keep_reply.result e
-    (λ e. (registry : Registry) (k : Kept) → SpellsWhileOpen (state g.S.Store conn) registry k → IsNewTo k c.args.keep → HasPlace (state g.S.Store conn) c.args.changes.now c.args.keep → IsFaultBy (state g.S.Store conn) (state g.S.Store c.conn-in_err-keep_reply-1.given.0) (failure_of e)) c.from_residual-in_err-keep_reply.ensures.1
-    (λ registry k over fresh place.
+    (λ e. (registry : Registry) (k : Kept) → SpellsWhileOpen (state g.S.Store conn) registry k → IsNewTo k c.args.keep → ChangesFit c.args.changes.now registry → HasPlace (state g.S.Store conn) c.args.changes.now c.args.keep → IsFaultBy (state g.S.Store conn) (state g.S.Store c.conn-in_err-keep_reply-1.given.0) (failure_of e)) c.from_residual-in_err-keep_reply.ensures.1
+    (λ registry k over fresh fits place.
     let spelled = begun_spells g.S.Store conn begun is registry k over in
     let was = λ (is_open : IsTrue (state g.S.Store mid).is_open). (c.make_all.ensures.frame.commit_stays clean_mid).was_open is_open in
     let rooms = begun_rooms g.S.Store conn begun is (length c.args.changes.now + 1) place.rooms in
     let write = write_later (state g.S.Store begun) (state g.S.Store mid) (state g.S.Store last) c.make_all.ensures.frame.survives clean_mid c.keep_reply.ensures.frame.survives.counts (c.in_ok-make_all.ensures.goes_on clean_mid) e
-    (c.in_err-keep_reply.ensures.fits clean_last (after_changes c.args.changes.now registry) k (λ is_open. c.in_ok-make_all.ensures.made clean_mid registry k (spelled (was is_open))) fresh 0
-    (λ is_open. c.in_ok-make_all.ensures.room clean_mid registry k (spelled (was is_open)) 1 (rooms (was is_open))) place.reply_fits) in
+    (c.in_err-keep_reply.ensures.fits clean_last (after_changes c.args.changes.now registry) k (λ is_open. c.in_ok-make_all.ensures.made clean_mid registry k (spelled (was is_open)) fits) fresh 0
+    (λ is_open. c.in_ok-make_all.ensures.room clean_mid registry k (spelled (was is_open)) fits 1 (rooms (was is_open))) place.reply_fits) in
     subst (λ h. IsFaultBy (state g.S.Store conn) (state g.S.Store h) (failure_of e)) same
     (of_call g.S.Store conn begun last end is c.drop-tx-in_err-keep_reply.ensures.survives.counts (failure_of e)
     (fault_of_write (state g.S.Store begun) (state g.S.Store last) e (ap (λ (h : Held _). h.step_limit) is ∙ c.requires.unlimited) (ap (λ (h : Held _). h.in_transaction) is) write)))
@@ -232,6 +232,6 @@ returns-clause-fits g c clean =
     let whole = survives_both (state g.S.Store begun) (state g.S.Store mid) (state g.S.Store last) c.make_all.ensures.frame.survives c.keep_reply.ensures.frame.survives in
     let unlimited = whole.limit ∙ ap (λ (h : Held _). h.step_limit) is ∙ c.requires.unlimited in
     let inside = still_inside (state g.S.Store mid) (state g.S.Store last) (still_inside (state g.S.Store begun) (state g.S.Store mid) (ap (λ (h : Held _). h.in_transaction) is) (c.in_ok-make_all.ensures.goes_on clean_mid)) (c.in_ok-keep_reply.ensures.goes_on clean_last) in
-    if_err c.commit.result (λ e fails registry k over fresh place.
+    if_err c.commit.result (λ e fails registry k over fresh fits place.
     let since = by_since (state g.S.Store begun) (state g.S.Store last) (state g.S.Store end) (whole.closes clean_last) whole.counts c.commit.ensures.survives.counts (failure_of e) (fault_of_commit (state g.S.Store last) (state g.S.Store end) e unlimited inside fails) in
     subst (λ h. IsFaultBy (state g.S.Store conn) (state g.S.Store h) (failure_of e)) same (subst (λ b. IsFaultBy (state g.S.Store b) (state g.S.Store end) (failure_of e)) is since)) (c.commit.ensures.err late)

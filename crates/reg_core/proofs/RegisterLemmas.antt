@@ -1,0 +1,355 @@
+-- What a view shows of the registry, for commands that compare and register schemas.
+use Rattle.std.proofs.Common.{◌≡◌, ℕ, zero, suc, ◌+◌, ◌≤◌, List, [], ◌∷◌, ◌++◌, Bool, true, false, Option, Some, None, refl, sym, ◌∙◌, ap, subst, map, length, length-append, arith}
+use Rattle.std.specs.Prelude.{All, find, bytes_eq, unwrap_or, option_map, option_to_list, is_some, ◌==◌, if◌then◌else◌, Result, Ok, Err, nat_le}
+use Rattle.std.specs.List.{list_all}
+use Rattle.std.specs.Option.{ok_or}
+use Rattle.std.specs.FinMap.{entries}
+use Rattle.std.proofs.lemmas.Bool.{and_parts, leb-true}
+use Rattle.std.proofs.lemmas.List.Folds.{list_all-map}
+use Rattle.std.proofs.lemmas.List.Elements.{All-nil, All-cons, All-head, All-tail, All-filter}
+use Rattle.std.proofs.lemmas.Option.{none-some, same_Some, slice_get_within, get_or_from_slice_get}
+use Rattle.avro_nodes.specs.Nodes.{NodeView}
+use Rattle.avro_nodes.specs.Identity.{identity}
+use Rattle.avro_schema.specs.Texts.{IsSchema, denoted}
+use Rattle.avro_schema.proofs.TextLemmas.{denotes_computes, computed_denotes}
+use Rattle.avro_schema.proofs.RoundText.{identity_text_denotes}
+use Rattle.reg_core.specs.declared.level.Level.{Level}
+use Rattle.reg_core.specs.declared.level.Level.TheVariants.{Backward, BackwardTransitive, Forward, ForwardTransitive, Full, FullTransitive, Off}
+use Rattle.reg_core.specs.declared.code.Code.{Code}
+use Rattle.reg_core.specs.declared.code.Code.TheVariants.{InvalidSchema, InvalidVersion, Incompatible, NoNumberLeft, VersionNotFound}
+use Rattle.reg_core.specs.declared.command.Command.TheVariants.{Register, Check, CheckAll}
+use Rattle.reg_core.specs.declared.decision.View.{View}
+use Rattle.reg_core.specs.declared.number.Choice.{Choice}
+use Rattle.reg_core.specs.declared.number.Choice.TheVariants.{Latest, Numbered}
+use Rattle.reg_core.specs.Bodies.{id_body, verdict_body}
+use Rattle.reg_core.specs.Compatibility.{named_versions, latest}
+use Rattle.reg_core.specs.Comparisons.{is_read_compatible, is_read_admitted}
+use Rattle.reg_core.specs.Machine.{step}
+use Rattle.reg_core.specs.Numbers.{choice_in}
+use Rattle.reg_core.specs.ReadCommands.{found_row}
+use Rattle.reg_core.specs.Registering.{id_among, id_shown, has_numbers_shown, row_shown, version_added}
+use Rattle.reg_core.specs.RegisterCommands.{schema_in, register, registered, is_among, is_admitted_after, id_for, with_version, check_reply, verdict_reply, check_all_reply}
+use Rattle.reg_core.specs.Registry.{Registry, IsRegistry, Row, Schemas, max_number, schema_at}
+use Rattle.reg_core.specs.Replies.{answer, fault}
+use Rattle.reg_core.specs.Rows.{rows_of, live_rows, next_number, chosen_row, id_of, known_id, text_at, schemas_of}
+use Rattle.reg_core.specs.Verdicts.{is_compatible, is_admitted}
+use Rattle.reg_core.specs.Views.{IsGround, ChangesFit, after_changes, level_of_view, row_found, text_in}
+use Rattle.reg_core.proofs.IdLemmas.{id_of-schema, schema_within}
+use Rattle.reg_core.proofs.RowLemmas.{each-schema, next_number-absent, All-live_rows}
+use Rattle.reg_core.proofs.Versions.{named-map}
+
+-- ---- verdicts on the versions that a level names
+
+-- the verdict on a version whose text the view has
+pub read_compatible : (view : View) (level : Level) (new : List NodeView) (row : Row) (text : List ℕ) (earlier : List NodeView) → text_in view row.1.id ≡ Some text → denoted text ≡ Some earlier
+    → is_read_compatible view level new row ≡ is_compatible level earlier new
+read_compatible view level new row text earlier there is = rw (there, is) refl
+
+-- the verdict on versions that are known by other values
+pub admitted_named : {X : Type 0} (f : X → Row) (view : View) (level : Level) (xs : List X) (new : List NodeView) → is_read_admitted view level (map f xs) new ≡ list_all (λ x. is_read_compatible view level new (f x)) (named_versions level xs)
+admitted_named f view level xs new = ap (list_all (is_read_compatible view level new)) (named-map f level xs) ∙ list_all-map (is_read_compatible view level new) f (named_versions level xs)
+
+ids_mapped : {X : Type 0} (f : X → Row) (xs : List X) → map (λ x. (f x).1.id) xs ≡ map (λ (row : Row). row.1.id) (map f xs)
+ids_mapped f [] = refl
+ids_mapped f (x ∷ xs) = ap (λ (ids : List ℕ). (f x).1.id ∷ ids) (ids_mapped f xs)
+
+-- the ids of the versions that a level names
+pub named_ids : {X : Type 0} (f : X → Row) (level other : Level) (xs named : List X) (rows : List Row) → level ≡ other → map f xs ≡ rows → named ≡ named_versions level xs → map (λ x. (f x).1.id) named ≡ map (λ (row : Row). row.1.id) (named_versions other rows)
+named_ids f level other xs named rows l r n =
+    let same : map f (named_versions level xs) ≡ named_versions other rows =
+    sym (named-map f level xs) ∙ (ap (named_versions level) r ∙ ap (λ (x : Level). named_versions x rows) l) in
+    ap (map (λ x. (f x).1.id)) n ∙ (ids_mapped f (named_versions level xs) ∙ ap (map (λ (row : Row). row.1.id)) same)
+
+-- a version's id has a schema
+abbrev pub HasSchema : Schemas → Row → Type 0
+HasSchema schemas row = (nodes : List NodeView) × (schema_at schemas row.1.id ≡ Some nodes)
+
+-- the view has the text of a version's schema
+abbrev pub ShowsText : View → Schemas → Row → Type 0
+ShowsText view schemas row = text_in view row.1.id ≡ text_at schemas row.1.id
+
+All-latest : {X : Type 0} (P : X → Type 0) (xs : List X) → All P xs → All P (latest xs)
+All-latest P [] h = h
+All-latest P (x ∷ []) h = h
+All-latest P (x ∷ y ∷ ys) h = All-latest P (y ∷ ys) (All-tail P x (y ∷ ys) h)
+
+-- what holds of each version holds of those that a level names
+pub All-named : {X : Type 0} (P : X → Type 0) (level : Level) (xs : List X) → All P xs → All P (named_versions level xs)
+All-named P Backward xs h = All-latest P xs h
+All-named P BackwardTransitive xs h = h
+All-named P Forward xs h = All-latest P xs h
+All-named P ForwardTransitive xs h = h
+All-named P Full xs h = All-latest P xs h
+All-named P FullTransitive xs h = h
+All-named P Off xs h = All-nil P
+
+-- the schema of a version that has one
+schema_or : Schemas → Row → List NodeView
+schema_or schemas row = unwrap_or (schema_at schemas row.1.id) []
+
+schemas_mapped : (schemas : Schemas) (rows : List Row) → All (HasSchema schemas) rows → schemas_of schemas rows ≡ map (schema_or schemas) rows
+unfolding schema_or
+schemas_mapped schemas [] h = refl
+schemas_mapped schemas (row ∷ rows) h =
+    let here = All-head (HasSchema schemas) row rows h in
+    let rest = schemas_mapped schemas rows (All-tail (HasSchema schemas) row rows h) in
+    rw here.1 (ap (λ (xs : List (List NodeView)). here.0 ∷ xs) rest)
+
+same_tests : {X : Type 0} (p q : X → Bool) (xs : List X) → All (λ x. p x ≡ q x) xs → list_all p xs ≡ list_all q xs
+same_tests p q [] h = refl
+same_tests p q (x ∷ xs) h =
+    let here : p x ≡ q x = All-head (λ y. p y ≡ q y) x xs h in
+    let rest : list_all p xs ≡ list_all q xs = same_tests p q xs (All-tail (λ y. p y ≡ q y) x xs h) in
+    rw (here, rest) refl
+
+at_schema : (schemas : Schemas) → All IsSchema schemas → (id : ℕ) (nodes : List NodeView) → schema_at schemas id ≡ Some nodes → IsSchema nodes
+at_schema schemas h zero nodes e = absurd (none-some nodes e)
+at_schema schemas h (suc n) nodes e = subst IsSchema (get_or_from_slice_get schemas n nodes nodes e) (h n nodes (slice_get_within schemas n nodes e))
+
+identity_denoted : (nodes : List NodeView) → IsSchema nodes → denoted (identity nodes) ≡ Some nodes
+identity_denoted nodes s = denotes_computes (identity nodes) nodes (identity_text_denotes nodes s)
+
+row_compatible : (view : View) (schemas : Schemas) → All IsSchema schemas → (level : Level) (new : List NodeView) (row : Row) → HasSchema schemas row → ShowsText view schemas row
+    → is_read_compatible view level new row ≡ is_compatible level (schema_or schemas row) new
+unfolding schema_or
+row_compatible view schemas ok level new row (nodes, e) shows =
+    let text : text_in view row.1.id ≡ Some (identity nodes) = shows ∙ ap (option_map identity) e in
+    let is : nodes ≡ unwrap_or (schema_at schemas row.1.id) [] = sym (ap (λ (o : Option (List NodeView)). unwrap_or o []) e) in
+    read_compatible view level new row (identity nodes) nodes text (identity_denoted nodes (at_schema schemas ok row.1.id nodes e)) ∙ ap (λ (x : List NodeView). is_compatible level x new) is
+
+-- The verdict on versions by the texts of a view is the one by their schemas, where the view has the texts of those that the level names
+pub admitted_shown : (view : View) (schemas : Schemas) → All IsSchema schemas → (level : Level) (rows : List Row) (new : List NodeView) → All (HasSchema schemas) rows → All (ShowsText view schemas) (named_versions level rows)
+    → is_read_admitted view level rows new ≡ is_admitted_after schemas level rows new
+unfolding is_admitted
+admitted_shown view schemas ok level rows new has shows =
+    let p = λ (earlier : List NodeView). is_compatible level earlier new in
+    let there = All-named (HasSchema schemas) level rows has in
+    same_tests (is_read_compatible view level new) (λ row. p (schema_or schemas row)) (named_versions level rows)
+    (λ k d l. row_compatible view schemas ok level new _ (there k d l) (shows k d l))
+    ∙ (sym (list_all-map p (schema_or schemas) (named_versions level rows))
+    ∙ (ap (list_all p) (sym (named-map (schema_or schemas) level rows))
+    ∙ ap (λ (live : List (List NodeView)). list_all p (named_versions level live)) (sym (schemas_mapped schemas rows has))))
+
+-- the verdict at the level in force and the versions that are known to be these
+pub verdict_of : (view : View) (new : List NodeView) (level : Level) (rows others : List Row) → level ≡ level_of_view view → rows ≡ others → (b : Bool) → b ≡ is_read_admitted view level rows new → b ≡ is_read_admitted view (level_of_view view) others new
+verdict_of view new level rows others l r b e = e ∙ (rw (l, r) refl)
+
+-- ---- the rows of a view
+
+module _ (g : Registry) (ok : IsRegistry g) (subject : List ℕ) (rows : List Row) (is : rows ≡ rows_of g subject) where
+  pub shown-HasSchema : All (HasSchema g.schemas) (live_rows rows)
+  shown-HasSchema =
+      All-live_rows (HasSchema g.schemas) rows (subst (All (HasSchema g.schemas)) (sym is)
+      (All-filter (λ (row : Row). bytes_eq row.0.0 subject) (HasSchema g.schemas) (entries g.rows) (each-schema g ok)))
+
+-- ---- Register
+
+schema_says : (text : List ℕ) (supported : Bool) (new : List NodeView) → schema_in text supported ≡ Some new → IsSchema new
+unfolding schema_in
+schema_says text true new e = (text, computed_denotes text new e)
+schema_says text false new e = absurd (none-some new e)
+
+if_some : (b : Bool) (o : Option ℕ) (id : ℕ) → (if b then o else None) ≡ Some id → (b ≡ true) × (o ≡ Some id)
+if_some true o id e = (refl, e)
+if_some false o id e = absurd (none-some id e)
+
+if_none : (b : Bool) (id : ℕ) → (if b then Some id else None) ≡ None → b ≡ false
+if_none true id e = absurd (none-some id (sym e))
+if_none false id e = refl
+
+pub not_told : (known : Option ℕ) (rows : List Row) → is_some (id_among known rows) ≡ false → is_among known rows ≡ false
+not_told None rows e = refl
+not_told (Some id) rows e = by (is_among (Some id) rows) e
+  where
+    by : (b : Bool) → is_some (if b then Some id else None) ≡ false → b ≡ false
+    by true f = f
+    by false f = refl
+
+-- a version is made just where numbers are left
+pub no_row : (b : Bool) (row : Row) → None ≡ (if b then Some row else None) → b ≡ false
+no_row true row e = absurd (none-some row e)
+no_row false row e = refl
+
+pub some_row : (b : Bool) (row made : Row) → Some made ≡ (if b then Some row else None) → (b ≡ true) × (made ≡ row)
+some_row true row made e = (refl, same_Some made row e)
+some_row false row made e = absurd (none-some made (sym e))
+
+pub not_among : (known : Option ℕ) (rows : List Row) → None ≡ id_among known rows → is_among known rows ≡ false
+not_among None rows e = refl
+not_among (Some id) rows e = if_none (is_among (Some id) rows) id (sym e)
+
+-- the registry after the changes that add a version
+changes_are : (g : Registry) (subject : List ℕ) (new : List NodeView) → IsSchema new → (known : Option ℕ) → id_of g.schemas (identity new) ≡ known
+    → after_changes (version_added known ((subject, next_number (rows_of g subject)), record { id = id_for g.schemas new; deleted = false }) new) g ≡ with_version g subject new
+changes_are g subject new s None e = let text = identity_denoted new s in rw (e, text) refl
+changes_are g subject new s (Some id) e = rw e refl
+
+-- and the registry can have them
+changes_fit : (g : Registry) (subject : List ℕ) (new : List NodeView) → IsSchema new → (known : Option ℕ) → id_of g.schemas (identity new) ≡ known → next_number (rows_of g subject) ≤ max_number → id_for g.schemas new ≤ max_number
+    → ChangesFit (version_added known ((subject, next_number (rows_of g subject)), record { id = id_for g.schemas new; deleted = false }) new) g
+changes_fit g subject new s None e number within =
+    let id : id_for g.schemas new ≡ length g.schemas + 1 = ap (λ (o : Option ℕ). unwrap_or o (length g.schemas + 1)) e in
+    let more : length (g.schemas ++ option_to_list (denoted (identity new))) ≡ length g.schemas + 1 =
+    ap (λ (o : Option (List NodeView)). length (g.schemas ++ option_to_list o)) (identity_denoted new s) ∙ length-append g.schemas (new ∷ []) in (
+      record { nodes = new; schema = s; is = refl; next = id; within = within; unknown = e },
+      (record { absent = next_number-absent g subject; fits = record { within = (omega arith, number); has_schema = (omega arith, omega arith) } }, tt),
+    )
+changes_fit g subject new s (Some id) e number within =
+    let is : id_for g.schemas new ≡ id = ap (λ (o : Option ℕ). unwrap_or o (length g.schemas + 1)) e in
+    let (nodes, there, same) = id_of-schema g.schemas (identity new) id e in
+    let known = schema_within g.schemas id nodes there in
+    (record { absent = next_number-absent g subject; fits = record { within = (omega arith, number); has_schema = (omega arith, omega arith) } }, tt)
+
+module _ (g : Registry) (subject text : List ℕ) (supported : Bool) (view : View) (schema : Option (List NodeView)) (ground : IsGround g (Register subject text supported) schema view) where
+  pub register_none : schema ≡ None → step g (Register subject text supported) ≡ (g, fault InvalidSchema)
+  unfolding step
+  register_none e = ap (register g subject) (sym ground.sent ∙ e)
+
+  module _ (new : List NodeView) (e : schema ≡ Some new) where
+    known_shown : view.known ≡ id_of g.schemas (identity new)
+    known_shown = ground.shows.known ∙ ap (known_id g.schemas) (sym ground.sent ∙ e)
+
+    abbrev live : List Row
+    live = live_rows view.rows.items
+
+    register_as : step g (Register subject text supported)
+        ≡ registered g subject new (is_among view.known live) (is_admitted_after g.schemas (level_of_view view) live new) (has_numbers_shown view)
+    unfolding step
+    register_as =
+        let levels = ground.shows.levels refl in
+        let known = known_shown in
+        let rows = ground.shows.rows in
+        let count = ground.shows.count refl in
+        ap (register g subject) (sym ground.sent ∙ e) ∙ (rw (known, rows, levels.0, levels.1, count) refl)
+
+    pub register_known : (id : ℕ) → Some id ≡ id_among view.known live → step g (Register subject text supported) ≡ (g, answer (id_body id))
+    register_known id among =
+        let parts = if_some (is_among view.known live) view.known id (sym among) in
+        let known : id_of g.schemas (identity new) ≡ Some id = sym known_shown ∙ parts.1 in
+        register_as ∙ (rw (parts.0, known) refl)
+
+    register_admits : is_among view.known live ≡ false → is_read_admitted view (level_of_view view) live new ≡ is_admitted_after g.schemas (level_of_view view) live new
+    register_admits unknown =
+        admitted_shown view g.schemas ground.registry.schemas (level_of_view view) live new
+        (shown-HasSchema g ground.registry subject view.rows.items ground.shows.rows)
+        (subst (λ (b : Bool). All (ShowsText view g.schemas) (if b then [] else named_versions (level_of_view view) live)) unknown ground.shows.texts)
+
+    pub register_refused : is_among view.known live ≡ false → false ≡ is_read_admitted view (level_of_view view) live new → step g (Register subject text supported) ≡ (g, fault Incompatible)
+    register_refused unknown refused =
+        let verdict : is_admitted_after g.schemas (level_of_view view) live new ≡ false = sym (refused ∙ register_admits unknown) in
+        register_as ∙ (rw (unknown, verdict) refl)
+
+    module _ (unknown : is_among view.known live ≡ false) (admitted : true ≡ is_read_admitted view (level_of_view view) live new) where
+      verdict : is_admitted_after g.schemas (level_of_view view) live new ≡ true
+      verdict = sym (admitted ∙ register_admits unknown)
+
+      pub register_full : has_numbers_shown view ≡ false → step g (Register subject text supported) ≡ (g, fault NoNumberLeft)
+      register_full full = register_as ∙ (rw (unknown, verdict, full) refl)
+
+      id_is : id_shown view ≡ id_for g.schemas new
+      id_is = let known = known_shown in let count = ground.shows.count refl in rw (known, count) refl
+
+      pub register_added : has_numbers_shown view ≡ true → step g (Register subject text supported) ≡ (with_version g subject new, answer (id_body (id_shown view)))
+      register_added left = register_as ∙ (rw (unknown, verdict, left, id_is) refl)
+
+      new_schema : IsSchema new
+      new_schema = schema_says text supported new (sym ground.sent ∙ e)
+
+      row_is : row_shown view subject ≡ ((subject, next_number (rows_of g subject)), record { id = id_for g.schemas new; deleted = false })
+      row_is = let id = id_is in let rows = ground.shows.rows in rw (id, rows) refl
+
+      -- the version's number and id are within the limit
+      numbers_within : has_numbers_shown view ≡ true → (next_number (rows_of g subject) ≤ max_number) × (id_for g.schemas new ≤ max_number)
+      numbers_within left =
+          let parts = and_parts (nat_le (next_number view.rows.items) max_number) (nat_le (id_shown view) max_number) left in (
+            subst (λ (rows : List Row). next_number rows ≤ max_number) ground.shows.rows (leb-true (next_number view.rows.items) max_number parts.0),
+            subst (λ (id : ℕ). id ≤ max_number) id_is (leb-true (id_shown view) max_number parts.1),
+          )
+
+      pub added_changes : after_changes (version_added view.known (row_shown view subject) new) g ≡ with_version g subject new
+      added_changes =
+          ap (λ (row : Row). after_changes (version_added view.known row new) g) row_is
+          ∙ changes_are g subject new new_schema view.known (sym known_shown)
+
+      pub added_fit : has_numbers_shown view ≡ true → ChangesFit (version_added view.known (row_shown view subject) new) g
+      added_fit left =
+          let within = numbers_within left in
+          subst (λ (row : Row). ChangesFit (version_added view.known row new) g) (sym row_is)
+          (changes_fit g subject new new_schema view.known (sym known_shown) within.0 within.1)
+
+-- ---- CheckAll and Check
+
+module _ (g : Registry) (subject text : List ℕ) (supported : Bool) (view : View) (schema : Option (List NodeView)) (ground : IsGround g (CheckAll subject text supported) schema view) where
+  pub check_all_none : schema ≡ None → step g (CheckAll subject text supported) ≡ (g, fault InvalidSchema)
+  unfolding step
+  check_all_none e = ap (λ (s : Option (List NodeView)). (g, check_all_reply g subject s)) (sym ground.sent ∙ e)
+
+  pub check_all_shown : (new : List NodeView) → schema ≡ Some new
+      → step g (CheckAll subject text supported) ≡ (g, answer (verdict_body (is_read_admitted view (level_of_view view) (live_rows view.rows.items) new)))
+  unfolding step
+  check_all_shown new e =
+      let levels = ground.shows.levels refl in
+      let rows = ground.shows.rows in
+      let verdict : is_read_admitted view (level_of_view view) (live_rows view.rows.items) new ≡ is_admitted_after g.schemas (level_of_view view) (live_rows view.rows.items) new =
+      admitted_shown view g.schemas ground.registry.schemas (level_of_view view) (live_rows view.rows.items) new (shown-HasSchema g ground.registry subject view.rows.items rows) ground.shows.texts in
+      ap (λ (s : Option (List NodeView)). (g, check_all_reply g subject s)) (sym ground.sent ∙ e)
+      ∙ (rw (verdict, rows, levels.0, levels.1) refl)
+
+All-find : {X : Type 0} (P : X → Type 0) (p : X → Bool) (xs : List X) (x : X) → All P xs → find p xs ≡ Some x → P x
+All-find P p [] x h e = absurd (none-some x e)
+All-find P p (y ∷ ys) x h e = by (p y) e (All-find P p ys x (All-tail P y ys h))
+  where
+    by : (b : Bool) → (if b then Some y else find p ys) ≡ Some x → (find p ys ≡ Some x → P x) → P x
+    by true f rest = subst P (same_Some y x f) (All-head P y ys h)
+    by false f rest = rest f
+
+All-chosen : (P : Row → Type 0) (choice : Choice) (rows : List Row) (row : Row) → All P rows → chosen_row choice rows ≡ Some row → P row
+All-chosen P Latest rows row h e = All-head P row [] (subst (λ (o : Option Row). All P (option_to_list o)) e (All-latest P rows h))
+All-chosen P (Numbered number) rows row h e = All-find P (λ (r : Row). r.0.1 == number) rows row h e
+
+ok_of : {C : Type 0} (o : Option Row) (code : C) (row : Row) → ok_or o code ≡ Ok row → o ≡ Some row
+ok_of None code row e = absurd cc
+ok_of (Some other) code row e = cc
+
+-- what holds of each version holds of the one that is found
+All-found : (P : Row → Type 0) (choice : Choice) (rows : List Row) (row : Row) → All P rows → found_row (Some choice) rows ≡ Ok row → P row
+All-found P choice [] row h e = absurd cc
+All-found P choice (r ∷ rows) row h e = All-chosen P choice (r ∷ rows) row h (ok_of (chosen_row choice (r ∷ rows)) VersionNotFound row e)
+
+module _ (g : Registry) (subject version text : List ℕ) (supported : Bool) (view : View) (schema : Option (List NodeView)) (ground : IsGround g (Check subject version text supported) schema view) where
+  pub check_no_choice : choice_in version ≡ None → step g (Check subject version text supported) ≡ (g, fault InvalidVersion)
+  unfolding step
+  check_no_choice none = ap (λ (choice : Option Choice). (g, check_reply g subject choice (schema_in text supported))) none
+
+  module _ (choice : Choice) (chosen : choice_in version ≡ Some choice) where
+    check_chosen : (s : Option (List NodeView)) → schema ≡ s → step g (Check subject version text supported) ≡ (g, check_reply g subject (Some choice) s)
+    unfolding step
+    check_chosen s e =
+        ap (λ (c : Option Choice). (g, check_reply g subject c (schema_in text supported))) chosen
+        ∙ ap (λ (x : Option (List NodeView)). (g, check_reply g subject (Some choice) x)) (sym ground.sent ∙ e)
+
+    pub check_none : schema ≡ None → step g (Check subject version text supported) ≡ (g, fault InvalidSchema)
+    check_none e = check_chosen None e
+
+    module _ (new : List NodeView) (e : schema ≡ Some new) where
+      found_is : (found : Result Row Code) → found ≡ found_row (Some choice) (live_rows view.rows.items) → found_row (Some choice) (live_rows (rows_of g subject)) ≡ found
+      found_is found is = ap (λ (rows : List Row). found_row (Some choice) (live_rows rows)) (sym ground.shows.rows) ∙ sym is
+
+      pub check_fault : (code : Code) → Err code ≡ found_row (Some choice) (live_rows view.rows.items) → step g (Check subject version text supported) ≡ (g, fault code)
+      check_fault code is =
+          check_chosen (Some new) e ∙ ap (λ (found : Result Row Code). (g, verdict_reply g subject new found)) (found_is (Err code) is)
+
+      pub check_shown : (row : Row) → Ok row ≡ found_row (Some choice) (live_rows view.rows.items)
+          → step g (Check subject version text supported) ≡ (g, answer (verdict_body (is_read_admitted view (level_of_view view) (row ∷ []) new)))
+      check_shown row is =
+          let levels = ground.shows.levels refl in
+          let has : HasSchema g.schemas row =
+          All-found (HasSchema g.schemas) choice (live_rows view.rows.items) row (shown-HasSchema g ground.registry subject view.rows.items ground.shows.rows) (sym is) in
+          let shows : All (ShowsText view g.schemas) (named_versions (level_of_view view) (row ∷ [])) =
+          subst (λ (found : Result Row Code). All (ShowsText view g.schemas) (named_versions (level_of_view view) (row_found found))) (sym is)
+          (subst (λ (c : Option Choice). All (ShowsText view g.schemas) (named_versions (level_of_view view) (row_found (found_row c (live_rows view.rows.items))))) chosen ground.shows.texts) in
+          let verdict : is_read_admitted view (level_of_view view) (row ∷ []) new ≡ is_admitted_after g.schemas (level_of_view view) (row ∷ []) new =
+          admitted_shown view g.schemas ground.registry.schemas (level_of_view view) (row ∷ []) new (All-cons (HasSchema g.schemas) row [] has (All-nil (HasSchema g.schemas))) shows in
+          check_chosen (Some new) e
+          ∙ (ap (λ (found : Result Row Code). (g, verdict_reply g subject new found)) (found_is (Ok row) is)
+          ∙ (rw (verdict, levels.0, levels.1) refl))

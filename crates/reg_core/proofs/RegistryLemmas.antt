@@ -1,0 +1,186 @@
+-- A registry stays one, whatever changes it can have and whatever commands come.
+use Rattle.std.proofs.Common.{◌≡◌, ℕ, ◌+◌, ◌<◌, ◌≤◌, ◌⊎◌, inl, inr, List, [], ◌∷◌, ◌++◌, length, Bool, true, false, refl, sym, ap, subst, ◌∙◌, arith, length-append}
+use Rattle.std.specs.Prelude.{Option, Some, None, option_to_list, if◌then◌else◌, is_some, unwrap_or, nat_le}
+use Rattle.std.specs.FinMap.{insert, get-empty}
+use Rattle.std.proofs.lemmas.Bool.{and_parts}
+use Rattle.std.proofs.lemmas.Bool.Decides.{nat_tests}
+use Rattle.std.proofs.lemmas.List.Elements.{All-nil, All-push}
+use Rattle.std.proofs.lemmas.Option.{none-some}
+use Rattle.avro_nodes.specs.Nodes.{NodeView}
+use Rattle.avro_nodes.specs.Identity.{identity}
+use Rattle.avro_schema.specs.Texts.{TextDenotes, IsSchema, denoted}
+use Rattle.avro_schema.proofs.RoundText.{identity_text_denotes}
+use Rattle.avro_schema.proofs.TextLemmas.{computed_denotes, denotes_computes}
+use Rattle.reg_core.specs.declared.level.Level.{Level}
+use Rattle.reg_core.specs.declared.command.Command.{Command}
+use Rattle.reg_core.specs.declared.command.Command.TheVariants.{SetGlobal, SetLevel, Register, Global, LevelOf, Lookup, Subjects, Versions, Version, Text, ById, VersionsOfId, Types, Check, CheckAll}
+use Rattle.reg_core.specs.declared.decision.Change.{Change}
+use Rattle.reg_core.specs.declared.decision.Change.TheVariants as change
+use Rattle.reg_core.specs.Levels.{level_of}
+use Rattle.reg_core.specs.Registry.{Registry, Schemas, RowKey, Row, IsRow, IsRegistry, max_number, schema_at, new_registry, own_with}
+use Rattle.reg_core.specs.Registry as registry
+use Rattle.reg_core.specs.Rows.{rows_of, next_number, id_of, text_at}
+use Rattle.reg_core.specs.LevelCommands.{set_level}
+use Rattle.reg_core.specs.RegisterCommands.{schema_in, id_for, schemas_with, with_version, registered, has_numbers, register}
+use Rattle.reg_core.specs.Machine.{step, run_commands}
+use Rattle.reg_core.specs.Views.{after_change, after_changes, ChangeFits, ChangesFit}
+use Rattle.reg_core.proofs.IdLemmas.{schema_within, schema_grown, id_of-schema, id_of-none, text_at-schema}
+use Rattle.reg_core.proofs.RowLemmas.{get_inserted}
+
+-- ---- what a registry is made of
+
+-- where a version's schemas are among more, it is one among these
+more-IsRow : (schemas more : Schemas) (key : RowKey) (version : registry.Version) → IsRow schemas key version → IsRow (schemas ++ more) key version
+more-IsRow schemas more key version h =
+    let longer = length-append schemas more in
+    let there = h.has_schema in
+    record { within = h.within; has_schema = (there.0, omega arith) }
+
+-- a registry with another schema, whose identity text it doesn't have, is one
+pub grown-IsRegistry : (g : Registry) (new : List NodeView) → IsRegistry g → IsSchema new → length g.schemas + 1 ≤ max_number → id_of g.schemas (identity new) ≡ None → IsRegistry (record g { schemas = g.schemas ++ new ∷ [] })
+grown-IsRegistry g new ok schema few unknown = record {
+  schemas = All-push IsSchema g.schemas new ok.schemas schema;
+  few = let longer = length-append g.schemas (new ∷ []) in omega arith;
+  apart = λ i j one other here there same. both i j one other same (schema_grown g.schemas new i one here) (schema_grown g.schemas new j other there);
+  rows = λ key version e. more-IsRow g.schemas (new ∷ []) key version (ok.rows key version e);
+}
+  where
+    both : (i j : ℕ) (one other : List NodeView) → identity one ≡ identity other → (schema_at g.schemas i ≡ Some one) ⊎ ((i ≡ length g.schemas + 1) × (one ≡ new)) → (schema_at g.schemas j ≡ Some other) ⊎ ((j ≡ length g.schemas + 1) × (other ≡ new)) → i ≡ j
+    both i j one other same (inl here) (inl there) = ok.apart i j one other here there same
+    both i j one other same (inl here) (inr there) = absurd (id_of-none g.schemas (identity new) unknown i one here (same ∙ ap identity there.1))
+    both i j one other same (inr here) (inl there) = absurd (id_of-none g.schemas (identity new) unknown j other there (sym same ∙ ap identity here.1))
+    both i j one other same (inr here) (inr there) = here.0 ∙ sym there.0
+
+-- a registry with another version, whose schema it has, is one
+pub inserted-IsRegistry : (g : Registry) (key : RowKey) (version : registry.Version) → IsRegistry g → IsRow g.schemas key version → IsRegistry (record g { rows = insert g.rows key version })
+inserted-IsRegistry g key version ok row = record {
+  schemas = ok.schemas;
+  few = ok.few;
+  apart = ok.apart;
+  rows = get_inserted g.rows key version (IsRow g.schemas) row ok.rows;
+}
+
+-- a registry with other levels is one
+pub levels-IsRegistry : (g : Registry) (global : Level) (own : registry.OwnLevels) → IsRegistry g → IsRegistry (record g { global = global; own = own })
+levels-IsRegistry g global own ok = record { schemas = ok.schemas; few = ok.few; apart = ok.apart; rows = ok.rows }
+
+-- ---- changes
+
+-- the text of a new schema denotes it
+pub identity_denoted : (nodes : List NodeView) → IsSchema nodes → denoted (identity nodes) ≡ Some nodes
+identity_denoted nodes schema = denotes_computes (identity nodes) nodes (identity_text_denotes nodes schema)
+
+-- a change that a registry can have leaves a registry
+pub change_fits-IsRegistry : (change : Change) (g : Registry) → IsRegistry g → ChangeFits change g → IsRegistry (after_change change g)
+change_fits-IsRegistry (change.SetGlobal level) g ok fits = levels-IsRegistry g level g.own ok
+change_fits-IsRegistry (change.SetLevel subject level) g ok fits = levels-IsRegistry g g.global (own_with g.own subject level) ok
+change_fits-IsRegistry (change.AddText id text) g ok fits =
+    let few : length g.schemas + 1 ≤ max_number = omega (arith, fits.next, fits.within) in
+    let unknown : id_of g.schemas (identity fits.nodes) ≡ None = subst (λ (t : List ℕ). id_of g.schemas t ≡ None) fits.is fits.unknown in
+    let denotes : denoted text ≡ Some fits.nodes = ap denoted fits.is ∙ identity_denoted fits.nodes fits.schema in
+    subst (λ (o : Option (List NodeView)). IsRegistry (record g { schemas = g.schemas ++ option_to_list o })) (sym denotes) (grown-IsRegistry g fits.nodes ok fits.schema few unknown)
+change_fits-IsRegistry (change.AddRow row) g ok fits = inserted-IsRegistry g row.0 row.1 ok fits.fits
+
+-- and so do changes, each of which it can have at its turn
+pub changes_fit-IsRegistry : (changes : List Change) (g : Registry) → IsRegistry g → ChangesFit changes g → IsRegistry (after_changes changes g)
+changes_fit-IsRegistry [] g ok fits = ok
+changes_fit-IsRegistry (change ∷ changes) g ok fits = changes_fit-IsRegistry changes (after_change change g) (change_fits-IsRegistry change g ok fits.0) fits.1
+
+-- ---- commands
+
+-- the schema of a body is one
+pub schema_in-denotes : (text : List ℕ) (supported : Bool) (new : List NodeView) → schema_in text supported ≡ Some new → TextDenotes text new
+unfolding schema_in
+schema_in-denotes text true new e = computed_denotes text new e
+schema_in-denotes text false new e = absurd (none-some new e)
+
+-- the schemas with a new one, where its identity text has this id or none
+abbrev schemas_by : Schemas → List NodeView → Option ℕ → Schemas
+schemas_by schemas new known = if is_some known then schemas else schemas ++ new ∷ []
+
+-- the id that goes with the schema is within those with it
+id_within : (schemas : Schemas) (new : List NodeView) (known : Option ℕ) → id_of schemas (identity new) ≡ known → (0 < unwrap_or known (length schemas + 1)) × (unwrap_or known (length schemas + 1) ≤ length (schemas_by schemas new known))
+id_within schemas new None e = let longer = length-append schemas (new ∷ []) in (omega arith, omega arith)
+id_within schemas new (Some id) e = let (nodes, is, same) = id_of-schema schemas (identity new) id e in schema_within schemas id nodes is
+
+with_schema-IsRegistry : (g : Registry) (new : List NodeView) (known : Option ℕ) → id_of g.schemas (identity new) ≡ known → IsRegistry g → IsSchema new → unwrap_or known (length g.schemas + 1) ≤ max_number
+    → IsRegistry (record g { schemas = schemas_by g.schemas new known })
+with_schema-IsRegistry g new None e ok schema id = grown-IsRegistry g new ok schema id e
+with_schema-IsRegistry g new (Some known) e ok schema id = ok
+
+-- a registry with the schema as its subject's next version is one, where numbers are left
+pub with_version-IsRegistry : (g : Registry) (subject : List ℕ) (new : List NodeView) → IsRegistry g → IsSchema new → next_number (rows_of g subject) ≤ max_number → id_for g.schemas new ≤ max_number → IsRegistry (with_version g subject new)
+with_version-IsRegistry g subject new ok schema number id =
+    let known = id_of g.schemas (identity new) in
+    let next : 0 < next_number (rows_of g subject) = omega arith in
+    inserted-IsRegistry (record g { schemas = schemas_with g.schemas new }) (subject, next_number (rows_of g subject)) (record { id = id_for g.schemas new; deleted = false })
+    (with_schema-IsRegistry g new known refl ok schema id) (record { within = (next, number); has_schema = id_within g.schemas new known refl })
+
+nat_le_says : (a b : ℕ) → nat_le a b ≡ true → a ≤ b
+nat_le_says a b h = grind (arith, nat_tests)
+
+registered-IsRegistry : (g : Registry) (subject : List ℕ) (new : List NodeView) → IsRegistry g → IsSchema new → (is_there admitted left : Bool) → has_numbers g subject new ≡ left → IsRegistry (registered g subject new is_there admitted left).0
+registered-IsRegistry g subject new ok schema true admitted left e = ok
+registered-IsRegistry g subject new ok schema false false left e = ok
+registered-IsRegistry g subject new ok schema false true false e = ok
+registered-IsRegistry g subject new ok schema false true true e =
+    let both = and_parts (nat_le (next_number (rows_of g subject)) max_number) (nat_le (id_for g.schemas new) max_number) e in
+    with_version-IsRegistry g subject new ok schema (nat_le_says (next_number (rows_of g subject)) max_number both.0) (nat_le_says (id_for g.schemas new) max_number both.1)
+
+register-IsRegistry : (g : Registry) (subject text : List ℕ) (supported : Bool) (schema : Option (List NodeView)) → schema_in text supported ≡ schema → IsRegistry g → IsRegistry (register g subject schema).0
+register-IsRegistry g subject text supported None e ok = ok
+register-IsRegistry g subject text supported (Some new) e ok = registered-IsRegistry g subject new ok (text, schema_in-denotes text supported new e) _ _ _ refl
+
+set_level-IsRegistry : (g : Registry) (subject : Option (List ℕ)) (level : Option Level) → IsRegistry g → IsRegistry (set_level g subject level).0
+set_level-IsRegistry g subject None ok = ok
+set_level-IsRegistry g None (Some level) ok = levels-IsRegistry g level g.own ok
+set_level-IsRegistry g (Some subject) (Some level) ok = levels-IsRegistry g g.global (own_with g.own subject level) ok
+
+-- a registry is one after each command
+pub step-IsRegistry : (g : Registry) (c : Command) → IsRegistry g → IsRegistry (step g c).0
+unfolding step
+step-IsRegistry g (SetGlobal text) ok = set_level-IsRegistry g None (level_of text) ok
+step-IsRegistry g (SetLevel subject text) ok = set_level-IsRegistry g (Some subject) (level_of text) ok
+step-IsRegistry g (Register subject text supported) ok = register-IsRegistry g subject text supported (schema_in text supported) refl ok
+step-IsRegistry g Global ok = ok
+step-IsRegistry g (LevelOf subject default) ok = ok
+step-IsRegistry g (Lookup subject text supported deleted) ok = ok
+step-IsRegistry g (Subjects deleted) ok = ok
+step-IsRegistry g (Versions subject deleted) ok = ok
+step-IsRegistry g (Version subject version deleted) ok = ok
+step-IsRegistry g (Text subject version deleted) ok = ok
+step-IsRegistry g (ById id) ok = ok
+step-IsRegistry g (VersionsOfId id deleted) ok = ok
+step-IsRegistry g Types ok = ok
+step-IsRegistry g (Check subject version text supported) ok = ok
+step-IsRegistry g (CheckAll subject text supported) ok = ok
+
+-- and after any number of them
+pub run_commands-IsRegistry : (g : Registry) (commands : List Command) → IsRegistry g → IsRegistry (run_commands g commands)
+run_commands-IsRegistry g [] ok = ok
+run_commands-IsRegistry g (command ∷ commands) ok = run_commands-IsRegistry (step g command).0 commands (step-IsRegistry g command ok)
+
+-- a new registry is one
+pub new_registry-IsRegistry : IsRegistry new_registry
+new_registry-IsRegistry = record {
+  schemas = All-nil IsSchema;
+  few = omega arith;
+  apart = λ i j one other here there same. absurd (omega (arith, schema_within [] i one here));
+  rows = λ key version e. absurd (none-some version (sym (get-empty registry.row_cmp key) ∙ e));
+}
+
+-- ---- ids of a registry's schemas
+
+-- each schema of a registry has the id at which it stands
+pub schema_at-id_of : (g : Registry) → IsRegistry g → (id : ℕ) (nodes : List NodeView) → schema_at g.schemas id ≡ Some nodes → id_of g.schemas (identity nodes) ≡ Some id
+schema_at-id_of g ok id nodes e = by (id_of g.schemas (identity nodes)) refl
+  where
+    by : (known : Option ℕ) → id_of g.schemas (identity nodes) ≡ known → known ≡ Some id
+    by None none = absurd (id_of-none g.schemas (identity nodes) none id nodes e refl)
+    by (Some j) some = let (other, is, same) = id_of-schema g.schemas (identity nodes) j some in ap Some (ok.apart j id other nodes is e same)
+
+-- and the text of an id is found at it
+pub text_at-id_of : (g : Registry) → IsRegistry g → (id : ℕ) (text : List ℕ) → text_at g.schemas id ≡ Some text → id_of g.schemas text ≡ Some id
+text_at-id_of g ok id text e =
+    let (nodes, is, same) = text_at-schema g.schemas id text e in
+    subst (λ (t : List ℕ). id_of g.schemas t ≡ Some id) same (schema_at-id_of g ok id nodes is)

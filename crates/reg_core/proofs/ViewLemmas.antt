@@ -1,0 +1,101 @@
+-- What is answered from a view is what the registry answers.
+use Rattle.std.proofs.Common.{◌≡◌, ◌∙◌, ℕ, ◌==◌, Bool, true, false, List, [], ◌∷◌, refl, ap, sym, subst, arith, eqb-true}
+use Rattle.std.specs.Prelude.{All, Option, None, Some, Result, Ok, Err, if◌then◌else◌}
+use Rattle.std.specs.FinMap.{entries}
+use Rattle.avro_nodes.specs.Nodes.{NodeView}
+use Rattle.reg_core.specs.declared.code.Code.{Code}
+use Rattle.reg_core.specs.declared.command.Command.{Command}
+use Rattle.reg_core.specs.declared.command.Command.TheVariants.{Lookup, Version, Text, ById}
+use Rattle.reg_core.specs.declared.decision.View.{View}
+use Rattle.reg_core.specs.Bodies.{version_body, schema_body}
+use Rattle.reg_core.specs.Compatibility.{latest}
+use Rattle.reg_core.specs.Numbers.{id_in, choice_in}
+use Rattle.reg_core.specs.Registry.{Registry, Row}
+use Rattle.reg_core.specs.Rows.{rows_with, shown_rows, text_at, known_id}
+use Rattle.reg_core.specs.ReadCommands.{Texts, found_row, looked_up, rows_with_id, text_reply, version_reply, version_text_reply, id_reply, lookup_reply}
+use Rattle.reg_core.specs.Replies.{Told}
+use Rattle.reg_core.specs.RegisterCommands.{schema_in}
+use Rattle.reg_core.specs.Machine.{step}
+use Rattle.reg_core.specs.Views.{IsViewOf, IsGround, row_found, text_in}
+
+-- ---- texts that agree
+
+-- the texts of these versions are the same
+abbrev pub Agree : Texts → Texts → List Row → Type 0
+Agree one other rows = All (λ (row : Row). one row.1.id ≡ other row.1.id) rows
+
+text_of_found : (one other : Texts) (row : Row) → Agree one other (row ∷ []) → one row.1.id ≡ other row.1.id
+text_of_found one other row same = same 0 row (omega arith)
+
+same_version : (one other : Texts) (found : Result Row Code) → Agree one other (row_found found) → version_reply one found ≡ version_reply other found
+same_version one other (Err code) same = refl
+same_version one other (Ok row) same = ap (text_reply (version_body row)) (text_of_found one other row same)
+
+same_version_text : (one other : Texts) (found : Result Row Code) → Agree one other (row_found found) → version_text_reply one found ≡ version_text_reply other found
+same_version_text one other (Err code) same = refl
+same_version_text one other (Ok row) same = ap (text_reply (λ text. text)) (text_of_found one other row same)
+
+same_lookup : (one other : Texts) (schema : Option (List NodeView)) (known : Option ℕ) (rows : List Row) → Agree one other (row_found (looked_up known rows)) → lookup_reply one schema known rows ≡ lookup_reply other schema known rows
+same_lookup one other None known rows same = refl
+same_lookup one other (Some nodes) known rows same = same_version one other (looked_up known rows) same
+
+-- each of these versions has the id
+abbrev HaveId : ℕ → List Row → Type 0
+HaveId id [] = Unit {0}
+HaveId id (row ∷ rows) = (row.1.id ≡ id) × HaveId id rows
+
+have_id_if : (id : ℕ) (row : Row) (rows : List Row) (b : Bool) → (row.1.id == id) ≡ b → HaveId id rows → HaveId id (if b then row ∷ rows else rows)
+have_id_if id row rows true e h = (eqb-true row.1.id id e, h)
+have_id_if id row rows false e h = h
+
+have_id : (id : ℕ) (rows : List Row) → HaveId id (rows_with id rows)
+have_id id [] = tt
+have_id id (row ∷ rows) = have_id_if id row (rows_with id rows) (row.1.id == id) refl (have_id id rows)
+
+text_of_last : (one other : Texts) (id : ℕ) (row : Row) (rows : List Row) → HaveId id (row ∷ rows) → Agree one other (latest (row ∷ rows)) → one id ≡ other id
+text_of_last one other id row [] ids same = subst (λ n. one n ≡ other n) ids.0 (text_of_found one other row same)
+text_of_last one other id row (next ∷ rows) ids same = text_of_last one other id next rows ids.1 same
+
+same_rows_of_id : (one other : Texts) (id : ℕ) (rows : List Row) → HaveId id rows → Agree one other (latest rows) → id_reply one (Some id) rows ≡ id_reply other (Some id) rows
+same_rows_of_id one other id [] ids same = refl
+same_rows_of_id one other id (row ∷ rows) ids same = ap (text_reply schema_body) (text_of_last one other id row rows ids same)
+
+same_id : (one other : Texts) (id : Option ℕ) (all rows : List Row) → rows ≡ rows_with_id id all → Agree one other (latest rows) → id_reply one id rows ≡ id_reply other id (rows_with_id id all)
+same_id one other None all rows e same = refl
+same_id one other (Some id) all rows e same =
+    ap (id_reply one (Some id)) e ∙ same_rows_of_id one other id (rows_with id all) (have_id id all) (subst (λ rs. Agree one other (latest rs)) e same)
+
+-- ---- commands
+
+-- what is told of a command is told of what it is
+pub at_command : (g : Registry) (schema : Option (List NodeView)) (view : View) (told : Told) (command variant : Command) → command ≡ variant
+    → (IsGround g variant schema view → told ≡ (step g variant).1) → IsGround g command schema view → told ≡ (step g command).1
+at_command g schema view told command variant is tells ground =
+    tells (subst (λ (c : Command). IsGround g c schema view) is ground) ∙ ap (λ (c : Command). (step g c).1) (sym is)
+
+pub told_version : (g : Registry) (view : View) (subject version : List ℕ) (deleted : Bool) → IsViewOf view g (Version subject version deleted)
+    → version_reply (text_in view) (found_row (choice_in version) (shown_rows deleted view.rows.items)) ≡ (step g (Version subject version deleted)).1
+unfolding step
+told_version g view subject version deleted shows =
+    same_version (text_in view) (text_at g.schemas) (found_row (choice_in version) (shown_rows deleted view.rows.items)) shows.texts
+    ∙ ap (λ rows. version_reply (text_at g.schemas) (found_row (choice_in version) (shown_rows deleted rows))) shows.rows
+
+pub told_text : (g : Registry) (view : View) (subject version : List ℕ) (deleted : Bool) → IsViewOf view g (Text subject version deleted)
+    → version_text_reply (text_in view) (found_row (choice_in version) (shown_rows deleted view.rows.items)) ≡ (step g (Text subject version deleted)).1
+unfolding step
+told_text g view subject version deleted shows =
+    same_version_text (text_in view) (text_at g.schemas) (found_row (choice_in version) (shown_rows deleted view.rows.items)) shows.texts
+    ∙ ap (λ rows. version_text_reply (text_at g.schemas) (found_row (choice_in version) (shown_rows deleted rows))) shows.rows
+
+pub told_id : (g : Registry) (view : View) (id : List ℕ) → IsViewOf view g (ById id) → id_reply (text_in view) (id_in id) view.rows.items ≡ (step g (ById id)).1
+unfolding step
+told_id g view id shows = same_id (text_in view) (text_at g.schemas) (id_in id) (entries g.rows) view.rows.items shows.rows shows.texts
+
+pub told_lookup : (g : Registry) (view : View) (schema : Option (List NodeView)) (subject text : List ℕ) (supported deleted : Bool) → schema ≡ schema_in text supported → IsViewOf view g (Lookup subject text supported deleted)
+    → lookup_reply (text_in view) schema view.known (shown_rows deleted view.rows.items) ≡ (step g (Lookup subject text supported deleted)).1
+unfolding step
+told_lookup g view schema subject text supported deleted sent shows =
+    same_lookup (text_in view) (text_at g.schemas) schema view.known (shown_rows deleted view.rows.items) shows.texts
+    ∙ (ap (λ s. lookup_reply (text_at g.schemas) s view.known (shown_rows deleted view.rows.items)) sent
+    ∙ (ap (λ known. lookup_reply (text_at g.schemas) (schema_in text supported) known (shown_rows deleted view.rows.items)) shows.known
+    ∙ ap (λ rows. lookup_reply (text_at g.schemas) (schema_in text supported) (known_id g.schemas (schema_in text supported)) (shown_rows deleted rows)) shows.rows))

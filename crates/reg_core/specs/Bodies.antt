@@ -1,0 +1,40 @@
+-- The JSON bodies of answers (RFC 8259), compact, with members in the order of their keys' bytes.
+use Rattle.std.specs.Prelude.{ℕ, Bool, List, ◌∷◌, [], codes, map}
+use Rattle.serde_json.specs.Data.{Data, unsigned, boolean, number, string, array, object, member, no_members}
+use Rattle.serde_json.specs.View.{items_of}
+use Rattle.serde_json.specs.Written.{compact_text}
+use Rattle.reg_core.specs.Registry.{Row}
+
+-- Schema Registry API reference, POST /subjects/{subject}/versions: the id of a schema
+abbrev pub id_body : ℕ → List ℕ
+id_body id = compact_text (object (member (codes "id") (number (unsigned id)) no_members))
+
+-- Schema Registry API reference, GET /schemas/ids/{id}: an identity text
+abbrev pub schema_body : List ℕ → List ℕ
+schema_body text = compact_text (object (member (codes "schema") (string text) no_members))
+
+-- Schema Registry API reference, GET /subjects/{subject}/versions/{version}: a version with its identity text
+abbrev pub version_body : Row → List ℕ → List ℕ
+version_body row text =
+    compact_text (object (member (codes "id") (number (unsigned row.1.id)) (member (codes "schema") (string text)
+    (member (codes "subject") (string row.0.0) (member (codes "version") (number (unsigned row.0.1)) no_members)))))
+
+-- Schema Registry API reference, GET /subjects: an array of texts
+abbrev pub texts_body : List (List ℕ) → List ℕ
+texts_body texts = compact_text (array (items_of (map string texts)))
+
+-- Schema Registry API reference, GET /subjects/{subject}/versions: an array of numbers
+abbrev pub numbers_body : List ℕ → List ℕ
+numbers_body numbers = compact_text (array (items_of (map (λ n. number (unsigned n)) numbers)))
+
+-- Schema Registry API reference, GET /schemas/ids/{id}/versions: a version's subject and number
+abbrev pub place_data : Row → Data
+place_data row = object (member (codes "subject") (string row.0.0) (member (codes "version") (number (unsigned row.0.1)) no_members))
+
+-- Schema Registry API reference, GET /schemas/ids/{id}/versions: an array of subjects and numbers
+abbrev pub places_body : List Row → List ℕ
+places_body rows = compact_text (array (items_of (map place_data rows)))
+
+-- Schema Registry API reference, Compatibility: a verdict
+abbrev pub verdict_body : Bool → List ℕ
+verdict_body fits = compact_text (object (member (codes "is_compatible") (boolean fits) no_members))

@@ -1,0 +1,35 @@
+-- What Register adds, by a view.
+use Rattle.std.specs.Prelude.{ℕ, ◌+◌, ◌&&◌, nat_le, Bool, false, List, [], ◌∷◌, ◌++◌, unwrap_or, Option, None, Some, if◌then◌else◌}
+use Rattle.avro_nodes.specs.Nodes.{NodeView}
+use Rattle.avro_nodes.specs.Identity.{identity}
+use Rattle.reg_core.specs.declared.decision.View.{View}
+use Rattle.reg_core.specs.declared.decision.Change.{Change}
+use Rattle.reg_core.specs.declared.decision.Change.TheVariants as change
+use Rattle.reg_core.specs.Registry.{Row, max_number}
+use Rattle.reg_core.specs.Rows.{next_number}
+use Rattle.reg_core.specs.RegisterCommands.{is_among}
+
+-- this project's choice: the id of the schema that is sent, else the next one
+abbrev pub id_shown : View → ℕ
+id_shown view = unwrap_or view.known (view.count + 1)
+
+-- this project's choice: the id of the schema that is sent, if one of the versions has it
+abbrev pub id_among : Option ℕ → List Row → Option ℕ
+id_among known rows = if is_among known rows then known else None
+
+-- this project's choice: the subject's next number and the schema's id are within the limit
+abbrev pub has_numbers_shown : View → Bool
+has_numbers_shown view = nat_le (next_number view.rows.items) max_number && nat_le (id_shown view) max_number
+
+-- this project's choice: the subject's next version
+abbrev pub row_shown : View → List ℕ → Row
+row_shown view subject = ((subject, next_number view.rows.items), record { id = id_shown view; deleted = false })
+
+-- this project's choice: a schema that has no id gets this one
+abbrev pub text_added : Option ℕ → ℕ → List NodeView → List Change
+text_added None id new = change.AddText id (identity new) ∷ []
+text_added (Some known) id new = []
+
+-- this project's choice: the changes of the version that is added, and of its schema where it is new
+abbrev pub version_added : Option ℕ → Row → List NodeView → List Change
+version_added known row new = text_added known row.1.id new ++ change.AddRow row ∷ []

@@ -1,0 +1,84 @@
+//! Replies with JSON bodies.
+
+ghost use Rattle.std.specs.Prelude.{◌≡◌, IfOk, false, map};
+ghost use Rattle.serde_json.specs.View.{view};
+ghost use Rattle.serde_json.specs.Written.{compact_text, has_float};
+ghost use Rattle.reg_core.specs.Bodies.{numbers_body, place_data, places_body, schema_body, texts_body, version_body};
+ghost use Rattle.reg_core.specs.Replies.{answer};
+
+use crate::reply::Reply;
+use crate::row::Row;
+use avro_nodes::OutOfMemory;
+use serde_json::{Value, json};
+use std::alloc::Global;
+
+/// An object with the identity text of a schema.
+pub fn schema_reply(alloc: Global, text: &str) -> Result<Reply, OutOfMemory>
+    ensures { IfOk result (λ reply. reply ≡ answer (schema_body text.now)) }
+{
+    let object = json!(in alloc; {"schema": text})?;
+    value_reply(alloc, object)
+}
+
+/// A version with the identity text of its schema.
+pub fn version_reply(alloc: Global, row: &Row, text: &str) -> Result<Reply, OutOfMemory>
+    ensures { IfOk result (λ reply. reply ≡ answer (version_body row.now text.now)) }
+{
+    let id = row.id();
+    let subject = row.subject().as_str();
+    let version = row.version();
+    let object =
+        json!(in alloc; {"id": id, "schema": text, "subject": subject, "version": version})?;
+    value_reply(alloc, object)
+}
+
+/// An array of texts.
+pub fn texts_reply(alloc: Global, texts: &[&str]) -> Result<Reply, OutOfMemory>
+    ensures { IfOk result (λ reply. reply ≡ answer (texts_body (map (λ text. text.now) texts.now))) }
+{
+    let mut values = Vec::new(alloc);
+    for text in texts {
+        values.push(Value::String(String::from_str(alloc, text)?))?;
+    }
+    value_reply(alloc, Value::Array(values))
+}
+
+/// An array of the versions' numbers.
+pub fn numbers_reply(alloc: Global, rows: &[&Row]) -> Result<Reply, OutOfMemory>
+    ensures { IfOk result (λ reply. reply ≡ answer
+        (numbers_body (map (λ row. row.0.1) (map (λ row. row.now) rows.now)))) }
+{
+    let mut values = Vec::new(alloc);
+    for row in rows {
+        values.push(Value::from(row.version()))?;
+    }
+    value_reply(alloc, Value::Array(values))
+}
+
+/// An array of the versions' subjects and numbers.
+pub fn places_reply(alloc: Global, rows: &[&Row]) -> Result<Reply, OutOfMemory>
+    ensures { IfOk result (λ reply. reply ≡ answer (places_body (map (λ row. row.now) rows.now))) }
+{
+    let mut values = Vec::new(alloc);
+    for row in rows {
+        values.push(place(alloc, row)?)?;
+    }
+    value_reply(alloc, Value::Array(values))
+}
+
+/// An object with the version's subject and number.
+fn place(alloc: Global, row: &Row) -> Result<Value, OutOfMemory>
+    ensures { IfOk result (λ place. view place ≡ place_data row.now) }
+{
+    let subject = row.subject().as_str();
+    let version = row.version();
+    Ok(json!(in alloc; {"subject": subject, "version": version})?)
+}
+
+/// The value's text. A clause knows it only where the value has no float.
+fn value_reply(alloc: Global, value: Value) -> Result<Reply, OutOfMemory>
+    ensures { IfOk result (λ reply. has_float (view value) ≡ false
+        → reply ≡ answer (compact_text (view value))) }
+{
+    Ok(Reply::answer(value.to_string(alloc)?))
+}

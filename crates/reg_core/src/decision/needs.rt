@@ -1,0 +1,139 @@
+//! The texts that a command needs.
+
+ghost use Rattle.std.specs.Prelude.{◌≡◌, [], IfOk, if◌then◌else◌, map};
+ghost use Rattle.std.specs.Result.{result_map_both};
+ghost use Rattle.reg_core.specs.Compatibility.{latest, named_versions};
+ghost use Rattle.reg_core.specs.Numbers.{choice_in};
+ghost use Rattle.reg_core.specs.ReadCommands.{found_row, looked_up};
+ghost use Rattle.reg_core.specs.RegisterCommands.{is_among};
+ghost use Rattle.reg_core.specs.Rows.{live_rows, shown_rows};
+ghost use Rattle.reg_core.specs.Views.{level_of_view, row_found, rows_read};
+
+use crate::code::Code;
+use crate::command::Command;
+use crate::compatibility::{latest, named};
+use crate::decision::View;
+use crate::decision::reading::looked_up;
+use crate::decision::registering::{id_among, level_in_force};
+use crate::decision::rows::{found_row, shown_rows};
+use crate::number::choice_in;
+use crate::row::Row;
+use avro_nodes::OutOfMemory;
+use std::alloc::Global;
+
+/// The ids whose texts the command shows, or whose schemas it compares with the one that it sends.
+/// It looks at no text of the view. An id may come more than once.
+///
+/// # Errors
+///
+/// `OutOfMemory` where room for the ids is refused.
+pub fn ids_read(alloc: Global, command: &Command, view: &View) -> Result<Vec<u32>, OutOfMemory>
+    ensures { IfOk result (λ ids. ids.items ≡ map (λ row. row.1.id) (rows_read command.now view.now)) }
+{
+    match command {
+        Command::Register { .. } => register_ids(alloc, view),
+        Command::Lookup { deleted, .. } => lookup_ids(alloc, view, *deleted),
+        Command::Version {
+            version,
+            deleted,
+            ..
+        }
+        | Command::Text {
+            version,
+            deleted,
+            ..
+        } => version_ids(alloc, view, version.as_str(), *deleted),
+        Command::ById { .. } => latest_id(alloc, &view.rows),
+        Command::Check { version, .. } => check_ids(alloc, view, version.as_str()),
+        Command::CheckAll { .. } => check_all_ids(alloc, view),
+        Command::SetGlobal { .. }
+        | Command::SetLevel { .. }
+        | Command::Global
+        | Command::LevelOf { .. }
+        | Command::Subjects { .. }
+        | Command::Versions { .. }
+        | Command::VersionsOfId { .. }
+        | Command::Types => Ok(Vec::new(alloc)),
+    }
+}
+
+/// The ids that Register compares with: none where a live version has the schema already.
+fn register_ids(alloc: Global, view: &View) -> Result<Vec<u32>, OutOfMemory>
+    ensures { IfOk result (λ ids. let live = live_rows view.now.rows.items in ids.items
+        ≡ map (λ row. row.1.id) (if is_among view.now.known live then [] else named_versions (level_of_view view.now) live)) }
+{
+    let live = shown_rows(alloc, false, &view.rows)?;
+    if id_among(view.known, &live).is_some() {
+        return Ok(Vec::new(alloc));
+    }
+    ids_of(alloc, named(level_in_force(view), &live))
+}
+
+/// The ids that CheckAll compares with.
+fn check_all_ids(alloc: Global, view: &View) -> Result<Vec<u32>, OutOfMemory>
+    ensures { IfOk result (λ ids. ids.items
+        ≡ map (λ row. row.1.id) (named_versions (level_of_view view.now) (live_rows view.now.rows.items))) }
+{
+    let live = shown_rows(alloc, false, &view.rows)?;
+    ids_of(alloc, named(level_in_force(view), &live))
+}
+
+/// The id that Check compares with, if the version is found.
+fn check_ids(alloc: Global, view: &View, version: &str) -> Result<Vec<u32>, OutOfMemory>
+    ensures { IfOk result (λ ids. ids.items ≡ map (λ row. row.1.id) (named_versions (level_of_view view.now)
+        (row_found (found_row (choice_in version.now) (live_rows view.now.rows.items))))) }
+{
+    let live = shown_rows(alloc, false, &view.rows)?;
+    match found_row(choice_in(version), &live) {
+        Ok(row) => ids_of(alloc, named(level_in_force(view), &[row])),
+        Err(_) => Ok(Vec::new(alloc)),
+    }
+}
+
+/// The id of the version that the text chooses, if it is found.
+fn version_ids(
+    alloc: Global,
+    view: &View,
+    version: &str,
+    deleted: bool,
+) -> Result<Vec<u32>, OutOfMemory>
+    ensures { IfOk result (λ ids. ids.items ≡ map (λ row. row.1.id)
+        (row_found (found_row (choice_in version.now) (shown_rows deleted view.now.rows.items)))) }
+{
+    let shown = shown_rows(alloc, deleted, &view.rows)?;
+    found_ids(alloc, found_row(choice_in(version), &shown))
+}
+
+/// The id of the version that Lookup shows, if it is found.
+fn lookup_ids(alloc: Global, view: &View, deleted: bool) -> Result<Vec<u32>, OutOfMemory>
+    ensures { IfOk result (λ ids. ids.items ≡ map (λ row. row.1.id)
+        (row_found (looked_up view.now.known (shown_rows deleted view.now.rows.items)))) }
+{
+    let shown = shown_rows(alloc, deleted, &view.rows)?;
+    found_ids(alloc, looked_up(view.known, &shown))
+}
+
+/// The id of the version, if it was found.
+fn found_ids(alloc: Global, found: Result<&Row, Code>) -> Result<Vec<u32>, OutOfMemory>
+    ensures { IfOk result (λ ids. ids.items ≡ map (λ row. row.1.id)
+        (row_found (result_map_both (λ row. row.now) (λ code. code) found.entry))) }
+{
+    match found {
+        Ok(row) => ids_of(alloc, &[row]),
+        Err(_) => Ok(Vec::new(alloc)),
+    }
+}
+
+/// The id of the last of the versions, if there is one.
+fn latest_id(alloc: Global, rows: &[Row]) -> Result<Vec<u32>, OutOfMemory>
+    ensures { IfOk result (λ ids. ids.items ≡ map (λ row. row.1.id) (latest rows.now)) }
+{
+    Ok(latest(rows).iter().map(|row| row.id()).collect(alloc)?)
+}
+
+/// The ids of the versions.
+fn ids_of(alloc: Global, rows: &[&Row]) -> Result<Vec<u32>, OutOfMemory>
+    ensures { IfOk result (λ ids. ids.items ≡ map (λ row. row.now.1.id) rows.now) }
+{
+    Ok(rows.iter().map(|row| row.id()).collect(alloc)?)
+}

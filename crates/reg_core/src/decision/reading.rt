@@ -1,0 +1,198 @@
+//! Commands that show subjects, versions and schemas.
+
+ghost use Rattle.std.specs.Prelude.{◌≡◌, IfOk, None, bytes_eq, map, option_copied, option_map};
+ghost use Rattle.std.specs.List.{dedup, last_or};
+ghost use Rattle.std.specs.Result.{result_map_both};
+ghost use Rattle.avro_nodes.specs.Nodes.{nodes_view};
+ghost use Rattle.reg_core.specs.Bodies.{schema_body, version_body};
+ghost use Rattle.reg_core.specs.Numbers.{choice_in, id_in};
+ghost use Rattle.reg_core.specs.ReadCommands.{found_row, id_reply, id_versions_reply, looked_up, lookup_reply, rows_with_id, subjects_reply, text_reply, types_reply, version_reply, version_text_reply, versions_reply};
+ghost use Rattle.reg_core.specs.Rows.{shown_rows};
+ghost use Rattle.reg_core.specs.Views.{text_in};
+
+use crate::code::Code;
+use crate::decision::View;
+use crate::decision::bodies::{
+    numbers_reply, places_reply, schema_reply, texts_reply, version_reply,
+};
+use crate::decision::rows::{found_row, shown_rows};
+use crate::number::{choice_in, id_in};
+use crate::reply::Reply;
+use crate::row::Row;
+use avro_nodes::OutOfMemory;
+use avro_schema::Schema;
+use std::alloc::Global;
+
+/// The types of schemas: Avro alone.
+pub fn types(alloc: Global) -> Result<Reply, OutOfMemory>
+    ensures { IfOk result (λ reply. reply ≡ types_reply) }
+{
+    texts_reply(alloc, &["AVRO"])
+}
+
+/// The subjects of the versions that are shown.
+pub fn subjects(alloc: Global, deleted: bool, rows: &[Row]) -> Result<Reply, OutOfMemory>
+    ensures { IfOk result (λ reply. reply ≡ subjects_reply (shown_rows deleted rows.now)) }
+{
+    let shown = shown_rows(alloc, deleted, rows)?;
+    let subjects = subjects_of(alloc, shown.as_slice())?;
+    texts_reply(alloc, subjects.as_slice())
+}
+
+/// The subjects of these versions, each once: those of a subject stand side by side.
+fn subjects_of<'a>(alloc: Global, rows: &[&'a Row]) -> Result<Vec<&'a str>, OutOfMemory>
+    ensures { IfOk result (λ subjects. map (λ subject. subject.now) subjects.items
+        ≡ dedup bytes_eq (map (λ row. row.0.0) (map (λ row. row.now) rows.now))) }
+{
+    let mut subjects: Vec<&'a str> = rows
+        .iter()
+        .map(|row| row.subject().as_str())
+        .collect(alloc)?;
+    subjects.dedup();
+    Ok(subjects)
+}
+
+/// The numbers of the subject's versions that are shown.
+pub fn versions(alloc: Global, deleted: bool, rows: &[Row]) -> Result<Reply, OutOfMemory>
+    ensures { IfOk result (λ reply. reply ≡ versions_reply (shown_rows deleted rows.now)) }
+{
+    let shown = shown_rows(alloc, deleted, rows)?;
+    if shown.is_empty() {
+        return Ok(Reply::fault(Code::SubjectNotFound));
+    }
+    numbers_reply(alloc, shown.as_slice())
+}
+
+/// The version of the subject that the text chooses, with its schema.
+pub fn version(alloc: Global, view: &View, text: &str, deleted: bool) -> Result<Reply, OutOfMemory>
+    ensures { IfOk result (λ reply. reply ≡ version_reply (text_in view.now)
+        (found_row (choice_in text.now) (shown_rows deleted view.now.rows.items))) }
+{
+    let shown = shown_rows(alloc, deleted, view.rows.as_slice())?;
+    match found_row(choice_in(text), shown.as_slice()) {
+        Ok(row) => shown_version(alloc, view, row),
+        Err(code) => Ok(Reply::fault(code)),
+    }
+}
+
+/// The schema of the version that the text chooses.
+pub fn version_text(
+    alloc: Global,
+    view: &View,
+    text: &str,
+    deleted: bool,
+) -> Result<Reply, OutOfMemory>
+    ensures { IfOk result (λ reply. reply ≡ version_text_reply (text_in view.now)
+        (found_row (choice_in text.now) (shown_rows deleted view.now.rows.items))) }
+{
+    let shown = shown_rows(alloc, deleted, view.rows.as_slice())?;
+    match found_row(choice_in(text), shown.as_slice()) {
+        Ok(row) => shown_text(view, row.id()),
+        Err(code) => Ok(Reply::fault(code)),
+    }
+}
+
+/// The last version of the subject that has the schema.
+pub fn lookup(
+    alloc: Global,
+    view: &View,
+    schema: Option<&Schema>,
+    deleted: bool,
+) -> Result<Reply, OutOfMemory>
+    ensures { IfOk result (λ reply. reply ≡ lookup_reply (text_in view.now)
+        (option_map nodes_view (option_copied schema.entry)) view.now.known
+        (shown_rows deleted view.now.rows.items)) }
+{
+    if schema.is_none() {
+        return Ok(Reply::fault(Code::InvalidSchema));
+    }
+    let shown = shown_rows(alloc, deleted, view.rows.as_slice())?;
+    match looked_up(view.known, shown.as_slice()) {
+        Ok(row) => shown_version(alloc, view, row),
+        Err(code) => Ok(Reply::fault(code)),
+    }
+}
+
+/// The last of these versions that has the id, or why there is none.
+pub fn looked_up<'a>(known: Option<u32>, rows: &[&'a Row]) -> Result<&'a Row, Code>
+    ensures { result_map_both (λ row. row.now) (λ code. code) result
+        ≡ looked_up known (map (λ row. row.now) rows.now) }
+{
+    if rows.is_empty() {
+        return Err(Code::SubjectNotFound);
+    }
+    match last_with(known, rows) {
+        Some(row) => Ok(row),
+        None => Err(Code::SchemaNotFound),
+    }
+}
+
+/// The last of these versions that has the id, if there is one.
+fn last_with<'a>(known: Option<u32>, rows: &[&'a Row]) -> Option<&'a Row>
+    ensures { option_copied result ≡ last_or None (rows_with_id known (map (λ row. row.now) rows.now)) }
+{
+    let id = known?;
+    let mut last = None;
+    for row in rows {
+        if row.id() == id {
+            last = Some(*row);
+        }
+    }
+    last
+}
+
+/// The schema of the id, which some version has.
+pub fn by_id(alloc: Global, view: &View, id: &str) -> Result<Reply, OutOfMemory>
+    ensures { IfOk result (λ reply. reply ≡ id_reply (text_in view.now) (id_in id.now) view.now.rows.items) }
+{
+    match id_in(id) {
+        Some(id) if !view.rows.is_empty() => shown_schema(alloc, view, id),
+        _ => Ok(Reply::fault(Code::SchemaNotFound)),
+    }
+}
+
+/// The versions of the id that are shown. Some version has the id, a deleted one perhaps.
+pub fn versions_of_id(
+    alloc: Global,
+    deleted: bool,
+    rows: &[Row],
+    id: &str,
+) -> Result<Reply, OutOfMemory>
+    ensures { IfOk result (λ reply. reply ≡ id_versions_reply (id_in id.now) deleted rows.now) }
+{
+    if id_in(id).is_none() || rows.is_empty() {
+        return Ok(Reply::fault(Code::SchemaNotFound));
+    }
+    let shown = shown_rows(alloc, deleted, rows)?;
+    places_reply(alloc, shown.as_slice())
+}
+
+/// The version with its schema.
+fn shown_version(alloc: Global, view: &View, row: &Row) -> Result<Reply, OutOfMemory>
+    ensures { IfOk result (λ reply. reply ≡ text_reply (version_body row.now) (text_in view.now row.now.1.id)) }
+{
+    match view.texts.get(&row.id()) {
+        Some(text) => version_reply(alloc, row, text.as_str()),
+        None => Ok(Reply::fault(Code::SchemaNotFound)),
+    }
+}
+
+/// The schema of the id, in an object.
+fn shown_schema(alloc: Global, view: &View, id: u32) -> Result<Reply, OutOfMemory>
+    ensures { IfOk result (λ reply. reply ≡ text_reply schema_body (text_in view.now id)) }
+{
+    match view.texts.get(&id) {
+        Some(text) => schema_reply(alloc, text.as_str()),
+        None => Ok(Reply::fault(Code::SchemaNotFound)),
+    }
+}
+
+/// The schema of the id alone.
+fn shown_text(view: &View, id: u32) -> Result<Reply, OutOfMemory>
+    ensures { IfOk result (λ reply. reply ≡ text_reply (λ text. text) (text_in view.now id)) }
+{
+    match view.texts.get(&id) {
+        Some(text) => Ok(Reply::answer(text.clone()?)),
+        None => Ok(Reply::fault(Code::SchemaNotFound)),
+    }
+}

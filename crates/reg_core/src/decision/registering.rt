@@ -1,0 +1,192 @@
+//! Commands that register schemas, and that tell whether a schema could be registered.
+
+ghost use Rattle.std.specs.Prelude.{◌≡◌, ◌≢◌, ℕ, Bool, List, [], None, Some, IfOk, if◌then◌else◌, map, option_copied, option_map};
+ghost use Rattle.avro_nodes.specs.Nodes.{nodes_view};
+ghost use Rattle.reg_core.specs.declared.command.Command.TheVariants.{Check, CheckAll, Register};
+ghost use Rattle.reg_core.specs.Bodies.{id_body, verdict_body};
+ghost use Rattle.reg_core.specs.Machine.{step};
+ghost use Rattle.reg_core.specs.Registering.{has_numbers_shown, id_among, id_shown, row_shown, version_added};
+ghost use Rattle.reg_core.specs.Registry.{Registry};
+ghost use Rattle.reg_core.specs.Replies.{IsOwnReply, answer};
+ghost use Rattle.reg_core.specs.Rows.{next_number};
+ghost use Rattle.reg_core.specs.Views.{ChangesFit, IsGround, after_changes, level_of_view};
+
+use crate::code::Code;
+use crate::decision::comparing::admits_after;
+use crate::decision::rows::{found_row, shown_rows};
+use crate::decision::{Change, Decision, View, unchanged};
+use crate::level::Level;
+use crate::number::{MAX_NUMBER, choice_in};
+use crate::reply::Reply;
+use crate::row::Row;
+use crate::subject::Subject;
+use crate::text::Text;
+use avro_nodes::OutOfMemory;
+use avro_schema::Schema;
+use serde_json::json;
+use std::alloc::Global;
+
+/// The schema becomes the subject's next version, unless a live version has it already. It is
+/// refused where the level doesn't admit it, and where no number is left.
+pub fn register(
+    alloc: Global,
+    view: &View,
+    subject: &Subject,
+    schema: Option<&Schema>,
+) -> Result<Decision, OutOfMemory>
+    ensures reply { IfOk result (λ decision. (g : Registry) (text : List ℕ) (supported : Bool)
+        → IsGround g (Register subject.now text supported) (option_map nodes_view (option_copied schema.entry)) view.now
+        → decision.reply ≡ (step g (Register subject.now text supported)).1) }
+    ensures changes { IfOk result (λ decision. (g : Registry) (text : List ℕ) (supported : Bool)
+        → IsGround g (Register subject.now text supported) (option_map nodes_view (option_copied schema.entry)) view.now
+        → after_changes decision.changes.items g ≡ (step g (Register subject.now text supported)).0) }
+    ensures fit { IfOk result (λ decision. (g : Registry) (text : List ℕ) (supported : Bool)
+        → IsGround g (Register subject.now text supported) (option_map nodes_view (option_copied schema.entry)) view.now
+        → ChangesFit decision.changes.items g) }
+    ensures refusal { IfOk result (λ decision. decision.reply.status ≢ 200 → decision.changes.items ≡ []) }
+    ensures own { IfOk result (λ decision. IsOwnReply decision.reply) }
+{
+    let Some(new) = schema else {
+        return Ok(unchanged(alloc, Reply::fault(Code::InvalidSchema)));
+    };
+    let live = shown_rows(alloc, false, &view.rows)?;
+    if let Some(id) = id_among(view.known, &live) {
+        let reply = id_reply(alloc, id)?;
+        return Ok(unchanged(alloc, reply));
+    }
+    if !admits_after(alloc, view, level_in_force(view), &live, new)? {
+        return Ok(unchanged(alloc, Reply::fault(Code::Incompatible)));
+    }
+    let Some(row) = next_row(view, subject)? else {
+        return Ok(unchanged(alloc, Reply::fault(Code::NoNumberLeft)));
+    };
+    let reply = id_reply(alloc, row.id())?;
+    let changes = version_added(alloc, view.known, row, new)?;
+    Ok(Decision { changes, reply })
+}
+
+/// The reply to whether the subject's level would admit the schema.
+pub fn check_all(alloc: Global, view: &View, schema: Option<&Schema>) -> Result<Reply, OutOfMemory>
+    ensures reply { IfOk result (λ reply. (g : Registry) (subject text : List ℕ) (supported : Bool)
+        → IsGround g (CheckAll subject text supported) (option_map nodes_view (option_copied schema.entry)) view.now
+        → reply ≡ (step g (CheckAll subject text supported)).1) }
+    ensures own { IfOk result (λ reply. IsOwnReply reply) }
+{
+    let Some(new) = schema else {
+        return Ok(Reply::fault(Code::InvalidSchema));
+    };
+    let live = shown_rows(alloc, false, &view.rows)?;
+    let fits = admits_after(alloc, view, level_in_force(view), &live, new)?;
+    verdict_reply(alloc, fits)
+}
+
+/// The reply to whether the subject's level would admit the schema after the live version that is
+/// chosen alone.
+pub fn check(
+    alloc: Global,
+    view: &View,
+    version: &str,
+    schema: Option<&Schema>,
+) -> Result<Reply, OutOfMemory>
+    ensures reply { IfOk result (λ reply. (g : Registry) (subject text : List ℕ) (supported : Bool)
+        → IsGround g (Check subject version.now text supported) (option_map nodes_view (option_copied schema.entry)) view.now
+        → reply ≡ (step g (Check subject version.now text supported)).1) }
+    ensures own { IfOk result (λ reply. IsOwnReply reply) }
+{
+    let Some(choice) = choice_in(version) else {
+        return Ok(Reply::fault(Code::InvalidVersion));
+    };
+    let Some(new) = schema else {
+        return Ok(Reply::fault(Code::InvalidSchema));
+    };
+    let live = shown_rows(alloc, false, &view.rows)?;
+    match found_row(Some(choice), &live) {
+        Ok(row) => {
+            let fits = admits_after(alloc, view, level_in_force(view), &[row], new)?;
+            verdict_reply(alloc, fits)
+        }
+        Err(code) => Ok(Reply::fault(code)),
+    }
+}
+
+/// The level in force: the subject's own one, else the global one.
+pub fn level_in_force(view: &View) -> Level
+    ensures { result ≡ level_of_view view.now }
+{
+    view.own.unwrap_or(view.global)
+}
+
+/// The id, if there is one and one of the versions has it.
+pub fn id_among(known: Option<u32>, rows: &[&Row]) -> Option<u32>
+    ensures { result ≡ id_among known (map (λ row. row.now) rows.now) }
+{
+    let id = known?;
+    if rows.iter().any(|row| row.id() == id) {
+        Some(id)
+    } else {
+        None
+    }
+}
+
+/// The subject's next version, if numbers are left for it and for its schema.
+fn next_row(view: &View, subject: &Subject) -> Result<Option<Row>, OutOfMemory>
+    ensures { IfOk result (λ row. row ≡ (if has_numbers_shown view.now then Some (row_shown view.now subject.now) else None)) }
+{
+    let version = next_number(&view.rows);
+    let id = match view.known {
+        Some(id) => u64::from(id),
+        None => u64::from(view.count) + 1,
+    };
+    let most = u64::from(MAX_NUMBER);
+    if version > most || id > most {
+        return Ok(None);
+    }
+    let row = Row::new(subject.try_clone()?, version as u32, id as u32, false);
+    Ok(Some(row))
+}
+
+/// The number after the greatest one of these versions.
+fn next_number(rows: &[Row]) -> u64
+    ensures { result ≡ next_number rows.now }
+{
+    let greatest = rows
+        .iter()
+        .fold(0, |greatest: u32, row| greatest.max(row.version()));
+    u64::from(greatest) + 1
+}
+
+/// The changes that add the version, and its schema where it is new.
+fn version_added(
+    alloc: Global,
+    known: Option<u32>,
+    row: Row,
+    new: &Schema,
+) -> Result<Vec<Change>, OutOfMemory>
+    ensures { IfOk result (λ changes. changes.items ≡ version_added known row (nodes_view new.now)) }
+{
+    let mut changes = Vec::new(alloc);
+    if known.is_none() {
+        changes.push(Change::AddText {
+            id: row.id(),
+            text: Text::from(new.text(alloc)?),
+        })?;
+    }
+    changes.push(Change::AddRow { row })?;
+    Ok(changes)
+}
+
+/// The reply that tells the id of a schema.
+fn id_reply(alloc: Global, id: u32) -> Result<Reply, OutOfMemory>
+    ensures { IfOk result (λ reply. reply ≡ answer (id_body id)) }
+{
+    let object = json!(in alloc; {"id": id})?;
+    Ok(Reply::answer(object.to_string(alloc)?))
+}
+
+/// The reply that tells a verdict.
+fn verdict_reply(alloc: Global, fits: bool) -> Result<Reply, OutOfMemory>
+    ensures { IfOk result (λ reply. reply ≡ answer (verdict_body fits)) }
+{
+    let object = json!(in alloc; {"is_compatible": fits})?;
+    Ok(Reply::answer(object.to_string(alloc)?))
+}

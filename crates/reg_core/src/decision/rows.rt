@@ -1,0 +1,55 @@
+//! The versions that a command looks at.
+
+ghost use Rattle.std.specs.Prelude.{◌≡◌, IfOk, map, option_copied};
+ghost use Rattle.std.specs.Result.{result_map_both};
+ghost use Rattle.reg_core.specs.ReadCommands.{found_row};
+ghost use Rattle.reg_core.specs.Rows.{chosen_row, shown_rows};
+
+use crate::code::Code;
+use crate::number::Choice;
+use crate::row::Row;
+use avro_nodes::OutOfMemory;
+use std::alloc::Global;
+
+/// The versions that are shown: those that aren't soft-deleted, or all where deleted ones are
+/// asked for.
+pub fn shown_rows<'a>(
+    alloc: Global,
+    deleted: bool,
+    rows: &'a [Row],
+) -> Result<Vec<&'a Row>, OutOfMemory>
+    ensures { IfOk result (λ shown. map (λ row. row.now) shown.items ≡ shown_rows deleted rows.now) }
+{
+    let shown = rows
+        .iter()
+        .filter(|row| deleted || !row.deleted())
+        .collect(alloc)?;
+    Ok(shown)
+}
+
+/// The version that is chosen among these, or why there is none.
+pub fn found_row<'a>(choice: Option<Choice>, rows: &[&'a Row]) -> Result<&'a Row, Code>
+    ensures { result_map_both (λ row. row.now) (λ code. code) result
+        ≡ found_row choice (map (λ row. row.now) rows.now) }
+{
+    let Some(choice) = choice else {
+        return Err(Code::InvalidVersion);
+    };
+    if rows.is_empty() {
+        return Err(Code::SubjectNotFound);
+    }
+    match chosen_row(choice, rows) {
+        Some(row) => Ok(row),
+        None => Err(Code::VersionNotFound),
+    }
+}
+
+/// The version that is chosen among these, if there is one.
+fn chosen_row<'a>(choice: Choice, rows: &[&'a Row]) -> Option<&'a Row>
+    ensures { option_copied result ≡ chosen_row choice (map (λ row. row.now) rows.now) }
+{
+    match choice {
+        Choice::Latest => rows.last().copied(),
+        Choice::Numbered(number) => rows.iter().copied().find(|row| row.version() == number),
+    }
+}

@@ -1,0 +1,58 @@
+//! Numbers in paths: ids, and the versions that a client chooses.
+
+ghost use Rattle.std.specs.Prelude.{◌≡◌, ◌≤◌, IfSome};
+ghost use Rattle.reg_core.specs.Numbers.{choice_in, id_in, number_up_to};
+ghost use Rattle.reg_core.specs.Registry.{max_number};
+
+/// The greatest id and the greatest number of a version.
+pub const MAX_NUMBER: u32 = 2_147_483_647;
+
+/// The version that a client chooses. (Schema Registry API reference, Subjects, `versionId`.)
+#[derive(Clone, Copy, Debug, PartialEq, Eq)]
+pub enum Choice {
+    /// The greatest one that is shown.
+    Latest,
+    /// The one with this number.
+    Numbered(u32),
+}
+
+/// The number up to the limit that a text writes in decimal digits without a leading zero.
+pub fn number_up_to(limit: u32, text: &[u8]) -> Option<u32>
+    ensures { result ≡ number_up_to limit text.now }
+{
+    if text.is_empty() || text[0] == b'0' {
+        return None;
+    }
+    let most = u64::from(limit);
+    let mut number: u64 = 0;
+    for digit in text {
+        if !digit.is_ascii_digit() {
+            return None;
+        }
+        number = (number * 10 + u64::from(*digit - b'0')).min(most + 1);
+    }
+    if number > most {
+        return None;
+    }
+    Some(number as u32)
+}
+
+/// The id that a text spells, 1 to 2,147,483,647 without a leading zero.
+pub fn id_in(text: &str) -> Option<u32>
+    ensures { result ≡ id_in text.now }
+{
+    number_up_to(MAX_NUMBER, text.as_bytes())
+}
+
+/// The version that a text chooses: `latest`, or a number as an id is spelt.
+pub fn choice_in(text: &str) -> Option<Choice>
+    ensures { result ≡ choice_in text.now }
+{
+    if text == "latest" {
+        return Some(Choice::Latest);
+    }
+    match number_up_to(MAX_NUMBER, text.as_bytes()) {
+        Some(number) => Some(Choice::Numbered(number)),
+        None => None,
+    }
+}

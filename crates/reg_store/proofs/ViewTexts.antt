@@ -1,0 +1,155 @@
+-- The texts of a view.
+use Rattle.std.proofs.Common.{◌≡◌, ◌≢◌, ◌≤◌, inl, inr, ℕ, zero, suc, List, true, false, true≢false, Option, None, Some, map, length, refl, sym, ap, subst, ◌∙◌, arith}
+use Rattle.std.specs.Prelude.{option_map, is_some, IsSome, All, MatchOption, string_bytes, String}
+use Rattle.std.specs.declared.alloc.Global.{Global}
+use Rattle.std.specs.BTreeMap as tree
+use Rattle.std.specs.BTreeMap.{BTreeMap}
+use Rattle.std.specs.Ordering.{nat_cmp}
+use Rattle.std.specs.FinMap.{get}
+use Rattle.std.specs.Map.{lookup}
+use Rattle.reg_core.specs.declared.command.Command.{Command}
+use Rattle.reg_core.specs.declared.command.Command.TheVariants.{SetGlobal, SetLevel, Register, Global as GlobalLevel, LevelOf, Lookup, Subjects, Versions, Version, Text, ById, VersionsOfId, Types, Check, CheckAll}
+use Rattle.reg_core.specs.declared.decision.View.{View}
+use Rattle.reg_core.specs.Registry.{Registry, IsRegistry, Row, Schemas}
+use Rattle.reg_core.specs.Rows.{id_of, text_at}
+use Rattle.reg_core.specs.Views.{IsViewOf, rows_read}
+use Rattle.reg_core.proofs.IdLemmas.{text_within, text_there as id_has_text, text_at-schema, id_of-text_at, id_of-no_text}
+use Rattle.reg_tables.specs.Contents.{Contents}
+use Rattle.reg_tables.proofs.MapLemmas.{same_or_not, other_key}
+use Rattle.reg_tables.proofs.KeyedTables.{number_order}
+use Rattle.reg_store.proofs.RowLemmas.{all_mapped}
+use Rattle.reg_store.specs.Viewing.{HasText, AreTrueTexts, AddsText, PutsText, IsViewButTexts}
+
+-- ---- texts that are there
+
+abbrev Texts : Type 0
+Texts = BTreeMap ℕ (String Global)
+
+pub puts_text : (old new : Texts) (id : ℕ) (text : String Global) → tree.Updates nat_cmp old new id (Some text) → PutsText old new id (Some text)
+puts_text old new id text updates = record {
+  here = λ _. ap (option_map string_bytes) updates.1;
+  others = λ other apart. ap (option_map string_bytes) (updates.2 other (other_key nat_cmp number_order id other (λ e. apart (sym e))));
+}
+
+some_there : (o : Option (String Global)) → is_some o ≡ true → (text : List ℕ) × (option_map string_bytes o ≡ Some text)
+some_there None h = absurd (cc)
+some_there (Some text) h = (string_bytes text, refl)
+
+none_there : (o : Option (String Global)) → is_some o ≡ false → option_map string_bytes o ≡ None
+none_there None h = refl
+none_there (Some text) h = absurd (cc)
+
+-- a text that is there stays
+pub text_stays : (texts : Texts) (schemas : Schemas) (id : ℕ) → is_some (tree.get nat_cmp texts id) ≡ true → AddsText texts texts schemas id
+text_stays texts schemas id there =
+    let it = some_there (tree.get nat_cmp texts id) there in
+    record { here = λ true_texts. it.1 ∙ sym (true_texts id it.0 it.1); kept = λ _ other h. h; true_texts = λ h. h }
+
+-- a text that isn't there is put
+pub text_comes : (old new : Texts) (schemas : Schemas) (id : ℕ) (found : Option (String Global)) → is_some (tree.get nat_cmp old id) ≡ false → option_map string_bytes found ≡ text_at schemas id → PutsText old new id found → AddsText old new schemas id
+text_comes old new schemas id found absent is puts =
+    let here : HasText new schemas id = puts.here (none_there (tree.get nat_cmp old id) absent) ∙ is in
+    record {
+      here = λ _. here;
+      kept = λ _ other h. elim (same_or_not nat_cmp number_order other id) [
+        | inl e ↦ subst (HasText new schemas) (sym e) here
+        | inr apart ↦ puts.others other apart ∙ h
+      ];
+      true_texts = λ true_texts other text there. elim (same_or_not nat_cmp number_order other id) [
+        | inl e ↦ sym (subst (HasText new schemas) (sym e) here) ∙ there
+        | inr apart ↦ true_texts other text (sym (puts.others other apart) ∙ there)
+      ];
+    }
+
+pub true_if_empty : (texts : Texts) (schemas : Schemas) → tree.IsEmpty texts → AreTrueTexts texts schemas
+true_if_empty texts schemas empty id text there =
+    let none : None ≡ Some text = sym (ap (λ es. option_map string_bytes (lookup (tree.is_at (nat_cmp id)) es)) empty) ∙ there in
+    absurd (cc)
+
+-- ---- ids
+
+module _ (contents : Contents) (g : Registry) (registry : IsRegistry g) (spelled : (id : ℕ) → get contents.texts id ≡ text_at g.schemas id) where
+  -- the id that was found for a text
+  pub id_found : (found : Option ℕ) (text : List ℕ) → MatchOption found ((id : ℕ) → get contents.texts id ≢ Some text) (λ id. get contents.texts id ≡ Some text) → found ≡ id_of g.schemas text
+  id_found None text none = go (id_of g.schemas text) refl
+    where
+      go : (o : Option ℕ) → id_of g.schemas text ≡ o → None ≡ o
+      go None is = refl
+      go (Some id) is = absurd (none id (spelled id ∙ id_of-text_at g.schemas text id is))
+  id_found (Some id) text there = go (id_of g.schemas text) refl
+    where
+      here : text_at g.schemas id ≡ Some text
+      here = sym (spelled id) ∙ there
+
+      go : (o : Option ℕ) → id_of g.schemas text ≡ o → Some id ≡ o
+      go None is = absurd (id_of-no_text g.schemas text is id here)
+      go (Some other) is =
+          let one = text_at-schema g.schemas id text here in
+          let two = text_at-schema g.schemas other text (id_of-text_at g.schemas text other is) in
+          ap Some (registry.apart id other one.0 two.0 one.1 two.1 (one.2 ∙ sym two.2))
+
+  -- no id, so no schema
+  pub none_counted : ((id : ℕ) → get contents.texts id ≡ None) → 0 ≡ length g.schemas
+  none_counted none = go (length g.schemas) refl
+    where
+      go : (n : ℕ) → length g.schemas ≡ n → 0 ≡ n
+      go zero is = refl
+      go (suc n) is =
+          let it = id_has_text g.schemas 1 (omega arith) (omega (arith, is)) in
+          let both : None ≡ Some it.0 = sym (none 1) ∙ spelled 1 ∙ it.1 in
+          absurd (cc)
+
+  text_some : (id : ℕ) → IsSome (get contents.texts id) → (text : List ℕ) × (text_at g.schemas id ≡ Some text)
+  text_some id h = go (get contents.texts id) refl h
+    where
+      go : (o : Option (List ℕ)) → get contents.texts id ≡ o → IsSome o → (text : List ℕ) × (text_at g.schemas id ≡ Some text)
+      go None is h = absurd (true≢false (sym h))
+      go (Some text) is h = (text, sym (spelled id) ∙ is)
+
+  some_text : (id : ℕ) (text : List ℕ) → text_at g.schemas id ≡ Some text → IsSome (get contents.texts id)
+  some_text id text is = subst IsSome (sym (spelled id ∙ is)) refl
+
+  -- the greatest id is the number of schemas
+  pub last_counted : (id : ℕ) → IsSome (get contents.texts id) → ((other : ℕ) → IsSome (get contents.texts other) → other ≤ id) → id ≡ length g.schemas
+  last_counted id there last =
+      let it = text_some id there in
+      let within = text_within g.schemas id it.0 it.1 in
+      let low = within.0 in
+      let high = within.1 in
+      let top = id_has_text g.schemas (length g.schemas) (omega (arith, low, high)) (omega arith) in
+      let most = last (length g.schemas) (some_text (length g.schemas) top.0 top.1) in
+      omega (arith, high, most)
+
+-- ---- the whole view
+
+abbrev with_texts : View → Texts → View
+with_texts view texts = record view { texts = texts }
+
+-- the versions whose schemas are read don't depend on the texts
+reads_same : (command : Command) (view : View) (texts : Texts) → rows_read command (with_texts view texts) ≡ rows_read command view
+reads_same (SetGlobal level) view texts = refl
+reads_same (SetLevel subject level) view texts = refl
+reads_same (Register subject text supported) view texts = refl
+reads_same GlobalLevel view texts = refl
+reads_same (LevelOf subject default_to_global) view texts = refl
+reads_same (Lookup subject text supported deleted) view texts = refl
+reads_same (Subjects deleted) view texts = refl
+reads_same (Versions subject deleted) view texts = refl
+reads_same (Version subject version deleted) view texts = refl
+reads_same (Text subject version deleted) view texts = refl
+reads_same (ById id) view texts = refl
+reads_same (VersionsOfId id deleted) view texts = refl
+reads_same Types view texts = refl
+reads_same (Check subject version text supported) view texts = refl
+reads_same (CheckAll subject text supported) view texts = refl
+
+pub whole_view : (view : View) (texts : Texts) (g : Registry) (command : Command) (ids : List ℕ) → IsViewButTexts view g command → ids ≡ map (λ (row : Row). row.1.id) (rows_read command view)
+    → All (HasText texts g.schemas) ids → AreTrueTexts texts g.schemas → IsViewOf (with_texts view texts) g command
+whole_view view texts g command ids shows is all true_texts = record {
+  rows = shows.rows;
+  levels = shows.levels;
+  known = shows.known;
+  count = shows.count;
+  texts = subst (All (λ (row : Row). HasText texts g.schemas row.1.id)) (sym (reads_same command view texts)) (all_mapped (HasText texts g.schemas) (λ (row : Row). row.1.id) (rows_read command view) (subst (All (HasText texts g.schemas)) is all));
+  true_texts = true_texts;
+}

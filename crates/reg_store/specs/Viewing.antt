@@ -1,0 +1,78 @@
+-- What a view is read by.
+use Rattle.std.specs.Prelude.{◌≡◌, ◌≢◌, ℕ, IsTrue, false, List, length, String, string_bytes, Option, None, Some, IfSome, option_map, option_and_then}
+use Rattle.std.specs.BTreeMap as tree
+use Rattle.std.specs.BTreeMap.{BTreeMap}
+use Rattle.std.specs.declared.alloc.Global.{Global}
+use Rattle.std.specs.Ordering.{nat_cmp}
+use Rattle.sqlite.specs.Held.{Held, state}
+use Rattle.sqlite.specs.State.{HasCleanDisk, KeepsCommit, Survives}
+use Rattle.sqlite_trees.specs.declared.store.Store.{Ghosts}
+use Rattle.reg_core.specs.declared.command.Command.{Command}
+use Rattle.reg_core.specs.declared.decision.View.{View}
+use Rattle.reg_core.specs.Subjects.{is_subject}
+use Rattle.reg_core.specs.Registry.{Registry, Row, Version, Schemas}
+use Rattle.reg_core.specs.Rows.{known_id, text_at}
+use Rattle.reg_core.specs.Machine.{subject_of, schema_sent}
+use Rattle.reg_core.specs.Views.{rows_needed, needs_levels, needs_count}
+use Rattle.reg_tables.specs.declared.listed.ListedVersion.{ListedVersion}
+use Rattle.reg_tables.specs.Contents.{VersionRow}
+use Rattle.reg_tables.specs.Entries.{NumberedVersion, KeyedVersion}
+
+-- A call that only reads, if it reads at all, ends outside a transaction, and commits nothing.
+pub record KeepsIdle {S : Type 0} (g : Ghosts S) (old new : Held S) : Type 0 where
+  pub idle : new.in_transaction ≡ false
+  pub commit_stays : HasCleanDisk (state g new) → KeepsCommit (state g old) (state g new)
+  -- a connection that showed its last commit shows it still
+  pub settled : HasCleanDisk (state g new) → IsTrue (state g new).is_open → (state g old).now ≡ (state g old).committed → (state g new).now ≡ (state g new).committed
+  pub survives : Survives (state g old) (state g new) (λ _. ⊥)
+
+-- ---- rows
+
+-- the version that a row of `versions` is of
+abbrev pub version_spelled : VersionRow → Version
+version_spelled row = record { id = row.id; deleted = row.deleted }
+
+abbrev pub row_spelled : KeyedVersion → Row
+row_spelled entry = (entry.0, version_spelled entry.1)
+
+-- the same, where the subject is known
+abbrev pub row_numbered : List ℕ → NumberedVersion → Row
+row_numbered subject entry = ((subject, entry.0), version_spelled entry.1)
+
+-- this project's choice: the text in the line's first column is a subject
+abbrev pub HasSubject : ListedVersion → Type 0
+HasSubject line = IsTrue (is_subject (string_bytes line.subject))
+
+-- ---- texts
+
+-- the text that is there for an id, if one is
+abbrev pub text_there : BTreeMap ℕ (String Global) → ℕ → Option (List ℕ)
+text_there texts id = option_map string_bytes (tree.get nat_cmp texts id)
+
+-- the id has the text that is there
+abbrev pub HasText : BTreeMap ℕ (String Global) → Schemas → ℕ → Type 0
+HasText texts schemas id = text_there texts id ≡ text_at schemas id
+
+-- each text that is there is the id's
+abbrev pub AreTrueTexts : BTreeMap ℕ (String Global) → Schemas → Type 0
+AreTrueTexts texts schemas = (id : ℕ) (text : List ℕ) → text_there texts id ≡ Some text → text_at schemas id ≡ Some text
+
+-- the text of one id is added, if it has one, where the texts were true
+pub record AddsText (old new : BTreeMap ℕ (String Global)) (schemas : Schemas) (id : ℕ) : Type 0 where
+  pub here : AreTrueTexts old schemas → HasText new schemas id
+  pub kept : AreTrueTexts old schemas → (other : ℕ) → HasText old schemas other → HasText new schemas other
+  pub true_texts : AreTrueTexts old schemas → AreTrueTexts new schemas
+
+-- the text is put under the id, if there is one and none was
+pub record PutsText (old new : BTreeMap ℕ (String Global)) (id : ℕ) (found : Option (String Global)) : Type 0 where
+  pub here : text_there old id ≡ None → text_there new id ≡ option_map string_bytes found
+  pub others : (other : ℕ) → other ≢ id → text_there new other ≡ text_there old other
+
+-- ---- views
+
+-- the view shows what the command needs of the registry, but for the texts
+pub record IsViewButTexts (view : View) (g : Registry) (command : Command) : Type 0 where
+  pub rows : IfSome (rows_needed g command) (λ rows. view.rows.items ≡ rows)
+  pub levels : IsTrue (needs_levels command) → (view.own ≡ option_and_then g.own (subject_of command)) × (view.global ≡ g.global)
+  pub known : view.known ≡ known_id g.schemas (schema_sent command)
+  pub count : IsTrue (needs_count command) → view.count ≡ length g.schemas

@@ -1,0 +1,186 @@
+//! The versions of subjects and of ids.
+
+ghost use Rattle.std.specs.Prelude.{◌≡◌, ◌++◌, ◌∷◌, [], None, IfOk, IfErr, OnOk, OnErr, IfSome, All, false, map};
+ghost use Rattle.std.specs.FinMap.{entries};
+ghost use Rattle.sqlite.specs.Held.{state};
+ghost use Rattle.sqlite.specs.State.{HasCleanDisk};
+ghost use Rattle.reg_core.specs.Numbers.{id_in};
+ghost use Rattle.reg_core.specs.Registry.{Registry};
+ghost use Rattle.reg_core.specs.Rows.{rows_of, rows_with};
+ghost use Rattle.reg_core.specs.ReadCommands.{rows_with_id};
+ghost use Rattle.reg_core.specs.KeptReplies.{Kept};
+ghost use Rattle.reg_core.specs.Views.{rows_needed};
+ghost use Rattle.reg_tables.specs.Entries.{numbered, keyed};
+ghost use Rattle.reg_tables.specs.Frames.{StaysIdle};
+ghost use Rattle.reg_store.specs.declared.error.StoreError.TheVariants.{Memory};
+ghost use Rattle.reg_store.specs.Spells.{SpellsWhileOpen};
+ghost use Rattle.reg_store.specs.Failures.{IsFaultOver};
+ghost use Rattle.reg_store.specs.Viewing.{KeepsIdle, row_spelled, row_numbered, HasSubject};
+
+use crate::error::StoreError;
+use reg_core::{Command, OutOfMemory, Row, Subject, id_in};
+use reg_tables::{ListedVersion, SubjectVersion, all_versions, versions_of, versions_of_id};
+use sqlite::{Alter, Connection};
+use std::alloc::Global;
+
+/// The versions that the command looks at, deleted ones too, in the order of subjects and numbers.
+pub(crate) fn rows_for<S: Alter>(
+    alloc: Global,
+    conn: &mut Connection<S>,
+    command: &Command,
+) -> Result<Vec<Row>, StoreError>
+    requires idle { conn.old.in_transaction ≡ false }
+    requires unlimited { conn.old.step_limit ≡ None }
+    ensures frame { KeepsIdle S.Store conn.old conn.new }
+    ensures found { HasCleanDisk (state S.Store conn.new) → IfOk result (λ rows.
+        (g : Registry) (k : Kept) → SpellsWhileOpen (state S.Store conn.old) g k
+        → IfSome (rows_needed g command.now) (λ needed. rows.items ≡ needed)) }
+    ensures fault { HasCleanDisk (state S.Store conn.new)
+        → IfErr result (IsFaultOver (state S.Store conn.old) (state S.Store conn.new)) }
+{
+    match command {
+        Command::Register { subject, .. }
+        | Command::Lookup { subject, .. }
+        | Command::Versions { subject, .. }
+        | Command::Version { subject, .. }
+        | Command::Text { subject, .. }
+        | Command::Check { subject, .. }
+        | Command::CheckAll { subject, .. } => subject_rows(alloc, conn, subject),
+        Command::Subjects { .. } => all_rows(alloc, conn),
+        Command::ById { id } | Command::VersionsOfId { id, .. } => {
+            spelt_rows(alloc, conn, id.as_str())
+        }
+        Command::SetGlobal { .. }
+        | Command::SetLevel { .. }
+        | Command::Global
+        | Command::LevelOf { .. }
+        | Command::Types => Ok(Vec::new(alloc)),
+    }
+}
+
+/// The versions of the id that a text spells: none where it spells none.
+fn spelt_rows<S: Alter>(
+    alloc: Global,
+    conn: &mut Connection<S>,
+    id: &str,
+) -> Result<Vec<Row>, StoreError>
+    requires idle { conn.old.in_transaction ≡ false }
+    requires unlimited { conn.old.step_limit ≡ None }
+    ensures frame { KeepsIdle S.Store conn.old conn.new }
+    ensures found { HasCleanDisk (state S.Store conn.new) → IfOk result (λ rows.
+        (g : Registry) (k : Kept) → SpellsWhileOpen (state S.Store conn.old) g k
+        → rows.items ≡ rows_with_id (id_in id.now) (entries g.rows)) }
+    ensures fault { HasCleanDisk (state S.Store conn.new)
+        → IfErr result (IsFaultOver (state S.Store conn.old) (state S.Store conn.new)) }
+{
+    match id_in(id) {
+        None => Ok(Vec::new(alloc)),
+        Some(id) => id_rows(alloc, conn, id),
+    }
+}
+
+/// The versions of a subject, in the order of their numbers.
+fn subject_rows<S: Alter>(
+    alloc: Global,
+    conn: &mut Connection<S>,
+    subject: &Subject,
+) -> Result<Vec<Row>, StoreError>
+    requires idle { conn.old.in_transaction ≡ false }
+    requires unlimited { conn.old.step_limit ≡ None }
+    ensures frame { StaysIdle S.Store conn.old conn.new result }
+    ensures found { HasCleanDisk (state S.Store conn.new) → IfOk result (λ rows.
+        (g : Registry) (k : Kept) → SpellsWhileOpen (state S.Store conn.old) g k
+        → rows.items ≡ rows_of g subject.now) }
+    ensures fault { HasCleanDisk (state S.Store conn.new)
+        → IfErr result (IsFaultOver (state S.Store conn.old) (state S.Store conn.new)) }
+{
+    let lines = versions_of(alloc, conn, subject.as_str())?;
+    Ok(rows_under(alloc, subject, lines)?)
+}
+
+/// The versions of an id, in the order of subjects and numbers.
+fn id_rows<S: Alter>(
+    alloc: Global,
+    conn: &mut Connection<S>,
+    id: u32,
+) -> Result<Vec<Row>, StoreError>
+    requires idle { conn.old.in_transaction ≡ false }
+    requires unlimited { conn.old.step_limit ≡ None }
+    ensures frame { StaysIdle S.Store conn.old conn.new result }
+    ensures found { HasCleanDisk (state S.Store conn.new) → IfOk result (λ rows.
+        (g : Registry) (k : Kept) → SpellsWhileOpen (state S.Store conn.old) g k
+        → rows.items ≡ rows_with id (entries g.rows)) }
+    ensures fault { HasCleanDisk (state S.Store conn.new)
+        → IfErr result (IsFaultOver (state S.Store conn.old) (state S.Store conn.new)) }
+{
+    let lines = versions_of_id(alloc, conn, id)?;
+    rows_in(alloc, lines)
+}
+
+/// The versions of all subjects, in the order of subjects and numbers.
+fn all_rows<S: Alter>(alloc: Global, conn: &mut Connection<S>) -> Result<Vec<Row>, StoreError>
+    requires idle { conn.old.in_transaction ≡ false }
+    requires unlimited { conn.old.step_limit ≡ None }
+    ensures frame { StaysIdle S.Store conn.old conn.new result }
+    ensures found { HasCleanDisk (state S.Store conn.new) → IfOk result (λ rows.
+        (g : Registry) (k : Kept) → SpellsWhileOpen (state S.Store conn.old) g k
+        → rows.items ≡ entries g.rows) }
+    ensures fault { HasCleanDisk (state S.Store conn.new)
+        → IfErr result (IsFaultOver (state S.Store conn.old) (state S.Store conn.new)) }
+{
+    let lines = all_versions(alloc, conn)?;
+    rows_in(alloc, lines)
+}
+
+/// The versions of the subject that the lines are of.
+fn rows_under(
+    alloc: Global,
+    subject: &Subject,
+    lines: Vec<SubjectVersion>,
+) -> Result<Vec<Row>, OutOfMemory>
+    ensures { IfOk result (λ rows. rows.items ≡ map (λ line. row_numbered subject.now (numbered line)) lines.items) }
+{
+    let mut rows = Vec::new(alloc);
+    for line in lines {
+        let owner = subject.try_clone()?;
+        rows.push(Row::new(owner, line.number, line.id, line.deleted))?;
+    }
+    Ok(rows)
+}
+
+/// The versions that the lines are of.
+fn rows_in(alloc: Global, lines: Vec<ListedVersion>) -> Result<Vec<Row>, StoreError>
+    ensures ok { IfOk result (λ rows. rows.items ≡ map (λ line. row_spelled (keyed line)) lines.items) }
+    ensures err { IfErr result (λ e. All HasSubject lines.items → e ≡ Memory) }
+{
+    let mut rows = Vec::new(alloc);
+    for line in lines {
+        push_row(&mut rows, row_in(line)?)?;
+    }
+    Ok(rows)
+}
+
+/// Adds a version.
+fn push_row(rows: &mut Vec<Row>, row: Row) -> Result<(), OutOfMemory>
+    ensures { OnOk result (rows.new.items ≡ rows.old.items ++ row ∷ []) }
+{
+    rows.push(row)?;
+    Ok(())
+}
+
+/// The version that a line is of, if it has a subject.
+fn row_in(line: ListedVersion) -> Result<Row, StoreError>
+    ensures ok { IfOk result (λ row. row ≡ row_spelled (keyed line)) }
+    ensures err { OnErr result (¬ HasSubject line) }
+{
+    let ListedVersion {
+        subject,
+        number,
+        id,
+        deleted,
+    } = line;
+    match Subject::new(subject) {
+        Some(subject) => Ok(Row::new(subject, number, id, deleted)),
+        None => Err(StoreError::NotARegistry),
+    }
+}

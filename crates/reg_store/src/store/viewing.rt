@@ -1,0 +1,133 @@
+//! What a command needs to know of the registry.
+
+ghost use Rattle.std.specs.Prelude.{◌≡◌, None, IfOk, IfErr, IsTrue, length, false, option_map, option_and_then, option_copied};
+ghost use Rattle.sqlite.specs.Tree.{Trees};
+ghost use Rattle.sqlite.specs.Held.{state};
+ghost use Rattle.sqlite.specs.State.{HasCleanDisk};
+ghost use Rattle.avro_nodes.specs.Identity.{identity as identity_text};
+ghost use Rattle.reg_core.specs.Registry.{Registry};
+ghost use Rattle.reg_core.specs.Rows.{id_of};
+ghost use Rattle.reg_core.specs.KeptReplies.{Kept};
+ghost use Rattle.reg_core.specs.Machine.{schema_sent};
+ghost use Rattle.reg_core.specs.Views.{IsViewOf, needs_count};
+ghost use Rattle.reg_tables.specs.Frames.{StaysIdle};
+ghost use Rattle.reg_store.specs.Spells.{SpellsWhileOpen};
+ghost use Rattle.reg_store.specs.Failures.{IsFaultOver};
+ghost use Rattle.reg_store.specs.Stores.{state_of, has_failed, KeepsStore};
+ghost use Rattle.reg_store.specs.Viewing.{KeepsIdle, IsViewButTexts};
+
+use crate::error::StoreError;
+use crate::store::Store;
+use crate::store::levels::levels_for;
+use crate::store::rows::rows_for;
+use crate::store::texts::{count_for, known_for, texts_of};
+use reg_core::{Command, View, ids_read};
+use sqlite::{Alter, Connection};
+use std::alloc::Global;
+use std::collections::BTreeMap;
+
+impl<S: Alter> Store<S> {
+    /// The view of the registry that the command needs. The identity text is that of the schema
+    /// that the command sends, if it sends one.
+    ///
+    /// # Errors
+    ///
+    /// `Memory`, `Disk`, and `NotARegistry` where the tables no longer spell one. Whatever is
+    /// answered, nothing is changed.
+    pub fn view(&mut self, command: &Command, identity: Option<&str>) -> Result<View, StoreError>
+        ensures frame { KeepsStore self.old self.new result }
+        ensures view { HasCleanDisk (state_of self.new) → IfOk result (λ view.
+            (g : Registry) (k : Kept) → SpellsWhileOpen (state_of self.old) g k
+            → option_copied identity.entry ≡ option_map identity_text (schema_sent command.now)
+            → IsViewOf view g command.now) }
+        ensures fault { HasCleanDisk (state_of self.new) → has_failed self.old ≡ false
+            → IfErr result (IsFaultOver (state_of self.old) (state_of self.new)) }
+        ensures same { HasCleanDisk (state_of self.new) → (g : Registry) (k : Kept)
+            → SpellsWhileOpen (state_of self.old) g k → SpellsWhileOpen (state_of self.new) g k }
+        ensures crash { HasCleanDisk (state_of self.new) → (db : Trees)
+            → (state_of self.new).may_leave db → (state_of self.old).may_leave db }
+    {
+        if self.failed {
+            return Err(StoreError::Disk);
+        }
+        let view = view_for(self.alloc, &mut self.conn, command, identity);
+        self.failed = matches!(view, Err(StoreError::Disk));
+        view
+    }
+}
+
+/// The view that the command needs.
+fn view_for<S: Alter>(
+    alloc: Global,
+    conn: &mut Connection<S>,
+    command: &Command,
+    identity: Option<&str>,
+) -> Result<View, StoreError>
+    requires idle { conn.old.in_transaction ≡ false }
+    requires unlimited { conn.old.step_limit ≡ None }
+    ensures frame { StaysIdle S.Store conn.old conn.new result }
+    ensures view { HasCleanDisk (state S.Store conn.new) → IfOk result (λ view.
+        (g : Registry) (k : Kept) → SpellsWhileOpen (state S.Store conn.old) g k
+        → option_copied identity.entry ≡ option_map identity_text (schema_sent command.now)
+        → IsViewOf view g command.now) }
+    ensures fault { HasCleanDisk (state S.Store conn.new)
+        → IfErr result (IsFaultOver (state S.Store conn.old) (state S.Store conn.new)) }
+{
+    let mut view = view_but_texts(alloc, conn, command, identity)?;
+    let ids = ids_read(alloc, command, &view)?;
+    let texts = texts_of(alloc, conn, ids.as_slice())?;
+    view.texts = texts;
+    Ok(view)
+}
+
+/// The view that the command needs, but with no texts.
+fn view_but_texts<S: Alter>(
+    alloc: Global,
+    conn: &mut Connection<S>,
+    command: &Command,
+    identity: Option<&str>,
+) -> Result<View, StoreError>
+    requires idle { conn.old.in_transaction ≡ false }
+    requires unlimited { conn.old.step_limit ≡ None }
+    ensures frame { StaysIdle S.Store conn.old conn.new result }
+    ensures view { HasCleanDisk (state S.Store conn.new) → IfOk result (λ view.
+        (g : Registry) (k : Kept) → SpellsWhileOpen (state S.Store conn.old) g k
+        → option_copied identity.entry ≡ option_map identity_text (schema_sent command.now)
+        → IsViewButTexts view g command.now) }
+    ensures fault { HasCleanDisk (state S.Store conn.new)
+        → IfErr result (IsFaultOver (state S.Store conn.old) (state S.Store conn.new)) }
+{
+    let levels = levels_for(conn, command)?;
+    let rows = rows_for(alloc, conn, command)?;
+    let ids = ids_for(conn, command, identity)?;
+    Ok(View {
+        rows,
+        texts: BTreeMap::new(alloc),
+        own: levels.0,
+        global: levels.1,
+        known: ids.0,
+        count: ids.1,
+    })
+}
+
+/// The id of the schema with the identity text that is given, if one is and there is one, and the
+/// number of schemas, if the command looks at it.
+fn ids_for<S: Alter>(
+    conn: &mut Connection<S>,
+    command: &Command,
+    identity: Option<&str>,
+) -> Result<(Option<u32>, u32), StoreError>
+    requires idle { conn.old.in_transaction ≡ false }
+    requires unlimited { conn.old.step_limit ≡ None }
+    ensures frame { KeepsIdle S.Store conn.old conn.new }
+    ensures found { HasCleanDisk (state S.Store conn.new) → IfOk result (λ found.
+        (g : Registry) (k : Kept) → SpellsWhileOpen (state S.Store conn.old) g k
+        → (found.0 ≡ option_and_then (id_of g.schemas) (option_copied identity.entry))
+        × (IsTrue (needs_count command.now) → found.1 ≡ length g.schemas)) }
+    ensures fault { HasCleanDisk (state S.Store conn.new)
+        → IfErr result (IsFaultOver (state S.Store conn.old) (state S.Store conn.new)) }
+{
+    let known = known_for(conn, identity)?;
+    let count = count_for(conn, command)?;
+    Ok((known, count))
+}
