@@ -5,10 +5,11 @@
 
 mod deliveries;
 mod measure;
+mod versions;
 
 use anyhow::{Result, bail, ensure};
 use deliveries::Kind;
-use measure::{measure, measure_all};
+use measure::{fill_versions, measure, measure_all, measure_all_versions};
 use reg_service::Service;
 use reg_store::Store;
 use sqlite::{Alter, Connection, FileFrom, FileStore, Wary};
@@ -16,6 +17,7 @@ use std::alloc::Global;
 use std::env;
 use std::rt::Clock;
 use std::time::Instant;
+use versions::Size;
 
 /// A database in a file and its log.
 type FileDatabase = FileStore<FileFrom<Wary>>;
@@ -25,6 +27,9 @@ const USAGE: &str = "Usage: bench_service memory N D
        bench_service fill F N
        bench_service file F N D
        bench_service open F
+       bench_service versions memory V S B D
+       bench_service versions fill F V S B
+       bench_service versions file F V S B D
 
   memory  makes a registry in memory, of N kept keys and N subjects with a level of
           their own, and measures D deliveries of each kind
@@ -32,6 +37,9 @@ const USAGE: &str = "Usage: bench_service memory N D
   file    measures D deliveries of each kind over the registry that fill made in F
           with this N; they change it, so a further run wants a copy
   open    measures how long the registry in F takes to open
+
+Behind versions, memory, fill and file are about a registry of V versions in S subjects,
+with schemas of about B bytes, each of which one version has.
 ";
 
 /// Opens the database in a file, and prints how long that took.
@@ -92,6 +100,41 @@ fn measure_file(rt: &HostRuntime, file: &str, kept: usize, count: usize) -> Resu
     measure_all(rt, &mut service, kept, count)
 }
 
+/// The size that three words tell.
+fn size_of(versions: &str, subjects: &str, bytes: &str) -> Result<Size> {
+    Ok(Size {
+        versions: versions.parse()?,
+        subjects: subjects.parse()?,
+        bytes: bytes.parse()?,
+    })
+}
+
+/// Measures over a registry of versions, as the words tell.
+fn bench_versions(rt: &HostRuntime, words: &[String]) -> Result<()> {
+    match words {
+        [word, v, s, b, count] if word.as_str() == "memory" => {
+            let size = size_of(v, s, b)?;
+            let mut service = created(rt.alloc(), Connection::open_in_memory(rt.alloc())?)?;
+            fill_versions(rt, &mut service, size)?;
+            measure_all_versions(rt, &mut service, size, count.parse()?)
+        }
+        [word, file, v, s, b] if word.as_str() == "fill" => {
+            let mut service = created(rt.alloc(), connected(rt, file.as_str())?)?;
+            fill_versions(rt, &mut service, size_of(v, s, b)?)?;
+            service.into_store().into_connection().close()?;
+            Ok(())
+        }
+        [word, file, v, s, b, count] if word.as_str() == "file" => {
+            let mut service = opened(rt, connected(rt, file.as_str())?)?;
+            measure_all_versions(rt, &mut service, size_of(v, s, b)?, count.parse()?)
+        }
+        _ => {
+            eprint!(rt; "{USAGE}")?;
+            bail!("other words are wanted");
+        }
+    }
+}
+
 fn main(rt: HostRuntime) -> Result<()> {
     let words: Vec<String> = env::args(&rt)?.skip(1).collect(rt.alloc())?;
     match words.as_slice() {
@@ -103,6 +146,7 @@ fn main(rt: HostRuntime) -> Result<()> {
         [word, file, kept, count] if word.as_str() == "file" => {
             measure_file(&rt, file.as_str(), kept.parse()?, count.parse()?)
         }
+        [word, rest @ ..] if word.as_str() == "versions" => bench_versions(&rt, rest),
         [word, file] if word.as_str() == "open" => {
             opened(&rt, connected(&rt, file.as_str())?)?;
             Ok(())

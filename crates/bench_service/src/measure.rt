@@ -1,6 +1,7 @@
 //! The times of deliveries.
 
 use crate::deliveries::{Kind, deliveries_of, keys_of};
+use crate::versions::{Size, VERSION_KINDS, VersionKind, version_deliveries};
 use anyhow::{Result, ensure};
 use reg_service::{Delivery, Service};
 use sqlite::Alter;
@@ -63,6 +64,53 @@ pub fn measure_all<S: Alter>(
 ) -> Result<()> {
     for kind in KINDS {
         measure(rt, service, kind, kept, count)?;
+    }
+    Ok(())
+}
+
+/// Measures so many deliveries of a kind over a registry of versions.
+fn measure_versions<S: Alter>(
+    rt: &(impl Clock + Print + AllocGlobal),
+    service: &mut Service<S>,
+    kind: VersionKind,
+    size: Size,
+    count: usize,
+) -> Result<()> {
+    let list = version_deliveries(rt.alloc(), kind, size, count)?;
+    let took = time_of(rt, service, list.as_slice())?;
+    report(rt, kind.name(), count, took)
+}
+
+/// How many deliveries are made before they are measured, where many are.
+const PART: usize = 1000;
+
+/// Registers the versions of a registry of this size, a part at a time.
+pub fn fill_versions<S: Alter>(
+    rt: &(impl Clock + Print + AllocGlobal),
+    service: &mut Service<S>,
+    size: Size,
+) -> Result<()> {
+    for at in 0..size.versions.div_ceil(PART) {
+        let made = at.saturating_mul(PART);
+        let part = Size {
+            versions: made,
+            ..size
+        };
+        let count = size.versions.saturating_sub(made).min(PART);
+        measure_versions(rt, service, VersionKind::Register, part, count)?;
+    }
+    Ok(())
+}
+
+/// Measures so many deliveries of each kind over a registry of versions.
+pub fn measure_all_versions<S: Alter>(
+    rt: &(impl Clock + Print + AllocGlobal),
+    service: &mut Service<S>,
+    size: Size,
+    count: usize,
+) -> Result<()> {
+    for kind in VERSION_KINDS {
+        measure_versions(rt, service, kind, size, count)?;
     }
     Ok(())
 }
