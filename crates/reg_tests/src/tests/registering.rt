@@ -1,5 +1,6 @@
 //! Registering schemas and looking them up, over a registry in memory and over a disk that is opened again after each row.
-use crate::tests::disks::{close, empty_disk, over};
+use super::disks::{close, empty_disk, over};
+use super::stores::{created, opened};
 use reg_core::{Command, Key, OutOfMemory, Reply, Subject, Text};
 use reg_service::{Delivery, Service};
 use reg_store::Store;
@@ -435,22 +436,6 @@ fn delivery_of(alloc: Global, row: &Row) -> Result<Delivery<'static>, OutOfMemor
 fn assert_answer(rt: &impl Abort, reply: &Reply, row: &Row) {
     assert_eq!(rt; reply.body(), row.3);
     assert_eq!(rt; reply.status(), row.2);
-}
-
-/// A store over a new registry.
-fn created<S: Alter + Drop>(alloc: Global, connection: Connection<S>) -> Result<Store<S>, Fail> {
-    match Store::create(alloc, connection) {
-        Ok(store) => Ok(store),
-        Err(_) => Err("no tables were made".into()),
-    }
-}
-
-/// A store over the registry of a connection.
-fn opened<S: Alter + Drop>(alloc: Global, connection: Connection<S>) -> Result<Store<S>, Fail> {
-    match Store::open(alloc, connection) {
-        Ok(store) => Ok(store),
-        Err(_) => Err("no registry was opened".into()),
-    }
 }
 
 fn answers_rows<S: Alter>(
