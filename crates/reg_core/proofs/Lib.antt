@@ -7,7 +7,9 @@ pub mod Versions
 pub mod VerdictLemmas
 pub mod IdLemmas
 pub mod RowLemmas
+pub mod ChosenRows
 pub mod ViewLemmas
 pub mod RegisterLemmas
+pub mod CheckLemmas
 pub mod RegistryLemmas
 pub mod AdditionLemmas

@@ -34,6 +34,7 @@ use Rattle.reg_core.specs.Replies.{answer, fault}
 use Rattle.reg_core.specs.Rows.{rows_of, live_rows, next_number, chosen_row, id_of, known_id, text_at, schemas_of}
 use Rattle.reg_core.specs.Verdicts.{is_compatible, is_admitted}
 use Rattle.reg_core.specs.Views.{IsGround, ChangesFit, after_changes, level_of_view, row_found, text_in}
+use Rattle.reg_core.proofs.ChosenRows.{All-latest}
 use Rattle.reg_core.proofs.IdLemmas.{id_of-schema, schema_within}
 use Rattle.reg_core.proofs.RowLemmas.{each-schema, next_number-absent, All-live_rows}
 use Rattle.reg_core.proofs.Versions.{named-map}
@@ -67,11 +68,6 @@ HasSchema schemas row = (nodes : List NodeView) × (schema_at schemas row.1.id �
 -- the view has the text of a version's schema
 abbrev pub ShowsText : View → Schemas → Row → Type 0
 ShowsText view schemas row = text_in view row.1.id ≡ text_at schemas row.1.id
-
-All-latest : {X : Type 0} (P : X → Type 0) (xs : List X) → All P xs → All P (latest xs)
-All-latest P [] h = h
-All-latest P (x ∷ []) h = h
-All-latest P (x ∷ y ∷ ys) h = All-latest P (y ∷ ys) (All-tail P x (y ∷ ys) h)
 
 -- what holds of each version holds of those that a level names
 pub All-named : {X : Type 0} (P : X → Type 0) (level : Level) (xs : List X) → All P xs → All P (named_versions level xs)
@@ -276,80 +272,3 @@ module _ (g : Registry) (subject text : List ℕ) (supported : Bool) (view : Vie
           let within = numbers_within left in
           subst (λ (row : Row). ChangesFit (version_added view.known row new) g) (sym row_is)
           (changes_fit g subject new new_schema view.known (sym known_shown) within.0 within.1)
-
--- ---- CheckAll and Check
-
-module _ (g : Registry) (subject text : List ℕ) (supported : Bool) (view : View) (schema : Option (List NodeView)) (ground : IsGround g (CheckAll subject text supported) schema view) where
-  pub check_all_none : schema ≡ None → step g (CheckAll subject text supported) ≡ (g, fault InvalidSchema)
-  unfolding step
-  check_all_none e = ap (λ (s : Option (List NodeView)). (g, check_all_reply g subject s)) (sym ground.sent ∙ e)
-
-  pub check_all_shown : (new : List NodeView) → schema ≡ Some new
-      → step g (CheckAll subject text supported) ≡ (g, answer (verdict_body (is_read_admitted view (level_of_view view) (live_rows view.rows.items) new)))
-  unfolding step
-  check_all_shown new e =
-      let levels = ground.shows.levels refl in
-      let rows = ground.shows.rows in
-      let verdict : is_read_admitted view (level_of_view view) (live_rows view.rows.items) new ≡ is_admitted_after g.schemas (level_of_view view) (live_rows view.rows.items) new =
-      admitted_shown view g.schemas ground.registry.schemas (level_of_view view) (live_rows view.rows.items) new (shown-HasSchema g ground.registry subject view.rows.items rows) ground.shows.texts in
-      ap (λ (s : Option (List NodeView)). (g, check_all_reply g subject s)) (sym ground.sent ∙ e)
-      ∙ (rw (verdict, rows, levels.0, levels.1) refl)
-
-All-find : {X : Type 0} (P : X → Type 0) (p : X → Bool) (xs : List X) (x : X) → All P xs → find p xs ≡ Some x → P x
-All-find P p [] x h e = absurd (none-some x e)
-All-find P p (y ∷ ys) x h e = by (p y) e (All-find P p ys x (All-tail P y ys h))
-  where
-    by : (b : Bool) → (if b then Some y else find p ys) ≡ Some x → (find p ys ≡ Some x → P x) → P x
-    by true f rest = subst P (same_Some y x f) (All-head P y ys h)
-    by false f rest = rest f
-
-All-chosen : (P : Row → Type 0) (choice : Choice) (rows : List Row) (row : Row) → All P rows → chosen_row choice rows ≡ Some row → P row
-All-chosen P Latest rows row h e = All-head P row [] (subst (λ (o : Option Row). All P (option_to_list o)) e (All-latest P rows h))
-All-chosen P (Numbered number) rows row h e = All-find P (λ (r : Row). r.0.1 == number) rows row h e
-
-ok_of : {C : Type 0} (o : Option Row) (code : C) (row : Row) → ok_or o code ≡ Ok row → o ≡ Some row
-ok_of None code row e = absurd cc
-ok_of (Some other) code row e = cc
-
--- what holds of each version holds of the one that is found
-All-found : (P : Row → Type 0) (choice : Choice) (rows : List Row) (row : Row) → All P rows → found_row (Some choice) rows ≡ Ok row → P row
-All-found P choice [] row h e = absurd cc
-All-found P choice (r ∷ rows) row h e = All-chosen P choice (r ∷ rows) row h (ok_of (chosen_row choice (r ∷ rows)) VersionNotFound row e)
-
-module _ (g : Registry) (subject version text : List ℕ) (supported : Bool) (view : View) (schema : Option (List NodeView)) (ground : IsGround g (Check subject version text supported) schema view) where
-  pub check_no_choice : choice_in version ≡ None → step g (Check subject version text supported) ≡ (g, fault InvalidVersion)
-  unfolding step
-  check_no_choice none = ap (λ (choice : Option Choice). (g, check_reply g subject choice (schema_in text supported))) none
-
-  module _ (choice : Choice) (chosen : choice_in version ≡ Some choice) where
-    check_chosen : (s : Option (List NodeView)) → schema ≡ s → step g (Check subject version text supported) ≡ (g, check_reply g subject (Some choice) s)
-    unfolding step
-    check_chosen s e =
-        ap (λ (c : Option Choice). (g, check_reply g subject c (schema_in text supported))) chosen
-        ∙ ap (λ (x : Option (List NodeView)). (g, check_reply g subject (Some choice) x)) (sym ground.sent ∙ e)
-
-    pub check_none : schema ≡ None → step g (Check subject version text supported) ≡ (g, fault InvalidSchema)
-    check_none e = check_chosen None e
-
-    module _ (new : List NodeView) (e : schema ≡ Some new) where
-      found_is : (found : Result Row Code) → found ≡ found_row (Some choice) (live_rows view.rows.items) → found_row (Some choice) (live_rows (rows_of g subject)) ≡ found
-      found_is found is = ap (λ (rows : List Row). found_row (Some choice) (live_rows rows)) (sym ground.shows.rows) ∙ sym is
-
-      pub check_fault : (code : Code) → Err code ≡ found_row (Some choice) (live_rows view.rows.items) → step g (Check subject version text supported) ≡ (g, fault code)
-      check_fault code is =
-          check_chosen (Some new) e ∙ ap (λ (found : Result Row Code). (g, verdict_reply g subject new found)) (found_is (Err code) is)
-
-      pub check_shown : (row : Row) → Ok row ≡ found_row (Some choice) (live_rows view.rows.items)
-          → step g (Check subject version text supported) ≡ (g, answer (verdict_body (is_read_admitted view (level_of_view view) (row ∷ []) new)))
-      check_shown row is =
-          let levels = ground.shows.levels refl in
-          let has : HasSchema g.schemas row =
-          All-found (HasSchema g.schemas) choice (live_rows view.rows.items) row (shown-HasSchema g ground.registry subject view.rows.items ground.shows.rows) (sym is) in
-          let shows : All (ShowsText view g.schemas) (named_versions (level_of_view view) (row ∷ [])) =
-          subst (λ (found : Result Row Code). All (ShowsText view g.schemas) (named_versions (level_of_view view) (row_found found))) (sym is)
-          (subst (λ (c : Option Choice). All (ShowsText view g.schemas) (named_versions (level_of_view view) (row_found (found_row c (live_rows view.rows.items))))) chosen ground.shows.texts) in
-          let verdict : is_read_admitted view (level_of_view view) (row ∷ []) new ≡ is_admitted_after g.schemas (level_of_view view) (row ∷ []) new =
-          admitted_shown view g.schemas ground.registry.schemas (level_of_view view) (row ∷ []) new (All-cons (HasSchema g.schemas) row [] has (All-nil (HasSchema g.schemas))) shows in
-          check_chosen (Some new) e
-          ∙ (ap (λ (found : Result Row Code). (g, verdict_reply g subject new found)) (found_is (Ok row) is)
-          ∙ (rw (verdict, levels.0, levels.1) refl))

@@ -1,5 +1,5 @@
 -- Versions: which are found, and which a subject has.
-use Rattle.std.proofs.Common.{◌≡◌, ℕ, ◌<◌, ◌≤◌, List, [], ◌∷◌, get_or, true≢false, Bool, true, false, cond, T, ◌&&◌, refl, sym, ap, subst, ◌∙◌, Ordering, Less, Equal, Greater, arith}
+use Rattle.std.proofs.Common.{◌≡◌, ℕ, ◌<◌, ◌≤◌, List, [], ◌∷◌, map, get_or, true≢false, Bool, true, false, cond, T, ◌&&◌, refl, sym, ap, subst, ◌∙◌, Ordering, Less, Equal, Greater, arith}
 use Rattle.std.specs.Prelude.{All, Option, Some, None, not, filter, fold, max, bytes_eq, ◌||◌}
 use Rattle.std.specs.Cmp.{IsTotalOrder}
 use Rattle.std.specs.FinMap.{FinMap, entries, entries_sorted, get, get-entries, get-insert, insert, find, is_sorted, IsAntisymmetric}
@@ -7,7 +7,7 @@ use Rattle.std.specs.FinMap.Entries.{below_all}
 use Rattle.std.specs.Ordering.{is_lt, is_eq, ordering_reverse}
 use Rattle.std.proofs.lemmas.Cmp.{nat_list_cmp_total, nat_cmp_total, on_total, then_total, tied_itself}
 use Rattle.std.specs.List.{Contains}
-use Rattle.std.proofs.lemmas.List.Elements.{All-nil, All-cons, All-filter, All-weaker, All-contains, Contains-append_right, filter_passes}
+use Rattle.std.proofs.lemmas.List.Elements.{All-nil, All-cons, All-head, All-tail, All-filter, All-weaker, All-contains, Contains-append_right, filter_passes}
 use Rattle.std.proofs.lemmas.Map.Lookups.{exact_bytes, exact_unsigned, exact_pairs}
 use Rattle.std.proofs.lemmas.Option.{none-some, same_Some}
 use Rattle.std.proofs.lemmas.Slice.Eq.{bytes_eq-Decides}
@@ -15,6 +15,13 @@ use Rattle.avro_nodes.specs.Nodes.{NodeView}
 use Rattle.reg_core.specs.Registry.{Registry, Schemas, RowKey, Row, Rows, Version, IsRow, IsRegistry, row_cmp, schema_at}
 use Rattle.reg_core.specs.Rows.{rows_of, live_rows, shown_rows, next_number, text_at}
 use Rattle.reg_core.proofs.IdLemmas.{schema_there, text_there}
+
+-- ---- lists
+
+-- what holds of each of a mapped list's members holds of what they came from
+pub All-mapped : {X Y : Type 0} (P : Y → Type 0) (f : X → Y) (xs : List X) → All P (map f xs) → All (λ x. P (f x)) xs
+All-mapped P f [] all = All-nil (λ x. P (f x))
+All-mapped P f (x ∷ xs) all = All-cons (λ y. P (f y)) x xs (All-head P (f x) (map f xs) all) (All-mapped P f xs (All-tail P (f x) (map f xs) all))
 
 -- ---- a map's entries
 
@@ -111,7 +118,8 @@ rows_of-subject g subject =
 pub rows_of-got : (g : Registry) (subject : List ℕ) → All (λ (row : Row). get g.rows row.0 ≡ Some row.1) (rows_of g subject)
 rows_of-got g subject = All-filter (λ (row : Row). bytes_eq row.0.0 subject) (λ (row : Row). get g.rows row.0 ≡ Some row.1) (entries g.rows) (each_got row_cmp row_order g.rows)
 
-filter_keeps : {X : Type 0} (p : X → Bool) (xs : List X) (x : X) → Contains xs x → p x ≡ true → Contains (filter p xs) x
+-- a filter keeps what passes
+pub filter_keeps : {X : Type 0} (p : X → Bool) (xs : List X) (x : X) → Contains xs x → p x ≡ true → Contains (filter p xs) x
 filter_keeps p xs x there passes = All-contains (λ y. p y ≡ true → Contains (filter p xs) y) xs x (each p xs) there passes
   where
     one : {X : Type 0} (p : X → Bool) (x : X) (xs : List X) (b : Bool) → p x ≡ b → p x ≡ true → Contains (cond b (x ∷ filter p xs) (filter p xs)) x

@@ -1,7 +1,8 @@
 -- What is answered from a view is what the registry answers.
-use Rattle.std.proofs.Common.{◌≡◌, ◌∙◌, ℕ, ◌==◌, Bool, true, false, List, [], ◌∷◌, refl, ap, sym, subst, arith, eqb-true}
+use Rattle.std.proofs.Common.{◌≡◌, ◌≢◌, ◌∙◌, ℕ, ◌==◌, Bool, true, false, List, [], ◌∷◌, map, refl, ap, sym, subst, arith, eqb-true}
 use Rattle.std.specs.Prelude.{All, Option, None, Some, Result, Ok, Err, if◌then◌else◌}
 use Rattle.std.specs.FinMap.{entries}
+use Rattle.std.proofs.lemmas.List.Elements.{All-map}
 use Rattle.avro_nodes.specs.Nodes.{NodeView}
 use Rattle.reg_core.specs.declared.code.Code.{Code}
 use Rattle.reg_core.specs.declared.command.Command.{Command}
@@ -16,6 +17,7 @@ use Rattle.reg_core.specs.ReadCommands.{Texts, found_row, looked_up, rows_with_i
 use Rattle.reg_core.specs.Replies.{Told}
 use Rattle.reg_core.specs.RegisterCommands.{schema_in}
 use Rattle.reg_core.specs.Machine.{step}
+use Rattle.reg_core.proofs.RowLemmas.{All-mapped}
 use Rattle.reg_core.specs.Views.{IsViewOf, IsGround, row_found, text_in}
 
 -- ---- texts that agree
@@ -60,10 +62,29 @@ same_rows_of_id : (one other : Texts) (id : ℕ) (rows : List Row) → HaveId id
 same_rows_of_id one other id [] ids same = refl
 same_rows_of_id one other id (row ∷ rows) ids same = ap (text_reply schema_body) (text_of_last one other id row rows ids same)
 
-same_id : (one other : Texts) (id : Option ℕ) (all rows : List Row) → rows ≡ rows_with_id id all → Agree one other (latest rows) → id_reply one id rows ≡ id_reply other id (rows_with_id id all)
-same_id one other None all rows e same = refl
-same_id one other (Some id) all rows e same =
-    ap (id_reply one (Some id)) e ∙ same_rows_of_id one other id (rows_with id all) (have_id id all) (subst (λ rs. Agree one other (latest rs)) e same)
+-- the same, where the ids of the versions are told alone
+agree_ids : (one other : Texts) (seen rows : List Row) → map (λ (row : Row). row.1.id) seen ≡ map (λ (row : Row). row.1.id) rows → Agree one other seen → Agree one other rows
+agree_ids one other seen rows ids same =
+    All-mapped (λ id. one id ≡ other id) (λ (row : Row). row.1.id) rows (subst (All (λ id. one id ≡ other id)) ids (All-map (λ id. one id ≡ other id) (λ (row : Row). row.1.id) seen same))
+
+-- a version is the last of some, unless there is none
+none_last : (row : Row) (rows : List Row) → map (λ (r : Row). r.1.id) (latest (row ∷ rows)) ≢ []
+none_last row [] h = cc
+none_last row (next ∷ rows) h = none_last next rows h
+
+-- whether there is a version is told by the last one's id
+same_last : (texts : Texts) (id : ℕ) (seen rows : List Row) → map (λ (row : Row). row.1.id) (latest seen) ≡ map (λ (row : Row). row.1.id) (latest rows) → id_reply texts (Some id) seen ≡ id_reply texts (Some id) rows
+same_last texts id [] [] ids = refl
+same_last texts id [] (row ∷ rows) ids = absurd (none_last row rows (sym ids))
+same_last texts id (row ∷ rows) [] ids = absurd (none_last row rows ids)
+same_last texts id (one ∷ seen) (row ∷ rows) ids = refl
+
+same_id : (one other : Texts) (id : Option ℕ) (all seen : List Row) → map (λ (row : Row). row.1.id) (latest seen) ≡ map (λ (row : Row). row.1.id) (latest (rows_with_id id all)) → Agree one other (latest seen)
+    → id_reply one id seen ≡ id_reply other id (rows_with_id id all)
+same_id one other None all seen ids same = refl
+same_id one other (Some id) all seen ids same =
+    same_last one id seen (rows_with id all) ids
+    ∙ same_rows_of_id one other id (rows_with id all) (have_id id all) (agree_ids one other (latest seen) (latest (rows_with id all)) ids same)
 
 -- ---- commands
 
@@ -78,14 +99,14 @@ pub told_version : (g : Registry) (view : View) (subject version : List ℕ) (de
 unfolding step
 told_version g view subject version deleted shows =
     same_version (text_in view) (text_at g.schemas) (found_row (choice_in version) (shown_rows deleted view.rows.items)) shows.texts
-    ∙ ap (λ rows. version_reply (text_at g.schemas) (found_row (choice_in version) (shown_rows deleted rows))) shows.rows
+    ∙ ap (version_reply (text_at g.schemas)) shows.rows
 
 pub told_text : (g : Registry) (view : View) (subject version : List ℕ) (deleted : Bool) → IsViewOf view g (Text subject version deleted)
     → version_text_reply (text_in view) (found_row (choice_in version) (shown_rows deleted view.rows.items)) ≡ (step g (Text subject version deleted)).1
 unfolding step
 told_text g view subject version deleted shows =
     same_version_text (text_in view) (text_at g.schemas) (found_row (choice_in version) (shown_rows deleted view.rows.items)) shows.texts
-    ∙ ap (λ rows. version_text_reply (text_at g.schemas) (found_row (choice_in version) (shown_rows deleted rows))) shows.rows
+    ∙ ap (version_text_reply (text_at g.schemas)) shows.rows
 
 pub told_id : (g : Registry) (view : View) (id : List ℕ) → IsViewOf view g (ById id) → id_reply (text_in view) (id_in id) view.rows.items ≡ (step g (ById id)).1
 unfolding step

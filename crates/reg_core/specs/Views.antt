@@ -1,5 +1,5 @@
 -- What a decision looks at, and what it changes.
-use Rattle.std.specs.Prelude.{◌≡◌, ◌≤◌, ◌+◌, ⊤, ℕ, Bool, true, false, IsTrue, All, List, [], ◌∷◌, ◌++◌, length, string_bytes, if◌then◌else◌, unwrap_or, Option, None, Some, IfSome, option_map, option_and_then, option_to_list, Result, Ok, Err}
+use Rattle.std.specs.Prelude.{◌≡◌, ◌≤◌, ◌+◌, ⊤, ℕ, Bool, true, false, IsTrue, All, List, [], ◌∷◌, ◌++◌, length, string_bytes, if◌then◌else◌, unwrap_or, map, Option, None, Some, IfSome, option_map, option_and_then, option_to_list, Result, Ok, Err}
 use Rattle.std.specs.BTreeMap as tree
 use Rattle.std.specs.Ordering.{nat_cmp}
 use Rattle.std.specs.FinMap.{get, insert, entries}
@@ -35,6 +35,15 @@ rows_needed g (VersionsOfId id deleted) = Some (rows_with_id (id_in id) (entries
 rows_needed g (Check subject version text supported) = Some (rows_of g subject)
 rows_needed g (CheckAll subject text supported) = Some (rows_of g subject)
 rows_needed g _ = None
+
+-- This project's choice: these versions give the command's answer as all that it looks at do. Where one version answers it,
+-- they may leave out the others: where a version is chosen, and where the schema of an id is shown.
+abbrev pub AnswerAs : Command → List Row → List Row → Type 0
+AnswerAs (Version subject version deleted) seen all = found_row (choice_in version) (shown_rows deleted seen) ≡ found_row (choice_in version) (shown_rows deleted all)
+AnswerAs (Text subject version deleted) seen all = found_row (choice_in version) (shown_rows deleted seen) ≡ found_row (choice_in version) (shown_rows deleted all)
+AnswerAs (ById id) seen all = map (λ (row : Row). row.1.id) (latest seen) ≡ map (λ (row : Row). row.1.id) (latest all)
+AnswerAs (Check subject version text supported) seen all = found_row (choice_in version) (live_rows seen) ≡ found_row (choice_in version) (live_rows all)
+AnswerAs _ seen all = seen ≡ all
 
 -- Schema Registry API reference, Config and Compatibility: whether a command looks at levels
 abbrev pub needs_levels : Command → Bool
@@ -78,7 +87,7 @@ text_in view id = option_map string_bytes (tree.get nat_cmp view.texts id)
 
 -- This project's choice: the view shows what the command needs of the registry. More may be there, but no text that isn't the id's.
 pub record IsViewOf (view : View) (g : Registry) (command : Command) : Type 0 where
-  pub rows : IfSome (rows_needed g command) (λ rows. view.rows.items ≡ rows)
+  pub rows : IfSome (rows_needed g command) (AnswerAs command view.rows.items)
   pub levels : IsTrue (needs_levels command) → (view.own ≡ option_and_then g.own (subject_of command)) × (view.global ≡ g.global)
   pub known : view.known ≡ known_id g.schemas (schema_sent command)
   pub count : IsTrue (needs_count command) → view.count ≡ length g.schemas

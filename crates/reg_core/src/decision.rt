@@ -38,7 +38,8 @@ pub use needs::ids_read;
 #[derive(Drop)]
 pub struct View {
     /// The versions of the command's subject or id, or of all subjects, deleted ones too, in the
-    /// order of the bytes of their subjects, and then of their numbers.
+    /// order of the bytes of their subjects, and then of their numbers. Where one of them gives the
+    /// answer, as where a version is chosen, the others may be left out.
     pub rows: Vec<Row>,
     /// The identity texts of ids: of those that the command shows or compares with.
     pub texts: BTreeMap<u32, String>,

@@ -6,6 +6,7 @@ use Rattle.std.proofs.lemmas.Iterator.Adapters.{option_map_id}
 use Rattle.std.proofs.lemmas.Iterator.Consumers.{YieldsList-from_copied}
 use Rattle.std.proofs.lemmas.Iterator.Search.{find_from_yields_List}
 use Rattle.reg_core.specs.Registry.{Row}
+use Rattle.reg_core.proofs.ChosenRows.{last_or-map}
 use Rattle.reg_core.proofs.decision.rows.chosen_row.Goals as goal
 
 last_at : {X : Type 0} (x : X) (xs : List X) → slice_get (x ∷ xs) (length xs) ≡ last_or (Some x) xs
@@ -17,10 +18,6 @@ last_in [] k e = refl
 last_in (x ∷ xs) k e =
     let all_but_one : k ≡ length xs = omega (arith, e) in
     rw all_but_one (last_at x xs)
-
-last_or-map : {X Y : Type 0} (f : X → Y) (o : Option X) (xs : List X) → last_or (option_map f o) (map f xs) ≡ option_map f (last_or o xs)
-last_or-map f o [] = refl
-last_or-map f o (x ∷ xs) = last_or-map f (Some x) xs
 
 -- what is seen of the last item
 last_seen : {X Y : Type 0} (f : X → Y) (xs : List X) → option_map f (slice_get xs (length xs - 1)) ≡ last_or None (map f xs)
