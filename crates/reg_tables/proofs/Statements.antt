@@ -239,12 +239,16 @@ pub find_version_is : (schema : Schema) → IsLayout schema → IsQuery find_ver
 unfolding understood everything
 find_version_is = in_layouts (IsQuery find_version) (record { command = record { is = refl; plain = (refl, refl) }; unlisted = refl }) (record { command = record { is = refl; plain = (refl, refl) }; unlisted = refl })
 
+-- LIMIT 1
+abbrev pub first_row : Term
+first_row = lit (Int (pos 1))
+
 -- by id, from the greatest
 abbrev pub from_last : List (Term × Key)
 from_last = (col 1 0, record { collation = Binary; descending = true }) ∷ []
 
 abbrev pub find_last : TableQuery
-find_last = record { sql = codes "SELECT id FROM texts ORDER BY id DESC LIMIT 1"; tree = 0; tests = []; shown = col 1 0 ∷ []; names = codes "id" ∷ []; order = from_last; limit = lit (Int (pos 1)) }
+find_last = record { sql = codes "SELECT id FROM texts ORDER BY id DESC LIMIT 1"; tree = 0; tests = []; shown = col 1 0 ∷ []; names = codes "id" ∷ []; order = from_last; limit = first_row }
 
 pub find_last_is : (schema : Schema) → IsLayout schema → IsQuery find_last schema
 unfolding understood everything
@@ -260,6 +264,44 @@ find_versions = record { sql = codes "SELECT version, id, deleted FROM versions 
 pub find_versions_is : (schema : Schema) → IsLayout schema → IsQuery find_versions schema
 unfolding understood everything
 find_versions_is = in_layouts (IsQuery find_versions) (record { command = record { is = refl; plain = (refl, refl) }; unlisted = refl }) (record { command = record { is = refl; plain = (refl, refl) }; unlisted = refl })
+
+-- by subject and number, from the greatest
+abbrev pub from_greatest : List (Term × Key)
+from_greatest = (col 1 1, record { collation = Binary; descending = true }) ∷ (col 1 2, record { collation = Binary; descending = true }) ∷ []
+
+abbrev pub find_last_version : TableQuery
+find_last_version = record {
+  sql = codes "SELECT version, id, deleted FROM versions WHERE subject = ?1 ORDER BY subject DESC, version DESC LIMIT 1";
+  tree = 2;
+  tests = by_key;
+  shown = col 1 2 ∷ col 1 3 ∷ col 1 4 ∷ [];
+  names = codes "version" ∷ codes "id" ∷ codes "deleted" ∷ [];
+  order = from_greatest;
+  limit = first_row;
+}
+
+pub find_last_version_is : (schema : Schema) → IsLayout schema → IsQuery find_last_version schema
+unfolding understood everything
+find_last_version_is = in_layouts (IsQuery find_last_version) (record { command = record { is = refl; plain = (refl, refl) }; unlisted = refl }) (record { command = record { is = refl; plain = (refl, refl) }; unlisted = refl })
+
+-- the subject is the parameter, and the version is not marked as deleted
+abbrev pub by_live_key : List Term
+by_live_key = op2 (Compare Eq Binary) (col 1 1) (col 0 0) ∷ op2 (Compare Eq Binary) (col 1 4) (lit (Int (pos 0))) ∷ []
+
+abbrev pub find_last_live : TableQuery
+find_last_live = record {
+  sql = codes "SELECT version, id, deleted FROM versions WHERE subject = ?1 AND deleted = 0 ORDER BY subject DESC, version DESC LIMIT 1";
+  tree = 2;
+  tests = by_live_key;
+  shown = col 1 2 ∷ col 1 3 ∷ col 1 4 ∷ [];
+  names = codes "version" ∷ codes "id" ∷ codes "deleted" ∷ [];
+  order = from_greatest;
+  limit = first_row;
+}
+
+pub find_last_live_is : (schema : Schema) → IsLayout schema → IsQuery find_last_live schema
+unfolding understood everything
+find_last_live_is = in_layouts (IsQuery find_last_live) (record { command = record { is = refl; plain = (refl, refl) }; unlisted = refl }) (record { command = record { is = refl; plain = (refl, refl) }; unlisted = refl })
 
 -- the id of the version is the parameter
 abbrev pub by_its_id : List Term

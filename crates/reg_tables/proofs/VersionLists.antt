@@ -36,7 +36,7 @@ abbrev pub Entry : Type 0
 Entry = (List ℕ × ℕ) × VersionRow
 
 -- a version's key is ordered by its columns
-ranks : (a b : List ℕ × ℕ) → version_cmp a b ≡ Less → key_cmp 0 (map (λ (k : Term × Key). k.1) in_order) (version_key_cells a) (version_key_cells b) ≡ Less
+pub ranks : (a b : List ℕ × ℕ) → version_cmp a b ≡ Less → key_cmp 0 (map (λ (k : Term × Key). k.1) in_order) (version_key_cells a) (version_key_cells b) ≡ Less
 ranks a b h = rw (value_cmp-Text a.0 b.0, value_cmp-Int (pos a.1) (pos b.1), int_order a.1 b.1) (go (text_cmp a.0 b.0) (nat_cmp a.1 b.1) h)
   where
     go : (x y : Ordering) → ordering_then x y ≡ Less → ordering_then x (ordering_then y Equal) ≡ Less
@@ -87,36 +87,39 @@ module _ (q : TableQuery) (ordered : body_of q ≡ ordered_query 2 q.tests q.sho
 
 -- ---- the versions of a subject
 
-same_text : (a b : List ℕ) → is_eq (text_cmp a b) ≡ bytes_eq a b
+pub same_text : (a b : List ℕ) → is_eq (text_cmp a b) ≡ bytes_eq a b
 same_text a b = elim (cases_Bool (is_eq (text_cmp a b))) [
   | inl same ↦ same ∙ sym ((bytes_eq-Decides a b).1 (same_key text_cmp text_order a b same))
   | inr other ↦ other ∙ sym (false_from_ne_true _ (λ same. both_ways _ other (tied_key text_cmp text_order a b ((bytes_eq-Decides a b).0 same))))
 ]
 
-distinct_numbered : (a b : NumberedVersion) → numbered_cells a ≡ numbered_cells b → a ≡ b
+pub distinct_numbered : (a b : NumberedVersion) → numbered_cells a ≡ numbered_cells b → a ≡ b
 distinct_numbered a b h =
     let number : a.0 ≡ b.0 = cc in
     let rest : version_cells a.1 ≡ version_cells b.1 = cc in
     λ i. (number i, distinct_version_rows a.1 b.1 rest i)
 
-module _ (old new : State) (schema : Schema) (contents : Contents) (h : HoldsIn schema old.now contents) (is_layout : IsLayout schema) (subject : List ℕ) (found : List Row) (shown : Shown find_versions.sql (Text subject ∷ []) old new found) where
-  abbrev cells : Entry → Row
-  cells e = numbered_cells (e.0.1, e.1)
+abbrev pub entry_cells : Entry → Row
+entry_cells e = numbered_cells (e.0.1, e.1)
 
+pub by_subject : (subject : List ℕ) (row : Row) (e : Entry) → IsEntry version_form row e.0 e.1 → passes by_key (Text subject ∷ []) row ≡ bytes_eq e.0.0 subject
+by_subject subject row e is = by_key_test row subject e.0.0 (let k = is.0 in cc) ∙ same_text e.0.0 subject
+
+pub entry_shown : (row : Row) (e : Entry) → IsEntry version_form row e.0 e.1 → column row 2 ∷ column row 3 ∷ column row 4 ∷ [] ≡ entry_cells e
+entry_shown row e is =
+    let number : column row 2 ≡ Int (pos e.0.1) = (let k = is.0 in cc) in
+    λ i. number i ∷ is.1 i
+
+pub readable_entry : (e : Entry) → IsUtf8 e.0.0 × (e.0.1 < 2 ^ 32) × (e.1.id < 2 ^ 32) → IsReadableNumbered (entry_cells e)
+readable_entry e can = record { number = e.0.1; version = e.1; is = refl; low = can.1; low_id = can.2 }
+
+module _ (old new : State) (schema : Schema) (contents : Contents) (h : HoldsIn schema old.now contents) (is_layout : IsLayout schema) (subject : List ℕ) (found : List Row) (shown : Shown find_versions.sql (Text subject ∷ []) old new found) where
   its : IsQuery find_versions old.now.schema
   its = find_versions_is old.now.schema (laid_out h is_layout)
 
-  test : (row : Row) (e : Entry) → IsEntry version_form row e.0 e.1 → passes by_key (Text subject ∷ []) row ≡ bytes_eq e.0.0 subject
-  test row e is = by_key_test row subject e.0.0 (let k = is.0 in cc) ∙ same_text e.0.0 subject
-
-  whole : (row : Row) (e : Entry) → IsEntry version_form row e.0 e.1 → column row 2 ∷ column row 3 ∷ column row 4 ∷ [] ≡ cells e
-  whole row e is =
-      let number : column row 2 ≡ Int (pos e.0.1) = (let k = is.0 in cc) in
-      λ i. number i ∷ is.1 i
-
   pub finds_versions : found ≡ map numbered_cells (subject_versions subject contents)
   finds_versions =
-      lists_versions find_versions refl (Text subject ∷ []) old new its found shown contents h.versions (λ e. bytes_eq e.0.0 subject) test cells whole
+      lists_versions find_versions refl (Text subject ∷ []) old new its found shown contents h.versions (λ e. bytes_eq e.0.0 subject) (by_subject subject) entry_cells entry_shown
       ∙ sym (map-map numbered_cells (λ (e : Entry). (e.0.1, e.1)) (filter (λ (e : Entry). bytes_eq e.0.0 subject) (entries contents.versions)))
 
   pub numbered_lines : (lines : List SubjectVersion) → map (λ (row : Row). column row 0 ∷ column row 1 ∷ column row 2 ∷ []) found ≡ map (λ (line : SubjectVersion). numbered_cells (numbered line)) lines → map numbered lines ≡ subject_versions subject contents
@@ -125,5 +128,4 @@ module _ (old new : State) (schema : Schema) (contents : Contents) (h : HoldsIn 
       ∙ map-map (λ (row : Row). column row 0 ∷ column row 1 ∷ column row 2 ∷ []) numbered_cells (subject_versions subject contents))
 
   pub readable_numbered : AreReadable contents → All IsReadableNumbered found
-  readable_numbered = readable_versions find_versions refl (Text subject ∷ []) old new its found shown contents h.versions (λ e. bytes_eq e.0.0 subject) test cells whole IsReadableNumbered
-      (λ e can. record { number = e.0.1; version = e.1; is = refl; low = can.1; low_id = can.2 })
+  readable_numbered = readable_versions find_versions refl (Text subject ∷ []) old new its found shown contents h.versions (λ e. bytes_eq e.0.0 subject) (by_subject subject) entry_cells entry_shown IsReadableNumbered readable_entry

@@ -27,7 +27,10 @@ pub use lines::{
     KeptLine, LevelLine, MetaLine, TextLine, VersionLine, kept_lines, level_lines, meta_lines,
     text_lines, version_lines,
 };
-pub use listed::{ListedVersion, SubjectVersion, all_versions, versions_of, versions_of_id};
+pub use listed::{
+    ListedVersion, SubjectVersion, all_versions, last_live_version_of, last_version_of,
+    versions_of, versions_of_id,
+};
 pub use meta::{global_level, set_global};
 pub use texts::{id_of, last_id, put_text, text_of};
 pub use versions::{VersionEntry, drop_version, mark_deleted, put_version, version_of};

@@ -1,6 +1,7 @@
 //! Rows of `versions`, in the order of their subjects and numbers.
 
-ghost use Rattle.std.specs.Prelude.{◌≡◌, [], ◌∷◌, IfOk, IfErr, false, map};
+ghost use Rattle.std.specs.Prelude.{◌≡◌, [], ◌∷◌, IfOk, IfErr, None, false, not, map, filter, option_map};
+ghost use Rattle.std.specs.List.{last_or};
 ghost use Rattle.std.specs.FinMap.{entries};
 ghost use Rattle.sqlite.specs.Order.{column};
 ghost use Rattle.sqlite.specs.Held.{state};
@@ -11,7 +12,7 @@ ghost use Rattle.reg_tables.specs.Entries.{numbered, numbered_cells, subject_ver
 ghost use Rattle.reg_tables.specs.Reading.{CanBeRead, IsFault};
 
 use crate::lines::flag_in;
-use crate::statement::{Line, list};
+use crate::statement::{Line, first, list};
 use sqlite::{Alter, Connection, Error, Row, params};
 use std::alloc::Global;
 
@@ -84,6 +85,50 @@ pub fn versions_of<S: Alter>(
         alloc,
         conn,
         "SELECT version, id, deleted FROM versions WHERE subject = ?1 ORDER BY subject, version",
+        params![subject],
+    )
+}
+
+/// The version of a subject with the greatest number, if the subject has one.
+pub fn last_version_of<S: Alter>(
+    conn: &mut Connection<S>,
+    subject: &str,
+) -> Result<Option<SubjectVersion>, Error>
+    requires idle { conn.old.in_transaction ≡ false }
+    ensures frame { StaysIdle S.Store conn.old conn.new result }
+    ensures found { HasCleanDisk (state S.Store conn.new) → IfOk result (λ found.
+        (contents : Contents) → Holds (state S.Store conn.old).now contents
+        → option_map numbered found ≡ last_or None (subject_versions subject.now contents)) }
+    ensures fault { HasCleanDisk (state S.Store conn.new) → IfErr result (λ e.
+        CanBeRead (state S.Store conn.old)
+        → IsFault (state S.Store conn.old) (state S.Store conn.new) e) }
+{
+    first(
+        conn,
+        "SELECT version, id, deleted FROM versions WHERE subject = ?1 ORDER BY subject DESC, version DESC LIMIT 1",
+        params![subject],
+    )
+}
+
+/// The version of a subject with the greatest number among those that aren't marked as deleted, if
+/// there is one.
+pub fn last_live_version_of<S: Alter>(
+    conn: &mut Connection<S>,
+    subject: &str,
+) -> Result<Option<SubjectVersion>, Error>
+    requires idle { conn.old.in_transaction ≡ false }
+    ensures frame { StaysIdle S.Store conn.old conn.new result }
+    ensures found { HasCleanDisk (state S.Store conn.new) → IfOk result (λ found.
+        (contents : Contents) → Holds (state S.Store conn.old).now contents
+        → option_map numbered found
+        ≡ last_or None (filter (λ version. not version.1.deleted) (subject_versions subject.now contents))) }
+    ensures fault { HasCleanDisk (state S.Store conn.new) → IfErr result (λ e.
+        CanBeRead (state S.Store conn.old)
+        → IsFault (state S.Store conn.old) (state S.Store conn.new) e) }
+{
+    first(
+        conn,
+        "SELECT version, id, deleted FROM versions WHERE subject = ?1 AND deleted = 0 ORDER BY subject DESC, version DESC LIMIT 1",
         params![subject],
     )
 }

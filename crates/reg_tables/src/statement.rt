@@ -1,7 +1,7 @@
 //! One statement: a write in a transaction, or a query in a transaction of its own, whose rows can
 //! be read as lines.
 
-ghost use Rattle.std.specs.Prelude.{◌≡◌, ◌⊎◌, ◌≤◌, ℕ, Ok, Err, IfErr, OnOk, IfOk, List, map, All, false};
+ghost use Rattle.std.specs.Prelude.{◌≡◌, ◌⊎◌, ◌≤◌, ℕ, Ok, Err, IfErr, OnOk, IfOk, List, map, slice_get, option_map, All, false};
 ghost use Rattle.sqlite.specs.Order.{Row as SqlRow};
 ghost use Rattle.sqlite.specs.Held.{Held, state};
 ghost use Rattle.reg_tables.specs.Frames.{once_begun, state_in, StaysInside, StaysIdle};
@@ -110,4 +110,31 @@ pub(crate) fn list<S: Alter, L: Line + Drop>(
 {
     let rows = ask(conn, sql, values)?;
     lines_in(alloc, rows)
+}
+
+/// The line of the first row that a query shows, if it shows one.
+pub(crate) fn first<S: Alter, L: Line>(
+    conn: &mut Connection<S>,
+    sql: &str,
+    values: &[ValueRef<'_>],
+) -> Result<Option<L>, Error>
+    requires idle { conn.old.in_transaction ≡ false }
+    ensures frame { StaysIdle S.Store conn.old conn.new result }
+    ensures read { HasCleanDisk (state S.Store conn.new) → IfOk result (λ line. (last : Held S)
+        × (found : List SqlRow)
+        × Shown sql.now (bound values.now) (once_begun S.Store conn.old) (state S.Store last) found
+        × (option_map L.shown (slice_get found 0) ≡ option_map L.cells line)) }
+    ensures failed { HasCleanDisk (state S.Store conn.new) → IfErr result (λ e. (last : Held S)
+        × ((((state S.Store last).faults ≤ (state S.Store conn.new).faults)
+        × (FailsToQuery sql.now (bound values.now) (once_begun S.Store conn.old) (state S.Store last) e
+        ⊎ IsTooLate sql.now (bound values.now) (once_begun S.Store conn.old) (state S.Store last) e))
+        ⊎ ((found : List SqlRow)
+        × Shown sql.now (bound values.now) (once_begun S.Store conn.old) (state S.Store last) found
+        × (All L.is_readable found → e ≡ Error.SqliteFailure ErrorCode.OutOfMemory)))) }
+{
+    let rows = ask(conn, sql, values)?;
+    match rows.first() {
+        None => Ok(None),
+        Some(row) => Ok(Some(L::read(row)?)),
+    }
 }
