@@ -1,28 +1,33 @@
--- What the queries of versions with their subjects list.
-use Rattle.std.proofs.Common.{◌≡◌, ◌==◌, ◌&&◌, inl, inr, ℕ, pos, List, [], ◌∷◌, map, All, Bool, true, false, Some, refl, sym, ap, ◌∙◌}
+-- What the queries of versions with their subjects list, and what the query of one shows.
+use Rattle.std.proofs.Common.{◌≡◌, ◌≢◌, ◌==◌, ◌&&◌, inl, inr, ℕ, pos, List, [], ◌∷◌, map, All, Bool, true, false, Option, None, Some, MatchOption, slice_get, refl, sym, ap, subst, ◌∙◌}
 use Rattle.std.specs.Cmp.{unsigned_Decides}
-use Rattle.std.specs.FinMap.{entries}
-use Rattle.std.specs.Prelude.{IsUtf8, ◌<◌, ◌^◌}
+use Rattle.std.specs.FinMap.{entries, get}
+use Rattle.std.specs.Prelude.{IsUtf8, ◌<◌, ◌^◌, option_map}
 use Rattle.std.specs.Ordering.{is_eq, nat_cmp}
 use Rattle.std.proofs.lemmas.Bool.{cases_Bool, both_ways, false_from_ne_true}
 use Rattle.sqlite.specs.declared.types.Value.TheVariants.{Int, Text}
 use Rattle.sqlite.specs.Order.{Row, column}
+use Rattle.sqlite.specs.Program.{overlay}
+use Rattle.sqlite.specs.Query.{Output, IsAnswer}
 use Rattle.sqlite.specs.Schema.{Schema}
 use Rattle.sqlite.specs.State.{State, Shown}
+use Rattle.sqlite_rules.specs.Lists.{Has}
 use Rattle.sqlite_sql.specs.Ops.{binary, is_true, from_truth}
 use Rattle.sqlite_trees.proofs.ListLemmas.{all_of, filter_all}
 use Rattle.sqlite_value.proofs.OrderLemmas.{value_cmp-Int}
 use Rattle.reg_tables.specs.Layout.{IsLayout}
 use Rattle.reg_tables.specs.TableMaps.{IsEntry}
-use Rattle.reg_tables.specs.Contents.{version_cells, version_form, Contents, AreReadable, HoldsIn}
+use Rattle.reg_tables.specs.Contents.{VersionRow, version_cells, version_form, Contents, AreReadable, HoldsIn}
 use Rattle.reg_tables.specs.Entries.{KeyedVersion, keyed, keyed_cells, id_versions, IsReadableKeyed}
 use Rattle.reg_tables.specs.declared.listed.ListedVersion.{ListedVersion}
-use Rattle.reg_tables.proofs.KeyedTables.{number_order, same_pos}
+use Rattle.reg_tables.proofs.KeyedTables.{number_order, same_pos, with_nothing, answered}
 use Rattle.reg_tables.proofs.MapLemmas.{same_key, tied_key}
-use Rattle.reg_tables.proofs.Members.{map-map}
+use Rattle.reg_tables.proofs.Members.{has_mapped, maps_had, has_taken, takes_one, map-map}
 use Rattle.reg_tables.proofs.Opening.{distinct_version_rows}
-use Rattle.reg_tables.proofs.Queries.{passes}
-use Rattle.reg_tables.proofs.Statements.{IsQuery, by_its_id, laid_out, find_of_id, find_of_id_is, list_versions, list_versions_is}
+use Rattle.reg_tables.proofs.Queries.{passes, ordered_has, has_ordered}
+use Rattle.reg_tables.proofs.Statements.{IsQuery, body_of, first_row, by_its_id, laid_out, find_of_id, find_of_id_is, find_one_of_id, find_one_of_id_is, list_versions, list_versions_is}
+use Rattle.reg_tables.proofs.TableLines.{all_if_each}
+use Rattle.reg_tables.proofs.TableReads.{first_shown}
 use Rattle.reg_tables.proofs.VersionLists.{same_cells, lists_versions, readable_versions}
 
 distinct_keyed : (a b : KeyedVersion) → keyed_cells a ≡ keyed_cells b → a ≡ b
@@ -64,19 +69,19 @@ by_its_id_test row id its is = rw (is, value_cmp-Int (pos its) (pos id), same_po
     truth true = refl
     truth false = refl
 
+by_entry_id : (id : ℕ) (row : Row) (e : KeyedVersion) → IsEntry version_form row e.0 e.1 → passes by_its_id (Int (pos id) ∷ []) row ≡ (e.1.id == id)
+by_entry_id id row e is = by_its_id_test row id e.1.id (let v = is.1 in cc)
+
 module _ (old new : State) (schema : Schema) (contents : Contents) (h : HoldsIn schema old.now contents) (is_layout : IsLayout schema) (found : List Row) where
   module _ (id : ℕ) (shown : Shown find_of_id.sql (Int (pos id) ∷ []) old new found) where
     its : IsQuery find_of_id old.now.schema
     its = find_of_id_is old.now.schema (laid_out h is_layout)
 
-    test : (row : Row) (e : KeyedVersion) → IsEntry version_form row e.0 e.1 → passes by_its_id (Int (pos id) ∷ []) row ≡ (e.1.id == id)
-    test row e is = by_its_id_test row id e.1.id (let v = is.1 in cc)
-
     pub lines_of_id : (lines : List ListedVersion) → map (λ (row : Row). column row 0 ∷ column row 1 ∷ column row 2 ∷ column row 3 ∷ []) found ≡ map (λ (line : ListedVersion). keyed_cells (keyed line)) lines → map keyed lines ≡ id_versions id contents
-    lines_of_id = keyed_lines (id_versions id contents) found (lists_versions find_of_id refl (Int (pos id) ∷ []) old new its found shown contents h.versions (λ e. e.1.id == id) test keyed_cells whole)
+    lines_of_id = keyed_lines (id_versions id contents) found (lists_versions find_of_id refl (Int (pos id) ∷ []) old new its found shown contents h.versions (λ e. e.1.id == id) (by_entry_id id) keyed_cells whole)
 
     pub readable_of_id : AreReadable contents → All IsReadableKeyed found
-    readable_of_id = readable_versions find_of_id refl (Int (pos id) ∷ []) old new its found shown contents h.versions (λ e. e.1.id == id) test keyed_cells whole IsReadableKeyed can_be_held
+    readable_of_id = readable_versions find_of_id refl (Int (pos id) ∷ []) old new its found shown contents h.versions (λ e. e.1.id == id) (by_entry_id id) keyed_cells whole IsReadableKeyed can_be_held
 
   module _ (shown : Shown list_versions.sql [] old new found) where
     it : IsQuery list_versions old.now.schema
@@ -89,3 +94,47 @@ module _ (old new : State) (schema : Schema) (contents : Contents) (h : HoldsIn 
 
     pub all_readable : AreReadable contents → All IsReadableKeyed found
     all_readable = readable_versions list_versions refl [] old new it found shown contents h.versions (λ e. true) (λ row e is. refl) keyed_cells whole IsReadableKeyed can_be_held
+
+-- ---- one of the id
+
+module _ (old new : State) (schema : Schema) (contents : Contents) (h : HoldsIn schema old.now contents) (is_layout : IsLayout schema) (found : List Row) (id : ℕ) (shown : Shown find_one_of_id.sql (Int (pos id) ∷ []) old new found) where
+  answer : IsAnswer (body_of find_one_of_id) (overlay old.now.trees []) (Int (pos id) ∷ []) found
+  answer = answered find_one_of_id (Int (pos id) ∷ []) old new (find_one_of_id_is old.now.schema (laid_out h is_layout)) found shown
+
+  abbrev IsOf : Row → Type 0
+  IsOf row = (e : KeyedVersion) × (get contents.versions e.0 ≡ Some e.1) × (e.1.id ≡ id) × (row ≡ keyed_cells e)
+
+  abbrev HasNone : Type 0
+  HasNone = (key : List ℕ × ℕ) (version : VersionRow) → get contents.versions key ≡ Some version → version.id ≢ id
+
+  is_of : (row : Row) → Has found row → IsOf row
+  is_of row there =
+      let o = has_mapped (λ (o : Output). o.1) answer.ordered row (has_taken (map (λ (o : Output). o.1) answer.ordered) row (subst (λ l. Has l row) answer.shown there)) in
+      let r = ordered_has by_its_id (Int (pos id) ∷ []) 2 find_one_of_id.shown [] first_row (overlay old.now.trees []) found answer o.0 o.1 in
+      let e = h.versions.sound r.0 (subst (λ l. Has l r.0) (with_nothing old.now.trees 2) r.1) in
+      ((e.0, e.1), e.2, (unsigned_Decides e.1.id id).0 (sym (by_entry_id id r.0 (e.0, e.1) e.3) ∙ r.2), o.2 ∙ ap (λ (p : Output). p.1) r.3 ∙ whole r.0 (e.0, e.1) e.3)
+
+  none_of_id : ((row : Row) → Has found row → ⊥) → HasNone
+  none_of_id none key version got same =
+      let r = h.versions.complete key version got in
+      let on = by_entry_id id r.0 (key, version) r.2 ∙ (unsigned_Decides version.id id).1 same in
+      let there = has_ordered by_its_id (Int (pos id) ∷ []) 2 find_one_of_id.shown [] first_row (overlay old.now.trees []) found answer r.0 (subst (λ l. Has l r.0) (sym (with_nothing old.now.trees 2)) r.1) on in
+      let row = takes_one (map (λ (o : Output). o.1) answer.ordered) _ (maps_had (λ (o : Output). o.1) answer.ordered _ there) in
+      none row.0 (subst (λ l. Has l row.0) (sym answer.shown) row.1)
+
+  pub one_of_id : (line : Option ListedVersion) → option_map (λ (row : Row). column row 0 ∷ column row 1 ∷ column row 2 ∷ column row 3 ∷ []) (slice_get found 0) ≡ option_map (λ (line : ListedVersion). keyed_cells (keyed line)) line
+      → MatchOption line HasNone (λ line. (get contents.versions (keyed line).0 ≡ Some (keyed line).1) × (line.id ≡ id))
+  one_of_id line read = go (slice_get found 0) line read (first_shown found IsOf HasNone is_of none_of_id (slice_get found 0) refl)
+    where
+      go : (o : Option Row) (line : Option ListedVersion) → option_map (λ (row : Row). column row 0 ∷ column row 1 ∷ column row 2 ∷ column row 3 ∷ []) o ≡ option_map (λ (line : ListedVersion). keyed_cells (keyed line)) line → MatchOption o HasNone IsOf
+          → MatchOption line HasNone (λ line. (get contents.versions (keyed line).0 ≡ Some (keyed line).1) × (line.id ≡ id))
+      go None None read it = it
+      go None (Some line) read it = absurd (cc)
+      go (Some row) None read it = absurd (cc)
+      go (Some row) (Some line) read it =
+          let cells : column row 0 ∷ column row 1 ∷ column row 2 ∷ column row 3 ∷ [] ≡ keyed_cells (keyed line) = cc in
+          let same : it.0 ≡ keyed line = distinct_keyed it.0 (keyed line) (sym (ap (λ (row : Row). column row 0 ∷ column row 1 ∷ column row 2 ∷ column row 3 ∷ []) it.3) ∙ cells) in
+          (subst (λ (e : KeyedVersion). get contents.versions e.0 ≡ Some e.1) same it.1, ap (λ (e : KeyedVersion). e.1.id) (sym same) ∙ it.2)
+
+  pub readable_one : AreReadable contents → All IsReadableKeyed found
+  readable_one readable = all_if_each IsReadableKeyed found (λ row there. let it = is_of row there in subst IsReadableKeyed (sym it.3) (can_be_held it.0 (readable.versions it.0.0 it.0.1 it.1)))

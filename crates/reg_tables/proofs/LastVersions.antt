@@ -1,11 +1,10 @@
 -- The last version that passes, as a query from the greatest on shows it.
-use Rattle.std.proofs.Common.{◌≡◌, ◌&&◌, inl, inr, ℕ, pos, List, [], ◌∷◌, map, take, reverse, filter, All, Bool, true, false, not, cond, Option, None, Some, slice_get, Less, refl, sym, ap, subst, ◌∙◌}
+use Rattle.std.proofs.Common.{◌≡◌, ◌&&◌, ℕ, pos, List, [], ◌∷◌, map, take, reverse, filter, All, Bool, true, false, not, cond, Option, None, Some, slice_get, Less, refl, sym, ap, subst, ◌∙◌}
 use Rattle.std.specs.Prelude.{bytes_eq, IsUtf8, ◌<◌, ◌^◌, option_map}
 use Rattle.std.specs.List.{AllByRecursion, last_or}
 use Rattle.std.specs.FinMap.{entries, get}
 use Rattle.std.specs.Ordering.{is_eq, int_cmp}
 use mathlib.Core.List.{reverse_aux}
-use Rattle.std.proofs.lemmas.List.Sorted.{IsPermutation-reverse, IsPermutation-sym}
 use Rattle.std.proofs.lemmas.Option.{slice_get-map}
 use Rattle.sqlite.specs.declared.types.Value.TheVariants.{Int, Text}
 use Rattle.sqlite.specs.Order.{Row, column}
@@ -27,7 +26,7 @@ use Rattle.reg_tables.specs.Contents.{text_cmp, version_cmp, version_key_cells, 
 use Rattle.reg_tables.specs.Entries.{NumberedVersion, numbered, numbered_cells, subject_versions, IsReadableNumbered}
 use Rattle.reg_tables.specs.declared.listed.SubjectVersion.{SubjectVersion}
 use Rattle.reg_tables.proofs.KeyedTables.{version_order, with_nothing, answered}
-use Rattle.reg_tables.proofs.Members.{has_mapped, has_permuted, map-map}
+use Rattle.reg_tables.proofs.Members.{has_mapped, has_reversed, reversed_has, has_taken, map-map}
 use Rattle.reg_tables.proofs.OrderedQueries.{entries_rise, entry_got, got_entry, in_order_as}
 use Rattle.reg_tables.proofs.Queries.{ordered_query, passes}
 use Rattle.reg_tables.proofs.Statements.{TableQuery, body_of, IsQuery, from_greatest, first_row, laid_out, by_live_key, find_last_version, find_last_version_is, find_last_live, find_last_live_is}
@@ -44,17 +43,6 @@ module _ {A : Type 0} where
   first_taken : (xs : List A) → slice_get (take 1 xs) 0 ≡ slice_get xs 0
   first_taken [] = refl
   first_taken (x ∷ xs) = refl
-
-  has_taken : (xs : List A) (x : A) → Has (take 1 xs) x → Has xs x
-  has_taken [] x there = there
-  has_taken (y ∷ xs) x (inl same) = inl same
-  has_taken (y ∷ xs) x (inr none) = absurd none
-
-  has_reversed : (xs : List A) (x : A) → Has (reverse xs) x → Has xs x
-  has_reversed xs x = has_permuted (reverse xs) xs x (IsPermutation-sym xs (reverse xs) (IsPermutation-reverse xs))
-
-  reversed_has : (xs : List A) (x : A) → Has xs x → Has (reverse xs) x
-  reversed_has xs x = has_permuted xs (reverse xs) x (IsPermutation-reverse xs)
 
   falls_onto : (R : A → A → Type 0) (xs ys : List A) → IsAscending R xs → IsAscending (λ a b. R b a) ys → AllByRecursion (λ x. AllByRecursion (λ y. R y x) ys) xs → IsAscending (λ a b. R b a) (reverse_aux xs ys)
   falls_onto R [] ys up down across = down
@@ -123,15 +111,24 @@ module _ (q : TableQuery) (ordered : body_of q ≡ ordered_query 2 q.tests q.sho
       let kept = has_filtered p (entries contents.versions) e.0 (has_reversed passed e.0 e.1) in
       subst is_readable (sym e.2) (can e.0 (readable.versions e.0.0 e.0.1 (entry_got version_cmp version_order contents.versions e.0 kept.0))))
 
+-- ---- the versions of a subject
+
+abbrev entry_version : Entry → NumberedVersion
+entry_version e = (e.0.1, e.1)
+
+-- what a line reads of a row
+abbrev line_columns : Row → Row
+line_columns row = column row 0 ∷ column row 1 ∷ column row 2 ∷ []
+
 -- the line that was read is what the row spells
 numbered_line : (es : List Entry) (found : List Row) → slice_get found 0 ≡ option_map entry_cells (last_or None es) → (line : Option SubjectVersion)
-    → option_map (λ (row : Row). column row 0 ∷ column row 1 ∷ column row 2 ∷ []) (slice_get found 0) ≡ option_map (λ (line : SubjectVersion). numbered_cells (numbered line)) line
-    → option_map numbered line ≡ last_or None (map (λ (e : Entry). (e.0.1, e.1)) es)
-numbered_line es found is line read = same_shown numbered_cells distinct_numbered (option_map numbered line) (last_or None (map (λ (e : Entry). (e.0.1, e.1)) es))
-    (map_twice numbered_cells numbered line ∙ sym read ∙ ap (option_map (λ (row : Row). column row 0 ∷ column row 1 ∷ column row 2 ∷ [])) is
-    ∙ map_twice (λ (row : Row). column row 0 ∷ column row 1 ∷ column row 2 ∷ []) entry_cells (last_or None es) ∙ sym (map_twice numbered_cells (λ (e : Entry). (e.0.1, e.1)) (last_or None es))
-    ∙ ap (option_map numbered_cells) (sym (last_mapped (λ (e : Entry). (e.0.1, e.1)) None es)))
+    → option_map line_columns (slice_get found 0) ≡ option_map (λ (line : SubjectVersion). numbered_cells (numbered line)) line
+    → option_map numbered line ≡ last_or None (map entry_version es)
+numbered_line es found is line read = same_shown numbered_cells distinct_numbered (option_map numbered line) (last_or None (map entry_version es))
+    (map_twice numbered_cells numbered line ∙ sym read ∙ ap (option_map line_columns) is ∙ map_twice line_columns entry_cells (last_or None es)
+    ∙ sym (map_twice numbered_cells entry_version (last_or None es)) ∙ ap (option_map numbered_cells) (sym (last_mapped entry_version None es)))
 
+-- a row passes by its subject and its mark
 by_live_subject : (subject : List ℕ) (row : Row) (e : Entry) → IsEntry version_form row e.0 e.1 → passes by_live_key (Text subject ∷ []) row ≡ (bytes_eq e.0.0 subject && not e.1.deleted)
 unfolding binary
 by_live_subject subject row e is =
@@ -154,7 +151,7 @@ module _ (old new : State) (schema : Schema) (contents : Contents) (h : HoldsIn 
     its : IsQuery find_last_version old.now.schema
     its = find_last_version_is old.now.schema (laid_out h is_layout)
 
-    pub last_line : (line : Option SubjectVersion) → option_map (λ (row : Row). column row 0 ∷ column row 1 ∷ column row 2 ∷ []) (slice_get found 0) ≡ option_map (λ (line : SubjectVersion). numbered_cells (numbered line)) line
+    pub last_line : (line : Option SubjectVersion) → option_map line_columns (slice_get found 0) ≡ option_map (λ (line : SubjectVersion). numbered_cells (numbered line)) line
         → option_map numbered line ≡ last_or None (subject_versions subject contents)
     last_line = numbered_line (filter of_subject (entries contents.versions)) found (shows_last find_last_version refl (Text subject ∷ []) old new its found shown contents h.versions of_subject (by_subject subject) entry_cells entry_shown)
 
@@ -168,10 +165,12 @@ module _ (old new : State) (schema : Schema) (contents : Contents) (h : HoldsIn 
     it : IsQuery find_last_live old.now.schema
     it = find_last_live_is old.now.schema (laid_out h is_layout)
 
-    live_entries : filter (λ (version : NumberedVersion). not version.1.deleted) (subject_versions subject contents) ≡ map (λ (e : Entry). (e.0.1, e.1)) (filter of_live (entries contents.versions))
-    live_entries = filter-map (λ (version : NumberedVersion). not version.1.deleted) (λ (e : Entry). (e.0.1, e.1)) (filter of_subject (entries contents.versions)) ∙ ap (map (λ (e : Entry). (e.0.1, e.1))) (filter_both (λ (e : Entry). not e.1.deleted) of_subject (entries contents.versions))
+    live_entries : filter (λ (version : NumberedVersion). not version.1.deleted) (subject_versions subject contents) ≡ map entry_version (filter of_live (entries contents.versions))
+    live_entries =
+        filter-map (λ (version : NumberedVersion). not version.1.deleted) entry_version (filter of_subject (entries contents.versions))
+        ∙ ap (map entry_version) (filter_both (λ (e : Entry). not e.1.deleted) of_subject (entries contents.versions))
 
-    pub last_live_line : (line : Option SubjectVersion) → option_map (λ (row : Row). column row 0 ∷ column row 1 ∷ column row 2 ∷ []) (slice_get found 0) ≡ option_map (λ (line : SubjectVersion). numbered_cells (numbered line)) line
+    pub last_live_line : (line : Option SubjectVersion) → option_map line_columns (slice_get found 0) ≡ option_map (λ (line : SubjectVersion). numbered_cells (numbered line)) line
         → option_map numbered line ≡ last_or None (filter (λ (version : NumberedVersion). not version.1.deleted) (subject_versions subject contents))
     last_live_line line read =
         numbered_line (filter of_live (entries contents.versions)) found (shows_last find_last_live refl (Text subject ∷ []) old new it found shown contents h.versions of_live (by_live_subject subject) entry_cells entry_shown) line read

@@ -314,6 +314,21 @@ pub find_of_id_is : (schema : Schema) → IsLayout schema → IsQuery find_of_id
 unfolding understood everything
 find_of_id_is = in_layouts (IsQuery find_of_id) (record { command = record { is = refl; plain = (refl, refl) }; unlisted = refl }) (record { command = record { is = refl; plain = (refl, refl) }; unlisted = refl })
 
+abbrev pub find_one_of_id : TableQuery
+find_one_of_id = record {
+  sql = codes "SELECT subject, version, id, deleted FROM versions WHERE id = ?1 LIMIT 1";
+  tree = 2;
+  tests = by_its_id;
+  shown = col 1 1 ∷ col 1 2 ∷ col 1 3 ∷ col 1 4 ∷ [];
+  names = codes "subject" ∷ codes "version" ∷ codes "id" ∷ codes "deleted" ∷ [];
+  order = [];
+  limit = first_row;
+}
+
+pub find_one_of_id_is : (schema : Schema) → IsLayout schema → IsQuery find_one_of_id schema
+unfolding understood everything
+find_one_of_id_is = in_layouts (IsQuery find_one_of_id) (record { command = record { is = refl; plain = (refl, refl) }; unlisted = refl }) (record { command = record { is = refl; plain = (refl, refl) }; unlisted = refl })
+
 abbrev pub list_versions : TableQuery
 list_versions = record { sql = codes "SELECT subject, version, id, deleted FROM versions ORDER BY subject, version"; tree = 2; tests = []; shown = col 1 1 ∷ col 1 2 ∷ col 1 3 ∷ col 1 4 ∷ []; names = codes "subject" ∷ codes "version" ∷ codes "id" ∷ codes "deleted" ∷ []; order = in_order; limit = all_rows }
 

@@ -1,13 +1,13 @@
-//! Rows of `versions`, in the order of their subjects and numbers.
+//! Rows of `versions`, in the order of their subjects and numbers, or one of them.
 
-ghost use Rattle.std.specs.Prelude.{◌≡◌, [], ◌∷◌, IfOk, IfErr, None, false, not, map, filter, option_map};
+ghost use Rattle.std.specs.Prelude.{◌≡◌, ◌≢◌, ℕ, List, [], ◌∷◌, IfOk, IfErr, MatchOption, None, Some, false, not, map, filter, option_map};
 ghost use Rattle.std.specs.List.{last_or};
-ghost use Rattle.std.specs.FinMap.{entries};
+ghost use Rattle.std.specs.FinMap.{entries, get};
 ghost use Rattle.sqlite.specs.Order.{column};
 ghost use Rattle.sqlite.specs.Held.{state};
 ghost use Rattle.sqlite.specs.State.{HasCleanDisk};
 ghost use Rattle.reg_tables.specs.Frames.{StaysIdle};
-ghost use Rattle.reg_tables.specs.Contents.{Contents, Holds};
+ghost use Rattle.reg_tables.specs.Contents.{VersionRow, Contents, Holds};
 ghost use Rattle.reg_tables.specs.Entries.{numbered, numbered_cells, subject_versions, IsReadableNumbered, keyed, keyed_cells, id_versions, IsReadableKeyed};
 ghost use Rattle.reg_tables.specs.Reading.{CanBeRead, IsFault};
 
@@ -152,6 +152,29 @@ pub fn versions_of_id<S: Alter>(
         alloc,
         conn,
         "SELECT subject, version, id, deleted FROM versions WHERE id = ?1 ORDER BY subject, version",
+        params![id],
+    )
+}
+
+/// A version of an id, whichever it is, if the id has one.
+pub fn a_version_of_id<S: Alter>(
+    conn: &mut Connection<S>,
+    id: u32,
+) -> Result<Option<ListedVersion>, Error>
+    requires idle { conn.old.in_transaction ≡ false }
+    ensures frame { StaysIdle S.Store conn.old conn.new result }
+    ensures found { HasCleanDisk (state S.Store conn.new) → IfOk result (λ found.
+        (contents : Contents) → Holds (state S.Store conn.old).now contents
+        → MatchOption found ((key : List ℕ × ℕ) (version : VersionRow)
+        → get contents.versions key ≡ Some version → version.id ≢ id)
+        (λ line. (get contents.versions (keyed line).0 ≡ Some (keyed line).1) × (line.id ≡ id))) }
+    ensures fault { HasCleanDisk (state S.Store conn.new) → IfErr result (λ e.
+        CanBeRead (state S.Store conn.old)
+        → IsFault (state S.Store conn.old) (state S.Store conn.new) e) }
+{
+    first(
+        conn,
+        "SELECT subject, version, id, deleted FROM versions WHERE id = ?1 LIMIT 1",
         params![id],
     )
 }
