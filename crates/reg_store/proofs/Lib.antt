@@ -18,4 +18,5 @@ pub mod Writing
 pub mod Additions
 pub mod ViewLemmas
 pub mod RowLemmas
+pub mod ChosenLemmas
 pub mod ViewTexts

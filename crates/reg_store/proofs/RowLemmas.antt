@@ -9,6 +9,7 @@ use Rattle.std.specs.List.{AllByRecursion}
 use Rattle.std.proofs.lemmas.Slice.Eq.{bytes_eq-Decides}
 use Rattle.std.proofs.lemmas.List.Elements.{All-nil, All-cons, All-head, All-tail, All-filter}
 use Rattle.sqlite_rules.proofs.ListLemmas.{all_from}
+use Rattle.reg_core.proofs.RowLemmas.{All-mapped}
 use Rattle.reg_core.specs.Registry.{Registry, Row, RowKey, row_cmp}
 use Rattle.reg_core.specs.Rows.{rows_of, rows_with}
 use Rattle.reg_core.specs.Subjects.{is_subject}
@@ -22,10 +23,6 @@ use Rattle.reg_store.specs.Spells.{IsSpelled, version_row}
 use Rattle.reg_store.proofs.Schemas.{find-mapped}
 use Rattle.reg_store.proofs.Texts.{was_written}
 use Rattle.reg_store.specs.Viewing.{HasSubject, version_spelled, row_spelled, row_numbered}
-
-pub map-map : {A B C : Type 0} (f : A → B) (h : B → C) (xs : List A) → map (λ x. h (f x)) xs ≡ map h (map f xs)
-map-map f h [] = refl
-map-map f h (x ∷ xs) = ap (λ rest. h (f x) ∷ rest) (map-map f h xs)
 
 -- ---- entries
 
@@ -90,10 +87,6 @@ all_of : {X : Type 0} (P : X → Type 0) (xs : List X) → AllByRecursion P xs �
 all_of P [] h = All-nil P
 all_of P (x ∷ xs) h = All-cons P x xs h.0 (all_of P xs h.1)
 
-pub all_mapped : {X Y : Type 0} (P : Y → Type 0) (f : X → Y) (xs : List X) → All P (map f xs) → All (λ x. P (f x)) xs
-all_mapped P f [] all = All-nil (λ x. P (f x))
-all_mapped P f (x ∷ xs) all = All-cons (λ y. P (f y)) x xs (All-head P (f x) (map f xs) all) (all_mapped P f xs (All-tail P (f x) (map f xs) all))
-
 abbrev IsOfSubject : KeyedVersion → Type 0
 IsOfSubject entry = IsTrue (is_subject entry.0.0)
 
@@ -106,8 +99,8 @@ module _ (contents : Contents) (g : Registry) (k : Kept) (s : IsSpelled contents
 
   -- each line of the table has a subject
   pub all_lines : (lines : List ListedVersion) → map keyed lines ≡ entries contents.versions → All HasSubject lines
-  all_lines lines is = all_mapped IsOfSubject keyed lines (subst (All IsOfSubject) (sym is) of_subjects)
+  all_lines lines is = All-mapped IsOfSubject keyed lines (subst (All IsOfSubject) (sym is) of_subjects)
 
   -- and each of an id
   pub id_lines : (lines : List ListedVersion) (id : ℕ) → map keyed lines ≡ id_versions id contents → All HasSubject lines
-  id_lines lines id is = all_mapped IsOfSubject keyed lines (subst (All IsOfSubject) (sym is) (All-filter (λ (e : KeyedVersion). e.1.id == id) IsOfSubject (entries contents.versions) of_subjects))
+  id_lines lines id is = All-mapped IsOfSubject keyed lines (subst (All IsOfSubject) (sym is) (All-filter (λ (e : KeyedVersion). e.1.id == id) IsOfSubject (entries contents.versions) of_subjects))

@@ -17,7 +17,7 @@ use Rattle.reg_core.proofs.IdLemmas.{text_within, text_there as id_has_text, tex
 use Rattle.reg_tables.specs.Contents.{Contents}
 use Rattle.reg_tables.proofs.MapLemmas.{same_or_not, other_key}
 use Rattle.reg_tables.proofs.KeyedTables.{number_order}
-use Rattle.reg_store.proofs.RowLemmas.{all_mapped}
+use Rattle.reg_core.proofs.RowLemmas.{All-mapped}
 use Rattle.reg_store.specs.Viewing.{HasText, AreTrueTexts, AddsText, PutsText, IsViewButTexts}
 
 -- ---- texts that are there
@@ -150,6 +150,6 @@ whole_view view texts g command ids shows is all true_texts = record {
   levels = shows.levels;
   known = shows.known;
   count = shows.count;
-  texts = subst (All (λ (row : Row). HasText texts g.schemas row.1.id)) (sym (reads_same command view texts)) (all_mapped (HasText texts g.schemas) (λ (row : Row). row.1.id) (rows_read command view) (subst (All (HasText texts g.schemas)) is all));
+  texts = subst (All (λ (row : Row). HasText texts g.schemas row.1.id)) (sym (reads_same command view texts)) (All-mapped (HasText texts g.schemas) (λ (row : Row). row.1.id) (rows_read command view) (subst (All (HasText texts g.schemas)) is all));
   true_texts = true_texts;
 }

@@ -13,7 +13,7 @@ use Rattle.reg_core.specs.Subjects.{is_subject}
 use Rattle.reg_core.specs.Registry.{Registry, Row, Version, Schemas}
 use Rattle.reg_core.specs.Rows.{known_id, text_at}
 use Rattle.reg_core.specs.Machine.{subject_of, schema_sent}
-use Rattle.reg_core.specs.Views.{rows_needed, needs_levels, needs_count}
+use Rattle.reg_core.specs.Views.{AnswerAs, rows_needed, needs_levels, needs_count}
 use Rattle.reg_tables.specs.declared.listed.ListedVersion.{ListedVersion}
 use Rattle.reg_tables.specs.Contents.{VersionRow}
 use Rattle.reg_tables.specs.Entries.{NumberedVersion, KeyedVersion}
@@ -72,7 +72,7 @@ pub record PutsText (old new : BTreeMap ℕ (String Global)) (id : ℕ) (found :
 
 -- the view shows what the command needs of the registry, but for the texts
 pub record IsViewButTexts (view : View) (g : Registry) (command : Command) : Type 0 where
-  pub rows : IfSome (rows_needed g command) (λ rows. view.rows.items ≡ rows)
+  pub rows : IfSome (rows_needed g command) (AnswerAs command view.rows.items)
   pub levels : IsTrue (needs_levels command) → (view.own ≡ option_and_then g.own (subject_of command)) × (view.global ≡ g.global)
   pub known : view.known ≡ known_id g.schemas (schema_sent command)
   pub count : IsTrue (needs_count command) → view.count ≡ length g.schemas

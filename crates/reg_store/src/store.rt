@@ -6,6 +6,7 @@ use sqlite::{Alter, Connection};
 use std::alloc::Global;
 
 mod applying;
+mod chosen;
 mod levels;
 mod making;
 mod opening;

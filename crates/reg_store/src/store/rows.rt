@@ -9,7 +9,7 @@ ghost use Rattle.reg_core.specs.Registry.{Registry};
 ghost use Rattle.reg_core.specs.Rows.{rows_of, rows_with};
 ghost use Rattle.reg_core.specs.ReadCommands.{rows_with_id};
 ghost use Rattle.reg_core.specs.KeptReplies.{Kept};
-ghost use Rattle.reg_core.specs.Views.{rows_needed};
+ghost use Rattle.reg_core.specs.Views.{AnswerAs, rows_needed};
 ghost use Rattle.reg_tables.specs.Entries.{numbered, keyed};
 ghost use Rattle.reg_tables.specs.Frames.{StaysIdle};
 ghost use Rattle.reg_store.specs.declared.error.StoreError.TheVariants.{Memory};
@@ -18,12 +18,14 @@ ghost use Rattle.reg_store.specs.Failures.{IsFaultOver};
 ghost use Rattle.reg_store.specs.Viewing.{KeepsIdle, row_spelled, row_numbered, HasSubject};
 
 use crate::error::StoreError;
-use reg_core::{Command, OutOfMemory, Row, Subject, id_in};
+use crate::store::chosen::{chosen_rows, spelt_row};
+use reg_core::{Command, OutOfMemory, Row, Subject, choice_in, id_in};
 use reg_tables::{ListedVersion, SubjectVersion, all_versions, versions_of, versions_of_id};
 use sqlite::{Alter, Connection};
 use std::alloc::Global;
 
-/// The versions that the command looks at, deleted ones too, in the order of subjects and numbers.
+/// The versions that give the command's answer, in the order of subjects and numbers: all that it
+/// looks at, deleted ones too, or where one is chosen that one.
 pub(crate) fn rows_for<S: Alter>(
     alloc: Global,
     conn: &mut Connection<S>,
@@ -34,7 +36,7 @@ pub(crate) fn rows_for<S: Alter>(
     ensures frame { KeepsIdle S.Store conn.old conn.new }
     ensures found { HasCleanDisk (state S.Store conn.new) → IfOk result (λ rows.
         (g : Registry) (k : Kept) → SpellsWhileOpen (state S.Store conn.old) g k
-        → IfSome (rows_needed g command.now) (λ needed. rows.items ≡ needed)) }
+        → IfSome (rows_needed g command.now) (AnswerAs command.now rows.items)) }
     ensures fault { HasCleanDisk (state S.Store conn.new)
         → IfErr result (IsFaultOver (state S.Store conn.old) (state S.Store conn.new)) }
 {
@@ -42,14 +44,25 @@ pub(crate) fn rows_for<S: Alter>(
         Command::Register { subject, .. }
         | Command::Lookup { subject, .. }
         | Command::Versions { subject, .. }
-        | Command::Version { subject, .. }
-        | Command::Text { subject, .. }
-        | Command::Check { subject, .. }
         | Command::CheckAll { subject, .. } => subject_rows(alloc, conn, subject),
-        Command::Subjects { .. } => all_rows(alloc, conn),
-        Command::ById { id } | Command::VersionsOfId { id, .. } => {
-            spelt_rows(alloc, conn, id.as_str())
+        Command::Version {
+            subject,
+            version,
+            deleted,
         }
+        | Command::Text {
+            subject,
+            version,
+            deleted,
+        } => chosen_rows(alloc, conn, subject, choice_in(version.as_str()), *deleted),
+        Command::Check {
+            subject,
+            version,
+            ..
+        } => chosen_rows(alloc, conn, subject, choice_in(version.as_str()), false),
+        Command::Subjects { .. } => all_rows(alloc, conn),
+        Command::ById { id } => spelt_row(alloc, conn, id.as_str()),
+        Command::VersionsOfId { id, .. } => spelt_rows(alloc, conn, id.as_str()),
         Command::SetGlobal { .. }
         | Command::SetLevel { .. }
         | Command::Global
@@ -161,7 +174,7 @@ fn rows_in(alloc: Global, lines: Vec<ListedVersion>) -> Result<Vec<Row>, StoreEr
 }
 
 /// Adds a version.
-fn push_row(rows: &mut Vec<Row>, row: Row) -> Result<(), OutOfMemory>
+pub(crate) fn push_row(rows: &mut Vec<Row>, row: Row) -> Result<(), OutOfMemory>
     ensures { OnOk result (rows.new.items ≡ rows.old.items ++ row ∷ []) }
 {
     rows.push(row)?;
@@ -169,7 +182,7 @@ fn push_row(rows: &mut Vec<Row>, row: Row) -> Result<(), OutOfMemory>
 }
 
 /// The version that a line is of, if it has a subject.
-fn row_in(line: ListedVersion) -> Result<Row, StoreError>
+pub(crate) fn row_in(line: ListedVersion) -> Result<Row, StoreError>
     ensures ok { IfOk result (λ row. row ≡ row_spelled (keyed line)) }
     ensures err { OnErr result (¬ HasSubject line) }
 {

@@ -3,7 +3,7 @@ use Rattle.std.proofs.lemmas.Bool.{both_ways}
 use Rattle.std.proofs.lemmas.List.Sorted.{IsNonDecreasingBy-from_sort_by_key}
 use Rattle.sqlite.specs.Held.{state}
 use Rattle.reg_tables.specs.declared.lines.TextLine.{TextLine}
-use Rattle.reg_tables.proofs.Members.{map-map}
+use Rattle.std.proofs.lemmas.Simd.{map-map}
 use Rattle.reg_rows.specs.Spelling.{Text}
 use Rattle.reg_store.specs.Failures.{IsNumberless}
 use Rattle.reg_store.specs.Opening.{text_row}

@@ -1,12 +1,13 @@
 use Rattle.std.proofs.Common.{◌∙◌, sym, ap, subst}
 use Rattle.std.specs.Prelude.{map}
+use Rattle.std.proofs.lemmas.Simd.{map-map}
 use Rattle.sqlite.specs.Held.{state}
 use Rattle.reg_tables.specs.Entries.{keyed}
 use Rattle.reg_tables.proofs.Transactions.{if_ok, if_err}
 use Rattle.reg_store.specs.Failures.{IsFaultBy, IsFaultOver}
 use Rattle.reg_store.specs.Viewing.{row_spelled}
 use Rattle.reg_store.proofs.Failing.{fault_over, passed}
-use Rattle.reg_store.proofs.RowLemmas.{map-map, id_spelled, id_lines}
+use Rattle.reg_store.proofs.RowLemmas.{id_spelled, id_lines}
 use Rattle.reg_store.proofs.store.rows.id_rows.Goals as goal
 
 pub returns-in_err-lines-clause-fault : goal.returns-in_err-lines-clause-fault
@@ -20,7 +21,7 @@ returns-clause-found g c clean =
     if_ok c.rows_in.result (λ rows is registry k over.
     let was = (over (c.in_ok-lines.ensures.frame.was_open clean)).spells in
     let lines = c.in_ok-lines.ensures.found clean was.contents was.holds in
-    is ∙ map-map keyed row_spelled c.in_ok-lines.lines.items ∙ ap (map row_spelled) lines ∙ id_spelled was.contents registry was.spelled.versions c.args.id) c.rows_in.ensures.ok
+    is ∙ sym (map-map row_spelled keyed c.in_ok-lines.lines.items) ∙ ap (map row_spelled) lines ∙ id_spelled was.contents registry was.spelled.versions c.args.id) c.rows_in.ensures.ok
 
 pub returns-clause-fault : goal.returns-clause-fault
 returns-clause-fault g c clean =

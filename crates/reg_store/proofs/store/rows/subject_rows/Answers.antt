@@ -1,11 +1,12 @@
-use Rattle.std.proofs.Common.{◌∙◌, ap}
+use Rattle.std.proofs.Common.{◌∙◌, sym, ap}
 use Rattle.std.specs.Prelude.{map}
+use Rattle.std.proofs.lemmas.Simd.{map-map}
 use Rattle.sqlite.specs.Held.{state}
 use Rattle.reg_tables.specs.Entries.{numbered}
 use Rattle.reg_store.specs.Failures.{IsFaultOver}
 use Rattle.reg_store.specs.Viewing.{row_numbered}
 use Rattle.reg_store.proofs.Failing.{fault_over, passed}
-use Rattle.reg_store.proofs.RowLemmas.{map-map, subject_spelled}
+use Rattle.reg_store.proofs.RowLemmas.{subject_spelled}
 use Rattle.reg_store.proofs.store.rows.subject_rows.Goals as goal
 
 pub returns-in_err-lines-clause-fault : goal.returns-in_err-lines-clause-fault
@@ -18,5 +19,5 @@ pub returns-clause-found : goal.returns-clause-found
 returns-clause-found g c clean registry k over =
     let was = (over (c.in_ok-lines.ensures.frame.was_open clean)).spells in
     let lines = rw c.as_str.ensures.text at (c.in_ok-lines.ensures.found clean was.contents was.holds) in
-    c.in_ok-rows_under.ensures ∙ map-map numbered (row_numbered c.args.subject.now) c.in_ok-lines.lines.items ∙ ap (map (row_numbered c.args.subject.now)) lines
+    c.in_ok-rows_under.ensures ∙ sym (map-map (row_numbered c.args.subject.now) numbered c.in_ok-lines.lines.items) ∙ ap (map (row_numbered c.args.subject.now)) lines
     ∙ subject_spelled was.contents registry was.spelled.versions c.args.subject.now

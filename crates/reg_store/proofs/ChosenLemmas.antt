@@ -1,0 +1,89 @@
+-- The version of a subject that is chosen, and one of an id, as lines of `versions` tell it.
+use Rattle.std.proofs.Common.{◌≡◌, ◌≢◌, ◌∙◌, inl, inr, ℕ, ◌==◌, List, [], ◌∷◌, true, false, map, refl, sym, ap, eqb-true, arith}
+use Rattle.std.specs.Prelude.{All, Bool, Option, None, Some, not, ◌||◌, filter, option_map, if◌then◌else◌}
+use Rattle.std.specs.FinMap.{get, entries}
+use Rattle.std.specs.List.{Contains, last_or}
+use Rattle.std.proofs.lemmas.Bool.{cases_Bool, eq-eqb}
+use Rattle.std.proofs.lemmas.List.Elements.{All-head, All-tail, All-weaker, filter_passes}
+use Rattle.sqlite_trees.proofs.ListLemmas.{filter-map}
+use Rattle.reg_core.specs.Compatibility.{latest}
+use Rattle.reg_core.specs.Registry.{Registry, Row, RowKey, Version, row_cmp}
+use Rattle.reg_core.specs.Rows.{rows_of, rows_with, shown_rows}
+use Rattle.reg_core.proofs.RowLemmas.{each_got, got_entry, row_order, row_keys_apart, filter_keeps}
+use Rattle.reg_core.proofs.ChosenRows.{filter_all, last_or-map}
+use Rattle.reg_tables.specs.declared.listed.SubjectVersion.{SubjectVersion}
+use Rattle.reg_tables.specs.declared.versions.VersionEntry.{VersionEntry}
+use Rattle.reg_tables.specs.Contents.{Contents, VersionRow}
+use Rattle.reg_tables.specs.Entries.{NumberedVersion, numbered, subject_versions, version_row as entry_row}
+use Rattle.reg_store.specs.Spells.{version_row}
+use Rattle.reg_store.specs.Viewing.{row_numbered}
+use Rattle.reg_store.proofs.RowLemmas.{subject_spelled}
+use Rattle.reg_store.proofs.Texts.{was_written}
+
+map_map : {A B C : Type 0} (f : A → B) (h : B → C) (o : Option A) → option_map (λ x. h (f x)) o ≡ option_map h (option_map f o)
+map_map f h None = refl
+map_map f h (Some x) = refl
+
+module _ (contents : Contents) (g : Registry) (spelled : (key : RowKey) → get contents.versions key ≡ option_map version_row (get g.rows key)) (subject : List ℕ) where
+  -- the last of all, of which each is shown where deleted ones are
+  pub last_told : (found : Option SubjectVersion) → option_map numbered found ≡ last_or None (subject_versions subject contents)
+      → option_map (λ (line : SubjectVersion). row_numbered subject (numbered line)) found ≡ last_or None (shown_rows true (rows_of g subject))
+  last_told found is =
+      map_map numbered (row_numbered subject) found ∙ ap (option_map (row_numbered subject)) is ∙ sym (last_or-map (row_numbered subject) None (subject_versions subject contents))
+      ∙ ap (last_or None) (subject_spelled contents g spelled subject ∙ sym (filter_all (λ row. true || not row.1.deleted) (rows_of g subject) (λ k d lt. refl)))
+
+  -- the last of those that aren't deleted
+  pub last_live_told : (found : Option SubjectVersion) → option_map numbered found ≡ last_or None (filter (λ (version : NumberedVersion). not version.1.deleted) (subject_versions subject contents))
+      → option_map (λ (line : SubjectVersion). row_numbered subject (numbered line)) found ≡ last_or None (shown_rows false (rows_of g subject))
+  last_live_told found is =
+      map_map numbered (row_numbered subject) found ∙ ap (option_map (row_numbered subject)) is
+      ∙ sym (last_or-map (row_numbered subject) None (filter (λ (version : NumberedVersion). not version.1.deleted) (subject_versions subject contents)))
+      ∙ ap (last_or None) (sym (filter-map (λ row. not row.1.deleted) (row_numbered subject) (subject_versions subject contents)) ∙ ap (shown_rows false) (subject_spelled contents g spelled subject))
+
+  -- the version that an entry of the table is of
+  pub entry_told : (number : ℕ) (entry : VersionEntry) → get contents.versions (subject, number) ≡ Some (entry_row entry) → get g.rows (subject, number) ≡ Some (record { id = entry.id; deleted = entry.deleted })
+  entry_told number entry there =
+      let it = was_written version_row (get g.rows (subject, number)) (entry_row entry) (sym (spelled (subject, number)) ∙ there) in
+      let is = sym it.2 in
+      it.1 ∙ λ i. Some (record { id = (is i).id; deleted = (is i).deleted })
+
+  -- where the table has no entry, there is no version
+  pub none_told : (number : ℕ) → get contents.versions (subject, number) ≡ None → (version : Version) → get g.rows (subject, number) ≡ Some version → ⊥
+  none_told number none version there = let both = sym none ∙ spelled (subject, number) ∙ ap (option_map version_row) there in cc
+
+-- ---- ids
+
+filter_none : {X : Type 0} (p : X → Bool) (xs : List X) → All (λ x. p x ≡ false) xs → filter p xs ≡ []
+filter_none p [] h = refl
+filter_none p (x ∷ xs) h =
+    ap (λ b. if b then x ∷ filter p xs else filter p xs) (All-head (λ y. p y ≡ false) x xs h) ∙ filter_none p xs (All-tail (λ y. p y ≡ false) x xs h)
+
+-- where each has the id, and one is there, the last has it
+id_of_last : (id : ℕ) (rows : List Row) (row : Row) → All (λ (r : Row). r.1.id ≡ id) rows → Contains rows row → map (λ (r : Row). r.1.id) (latest rows) ≡ id ∷ []
+id_of_last id [] row ids there = absurd (omega (arith, there.1))
+id_of_last id (first ∷ rows) row ids there = at_last first rows ids
+  where
+    at_last : (r : Row) (rs : List Row) → All (λ (x : Row). x.1.id ≡ id) (r ∷ rs) → map (λ (x : Row). x.1.id) (latest (r ∷ rs)) ≡ id ∷ []
+    at_last r [] all = ap (λ n. n ∷ []) (All-head (λ (x : Row). x.1.id ≡ id) r [] all)
+    at_last r (next ∷ rs) all = at_last next rs (All-tail (λ (x : Row). x.1.id ≡ id) r (next ∷ rs) all)
+
+module _ (contents : Contents) (g : Registry) (spelled : (key : RowKey) → get contents.versions key ≡ option_map version_row (get g.rows key)) (id : ℕ) where
+  -- where no entry of the table has the id, no version has it
+  pub no_version_told : ((key : RowKey) (entry : VersionRow) → get contents.versions key ≡ Some entry → entry.id ≢ id) → rows_with id (entries g.rows) ≡ []
+  no_version_told none = filter_none (λ (row : Row). row.1.id == id) (entries g.rows) (λ k d lt. not_it _ (each_got row_cmp row_order g.rows k d lt))
+    where
+      not_it : (row : Row) → get g.rows row.0 ≡ Some row.1 → (row.1.id == id) ≡ false
+      not_it row found = elim (cases_Bool (row.1.id == id)) [
+        | inl has ↦ absurd (none row.0 (version_row row.1) (spelled row.0 ∙ ap (option_map version_row) found) (eqb-true row.1.id id has))
+        | inr not ↦ not
+      ]
+
+  -- and where an entry has it, the last of its versions does
+  pub version_told : (key : RowKey) (entry : VersionRow) → get contents.versions key ≡ Some entry → entry.id ≡ id → map (λ (row : Row). row.1.id) (latest (rows_with id (entries g.rows))) ≡ id ∷ []
+  version_told key entry there is =
+      let it = was_written version_row (get g.rows key) entry (sym (spelled key) ∙ there) in
+      let has : (it.0.id == id) ≡ true = eq-eqb it.0.id id (sym (ap (λ (e : VersionRow). e.id) it.2) ∙ is) in
+      let p = λ (row : Row). row.1.id == id in
+      id_of_last id (rows_with id (entries g.rows)) (key, it.0)
+      (All-weaker (λ (row : Row). (row.1.id == id) ≡ true) (λ (row : Row). row.1.id ≡ id) (λ row h. eqb-true row.1.id id h) (rows_with id (entries g.rows)) (filter_passes p (entries g.rows)))
+      (filter_keeps p (entries g.rows) (key, it.0) (got_entry row_cmp row_order g.rows key it.0 row_keys_apart it.1) has)
