@@ -20,3 +20,4 @@ pub mod ViewLemmas
 pub mod RowLemmas
 pub mod ChosenLemmas
 pub mod ViewTexts
+pub mod ListingLemmas

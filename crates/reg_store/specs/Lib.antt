@@ -5,3 +5,4 @@ pub mod Failures
 pub mod Stores
 pub mod Testing
 pub mod Viewing
+pub mod Listings

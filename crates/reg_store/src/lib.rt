@@ -7,10 +7,12 @@
 mod changes;
 mod error;
 mod keep;
+mod listing;
 mod rowids;
 mod store;
 mod testing;
 
 pub use error::StoreError;
 pub use keep::Keep;
+pub use listing::Listing;
 pub use store::Store;

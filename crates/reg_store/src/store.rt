@@ -8,10 +8,14 @@ use std::alloc::Global;
 mod applying;
 mod chosen;
 mod levels;
+mod lines;
+mod listing;
 mod making;
 mod opening;
 mod reading;
 mod rows;
+mod schema_lines;
+mod subject_lines;
 mod texts;
 mod viewing;
 

@@ -64,7 +64,10 @@ fn own_for<S: Alter>(
 }
 
 /// The level that the subject has of its own, if it has one.
-fn own<S: Alter>(conn: &mut Connection<S>, subject: &Subject) -> Result<Option<Level>, StoreError>
+pub(crate) fn own<S: Alter>(
+    conn: &mut Connection<S>,
+    subject: &Subject,
+) -> Result<Option<Level>, StoreError>
     requires idle { conn.old.in_transaction ≡ false }
     requires unlimited { conn.old.step_limit ≡ None }
     ensures frame { StaysIdle S.Store conn.old conn.new result }

@@ -93,7 +93,7 @@ fn spelt_rows<S: Alter>(
 }
 
 /// The versions of a subject, in the order of their numbers.
-fn subject_rows<S: Alter>(
+pub(crate) fn subject_rows<S: Alter>(
     alloc: Global,
     conn: &mut Connection<S>,
     subject: &Subject,
@@ -131,7 +131,10 @@ fn id_rows<S: Alter>(
 }
 
 /// The versions of all subjects, in the order of subjects and numbers.
-fn all_rows<S: Alter>(alloc: Global, conn: &mut Connection<S>) -> Result<Vec<Row>, StoreError>
+pub(crate) fn all_rows<S: Alter>(
+    alloc: Global,
+    conn: &mut Connection<S>,
+) -> Result<Vec<Row>, StoreError>
     requires idle { conn.old.in_transaction ≡ false }
     requires unlimited { conn.old.step_limit ≡ None }
     ensures frame { StaysIdle S.Store conn.old conn.new result }

@@ -51,7 +51,7 @@ fn id_under<S: Alter>(conn: &mut Connection<S>, text: &str) -> Result<Option<u32
 }
 
 /// The number of schemas.
-fn count<S: Alter>(conn: &mut Connection<S>) -> Result<u32, StoreError>
+pub(crate) fn count<S: Alter>(conn: &mut Connection<S>) -> Result<u32, StoreError>
     requires idle { conn.old.in_transaction ≡ false }
     requires unlimited { conn.old.step_limit ≡ None }
     ensures frame { StaysIdle S.Store conn.old conn.new result }

@@ -1,0 +1,92 @@
+//! Listings.
+
+ghost use Rattle.std.specs.Prelude.{◌≡◌, None, IfOk, IfErr, false, map};
+ghost use Rattle.std.specs.FinMap.{entries};
+ghost use Rattle.sqlite.specs.Tree.{Trees};
+ghost use Rattle.sqlite.specs.Held.{state};
+ghost use Rattle.sqlite.specs.State.{HasCleanDisk};
+ghost use Rattle.reg_core.specs.Registry.{Registry};
+ghost use Rattle.reg_core.specs.KeptReplies.{Kept};
+ghost use Rattle.reg_tables.specs.Frames.{StaysIdle};
+ghost use Rattle.reg_store.specs.Spells.{SpellsWhileOpen};
+ghost use Rattle.reg_store.specs.Failures.{IsFaultOver};
+ghost use Rattle.reg_store.specs.Stores.{state_of, has_failed, KeepsStore};
+ghost use Rattle.reg_store.specs.Listings.{lines_of, listing_lines, version_line};
+
+use crate::error::StoreError;
+use crate::listing::Listing;
+use crate::store::Store;
+use crate::store::lines::version_lines;
+use crate::store::rows::all_rows;
+use crate::store::schema_lines::listed_schemas;
+use crate::store::subject_lines::listed_subjects;
+use sqlite::{Alter, Connection};
+use std::alloc::Global;
+
+impl<S: Alter> Store<S> {
+    /// The fields of each line of the listing, in their order, without a header.
+    ///
+    /// # Errors
+    ///
+    /// `Memory`, `Disk`, and `NotARegistry` where the tables no longer spell one. Whatever is
+    /// answered, nothing is changed.
+    pub fn rows(&mut self, kind: Listing) -> Result<Vec<Vec<String>>, StoreError>
+        ensures frame { KeepsStore self.old self.new result }
+        ensures rows { HasCleanDisk (state_of self.new) → IfOk result (λ rows.
+            (g : Registry) (k : Kept) → SpellsWhileOpen (state_of self.old) g k
+            → lines_of rows ≡ listing_lines kind g) }
+        ensures fault { HasCleanDisk (state_of self.new) → has_failed self.old ≡ false
+            → IfErr result (IsFaultOver (state_of self.old) (state_of self.new)) }
+        ensures same { HasCleanDisk (state_of self.new) → (g : Registry) (k : Kept)
+            → SpellsWhileOpen (state_of self.old) g k → SpellsWhileOpen (state_of self.new) g k }
+        ensures crash { HasCleanDisk (state_of self.new) → (db : Trees)
+            → (state_of self.new).may_leave db → (state_of self.old).may_leave db }
+    {
+        if self.failed {
+            return Err(StoreError::Disk);
+        }
+        let rows = listed(self.alloc, &mut self.conn, kind);
+        self.failed = matches!(rows, Err(StoreError::Disk));
+        rows
+    }
+}
+
+/// The lines of the listing.
+fn listed<S: Alter>(
+    alloc: Global,
+    conn: &mut Connection<S>,
+    kind: Listing,
+) -> Result<Vec<Vec<String>>, StoreError>
+    requires idle { conn.old.in_transaction ≡ false }
+    requires unlimited { conn.old.step_limit ≡ None }
+    ensures frame { StaysIdle S.Store conn.old conn.new result }
+    ensures found { HasCleanDisk (state S.Store conn.new) → IfOk result (λ lines.
+        (g : Registry) (k : Kept) → SpellsWhileOpen (state S.Store conn.old) g k
+        → lines_of lines ≡ listing_lines kind g) }
+    ensures fault { HasCleanDisk (state S.Store conn.new)
+        → IfErr result (IsFaultOver (state S.Store conn.old) (state S.Store conn.new)) }
+{
+    match kind {
+        Listing::Subjects => listed_subjects(alloc, conn),
+        Listing::Versions => listed_versions(alloc, conn),
+        Listing::Schemas => listed_schemas(alloc, conn),
+    }
+}
+
+/// The lines of the versions of all subjects.
+fn listed_versions<S: Alter>(
+    alloc: Global,
+    conn: &mut Connection<S>,
+) -> Result<Vec<Vec<String>>, StoreError>
+    requires idle { conn.old.in_transaction ≡ false }
+    requires unlimited { conn.old.step_limit ≡ None }
+    ensures frame { StaysIdle S.Store conn.old conn.new result }
+    ensures found { HasCleanDisk (state S.Store conn.new) → IfOk result (λ lines.
+        (g : Registry) (k : Kept) → SpellsWhileOpen (state S.Store conn.old) g k
+        → lines_of lines ≡ map version_line (entries g.rows)) }
+    ensures fault { HasCleanDisk (state S.Store conn.new)
+        → IfErr result (IsFaultOver (state S.Store conn.old) (state S.Store conn.new)) }
+{
+    let rows = all_rows(alloc, conn)?;
+    Ok(version_lines(alloc, rows.as_slice())?)
+}
