@@ -2,6 +2,7 @@
 mod deliveries;
 mod disks;
 mod faults;
+mod listings;
 mod refusals;
 mod registering;
 mod services;

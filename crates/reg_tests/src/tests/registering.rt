@@ -499,7 +499,7 @@ fn registrations_are_repeated(rt: HostRuntime) -> Result<(), Fail> {
 }
 
 /// The registry with version 2 of `s` deleted by hand.
-fn with_a_deleted_version(alloc: Global) -> Result<Store<MemStore>, Fail> {
+pub(super) fn with_a_deleted_version(alloc: Global) -> Result<Store<MemStore>, Fail> {
     let mut service = Service::new(alloc, created(alloc, Connection::open_in_memory(alloc)?)?);
     for ask in [
         Ask::Register("s", INT),
