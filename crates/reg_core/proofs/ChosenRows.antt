@@ -1,13 +1,12 @@
 -- The version that is chosen among those of a subject, and what few versions tell which one it is.
 use Rattle.std.proofs.Common.{◌≡◌, ◌≢◌, inl, inr, ◌∙◌, ℕ, zero, suc, ◌<◌, ◌==◌, Bool, true, false, true≢false, List, [], ◌∷◌, map, length, refl, ap, sym, subst, eqb-true, arith}
-use Rattle.std.specs.Prelude.{All, Option, None, Some, Result, Ok, Err, find, filter, not, ◌||◌, option_map, option_to_list, slice_index_or, if◌then◌else◌}
+use Rattle.std.specs.Prelude.{All, Option, None, Some, Ok, Err, find, filter, not, ◌||◌, option_map, option_to_list, slice_index_or, if◌then◌else◌}
 use Rattle.std.specs.FinMap.{get}
 use Rattle.std.specs.List.{Contains, last_or}
 use Rattle.std.specs.Option.{ok_or}
 use Rattle.std.proofs.lemmas.Bool.{cases_Bool, eq-eqb}
 use Rattle.std.proofs.lemmas.List.Elements.{All-nil, All-cons, All-head, All-tail, All-filter, filter_passes}
 use Rattle.std.proofs.lemmas.Option.{none-some, same_Some}
-use Rattle.reg_core.specs.declared.code.Code.{Code}
 use Rattle.reg_core.specs.declared.code.Code.TheVariants.{VersionNotFound}
 use Rattle.reg_core.specs.declared.number.Choice.{Choice}
 use Rattle.reg_core.specs.declared.number.Choice.TheVariants.{Latest, Numbered}

@@ -1,12 +1,11 @@
 -- What a view shows of the registry, for commands that compare and register schemas.
 use Rattle.std.proofs.Common.{◌≡◌, ℕ, zero, suc, ◌+◌, ◌≤◌, List, [], ◌∷◌, ◌++◌, Bool, true, false, Option, Some, None, refl, sym, ◌∙◌, ap, subst, map, length, length-append, arith}
-use Rattle.std.specs.Prelude.{All, find, bytes_eq, unwrap_or, option_map, option_to_list, is_some, ◌==◌, if◌then◌else◌, Result, Ok, Err, nat_le}
+use Rattle.std.specs.Prelude.{All, bytes_eq, unwrap_or, option_map, option_to_list, is_some, if◌then◌else◌, nat_le}
 use Rattle.std.specs.List.{list_all}
-use Rattle.std.specs.Option.{ok_or}
 use Rattle.std.specs.FinMap.{entries}
 use Rattle.std.proofs.lemmas.Bool.{and_parts, leb-true}
 use Rattle.std.proofs.lemmas.List.Folds.{list_all-map}
-use Rattle.std.proofs.lemmas.List.Elements.{All-nil, All-cons, All-head, All-tail, All-filter}
+use Rattle.std.proofs.lemmas.List.Elements.{All-nil, All-head, All-tail, All-filter}
 use Rattle.std.proofs.lemmas.Option.{none-some, same_Some, slice_get_within, get_or_from_slice_get}
 use Rattle.avro_nodes.specs.Nodes.{NodeView}
 use Rattle.avro_nodes.specs.Identity.{identity}
@@ -15,25 +14,20 @@ use Rattle.avro_schema.proofs.TextLemmas.{denotes_computes, computed_denotes}
 use Rattle.avro_schema.proofs.RoundText.{identity_text_denotes}
 use Rattle.reg_core.specs.declared.level.Level.{Level}
 use Rattle.reg_core.specs.declared.level.Level.TheVariants.{Backward, BackwardTransitive, Forward, ForwardTransitive, Full, FullTransitive, Off}
-use Rattle.reg_core.specs.declared.code.Code.{Code}
-use Rattle.reg_core.specs.declared.code.Code.TheVariants.{InvalidSchema, InvalidVersion, Incompatible, NoNumberLeft, VersionNotFound}
-use Rattle.reg_core.specs.declared.command.Command.TheVariants.{Register, Check, CheckAll}
+use Rattle.reg_core.specs.declared.code.Code.TheVariants.{InvalidSchema, Incompatible, NoNumberLeft}
+use Rattle.reg_core.specs.declared.command.Command.TheVariants.{Register}
 use Rattle.reg_core.specs.declared.decision.View.{View}
-use Rattle.reg_core.specs.declared.number.Choice.{Choice}
-use Rattle.reg_core.specs.declared.number.Choice.TheVariants.{Latest, Numbered}
-use Rattle.reg_core.specs.Bodies.{id_body, verdict_body}
-use Rattle.reg_core.specs.Compatibility.{named_versions, latest}
+use Rattle.reg_core.specs.Bodies.{id_body}
+use Rattle.reg_core.specs.Compatibility.{named_versions}
 use Rattle.reg_core.specs.Comparisons.{is_read_compatible, is_read_admitted}
 use Rattle.reg_core.specs.Machine.{step}
-use Rattle.reg_core.specs.Numbers.{choice_in}
-use Rattle.reg_core.specs.ReadCommands.{found_row}
 use Rattle.reg_core.specs.Registering.{id_among, id_shown, has_numbers_shown, row_shown, version_added}
-use Rattle.reg_core.specs.RegisterCommands.{schema_in, register, registered, is_among, is_admitted_after, id_for, with_version, check_reply, verdict_reply, check_all_reply}
+use Rattle.reg_core.specs.RegisterCommands.{schema_in, register, registered, is_among, is_admitted_after, id_for, with_version}
 use Rattle.reg_core.specs.Registry.{Registry, IsRegistry, Row, Schemas, max_number, schema_at}
 use Rattle.reg_core.specs.Replies.{answer, fault}
-use Rattle.reg_core.specs.Rows.{rows_of, live_rows, next_number, chosen_row, id_of, known_id, text_at, schemas_of}
+use Rattle.reg_core.specs.Rows.{rows_of, live_rows, next_number, id_of, known_id, text_at, schemas_of}
 use Rattle.reg_core.specs.Verdicts.{is_compatible, is_admitted}
-use Rattle.reg_core.specs.Views.{IsGround, ChangesFit, after_changes, level_of_view, row_found, text_in}
+use Rattle.reg_core.specs.Views.{IsGround, ChangesFit, after_changes, level_of_view, text_in}
 use Rattle.reg_core.proofs.ChosenRows.{All-latest}
 use Rattle.reg_core.proofs.IdLemmas.{id_of-schema, schema_within}
 use Rattle.reg_core.proofs.RowLemmas.{each-schema, next_number-absent, All-live_rows}

@@ -1,5 +1,5 @@
 -- The JSON bodies of answers (RFC 8259), compact, with members in the order of their keys' bytes.
-use Rattle.std.specs.Prelude.{ℕ, Bool, List, ◌∷◌, [], codes, map}
+use Rattle.std.specs.Prelude.{ℕ, Bool, List, codes, map}
 use Rattle.serde_json.specs.Data.{Data, unsigned, boolean, number, string, array, object, member, no_members}
 use Rattle.serde_json.specs.View.{items_of}
 use Rattle.serde_json.specs.Written.{compact_text}

@@ -14,7 +14,7 @@ use Rattle.reg_core.proofs.Texts.{command_text-injective}
 use Rattle.reg_core.specs.declared.delivery.Delivery.{Delivery}
 use Rattle.reg_core.specs.KeptReplies.{Kept, nothing_kept}
 use Rattle.reg_service.specs.Deliveries.{Exchange, firsts, entry_of, kept_after, IsDue}
-use Rattle.reg_service.specs.Crashes.{LeavesAfter, LeavesUnderWay, IsFoundAfter}
+use Rattle.reg_service.specs.Crashes.{LeavesAfter, IsFoundAfter}
 
 abbrev full : Command
 full = SetGlobal (codes "FULL")

@@ -1,5 +1,5 @@
 -- What each way of answering serves, over whatever the tables spell.
-use Rattle.std.proofs.Common.{◌≡◌, ◌≢◌, ℕ, true, false, ◌<◌, ◌+◌, List, [], ◌∷◌, ◌++◌, length, take, zip, get_or, Some, None, Result, Ok, Err, refl, ap, subst, ◌∙◌}
+use Rattle.std.proofs.Common.{◌≡◌, ◌≢◌, ℕ, true, ◌<◌, ◌+◌, List, [], ◌∷◌, ◌++◌, length, take, zip, get_or, Some, None, Result, Ok, Err, refl, ap, subst, ◌∙◌}
 use Rattle.std.specs.Prelude.{IfOk}
 use Rattle.sqlite.specs.State.{State}
 use Rattle.reg_core.specs.declared.code.Code.TheVariants.{KeyReused, BackendFault}

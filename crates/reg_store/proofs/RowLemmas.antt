@@ -7,7 +7,7 @@ use Rattle.std.specs.FinMap.Entries.{below_all}
 use Rattle.std.specs.FinMap.{get, entries, is_sorted, get-entries, from_sorted, entries_sorted, entries-from_sorted, get-from_sorted, same_map}
 use Rattle.std.specs.List.{AllByRecursion}
 use Rattle.std.proofs.lemmas.Slice.Eq.{bytes_eq-Decides}
-use Rattle.std.proofs.lemmas.List.Elements.{All-nil, All-cons, All-head, All-tail, All-filter}
+use Rattle.std.proofs.lemmas.List.Elements.{All-nil, All-cons, All-filter}
 use Rattle.sqlite_rules.proofs.ListLemmas.{all_from}
 use Rattle.reg_core.proofs.RowLemmas.{All-mapped}
 use Rattle.reg_core.specs.Registry.{Registry, Row, RowKey, row_cmp}

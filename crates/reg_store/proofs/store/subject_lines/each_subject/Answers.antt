@@ -1,10 +1,10 @@
-use Rattle.std.proofs.Common.{◌∙◌, [], ◌∷◌, ◌++◌, map, ap, arith}
+use Rattle.std.proofs.Common.{◌∙◌, [], ◌∷◌, ◌++◌, map, sym, ap, arith}
 use Rattle.std.proofs.lemmas.List.{take_all}
 use Rattle.sqlite.specs.Held.{state}
 use Rattle.reg_store.specs.Failures.{IsFaultOver}
 use Rattle.reg_store.specs.Listings.{subject_listed}
 use Rattle.reg_store.proofs.Failing.{passed}
-use Rattle.reg_store.proofs.RowLemmas.{map-map}
+use Rattle.std.proofs.lemmas.Simd.{map-map}
 use Rattle.reg_store.proofs.ViewLemmas.{idle_read, clean_before, idle_then, spells_on, fault_then}
 use Rattle.reg_store.proofs.ListingLemmas.{seen_next}
 use Rattle.reg_store.proofs.store.subject_lines.each_subject.Goals as goal
@@ -39,4 +39,4 @@ pub returns-clause-found : goal.returns-clause-found
 returns-clause-found g c clean registry k over =
     c.loop-subject.invariant.shown clean registry k over
     ∙ ap (map (λ subject. subject_listed registry subject.now)) (take_all c.loop-subject.subject-index c.args.subjects.now (omega arith))
-    ∙ map-map (λ subject. subject.now) (subject_listed registry) c.args.subjects.now
+    ∙ sym (map-map (subject_listed registry) (λ subject. subject.now) c.args.subjects.now)
