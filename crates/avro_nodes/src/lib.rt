@@ -17,6 +17,3 @@ pub use limits::{MAX_NESTING, MAX_PLACES, MAX_TEXT};
 pub use names::{has_dot, last_part, namespace_of};
 pub use node::{Extra, Field, Kind, Named, Node, Order};
 pub use plain::plain_of;
-
-#[cfg(test)]
-mod tests;

@@ -12,6 +12,3 @@ mod table;
 
 pub use avro_nodes::OutOfMemory;
 pub use resolving::{Verdict, resolution_is_decided, resolves, resolves_itself, resolves_plain};
-
-#[cfg(test)]
-mod tests;

@@ -12,8 +12,6 @@ mod nesting;
 mod reading;
 mod schema;
 mod tables;
-#[cfg(test)]
-mod tests;
 mod weight;
 mod words;
 

@@ -1,7 +1,7 @@
 //! Expected answers are those of the Avro 1.11 specification and of this project's choices,
 //! written out by hand.
 
-use crate::{resolves, resolves_itself, resolves_plain};
+use avro_resolve::{resolves, resolves_itself, resolves_plain};
 use avro_schema::Schema;
 use std::alloc::Global;
 use std::test::Fail;

@@ -1,10 +1,7 @@
 //! Expected texts are those of the project's profile, written out.
 
-use crate::mentions::mentions_fit;
-use crate::weight::names_fit;
-use crate::{Schema, SchemaError, identity_denotes};
-use avro_nodes::{Extra, Named, Node};
-use serde_json::Value;
+use avro_nodes::Node;
+use avro_schema::{Schema, SchemaError, identity_denotes};
 use std::alloc::{AllocError, Global};
 use std::process::Abort;
 use std::test::Fail;
@@ -416,42 +413,6 @@ fn sizes(rt: HostRuntime) -> Result<(), Fail> {
             want,
             "names"
         );
-    }
-    Ok(())
-}
-
-#[test]
-fn names_of_a_value(rt: HostRuntime) -> Result<(), Fail> {
-    let alloc = rt.alloc();
-    for (count, want) in [(1022, true), (1023, false)] {
-        let text = aliased(alloc, count)?;
-        let value = Value::from_str(alloc, text.as_str())?;
-        assert_eq!(rt; names_fit(&value), want);
-    }
-    Ok(())
-}
-
-#[test]
-fn mentions_of_nodes(rt: HostRuntime) -> Result<(), Fail> {
-    let alloc = rt.alloc();
-    for (count, want) in [(524288, true), (524289, false)] {
-        let named = Named {
-            name: repeat(alloc, "n", count)?,
-            aliases: Vec::new(alloc),
-        };
-        let mut nodes = Vec::new(alloc);
-        nodes.push(Node::Fixed {
-            named,
-            size: 1,
-            extra: Extra::new(alloc),
-        })?;
-        for items in [0, 0, 1] {
-            nodes.push(Node::Array {
-                items,
-                extra: Extra::new(alloc),
-            })?;
-        }
-        assert_eq!(rt; mentions_fit(&nodes), want);
     }
     Ok(())
 }

@@ -1,6 +1,8 @@
 //! Expected texts are those of the project's profile, written out.
 
-use crate::{Extra, Field, Kind, Named, Node, Order, has_dot, identity_of, namespace_of, plain_of};
+use avro_nodes::{
+    Extra, Field, Kind, Named, Node, Order, has_dot, identity_of, namespace_of, plain_of,
+};
 use serde_json::Value;
 use std::alloc::Global;
 use std::test::Fail;
