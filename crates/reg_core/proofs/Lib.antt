@@ -7,6 +7,10 @@ pub mod Versions
 pub mod VerdictLemmas
 pub mod IdLemmas
 pub mod RowLemmas
+pub mod DeletedRows
+pub mod DeletionLemmas
+pub mod DeletionChanges
+pub mod DeletionSteps
 pub mod ChosenRows
 pub mod ViewLemmas
 pub mod RegisterLemmas

@@ -1,7 +1,7 @@
 -- A registry stays one, whatever changes it can have and whatever commands come.
 use Rattle.std.proofs.Common.{◌≡◌, ℕ, ◌+◌, ◌<◌, ◌≤◌, ◌⊎◌, inl, inr, List, [], ◌∷◌, ◌++◌, length, Bool, true, false, refl, sym, ap, subst, ◌∙◌, arith, length-append}
-use Rattle.std.specs.Prelude.{Option, Some, None, option_to_list, if◌then◌else◌, is_some, unwrap_or, nat_le}
-use Rattle.std.specs.FinMap.{insert, get-empty}
+use Rattle.std.specs.Prelude.{Option, Some, None, Result, Ok, Err, option_to_list, if◌then◌else◌, is_some, unwrap_or, nat_le}
+use Rattle.std.specs.FinMap.{insert, remove, get, get-empty}
 use Rattle.std.proofs.lemmas.Bool.{and_parts}
 use Rattle.std.proofs.lemmas.Bool.Decides.{nat_tests}
 use Rattle.std.proofs.lemmas.List.Elements.{All-nil, All-push}
@@ -13,18 +13,24 @@ use Rattle.avro_schema.proofs.RoundText.{identity_text_denotes}
 use Rattle.avro_schema.proofs.TextLemmas.{computed_denotes, denotes_computes}
 use Rattle.reg_core.specs.declared.level.Level.{Level}
 use Rattle.reg_core.specs.declared.command.Command.{Command}
-use Rattle.reg_core.specs.declared.command.Command.TheVariants.{SetGlobal, SetLevel, Register, Global, LevelOf, Lookup, Subjects, Versions, Version, Text, ById, VersionsOfId, Types, Check, CheckAll}
+use Rattle.reg_core.specs.declared.command.Command.TheVariants.{SetGlobal, SetLevel, Register, DeleteVersion, DeleteSubject, Global, LevelOf, Lookup, Subjects, Versions, Version, Text, ById, VersionsOfId, Types, Check, CheckAll}
 use Rattle.reg_core.specs.declared.decision.Change.{Change}
 use Rattle.reg_core.specs.declared.decision.Change.TheVariants as change
 use Rattle.reg_core.specs.Levels.{level_of}
-use Rattle.reg_core.specs.Registry.{Registry, Schemas, RowKey, Row, IsRow, IsRegistry, max_number, schema_at, new_registry, own_with}
+use Rattle.reg_core.specs.declared.code.Code.{Code}
+use Rattle.reg_core.specs.declared.number.Choice.{Choice}
+use Rattle.reg_core.specs.Additions.{WasThere}
+use Rattle.reg_core.specs.DeletionCommands.{row_to_mark, row_to_remove, as_deleted, with_deleted, without_row, version_deleted, delete_version, with_subject_deleted, without_subject, soft_delete, remove_subject, delete_subject}
+use Rattle.reg_core.specs.Numbers.{choice_in}
+use Rattle.reg_core.specs.Registry.{Registry, Schemas, RowKey, Row, IsRow, IsRegistry, max_number, schema_at, new_registry, own_with, own_without}
 use Rattle.reg_core.specs.Registry as registry
-use Rattle.reg_core.specs.Rows.{rows_of, next_number, id_of, text_at}
+use Rattle.reg_core.specs.Rows.{rows_of, live_rows, next_number, id_of, text_at}
 use Rattle.reg_core.specs.LevelCommands.{set_level}
 use Rattle.reg_core.specs.RegisterCommands.{schema_in, id_for, schemas_with, with_version, registered, has_numbers, register}
 use Rattle.reg_core.specs.Machine.{step, run_commands}
-use Rattle.reg_core.specs.Views.{after_change, after_changes, ChangeFits, ChangesFit}
+use Rattle.reg_core.specs.Views.{altered, after_change, after_changes, ChangeFits, ChangesFit}
 use Rattle.reg_core.proofs.IdLemmas.{schema_within, schema_grown, id_of-schema, id_of-none, text_at-schema}
+use Rattle.reg_core.proofs.DeletionLemmas.{altered_was, removed_was, deleted_were, row_to_mark-got, subject_deleted_was, remove_subject-were}
 use Rattle.reg_core.proofs.RowLemmas.{get_inserted}
 
 -- ---- what a registry is made of
@@ -64,6 +70,18 @@ inserted-IsRegistry g key version ok row = record {
 pub levels-IsRegistry : (g : Registry) (global : Level) (own : registry.OwnLevels) → IsRegistry g → IsRegistry (record g { global = global; own = own })
 levels-IsRegistry g global own ok = record { schemas = ok.schemas; few = ok.few; apart = ok.apart; rows = ok.rows }
 
+-- a registry whose versions are all among those of another, soft-deleted or not, is one
+pub fewer-IsRegistry : (g : Registry) (rows : registry.Rows) (own : registry.OwnLevels) → IsRegistry g → ((key : RowKey) (version : registry.Version) → get rows key ≡ Some version → WasThere g.rows key version) → IsRegistry (record g { rows = rows; own = own })
+fewer-IsRegistry g rows own ok were = record {
+  schemas = ok.schemas;
+  few = ok.few;
+  apart = ok.apart;
+  rows = λ key version e.
+      let was = were key version e in
+      let row = ok.rows key was.old was.there in
+      record { within = row.within; has_schema = subst (λ id. (0 < id) × (id ≤ length g.schemas)) (sym was.same) row.has_schema };
+}
+
 -- ---- changes
 
 -- the text of a new schema denotes it
@@ -79,6 +97,9 @@ change_fits-IsRegistry (change.AddText id text) g ok fits =
     let unknown : id_of g.schemas (identity fits.nodes) ≡ None = subst (λ (t : List ℕ). id_of g.schemas t ≡ None) fits.is fits.unknown in
     let denotes : denoted text ≡ Some fits.nodes = ap denoted fits.is ∙ identity_denoted fits.nodes fits.schema in
     subst (λ (o : Option (List NodeView)). IsRegistry (record g { schemas = g.schemas ++ option_to_list o })) (sym denotes) (grown-IsRegistry g fits.nodes ok fits.schema few unknown)
+change_fits-IsRegistry (change.MarkDeleted subject version) g ok fits = fewer-IsRegistry g (altered g.rows (subject, version) as_deleted) g.own ok (altered_was g.rows (subject, version))
+change_fits-IsRegistry (change.Remove subject version) g ok fits = fewer-IsRegistry g (remove g.rows (subject, version)) g.own ok (removed_was g.rows (subject, version))
+change_fits-IsRegistry (change.DropLevel subject) g ok fits = levels-IsRegistry g g.global (own_without g.own subject) ok
 change_fits-IsRegistry (change.AddRow row) g ok fits = inserted-IsRegistry g row.0 row.1 ok fits.fits
 
 -- and so do changes, each of which it can have at its turn
@@ -136,12 +157,39 @@ set_level-IsRegistry g subject None ok = ok
 set_level-IsRegistry g None (Some level) ok = levels-IsRegistry g level g.own ok
 set_level-IsRegistry g (Some subject) (Some level) ok = levels-IsRegistry g g.global (own_with g.own subject level) ok
 
+version_deleted-IsRegistry : (g : Registry) (change : Registry → Row → Registry) (found : Result Row Code) → IsRegistry g → ((row : Row) → found ≡ Ok row → IsRegistry (change g row)) → IsRegistry (version_deleted change g found).0
+version_deleted-IsRegistry g change (Err code) ok changed = ok
+version_deleted-IsRegistry g change (Ok row) ok changed = changed row refl
+
+delete_version-IsRegistry : (g : Registry) (subject : List ℕ) (choice : Option Choice) (permanent : Bool) → IsRegistry g → IsRegistry (delete_version g subject choice permanent).0
+delete_version-IsRegistry g subject choice false ok =
+    version_deleted-IsRegistry g with_deleted (row_to_mark choice (rows_of g subject)) ok
+    (λ row e. fewer-IsRegistry g (with_deleted g row).rows g.own ok (deleted_were g row (row_to_mark-got g subject choice row e)))
+delete_version-IsRegistry g subject choice true ok =
+    version_deleted-IsRegistry g without_row (row_to_remove choice (rows_of g subject)) ok (λ row e. fewer-IsRegistry g (without_row g row).rows g.own ok (removed_was g.rows row.0))
+
+soft_delete-IsRegistry : (g : Registry) (subject : List ℕ) (rows live : List Row) → IsRegistry g → IsRegistry (soft_delete g subject rows live).0
+soft_delete-IsRegistry g subject [] live ok = ok
+soft_delete-IsRegistry g subject (row ∷ rows) [] ok = ok
+soft_delete-IsRegistry g subject (row ∷ rows) (one ∷ live) ok = fewer-IsRegistry g (with_subject_deleted g subject).rows (own_without g.own subject) ok (subject_deleted_was g.rows subject)
+
+remove_subject-IsRegistry : (g : Registry) (subject : List ℕ) (rows live : List Row) → IsRegistry g → IsRegistry (remove_subject g subject rows live).0
+remove_subject-IsRegistry g subject [] live ok = ok
+remove_subject-IsRegistry g subject (row ∷ rows) (one ∷ live) ok = ok
+remove_subject-IsRegistry g subject (row ∷ rows) [] ok = fewer-IsRegistry g (without_subject g subject).rows (own_without g.own subject) ok (remove_subject-were g subject (row ∷ rows) [])
+
+delete_subject-IsRegistry : (g : Registry) (subject : List ℕ) (permanent : Bool) → IsRegistry g → IsRegistry (delete_subject g subject permanent).0
+delete_subject-IsRegistry g subject false ok = soft_delete-IsRegistry g subject (rows_of g subject) (live_rows (rows_of g subject)) ok
+delete_subject-IsRegistry g subject true ok = remove_subject-IsRegistry g subject (rows_of g subject) (live_rows (rows_of g subject)) ok
+
 -- a registry is one after each command
 pub step-IsRegistry : (g : Registry) (c : Command) → IsRegistry g → IsRegistry (step g c).0
 unfolding step
 step-IsRegistry g (SetGlobal text) ok = set_level-IsRegistry g None (level_of text) ok
 step-IsRegistry g (SetLevel subject text) ok = set_level-IsRegistry g (Some subject) (level_of text) ok
 step-IsRegistry g (Register subject text supported) ok = register-IsRegistry g subject text supported (schema_in text supported) refl ok
+step-IsRegistry g (DeleteVersion subject version permanent) ok = delete_version-IsRegistry g subject (choice_in version) permanent ok
+step-IsRegistry g (DeleteSubject subject permanent) ok = delete_subject-IsRegistry g subject permanent ok
 step-IsRegistry g Global ok = ok
 step-IsRegistry g (LevelOf subject default) ok = ok
 step-IsRegistry g (Lookup subject text supported deleted) ok = ok

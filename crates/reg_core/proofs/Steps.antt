@@ -1,17 +1,18 @@
 -- What is known of each step.
 use Rattle.std.proofs.Common.{◌≡◌, ◌≢◌, ℕ, Bool, true, List, [], ◌∷◌, false, refl, ap, get_or, sym, subst, ◌∙◌, true≢false}
-use Rattle.std.specs.Prelude.{Option, None, Some, Result, Ok, Err}
+use Rattle.std.specs.Prelude.{Option, None, Some, Result, Ok, Err, if◌then◌else◌}
 use Rattle.std.specs.Option.{ok_or}
 use Rattle.std.specs.List.{last_or}
 use Rattle.std.specs.Fmt.{digits}
 use Rattle.std.proofs.lemmas.Bool.{eqb-false}
+use Rattle.std.proofs.lemmas.Option.{none-some, same_Some}
 use Rattle.avro_nodes.specs.Nodes.{NodeView}
 use Rattle.reg_core.specs.declared.level.Level.{Level}
 use Rattle.reg_core.specs.declared.number.Choice.{Choice}
 use Rattle.reg_core.specs.declared.code.Code.{Code}
-use Rattle.reg_core.specs.declared.code.Code.TheVariants.{KeyReused, SubjectNotFound, VersionNotFound, SchemaNotFound, NoOwnLevel, Incompatible, InvalidSchema, InvalidVersion, InvalidLevel, NoNumberLeft}
+use Rattle.reg_core.specs.declared.code.Code.TheVariants.{KeyReused, SubjectNotFound, SubjectSoftDeleted, SubjectNotSoftDeleted, VersionSoftDeleted, VersionNotSoftDeleted, VersionNotFound, SchemaNotFound, NoOwnLevel, Incompatible, InvalidSchema, InvalidVersion, InvalidLevel, NoNumberLeft}
 use Rattle.reg_core.specs.declared.command.Command.{Command}
-use Rattle.reg_core.specs.declared.command.Command.TheVariants.{SetGlobal, SetLevel, Register, Global, LevelOf, Lookup, Subjects, Versions, Version, Text, ById, VersionsOfId, Types, Check, CheckAll}
+use Rattle.reg_core.specs.declared.command.Command.TheVariants.{SetGlobal, SetLevel, Register, DeleteVersion, DeleteSubject, Global, LevelOf, Lookup, Subjects, Versions, Version, Text, ById, VersionsOfId, Types, Check, CheckAll}
 use Rattle.reg_core.specs.Codes.{fault_body}
 use Rattle.reg_core.specs.Levels.{level_of}
 use Rattle.reg_core.specs.Numbers.{id_in, choice_in}
@@ -20,6 +21,9 @@ use Rattle.reg_core.specs.Registry.{Registry, Row}
 use Rattle.reg_core.specs.Rows.{rows_of, shown_rows, live_rows, chosen_row, text_at}
 use Rattle.reg_core.specs.LevelCommands.{set_level, level_shown, shown_reply}
 use Rattle.reg_core.specs.ReadCommands.{Texts, versions_reply, found_row, looked_up, rows_with_id, text_reply, version_reply, version_text_reply, id_reply, id_versions_reply, lookup_reply}
+use Rattle.reg_core.specs.declared.number.Choice.TheVariants.{Latest, Numbered}
+use Rattle.reg_core.specs.Deleting.{row_to_delete, subject_refusal}
+use Rattle.reg_core.specs.DeletionCommands.{if_live, if_deleted, found_and, row_to_mark, row_to_remove, with_deleted, without_row, version_deleted, delete_version, soft_delete, remove_subject, delete_subject}
 use Rattle.reg_core.specs.RegisterCommands.{schema_in, register, registered, check_reply, check_all_reply, verdict_reply}
 use Rattle.reg_core.specs.Machine.{is_write, step}
 
@@ -168,11 +172,82 @@ pub register-IsOwnReply : (g : Registry) (subject : List ℕ) (schema : Option (
 register-IsOwnReply g subject None = invalid_schema-IsOwnReply
 register-IsOwnReply g subject (Some new) = registered-IsOwnReply g subject new _ _ _
 
+-- why no version is deleted is a reply of the registry's own too
+found_and-fault : (test : Row → Result Row Code) → ((row : Row) → HasOwnFault (test row)) → (found : Result Row Code) → HasOwnFault found → HasOwnFault (found_and test found)
+found_and-fault test each (Err code) own = own
+found_and-fault test each (Ok row) own = each row
+
+if_live-fault : (row : Row) → HasOwnFault (if_live row)
+if_live-fault row = by row.1.deleted
+  where
+    by : (b : Bool) → HasOwnFault (if b then Err VersionSoftDeleted else Ok row)
+    by true = not_found VersionSoftDeleted refl
+    by false = tt
+
+if_deleted-fault : (row : Row) → HasOwnFault (if_deleted row)
+if_deleted-fault row = by row.1.deleted
+  where
+    by : (b : Bool) → HasOwnFault (if b then Ok row else Err VersionNotSoftDeleted)
+    by true = tt
+    by false = not_found VersionNotSoftDeleted refl
+
+row_to_mark-fault : (choice : Option Choice) (rows : List Row) → HasOwnFault (row_to_mark choice rows)
+row_to_mark-fault None rows = invalid_version-IsOwnReply
+row_to_mark-fault (Some choice) [] = subject_not_found-IsOwnReply
+row_to_mark-fault (Some Latest) (row ∷ rows) = ok_or_fault (last_or None (live_rows (row ∷ rows))) SubjectSoftDeleted (not_found SubjectSoftDeleted refl)
+row_to_mark-fault (Some (Numbered number)) (row ∷ rows) =
+    found_and-fault if_live if_live-fault (ok_or (chosen_row (Numbered number) (row ∷ rows)) VersionNotFound) (ok_or_fault (chosen_row (Numbered number) (row ∷ rows)) VersionNotFound version_not_found-IsOwnReply)
+
+row_to_remove-fault : (choice : Option Choice) (rows : List Row) → HasOwnFault (row_to_remove choice rows)
+row_to_remove-fault choice rows = found_and-fault if_deleted if_deleted-fault (found_row choice rows) (found_row-fault choice rows)
+
+pub row_to_delete-fault : (permanent : Bool) (choice : Option Choice) (rows : List Row) → HasOwnFault (row_to_delete permanent choice rows)
+row_to_delete-fault false choice rows = row_to_mark-fault choice rows
+row_to_delete-fault true choice rows = row_to_remove-fault choice rows
+
+pub subject_refusal-fault : (permanent : Bool) (rows live : List Row) (code : Code) → Some code ≡ subject_refusal permanent rows live → IsOwnReply (fault code)
+subject_refusal-fault permanent rows live code e = by permanent rows live e
+  where
+    refused : (why : Code) → Some code ≡ Some why → IsOwnReply (fault why) → IsOwnReply (fault code)
+    refused why e own = subst (λ (c : Code). IsOwnReply (fault c)) (sym (same_Some code why e)) own
+
+    by : (b : Bool) (rows live : List Row) → Some code ≡ subject_refusal b rows live → IsOwnReply (fault code)
+    by false [] live e = refused SubjectNotFound e subject_not_found-IsOwnReply
+    by false (row ∷ rows) [] e = refused SubjectSoftDeleted e (not_found SubjectSoftDeleted refl)
+    by false (row ∷ rows) (one ∷ live) e = absurd (none-some code (sym e))
+    by true [] live e = refused SubjectNotFound e subject_not_found-IsOwnReply
+    by true (row ∷ rows) [] e = absurd (none-some code (sym e))
+    by true (row ∷ rows) (one ∷ live) e = refused SubjectNotSoftDeleted e (not_found SubjectNotSoftDeleted refl)
+
+version_deleted-IsOwnReply : (change : Registry → Row → Registry) (g : Registry) (found : Result Row Code) → HasOwnFault found → IsOwnReply (version_deleted change g found).1
+version_deleted-IsOwnReply change g (Err code) own = own
+version_deleted-IsOwnReply change g (Ok row) own = answer-IsOwnReply _
+
+pub delete_version-IsOwnReply : (g : Registry) (subject : List ℕ) (choice : Option Choice) (permanent : Bool) → IsOwnReply (delete_version g subject choice permanent).1
+delete_version-IsOwnReply g subject choice false = version_deleted-IsOwnReply with_deleted g (row_to_mark choice (rows_of g subject)) (row_to_mark-fault choice (rows_of g subject))
+delete_version-IsOwnReply g subject choice true = version_deleted-IsOwnReply without_row g (row_to_remove choice (rows_of g subject)) (row_to_remove-fault choice (rows_of g subject))
+
+soft_delete-IsOwnReply : (g : Registry) (subject : List ℕ) (rows live : List Row) → IsOwnReply (soft_delete g subject rows live).1
+soft_delete-IsOwnReply g subject [] live = subject_not_found-IsOwnReply
+soft_delete-IsOwnReply g subject (row ∷ rows) [] = not_found SubjectSoftDeleted refl
+soft_delete-IsOwnReply g subject (row ∷ rows) (one ∷ live) = answer-IsOwnReply _
+
+remove_subject-IsOwnReply : (g : Registry) (subject : List ℕ) (rows live : List Row) → IsOwnReply (remove_subject g subject rows live).1
+remove_subject-IsOwnReply g subject [] live = subject_not_found-IsOwnReply
+remove_subject-IsOwnReply g subject (row ∷ rows) (one ∷ live) = not_found SubjectNotSoftDeleted refl
+remove_subject-IsOwnReply g subject (row ∷ rows) [] = answer-IsOwnReply _
+
+pub delete_subject-IsOwnReply : (g : Registry) (subject : List ℕ) (permanent : Bool) → IsOwnReply (delete_subject g subject permanent).1
+delete_subject-IsOwnReply g subject false = soft_delete-IsOwnReply g subject (rows_of g subject) (live_rows (rows_of g subject))
+delete_subject-IsOwnReply g subject true = remove_subject-IsOwnReply g subject (rows_of g subject) (live_rows (rows_of g subject))
+
 pub step-IsOwnReply : (g : Registry) (c : Command) → IsOwnReply (step g c).1
 unfolding step
 step-IsOwnReply g (SetGlobal text) = set_level-IsOwnReply g None (level_of text)
 step-IsOwnReply g (SetLevel subject text) = set_level-IsOwnReply g (Some subject) (level_of text)
 step-IsOwnReply g (Register subject text supported) = register-IsOwnReply g subject (schema_in text supported)
+step-IsOwnReply g (DeleteVersion subject version permanent) = delete_version-IsOwnReply g subject (choice_in version) permanent
+step-IsOwnReply g (DeleteSubject subject permanent) = delete_subject-IsOwnReply g subject permanent
 step-IsOwnReply g Global = answer-IsOwnReply _
 step-IsOwnReply g (LevelOf subject default) = shown_reply-IsOwnReply (level_shown (g.own subject) g.global default)
 step-IsOwnReply g (Lookup subject text supported deleted) = lookup_reply-IsOwnReply (text_at g.schemas) (schema_in text supported) _ _
@@ -200,6 +275,8 @@ unfolding step
 step-read g (SetGlobal text) e = absurd (true≢false e)
 step-read g (SetLevel subject text) e = absurd (true≢false e)
 step-read g (Register subject text supported) e = absurd (true≢false e)
+step-read g (DeleteVersion subject version permanent) e = absurd (true≢false e)
+step-read g (DeleteSubject subject permanent) e = absurd (true≢false e)
 step-read g Global e = refl
 step-read g (LevelOf subject default) e = refl
 step-read g (Lookup subject text supported deleted) e = refl
@@ -227,12 +304,36 @@ register-refusal : (g : Registry) (subject : List ℕ) (schema : Option (List No
 register-refusal g subject None ne = refl
 register-refusal g subject (Some new) ne = registered-refusal g subject new _ _ _ ne
 
+version_deleted-refusal : (change : Registry → Row → Registry) (g : Registry) (found : Result Row Code) → (version_deleted change g found).1.status ≢ 200 → (version_deleted change g found).0 ≡ g
+version_deleted-refusal change g (Err code) ne = refl
+version_deleted-refusal change g (Ok row) ne = absurd (ne refl)
+
+delete_version-refusal : (g : Registry) (subject : List ℕ) (choice : Option Choice) (permanent : Bool) → (delete_version g subject choice permanent).1.status ≢ 200 → (delete_version g subject choice permanent).0 ≡ g
+delete_version-refusal g subject choice false ne = version_deleted-refusal with_deleted g (row_to_mark choice (rows_of g subject)) ne
+delete_version-refusal g subject choice true ne = version_deleted-refusal without_row g (row_to_remove choice (rows_of g subject)) ne
+
+soft_delete-refusal : (g : Registry) (subject : List ℕ) (rows live : List Row) → (soft_delete g subject rows live).1.status ≢ 200 → (soft_delete g subject rows live).0 ≡ g
+soft_delete-refusal g subject [] live ne = refl
+soft_delete-refusal g subject (row ∷ rows) [] ne = refl
+soft_delete-refusal g subject (row ∷ rows) (one ∷ live) ne = absurd (ne refl)
+
+remove_subject-refusal : (g : Registry) (subject : List ℕ) (rows live : List Row) → (remove_subject g subject rows live).1.status ≢ 200 → (remove_subject g subject rows live).0 ≡ g
+remove_subject-refusal g subject [] live ne = refl
+remove_subject-refusal g subject (row ∷ rows) (one ∷ live) ne = refl
+remove_subject-refusal g subject (row ∷ rows) [] ne = absurd (ne refl)
+
+delete_subject-refusal : (g : Registry) (subject : List ℕ) (permanent : Bool) → (delete_subject g subject permanent).1.status ≢ 200 → (delete_subject g subject permanent).0 ≡ g
+delete_subject-refusal g subject false ne = soft_delete-refusal g subject (rows_of g subject) (live_rows (rows_of g subject)) ne
+delete_subject-refusal g subject true ne = remove_subject-refusal g subject (rows_of g subject) (live_rows (rows_of g subject)) ne
+
 -- and so does a refusal
 pub step-refusal : (g : Registry) (c : Command) → (step g c).1.status ≢ 200 → (step g c).0 ≡ g
 unfolding step
 step-refusal g (SetGlobal text) ne = set_level-refusal g None (level_of text) ne
 step-refusal g (SetLevel subject text) ne = set_level-refusal g (Some subject) (level_of text) ne
 step-refusal g (Register subject text supported) ne = register-refusal g subject (schema_in text supported) ne
+step-refusal g (DeleteVersion subject version permanent) ne = delete_version-refusal g subject (choice_in version) permanent ne
+step-refusal g (DeleteSubject subject permanent) ne = delete_subject-refusal g subject permanent ne
 step-refusal g Global ne = refl
 step-refusal g (LevelOf subject default) ne = refl
 step-refusal g (Lookup subject text supported deleted) ne = refl

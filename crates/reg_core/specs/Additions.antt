@@ -1,12 +1,13 @@
 -- Each version that was accepted was admitted by its subject's level.
-use Rattle.std.specs.Prelude.{◌≡◌, ◌≢◌, ℕ, Bool, List, Some}
+use Rattle.std.specs.Prelude.{◌≡◌, ◌⊎◌, ℕ, Bool, true, List, Some}
+use Rattle.std.specs.FinMap.{get}
 use Rattle.std.specs.List.{AllZip}
 use Rattle.avro_nodes.specs.Nodes.{NodeView}
 use Rattle.avro_schema.specs.Texts.{TextDenotes}
 use Rattle.reg_core.specs.declared.command.Command.{Command}
 use Rattle.reg_core.specs.declared.command.Command.TheVariants.{Register}
 use Rattle.reg_core.specs.Compatibility.{Admits}
-use Rattle.reg_core.specs.Registry.{Registry, schema_at}
+use Rattle.reg_core.specs.Registry.{Registry, RowKey, Rows, Version, schema_at}
 use Rattle.reg_core.specs.Rows.{rows_of, live_rows}
 use Rattle.reg_core.specs.RegisterCommands.{level_in}
 use Rattle.reg_core.specs.Machine.{step}
@@ -28,6 +29,14 @@ pub record IsAddition (g : Registry) (command : Command) : Type 0 where
   pub is : command ≡ Register subject text supported
   pub admitted : WasAdmitted g subject text
 
--- Schema Registry API reference, POST /subjects/{subject}/versions: a command changes the versions only by such an addition
+-- Schema Registry API reference, Subjects: the version stood among these under its key, with its schema; it is soft-deleted if it was
+pub record WasThere (rows : Rows) (key : RowKey) (version : Version) : Type 0 where
+  pub old : Version
+  pub there : get rows key ≡ Some old
+  pub same : version.id ≡ old.id
+  pub stays_deleted : old.deleted ≡ true → version.deleted ≡ true
+
+-- Schema Registry API reference, POST /subjects/{subject}/versions: each version that stands after a command stood before, or the command is such an
+-- addition
 abbrev pub AddsAdmitted : Registry → Command → Type 0
-AddsAdmitted g command = (step g command).0.rows ≢ g.rows → IsAddition g command
+AddsAdmitted g command = (key : RowKey) (version : Version) → get (step g command).0.rows key ≡ Some version → WasThere g.rows key version ⊎ IsAddition g command

@@ -23,6 +23,10 @@ version_body row text =
 abbrev pub texts_body : List (List ℕ) → List ℕ
 texts_body texts = compact_text (array (items_of (map string texts)))
 
+-- Schema Registry API reference, DELETE /subjects/{subject}/versions/{version}: a number
+abbrev pub number_body : ℕ → List ℕ
+number_body n = compact_text (number (unsigned n))
+
 -- Schema Registry API reference, GET /subjects/{subject}/versions: an array of numbers
 abbrev pub numbers_body : List ℕ → List ℕ
 numbers_body numbers = compact_text (array (items_of (map (λ n. number (unsigned n)) numbers)))

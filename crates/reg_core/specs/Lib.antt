@@ -12,6 +12,7 @@ pub mod Bodies
 pub mod LevelCommands
 pub mod ReadCommands
 pub mod RegisterCommands
+pub mod DeletionCommands
 pub mod Machine
 pub mod CommandTexts
 pub mod Views
@@ -20,3 +21,4 @@ pub mod Verdicts
 pub mod Additions
 pub mod Comparisons
 pub mod Registering
+pub mod Deleting

@@ -3,7 +3,7 @@ use Rattle.std.specs.Prelude.{ℕ, Bool, true, false, List, [], ◌∷◌, codes
 use Rattle.std.specs.FinMap.{entries}
 use Rattle.avro_nodes.specs.Nodes.{NodeView}
 use Rattle.reg_core.specs.declared.command.Command.{Command}
-use Rattle.reg_core.specs.declared.command.Command.TheVariants.{SetGlobal, SetLevel, Register, Global, LevelOf, Lookup, Subjects, Versions, Version, Text, ById, VersionsOfId, Types, Check, CheckAll}
+use Rattle.reg_core.specs.declared.command.Command.TheVariants.{SetGlobal, SetLevel, Register, DeleteVersion, DeleteSubject, Global, LevelOf, Lookup, Subjects, Versions, Version, Text, ById, VersionsOfId, Types, Check, CheckAll}
 use Rattle.reg_core.specs.Levels.{level_of}
 use Rattle.reg_core.specs.Numbers.{id_in, choice_in}
 use Rattle.reg_core.specs.Replies.{Told, answer}
@@ -11,6 +11,7 @@ use Rattle.reg_core.specs.Registry.{Registry}
 use Rattle.reg_core.specs.Rows.{rows_of, shown_rows, text_at, known_id}
 use Rattle.reg_core.specs.LevelCommands.{level_object, set_level, level_shown, shown_reply}
 use Rattle.reg_core.specs.ReadCommands.{types_reply, subjects_reply, versions_reply, found_row, version_reply, version_text_reply, id_reply, id_versions_reply, lookup_reply, rows_with_id}
+use Rattle.reg_core.specs.DeletionCommands.{delete_version, delete_subject}
 use Rattle.reg_core.specs.RegisterCommands.{schema_in, register, check_reply, check_all_reply}
 
 -- RFC 9110, section 9.2.1: whether a command may change the registry
@@ -18,6 +19,8 @@ abbrev pub is_write : Command → Bool
 is_write (SetGlobal level) = true
 is_write (SetLevel subject level) = true
 is_write (Register subject text supported) = true
+is_write (DeleteVersion subject version permanent) = true
+is_write (DeleteSubject subject permanent) = true
 is_write _ = false
 
 -- Schema Registry API reference, Subjects, Compatibility and Config: the subject that a command is about, if it is about one
@@ -25,6 +28,8 @@ abbrev pub subject_of : Command → Option (List ℕ)
 subject_of (SetGlobal level) = None
 subject_of (SetLevel subject level) = Some subject
 subject_of (Register subject text supported) = Some subject
+subject_of (DeleteVersion subject version permanent) = Some subject
+subject_of (DeleteSubject subject permanent) = Some subject
 subject_of Global = None
 subject_of (LevelOf subject default_to_global) = Some subject
 subject_of (Lookup subject text supported deleted) = Some subject
@@ -51,6 +56,8 @@ unfoldable pub step : Registry → Command → Registry × Told
 step g (SetGlobal level) = set_level g None (level_of level)
 step g (SetLevel subject level) = set_level g (Some subject) (level_of level)
 step g (Register subject text supported) = register g subject (schema_in text supported)
+step g (DeleteVersion subject version permanent) = delete_version g subject (choice_in version) permanent
+step g (DeleteSubject subject permanent) = delete_subject g subject permanent
 step g Global = (g, answer (level_object (codes "compatibilityLevel") g.global))
 step g (LevelOf subject default_to_global) = (g, shown_reply (level_shown (g.own subject) g.global default_to_global))
 step g (Lookup subject text supported deleted) = (g, lookup_reply (text_at g.schemas) (schema_in text supported) (known_id g.schemas (schema_in text supported)) (shown_rows deleted (rows_of g subject)))

@@ -24,6 +24,10 @@ no_own_levels subject = None
 abbrev pub own_with : OwnLevels → List ℕ → Level → OwnLevels
 own_with own subject level other = if bytes_eq subject other then Some level else own other
 
+-- Schema Registry API reference, DELETE /subjects/{subject}: the subject has no level, and each other one what it had
+abbrev pub own_without : OwnLevels → List ℕ → OwnLevels
+own_without own subject other = if bytes_eq subject other then None else own other
+
 -- ---- schemas
 
 -- this project's choice: ids and numbers of versions are 1 to this

@@ -2,18 +2,20 @@
 use Rattle.std.specs.Prelude.{◌≡◌, ◌≤◌, ◌+◌, ⊤, ℕ, Bool, true, false, IsTrue, All, List, [], ◌∷◌, ◌++◌, length, string_bytes, if◌then◌else◌, unwrap_or, map, Option, None, Some, IfSome, option_map, option_and_then, option_to_list, Result, Ok, Err}
 use Rattle.std.specs.BTreeMap as tree
 use Rattle.std.specs.Ordering.{nat_cmp}
-use Rattle.std.specs.FinMap.{get, insert, entries}
+use Rattle.std.specs.FinMap.{get, insert, remove, entries}
 use Rattle.avro_nodes.specs.Nodes.{NodeView}
 use Rattle.avro_nodes.specs.Identity.{identity}
 use Rattle.avro_schema.specs.Texts.{IsSchema, denoted}
 use Rattle.reg_core.specs.declared.level.Level.{Level}
 use Rattle.reg_core.specs.declared.command.Command.{Command}
-use Rattle.reg_core.specs.declared.command.Command.TheVariants.{Register, Global, LevelOf, Lookup, Subjects, Versions, Version, Text, ById, VersionsOfId, Check, CheckAll}
+use Rattle.reg_core.specs.declared.command.Command.TheVariants.{Register, DeleteVersion, DeleteSubject, Global, LevelOf, Lookup, Subjects, Versions, Version, Text, ById, VersionsOfId, Check, CheckAll}
 use Rattle.reg_core.specs.declared.decision.View.{View}
 use Rattle.reg_core.specs.declared.decision.Change.{Change}
 use Rattle.reg_core.specs.declared.decision.Change.TheVariants as change
 use Rattle.reg_core.specs.Numbers.{id_in, choice_in}
-use Rattle.reg_core.specs.Registry.{Registry, IsRegistry, Row, IsRow, Schemas, max_number, own_with}
+use Rattle.reg_core.specs.Registry.{Registry, IsRegistry, Row, RowKey, Rows, IsRow, Schemas, max_number, own_with, own_without}
+use Rattle.reg_core.specs.Registry as registry
+use Rattle.reg_core.specs.DeletionCommands.{as_deleted}
 use Rattle.reg_core.specs.Rows.{rows_of, shown_rows, live_rows, known_id, id_of, text_at}
 use Rattle.reg_core.specs.ReadCommands.{found_row, looked_up, rows_with_id}
 use Rattle.reg_core.specs.RegisterCommands.{is_among}
@@ -25,6 +27,8 @@ use Rattle.reg_core.specs.Machine.{subject_of, schema_sent}
 -- Schema Registry API reference: the versions that a command looks at, deleted ones too: those of its subject, those of its id, or all
 abbrev pub rows_needed : Registry → Command → Option (List Row)
 rows_needed g (Register subject text supported) = Some (rows_of g subject)
+rows_needed g (DeleteVersion subject version permanent) = Some (rows_of g subject)
+rows_needed g (DeleteSubject subject permanent) = Some (rows_of g subject)
 rows_needed g (Lookup subject text supported deleted) = Some (rows_of g subject)
 rows_needed g (Subjects deleted) = Some (entries g.rows)
 rows_needed g (Versions subject deleted) = Some (rows_of g subject)
@@ -102,12 +106,19 @@ pub record IsGround (g : Registry) (command : Command) (schema : Option (List No
 
 -- ---- changes
 
+-- the map with another value in place of the key's, if it has one
+abbrev pub altered : Rows → RowKey → (registry.Version → registry.Version) → Rows
+altered rows key change = unwrap_or (option_map (λ version. insert rows key (change version)) (get rows key)) rows
+
 -- Schema Registry API reference, Schemas, Subjects and Config: the registry after one change
 abbrev pub after_change : Change → Registry → Registry
 after_change (change.SetGlobal level) g = record g { global = level }
 after_change (change.SetLevel subject level) g = record g { own = own_with g.own subject level }
 after_change (change.AddText id text) g = record g { schemas = g.schemas ++ option_to_list (denoted text) }
 after_change (change.AddRow row) g = record g { rows = insert g.rows row.0 row.1 }
+after_change (change.MarkDeleted subject version) g = record g { rows = altered g.rows (subject, version) as_deleted }
+after_change (change.Remove subject version) g = record g { rows = remove g.rows (subject, version) }
+after_change (change.DropLevel subject) g = record g { own = own_without g.own subject }
 
 -- this project's choice: the registry after the changes, one after the other
 abbrev pub after_changes : List Change → Registry → Registry
@@ -134,6 +145,9 @@ ChangeFits (change.SetGlobal level) g = ⊤
 ChangeFits (change.SetLevel subject level) g = ⊤
 ChangeFits (change.AddText id text) g = IsNewText g.schemas id text
 ChangeFits (change.AddRow row) g = IsNewRow g row
+ChangeFits (change.MarkDeleted subject version) g = ⊤
+ChangeFits (change.Remove subject version) g = ⊤
+ChangeFits (change.DropLevel subject) g = ⊤
 
 -- this project's choice: so it can each change, at its turn
 abbrev pub ChangesFit : List Change → Registry → Type 0

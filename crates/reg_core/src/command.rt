@@ -35,6 +35,20 @@ pub enum Command {
         text: Text,
         supported: bool,
     },
+    /// Soft-deletes the version of the subject that is chosen; where `permanent` is on, it removes a
+    /// soft-deleted one for good. Answers the version's number.
+    DeleteVersion {
+        subject: Subject,
+        version: Text,
+        permanent: bool,
+    },
+    /// Soft-deletes the versions of the subject; where `permanent` is on, it removes them for good, if
+    /// all are soft-deleted. The level that the subject has of its own goes too. Answers the numbers
+    /// of the versions.
+    DeleteSubject {
+        subject: Subject,
+        permanent: bool,
+    },
     /// Answers the global compatibility level.
     Global,
     /// Answers the level that the subject has of its own; where it has none, and that is asked for,
@@ -104,7 +118,11 @@ impl Command {
         ensures { result ≡ is_write self.now }
     {
         match self {
-            Command::SetGlobal { .. } | Command::SetLevel { .. } | Command::Register { .. } => true,
+            Command::SetGlobal { .. }
+            | Command::SetLevel { .. }
+            | Command::Register { .. }
+            | Command::DeleteVersion { .. }
+            | Command::DeleteSubject { .. } => true,
             _ => false,
         }
     }
@@ -116,6 +134,8 @@ impl Command {
         match self {
             Command::SetLevel { subject, .. }
             | Command::Register { subject, .. }
+            | Command::DeleteVersion { subject, .. }
+            | Command::DeleteSubject { subject, .. }
             | Command::LevelOf { subject, .. }
             | Command::Lookup { subject, .. }
             | Command::Versions { subject, .. }
@@ -212,6 +232,14 @@ pub fn print_of(alloc: Global, command: &Command) -> Result<String, OutOfMemory>
             text,
             supported,
         } => register_text(alloc, subject.as_str(), text.as_str(), *supported),
+        Command::DeleteVersion {
+            subject,
+            version,
+            permanent,
+        } => delete_version_text(alloc, subject.as_str(), version.as_str(), *permanent),
+        Command::DeleteSubject { subject, permanent } => {
+            delete_subject_text(alloc, subject.as_str(), *permanent)
+        }
         Command::Global
         | Command::LevelOf { .. }
         | Command::Lookup { .. }
@@ -245,5 +273,26 @@ fn register_text(
     ensures { IfOk result (λ print. string_bytes print ≡ command_text (Command.Register subject.now text.now supported)) }
 {
     let array = json!(in alloc; ["register", subject, text, supported])?;
+    Ok(array.to_string(alloc)?)
+}
+
+/// The text of the command that deletes a version.
+fn delete_version_text(
+    alloc: Global,
+    subject: &str,
+    version: &str,
+    permanent: bool,
+) -> Result<String, OutOfMemory>
+    ensures { IfOk result (λ text. string_bytes text ≡ command_text (Command.DeleteVersion subject.now version.now permanent)) }
+{
+    let array = json!(in alloc; ["delete-version", subject, version, permanent])?;
+    Ok(array.to_string(alloc)?)
+}
+
+/// The text of the command that deletes a subject.
+fn delete_subject_text(alloc: Global, subject: &str, permanent: bool) -> Result<String, OutOfMemory>
+    ensures { IfOk result (λ text. string_bytes text ≡ command_text (Command.DeleteSubject subject.now permanent)) }
+{
+    let array = json!(in alloc; ["delete-subject", subject, permanent])?;
     Ok(array.to_string(alloc)?)
 }

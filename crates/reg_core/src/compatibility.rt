@@ -12,9 +12,6 @@ use avro_resolve::resolves;
 use avro_schema::Schema;
 use std::alloc::Global;
 
-#[cfg(test)]
-mod tests;
-
 /// Whether the level admits the new schema. The earlier schemas are those of the subject's live
 /// versions, in order of number. (Schema Registry API reference, Compatibility; Schema Evolution
 /// and Compatibility, Compatibility Types.)

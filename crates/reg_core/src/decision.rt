@@ -8,6 +8,7 @@ ghost use Rattle.reg_core.specs.Replies.{IsOwnReply};
 ghost use Rattle.reg_core.specs.Views.{ChangesFit, IsGround, after_changes};
 
 use crate::command::Command;
+use crate::decision::deleting::{delete_subject, delete_version};
 use crate::decision::levels::{level_reply, level_shown, set_level, shown_reply};
 use crate::decision::reading::{
     by_id, lookup, subjects, types, version, version_text, versions, versions_of_id,
@@ -25,6 +26,7 @@ use std::collections::BTreeMap;
 
 mod bodies;
 mod comparing;
+mod deleting;
 mod levels;
 mod needs;
 mod reading;
@@ -64,6 +66,12 @@ pub enum Change {
     AddText { id: u32, text: Text },
     /// A subject gets a new version.
     AddRow { row: Row },
+    /// The subject's version with this number is soft-deleted, if there is one.
+    MarkDeleted { subject: Subject, version: u32 },
+    /// The subject's version with this number goes for good, if there is one.
+    Remove { subject: Subject, version: u32 },
+    /// The level that the subject has of its own goes, if it has one.
+    DropLevel { subject: Subject },
 }
 
 /// What a command does, and its reply.
@@ -111,6 +119,14 @@ pub fn decide(
         Command::SetGlobal { level } => set_level(alloc, None, level.as_str()),
         Command::SetLevel { subject, level } => set_level(alloc, Some(subject), level.as_str()),
         Command::Register { subject, .. } => register(alloc, view, subject, schema),
+        Command::DeleteVersion {
+            subject,
+            version: chosen,
+            permanent,
+        } => delete_version(alloc, view, subject, chosen.as_str(), *permanent),
+        Command::DeleteSubject { subject, permanent } => {
+            delete_subject(alloc, view, subject, *permanent)
+        }
         Command::Global => {
             let reply = level_reply(alloc, "compatibilityLevel", view.global)?;
             Ok(unchanged(alloc, reply))

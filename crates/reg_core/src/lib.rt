@@ -14,8 +14,6 @@ mod number;
 mod reply;
 mod row;
 mod subject;
-#[cfg(test)]
-mod tests;
 mod text;
 
 pub use avro_nodes::OutOfMemory;

@@ -5,8 +5,6 @@
 mod meta;
 mod rows;
 mod tables;
-#[cfg(test)]
-mod tests;
 mod texts;
 
 pub use meta::{is_meta, layout_of};

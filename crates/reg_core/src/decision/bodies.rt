@@ -3,7 +3,7 @@
 ghost use Rattle.std.specs.Prelude.{◌≡◌, IfOk, false, map};
 ghost use Rattle.serde_json.specs.View.{view};
 ghost use Rattle.serde_json.specs.Written.{compact_text, has_float};
-ghost use Rattle.reg_core.specs.Bodies.{numbers_body, place_data, places_body, schema_body, texts_body, version_body};
+ghost use Rattle.reg_core.specs.Bodies.{number_body, numbers_body, place_data, places_body, schema_body, texts_body, version_body};
 ghost use Rattle.reg_core.specs.Replies.{answer};
 
 use crate::reply::Reply;
@@ -41,6 +41,13 @@ pub fn texts_reply(alloc: Global, texts: &[&str]) -> Result<Reply, OutOfMemory>
         values.push(Value::String(String::from_str(alloc, text)?))?;
     }
     value_reply(alloc, Value::Array(values))
+}
+
+/// A number.
+pub fn number_reply(alloc: Global, number: u32) -> Result<Reply, OutOfMemory>
+    ensures { IfOk result (λ reply. reply ≡ answer (number_body number)) }
+{
+    value_reply(alloc, Value::from(number))
 }
 
 /// An array of the versions' numbers.

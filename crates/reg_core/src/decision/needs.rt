@@ -48,6 +48,8 @@ pub fn ids_read(alloc: Global, command: &Command, view: &View) -> Result<Vec<u32
         Command::CheckAll { .. } => check_all_ids(alloc, view),
         Command::SetGlobal { .. }
         | Command::SetLevel { .. }
+        | Command::DeleteVersion { .. }
+        | Command::DeleteSubject { .. }
         | Command::Global
         | Command::LevelOf { .. }
         | Command::Subjects { .. }

@@ -45,7 +45,7 @@ pub fn found_row<'a>(choice: Option<Choice>, rows: &[&'a Row]) -> Result<&'a Row
 }
 
 /// The version that is chosen among these, if there is one.
-fn chosen_row<'a>(choice: Choice, rows: &[&'a Row]) -> Option<&'a Row>
+pub fn chosen_row<'a>(choice: Choice, rows: &[&'a Row]) -> Option<&'a Row>
     ensures { option_copied result ≡ chosen_row choice (map (λ row. row.now) rows.now) }
 {
     match choice {

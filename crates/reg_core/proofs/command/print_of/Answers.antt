@@ -30,6 +30,16 @@ returns-in-Register-clause-one c =
     let text : IfOk c.register_text.result (λ text. string_bytes text ≡ command_text c.args.command.now) = search rules in
     IfOk-weaker c.register_text.result _ _ (λ text h other v w e. command_text-injective other c.args.command.now w v (e ∙ h)) text
 
+pub returns-in-DeleteVersion-clause-one : goal.returns-in-DeleteVersion-clause-one
+returns-in-DeleteVersion-clause-one c =
+    let text : IfOk c.delete_version_text.result (λ text. string_bytes text ≡ command_text c.args.command.now) = search rules in
+    IfOk-weaker c.delete_version_text.result _ _ (λ text h other v w e. command_text-injective other c.args.command.now w v (e ∙ h)) text
+
+pub returns-in-DeleteSubject-clause-one : goal.returns-in-DeleteSubject-clause-one
+returns-in-DeleteSubject-clause-one c =
+    let text : IfOk c.delete_subject_text.result (λ text. string_bytes text ≡ command_text c.args.command.now) = search rules in
+    IfOk-weaker c.delete_subject_text.result _ _ (λ text h other v w e. command_text-injective other c.args.command.now w v (e ∙ h)) text
+
 pub returns-in-Global-clause-text : goal.returns-in-Global-clause-text
 unfolding command_text
 returns-in-Global-clause-text c = search rules

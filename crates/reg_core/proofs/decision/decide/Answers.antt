@@ -74,3 +74,15 @@ pub returns-in_ok-reply-in-VersionsOfId-clause-own : goal.returns-in_ok-reply-in
 returns-in_ok-reply-in-VersionsOfId-clause-own c =
     subst IsOwnReply (sym (c.unchanged-in-VersionsOfId.ensures.reply ∙ c.in_ok-reply-in-VersionsOfId.ensures))
     (id_versions_reply-IsOwnReply (id_in c.as_str-in-VersionsOfId.result.now) c.in-VersionsOfId.deleted c.as_slice-in-VersionsOfId.result.now)
+
+pub returns-in-DeleteVersion-clause-reply : goal.returns-in-DeleteVersion-clause-reply
+returns-in-DeleteVersion-clause-reply c =
+    rw c.in-DeleteVersion.is
+    (IfOk-weaker c.delete_version.result _ _ (λ decision told g ground. told g (option_map nodes_view (option_copied c.args.schema)) ground)
+    (rw c.as_str-in-DeleteVersion.ensures at c.delete_version.ensures.reply))
+
+pub returns-in-DeleteVersion-clause-changes : goal.returns-in-DeleteVersion-clause-changes
+returns-in-DeleteVersion-clause-changes c =
+    rw c.in-DeleteVersion.is
+    (IfOk-weaker c.delete_version.result _ _ (λ decision changes g ground. changes g (option_map nodes_view (option_copied c.args.schema)) ground)
+    (rw c.as_str-in-DeleteVersion.ensures at c.delete_version.ensures.changes))

@@ -1,8 +1,8 @@
 //! Expected answers are those of the compatibility types of "Schema Evolution and Compatibility",
 //! worked out by hand.
 
-use crate::{Level, admits};
 use avro_schema::Schema;
+use reg_core::{Level, admits};
 use std::alloc::Global;
 use std::test::Fail;
 

@@ -1,6 +1,6 @@
 //! Rows that hold a registry, and rows that just don't.
 
-use crate::{Tables, layout_of, spells};
+use reg_rows::{Tables, layout_of, spells};
 use std::alloc::{AllocError, Global};
 use std::test::Fail;
 

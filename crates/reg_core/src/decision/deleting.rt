@@ -1,0 +1,196 @@
+//! Commands that delete versions and subjects, softly or for good.
+
+ghost use Rattle.std.specs.Prelude.{◌≡◌, ◌≢◌, ◌++◌, ◌∷◌, List, [], Option, IfOk, map};
+ghost use Rattle.std.specs.Result.{result_map_both};
+ghost use Rattle.avro_nodes.specs.Nodes.{NodeView};
+ghost use Rattle.reg_core.specs.declared.command.Command.TheVariants.{DeleteSubject, DeleteVersion};
+ghost use Rattle.reg_core.specs.Bodies.{number_body};
+ghost use Rattle.reg_core.specs.DeletionCommands.{numbers_reply, row_to_mark, row_to_remove};
+ghost use Rattle.reg_core.specs.Deleting.{row_to_delete, subject_refusal, version_change};
+ghost use Rattle.reg_core.specs.Machine.{step};
+ghost use Rattle.reg_core.specs.Registry.{Registry};
+ghost use Rattle.reg_core.specs.Replies.{IsOwnReply, answer};
+ghost use Rattle.reg_core.specs.Rows.{live_rows};
+ghost use Rattle.reg_core.specs.Views.{ChangesFit, IsGround, after_changes};
+
+use crate::code::Code;
+use crate::decision::bodies::{number_reply, numbers_reply};
+use crate::decision::rows::{chosen_row, found_row, shown_rows};
+use crate::decision::{Change, Decision, View, unchanged};
+use crate::number::{Choice, choice_in};
+use crate::reply::Reply;
+use crate::row::Row;
+use crate::subject::Subject;
+use avro_nodes::OutOfMemory;
+use std::alloc::Global;
+
+/// The version of the subject that is chosen is soft-deleted, or removed where that is asked for.
+pub fn delete_version(
+    alloc: Global,
+    view: &View,
+    subject: &Subject,
+    version: &str,
+    permanent: bool,
+) -> Result<Decision, OutOfMemory>
+    ensures reply { IfOk result (λ decision. (g : Registry) (schema : Option (List NodeView))
+        → IsGround g (DeleteVersion subject.now version.now permanent) schema view.now
+        → decision.reply ≡ (step g (DeleteVersion subject.now version.now permanent)).1) }
+    ensures changes { IfOk result (λ decision. (g : Registry) (schema : Option (List NodeView))
+        → IsGround g (DeleteVersion subject.now version.now permanent) schema view.now
+        → after_changes decision.changes.items g ≡ (step g (DeleteVersion subject.now version.now permanent)).0) }
+    ensures fit { IfOk result (λ decision. (g : Registry) → ChangesFit decision.changes.items g) }
+    ensures refusal { IfOk result (λ decision. decision.reply.status ≢ 200 → decision.changes.items ≡ []) }
+    ensures own { IfOk result (λ decision. IsOwnReply decision.reply) }
+{
+    let rows = shown_rows(alloc, true, &view.rows)?;
+    let live = shown_rows(alloc, false, &view.rows)?;
+    match row_to_delete(permanent, choice_in(version), &rows, &live) {
+        Ok(row) => one_deleted(alloc, subject, row.version(), permanent),
+        Err(code) => Ok(unchanged(alloc, Reply::fault(code))),
+    }
+}
+
+/// The version to soft-delete or to remove, or why there is none. The live versions come beside all.
+fn row_to_delete<'a>(
+    permanent: bool,
+    choice: Option<Choice>,
+    rows: &[&'a Row],
+    live: &[&'a Row],
+) -> Result<&'a Row, Code>
+    ensures { map (λ row. row.now) live.now ≡ live_rows (map (λ row. row.now) rows.now)
+        → result_map_both (λ row. row.now) (λ code. code) result
+        ≡ row_to_delete permanent choice (map (λ row. row.now) rows.now) }
+{
+    if permanent {
+        row_to_remove(choice, rows)
+    } else {
+        row_to_mark(choice, rows, live)
+    }
+}
+
+/// The version to soft-delete, or why there is none. The live versions come beside all.
+fn row_to_mark<'a>(
+    choice: Option<Choice>,
+    rows: &[&'a Row],
+    live: &[&'a Row],
+) -> Result<&'a Row, Code>
+    ensures { map (λ row. row.now) live.now ≡ live_rows (map (λ row. row.now) rows.now)
+        → result_map_both (λ row. row.now) (λ code. code) result
+        ≡ row_to_mark choice (map (λ row. row.now) rows.now) }
+{
+    if choice == Some(Choice::Latest) && !rows.is_empty() {
+        return chosen_row(Choice::Latest, live).ok_or(Code::SubjectSoftDeleted);
+    }
+    let row = found_row(choice, rows)?;
+    if row.deleted() {
+        return Err(Code::VersionSoftDeleted);
+    }
+    Ok(row)
+}
+
+/// The version to remove, or why there is none.
+fn row_to_remove<'a>(choice: Option<Choice>, rows: &[&'a Row]) -> Result<&'a Row, Code>
+    ensures { result_map_both (λ row. row.now) (λ code. code) result
+        ≡ row_to_remove choice (map (λ row. row.now) rows.now) }
+{
+    let row = found_row(choice, rows)?;
+    if !row.deleted() {
+        return Err(Code::VersionNotSoftDeleted);
+    }
+    Ok(row)
+}
+
+/// The version with this number is soft-deleted, or removed, and the number answered.
+fn one_deleted(
+    alloc: Global,
+    subject: &Subject,
+    version: u32,
+    permanent: bool,
+) -> Result<Decision, OutOfMemory>
+    ensures reply { IfOk result (λ decision. decision.reply ≡ answer (number_body version)) }
+    ensures changes { IfOk result (λ decision. decision.changes.items ≡ version_change permanent subject.now version ∷ []) }
+{
+    let reply = number_reply(alloc, version)?;
+    let mut changes = Vec::new(alloc);
+    changes.push(version_change(subject, version, permanent)?)?;
+    Ok(Decision { changes, reply })
+}
+
+/// The change that soft-deletes the version of the subject with this number, or removes it.
+fn version_change(subject: &Subject, version: u32, permanent: bool) -> Result<Change, OutOfMemory>
+    ensures { IfOk result (λ change. change ≡ version_change permanent subject.now version) }
+{
+    let subject = subject.try_clone()?;
+    if permanent {
+        Ok(Change::Remove { subject, version })
+    } else {
+        Ok(Change::MarkDeleted { subject, version })
+    }
+}
+
+/// The versions of the subject are soft-deleted, or removed where that is asked for, and its own
+/// level goes.
+pub fn delete_subject(
+    alloc: Global,
+    view: &View,
+    subject: &Subject,
+    permanent: bool,
+) -> Result<Decision, OutOfMemory>
+    ensures reply { IfOk result (λ decision. (g : Registry) (schema : Option (List NodeView))
+        → IsGround g (DeleteSubject subject.now permanent) schema view.now
+        → decision.reply ≡ (step g (DeleteSubject subject.now permanent)).1) }
+    ensures changes { IfOk result (λ decision. (g : Registry) (schema : Option (List NodeView))
+        → IsGround g (DeleteSubject subject.now permanent) schema view.now
+        → after_changes decision.changes.items g ≡ (step g (DeleteSubject subject.now permanent)).0) }
+    ensures fit { IfOk result (λ decision. (g : Registry) → ChangesFit decision.changes.items g) }
+    ensures refusal { IfOk result (λ decision. decision.reply.status ≢ 200 → decision.changes.items ≡ []) }
+    ensures own { IfOk result (λ decision. IsOwnReply decision.reply) }
+{
+    let rows = shown_rows(alloc, true, &view.rows)?;
+    let live = shown_rows(alloc, false, &view.rows)?;
+    if let Some(code) = subject_refusal(permanent, &rows, &live) {
+        return Ok(unchanged(alloc, Reply::fault(code)));
+    }
+    if permanent {
+        all_deleted(alloc, subject, &rows, true)
+    } else {
+        all_deleted(alloc, subject, &live, false)
+    }
+}
+
+/// Why a subject with these versions, of which these are live, can't be soft-deleted or removed.
+fn subject_refusal(permanent: bool, rows: &[&Row], live: &[&Row]) -> Option<Code>
+    ensures { result ≡ subject_refusal permanent (map (λ row. row.now) rows.now) (map (λ row. row.now) live.now) }
+{
+    if rows.is_empty() {
+        return Some(Code::SubjectNotFound);
+    }
+    match (permanent, live.is_empty()) {
+        (false, true) => Some(Code::SubjectSoftDeleted),
+        (true, false) => Some(Code::SubjectNotSoftDeleted),
+        _ => None,
+    }
+}
+
+/// These versions of the subject are soft-deleted, or removed, its own level goes, and the numbers
+/// are answered.
+fn all_deleted(
+    alloc: Global,
+    subject: &Subject,
+    rows: &[&Row],
+    permanent: bool,
+) -> Result<Decision, OutOfMemory>
+    ensures reply { IfOk result (λ decision. decision.reply ≡ numbers_reply (map (λ row. row.now) rows.now)) }
+    ensures changes { IfOk result (λ decision. decision.changes.items
+        ≡ map (λ row. version_change permanent subject.now row.now.0.1) rows.now ++ Change.DropLevel subject.now ∷ []) }
+{
+    let reply = numbers_reply(alloc, rows)?;
+    let mut changes = Vec::new(alloc);
+    for row in rows {
+        changes.push(version_change(subject, row.version(), permanent)?)?;
+    }
+    changes.push(Change::DropLevel {
+        subject: subject.try_clone()?,
+    })?;
+    Ok(Decision { changes, reply })
+}
