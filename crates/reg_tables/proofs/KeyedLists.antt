@@ -5,6 +5,7 @@ use Rattle.std.specs.FinMap.{entries, get}
 use Rattle.std.specs.Prelude.{IsUtf8, ◌<◌, ◌^◌, option_map}
 use Rattle.std.specs.Ordering.{is_eq, nat_cmp}
 use Rattle.std.proofs.lemmas.Bool.{cases_Bool, both_ways, false_from_ne_true}
+use Rattle.std.proofs.lemmas.Simd.{map-map}
 use Rattle.sqlite.specs.declared.types.Value.TheVariants.{Int, Text}
 use Rattle.sqlite.specs.Order.{Row, column}
 use Rattle.sqlite.specs.Program.{overlay}
@@ -22,7 +23,7 @@ use Rattle.reg_tables.specs.Entries.{KeyedVersion, keyed, keyed_cells, id_versio
 use Rattle.reg_tables.specs.declared.listed.ListedVersion.{ListedVersion}
 use Rattle.reg_tables.proofs.KeyedTables.{number_order, same_pos, with_nothing, answered}
 use Rattle.reg_tables.proofs.MapLemmas.{same_key, tied_key}
-use Rattle.reg_tables.proofs.Members.{has_mapped, maps_had, has_taken, takes_one, map-map}
+use Rattle.reg_tables.proofs.Members.{has_mapped, maps_had, has_taken, takes_one}
 use Rattle.reg_tables.proofs.Opening.{distinct_version_rows}
 use Rattle.reg_tables.proofs.Queries.{passes, ordered_has, has_ordered}
 use Rattle.reg_tables.proofs.Statements.{IsQuery, body_of, first_row, by_its_id, laid_out, find_of_id, find_of_id_is, find_one_of_id, find_one_of_id_is, list_versions, list_versions_is}

@@ -1,5 +1,5 @@
 -- What the statements of one table make of the map that it shows, by the key of its rows.
-use Rattle.std.proofs.Common.{T, ◌+◌, ◌≡◌, ◌≢◌, inl, ◌&&◌, ◌==◌, ℕ, ℤ, length, map, drop, List, [], ◌∷◌, ◌/◌, Option, Some, None, Bool, true, false, cond, Ok, MatchOption, slice_get, refl, sym, ap, subst, ◌∙◌}
+use Rattle.std.proofs.Common.{T, arith, ◌≤◌, ◌+◌, ◌≡◌, ◌≢◌, inl, ◌&&◌, ◌==◌, ℕ, ℤ, length, map, drop, List, [], ◌∷◌, ◌/◌, Option, Some, None, Bool, true, false, cond, Ok, MatchOption, slice_get, refl, sym, ap, subst, ◌∙◌}
 use Rattle.std.specs.List.{AllByRecursion}
 use Rattle.std.specs.Cmp.{int_cmp_is}
 use Rattle.std.specs.Prelude.{◌<ℤ◌, ◌<◌}
@@ -17,7 +17,7 @@ use Rattle.sqlite.specs.Kind.TheVariants.{Integer}
 use Rattle.sqlite.specs.Ops.{unary}
 use Rattle.sqlite.specs.Cast.{cast, cast_row}
 use Rattle.sqlite_rules.specs.Calls.{ids_of}
-use Rattle.sqlite.specs.Edit.{edit_of, is_taken, put_all, are_fresh, have_rowids, without_all, numbered, next_rowid}
+use Rattle.sqlite.specs.Edit.{edit_of, id_in, is_taken, put_all, are_fresh, have_rowids, without_all, numbered, next_rowid}
 use Rattle.sqlite.specs.Rowids.TheVariants.{Chosen, Given}
 use Rattle.sqlite.specs.Term.{Term, col, eval_all}
 use Rattle.sqlite.specs.Table.{Table}
@@ -37,14 +37,16 @@ use Rattle.sqlite_schema.specs.declared.schema.Keys.TheVariants.{Enforced}
 use Rattle.sqlite_schema.specs.declared.program.Program.{Program}
 use Rattle.sqlite_rules.specs.Action.{works}
 use Rattle.sqlite_rules.specs.Lists.{Has}
+use Rattle.sqlite_rules.proofs.ListLemmas.{all_has}
+use Rattle.sqlite_rules.proofs.TableLemmas.{int_is}
 use Rattle.reg_tables.specs.Layout.{layout}
 use Rattle.reg_tables.specs.TableMaps.{Form, IsEntry, ShowsMap}
 use Rattle.reg_tables.specs.Changes.{altered}
 use Rattle.reg_tables.specs.Rooms.{HasRoom}
-use Rattle.reg_tables.proofs.Rooms.{room_after, room_without_all}
+use Rattle.reg_tables.proofs.Rooms.{room_after, room_without_all, room_altered}
 use Rattle.reg_tables.proofs.Members.{has_mapped, maps_had}
 use Rattle.reg_tables.specs.Contents.{version_cmp, number_cells, version_key_cells, flag_cell, text_cmp, text_cells}
-use Rattle.reg_tables.proofs.Queries.{plain_query, passes, answer_has, has_answer}
+use Rattle.reg_tables.proofs.Queries.{plain_query, passes, passing, one_passing, found_count, answer_has, has_answer}
 use Rattle.reg_tables.proofs.MapLemmas.{IsKeyOrder, same_key, tied_key}
 use Rattle.reg_tables.proofs.RowLemmas.{FindsRowids, shows_inserted, shows_removed, shows_altered}
 use Rattle.reg_tables.proofs.Statements.{IsCommand, TableQuery, body_of, program_of, IsQuery, by_key, by_id, by_text, by_version}
@@ -198,6 +200,34 @@ pub record IsRowOf {K V : Type 0} (form : Form K V) (row : Row) (key : K) (value
   pub has_key : form.key_of row ≡ form.key_cells key
   pub has_value : form.value_of row ≡ form.value_cells value
 
+-- the rows that pass are found, and there is one at most
+pub record FindsOne (p : Row → Bool) (rest : Row → Row) (rows found : List Row) : Type 0 where
+  pub finds : FindsRowids p rest rows found
+  pub few : length found ≤ 1
+
+-- a query that tests the key
+module _ {K V : Type 0} (form : Form K V) (R : K → K → Ordering) (order : IsKeyOrder R) (db : Trees) (tree : ℕ) (m : FinMap R V) (shows : ShowsMap form (db tree) (get m)) (k : K) (tests : List Term) (params : Row)
+    (test : (row : Row) (q : K) → form.key_of row ≡ form.key_cells q → passes tests params row ≡ is_eq (R q k)) where
+  -- a row that passes is the key's
+  pub own_row : (row : Row) → Has (db tree) row → passes tests params row ≡ true → (v : V) × (get m k ≡ Some v) × IsEntry form row k v
+  own_row row there is =
+      let entry = shows.sound row there in
+      let same : entry.0 ≡ k = same_key R order entry.0 k (sym (test row entry.0 entry.3.0) ∙ is) in
+      (entry.1, ap (get m) (sym same) ∙ entry.2, (entry.3.0 ∙ ap form.key_cells same, entry.3.1))
+
+  pub finds_one : (shown : List Term) (found : List Row) → IsAnswer (plain_query tree tests (col 1 0 ∷ shown)) (overlay db []) params found → FindsOne (passes tests params) (λ row. eval_all shown (params ∷ row ∷ [])) (db tree) found
+  finds_one shown found answer =
+      let nothing = with_nothing db tree in
+      let one = one_passing tests params (db tree) shows.rowids.0 (λ a b x y first second. shows.once a b x y ((own_row a x first).2.0 ∙ sym (own_row b y second).2.0)) in
+      let all : length found ≡ length (passing tests params (db tree)) = found_count tests params tree (col 1 0 ∷ shown) (overlay db []) found answer ∙ ap (λ rows. length (passing tests params rows)) nothing in
+      record {
+        finds = record {
+          sound = λ x there. let r = answer_has tests params tree (col 1 0 ∷ shown) (overlay db []) found answer x there in (r.0, subst (λ l. Has l r.0) nothing r.1, r.2, r.3);
+          complete = λ row there. has_answer tests params tree (col 1 0 ∷ shown) (overlay db []) found answer row (subst (λ l. Has l row) (sym nothing) there);
+        };
+        few = omega (arith, one, all);
+      }
+
 module _ {K V : Type 0} (form : Form K V) (R : K → K → Ordering) (order : IsKeyOrder R) (distinct : (a b : K) → form.key_cells a ≡ form.key_cells b → a ≡ b) (at : ℕ) (table : Table)
     (there : slice_get layout.tables at ≡ Some table) (old new : State) (declared : old.now.schema ≡ layout) (m : FinMap R V) (shows : ShowsMap form (old.now.trees table.tree) (get m)) (k : K) (sql : List ℕ) (params : Row) (count : ℕ) where
   pub inserts : (terms : List Term) (width : ℕ) (new_row : Row) (v : V) → table.is_counted ≡ false → IsCommand layout sql (Insert at (Values terms width))
@@ -272,10 +302,7 @@ module _ {K V : Type 0} (form : Form K V) (R : K → K → Ordering) (order : Is
       let answer : IsAnswer q.body (overlay db []) params found = put.1.answer Null in
       let step = put.2 in
       let rest = λ (row : Row). eval_all shown (params ∷ row ∷ []) in
-      let finds : FindsRowids (passes tests params) rest (db table.tree) found = record {
-        sound = λ x there. let r = answer_has tests params table.tree (col 1 0 ∷ shown) (overlay db []) found answer x there in (r.0, subst (λ l. Has l r.0) (with_nothing db table.tree) r.1, r.2, r.3);
-        complete = λ row there. has_answer tests params table.tree (col 1 0 ∷ shown) (overlay db []) found answer row (subst (λ l. Has l row) (sym (with_nothing db table.tree)) there);
-      } in
+      let finds = (finds_one form R order db table.tree m shows k tests params test shown found answer).finds in
       let left = without_all (db table.tree) (ids_of found) in
       let source = λ (s : Row). cast_row table (drop 1 s) in
       let news = map source found in
@@ -293,6 +320,27 @@ module _ {K V : Type 0} (form : Form K V) (R : K → K → Ordering) (order : Is
             (ap have_rowids (sym as_given) ∙ step.applies.keyed) (ap (are_fresh left) (sym as_given) ∙ step.applies.fresh));
         others = step.applies.tables;
       }
+
+  -- the new row has the rowid of the one whose place it takes
+  pub alters_room : (tests shown : List Term) → IsCommand layout sql (Update at (record { lets = []; body = plain_query table.tree tests (col 1 0 ∷ shown) }))
+      → ((row : Row) (q : K) → form.key_of row ≡ form.key_cells q → passes tests params row ≡ is_eq (R q k))
+      → ((row : Row) (id : ℤ) → rowid row ≡ Int id → rowid (cast_row table (eval_all shown (params ∷ row ∷ []))) ≡ Int id) → Executes sql params old new (Ok count)
+      → (n : ℕ) → HasRoom (old.now.trees table.tree) n → HasRoom (new.now.trees table.tree) n
+  alters_room tests shown it test keeps h n room =
+      let db = old.now.trees in
+      let q : Program = record { lets = []; body = plain_query table.tree tests (col 1 0 ∷ shown) } in
+      let w = runs_as sql params old new layout declared (Update at q) it.is it.plain count h in
+      let put = updated layout idle at table there old new declared (statement_of sql (understood layout sql)) params count q w in
+      let found = put.0 in
+      let one = finds_one form R order db table.tree m shows k tests params test shown found (put.1.answer Null) in
+      let left = without_all (db table.tree) (ids_of found) in
+      let source = λ (s : Row). cast_row table (drop 1 s) in
+      let rows : new.now.trees table.tree ≡ put_all left (map source found) = put.2.applies.rows ∙ ap (put_all left) (given_as_is left (map source found)) in
+      subst (λ r. HasRoom r n) (sym rows) (room_altered source (db table.tree) found n one.few (λ x found_it.
+      let r = one.finds.sound x found_it in
+      let id : rowid r.0 ≡ Int (id_in (rowid r.0)) = int_is (rowid r.0) (all_has _ (db table.tree) r.0 shows.rowids.1 r.1) in
+      let same : id_in (rowid r.0) ≡ id_in (rowid x) = sym (ap (λ (y : Row). id_in (rowid y)) r.3) in
+      (r.0, r.1, id ∙ ap Int same, ap (λ (y : Row). rowid (source y)) r.3 ∙ keeps r.0 (id_in (rowid r.0)) id ∙ ap Int same)) room)
 
 -- ---- a look-up by the key
 

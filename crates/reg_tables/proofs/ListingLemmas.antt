@@ -8,6 +8,7 @@ use Rattle.std.proofs.lemmas.List.Sorted.{IsPermutation-sym, IsPermutation-map}
 use Rattle.std.proofs.lemmas.Map.Keys.{IsDistinct-IsPermutation}
 use Rattle.std.proofs.lemmas.Cmp.{tied_itself, int_cmp_total}
 use Rattle.std.proofs.lemmas.Bool.{cases_Bool, both_ways}
+use Rattle.std.proofs.lemmas.Simd.{map-map}
 use Rattle.sqlite.specs.declared.types.Value.{Value}
 use Rattle.sqlite.specs.declared.types.Value.TheVariants.{Int}
 use Rattle.sqlite.specs.Order.{Row, value_cmp}
@@ -18,7 +19,7 @@ use Rattle.sqlite_rules.specs.Lists.{Has}
 use Rattle.sqlite_rules.proofs.ListLemmas.{all_from, all_has}
 use Rattle.reg_tables.specs.TableMaps.{Form, HaveOwnRowids, HaveRowids, ShowsMap}
 use Rattle.reg_tables.specs.Listings.{Parts, parts_of, entry_parts, Lists, HasNoTwins, without_rowid}
-use Rattle.reg_tables.proofs.Members.{has_mapped, maps_had, has_permuted, map-map}
+use Rattle.reg_tables.proofs.Members.{has_mapped, maps_had, has_permuted}
 use Rattle.reg_tables.proofs.MapLemmas.{IsKeyOrder, same_key, tied_key, other_key}
 use Rattle.reg_tables.proofs.RowLemmas.{same_if_tied}
 

@@ -2,6 +2,7 @@
 use Rattle.std.proofs.Common.{◌≤◌, ◌≡◌, ◌⊎◌, inl, inr, ℤ, zero, suc, List, [], ◌∷◌, map, All, refl, sym, subst, ◌∙◌, arith}
 use Rattle.std.specs.List.Sorted.{IsPermutation}
 use Rattle.std.proofs.lemmas.List.Sorted.{IsPermutation-map}
+use Rattle.std.proofs.lemmas.Simd.{map-map}
 use Rattle.sqlite.specs.declared.error.ErrorCode.TheVariants as code
 use Rattle.sqlite.specs.declared.error.Error.{Error}
 use Rattle.sqlite.specs.declared.error.Error.TheVariants.{SqliteFailure}
@@ -18,7 +19,6 @@ use Rattle.reg_tables.specs.Reading.{HoldsReadable, CanBeRead, IsFault}
 use Rattle.reg_tables.specs.TableMaps.{Form}
 use Rattle.reg_tables.specs.Contents.{text_form, version_form, pair_form, kept_form}
 use Rattle.reg_tables.specs.Listings.{parts_of, entry_parts, Lists, IsReadableText, IsReadableVersion, IsReadablePair, IsReadableKept}
-use Rattle.reg_tables.proofs.Members.{map-map}
 use Rattle.reg_tables.proofs.Queries.{plain_query, answer_has, answer_all}
 use Rattle.reg_tables.proofs.KeyedTables.{with_nothing, answered}
 use Rattle.reg_tables.proofs.Statements.{TableQuery, body_of, IsQuery, laid_out, all_texts, all_texts_is, all_versions, all_versions_is, all_levels, all_levels_is, all_kept, all_kept_is, all_meta, all_meta_is}

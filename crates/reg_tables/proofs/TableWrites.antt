@@ -19,7 +19,7 @@ use Rattle.reg_tables.specs.Rooms.{HasRoom, HasRooms}
 use Rattle.reg_tables.proofs.Rooms.{room_for_fewer}
 use Rattle.reg_tables.proofs.RowLemmas.{same_rows}
 use Rattle.reg_tables.proofs.Statements.{text_terms, put_text, put_text_is, put_version, put_version_is, by_version, drop_version, drop_version_is, with_flag, mark_version, mark_version_is, two_terms, four_terms, by_key, put_level, put_level_is, drop_level, drop_level_is, put_kept, put_kept_is, put_meta, put_meta_is, drop_meta, drop_meta_is}
-use Rattle.reg_tables.proofs.KeyedTables.{inserts_room, removes_room, number_order, distinct_numbers, version_order, distinct_versions, by_version_test, cast-flag, cast-Null, cast-Int, text_order, distinct_texts, by_key_test, TurnsTable, inserts, removes, alters}
+use Rattle.reg_tables.proofs.KeyedTables.{inserts_room, removes_room, alters_room, number_order, distinct_numbers, version_order, distinct_versions, by_version_test, cast-flag, cast-Null, cast-Int, text_order, distinct_texts, by_key_test, TurnsTable, inserts, removes, alters}
 
 module _ (old new : Database) (contents : Contents) (h : Holds old contents) where
   pub texts_turned : (later : FinMap nat_cmp (List ℕ)) → TurnsTable text_form texts.tree old new (get later) → Holds new (record contents { texts = later })
@@ -153,17 +153,21 @@ module _ (old new : State) (count : ℕ) (contents : Contents) (h : Holds old.no
       → Executes put_version (Text key.0 ∷ Int (pos key.1) ∷ Int (pos version.id) ∷ flag_cell version.deleted ∷ []) old new (Ok count) → Holds new.now (with_version key version contents)
   puts_version key version free ran = versions_turned old.now new.now contents h (insert contents.versions key version) (puts_version_turns key version free ran)
 
+  drops_version_turns : (key : List ℕ × ℕ) → Executes drop_version (Text key.0 ∷ Int (pos key.1) ∷ []) old new (Ok count) → TurnsTable version_form versions.tree old.now new.now (get (remove contents.versions key))
+  drops_version_turns key ran =
+      removes version_form version_cmp version_order distinct_versions 1 versions refl old new h.declared contents.versions h.versions key drop_version (Text key.0 ∷ Int (pos key.1) ∷ []) count by_version drop_version_is
+      (λ row q is. by_version_test row key q is) ran
+
   pub drops_version : (key : List ℕ × ℕ) → Executes drop_version (Text key.0 ∷ Int (pos key.1) ∷ []) old new (Ok count) → Holds new.now (without_version key contents)
-  drops_version key ran =
-      versions_turned old.now new.now contents h (remove contents.versions key)
-      (removes version_form version_cmp version_order distinct_versions 1 versions refl old new h.declared contents.versions h.versions key drop_version (Text key.0 ∷ Int (pos key.1) ∷ []) count by_version drop_version_is
-      (λ row q is. by_version_test row key q is) ran)
+  drops_version key ran = versions_turned old.now new.now contents h (remove contents.versions key) (drops_version_turns key ran)
+
+  marks_version_turns : (key : List ℕ × ℕ) → Executes mark_version (Text key.0 ∷ Int (pos key.1) ∷ []) old new (Ok count) → TurnsTable version_form versions.tree old.now new.now (get (altered contents.versions key as_deleted))
+  marks_version_turns key ran =
+      alters version_form version_cmp version_order distinct_versions 1 versions refl old new h.declared contents.versions h.versions key mark_version (Text key.0 ∷ Int (pos key.1) ∷ []) count by_version with_flag as_deleted mark_version_is
+      (λ row q is. by_version_test row key q is) (λ row version is. marked_entry row key version is) ran
 
   pub marks_version : (key : List ℕ × ℕ) → Executes mark_version (Text key.0 ∷ Int (pos key.1) ∷ []) old new (Ok count) → Holds new.now (with_deleted key contents)
-  marks_version key ran =
-      versions_turned old.now new.now contents h (altered contents.versions key as_deleted)
-      (alters version_form version_cmp version_order distinct_versions 1 versions refl old new h.declared contents.versions h.versions key mark_version (Text key.0 ∷ Int (pos key.1) ∷ []) count by_version with_flag as_deleted mark_version_is
-      (λ row q is. by_version_test row key q is) (λ row version is. marked_entry row key version is) ran)
+  marks_version key ran = versions_turned old.now new.now contents h (altered contents.versions key as_deleted) (marks_version_turns key ran)
 
   puts_level_turns : (subject level : List ℕ) → get contents.levels subject ≡ None → Executes put_level (Text subject ∷ Text level ∷ []) old new (Ok count) → TurnsTable pair_form levels.tree old.now new.now (get (insert contents.levels subject level))
   puts_level_turns subject level free ran = inserts pair_form text_cmp text_order distinct_texts 2 levels refl old new h.declared contents.levels h.levels subject put_level (Text subject ∷ Text level ∷ []) count two_terms 3
@@ -209,6 +213,17 @@ module _ (old new : State) (count : ℕ) (contents : Contents) (h : Holds old.no
       (Text key.0 ∷ Int (pos key.1) ∷ Int (pos version.id) ∷ flag_cell version.deleted ∷ []) count four_terms 5
       (Int (next_rowid (old.now.trees versions.tree)) ∷ Text key.0 ∷ Int (pos key.1) ∷ Int (pos version.id) ∷ flag_cell version.deleted ∷ []) refl put_version_is
       (rw (cast-Null, cast-Int (pos key.1), cast-Int (pos version.id), cast-flag version.deleted)) refl ran n rooms.versions)
+
+  pub drops_version_rooms : (key : List ℕ × ℕ) → Executes drop_version (Text key.0 ∷ Int (pos key.1) ∷ []) old new (Ok count) → (n : ℕ) → HasRooms old.now n → HasRooms new.now n
+  drops_version_rooms key ran n rooms =
+      versions_rooms old.now new.now n n (omega arith) rooms (drops_version_turns key ran).others
+      (removes_room version_form version_cmp version_order distinct_versions 1 versions refl old new h.declared contents.versions h.versions key drop_version (Text key.0 ∷ Int (pos key.1) ∷ []) count by_version drop_version_is ran n rooms.versions)
+
+  pub marks_version_rooms : (key : List ℕ × ℕ) → Executes mark_version (Text key.0 ∷ Int (pos key.1) ∷ []) old new (Ok count) → (n : ℕ) → HasRooms old.now n → HasRooms new.now n
+  marks_version_rooms key ran n rooms =
+      versions_rooms old.now new.now n n (omega arith) rooms (marks_version_turns key ran).others
+      (alters_room version_form version_cmp version_order distinct_versions 1 versions refl old new h.declared contents.versions h.versions key mark_version (Text key.0 ∷ Int (pos key.1) ∷ []) count by_version with_flag mark_version_is
+      (λ row q is. by_version_test row key q is) (λ row id its. rw (its, cast-Int id) refl) ran n rooms.versions)
 
   pub puts_level_rooms : (subject level : List ℕ) → get contents.levels subject ≡ None → Executes put_level (Text subject ∷ Text level ∷ []) old new (Ok count) → (n : ℕ) → HasRooms old.now (n + 1) → HasRooms new.now n
   puts_level_rooms subject level free ran n rooms =

@@ -21,7 +21,7 @@ use Rattle.reg_tables.specs.Contents.{version_cmp, VersionRow, version_cells, ve
 use Rattle.reg_tables.specs.Entries.{NumberedVersion, numbered, numbered_cells, subject_versions, IsReadableNumbered}
 use Rattle.reg_tables.specs.declared.listed.SubjectVersion.{SubjectVersion}
 use Rattle.reg_tables.proofs.KeyedTables.{int_order, text_order, version_order, by_key_test, with_nothing, answered}
-use Rattle.reg_tables.proofs.Members.{has_mapped, map-map}
+use Rattle.reg_tables.proofs.Members.{has_mapped}
 use Rattle.reg_tables.proofs.MapLemmas.{same_key, tied_key}
 use Rattle.reg_tables.proofs.Opening.{distinct_version_rows}
 use Rattle.reg_tables.proofs.OrderedQueries.{entries_rise, entry_got, got_entry, in_order_as}
@@ -30,6 +30,7 @@ use Rattle.reg_tables.proofs.Statements.{TableQuery, body_of, IsQuery, by_key, i
 use Rattle.reg_tables.proofs.TableLines.{all_if_each}
 use Rattle.std.proofs.lemmas.Bool.{cases_Bool, both_ways, false_from_ne_true}
 use Rattle.std.proofs.lemmas.Slice.Eq.{bytes_eq-Decides}
+use Rattle.std.proofs.lemmas.Simd.{map-map}
 
 -- the key of a version, and what is in its row
 abbrev pub Entry : Type 0

@@ -43,6 +43,7 @@ use Rattle.reg_tables.specs.Reading.{IsFault, IsWriteFault, IsPutFault, IsInsert
 use Rattle.reg_tables.proofs.Reasons.{reason_or_large, reason_of, reason_if_shut, reason_by, fault_since}
 use Rattle.sqlite_trees.specs.declared.error.StoreError.{StoreError}
 use Rattle.reg_tables.proofs.Statements.{IsCommand}
+use Rattle.reg_tables.proofs.Writes.{uncounts}
 use Rattle.reg_tables.proofs.KeyedTables.{idle}
 
 -- the text is one statement, with so many parameters
@@ -307,6 +308,24 @@ module _ (at : ℕ) (table : Table) (there : slice_get layout.tables at ≡ Some
           go (inl stopped) = update_stopped stopped.0 (let e = stopped.2 in cc) stopped.1
           go (inr wrote) = absurd (concluded wrote.0 (updated_trees wrote.0 wrote.1) wrote.2)
 
+    -- the row that is too large is one that takes the place of a row that was found
+    abbrev LargeOf : Type 0
+    LargeOf = (found : List Row) × Queried old.step_limit (record { schema = layout; trees = db }) q params (Ok found) × ((row : Row) × Has (altered_by found).news row × IsOversized layout table row)
+
+    update_large : (stop : Option Error) → stop ≡ None → Updates task q params db (Err stop) → LargeOf
+    update_large stop is (inl asked) = absurd (query_large asked.0 (let e = asked.2 in cc) asked.1)
+    update_large stop is (inr found) = elim found.2 [
+      | inl put ↦ (found.0, found.1, edit_large db (altered_by found.0) put.0 (let e = put.2 in cc) put.1)
+      | inr done ↦ absurd (let e = done.2 in cc)
+    ]
+
+    pub update_too_large : Does old.step_limit (mode_of old) params (record old.now { schema = layout }) text None (Update at q) (Err None) → LargeOf
+    update_too_large does = go (rw there at does)
+      where
+        go : Then (Updates task q params db) (Concludes task (mode_of old) None) (Err None) → LargeOf
+        go (inl stopped) = update_large stopped.0 (let e = stopped.2 in cc) stopped.1
+        go (inr wrote) = absurd (concluded_large wrote.0 wrote.2)
+
   -- an INSERT of one row of values into a table with no AUTOINCREMENT
   module _ (terms : List Term) (width : ℕ) (uncounted : table.is_counted ≡ false) (typed : accepts_terms terms (stamped table params) ≡ true)
       (refers : (next : Trees) → Applies layout Enforced db (edit_of db table [] Chosen 0 (value_rows (stamped table params) width (length terms / width) terms)) next → Refers All layout next) where
@@ -327,10 +346,6 @@ module _ (at : ℕ) (table : Table) (there : slice_get layout.tables at ≡ Some
     source_stopped None is h = absurd h
     source_stopped (Some x) is (inl ill) = absurd (both_ways _ ill.1 typed)
     source_stopped (Some x) is (inr limit) = let same : x ≡ e = cc in subst (IsFault old new) same (inr limit)
-
-    uncounts : (b x : Bool) (P Q : Type 0) → b ≡ false → MatchBool (if b then x else false) P Q → Q
-    uncounts true x P Q is h = absurd (cc)
-    uncounts false x P Q is h = h
 
     same_edit : (rows : List Row) (counter : Option Row) → rows ≡ value_rows (stamped table params) width (length terms / width) terms → edit_by rows (rowids_for table (count_of counter)) ≡ edit
     same_edit rows counter is = ap (edit_by rows) (chosen counter) ∙ ap (λ r. edit_by r Chosen) is

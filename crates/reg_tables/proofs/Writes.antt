@@ -32,7 +32,8 @@ went (inr on) = on
 pub same_value : {B E : Type 0} {a b : B} → ◌≡◌ {A = Result B E} (Ok a) (Ok b) → a ≡ b
 same_value e = cc
 
-uncounts : (b x : Bool) (P Q : Type 0) → b ≡ false → MatchBool (if b then x else false) P Q → Q
+-- a table with no AUTOINCREMENT counts nothing
+pub uncounts : (b x : Bool) (P Q : Type 0) → b ≡ false → MatchBool (if b then x else false) P Q → Q
 uncounts true x P Q is h = absurd (cc)
 uncounts false x P Q is h = h
 

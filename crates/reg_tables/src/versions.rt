@@ -8,7 +8,7 @@ ghost use Rattle.sqlite.specs.State.{HasCleanDisk};
 ghost use Rattle.reg_tables.specs.Contents.{VersionRow, Contents, version_key_cells, version_cells, Holds};
 ghost use Rattle.reg_tables.specs.Layout.{versions};
 ghost use Rattle.reg_tables.specs.Rooms.{HasRooms, CanBeStored};
-ghost use Rattle.reg_tables.specs.Changes.{Changes, with_version, without_version, with_deleted};
+ghost use Rattle.reg_tables.specs.Changes.{Changes, with_version, without_version, as_deleted, with_deleted};
 ghost use Rattle.reg_tables.specs.Reading.{CanBeRead, IsFault, IsWriteFault, IsInsertFault};
 ghost use Rattle.reg_tables.specs.Entries.{version_row};
 
@@ -72,6 +72,9 @@ pub fn drop_version<S: Alter>(
     ensures fault { HasCleanDisk (state_in S.Store tx.new) → IfErr result (λ e.
         (contents : Contents) → Holds (state_in S.Store tx.old).now contents
         → IsWriteFault (state_in S.Store tx.old) (state_in S.Store tx.new) e) }
+    ensures room { HasCleanDisk (state_in S.Store tx.new) → OnOk result ((contents : Contents)
+        → Holds (state_in S.Store tx.old).now contents
+        → (n : ℕ) → HasRooms (state_in S.Store tx.old).now n → HasRooms (state_in S.Store tx.new).now n) }
 {
     run(
         tx,
@@ -93,6 +96,16 @@ pub fn mark_deleted<S: Alter>(
     ensures fault { HasCleanDisk (state_in S.Store tx.new) → IfErr result (λ e.
         (contents : Contents) → Holds (state_in S.Store tx.old).now contents
         → IsInsertFault (state_in S.Store tx.old) (state_in S.Store tx.new) e) }
+    ensures room { HasCleanDisk (state_in S.Store tx.new) → OnOk result ((contents : Contents)
+        → Holds (state_in S.Store tx.old).now contents
+        → (n : ℕ) → HasRooms (state_in S.Store tx.old).now n → HasRooms (state_in S.Store tx.new).now n) }
+    ensures fits { HasCleanDisk (state_in S.Store tx.new) → IfErr result (λ e. (contents : Contents)
+        → Holds (state_in S.Store tx.old).now contents
+        → (n : ℕ) → HasRooms (state_in S.Store tx.old).now n
+        → ((version : VersionRow) → get contents.versions (subject.now, number) ≡ Some version
+        → CanBeStored versions
+        (version_key_cells (subject.now, number) ++ version_cells (as_deleted version)))
+        → IsWriteFault (state_in S.Store tx.old) (state_in S.Store tx.new) e) }
 {
     run(
         tx,
