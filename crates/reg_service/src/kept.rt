@@ -1,3 +1,5 @@
+//! The reply to a key that comes again.
+
 ghost use Rattle.std.specs.Prelude.{◌≡◌, ◌≢◌, string_bytes};
 ghost use Rattle.reg_core.specs.Replies.{fault};
 ghost use Rattle.reg_core.specs.declared.code.Code.TheVariants.{KeyReused};

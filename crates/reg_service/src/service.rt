@@ -1,3 +1,5 @@
+//! A registry that carries out deliveries, each first one once.
+
 ghost use Rattle.std.specs.Prelude.{◌≡◌, ◌≢◌, ◌⊎◌, [], ◌∷◌, zip, length, vec_len, IsTrue, IfOk, OnOk, OnErr};
 ghost use Rattle.sqlite.specs.Tree.{Trees};
 ghost use Rattle.sqlite.specs.State.{HasCleanDisk};

@@ -16,6 +16,7 @@ pub mod OpenLemmas
 pub mod Keeping
 pub mod Writing
 pub mod Additions
+pub mod Deletions
 pub mod ViewLemmas
 pub mod RowLemmas
 pub mod ChosenLemmas

@@ -1,11 +1,11 @@
 -- A finite map beside a function that says the same of each key.
-use Rattle.std.proofs.Common.{◌≡◌, ◌≢◌, inl, inr, List, ℕ, Option, Some, true, false, cond, refl, sym, ap, ◌∙◌}
+use Rattle.std.proofs.Common.{◌≡◌, ◌≢◌, inl, inr, List, ℕ, Option, Some, None, true, false, cond, refl, sym, ap, ◌∙◌}
 use Rattle.std.specs.Prelude.{option_map, bytes_eq}
-use Rattle.std.specs.FinMap.{get, insert, same_map}
+use Rattle.std.specs.FinMap.{get, insert, remove, same_map}
 use Rattle.std.proofs.lemmas.Slice.Eq.{bytes_eq-Decides}
 use Rattle.std.proofs.lemmas.Bool.{false_from_ne_true}
 use Rattle.reg_tables.specs.Contents.{text_cmp, TextMap}
-use Rattle.reg_tables.proofs.MapLemmas.{get-insert-same, get-insert-other, same_or_not}
+use Rattle.reg_tables.proofs.MapLemmas.{get-insert-same, get-insert-other, get-remove-same, get-remove-other, same_or_not}
 use Rattle.reg_tables.proofs.KeyedTables.{text_order}
 
 pub same_bytes : (a : List ℕ) → bytes_eq a a ≡ true
@@ -20,6 +20,14 @@ pub insert_both : {V W : Type 0} (write : V → W) (m : TextMap W) (look : List 
 insert_both write m look k v same q = elim (same_or_not text_cmp text_order q k) [
   | inl e ↦ ap (get (insert m k (write v))) e ∙ get-insert-same text_cmp text_order m k (write v) ∙ sym (ap (λ b. option_map write (cond b (Some v) (look q))) (ap (bytes_eq k) e ∙ same_bytes k))
   | inr other ↦ get-insert-other text_cmp text_order m k (write v) q other ∙ same q ∙ sym (ap (λ b. option_map write (cond b (Some v) (look q))) (other_bytes k q other))
+]
+
+-- and with one entry less on both sides
+pub remove_both : {V W : Type 0} (write : V → W) (m : TextMap W) (look : List ℕ → Option V) (k : List ℕ) → ((q : List ℕ) → get m q ≡ option_map write (look q))
+    → (q : List ℕ) → get (remove m k) q ≡ option_map write (cond (bytes_eq k q) None (look q))
+remove_both write m look k same q = elim (same_or_not text_cmp text_order q k) [
+  | inl e ↦ ap (get (remove m k)) e ∙ get-remove-same text_cmp text_order m k ∙ sym (ap (λ b. option_map write (cond b None (look q))) (ap (bytes_eq k) e ∙ same_bytes k))
+  | inr other ↦ get-remove-other text_cmp text_order m k q other ∙ same q ∙ sym (ap (λ b. option_map write (cond b None (look q))) (other_bytes k q other))
 ]
 
 -- what is put in place of another value

@@ -8,7 +8,7 @@ use Rattle.std.specs.Ordering.{nat_cmp}
 use Rattle.std.specs.FinMap.{get}
 use Rattle.std.specs.Map.{lookup}
 use Rattle.reg_core.specs.declared.command.Command.{Command}
-use Rattle.reg_core.specs.declared.command.Command.TheVariants.{SetGlobal, SetLevel, Register, Global as GlobalLevel, LevelOf, Lookup, Subjects, Versions, Version, Text, ById, VersionsOfId, Types, Check, CheckAll}
+use Rattle.reg_core.specs.declared.command.Command.TheVariants.{SetGlobal, SetLevel, Register, DeleteVersion, DeleteSubject, Global as GlobalLevel, LevelOf, Lookup, Subjects, Versions, Version, Text, ById, VersionsOfId, Types, Check, CheckAll}
 use Rattle.reg_core.specs.declared.decision.View.{View}
 use Rattle.reg_core.specs.Registry.{Registry, IsRegistry, Row, Schemas}
 use Rattle.reg_core.specs.Rows.{id_of, text_at}
@@ -130,6 +130,8 @@ reads_same : (command : Command) (view : View) (texts : Texts) → rows_read com
 reads_same (SetGlobal level) view texts = refl
 reads_same (SetLevel subject level) view texts = refl
 reads_same (Register subject text supported) view texts = refl
+reads_same (DeleteVersion subject version permanent) view texts = refl
+reads_same (DeleteSubject subject permanent) view texts = refl
 reads_same GlobalLevel view texts = refl
 reads_same (LevelOf subject default_to_global) view texts = refl
 reads_same (Lookup subject text supported deleted) view texts = refl

@@ -1,5 +1,5 @@
 -- What a call makes of a registry and of the kept replies.
-use Rattle.std.specs.Prelude.{◌≡◌, ◌≢◌, ◌⊎◌, ◌+◌, length, codes, ◌∷◌, ◌++◌, List, [], Option, None, Some, IsSome, IsTrue, false, ⊤}
+use Rattle.std.specs.Prelude.{◌≡◌, ◌≢◌, ◌⊎◌, ◌+◌, length, codes, ℕ, true, ◌∷◌, ◌++◌, List, [], Option, None, Some, IsSome, IsTrue, false, ⊤}
 use Rattle.sqlite.specs.State.{State}
 use Rattle.sqlite.specs.declared.error.Error.{Error}
 use Rattle.reg_core.specs.declared.decision.Change.{Change}
@@ -8,7 +8,7 @@ use Rattle.reg_core.specs.Registry.{Registry}
 use Rattle.reg_core.specs.Views.{ChangeFits, ChangesFit, after_change, after_changes}
 use Rattle.std.specs.List.{AllByRecursion}
 use Rattle.sqlite.specs.declared.types.Value.TheVariants.{Text}
-use Rattle.reg_core.specs.declared.decision.Change.TheVariants.{SetGlobal, SetLevel, AddText, AddRow}
+use Rattle.reg_core.specs.declared.decision.Change.TheVariants.{SetGlobal, SetLevel, AddText, AddRow, MarkDeleted, Remove, DropLevel}
 use Rattle.reg_core.specs.Levels.{level_text}
 use Rattle.reg_tables.specs.Layout.{texts, versions, levels, kept, meta}
 use Rattle.reg_tables.specs.Contents.{text_row_cells, kept_cells, version_key_cells, version_cells}
@@ -70,6 +70,9 @@ CanStoreChange (SetGlobal level) = CanBeStored meta (Text (codes "global") ∷ T
 CanStoreChange (SetLevel subject level) = CanBeStored levels (Text subject ∷ Text (level_text level) ∷ [])
 CanStoreChange (AddText id text) = CanBeStored texts (text_row_cells text)
 CanStoreChange (AddRow row) = CanBeStored versions (version_key_cells row.0 ++ version_cells (version_row row.1))
+CanStoreChange (MarkDeleted subject version) = (id : ℕ) → CanBeStored versions (version_key_cells (subject, version) ++ version_cells (record { id = id; deleted = true }))
+CanStoreChange (Remove subject version) = ⊤
+CanStoreChange (DropLevel subject) = ⊤
 
 abbrev pub CanStoreReply : Option Keep → Type 0
 CanStoreReply None = ⊤

@@ -14,7 +14,10 @@ ghost use Rattle.reg_core.specs.Registry.{Registry};
 
 use crate::keep::Keep;
 use reg_core::Change;
-use reg_tables::{keep_reply as keep_row, put_text, put_version, set_global, set_level};
+use reg_tables::{
+    drop_level, drop_version, keep_reply as keep_row, mark_deleted, put_text, put_version,
+    set_global, set_level,
+};
 use sqlite::{Alter, Error, Transaction};
 
 /// Makes one change.
@@ -42,6 +45,9 @@ fn make<S: Alter>(tx: &mut Transaction<'_, S>, change: &Change) -> Result<(), Er
             row.id(),
             row.deleted(),
         ),
+        Change::MarkDeleted { subject, version } => mark_deleted(tx, subject.as_str(), *version),
+        Change::Remove { subject, version } => drop_version(tx, subject.as_str(), *version),
+        Change::DropLevel { subject } => drop_level(tx, subject.as_str()),
     }
 }
 

@@ -42,6 +42,8 @@ pub(crate) fn rows_for<S: Alter>(
 {
     match command {
         Command::Register { subject, .. }
+        | Command::DeleteVersion { subject, .. }
+        | Command::DeleteSubject { subject, .. }
         | Command::Lookup { subject, .. }
         | Command::Versions { subject, .. }
         | Command::CheckAll { subject, .. } => subject_rows(alloc, conn, subject),

@@ -1,9 +1,10 @@
-use Rattle.std.proofs.Common.{inl, inr}
+use Rattle.std.proofs.Common.{inl, inr, ◌+◌}
 use Rattle.sqlite.specs.Held.{state}
 use Rattle.reg_tables.proofs.Transactions.{on_ok}
 use Rattle.reg_store.proofs.Spelling.{respells_global, respells_level}
 use Rattle.reg_core.specs.declared.decision.Change.TheVariants.{AddText, AddRow}
 use Rattle.reg_store.proofs.Additions.{makes_text, makes_row, id_is_free, text_is_new, number_is_free, id_has_text}
+use Rattle.reg_store.proofs.Deletions.{makes_deleted, makes_removed, makes_dropped}
 use Rattle.reg_tables.proofs.Rooms.{fewer_rooms}
 use Rattle.reg_store.proofs.Writing.{if_err_both, fault_of_change}
 use Rattle.reg_store.proofs.changes.make.Goals as goal
@@ -108,3 +109,64 @@ returns-in-AddRow-clause-fits g c clean =
       | inr fault ↦ fault
     ])
     (rw (c.as_str-in-AddRow.ensures.text, c.subject.ensures, c.version.ensures, c.id.ensures, c.deleted.ensures) at (c.put_version.ensures.fits clean)) (c.put_version.ensures.frame.shut clean))
+
+pub returns-in-MarkDeleted-clause-made : goal.returns-in-MarkDeleted-clause-made
+returns-in-MarkDeleted-clause-made g c clean =
+    rw c.in-MarkDeleted.is
+    (on_ok c.mark_deleted.result (makes_deleted (state g.S.Store c.args.tx.now.conn.now) (state g.S.Store c.mark_deleted.new.tx.conn.now) c.in-MarkDeleted.subject c.in-MarkDeleted.version) (rw c.as_str-in-MarkDeleted.ensures.text at (c.mark_deleted.ensures.marked clean)))
+
+pub returns-in-MarkDeleted-clause-fault : goal.returns-in-MarkDeleted-clause-fault
+returns-in-MarkDeleted-clause-fault g c clean =
+    if_err_both c.mark_deleted.result (λ e fails shut. fault_of_change (state g.S.Store c.args.tx.now.conn.now) (state g.S.Store c.mark_deleted.new.tx.conn.now) e shut c.args.change.now (λ registry k spells fit. fails spells.contents spells.holds))
+    (c.mark_deleted.ensures.fault clean) (c.mark_deleted.ensures.frame.shut clean)
+
+pub returns-in-MarkDeleted-clause-room : goal.returns-in-MarkDeleted-clause-room
+returns-in-MarkDeleted-clause-room g c clean =
+    on_ok c.mark_deleted.result (λ room registry k it fit n rooms. room it.contents it.holds n (fewer_rooms (state g.S.Store c.args.tx.now.conn.now).now n rooms)) (c.mark_deleted.ensures.room clean)
+
+pub returns-in-MarkDeleted-clause-fits : goal.returns-in-MarkDeleted-clause-fits
+returns-in-MarkDeleted-clause-fits g c clean =
+    rw c.in-MarkDeleted.is
+    (if_err_both c.mark_deleted.result (λ e fits shut registry k spells fit n rooms stored. elim shut [
+      | inl is_open ↦ let it = spells is_open in fits it.contents it.holds (n + 1) (rooms is_open) (λ version known. stored version.id)
+      | inr fault ↦ fault
+    ])
+    (rw c.as_str-in-MarkDeleted.ensures.text at (c.mark_deleted.ensures.fits clean)) (c.mark_deleted.ensures.frame.shut clean))
+
+pub returns-in-Remove-clause-made : goal.returns-in-Remove-clause-made
+returns-in-Remove-clause-made g c clean =
+    rw c.in-Remove.is
+    (on_ok c.drop_version.result (makes_removed (state g.S.Store c.args.tx.now.conn.now) (state g.S.Store c.drop_version.new.tx.conn.now) c.in-Remove.subject c.in-Remove.version) (rw c.as_str-in-Remove.ensures.text at (c.drop_version.ensures.dropped clean)))
+
+pub returns-in-Remove-clause-fault : goal.returns-in-Remove-clause-fault
+returns-in-Remove-clause-fault g c clean =
+    if_err_both c.drop_version.result (λ e fails shut. fault_of_change (state g.S.Store c.args.tx.now.conn.now) (state g.S.Store c.drop_version.new.tx.conn.now) e shut c.args.change.now (λ registry k spells fit. inl (inl (fails spells.contents spells.holds))))
+    (c.drop_version.ensures.fault clean) (c.drop_version.ensures.frame.shut clean)
+
+pub returns-in-Remove-clause-room : goal.returns-in-Remove-clause-room
+returns-in-Remove-clause-room g c clean =
+    on_ok c.drop_version.result (λ room registry k it fit n rooms. room it.contents it.holds n (fewer_rooms (state g.S.Store c.args.tx.now.conn.now).now n rooms)) (c.drop_version.ensures.room clean)
+
+pub returns-in-Remove-clause-fits : goal.returns-in-Remove-clause-fits
+returns-in-Remove-clause-fits g c clean =
+    if_err_both c.drop_version.result (λ e fails shut registry k spells fit n rooms stored. elim shut [ inl is_open ↦ let it = spells is_open in fails it.contents it.holds | inr fault ↦ fault ])
+    (c.drop_version.ensures.fault clean) (c.drop_version.ensures.frame.shut clean)
+
+pub returns-in-DropLevel-clause-made : goal.returns-in-DropLevel-clause-made
+returns-in-DropLevel-clause-made g c clean =
+    rw c.in-DropLevel.is
+    (on_ok c.drop_level.result (makes_dropped (state g.S.Store c.args.tx.now.conn.now) (state g.S.Store c.drop_level.new.tx.conn.now) c.in-DropLevel.subject) (rw c.as_str-in-DropLevel.ensures.text at (c.drop_level.ensures.dropped clean)))
+
+pub returns-in-DropLevel-clause-fault : goal.returns-in-DropLevel-clause-fault
+returns-in-DropLevel-clause-fault g c clean =
+    if_err_both c.drop_level.result (λ e fails shut. fault_of_change (state g.S.Store c.args.tx.now.conn.now) (state g.S.Store c.drop_level.new.tx.conn.now) e shut c.args.change.now (λ registry k spells fit. inl (inl (fails spells.contents spells.holds))))
+    (c.drop_level.ensures.fault clean) (c.drop_level.ensures.frame.shut clean)
+
+pub returns-in-DropLevel-clause-room : goal.returns-in-DropLevel-clause-room
+returns-in-DropLevel-clause-room g c clean =
+    on_ok c.drop_level.result (λ room registry k it fit n rooms. room it.contents it.holds n (fewer_rooms (state g.S.Store c.args.tx.now.conn.now).now n rooms)) (c.drop_level.ensures.room clean)
+
+pub returns-in-DropLevel-clause-fits : goal.returns-in-DropLevel-clause-fits
+returns-in-DropLevel-clause-fits g c clean =
+    if_err_both c.drop_level.result (λ e fails shut registry k spells fit n rooms stored. elim shut [ inl is_open ↦ let it = spells is_open in fails it.contents it.holds | inr fault ↦ fault ])
+    (c.drop_level.ensures.fault clean) (c.drop_level.ensures.frame.shut clean)

@@ -1,0 +1,106 @@
+-- What a version that is soft-deleted or removed, and a level that is dropped, make of what the tables spell.
+use Rattle.std.proofs.Common.{◌≡◌, ◌∙◌, ℕ, inl, inr, List, Bool, true, false, cond, Option, Some, None, refl, sym, ap}
+use Rattle.std.specs.Prelude.{bytes_eq, option_map}
+use Rattle.std.specs.FinMap.{FinMap, get, remove}
+use Rattle.std.proofs.lemmas.Option.{none-some}
+use Rattle.sqlite.specs.State.{State}
+use Rattle.reg_core.specs.declared.decision.Change.TheVariants.{MarkDeleted, Remove, DropLevel}
+use Rattle.reg_core.specs.declared.level.Level.{Level}
+use Rattle.reg_core.specs.DeletionCommands.{as_deleted}
+use Rattle.reg_core.specs.KeptReplies.{Kept}
+use Rattle.reg_core.specs.Levels.{level_text}
+use Rattle.reg_core.specs.Registry.{Rows, RowKey, Version, Registry, own_without, row_cmp}
+use Rattle.reg_core.specs.Views.{altered, after_change}
+use Rattle.reg_core.proofs.DeletionLemmas.{altered_was, removed_was}
+use Rattle.reg_core.proofs.RegistryLemmas.{fewer-IsRegistry, levels-IsRegistry}
+use Rattle.reg_tables.specs.Contents.{version_cmp, VersionRow, Contents}
+use Rattle.reg_tables.specs.Changes.{Changes, without_level, without_version, with_deleted}
+use Rattle.reg_tables.specs.Changes as tables
+use Rattle.reg_tables.proofs.MapLemmas.{get-altered-same, get-altered-other, get-remove-same, get-remove-other, same_or_not}
+use Rattle.reg_tables.proofs.KeyedTables.{version_order}
+use Rattle.reg_store.specs.Changes.{Makes}
+use Rattle.reg_store.specs.Spells.{IsSpelled, version_row}
+use Rattle.reg_store.proofs.Maps.{remove_both}
+
+-- a row is marked as its version is
+marked_row : (found : Option Version) → option_map tables.as_deleted (option_map version_row found) ≡ option_map version_row (option_map as_deleted found)
+marked_row None = refl
+marked_row (Some version) = refl
+
+module _ (m : FinMap version_cmp VersionRow) (rows : Rows) (same : (key : RowKey) → get m key ≡ option_map version_row (get rows key)) (key : RowKey) where
+  -- the rows of versions are those of the registry, with one soft-deleted on both sides
+  deleted_both : (q : RowKey) → get (tables.altered m key tables.as_deleted) q ≡ option_map version_row (get (altered rows key as_deleted) q)
+  deleted_both q = elim (same_or_not row_cmp version_order q key) [
+    | inl e ↦ ap (get (tables.altered m key tables.as_deleted)) e ∙ get-altered-same version_cmp version_order m key tables.as_deleted ∙ ap (option_map tables.as_deleted) (same key) ∙ marked_row (get rows key) ∙ sym (ap (option_map version_row) (ap (get (altered rows key as_deleted)) e ∙ get-altered-same row_cmp version_order rows key as_deleted))
+    | inr other ↦ get-altered-other version_cmp version_order m key tables.as_deleted q other ∙ same q ∙ sym (ap (option_map version_row) (get-altered-other row_cmp version_order rows key as_deleted q other))
+  ]
+
+  -- and with one less
+  removed_both : (q : RowKey) → get (remove m key) q ≡ option_map version_row (get (remove rows key) q)
+  removed_both q = elim (same_or_not row_cmp version_order q key) [
+    | inl e ↦ ap (get (remove m key)) e ∙ get-remove-same version_cmp version_order m key ∙ sym (ap (option_map version_row) (ap (get (remove rows key)) e ∙ get-remove-same row_cmp version_order rows key))
+    | inr other ↦ get-remove-other version_cmp version_order m key q other ∙ same q ∙ sym (ap (option_map version_row) (get-remove-other row_cmp version_order rows key q other))
+  ]
+
+-- a level that is left is one that was there
+left_level : (b : Bool) (found : Option Level) (level : Level) → cond b None found ≡ Some level → found ≡ Some level
+left_level true found level e = absurd (none-some level e)
+left_level false found level e = e
+
+module _ (contents : Contents) (g : Registry) (k : Kept) (s : IsSpelled contents g k) where
+  spelled_deleted : (subject : List ℕ) (number : ℕ) → IsSpelled (with_deleted (subject, number) contents) (after_change (MarkDeleted subject number) g) k
+  spelled_deleted subject number = record {
+    registry = fewer-IsRegistry g (altered g.rows (subject, number) as_deleted) g.own s.registry (altered_was g.rows (subject, number));
+    texts = s.texts;
+    utf8 = s.utf8;
+    versions = deleted_both contents.versions g.rows s.versions (subject, number);
+    registered = λ key version there. let was = altered_was g.rows (subject, number) key version there in s.registered key was.old was.there;
+    meta = s.meta;
+    levels = s.levels;
+    subjects = s.subjects;
+    kept = s.kept;
+    keys = s.keys;
+  }
+
+  spelled_removed : (subject : List ℕ) (number : ℕ) → IsSpelled (without_version (subject, number) contents) (after_change (Remove subject number) g) k
+  spelled_removed subject number = record {
+    registry = fewer-IsRegistry g (remove g.rows (subject, number)) g.own s.registry (removed_was g.rows (subject, number));
+    texts = s.texts;
+    utf8 = s.utf8;
+    versions = removed_both contents.versions g.rows s.versions (subject, number);
+    registered = λ key version there. let was = removed_was g.rows (subject, number) key version there in s.registered key was.old was.there;
+    meta = s.meta;
+    levels = s.levels;
+    subjects = s.subjects;
+    kept = s.kept;
+    keys = s.keys;
+  }
+
+  spelled_dropped : (subject : List ℕ) → IsSpelled (without_level subject contents) (after_change (DropLevel subject) g) k
+  spelled_dropped subject = record {
+    registry = levels-IsRegistry g g.global (own_without g.own subject) s.registry;
+    texts = s.texts;
+    utf8 = s.utf8;
+    versions = s.versions;
+    registered = s.registered;
+    meta = s.meta;
+    levels = remove_both level_text contents.levels g.own subject s.levels;
+    subjects = λ other level there. s.subjects other level (left_level (bytes_eq subject other) (g.own other) level there);
+    kept = s.kept;
+    keys = s.keys;
+  }
+
+-- ---- the tables
+
+module _ (old new : State) where
+  pub makes_deleted : (subject : List ℕ) (number : ℕ) → Changes old new (with_deleted (subject, number)) → Makes old new (MarkDeleted subject number)
+  makes_deleted subject number changes g k s fits =
+      record { contents = with_deleted (subject, number) s.contents; holds = changes s.contents s.holds; spelled = spelled_deleted s.contents g k s.spelled subject number }
+
+  pub makes_removed : (subject : List ℕ) (number : ℕ) → Changes old new (without_version (subject, number)) → Makes old new (Remove subject number)
+  makes_removed subject number changes g k s fits =
+      record { contents = without_version (subject, number) s.contents; holds = changes s.contents s.holds; spelled = spelled_removed s.contents g k s.spelled subject number }
+
+  pub makes_dropped : (subject : List ℕ) → Changes old new (without_level subject) → Makes old new (DropLevel subject)
+  makes_dropped subject changes g k s fits =
+      record { contents = without_level subject s.contents; holds = changes s.contents s.holds; spelled = spelled_dropped s.contents g k s.spelled subject }
