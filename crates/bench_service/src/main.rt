@@ -9,7 +9,7 @@ mod versions;
 
 use anyhow::{Result, bail, ensure};
 use deliveries::Kind;
-use measure::{fill_versions, measure, measure_all, measure_all_versions};
+use measure::{fill_versions, measure, measure_all, measure_all_versions, measure_deletions};
 use reg_service::Service;
 use reg_store::Store;
 use sqlite::{Alter, Connection, FileFrom, FileStore, Wary};
@@ -30,6 +30,8 @@ const USAGE: &str = "Usage: bench_service memory N D
        bench_service versions memory V S B D
        bench_service versions fill F V S B
        bench_service versions file F V S B D
+       bench_service versions delete V S B
+       bench_service versions delete F V S B
 
   memory  makes a registry in memory, of N kept keys and N subjects with a level of
           their own, and measures D deliveries of each kind
@@ -39,7 +41,8 @@ const USAGE: &str = "Usage: bench_service memory N D
   open    measures how long the registry in F takes to open
 
 Behind versions, memory, fill and file are about a registry of V versions in S subjects,
-with schemas of about B bytes, each of which one version has.
+with schemas of about B bytes, each of which one version has; delete makes one, in memory
+or in a file, and measures how long it takes to delete each subject, softly and for good.
 ";
 
 /// Opens the database in a file, and prints how long that took.
@@ -127,6 +130,18 @@ fn bench_versions(rt: &HostRuntime, words: &[String]) -> Result<()> {
         [word, file, v, s, b, count] if word.as_str() == "file" => {
             let mut service = opened(rt, connected(rt, file.as_str())?)?;
             measure_all_versions(rt, &mut service, size_of(v, s, b)?, count.parse()?)
+        }
+        [word, v, s, b] if word.as_str() == "delete" => {
+            let size = size_of(v, s, b)?;
+            let mut service = created(rt.alloc(), Connection::open_in_memory(rt.alloc())?)?;
+            fill_versions(rt, &mut service, size)?;
+            measure_deletions(rt, &mut service, size)
+        }
+        [word, file, v, s, b] if word.as_str() == "delete" => {
+            let size = size_of(v, s, b)?;
+            let mut service = created(rt.alloc(), connected(rt, file.as_str())?)?;
+            fill_versions(rt, &mut service, size)?;
+            measure_deletions(rt, &mut service, size)
         }
         _ => {
             eprint!(rt; "{USAGE}")?;

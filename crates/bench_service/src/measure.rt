@@ -1,7 +1,7 @@
 //! The times of deliveries.
 
 use crate::deliveries::{Kind, deliveries_of, keys_of};
-use crate::versions::{Size, VERSION_KINDS, VersionKind, version_deliveries};
+use crate::versions::{DELETION_KINDS, Size, VERSION_KINDS, VersionKind, version_deliveries};
 use anyhow::{Result, ensure};
 use reg_service::{Delivery, Service};
 use sqlite::Alter;
@@ -111,6 +111,18 @@ pub fn measure_all_versions<S: Alter>(
 ) -> Result<()> {
     for kind in VERSION_KINDS {
         measure_versions(rt, service, kind, size, count)?;
+    }
+    Ok(())
+}
+
+/// Measures the deletion of each subject, softly and then for good.
+pub fn measure_deletions<S: Alter>(
+    rt: &(impl Clock + Print + AllocGlobal),
+    service: &mut Service<S>,
+    size: Size,
+) -> Result<()> {
+    for kind in DELETION_KINDS {
+        measure_versions(rt, service, kind, size, size.subjects)?;
     }
     Ok(())
 }

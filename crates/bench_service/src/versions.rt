@@ -22,6 +22,10 @@ pub enum VersionKind {
     Latest,
     /// asks whether a subject's level would admit a schema
     Check,
+    /// deletes a subject softly
+    Delete,
+    /// deletes a subject for good
+    Remove,
 }
 
 /// The kinds that are measured over a registry. The one that makes it larger is the last.
@@ -35,6 +39,9 @@ pub const VERSION_KINDS: [VersionKind; 7] = [
     VersionKind::Register,
 ];
 
+/// The kinds that take each subject away, in their order.
+pub const DELETION_KINDS: [VersionKind; 2] = [VersionKind::Delete, VersionKind::Remove];
+
 impl VersionKind {
     /// What it is called in a line of the output.
     pub fn name(self) -> &'static str {
@@ -46,6 +53,8 @@ impl VersionKind {
             VersionKind::Versions => "versions",
             VersionKind::Latest => "latest",
             VersionKind::Check => "check",
+            VersionKind::Delete => "delete",
+            VersionKind::Remove => "delete for good",
         }
     }
 }
@@ -84,6 +93,7 @@ fn schema_of(alloc: Global, number: usize, bytes: usize) -> Result<String> {
 fn number_of(kind: VersionKind, size: Size, at: usize) -> usize {
     match kind {
         VersionKind::Register => size.versions.saturating_add(at),
+        VersionKind::Delete | VersionKind::Remove => at,
         _ => at
             .wrapping_mul(7919)
             .checked_rem(size.versions)
@@ -125,6 +135,14 @@ fn command_of(alloc: Global, kind: VersionKind, size: Size, number: usize) -> Re
             subject,
             text: Text::from(schema_of(alloc, number, size.bytes)?),
             supported,
+        },
+        VersionKind::Delete => Command::DeleteSubject {
+            subject,
+            permanent: false,
+        },
+        VersionKind::Remove => Command::DeleteSubject {
+            subject,
+            permanent: true,
         },
     })
 }
