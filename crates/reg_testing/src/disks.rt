@@ -1,0 +1,49 @@
+//! Connections over disks in memory.
+use sqlite::{Connection, FileStore, Files, Options};
+use sqlite_disk::{Disk, Memory};
+use std::alloc::Global;
+use std::test::Fail;
+
+/// The files of an empty disk.
+pub fn empty_disk(alloc: Global) -> Files<Memory> {
+    Files {
+        log: Memory::new(alloc),
+        db: Memory::new(alloc),
+    }
+}
+
+/// A connection over the files, or the files again where they can't be opened.
+pub fn connect<D: Disk + Drop>(
+    alloc: Global,
+    files: Files<D>,
+) -> Result<Connection<FileStore<D>>, Files<D>> {
+    if !files.may_be_used() {
+        return Err(files);
+    }
+    match Connection::open_files(alloc, files, Options::new(7)) {
+        Ok(connection) => Ok(connection),
+        Err((_, left)) => Err(left.into_files()),
+    }
+}
+
+/// A connection over files that can be opened.
+pub fn over<D: Disk + Drop>(
+    alloc: Global,
+    files: Files<D>,
+) -> Result<Connection<FileStore<D>>, Fail> {
+    match connect(alloc, files) {
+        Ok(connection) => Ok(connection),
+        Err(_) => Err("the files can't be opened".into()),
+    }
+}
+
+/// The files of a connection, whose log is copied into the database.
+pub fn close<D: Disk + Drop>(connection: Connection<FileStore<D>>) -> Result<Files<D>, Fail> {
+    match connection.close_files() {
+        Ok(files) => Ok(files),
+        Err((error, store)) => {
+            drop(store.close());
+            Err(error.into())
+        }
+    }
+}

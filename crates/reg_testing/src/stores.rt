@@ -1,0 +1,51 @@
+//! Stores and services over new registries, and stores over those that a database has.
+use crate::disks::{close, empty_disk, over};
+use reg_service::Service;
+use reg_store::Store;
+use sqlite::{Alter, Connection, Files, MemStore};
+use sqlite_disk::Memory;
+use std::alloc::Global;
+use std::test::Fail;
+
+/// A store over a new registry in an empty database.
+pub fn created<S: Alter + Drop>(
+    alloc: Global,
+    connection: Connection<S>,
+) -> Result<Store<S>, Fail> {
+    if !connection.is_autocommit() {
+        return Err("a transaction is open".into());
+    }
+    match Store::create(alloc, connection) {
+        Ok(store) => Ok(store),
+        Err((error, _)) => Err(error.into()),
+    }
+}
+
+/// A store over the registry that a database has.
+pub fn opened<S: Alter + Drop>(alloc: Global, connection: Connection<S>) -> Result<Store<S>, Fail> {
+    if !connection.is_autocommit() {
+        return Err("a transaction is open".into());
+    }
+    match Store::open(alloc, connection) {
+        Ok(store) => Ok(store),
+        Err((error, _)) => Err(error.into()),
+    }
+}
+
+/// The files of a new registry.
+pub fn registry(alloc: Global) -> Result<Files<Memory>, Fail> {
+    let store = created(alloc, over(alloc, empty_disk(alloc))?)?;
+    close(store.into_connection())
+}
+
+/// A service over a new registry in memory. At most one request for memory is refused.
+pub fn new_service(alloc: Global) -> Result<Service<MemStore>, Fail> {
+    for _ in 0..2 {
+        if let Ok(connection) = Connection::open_in_memory(alloc)
+            && let Ok(store) = Store::create(alloc, connection)
+        {
+            return Ok(Service::new(alloc, store));
+        }
+    }
+    Err("no tables were made".into())
+}
