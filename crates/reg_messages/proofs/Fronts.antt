@@ -1,5 +1,5 @@
 -- The front of the bytes, where the head is looked for.
-use Rattle.std.proofs.Common.{◌≡◌, ℕ, suc, ◌+◌, ◌-◌, ◌<◌, ◌≤◌, List, [], ◌∷◌, ◌++◌, length, take, drop, map, refl, sym, ap, ◌∙◌, subst, arith, append_assoc, append-nil, length-append, length-drop, lit≤, flat_map, Result, Ok, All}
+use Rattle.std.proofs.Common.{◌≡◌, ℕ, suc, ◌+◌, ◌-◌, ◌<◌, ◌≤◌, List, [], ◌∷◌, ◌++◌, length, take, drop, map, refl, sym, ap, ◌∙◌, subst, arith, append_assoc, append-nil, length-append, length-drop, lit≤, flat_map, Result, Ok, All, inl, inr}
 use Rattle.std.proofs.lemmas.List.{take-append-drop, take-take, drop-take, drop-append-le, drop-drop, length-take-le}
 use Rattle.httparse.specs.declared.spans.Span.{Span}
 use Rattle.httparse.specs.declared.spans.HeaderSpan.{HeaderSpan}
@@ -10,8 +10,8 @@ use Rattle.httparse.specs.Spans.{RequestExceeds, IsRequestAt, IsRequestWithin, I
 use Rattle.httparse.proofs.GrammarLemmas.{print_request-append}
 use Rattle.reg_core.specs.declared.code.Code.{Code}
 use Rattle.reg_messages.specs.Framing.{framing}
-use Rattle.reg_messages.specs.Messages.{Message, HasHead, HasNoHead, fields_of}
-use Rattle.reg_messages.specs.MessageLooks.{IsWhole}
+use Rattle.reg_messages.specs.Messages.{Message, IsMessage, HasHead, HasNoHead, IsPartOfHead, Follows, Part, fields_of}
+use Rattle.reg_messages.specs.MessageLooks.{IsWhole, IsPartUpTo}
 
 -- where two splits are of one list, the shorter front is a front of the longer
 front_of : (a b c d : List ℕ) → a ++ b ≡ c ++ d → length a ≤ length c → (e : List ℕ) × (c ≡ a ++ e)
@@ -142,8 +142,53 @@ IsWhole-found bytes n k headers r head le small x within f fits =
         };
         method = ap (λ w. span_bytes w r.method) front ∙ (span_bytes-take r.len (take n bytes) r.method within.method ∙ x.method);
         target = ap (λ w. span_bytes w r.path) front ∙ (span_bytes-take r.len (take n bytes) r.path within.path ∙ x.path);
+        minor = x.version;
         fields = ap (λ w. map (header_bytes w) (take r.headers headers)) front
             ∙ (header_bytes-take r.len (take n bytes) (take r.headers headers) within.section.headers_fit ∙ x.fields);
         body = refl;
       },
     )
+
+-- more bytes behind a head
+HasHead-more : (bytes rest more : List ℕ) (head : RequestHead) → HasHead bytes head rest → HasHead (bytes ++ more) head (rest ++ more)
+HasHead-more bytes rest more head x = record {
+  reads = (x.reads.0, ap (λ w. w ++ more) x.reads.1 ∙ append_assoc (print_request head) rest more);
+  size = x.size;
+}
+
+pub IsMessage-more : (bytes rest more : List ℕ) (message : Message) → IsMessage bytes message rest → IsMessage (bytes ++ more) message (rest ++ more)
+IsMessage-more bytes rest more message x = record {
+  head = subst (HasHead (bytes ++ more) message.head) (append_assoc message.body rest more) (HasHead-more bytes (message.body ++ rest) more message.head x.head);
+  body = x.body;
+}
+
+-- a part of a head may be whole with the next byte
+pub IsPartUpTo-head : (bytes : List ℕ) → IsPartOfHead bytes → IsPartUpTo bytes (length bytes + 1)
+IsPartUpTo-head bytes h = record {
+  short = omega arith;
+  fits = omega (arith, h.size);
+  part = λ more few.
+      let none : more ≡ [] = no_bytes more (omega (arith, few, length-append bytes more)) in
+      subst (λ (w : List ℕ). Follows w Part) (sym (ap (λ w. bytes ++ w) none ∙ append-nil bytes)) (inl h);
+}
+  where
+    no_bytes : (more : List ℕ) → length more < 1 → more ≡ []
+    no_bytes [] few = refl
+    no_bytes (x ∷ more) few = absurd (omega arith)
+
+-- a whole head waits for its body
+pub IsPartUpTo-body : (bytes : List ℕ) (head : RequestHead) (len size : ℕ) → size ≤ 1048576 → HasHead bytes head (drop len bytes) → framing (fields_of head) ≡ Ok size
+    → len ≤ length bytes → len ≡ length (print_request head) → length bytes < len + size → IsPartUpTo bytes (len + size)
+IsPartUpTo-body bytes head len size most x f inside is short = record {
+  short = short;
+  fits = omega (arith, is, x.size, most);
+  part = λ more few.
+      inr (record {
+        head = head;
+        rest = drop len bytes ++ more;
+        size = size;
+        has_head = HasHead-more bytes (drop len bytes) more head x;
+        framed = f;
+        short = omega (arith, few, inside, length-append bytes more, length-append (drop len bytes) more, length-drop len bytes);
+      });
+}

@@ -4,8 +4,6 @@ use Rattle.std.specs.Fmt.{decimal}
 use Rattle.http.specs.StatusCode.{reason_phrase}
 use Rattle.reg_core.specs.declared.code.Code.{Code}
 use Rattle.reg_core.specs.Replies.{Told, fault}
-use Rattle.reg_messages.specs.Messages.{Message}
-use Rattle.reg_messages.specs.Requests.{allow_of}
 
 -- CR LF
 abbrev pub line_end : List ℕ
@@ -41,10 +39,6 @@ close_line false = []
 unfoldable pub answer_bytes : Told → Option (List ℕ) → Bool → List ℕ
 answer_bytes reply allow close =
     status_line reply.status ++ type_line ++ allow_line allow ++ length_line (length reply.body) ++ close_line close ++ line_end ++ reply.body
-
--- the answer to a whole message
-abbrev pub answer_to : Message → Told → List ℕ
-answer_to message reply = answer_bytes reply (allow_of message.head.target reply.status) false
 
 -- the answer to a fault after the whole messages, which ends the connection
 abbrev pub fault_answer : Code → List ℕ

@@ -1,10 +1,18 @@
--- What a borrowed request asks for.
-use Rattle.std.specs.Prelude.{map, Result}
+-- A message, borrowed from the bytes that were read.
+use Rattle.std.specs.Prelude.{◌≡◌, List, map}
 use Rattle.httparse.specs.Spans.{header_bytes}
-use Rattle.reg_core.specs.declared.code.Code.{Code}
-use Rattle.reg_core.specs.declared.delivery.Delivery.{Delivery}
 use Rattle.reg_messages.specs.declared.request.Request.{Request}
-use Rattle.reg_messages.specs.Requests.{asked}
+use Rattle.reg_messages.specs.Fields.{Pair}
+use Rattle.reg_messages.specs.Messages.{Message, fields_of}
 
-abbrev pub asked_by : Request → Result Delivery Code
-asked_by r = asked r.method.now r.target.now (map (header_bytes r.head.now) r.fields.now) r.body.now
+-- the names and values of its fields
+abbrev pub fields_in : Request → List Pair
+fields_in r = map (header_bytes r.head.now) r.fields.now
+
+-- its parts are those of the message
+pub record Borrows (r : Request) (message : Message) : Type 0 where
+  pub method : r.method.now ≡ message.head.method
+  pub target : r.target.now ≡ message.head.target
+  pub minor : r.minor ≡ message.head.minor
+  pub fields : fields_in r ≡ fields_of message.head
+  pub body : r.body.now ≡ message.body

@@ -2,6 +2,6 @@ pub mod Fields
 pub mod Framing
 pub mod Messages
 pub mod MessageLooks
-pub mod Requests
 pub mod BorrowedRequests
+pub mod Closing
 pub mod Answers

@@ -1,10 +1,11 @@
 -- What one look at the front of the bytes found.
-use Rattle.std.specs.Prelude.{◌≡◌, ℕ, ◌+◌, ◌<◌, ◌≤◌, List, map, length, take, drop}
+use Rattle.std.specs.Prelude.{◌≡◌, ℕ, ◌+◌, ◌<◌, ◌≤◌, List, ◌++◌, map, length, take, drop}
 use Rattle.httparse.specs.declared.spans.HeaderSpan.{HeaderSpan}
 use Rattle.httparse.specs.Spans.{IsRequestWithin, span_bytes, header_bytes}
 use Rattle.reg_messages.specs.declared.message.Whole.{Whole}
 use Rattle.reg_messages.specs.declared.message.Look.{Look}
 use Rattle.reg_messages.specs.declared.message.Look.TheVariants.{Whole as WholeLook, Nothing, Part as PartLook, Faulty as FaultyLook, NoRoom}
+use Rattle.reg_messages.specs.Framing.{max_body}
 use Rattle.reg_messages.specs.Messages.{Message, max_head, IsMessage, Follows, End, Part, Faulty, fields_of}
 
 -- the bytes of the head
@@ -19,13 +20,21 @@ pub record IsWhole (bytes : List ℕ) (headers : List HeaderSpan) (whole : Whole
   pub within : IsRequestWithin (head_bytes bytes whole) headers whole.head
   pub method : span_bytes (head_bytes bytes whole) whole.head.method ≡ message.head.method
   pub target : span_bytes (head_bytes bytes whole) whole.head.path ≡ message.head.target
+  pub minor : whole.head.version ≡ message.head.minor
   pub fields : map (header_bytes (head_bytes bytes whole)) (take whole.head.headers headers) ≡ fields_of message.head
   pub body : take whole.body (drop whole.head.len bytes) ≡ message.body
+
+-- The bytes are less than a whole message, and stay so while there are fewer than that, whatever they are. With those that
+-- are needed they fit into the room for a message.
+pub record IsPartUpTo (bytes : List ℕ) (needs : ℕ) : Type 0 where
+  pub short : length bytes < needs
+  pub fits : needs ≤ max_head + max_body
+  pub part : (more : List ℕ) → length (bytes ++ more) < needs → Follows (bytes ++ more) Part
 
 -- what a look found that had places for so many fields; as many as a head may have bytes suffice
 abbrev pub LooksAs : ℕ → List ℕ → List HeaderSpan → Look → Type 0
 LooksAs room bytes headers (WholeLook whole) = (message : Message) × IsWhole bytes headers whole message
 LooksAs room bytes headers Nothing = Follows bytes End
-LooksAs room bytes headers PartLook = Follows bytes Part
+LooksAs room bytes headers (PartLook needs) = IsPartUpTo bytes needs
 LooksAs room bytes headers (FaultyLook code) = Follows bytes (Faulty code)
 LooksAs room bytes headers NoRoom = room < max_head

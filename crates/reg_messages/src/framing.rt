@@ -1,6 +1,6 @@
 //! How long a message's body is (RFC 9112, section 6).
 
-ghost use Rattle.std.specs.Prelude.{◌≡◌, map, length, All};
+ghost use Rattle.std.specs.Prelude.{◌≡◌, ◌≤◌, IfOk, map, length, All};
 ghost use Rattle.httparse.specs.Spans.{IsHeaderWithin, header_bytes};
 ghost use Rattle.reg_messages.specs.Framing.{framing, body_length};
 
@@ -14,7 +14,8 @@ pub const MAX_BODY: u64 = 1_048_576;
 /// The length in bytes that a `Content-Length` writes in 1 to 19 digits: `MalformedRequest` where
 /// it doesn't, and `BodyTooLarge` past the limit.
 fn number(text: &[u8]) -> Result<usize, Code>
-    ensures { result ≡ body_length text.now }
+    ensures value { result ≡ body_length text.now }
+    ensures within { IfOk result (λ length. length ≤ 1048576) }
 {
     if text.is_empty() || text.len() > 19 {
         return Err(Code::MalformedRequest);
@@ -36,7 +37,8 @@ fn number(text: &[u8]) -> Result<usize, Code>
 /// `Transfer-Encoding` is `CodingNotSupported`, two lengths are `MalformedRequest`.
 pub fn length_by(head: &[u8], fields: &[HeaderSpan]) -> Result<usize, Code>
     requires { All (IsHeaderWithin (length head.now)) fields.now }
-    ensures { result ≡ framing (map (header_bytes head.now) fields.now) }
+    ensures value { result ≡ framing (map (header_bytes head.now) fields.now) }
+    ensures within { IfOk result (λ length. length ≤ 1048576) }
 {
     match Found::look(head, fields, b"Transfer-Encoding") {
         Found::Missing => {}

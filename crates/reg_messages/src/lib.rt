@@ -1,15 +1,15 @@
-//! HTTP messages: from bytes to what they ask for, and from replies to bytes.
+//! HTTP messages: from bytes to requests, and from replies to bytes.
 #![tactic(auto)]
 
 mod answer;
-mod body;
+mod closing;
 mod fields;
 mod framing;
 mod message;
 mod request;
-mod route;
 
 pub use answer::bytes_of;
+pub use fields::Found;
+pub use framing::MAX_BODY;
 pub use message::{Look, MAX_HEAD, Whole, look_at, one_reading};
 pub use request::Request;
-pub use route::allow_of;

@@ -27,8 +27,8 @@ pub enum Look {
     Whole(Whole),
     /// No byte.
     Nothing,
-    /// Less than a whole message.
-    Part,
+    /// Less than a whole message, which has at least so many bytes.
+    Part(usize),
     /// What is no message, with the code of its fault.
     Faulty(Code),
     /// More fields than there is room for.
@@ -48,7 +48,7 @@ pub fn look_at(bytes: &[u8], headers: &mut [HeaderSpan]) -> Look
             Err(code) => Look::Faulty(code),
             Ok(body) => {
                 if bytes.len() - head.len < body {
-                    Look::Part
+                    Look::Part(head.len + body)
                 } else {
                     Look::Whole(Whole { head, body })
                 }
@@ -56,7 +56,7 @@ pub fn look_at(bytes: &[u8], headers: &mut [HeaderSpan]) -> Look
         },
         Ok(Status::Partial) => {
             if bytes.len() < MAX_HEAD {
-                Look::Part
+                Look::Part(bytes.len() + 1)
             } else {
                 Look::Faulty(Code::MalformedRequest)
             }

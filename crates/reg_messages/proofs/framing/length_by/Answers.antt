@@ -21,22 +21,22 @@ several [] h = absurd (omega arith)
 several (a ∷ []) h = absurd (omega arith)
 several (a ∷ b ∷ more) h = refl
 
-pub returns-in-Once : goal.returns-in-Once
-returns-in-Once c = coded (map (header_bytes c.args.head.now) c.args.fields.now) (c.in-Once.field-0.now ∷ []) c.in-Once.ensures (omega arith)
+pub returns-in-Once-clause-value : goal.returns-in-Once-clause-value
+returns-in-Once-clause-value c = coded (map (header_bytes c.args.head.now) c.args.fields.now) (c.in-Once.field-0.now ∷ []) c.in-Once.ensures (omega arith)
 
-pub returns-in-Repeated : goal.returns-in-Repeated
-returns-in-Repeated c =
+pub returns-in-Repeated-clause-value : goal.returns-in-Repeated-clause-value
+returns-in-Repeated-clause-value c =
     let several : 1 < length (values_named (codes "Transfer-Encoding") (map (header_bytes c.args.head.now) c.args.fields.now)) = c.in-Repeated.ensures in
     coded (map (header_bytes c.args.head.now) c.args.fields.now) _ refl (omega arith)
 
-pub returns-in-Missing-look : goal.returns-in-Missing-look
-returns-in-Missing-look c = framed (map (header_bytes c.args.head.now) c.args.fields.now) [] [] c.in-Missing.ensures c.in-Missing-look.ensures
+pub returns-in-Missing-look-clause-value : goal.returns-in-Missing-look-clause-value
+returns-in-Missing-look-clause-value c = framed (map (header_bytes c.args.head.now) c.args.fields.now) [] [] c.in-Missing.ensures c.in-Missing-look.ensures
 
-pub returns-in-Once-look : goal.returns-in-Once-look
-returns-in-Once-look c =
-    c.number.ensures ∙ framed (map (header_bytes c.args.head.now) c.args.fields.now) [] (c.in-Once-look.text.now ∷ []) c.in-Missing.ensures c.in-Once-look.ensures
+pub returns-in-Once-look-clause-value : goal.returns-in-Once-look-clause-value
+returns-in-Once-look-clause-value c =
+    c.number.ensures.value ∙ framed (map (header_bytes c.args.head.now) c.args.fields.now) [] (c.in-Once-look.text.now ∷ []) c.in-Missing.ensures c.in-Once-look.ensures
 
-pub returns-in-Repeated-look : goal.returns-in-Repeated-look
-returns-in-Repeated-look c =
+pub returns-in-Repeated-look-clause-value : goal.returns-in-Repeated-look-clause-value
+returns-in-Repeated-look-clause-value c =
     let lengths = values_named (codes "Content-Length") (map (header_bytes c.args.head.now) c.args.fields.now) in
     several lengths c.in-Repeated-look.ensures ∙ framed (map (header_bytes c.args.head.now) c.args.fields.now) [] lengths c.in-Missing.ensures refl

@@ -1,6 +1,6 @@
-use Rattle.std.proofs.Common.{◌≡◌, ◌≤◌, length, take, drop, inl, inr, refl, sym, ap, Err, ◌∙◌, arith, length-drop}
+use Rattle.std.proofs.Common.{◌≡◌, ◌≤◌, length, take, drop, inl, inr, refl, sym, ap, Err, ◌∙◌, arith}
 use Rattle.std.proofs.lemmas.List.{take-append-drop, length-take-le}
-use Rattle.reg_messages.proofs.Fronts.{exceeds_room, HasHead-found, framed, IsWhole-found, HasNoHead-front, NeverHasRequest-front}
+use Rattle.reg_messages.proofs.Fronts.{exceeds_room, HasHead-found, framed, IsWhole-found, HasNoHead-front, NeverHasRequest-front, IsPartUpTo-body}
 use Rattle.reg_messages.proofs.message.look_at.Goals as goal
 
 pub returns-in-Err-length_by : goal.returns-in-Err-length_by
@@ -12,22 +12,23 @@ returns-in-Err-length_by c =
       head = x.0;
       rest = drop c.in-Ok-Complete.head.len c.args.bytes.now;
       has_head = HasHead-found c.args.bytes.now c.min.result _ _ x.0 le small x.1;
-      framed = framed _ _ _ x.0 _ x.1 c.in-Err-length_by.ensures;
+      framed = framed _ _ _ x.0 _ x.1 c.in-Err-length_by.ensures.value;
     })
 
 pub returns-then-bytes-head : goal.returns-then-bytes-head
 returns-then-bytes-head c =
     let x = rw c.in-Ok-Complete.field-0-is at c.in-Ok-Complete.ensures.complete in
-    let le : c.min.result ≤ length c.args.bytes.now = omega arith in
+    let w = rw c.in-Ok-Complete.field-0-is at c.in-Ok-Complete.ensures.within in
+    let bytes = c.args.bytes.now in
+    let le : c.min.result ≤ length bytes = omega arith in
     let small : c.min.result ≤ 16384 = omega arith in
-    inr (record {
-      head = x.0;
-      rest = drop c.in-Ok-Complete.head.len c.args.bytes.now;
-      size = c.in-Ok.body;
-      has_head = HasHead-found c.args.bytes.now c.min.result _ _ x.0 le small x.1;
-      framed = framed _ _ _ x.0 _ x.1 c.in-Ok.ensures;
-      short = omega (arith, length-drop c.in-Ok-Complete.head.len c.args.bytes.now, c.if-bytes-head.true);
-    })
+    let fits = w.section.len_fits in
+    IsPartUpTo-body bytes x.0 c.in-Ok-Complete.head.len c.in-Ok.body c.in-Ok.ensures.within
+    (HasHead-found bytes c.min.result _ _ x.0 le small x.1)
+    (framed _ _ _ x.0 _ x.1 c.in-Ok.ensures.value)
+    (omega (arith, fits, length-take-le c.min.result bytes le))
+    x.1.len
+    (omega (arith, c.if-bytes-head.true))
 
 pub returns-else-bytes-head : goal.returns-else-bytes-head
 returns-else-bytes-head c =
@@ -35,7 +36,7 @@ returns-else-bytes-head c =
     let w = rw c.in-Ok-Complete.field-0-is at c.in-Ok-Complete.ensures.within in
     let le : c.min.result ≤ length c.args.bytes.now = omega arith in
     let small : c.min.result ≤ 16384 = omega arith in
-    IsWhole-found c.args.bytes.now c.min.result c.in-Ok.body _ _ x.0 le small x.1 w (framed _ _ _ x.0 _ x.1 c.in-Ok.ensures) c.if-bytes-head.false
+    IsWhole-found c.args.bytes.now c.min.result c.in-Ok.body _ _ x.0 le small x.1 w (framed _ _ _ x.0 _ x.1 c.in-Ok.ensures.value) c.if-bytes-head.false
 
 pub returns-else-bytes-lt-MAX_HEAD : goal.returns-else-bytes-lt-MAX_HEAD
 returns-else-bytes-lt-MAX_HEAD c =
