@@ -1,0 +1,3 @@
+//! What no clause says: that with ample memory each request is read, and what worked requests ask for.
+mod asking;
+mod paths;

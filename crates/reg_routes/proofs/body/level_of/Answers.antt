@@ -1,0 +1,11 @@
+use Rattle.std.proofs.Common.{ap, sym, ◌∙◌, codes}
+use Rattle.std.specs.Prelude.{option_map, option_and_then}
+use Rattle.serde_json.specs.Find.{as_str, get}
+use Rattle.serde_json.specs.View.{view}
+use Rattle.serde_json.proofs.Views.{view-lookup, view-Object}
+use Rattle.reg_routes.proofs.body.level_of.Goals as goal
+
+pub returns-in-Object : goal.returns-in-Object
+returns-in-Object c =
+    c.text_in.ensures ∙ ap (option_and_then as_str) (ap (option_map view) c.remove.ensures.value ∙ view-lookup (codes "compatibility") c.in-Object.members.entries
+    ∙ ap (get (codes "compatibility")) (sym (view-Object c.in-Object.members) ∙ ap view (sym c.in-Object.is)))

@@ -1,0 +1,9 @@
+use Rattle.std.proofs.Common.{◌≡◌, ◌∙◌, ◌-◌, ◌+◌, suc, ap, sym, arith}
+use Rattle.reg_routes.specs.Parts.{part_at}
+use Rattle.reg_routes.proofs.parts.part_at.Goals as goal
+
+pub loop-preserved : goal.loop-preserved
+loop-preserved c =
+    let rest = c.loop.rest.now in
+    let e : c.args.count - c.loop.counter ≡ suc (c.args.count - (c.loop.counter + 1)) = omega arith in
+    rw c.cut.ensures.after (sym (ap (λ k. part_at k rest) e) ∙ c.loop.invariant)

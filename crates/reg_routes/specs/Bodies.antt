@@ -1,0 +1,48 @@
+-- The bodies of requests: JSON objects, and the members that are read (RFC 8259; Schema Registry API reference, Schemas and Config).
+use Rattle.std.specs.Prelude.{ℕ, Bool, true, false, ◌&&◌, List, codes, bytes_eq, Option, Some, None, option_map, option_and_then, if◌then◌else◌}
+use Rattle.std.specs.Str.{is_utf8}
+use Rattle.serde_json.specs.Data.{Data, null, string, array, Items, no_items, item}
+use Rattle.serde_json.specs.Read.{read}
+use Rattle.serde_json.specs.Find.{get, as_str}
+use Rattle.reg_routes.specs.declared.body.SentSchema.{SentSchema}
+
+-- the value of a body that is JSON
+unfoldable pub json_in : List ℕ → Option Data
+json_in body = if is_utf8 body then read body else None
+
+-- the string under a name in an object
+abbrev pub string_at : List ℕ → Data → Option (List ℕ)
+string_at name value = option_and_then as_str (get name value)
+
+-- the level that a body sends
+abbrev pub level_sent : List ℕ → Option (List ℕ)
+level_sent body = option_and_then (string_at (codes "compatibility")) (json_in body)
+
+-- a `schemaType` that is supported: none, null or Avro
+abbrev pub is_avro : Option Data → Bool
+is_avro None = true
+is_avro (Some null) = true
+is_avro (Some (string text)) = bytes_eq text (codes "AVRO")
+is_avro (Some other) = false
+
+abbrev pub is_no_item : Items → Bool
+is_no_item no_items = true
+is_no_item (item value values) = false
+
+-- `references` that are supported: none, null or an empty array
+abbrev pub has_no_references : Option Data → Bool
+has_no_references None = true
+has_no_references (Some null) = true
+has_no_references (Some (array values)) = is_no_item values
+has_no_references (Some other) = false
+
+abbrev pub is_supported : Data → Bool
+is_supported value = is_avro (get (codes "schemaType") value) && has_no_references (get (codes "references") value)
+
+-- the schema that an object sends
+abbrev pub schema_in : Data → Option SentSchema
+schema_in value = option_map (λ text. record { text = text; supported = is_supported value }) (string_at (codes "schema") value)
+
+-- the schema that a body sends
+abbrev pub schema_sent : List ℕ → Option SentSchema
+schema_sent body = option_and_then schema_in (json_in body)

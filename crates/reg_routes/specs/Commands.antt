@@ -1,0 +1,65 @@
+-- The command that a path, a query and a body ask for, by the kind of command that its line and method name. None where a
+-- part of the path isn't UTF-8 or no subject, or the body isn't what such a command needs. The number of a part is that of
+-- the slashes before it. (Schema Registry API reference, Subjects, Schemas, Config and Compatibility.)
+use Rattle.std.specs.Prelude.{ℕ, Bool, List, codes, Option, Some, option_map, option_and_then}
+use Rattle.reg_core.specs.declared.command.Command.{Command}
+use Rattle.reg_core.specs.declared.command.Command.TheVariants.{SetGlobal, SetLevel, Register, DeleteVersion, DeleteSubject, Global, LevelOf, Lookup, Subjects, Versions, Version, Text, ById, VersionsOfId, Types, Check, CheckAll}
+use Rattle.reg_routes.specs.declared.line.Asked.{Asked}
+use Rattle.reg_routes.specs.declared.line.Asked.TheVariants as asks
+use Rattle.reg_routes.specs.declared.command.Sent.{Sent}
+use Rattle.reg_routes.specs.Targets.{text_at, subject_at}
+use Rattle.reg_routes.specs.Queries.{is_on}
+use Rattle.reg_routes.specs.Bodies.{level_sent, schema_sent}
+
+-- with the subject of a part
+abbrev pub for_subject : ℕ → List ℕ → (List ℕ → Option Command) → Option Command
+for_subject n path then = option_and_then then (subject_at n path)
+
+-- with the text of a part
+abbrev pub for_text : ℕ → List ℕ → (List ℕ → Option Command) → Option Command
+for_text n path then = option_and_then then (text_at n path)
+
+-- with the level of a body
+abbrev pub for_level : List ℕ → (List ℕ → Command) → Option Command
+for_level body then = option_map then (level_sent body)
+
+-- with the schema of a body, and whether it is supported
+abbrev pub for_schema : List ℕ → (List ℕ → Bool → Command) → Option Command
+for_schema body then = option_map (λ schema. then schema.text schema.supported) (schema_sent body)
+
+abbrev pub deleted : List ℕ → Bool
+deleted query = is_on query (codes "deleted")
+
+abbrev pub permanent : List ℕ → Bool
+permanent query = is_on query (codes "permanent")
+
+abbrev pub default_to_global : List ℕ → Bool
+default_to_global query = is_on query (codes "defaultToGlobal")
+
+abbrev pub command_sent : Asked → List ℕ → List ℕ → List ℕ → Option Command
+command_sent asks.SetGlobal path query body = for_level body SetGlobal
+command_sent asks.SetLevel path query body = for_subject 2 path (λ subject. for_level body (SetLevel subject))
+command_sent asks.Register path query body = for_subject 2 path (λ subject. for_schema body (Register subject))
+command_sent asks.DeleteVersion path query body =
+    for_subject 2 path (λ subject. for_text 4 path (λ version. Some (DeleteVersion subject version (permanent query))))
+command_sent asks.DeleteSubject path query body = for_subject 2 path (λ subject. Some (DeleteSubject subject (permanent query)))
+command_sent asks.Global path query body = Some Global
+command_sent asks.LevelOf path query body = for_subject 2 path (λ subject. Some (LevelOf subject (default_to_global query)))
+command_sent asks.Lookup path query body =
+    for_subject 2 path (λ subject. for_schema body (λ text supported. Lookup subject text supported (deleted query)))
+command_sent asks.Subjects path query body = Some (Subjects (deleted query))
+command_sent asks.Versions path query body = for_subject 2 path (λ subject. Some (Versions subject (deleted query)))
+command_sent asks.Version path query body =
+    for_subject 2 path (λ subject. for_text 4 path (λ version. Some (Version subject version (deleted query))))
+command_sent asks.Text path query body =
+    for_subject 2 path (λ subject. for_text 4 path (λ version. Some (Text subject version (deleted query))))
+command_sent asks.ById path query body = for_text 3 path (λ id. Some (ById id))
+command_sent asks.VersionsOfId path query body = for_text 3 path (λ id. Some (VersionsOfId id (deleted query)))
+command_sent asks.Types path query body = Some Types
+command_sent asks.Check path query body =
+    for_subject 3 path (λ subject. for_text 5 path (λ version. for_schema body (Check subject version)))
+command_sent asks.CheckAll path query body = for_subject 3 path (λ subject. for_schema body (CheckAll subject))
+
+-- what a borrowed message sends
+abbrev pub command_in : Asked → Sent → Option Command
+command_in asked sent = command_sent asked sent.target.path.now sent.target.query.now sent.body.now

@@ -1,0 +1,22 @@
+-- The retry key beside a command (this project's choice).
+use Rattle.std.specs.Prelude.{ℕ, Bool, ◌&&◌, length, nat_lt, nat_le, List, [], ◌∷◌, Option, Some, None, Result, Ok, Err, if◌then◌else◌}
+use Rattle.std.specs.List.{list_all}
+use Rattle.reg_core.specs.declared.code.Code.{Code}
+use Rattle.reg_core.specs.declared.code.Code.TheVariants.{MalformedRequest}
+use Rattle.reg_core.specs.declared.command.Command.{Command}
+use Rattle.reg_core.specs.Keys.{is_key_byte}
+use Rattle.reg_core.specs.Machine.{is_write}
+
+-- whether a text is a retry key
+abbrev pub is_key : List ℕ → Bool
+is_key text = nat_lt 0 (length text) && nat_le (length text) 64 && list_all is_key_byte text
+
+-- the retry key by the values of its field: none, or one that is a key
+abbrev pub key_of : List (List ℕ) → Result (Option (List ℕ)) Code
+key_of [] = Ok None
+key_of (text ∷ []) = if is_key text then Ok (Some text) else Err MalformedRequest
+key_of (text ∷ other ∷ more) = Err MalformedRequest
+
+-- A read's field isn't looked at.
+abbrev pub key_for : Command → List (List ℕ) → Result (Option (List ℕ)) Code
+key_for command values = if is_write command then key_of values else Ok None

@@ -1,0 +1,16 @@
+-- The parts of a path, between its slashes (RFC 3986, section 3.3).
+use Rattle.std.specs.Prelude.{ℕ, ◌==◌, zero, suc, List}
+use Rattle.std.specs.List.{before_first, after_first}
+
+-- up to the first slash
+abbrev pub before_slash : List ℕ → List ℕ
+before_slash bytes = before_first (λ byte. byte == 47) bytes
+
+-- behind the first slash; nothing where there is none
+abbrev pub after_slash : List ℕ → List ℕ
+after_slash bytes = after_first (λ byte. byte == 47) bytes
+
+-- the part behind so many slashes
+abbrev pub part_at : ℕ → List ℕ → List ℕ
+part_at zero bytes = before_slash bytes
+part_at (suc n) bytes = part_at n (after_slash bytes)

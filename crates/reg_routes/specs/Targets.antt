@@ -1,0 +1,35 @@
+-- A target's path and query, and the texts of a path's parts.
+use Rattle.std.specs.Prelude.{ℕ, ◌==◌, List, Option, Some, None, option_and_then, if◌then◌else◌}
+use Rattle.std.specs.List.{before_first, after_first}
+use Rattle.std.specs.Str.{is_utf8}
+use Rattle.percent_encoding.specs.Percent.{percent_decode}
+use Rattle.reg_core.specs.Subjects.{is_subject}
+use Rattle.reg_routes.specs.Parts.{part_at}
+
+-- up to the first `?` (RFC 9110, section 7.1; RFC 3986, section 3.3)
+abbrev pub path_of : List ℕ → List ℕ
+path_of target = before_first (λ byte. byte == 63) target
+
+-- behind the first `?`; nothing where there is none (RFC 3986, section 3.4)
+abbrev pub query_of : List ℕ → List ℕ
+query_of target = after_first (λ byte. byte == 63) target
+
+-- bytes as a text, where they are UTF-8
+abbrev pub utf8_in : List ℕ → Option (List ℕ)
+utf8_in bytes = if is_utf8 bytes then Some bytes else None
+
+-- a part's text, with its escapes decoded once (RFC 3986, section 2.1)
+abbrev pub text_of : List ℕ → Option (List ℕ)
+text_of part = utf8_in (percent_decode part)
+
+-- the text of the part behind so many slashes
+abbrev pub text_at : ℕ → List ℕ → Option (List ℕ)
+text_at n path = text_of (part_at n path)
+
+-- a text as a subject
+abbrev pub subject_in : List ℕ → Option (List ℕ)
+subject_in text = if is_subject text then Some text else None
+
+-- the subject in the part behind so many slashes
+abbrev pub subject_at : ℕ → List ℕ → Option (List ℕ)
+subject_at n path = option_and_then subject_in (text_at n path)

@@ -1,0 +1,138 @@
+//! The members of a body that is a JSON object. (RFC 8259; Schema Registry API reference, Schemas and
+//! Config.)
+
+ghost use Rattle.std.specs.Prelude.{◌≡◌, IfOk, Some, codes, option_and_then, option_map};
+ghost use Rattle.serde_json.specs.Find.{as_str, get};
+ghost use Rattle.serde_json.specs.View.{view};
+ghost use Rattle.reg_routes.specs.Bodies.{has_no_references, is_avro, is_supported, json_in, level_sent, schema_sent};
+
+use reg_core::{OutOfMemory, Text};
+use serde_json::Value;
+use std::alloc::Global;
+
+/// A schema as it was sent: its text, and whether its type is Avro and it refers to no other.
+#[derive(Drop)]
+pub struct SentSchema {
+    pub text: Text,
+    pub supported: bool,
+}
+
+/// The value of a body that is JSON.
+fn json_in(alloc: Global, body: &[u8]) -> Result<Option<Value>, OutOfMemory>
+    ensures { IfOk result (λ value. option_map view value ≡ json_in body.now) }
+{
+    match Value::from_slice(alloc, body) {
+        Ok(value) => Ok(Some(value)),
+        Err(error) => {
+            if error.is_memory() {
+                Err(OutOfMemory)
+            } else {
+                Ok(None)
+            }
+        }
+    }
+}
+
+/// The value's text, where it is a string.
+fn text_in(value: Option<Value>) -> Option<Text>
+    ensures { result ≡ option_and_then as_str (option_map view value) }
+{
+    match value? {
+        Value::String(text) => Some(Text::from(text)),
+        _ => None,
+    }
+}
+
+/// The string under `compatibility`, where the value is an object that has it.
+fn level_of(value: Value) -> Option<Text>
+    ensures { result ≡ option_and_then as_str (get (codes "compatibility") (view value)) }
+{
+    match value {
+        Value::Object(mut members) => text_in(members.remove("compatibility")),
+        _ => None,
+    }
+}
+
+/// Whether a schema of this type is supported.
+fn is_avro(kind: Option<&Value>) -> bool
+    ensures { result ≡ is_avro (option_map (λ value. view value.now) kind.entry) }
+{
+    match kind {
+        None | Some(Value::Null) => true,
+        Some(Value::String(text)) => text.as_str() == "AVRO",
+        Some(_) => false,
+    }
+}
+
+/// Whether the value lists no references to other schemas.
+fn lists_nothing(value: &Value) -> bool
+    ensures { result ≡ has_no_references (Some (view value.now)) }
+{
+    match value {
+        Value::Null => true,
+        Value::Array(items) => items.is_empty(),
+        _ => false,
+    }
+}
+
+/// Whether these are no references to other schemas.
+fn has_no_references(references: Option<&Value>) -> bool
+    ensures { result ≡ has_no_references (option_map (λ value. view value.now) references.entry) }
+{
+    match references {
+        None => true,
+        Some(value) => lists_nothing(value),
+    }
+}
+
+/// Whether a schema that is sent so is supported.
+fn is_supported(value: &Value) -> bool
+    ensures { result ≡ is_supported (view value.now) }
+{
+    is_avro(value.get("schemaType")) && has_no_references(value.get("references"))
+}
+
+/// The string under `schema`, where the value is an object that has it.
+fn text_of(value: Value) -> Option<Text>
+    ensures { result ≡ option_and_then as_str (get (codes "schema") (view value)) }
+{
+    match value {
+        Value::Object(mut members) => text_in(members.remove("schema")),
+        _ => None,
+    }
+}
+
+/// The level that a body sends: the string under `compatibility` of an object. None where there is
+/// none.
+///
+/// # Errors
+///
+/// `OutOfMemory` where room for the value is refused.
+pub fn level_sent(alloc: Global, body: &[u8]) -> Result<Option<Text>, OutOfMemory>
+    ensures { IfOk result (λ level. level ≡ level_sent body.now) }
+{
+    match json_in(alloc, body)? {
+        Some(value) => Ok(level_of(value)),
+        None => Ok(None),
+    }
+}
+
+/// The schema that a body sends: the string under `schema` of an object. It is supported where
+/// `schemaType` is missing, null or `"AVRO"`, and `references` are missing, null or none. None where
+/// there is no such string.
+///
+/// # Errors
+///
+/// `OutOfMemory` where room for the value is refused.
+pub fn schema_sent(alloc: Global, body: &[u8]) -> Result<Option<SentSchema>, OutOfMemory>
+    ensures { IfOk result (λ schema. schema ≡ schema_sent body.now) }
+{
+    let Some(value) = json_in(alloc, body)? else {
+        return Ok(None);
+    };
+    let supported = is_supported(&value);
+    match text_of(value) {
+        Some(text) => Ok(Some(SentSchema { text, supported })),
+        None => Ok(None),
+    }
+}

@@ -1,0 +1,17 @@
+//! The parts of a path, between its slashes. (RFC 3986, section 3.3.)
+
+ghost use Rattle.std.specs.Prelude.{◌≡◌};
+ghost use Rattle.reg_routes.specs.Parts.{part_at};
+
+use crate::cut::cut;
+
+/// The part behind so many slashes.
+pub fn part_at(path: &[u8], count: u32) -> &[u8]
+    ensures { result.now ≡ part_at count path.entry.now }
+{
+    let mut rest = path;
+    for _ in 0..count {
+        rest = cut(rest, b'/').1;
+    }
+    cut(rest, b'/').0
+}
