@@ -1,4 +1,4 @@
-//! Tests of the tables, of stores and of services, over memory and over disks that fail.
+//! Tests of what registries answer, as deliveries and as bytes, over memory and over a disk.
 #![tactic(auto)]
 
 #[cfg(test)]

@@ -1,10 +1,6 @@
-//! What no clause says: that with ample memory each call does its work, and what failing disks leave.
-mod deliveries;
-mod disks;
-mod faults;
+//! What no clause says: that with ample memory each delivery has its answer.
+mod deleting;
 mod listings;
-mod refusals;
 mod registering;
-mod services;
-mod stores;
-mod tables;
+mod requests;
+mod rows;

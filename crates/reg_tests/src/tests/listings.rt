@@ -1,8 +1,8 @@
 //! What a store lists.
 use super::registering::with_a_deleted_version;
-use super::stores::opened;
 use reg_store::{Listing, Store};
 use reg_tables::set_level;
+use reg_testing::opened;
 use sqlite::{Alter, MemStore};
 use std::alloc::Global;
 use std::process::Abort;

@@ -1,45 +1,16 @@
 //! Registering schemas and looking them up, over a registry in memory and over a disk that is opened again after each row.
-use super::disks::{close, empty_disk, over};
-use super::stores::{created, opened};
-use reg_core::{Command, Key, OutOfMemory, Reply, Subject, Text};
-use reg_service::{Delivery, Service};
+use super::requests::in_bytes_of;
+use super::rows::{
+    Ask, ID_1, ID_2, ID_3, INCOMPATIBLE, INT, INVALID_VERSION, LONG, NO, NO_OWN_LEVEL, NO_SCHEMA,
+    NO_SUBJECT, NO_VERSION, REUSED, Row, S1, STRING, YES, answers_rows, both, delivery_of,
+};
+use reg_service::Service;
 use reg_store::Store;
 use reg_tables::{mark_deleted, put_version};
-use sqlite::{Alter, Connection, MemStore};
+use reg_testing::{created, opened};
+use sqlite::{Connection, MemStore};
 use std::alloc::Global;
-use std::process::Abort;
 use std::test::Fail;
-
-/// What is asked, with texts as they are sent, and whether deleted versions are asked for.
-#[derive(Clone, Copy)]
-enum Ask {
-    SetGlobal(&'static str),
-    SetLevel(&'static str, &'static str),
-    Register(&'static str, &'static str),
-    RegisterUnsupported(&'static str, &'static str),
-    Lookup(&'static str, &'static str, bool),
-    LookupUnsupported(&'static str, &'static str),
-    Subjects(bool),
-    Versions(&'static str, bool),
-    Version(&'static str, &'static str, bool),
-    Text(&'static str, &'static str, bool),
-    ById(&'static str),
-    VersionsOfId(&'static str, bool),
-    Types,
-    Check(&'static str, &'static str, &'static str),
-    CheckUnsupported(&'static str, &'static str, &'static str),
-    CheckAll(&'static str, &'static str),
-    CheckAllUnsupported(&'static str, &'static str),
-}
-
-/// A retry key, what is asked, and the answer.
-type Row = (Option<&'static str>, Ask, u16, &'static str);
-
-const INT: &str = "\"int\"";
-
-const LONG: &str = "\"long\"";
-
-const STRING: &str = "\"string\"";
 
 const R0: &str = "{\"type\":\"record\",\"name\":\"R\",\"fields\":[]}";
 
@@ -55,35 +26,19 @@ const RB: &str =
 const RAB: &str =
     "{\"type\":\"record\",\"name\":\"R\",\"fields\":[{\"name\":\"a\",\"type\":\"int\"},{\"name\":\"b\",\"type\":\"int\"}]}";
 
-const ID_1: &str = "{\"id\":1}";
+/// A record whose field has a default of one and a half.
+const HALF: &str =
+    "{\"type\":\"record\",\"name\":\"a.User\",\"fields\":[{\"name\":\"n\",\"type\":{\"type\":\"double\"},\"default\":1.5}]}";
 
-const ID_2: &str = "{\"id\":2}";
+/// The same with a default that has an exponent.
+const THOUSAND: &str =
+    "{\"type\":\"record\",\"name\":\"a.User\",\"fields\":[{\"name\":\"n\",\"type\":{\"type\":\"double\"},\"default\":1e3}]}";
 
-const ID_3: &str = "{\"id\":3}";
-
-const YES: &str = "{\"is_compatible\":true}";
-
-const NO: &str = "{\"is_compatible\":false}";
-
-const NO_SUBJECT: &str = "{\"error_code\":40401,\"message\":\"Subject not found\"}";
-
-const NO_VERSION: &str = "{\"error_code\":40402,\"message\":\"Version not found\"}";
-
-const NO_SCHEMA: &str = "{\"error_code\":40403,\"message\":\"Schema not found\"}";
+const INVALID_LEVEL: &str = "{\"error_code\":42203,\"message\":\"Invalid compatibility level\"}";
 
 const INVALID_SCHEMA: &str = "{\"error_code\":42201,\"message\":\"Invalid schema\"}";
 
-const INVALID_VERSION: &str = "{\"error_code\":42202,\"message\":\"Invalid version\"}";
-
-const INCOMPATIBLE: &str =
-    "{\"error_code\":409,\"message\":\"Schema is incompatible with an earlier version\"}";
-
 const NO_NUMBER: &str = "{\"error_code\":42292,\"message\":\"No number is left\"}";
-
-const REUSED: &str =
-    "{\"error_code\":42290,\"message\":\"Retry key was used for another request\"}";
-
-const S1: &str = "{\"id\":1,\"schema\":\"\\\"int\\\"\",\"subject\":\"s\",\"version\":1}";
 
 /// Versions of one subject, what is looked up among them, and each refusal in its order.
 const ONE_SUBJECT: [Row; 40] = [
@@ -139,7 +94,7 @@ const ONE_SUBJECT: [Row; 40] = [
     (None, Ask::Version("s", "7", false), 404, NO_VERSION),
     (None, Ask::Version("zzz", "1", false), 404, NO_SUBJECT),
     (None, Ask::Version("zzz", "x", false), 422, INVALID_VERSION),
-    (None, Ask::Text("s", "", false), 422, INVALID_VERSION),
+    (None, Ask::Text("s", "-1", false), 422, INVALID_VERSION),
     (None, Ask::Text("s", "3", false), 404, NO_VERSION),
     (None, Ask::ById("2"), 200, "{\"schema\":\"\\\"long\\\"\"}"),
     (
@@ -210,6 +165,69 @@ const BACKWARD_TRANSITIVE: [Row; 5] = [
     (None, Ask::Register("s", RA0), 200, ID_2),
     (None, Ask::Register("s", RA), 409, INCOMPATIBLE),
     (None, Ask::Versions("s", false), 200, "[1,2]"),
+];
+
+/// A subject with a slash has its own level, and another one the global level.
+const LEVELS: [Row; 10] = [
+    (
+        None,
+        Ask::SetLevel("a/b", "NONE"),
+        200,
+        "{\"compatibility\":\"NONE\"}",
+    ),
+    (
+        None,
+        Ask::LevelOf("a/b"),
+        200,
+        "{\"compatibilityLevel\":\"NONE\"}",
+    ),
+    (
+        None,
+        Ask::LevelInForce("a/b"),
+        200,
+        "{\"compatibilityLevel\":\"NONE\"}",
+    ),
+    (None, Ask::LevelOf("u"), 404, NO_OWN_LEVEL),
+    (
+        None,
+        Ask::LevelInForce("u"),
+        200,
+        "{\"compatibilityLevel\":\"BACKWARD\"}",
+    ),
+    (None, Ask::SetLevel("u", "full"), 422, INVALID_LEVEL),
+    (
+        None,
+        Ask::SetGlobal("FULL"),
+        200,
+        "{\"compatibility\":\"FULL\"}",
+    ),
+    (
+        None,
+        Ask::LevelInForce("u"),
+        200,
+        "{\"compatibilityLevel\":\"FULL\"}",
+    ),
+    (None, Ask::Register("a/b", INT), 200, ID_1),
+    (None, Ask::Subjects(false), 200, "[\"a/b\"]"),
+];
+
+/// Texts that hold a number that isn't whole or has an exponent, a version that no text names, and a level that compares
+/// with nothing.
+const REFUSED: [Row; 9] = [
+    (None, Ask::Register("s", HALF), 422, INVALID_SCHEMA),
+    (None, Ask::Register("s", THOUSAND), 422, INVALID_SCHEMA),
+    (None, Ask::Text("z", "1.0", false), 422, INVALID_VERSION),
+    (None, Ask::ById("one"), 404, NO_SCHEMA),
+    (None, Ask::ById("01"), 404, NO_SCHEMA),
+    (None, Ask::Register("s", INT), 200, ID_1),
+    (
+        None,
+        Ask::SetLevel("s", "NONE"),
+        200,
+        "{\"compatibility\":\"NONE\"}",
+    ),
+    (None, Ask::Check("s", "1", STRING), 200, YES),
+    (None, Ask::CheckAll("s", STRING), 200, YES),
 ];
 
 /// Keyed writes, their repeats, and keys that come with another command.
@@ -309,173 +327,6 @@ const DELETED: [Row; 21] = [
     ),
 ];
 
-fn text_of(alloc: Global, text: &str) -> Result<Text, OutOfMemory> {
-    Ok(Text::from(String::from_str(alloc, text)?))
-}
-
-/// The subject with this text. Each text of the rows is one.
-fn subject_of(alloc: Global, text: &str) -> Result<Subject, OutOfMemory> {
-    Subject::new(String::from_str(alloc, text)?).ok_or(OutOfMemory)
-}
-
-fn register(
-    alloc: Global,
-    subject: &str,
-    text: &str,
-    supported: bool,
-) -> Result<Command, OutOfMemory> {
-    Ok(Command::Register {
-        subject: subject_of(alloc, subject)?,
-        text: text_of(alloc, text)?,
-        supported,
-    })
-}
-
-fn lookup(
-    alloc: Global,
-    subject: &str,
-    text: &str,
-    supported: bool,
-    deleted: bool,
-) -> Result<Command, OutOfMemory> {
-    Ok(Command::Lookup {
-        subject: subject_of(alloc, subject)?,
-        text: text_of(alloc, text)?,
-        supported,
-        deleted,
-    })
-}
-
-fn check(
-    alloc: Global,
-    subject: &str,
-    version: &str,
-    text: &str,
-    supported: bool,
-) -> Result<Command, OutOfMemory> {
-    Ok(Command::Check {
-        subject: subject_of(alloc, subject)?,
-        version: text_of(alloc, version)?,
-        text: text_of(alloc, text)?,
-        supported,
-    })
-}
-
-fn check_all(
-    alloc: Global,
-    subject: &str,
-    text: &str,
-    supported: bool,
-) -> Result<Command, OutOfMemory> {
-    Ok(Command::CheckAll {
-        subject: subject_of(alloc, subject)?,
-        text: text_of(alloc, text)?,
-        supported,
-    })
-}
-
-/// The command that sends no schema, if this is one.
-fn reading(alloc: Global, ask: Ask) -> Result<Command, OutOfMemory> {
-    match ask {
-        Ask::Subjects(deleted) => Ok(Command::Subjects { deleted }),
-        Ask::Versions(subject, deleted) => Ok(Command::Versions {
-            subject: subject_of(alloc, subject)?,
-            deleted,
-        }),
-        Ask::Version(subject, version, deleted) => Ok(Command::Version {
-            subject: subject_of(alloc, subject)?,
-            version: text_of(alloc, version)?,
-            deleted,
-        }),
-        Ask::Text(subject, version, deleted) => Ok(Command::Text {
-            subject: subject_of(alloc, subject)?,
-            version: text_of(alloc, version)?,
-            deleted,
-        }),
-        Ask::ById(id) => Ok(Command::ById {
-            id: text_of(alloc, id)?,
-        }),
-        Ask::VersionsOfId(id, deleted) => Ok(Command::VersionsOfId {
-            id: text_of(alloc, id)?,
-            deleted,
-        }),
-        _ => Ok(Command::Types),
-    }
-}
-
-fn command_of(alloc: Global, ask: Ask) -> Result<Command, OutOfMemory> {
-    match ask {
-        Ask::SetGlobal(level) => Ok(Command::SetGlobal {
-            level: text_of(alloc, level)?,
-        }),
-        Ask::SetLevel(subject, level) => Ok(Command::SetLevel {
-            subject: subject_of(alloc, subject)?,
-            level: text_of(alloc, level)?,
-        }),
-        Ask::Register(subject, text) => register(alloc, subject, text, true),
-        Ask::RegisterUnsupported(subject, text) => register(alloc, subject, text, false),
-        Ask::Lookup(subject, text, deleted) => lookup(alloc, subject, text, true, deleted),
-        Ask::LookupUnsupported(subject, text) => lookup(alloc, subject, text, false, false),
-        Ask::Check(subject, version, text) => check(alloc, subject, version, text, true),
-        Ask::CheckUnsupported(subject, version, text) => {
-            check(alloc, subject, version, text, false)
-        }
-        Ask::CheckAll(subject, text) => check_all(alloc, subject, text, true),
-        Ask::CheckAllUnsupported(subject, text) => check_all(alloc, subject, text, false),
-        other => reading(alloc, other),
-    }
-}
-
-fn delivery_of(alloc: Global, row: &Row) -> Result<Delivery<'static>, OutOfMemory> {
-    Ok(Delivery {
-        key: row.0.and_then(|text| Key::parse(text)),
-        command: command_of(alloc, row.1)?,
-    })
-}
-
-fn assert_answer(rt: &impl Abort, reply: &Reply, row: &Row) {
-    assert_eq!(rt; reply.body(), row.3);
-    assert_eq!(rt; reply.status(), row.2);
-}
-
-fn answers_rows<S: Alter>(
-    rt: &impl Abort,
-    alloc: Global,
-    service: &mut Service<S>,
-    rows: &[Row],
-) -> Result<(), Fail> {
-    for row in rows {
-        let reply = service.answer(&delivery_of(alloc, row)?);
-        assert_answer(rt, &reply, row);
-    }
-    assert!(rt; !service.failed());
-    Ok(())
-}
-
-fn in_memory(rt: &impl Abort, alloc: Global, rows: &[Row]) -> Result<(), Fail> {
-    let store = created(alloc, Connection::open_in_memory(alloc)?)?;
-    answers_rows(rt, alloc, &mut Service::new(alloc, store), rows)
-}
-
-/// Each row by a store of its own, and the disk closed and opened between two.
-fn on_a_disk(rt: &impl Abort, alloc: Global, rows: &[Row]) -> Result<(), Fail> {
-    let store = created(alloc, over(alloc, empty_disk(alloc))?)?;
-    let mut files = close(store.into_connection())?;
-    for row in rows {
-        let store = opened(alloc, over(alloc, files)?)?;
-        let mut service = Service::new(alloc, store);
-        let reply = service.answer(&delivery_of(alloc, row)?);
-        assert_answer(rt, &reply, row);
-        files = close(service.into_store().into_connection())?;
-    }
-    Ok(())
-}
-
-fn both(rt: &impl Abort, alloc: Global, rows: &[Row]) -> Result<(), Fail> {
-    in_memory(rt, alloc, rows)?;
-    on_a_disk(rt, alloc, rows)
-}
-
 #[test]
 fn versions_are_registered_and_looked_up(rt: HostRuntime) -> Result<(), Fail> {
     both(&rt, rt.alloc(), &ONE_SUBJECT)
@@ -487,10 +338,28 @@ fn a_schema_has_one_id(rt: HostRuntime) -> Result<(), Fail> {
 }
 
 #[test]
+fn requests_come_in_pieces(rt: HostRuntime) -> Result<(), Fail> {
+    for size in 2..65 {
+        in_bytes_of(&rt, rt.alloc(), &TWO_SUBJECTS, size)?;
+    }
+    Ok(())
+}
+
+#[test]
 fn levels_admit_versions(rt: HostRuntime) -> Result<(), Fail> {
     both(&rt, rt.alloc(), &FORWARD)?;
     both(&rt, rt.alloc(), &BACKWARD)?;
     both(&rt, rt.alloc(), &BACKWARD_TRANSITIVE)
+}
+
+#[test]
+fn subjects_have_levels(rt: HostRuntime) -> Result<(), Fail> {
+    both(&rt, rt.alloc(), &LEVELS)
+}
+
+#[test]
+fn what_is_refused_changes_nothing(rt: HostRuntime) -> Result<(), Fail> {
+    both(&rt, rt.alloc(), &REFUSED)
 }
 
 #[test]

@@ -1,0 +1,5 @@
+pub mod ByteLemmas
+pub mod Ranges
+pub mod ReplyLemmas
+pub mod SessionLemmas
+pub mod EndLemmas

@@ -1,0 +1,41 @@
+-- The reply to what was asked, and what it leads to.
+use Rattle.std.proofs.Common.{◌≡◌, [], ◌∷◌, refl, sym, ap, ◌∙◌, inl, inr, subst}
+use Rattle.std.specs.Prelude.{ℕ, List, Option, Result, Ok, Err}
+use Rattle.reg_messages.specs.Messages.{Message}
+use Rattle.reg_messages.specs.BorrowedRequests.{Borrows, fields_in}
+use Rattle.reg_messages.specs.Closing.{closes, closes_by}
+use Rattle.reg_messages.specs.declared.request.Request.{Request}
+use Rattle.reg_routes.specs.Deliveries.{Refusal, IsRefused, asked, asked_by, delivery_of}
+use Rattle.reg_core.specs.declared.code.Code.{Code}
+use Rattle.reg_core.specs.Replies.{Told, fault}
+use Rattle.reg_core.specs.Registry.{Registry}
+use Rattle.reg_core.specs.declared.delivery.Delivery.{Delivery}
+use Rattle.reg_core.specs.KeptReplies.{Kept}
+use Rattle.reg_service.specs.Deliveries.{Serves, served}
+use Rattle.reg_service.proofs.JoinedExchanges.{serves_none}
+use Rattle.reg_service.proofs.SingleDeliveries.{serves_refused}
+use Rattle.reg_http.specs.Output.{Replies}
+
+-- a delivery that was answered
+pub Replies-delivered : (what : Result Delivery Refusal) (d : Delivery) (reply : Told) (g : Registry) (k : Kept) (g' : Registry) (k' : Kept)
+    → what ≡ Ok d → Serves g k (served ((d, reply) ∷ [])) g' k' → Replies what reply g k g' k'
+Replies-delivered what d reply g k g' k' e s =
+    let P : Result Delivery Refusal → Type 0 = λ w. Replies w reply g k g' k' in
+    subst P (sym e) (record { refused = tt; serves = s })
+
+-- What was refused changes nothing, and so does want of memory.
+pub Replies-refused : (what : Result Delivery Refusal) (code : Code) (allow : Option (List ℕ)) (reply : Told) (g : Registry) (k : Kept)
+    → IsRefused what code allow → reply ≡ fault code → Replies what reply g k g k
+Replies-refused (Ok d) code allow reply g k (inl b) e = record { refused = tt; serves = serves_refused g g k k d reply (e ∙ ap fault b.0) refl refl }
+Replies-refused (Ok d) code allow reply g k (inr h) e = absurd (cc)
+Replies-refused (Err other) code allow reply g k (inl b) e = record { refused = inr (e ∙ ap fault b.0); serves = serves_none g g k k refl refl }
+Replies-refused (Err other) code allow reply g k (inr h) e =
+    let same : (code, allow) ≡ other = cc in
+    record { refused = inl (e ∙ ap (λ (refusal : Refusal). fault refusal.0) same); serves = serves_none g g k k refl refl }
+
+-- a borrowed message asks for what the message does, and ends the connection where it does
+pub asked_of_borrowed : (r : Request) (m : Message) → Borrows r m → asked_by r ≡ delivery_of m
+asked_of_borrowed r m b = λ i. asked (b.method i) (b.target i) (b.fields i) (b.body i)
+
+pub closes_of_borrowed : (r : Request) (m : Message) → Borrows r m → closes_by r.minor (fields_in r) ≡ closes m
+closes_of_borrowed r m b = λ i. closes_by (b.minor i) (b.fields i)

@@ -1,0 +1,232 @@
+-- Sessions in parts: one message after the other, and then a stop.
+use Rattle.std.proofs.Common.{◌≡◌, ℕ, Bool, true, false, List, [], ◌∷◌, ◌++◌, map, drop, refl, sym, ap, ◌∙◌, inl, inr, subst, append_assoc, append-nil}
+use Rattle.std.specs.Prelude.{Option}
+use Rattle.std.specs.Io.KnownBytes.{Appends}
+use Rattle.std.proofs.KnownBytes.{Appends-nil, Appends-trans}
+use Rattle.std.proofs.lemmas.List.{map-append}
+use Rattle.std.proofs.lemmas.List.Concat.{flat_map-append}
+use Rattle.reg_core.specs.declared.code.Code.{Code}
+use Rattle.reg_core.specs.Replies.{Told}
+use Rattle.reg_core.specs.Registry.{Registry}
+use Rattle.reg_core.specs.KeptReplies.{Kept}
+use Rattle.reg_service.specs.Deliveries.{Exchange, Serves, served}
+use Rattle.reg_service.proofs.JoinedExchanges.{serves_none, serves-append}
+use Rattle.reg_service.proofs.ExchangeLists.{served-append}
+use Rattle.reg_http.specs.declared.writing.Sent.{Sent}
+use Rattle.reg_http.specs.declared.writing.Sent.TheVariants.{Whole, CutShort, NoRoom as Unsent}
+use Rattle.reg_http.specs.declared.answering.Stop.{Stop}
+use Rattle.reg_http.specs.declared.answering.Stop.TheVariants.{Waiting, AtClose, AtFault, NotWritten, NoRoom}
+use Rattle.reg_messages.specs.Messages.{Message, IsMessage, Leads, Follows, Faulty}
+use Rattle.reg_messages.specs.Closing.{closes}
+use Rattle.reg_messages.specs.Answers.{fault_answer}
+use Rattle.reg_messages.proofs.Fronts.{IsMessage-more}
+use Rattle.reg_routes.specs.Deliveries.{delivery_of}
+use Rattle.reg_http.specs.Output.{Answered, Replies, answer_to, exchange_of, exchanges, AreRefused, StayOpen, LastCloses, answers, IsFront, IsCutShort}
+use Rattle.reg_http.specs.Sessions.{Carries}
+use Rattle.reg_http.specs.SessionSteps.{StopsAs, AnswersAs, AnswersOne, FaultAs, NextAs, Served, next_after}
+
+-- the message of an answered one
+abbrev message_of : Answered → Message
+message_of x = x.0
+
+Leads-append : (bytes mid rest : List ℕ) (ms ks : List Message) → Leads bytes ms mid → Leads mid ks rest → Leads bytes (ms ++ ks) rest
+Leads-append bytes mid rest [] ks e p = subst (λ (t : List ℕ). Leads t ks rest) (sym e) p
+Leads-append bytes mid rest (m ∷ ms) ks p q = (p.0, p.1, Leads-append p.0 mid rest ms ks p.2 q)
+
+AreRefused-append : (xs ys : List Answered) → AreRefused xs → AreRefused ys → AreRefused (xs ++ ys)
+AreRefused-append [] ys p q = q
+AreRefused-append (x ∷ xs) ys p q = (p.0, AreRefused-append xs ys p.1 q)
+
+exchanges-append : (xs ys : List Answered) → exchanges (xs ++ ys) ≡ exchanges xs ++ exchanges ys
+exchanges-append xs ys = flat_map-append (λ (x : Answered). exchange_of (delivery_of x.0) x.1) xs ys
+
+answers-append : (xs ys : List Answered) → answers (xs ++ ys) ≡ answers xs ++ answers ys
+answers-append xs ys = flat_map-append (λ (x : Answered). answer_to x.0 x.1) xs ys
+
+-- no message
+pub Carries-nil : (w : Option (List ℕ)) (g : Registry) (k : Kept) (bytes : List ℕ) → Carries w w g k g k bytes [] bytes []
+Carries-nil w g k bytes = record { leads = refl; refused = tt; serves = serves_none g g k k refl refl; writes = Appends-nil w }
+
+-- one message
+Carries-one : (w w' : Option (List ℕ)) (g : Registry) (k : Kept) (g' : Registry) (k' : Kept) (bytes rest out : List ℕ) (m : Message) (reply : Told)
+    → IsMessage bytes m rest → Replies (delivery_of m) reply g k g' k' → Appends w w' out → Carries w w' g k g' k' bytes ((m, reply) ∷ []) rest out
+Carries-one w w' g k g' k' bytes rest out m reply p r a = record {
+  leads = (rest, p, refl);
+  refused = (r.refused, tt);
+  serves =
+      let P : List Exchange → Type 0 = λ xs. Serves g k (served xs) g' k' in
+      subst P (sym (append-nil (exchange_of (delivery_of m) reply))) r.serves;
+  writes = a;
+}
+
+-- messages, and those after them
+Carries-append : (w w1 w2 : Option (List ℕ)) (g g1 g2 : Registry) (k k1 k2 : Kept) (bytes mid rest out out2 : List ℕ) (xs ys : List Answered)
+    → Carries w w1 g k g1 k1 bytes xs mid out → Carries w1 w2 g1 k1 g2 k2 mid ys rest out2 → Carries w w2 g k g2 k2 bytes (xs ++ ys) rest (out ++ out2)
+Carries-append w w1 w2 g g1 g2 k k1 k2 bytes mid rest out out2 xs ys p q = record {
+  leads = subst (λ (ms : List Message). Leads bytes ms rest) (sym (map-append message_of xs ys))
+      (Leads-append bytes mid rest (map message_of xs) (map message_of ys) p.leads q.leads);
+  refused = AreRefused-append xs ys p.refused q.refused;
+  serves =
+      let P : List Exchange → Type 0 = λ zs. Serves g k zs g2 k2 in
+      subst P (sym (ap served (exchanges-append xs ys) ∙ served-append (exchanges xs) (exchanges ys)))
+      (serves-append g g1 g2 k k1 k2 (served (exchanges xs)) (served (exchanges ys)) p.serves q.serves);
+  writes = Appends-trans w w1 w2 out out2 p.writes q.writes;
+}
+
+StayOpen-append : (xs ys : List Answered) → StayOpen xs → StayOpen ys → StayOpen (xs ++ ys)
+StayOpen-append [] ys p q = q
+StayOpen-append (x ∷ xs) ys p q = (p.0, StayOpen-append xs ys p.1 q)
+
+LastCloses-after : (xs ys : List Answered) → StayOpen xs → LastCloses ys → LastCloses (xs ++ ys)
+LastCloses-after xs ys p c = record {
+  before = xs ++ c.before;
+  last = c.last;
+  all = ap (λ zs. xs ++ zs) c.all ∙ sym (append_assoc xs c.before (c.last ∷ []));
+  stay = StayOpen-append xs c.before p c.stay;
+  closes_it = c.closes_it;
+}
+
+-- what was written for messages and for those before them
+joined : (xs ys : List Answered) (out part : List ℕ) → out ≡ answers ys ++ part → answers xs ++ out ≡ answers (xs ++ ys) ++ part
+joined xs ys out part e =
+    ap (λ t. answers xs ++ t) e ∙ (sym (append_assoc (answers xs) (answers ys) part) ∙ ap (λ t. t ++ part) (sym (answers-append xs ys)))
+
+all_joined : (xs ys : List Answered) (out : List ℕ) → out ≡ answers ys → answers xs ++ out ≡ answers (xs ++ ys)
+all_joined xs ys out e = ap (λ t. answers xs ++ t) e ∙ sym (answers-append xs ys)
+
+IsCutShort-after : (xs ys : List Answered) (rest out : List ℕ) → StayOpen xs → IsCutShort ys rest out → IsCutShort (xs ++ ys) rest (answers xs ++ out)
+IsCutShort-after xs ys rest out p (inl c) =
+    inl (record {
+      before = xs ++ c.before;
+      last = c.last;
+      part = c.part;
+      all = ap (λ zs. xs ++ zs) c.all ∙ sym (append_assoc xs c.before (c.last ∷ []));
+      stay = StayOpen-append xs c.before p c.stay;
+      front = c.front;
+      written = joined xs c.before out c.part c.written;
+    })
+IsCutShort-after xs ys rest out p (inr c) =
+    inr (record {
+      code = c.code;
+      part = c.part;
+      stay = StayOpen-append xs ys p c.stay;
+      follows = c.follows;
+      front = c.front;
+      written = joined xs ys out c.part c.written;
+    })
+
+-- where the answers stop, with those before
+StopsAs-after : (xs ys : List Answered) (rest held out : List ℕ) (stop : Stop) → StayOpen xs → StopsAs ys rest held out stop
+    → StopsAs (xs ++ ys) rest held (answers xs ++ out) stop
+StopsAs-after xs ys rest held out (Waiting needs) p s = (StayOpen-append xs ys p s.0, s.1, s.2, all_joined xs ys out s.3)
+StopsAs-after xs ys rest held out AtClose p s = (LastCloses-after xs ys p s.0, all_joined xs ys out s.1)
+StopsAs-after xs ys rest held out AtFault p s = (s.0, StayOpen-append xs ys p s.1, s.2, joined xs ys out (fault_answer s.0) s.3)
+StopsAs-after xs ys rest held out NotWritten p s = IsCutShort-after xs ys rest out p s
+StopsAs-after xs ys rest held out NoRoom p (inl s) = inl (StayOpen-append xs ys p s.0, all_joined xs ys out s.1)
+StopsAs-after xs ys rest held out NoRoom p (inr s) = inr (IsCutShort-after xs ys rest out p s)
+
+-- the answers after messages
+pub AnswersAs-after : (w w1 w2 : Option (List ℕ)) (g g1 g2 : Registry) (k k1 k2 : Kept) (bytes mid held : List ℕ) (xs : List Answered) (stop : Stop)
+    → StayOpen xs → Carries w w1 g k g1 k1 bytes xs mid (answers xs) → AnswersAs w1 w2 g1 k1 g2 k2 mid held stop → AnswersAs w w2 g k g2 k2 bytes held stop
+AnswersAs-after w w1 w2 g g1 g2 k k1 k2 bytes mid held xs stop o p a = record {
+  answered = xs ++ a.answered;
+  rest = a.rest;
+  out = answers xs ++ a.out;
+  carries = Carries-append w w1 w2 g g1 g2 k k1 k2 bytes mid a.rest (answers xs) a.out xs a.answered p a.carries;
+  stops = StopsAs-after xs a.answered a.rest held a.out stop o a.stops;
+}
+
+-- nothing more is answered
+pub AnswersAs-nil : (w : Option (List ℕ)) (g : Registry) (k : Kept) (bytes : List ℕ) (stop : Stop) → StopsAs [] bytes bytes [] stop → AnswersAs w w g k g k bytes bytes stop
+AnswersAs-nil w g k bytes stop s = record { answered = []; rest = bytes; out = []; carries = Carries-nil w g k bytes; stops = s }
+
+written : (w w' : Option (List ℕ)) (g : Registry) (k : Kept) (bytes out : List ℕ) (stop : Stop) → Appends w w' out → StopsAs [] bytes bytes out stop
+    → AnswersAs w w' g k g k bytes bytes stop
+written w w' g k bytes out stop a s = record {
+  answered = [];
+  rest = bytes;
+  out = out;
+  carries = record { leads = refl; refused = tt; serves = serves_none g g k k refl refl; writes = a };
+  stops = s;
+}
+
+fault_cut : (bytes part : List ℕ) (code : Code) → Follows bytes (Faulty code) → IsFront part (fault_answer code) → IsCutShort [] bytes part
+fault_cut bytes part code f front = inr (record { code = code; part = part; stay = tt; follows = f; front = front; written = refl })
+
+-- a fault was answered, or a beginning of its answer was written
+pub AnswersAs-fault : (w w' : Option (List ℕ)) (g : Registry) (k : Kept) (bytes : List ℕ) (code : Code) (stop : Stop)
+    → Follows bytes (Faulty code) → FaultAs w w' code stop → AnswersAs w w' g k g k bytes bytes stop
+AnswersAs-fault w w' g k bytes code AtFault f a = written w w' g k bytes (fault_answer code) AtFault a (code, tt, f, refl)
+AnswersAs-fault w w' g k bytes code NotWritten f a = written w w' g k bytes a.0 NotWritten a.2 (fault_cut bytes a.0 code f a.1)
+AnswersAs-fault w w' g k bytes code NoRoom f a = written w w' g k bytes a.0 NoRoom a.2 (inr (fault_cut bytes a.0 code f a.1))
+AnswersAs-fault w w' g k bytes code AtClose f a = absurd a
+AnswersAs-fault w w' g k bytes code (Waiting needs) f a = absurd a
+
+-- a whole message was answered, or a beginning of its answer was written
+pub Next-message : (w w' : Option (List ℕ)) (g : Registry) (k : Kept) (g' : Registry) (k' : Kept) (bytes : List ℕ) (size : ℕ) (m : Message) (reply : Told)
+    (sent : Sent) (close : Bool) → IsMessage bytes m (drop size bytes) → Replies (delivery_of m) reply g k g' k' → closes m ≡ close
+    → (part : List ℕ) → IsFront part (answer_to m reply) → Appends w w' part → (sent ≡ Whole → Appends w w' (answer_to m reply))
+    → NextAs w w' g k g' k' bytes (next_after sent close size)
+Next-message w w' g k g' k' bytes size m reply Whole true is r c part front a whole = record {
+  answered = (m, reply) ∷ [];
+  rest = drop size bytes;
+  out = answer_to m reply;
+  carries = Carries-one w w' g k g' k' bytes (drop size bytes) (answer_to m reply) m reply is r (whole refl);
+  stops = (record { before = []; last = (m, reply); all = refl; stay = tt; closes_it = c }, sym (append-nil (answer_to m reply)));
+}
+Next-message w w' g k g' k' bytes size m reply Whole false is r c part front a whole =
+    let P : List ℕ → Type 0 = λ out. Carries w w' g k g' k' bytes ((m, reply) ∷ []) (drop size bytes) out in
+    record {
+      answered = (m, reply);
+      stays = c;
+      carries = subst P (sym (append-nil (answer_to m reply)))
+          (Carries-one w w' g k g' k' bytes (drop size bytes) (answer_to m reply) m reply is r (whole refl));
+    }
+Next-message w w' g k g' k' bytes size m reply CutShort close is r c part front a whole = record {
+  answered = (m, reply) ∷ [];
+  rest = drop size bytes;
+  out = part;
+  carries = Carries-one w w' g k g' k' bytes (drop size bytes) part m reply is r a;
+  stops = inl (record { before = []; last = (m, reply); part = part; all = refl; stay = tt; front = front; written = refl });
+}
+Next-message w w' g k g' k' bytes size m reply Unsent close is r c part front a whole = record {
+  answered = (m, reply) ∷ [];
+  rest = drop size bytes;
+  out = part;
+  carries = Carries-one w w' g k g' k' bytes (drop size bytes) part m reply is r a;
+  stops = inr (inl (record { before = []; last = (m, reply); part = part; all = refl; stay = tt; front = front; written = refl }));
+}
+
+Leads-more : (bytes rest more : List ℕ) (ms : List Message) → Leads bytes ms rest → Leads (bytes ++ more) ms (rest ++ more)
+Leads-more bytes rest more [] e = ap (λ t. t ++ more) e
+Leads-more bytes rest more (m ∷ ms) p = (p.0 ++ more, IsMessage-more bytes p.0 more m p.1, Leads-more p.0 rest more ms p.2)
+
+-- more was read behind what is held
+pub Served-more : (w w' : Option (List ℕ)) (g : Registry) (k : Kept) (g' : Registry) (k' : Kept) (bytes held more : List ℕ)
+    → Served w w' g k g' k' bytes held → Served w w' g k g' k' (bytes ++ more) (held ++ more)
+Served-more w w' g k g' k' bytes held more s = record {
+  answered = s.answered;
+  stay = s.stay;
+  carries = record {
+    leads = Leads-more bytes held more (map message_of s.answered) s.carries.leads;
+    refused = s.carries.refused;
+    serves = s.carries.serves;
+    writes = s.carries.writes;
+  };
+}
+
+-- one more message was answered
+pub Served-one : (w w1 w2 : Option (List ℕ)) (g g1 g2 : Registry) (k k1 k2 : Kept) (bytes held : List ℕ) (size : ℕ)
+    → Served w w1 g k g1 k1 bytes held → AnswersOne w1 w2 g1 k1 g2 k2 held size → Served w w2 g k g2 k2 bytes (drop size held)
+Served-one w w1 w2 g g1 g2 k k1 k2 bytes held size s one =
+    let xs = s.answered in
+    let P : List ℕ → Type 0 = λ out. Carries w w2 g k g2 k2 bytes (xs ++ one.answered ∷ []) (drop size held) out in
+    record {
+      answered = xs ++ one.answered ∷ [];
+      stay = StayOpen-append xs (one.answered ∷ []) s.stay (one.stays, tt);
+      carries = subst P (sym (answers-append xs (one.answered ∷ [])))
+          (Carries-append w w1 w2 g g1 g2 k k1 k2 bytes held (drop size held) (answers xs) (answers (one.answered ∷ [])) xs (one.answered ∷ []) s.carries one.carries);
+    }
+
+pub Served-none : (w : Option (List ℕ)) (g : Registry) (k : Kept) (bytes : List ℕ) → Served w w g k g k bytes bytes
+Served-none w g k bytes = record { answered = []; stay = tt; carries = Carries-nil w g k bytes }

@@ -1,0 +1,41 @@
+use Rattle.std.proofs.Common.{ℕ, List, subst}
+use Rattle.reg_http.specs.SessionSteps.{AnswersOne, AnswersAs}
+use Rattle.reg_http.proofs.SessionLemmas.{Served-none, Served-one, AnswersAs-after}
+use Rattle.reg_http.proofs.answering.answer_held.Goals as goal
+
+pub loop-size-init : goal.loop-size-init
+loop-size-init g c = record {
+  clean = λ h. h;
+  served = λ h registry k over. record { registry = registry; kept = k; spells = over; holds = Served-none _ _ _ _ };
+}
+
+pub loop-size-preserved : goal.loop-size-preserved
+loop-size-preserved g c =
+    let held = c.loop-size.buffer in
+    let size = c.in-Answered.size in
+    record {
+      clean = λ h. c.loop-size.invariant.clean (c.answer_front.ensures.clean h);
+      served = λ h registry k over.
+          let before = c.loop-size.invariant.served (c.answer_front.ensures.clean h) registry k over in
+          let now = c.in-Answered.ensures.next h before.registry before.kept before.spells in
+          let P : List ℕ → Type 0 = λ bytes. AnswersOne (g.W.Write.contents c.loop-size.writer) (g.W.Write.contents c.answer_front.new.writer) before.registry before.kept now.registry now.kept bytes size in
+          record {
+            registry = now.registry;
+            kept = now.kept;
+            spells = now.spells;
+            holds = rw c.let_go.ensures (Served-one _ _ _ _ _ _ _ _ _ _ held size before.holds (subst P c.held.ensures now.holds));
+          };
+    }
+
+pub returns-in-Stopped-clause-answers : goal.returns-in-Stopped-clause-answers
+returns-in-Stopped-clause-answers g c h registry k over =
+    let before = c.loop-size.invariant.served (c.answer_front.ensures.clean h) registry k over in
+    let now = c.in-Stopped.ensures.next h before.registry before.kept before.spells in
+    let P : List ℕ → Type 0 = λ bytes. AnswersAs (g.W.Write.contents c.loop-size.writer) (g.W.Write.contents c.answer_front.new.writer) before.registry before.kept now.registry now.kept bytes bytes c.in-Stopped.stop in
+    let mine = before.holds in
+    record {
+      registry = now.registry;
+      kept = now.kept;
+      spells = now.spells;
+      holds = AnswersAs-after _ _ _ _ _ _ _ _ _ _ _ _ mine.answered c.in-Stopped.stop mine.stay mine.carries (subst P c.held.ensures now.holds);
+    }

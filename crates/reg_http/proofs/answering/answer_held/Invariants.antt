@@ -1,0 +1,16 @@
+use Rattle.std.proofs.Common.{length}
+use Rattle.sqlite.specs.State.{HasCleanDisk}
+use Rattle.reg_service.specs.Services.{state_in}
+use Rattle.reg_http.specs.OverTables.{Over}
+use Rattle.reg_http.specs.SessionSteps.{Served}
+use Rattle.reg_http.proofs.answering.answer_held.Given as goal
+
+abbrev pub invariant-loop-size : goal.invariant-loop-size
+invariant-loop-size g l = record {
+  clean : HasCleanDisk (state_in l.service) → HasCleanDisk (state_in l.fn.service);
+  served : HasCleanDisk (state_in l.service) → Over (state_in l.fn.service) (state_in l.service)
+      (λ before k after k'. Served (g.W.Write.contents l.fn.writer) (g.W.Write.contents l.writer) before k after k' l.fn.buffer l.buffer);
+}
+
+abbrev pub decreases-loop-size : goal.decreases-loop-size
+decreases-loop-size g l = length l.buffer

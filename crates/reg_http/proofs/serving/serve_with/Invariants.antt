@@ -1,0 +1,17 @@
+use Rattle.std.proofs.Common.{ℕ, List}
+use Rattle.std.specs.Io.KnownBytes.{Consumes}
+use Rattle.sqlite.specs.State.{HasCleanDisk}
+use Rattle.reg_service.specs.Services.{state_in}
+use Rattle.reg_http.specs.OverTables.{Over}
+use Rattle.reg_http.specs.SessionSteps.{Served, Waits}
+use Rattle.reg_http.proofs.serving.serve_with.Given as goal
+
+abbrev pub invariant-loop : goal.invariant-loop
+invariant-loop g l = record {
+  waits : Waits l.buffer l.needs;
+  input : List ℕ;
+  reads : Consumes (g.R.Read.remaining l.initial.reader) (g.R.Read.remaining l.reader) input;
+  clean : HasCleanDisk (state_in l.service) → HasCleanDisk (state_in l.initial.service);
+  served : HasCleanDisk (state_in l.service) → Over (state_in l.initial.service) (state_in l.service)
+      (λ before k after k'. Served (g.W.Write.contents l.initial.writer) (g.W.Write.contents l.writer) before k after k' input l.buffer);
+}

@@ -1,0 +1,5 @@
+pub mod OverTables
+pub mod Output
+pub mod Sessions
+pub mod SessionSteps
+pub mod Readings

@@ -1,0 +1,81 @@
+-- The steps of a session: from one message to the next, and where the answers stop.
+use Rattle.std.specs.Prelude.{◌≡◌, ◌⊎◌, ℕ, ◌<◌, ◌≤◌, Bool, true, false, List, [], ◌∷◌, ◌++◌, drop, length, Option}
+use Rattle.std.specs.Io.KnownBytes.{Appends}
+use Rattle.reg_core.specs.declared.code.Code.{Code}
+use Rattle.reg_core.specs.Registry.{Registry}
+use Rattle.reg_core.specs.KeptReplies.{Kept}
+use Rattle.reg_http.specs.declared.answering.Stop.{Stop}
+use Rattle.reg_http.specs.declared.answering.Stop.TheVariants.{Waiting, AtClose, AtFault, NotWritten, NoRoom}
+use Rattle.reg_http.specs.declared.answering.Next.{Next}
+use Rattle.reg_http.specs.declared.answering.Next.TheVariants.{Answered as AnsweredNext, Stopped}
+use Rattle.reg_http.specs.declared.writing.Sent.{Sent}
+use Rattle.reg_http.specs.declared.writing.Sent.TheVariants.{Whole, CutShort, NoRoom as Unsent}
+use Rattle.reg_messages.specs.Messages.{Follows, Part, Faulty}
+use Rattle.reg_messages.specs.Closing.{closes}
+use Rattle.reg_messages.specs.Answers.{fault_answer}
+use Rattle.reg_http.specs.Output.{Answered, StayOpen, LastCloses, answers, IsFront, IsCutShort}
+use Rattle.reg_http.specs.Sessions.{Carries}
+
+-- No whole message is at the front while there are fewer bytes than that. With those that are needed there is room for all.
+pub record Waits (bytes : List ℕ) (needs : ℕ) : Type 0 where
+  pub short : length bytes < needs
+  pub fits : needs ≤ 1064960
+  pub part : (more : List ℕ) → length (bytes ++ more) < needs → (bytes ++ more ≡ []) ⊎ Follows (bytes ++ more) Part
+
+-- What stands at each stop: rest follows the messages xs, and out was written for all of it. Where more bytes are waited
+-- for, rest is what is held.
+abbrev pub StopsAs : List Answered → List ℕ → List ℕ → List ℕ → Stop → Type 0
+StopsAs xs rest held out (Waiting needs) = StayOpen xs × (rest ≡ held) × Waits rest needs × (out ≡ answers xs)
+StopsAs xs rest held out AtClose = LastCloses xs × (out ≡ answers xs)
+StopsAs xs rest held out AtFault = (code : Code) × StayOpen xs × Follows rest (Faulty code) × (out ≡ answers xs ++ fault_answer code)
+StopsAs xs rest held out NotWritten = IsCutShort xs rest out
+StopsAs xs rest held out NoRoom = (StayOpen xs × (out ≡ answers xs)) ⊎ IsCutShort xs rest out
+
+-- Messages at the front of the bytes were carried out, up to a stop.
+pub record AnswersAs (old new : Option (List ℕ)) (g : Registry) (k : Kept) (g' : Registry) (k' : Kept) (bytes held : List ℕ) (stop : Stop) : Type 0 where
+  pub answered : List Answered
+  pub rest : List ℕ
+  pub out : List ℕ
+  pub carries : Carries old new g k g' k' bytes answered rest out
+  pub stops : StopsAs answered rest held out stop
+
+-- One message of so many bytes was answered, and the connection goes on.
+pub record AnswersOne (old new : Option (List ℕ)) (g : Registry) (k : Kept) (g' : Registry) (k' : Kept) (bytes : List ℕ) (size : ℕ) : Type 0 where
+  pub answered : Answered
+  pub stays : closes answered.0 ≡ false
+  pub carries : Carries old new g k g' k' bytes (answered ∷ []) (drop size bytes) (answers (answered ∷ []))
+
+abbrev pub NextAs : Option (List ℕ) → Option (List ℕ) → Registry → Kept → Registry → Kept → List ℕ → Next → Type 0
+NextAs old new g k g' k' bytes (AnsweredNext size) = AnswersOne old new g k g' k' bytes size
+NextAs old new g k g' k' bytes (Stopped stop) = AnswersAs old new g k g' k' bytes bytes stop
+
+-- how many bytes are waited for, if any are
+abbrev pub WaitsAt : List ℕ → Stop → Type 0
+WaitsAt bytes (Waiting needs) = Waits bytes needs
+WaitsAt bytes other = Unit {0}
+
+-- the message that was answered has a byte, and no more than there are
+abbrev pub IsWithin : List ℕ → Next → Type 0
+IsWithin bytes (AnsweredNext size) = (0 < size) × (size ≤ length bytes)
+IsWithin bytes (Stopped stop) = WaitsAt bytes stop
+
+-- what follows an answer to a whole message of so many bytes, which may end the connection
+abbrev pub next_after : Sent → Bool → ℕ → Next
+next_after Whole true size = Stopped AtClose
+next_after Whole false size = AnsweredNext size
+next_after CutShort close size = Stopped NotWritten
+next_after Unsent close size = Stopped NoRoom
+
+-- what was written for a fault, at each stop
+abbrev pub FaultAs : Option (List ℕ) → Option (List ℕ) → Code → Stop → Type 0
+FaultAs old new code AtFault = Appends old new (fault_answer code)
+FaultAs old new code NotWritten = (part : List ℕ) × IsFront part (fault_answer code) × Appends old new part
+FaultAs old new code NoRoom = (part : List ℕ) × IsFront part (fault_answer code) × Appends old new part
+FaultAs old new code AtClose = ⊥
+FaultAs old new code (Waiting needs) = ⊥
+
+-- the messages that were answered stay open, and what is held follows them
+pub record Served (old new : Option (List ℕ)) (g : Registry) (k : Kept) (g' : Registry) (k' : Kept) (bytes held : List ℕ) : Type 0 where
+  pub answered : List Answered
+  pub stay : StayOpen answered
+  pub carries : Carries old new g k g' k' bytes answered held (answers answered)

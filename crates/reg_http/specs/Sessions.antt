@@ -1,0 +1,56 @@
+-- A whole session: what was read, what was carried out, and what was written.
+use Rattle.std.specs.Prelude.{◌≡◌, ◌⊎◌, ℕ, List, map, Option}
+use Rattle.std.specs.Io.KnownBytes.{Appends, Consumes, IsAtEnd}
+use Rattle.reg_core.specs.declared.code.Code.{Code}
+use Rattle.reg_core.specs.Registry.{Registry}
+use Rattle.reg_core.specs.KeptReplies.{Kept}
+use Rattle.reg_service.specs.Deliveries.{Serves, served}
+use Rattle.reg_http.specs.declared.serving.Ended.{Ended}
+use Rattle.reg_http.specs.declared.serving.Ended.TheVariants.{Closed, ReadFailed, WriteFailed, Malformed, Memory}
+use Rattle.reg_messages.specs.Messages.{Leads, Follows, End, Part, Faulty}
+use Rattle.reg_http.specs.Output.{Answered, AreRefused, StayOpen, LastCloses, exchanges, answers, output, IsCutShort}
+
+-- Messages at the front of bytes were carried out, rest follows them, and out was written. From a registry and
+-- what was kept they led to another.
+pub record Carries (old new : Option (List ℕ)) (g : Registry) (k : Kept) (g' : Registry) (k' : Kept)
+    (bytes : List ℕ) (xs : List Answered) (rest out : List ℕ) : Type 0 where
+  pub leads : Leads bytes (map (λ x. x.0) xs) rest
+  pub refused : AreRefused xs
+  pub serves : Serves g k (served (exchanges xs)) g' k'
+  pub writes : Appends old new out
+
+-- Nothing follows the messages, and the input ended.
+abbrev pub EndsBetween : Option (List ℕ) → List Answered → List ℕ → List ℕ → Type 0
+EndsBetween reader xs rest out = StayOpen xs × IsAtEnd reader × Follows rest End × (out ≡ output xs End)
+
+-- A part of a message follows them, and the input ended.
+abbrev pub EndsInside : Option (List ℕ) → List Answered → List ℕ → List ℕ → Type 0
+EndsInside reader xs rest out = StayOpen xs × IsAtEnd reader × Follows rest Part × (out ≡ output xs Part)
+
+-- A fault follows them, and was answered.
+abbrev pub EndsFaulty : List Answered → List ℕ → List ℕ → Type 0
+EndsFaulty xs rest out = (code : Code) × StayOpen xs × Follows rest (Faulty code) × (out ≡ output xs (Faulty code))
+
+-- What stands at each end, where the reader is left as it is.
+abbrev pub EndsAs : Option (List ℕ) → List Answered → List ℕ → List ℕ → Ended → Type 0
+-- the last message that was answered ends the connection, or the input ended between messages
+EndsAs reader xs rest out Closed = (LastCloses xs × (out ≡ answers xs)) ⊎ EndsBetween reader xs rest out
+-- a fault ended the session, or the input ended inside a message
+EndsAs reader xs rest out Malformed = EndsFaulty xs rest out ⊎ EndsInside reader xs rest out
+-- each whole message that was read was answered
+EndsAs reader xs rest out ReadFailed = StayOpen xs × (Follows rest End ⊎ Follows rest Part) × (out ≡ answers xs)
+-- the last answer, or that to a fault, wasn't written whole
+EndsAs reader xs rest out WriteFailed = IsCutShort xs rest out
+EndsAs reader xs rest out Memory = (StayOpen xs × (out ≡ answers xs)) ⊎ IsCutShort xs rest out
+
+-- A session, from and to what the reader has left, what the writer holds, the registry and what is kept.
+-- How the reads were cut is no part of it.
+pub record Session (reader reader' writer writer' : Option (List ℕ)) (g : Registry) (k : Kept) (g' : Registry) (k' : Kept) (ended : Ended) : Type 0 where
+  -- all that was read
+  pub input : List ℕ
+  pub reads : Consumes reader reader' input
+  pub answered : List Answered
+  pub rest : List ℕ
+  pub out : List ℕ
+  pub carries : Carries writer writer' g k g' k' input answered rest out
+  pub ends : EndsAs reader' answered rest out ended

@@ -1,0 +1,129 @@
+//! The one buffer of a connection, filled by a reader and emptied from the front.
+
+ghost use Rattle.std.specs.Prelude.{◌≡◌, ◌≤◌, ◌<◌, ◌+◌, ◌-◌, ◌++◌, [], ℕ, List, length, take, drop, IfOk, OnErr, slice_range, vec_len};
+ghost use Rattle.std.specs.Io.KnownBytes.{Consumes, IsAtEnd, Keeps};
+
+use reg_core::OutOfMemory;
+use std::alloc::Global;
+use std::io;
+use std::io::Read;
+use std::marker::Model;
+
+/// How many bytes a buffer has room for: a head and a body at their limits.
+pub const ROOM: usize = 1_064_960;
+
+/// Bytes that were read and not yet let go. Contracts see these bytes.
+#[derive(Drop)]
+pub struct Buffer {
+    bytes: Vec<u8>,
+    first: usize,
+    last: usize,
+}
+
+impl Model for Buffer {
+    ghost use Rattle.std.specs.Prelude.{ℕ, List, ◌≡◌, ◌≤◌, slice_range, vec_len};
+    ghost use Rattle.std.specs.Coded.{coded_list, coded_ℕ};
+
+    ghost Value = { List ℕ };
+
+    ghost coded = { coded_list coded_ℕ };
+
+    ghost view = { λ b. slice_range b.bytes.items b.first b.last };
+
+    ghost invariant = { λ b. (b.first ≤ b.last) × (b.last ≤ 1064960) × (vec_len b.bytes ≡ 1064960) };
+}
+
+/// Reads once, into the bytes from a place on.
+fn read_into<R: Read>(bytes: &mut Vec<u8>, at: usize, reader: &mut R) -> io::Result<usize>
+    requires { at ≤ vec_len bytes.old }
+    ensures len { vec_len bytes.new ≡ vec_len bytes.old }
+    ensures front { take at bytes.new.items ≡ take at bytes.old.items }
+    ensures ok { IfOk result (λ n. (at + n ≤ vec_len bytes.new)
+        × Consumes (R.remaining reader.old) (R.remaining reader.new) (slice_range bytes.new.items at (at + n))
+        × (n ≡ 0 → at < vec_len bytes.old → IsAtEnd (R.remaining reader.new))) }
+    ensures err { OnErr result (Keeps (R.remaining reader.old) (R.remaining reader.new)) }
+{
+    let room = &mut bytes.as_mut_slice()[at..];
+    reader.read(room)
+}
+
+/// Moves the bytes between two places to the front.
+fn to_front(bytes: &mut Vec<u8>, first: usize, last: usize)
+    requires order { first ≤ last }
+    requires within { last ≤ vec_len bytes.old }
+    ensures len { vec_len bytes.new ≡ vec_len bytes.old }
+    ensures moved { take (last - first) bytes.new.items ≡ slice_range bytes.old.items first last }
+{
+    bytes.copy_within(first..last, 0);
+}
+
+/// Where the part between two places stands once there is room behind it. It is moved only where there
+/// was none.
+fn make_room(bytes: &mut Vec<u8>, first: usize, last: usize) -> (usize, usize)
+    requires order { first ≤ last }
+    requires within { last ≤ vec_len bytes.old }
+    requires fits { last - first < vec_len bytes.old }
+    ensures len { vec_len bytes.new ≡ vec_len bytes.old }
+    ensures order { result.0 ≤ result.1 }
+    ensures room { result.1 < vec_len bytes.new }
+    ensures same { slice_range bytes.new.items result.0 result.1 ≡ slice_range bytes.old.items first last }
+{
+    if last < bytes.len() {
+        return (first, last);
+    }
+    to_front(bytes, first, last);
+    (0, last - first)
+}
+
+impl Buffer {
+    /// An empty buffer, with all the room that it will have.
+    ///
+    /// # Errors
+    ///
+    /// `OutOfMemory` where that room is refused.
+    pub fn new(alloc: Global) -> Result<Buffer, OutOfMemory>
+        ensures { IfOk result (λ buffer. buffer ≡ []) }
+    {
+        Ok(Buffer {
+            bytes: vec![in alloc; 0; ROOM]?,
+            first: 0,
+            last: 0,
+        })
+    }
+
+    /// What is held.
+    pub fn held(&self) -> &[u8]
+        ensures { result.now ≡ self.now }
+    {
+        &self.bytes[self.first..self.last]
+    }
+
+    /// Lets so many bytes at the front go.
+    pub fn let_go(&mut self, count: usize)
+        requires { count ≤ length self.old }
+        ensures { self.new ≡ drop count self.old }
+    {
+        self.first += count;
+    }
+
+    /// Reads once, behind what is held. Where it answers 0 the input has ended.
+    ///
+    /// # Errors
+    ///
+    /// That of the read. Then nothing has changed.
+    pub fn fill<R: Read>(&mut self, reader: &mut R) -> io::Result<usize>
+        requires { length self.old < 1064960 }
+        ensures ok { IfOk result (λ n. (more : List ℕ) × (self.new ≡ self.old ++ more) × (length more ≡ n)
+            × Consumes (R.remaining reader.old) (R.remaining reader.new) more
+            × (n ≡ 0 → IsAtEnd (R.remaining reader.new))) }
+        ensures err { OnErr result ((self.new ≡ self.old)
+            × Keeps (R.remaining reader.old) (R.remaining reader.new)) }
+    {
+        let (first, last) = make_room(&mut self.bytes, self.first, self.last);
+        self.first = first;
+        self.last = last;
+        let count = read_into(&mut self.bytes, self.last, reader)?;
+        self.last += count;
+        Ok(count)
+    }
+}

@@ -1,0 +1,158 @@
+//! A connection, from its first byte to its end.
+
+ghost use Rattle.std.specs.Prelude.{◌≡◌, ◌<◌, [], length};
+ghost use Rattle.sqlite.specs.State.{HasCleanDisk};
+ghost use Rattle.reg_service.specs.Services.{state_in};
+ghost use Rattle.reg_http.specs.OverTables.{Over};
+ghost use Rattle.reg_http.specs.Sessions.{Session};
+ghost use Rattle.reg_http.specs.Readings.{ReadsAs, end_of};
+ghost use Rattle.reg_http.specs.SessionSteps.{AnswersAs, Waits, WaitsAt};
+
+use crate::answering::{Stop, answer_held};
+use crate::buffer::Buffer;
+use httparse::spans::{EMPTY_HEADER_SPAN, HeaderSpan};
+use reg_messages::MAX_HEAD;
+use reg_routes::Routes;
+use reg_service::Service;
+use sqlite::Alter;
+use std::alloc::Global;
+use std::io::{ErrorKind, Read, Write};
+
+/// How a connection ended.
+#[derive(Clone, Copy, Debug, PartialEq, Eq)]
+pub enum Ended {
+    /// A message ended it, or the input ended between messages.
+    Closed,
+    /// A read answered an error. Each whole message that was read was answered.
+    ReadFailed,
+    /// A write answered an error, or took no byte. The last command stands as its reply says.
+    WriteFailed,
+    /// What came was no message, or the input ended inside one.
+    Malformed,
+    /// Room for the table of paths, the buffer or an answer was refused.
+    Memory,
+}
+
+/// What a read gave.
+#[derive(Clone, Copy)]
+enum Came {
+    /// Bytes, or none where the read was interrupted.
+    Bytes,
+    /// The end of the input.
+    End,
+    /// An error.
+    Failed,
+}
+
+/// Reads once, behind what is held.
+fn read_more<R: Read>(buffer: &mut Buffer, reader: &mut R) -> Came
+    requires { length buffer.old < 1064960 }
+    ensures { ReadsAs (R.remaining reader.old) (R.remaining reader.new) buffer.old buffer.new result }
+{
+    match buffer.fill(reader) {
+        Ok(0) => Came::End,
+        Ok(_) => Came::Bytes,
+        Err(error) if error.kind() == ErrorKind::Interrupted => Came::Bytes,
+        Err(_) => Came::Failed,
+    }
+}
+
+/// How a connection ends with its input, by what is held of a message.
+fn end_of(held: &[u8]) -> Ended
+    ensures { result ≡ end_of held.now }
+{
+    if held.is_empty() {
+        Ended::Closed
+    } else {
+        Ended::Malformed
+    }
+}
+
+/// Answers the messages that are held, once there are as many bytes as a whole one has at least.
+fn answer_more<W: Write, S: Alter>(
+    alloc: Global,
+    routes: &Routes,
+    buffer: &mut Buffer,
+    needs: usize,
+    headers: &mut [HeaderSpan],
+    writer: &mut W,
+    service: &mut Service<S>,
+) -> Stop
+    requires { length buffer.old < needs → Waits buffer.old needs }
+    ensures clean { HasCleanDisk (state_in service.new) → HasCleanDisk (state_in service.old) }
+    ensures answers { HasCleanDisk (state_in service.new) → Over (state_in service.old) (state_in service.new)
+        (λ g k g' k'. AnswersAs (W.contents writer.old) (W.contents writer.new) g k g' k' buffer.old buffer.new result) }
+    ensures waits { WaitsAt buffer.new result }
+{
+    if buffer.held().len() < needs {
+        return Stop::Waiting(needs);
+    }
+    answer_held(alloc, routes, buffer, headers, writer, service)
+}
+
+/// Reads and answers until the connection ends. It holds less than one whole message while it reads.
+fn serve_with<R: Read, W: Write, S: Alter>(
+    alloc: Global,
+    routes: &Routes,
+    mut buffer: Buffer,
+    headers: &mut [HeaderSpan],
+    reader: &mut R,
+    writer: &mut W,
+    service: &mut Service<S>,
+) -> Ended
+    requires { buffer ≡ [] }
+    ensures clean { HasCleanDisk (state_in service.new) → HasCleanDisk (state_in service.old) }
+    ensures session { HasCleanDisk (state_in service.new) → Over (state_in service.old) (state_in service.new)
+        (λ g k g' k'. Session (R.remaining reader.old) (R.remaining reader.new)
+        (W.contents writer.old) (W.contents writer.new) g k g' k' result) }
+{
+    let mut needs = 1;
+    for _ in 0..u64::MAX {
+        match read_more(&mut buffer, reader) {
+            Came::Bytes => {}
+            Came::End => return end_of(buffer.held()),
+            Came::Failed => return Ended::ReadFailed,
+        }
+        match answer_more(alloc, routes, &mut buffer, needs, headers, writer, service) {
+            Stop::Waiting(more) => needs = more,
+            Stop::AtClose => return Ended::Closed,
+            Stop::AtFault => return Ended::Malformed,
+            Stop::NotWritten => return Ended::WriteFailed,
+            Stop::NoRoom => return Ended::Memory,
+        }
+    }
+    Ended::ReadFailed
+}
+
+/// Serves a connection: reads messages, carries them out and answers each as soon as it is whole, in
+/// order. How the reads are cut doesn't matter. All room for reading is taken before the first read.
+pub fn serve<R: Read, W: Write, S: Alter>(
+    alloc: Global,
+    reader: &mut R,
+    writer: &mut W,
+    service: &mut Service<S>,
+) -> Ended
+    ensures clean { HasCleanDisk (state_in service.new) → HasCleanDisk (state_in service.old) }
+    ensures session { HasCleanDisk (state_in service.new) → Over (state_in service.old) (state_in service.new)
+        (λ g k g' k'. Session (R.remaining reader.old) (R.remaining reader.new)
+        (W.contents writer.old) (W.contents writer.new) g k g' k' result) }
+{
+    let Ok(routes) = Routes::new(alloc) else {
+        return Ended::Memory;
+    };
+    let Ok(mut headers) = vec![in alloc; EMPTY_HEADER_SPAN; MAX_HEAD] else {
+        return Ended::Memory;
+    };
+    let Ok(buffer) = Buffer::new(alloc) else {
+        return Ended::Memory;
+    };
+    serve_with(
+        alloc,
+        &routes,
+        buffer,
+        headers.as_mut_slice(),
+        reader,
+        writer,
+        service,
+    )
+}

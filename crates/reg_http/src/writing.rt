@@ -1,0 +1,68 @@
+//! Bytes, written whole.
+
+ghost use Rattle.std.specs.Prelude.{◌≡◌, ◌≤◌, ℕ, List, length, take, IsTrue, option_map};
+ghost use Rattle.std.specs.Io.KnownBytes.{Appends};
+ghost use Rattle.reg_messages.specs.Answers.{answer_bytes};
+ghost use Rattle.reg_http.specs.Output.{IsFront};
+
+use reg_core::Reply;
+use reg_messages::bytes_of;
+use std::alloc::Global;
+use std::io::{ErrorKind, Write};
+
+/// What became of an answer.
+#[derive(Clone, Copy)]
+pub enum Sent {
+    /// All of it was written.
+    Whole,
+    /// A beginning of it was written.
+    CutShort,
+    /// Room for it was refused.
+    NoRoom,
+}
+
+/// Writes the bytes, and tries again where a write was interrupted. Where it answers false, a beginning
+/// of them went out.
+pub fn put<W: Write>(writer: &mut W, bytes: &[u8]) -> bool
+    ensures front { (n : ℕ) × (n ≤ length bytes.now)
+        × Appends (W.contents writer.old) (W.contents writer.new) (take n bytes.now) }
+    ensures whole { IsTrue result → Appends (W.contents writer.old) (W.contents writer.new) bytes.now }
+{
+    let mut at = 0;
+    for _ in 0..u64::MAX {
+        if at == bytes.len() {
+            return true;
+        }
+        match writer.write(&bytes[at..]) {
+            Ok(0) => return false,
+            Ok(n) => at += n,
+            Err(error) if error.kind() == ErrorKind::Interrupted => {}
+            Err(_) => return false,
+        }
+    }
+    false
+}
+
+/// Writes an answer, in one write where the writer takes it whole.
+pub fn send<W: Write>(
+    alloc: Global,
+    writer: &mut W,
+    reply: &Reply,
+    allow: Option<&str>,
+    close: bool,
+) -> Sent
+    ensures front { (part : List ℕ)
+        × IsFront part (answer_bytes reply.now (option_map (λ text. text.now) allow.entry) close)
+        × Appends (W.contents writer.old) (W.contents writer.new) part }
+    ensures whole { result ≡ Sent.Whole → Appends (W.contents writer.old) (W.contents writer.new)
+        (answer_bytes reply.now (option_map (λ text. text.now) allow.entry) close) }
+{
+    let Ok(text) = bytes_of(alloc, reply, allow, close) else {
+        return Sent::NoRoom;
+    };
+    if put(writer, text.as_bytes()) {
+        Sent::Whole
+    } else {
+        Sent::CutShort
+    }
+}
