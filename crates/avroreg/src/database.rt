@@ -1,86 +1,117 @@
-//! Sessions over the registry of a database.
-ghost use Rattle.sqlite.specs.Held.{state};
-ghost use Rattle.sqlite.specs.State.{HasCleanDisk};
-ghost use Rattle.reg_store.specs.Stores.{state_of};
-ghost use Rattle.avroreg.specs.OverTables.{Over};
-ghost use Rattle.avroreg.specs.Sessions.{Session};
-ghost use Rattle.avroreg.specs.Databases.{RunsNew, RunsOver};
+//! A registry's database in a file: which files are opened as one, and how it is closed.
 
-use crate::outcome::Outcome;
-use crate::stream::{Ended, run_on};
-use reg_service::Service;
-use reg_store::{Store, StoreError};
-use sqlite::{Alter, Connection};
-use std::alloc::Global;
-use std::io::{Read, Write};
+use crate::LineFault;
+use reg_jobs::Opened;
+use sqlite::{Connection, Error, ErrorCode, FileFrom, FileStore, Wary};
+use std::io::Read;
+use std::rt::Files;
+use std::{fs, io};
 
-/// Answers the requests of the reader over a store, and gives its connection back.
-fn run_on_store<R: Read, W: Write, S: Alter>(
-    alloc: Global,
-    store: Store<S>,
-    reader: &mut R,
-    writer: &mut W,
-) -> (Ended, Connection<S>)
-    ensures clean { HasCleanDisk (state S.Store result.1) → HasCleanDisk (state_of store) }
-    ensures session { HasCleanDisk (state S.Store result.1)
-        → Over (state_of store) (state S.Store result.1) (λ g k g' k'. Session (R.remaining reader.old)
-        (R.remaining reader.new) (W.contents writer.old) (W.contents writer.new) g k g' k' result.0) }
-{
-    let mut service = Service::new(alloc, store);
-    let ended = run_on(alloc, reader, writer, &mut service);
-    (ended, service.into_store().into_connection())
+/// A database in a file and its log. No sum or torn write is trusted.
+pub type FileDatabase = FileStore<FileFrom<Wary>>;
+
+/// The first bytes of a database file (SQLite, Database File Format).
+const DATABASE_FRONT: &[u8; 16] = b"SQLite format 3\0";
+
+/// Whether a file begins as a database does, or has no byte.
+fn begins_as_database(rt: &HostRuntime, file: &str) -> io::Result<bool> {
+    if !fs::metadata(rt, file)?.is_file() {
+        return Ok(false);
+    }
+    let mut opened = fs::OpenOptions::new().read(true).open(rt, file)?;
+    let mut front = [0u8; 16];
+    let read = opened.read(&mut front)?;
+    Ok(read == 0 || front.as_slice() == DATABASE_FRONT.as_slice())
 }
 
-/// Answers the requests of the reader over a new registry, which it makes in an empty database, and
-/// gives the connection back.
-///
-/// The outcome is `Unopened` where `Store::create` fails, and nothing is read or written then. A
-/// connection inside a transaction is `Unopened` by `Disk`.
-pub fn run_new<R: Read, W: Write, S: Alter>(
-    alloc: Global,
-    connection: Connection<S>,
-    reader: &mut R,
-    writer: &mut W,
-) -> (Outcome, Connection<S>)
-    ensures { HasCleanDisk (state S.Store result.1)
-        → RunsNew (state S.Store connection) (state S.Store result.1) (R.remaining reader.old)
-        (R.remaining reader.new) (W.contents writer.old) (W.contents writer.new) result.0 }
-{
-    if !connection.is_autocommit() {
-        return (Outcome::Unopened(StoreError::Disk), connection);
-    }
-    match Store::create(alloc, connection) {
-        Ok(store) => {
-            let (ended, connection) = run_on_store(alloc, store, reader, writer);
-            (Outcome::Session(ended), connection)
-        }
-        Err((error, connection)) => (Outcome::Unopened(error), connection),
+/// Whether a log with bytes lies beside a file.
+fn has_log(rt: &HostRuntime, file: &str) -> io::Result<bool> {
+    let log = format!(in rt.alloc(); "{file}-wal")?;
+    match fs::metadata(rt, log.as_str()) {
+        Ok(found) => Ok(found.len() > 0),
+        Err(error) if error.kind() == io::ErrorKind::NotFound => Ok(false),
+        Err(error) => Err(error),
     }
 }
 
-/// Answers the requests of the reader over the registry that a database has, and gives the
-/// connection back.
-///
-/// The outcome is `Unopened` where `Store::open` fails, and nothing is read or written then. A
-/// connection inside a transaction is `Unopened` by `Disk`.
-pub fn run_over<R: Read, W: Write, S: Alter>(
-    alloc: Global,
-    connection: Connection<S>,
-    reader: &mut R,
-    writer: &mut W,
-) -> (Outcome, Connection<S>)
-    ensures { HasCleanDisk (state S.Store result.1)
-        → RunsOver (state S.Store connection) (state S.Store result.1) (R.remaining reader.old)
-        (R.remaining reader.new) (W.contents writer.old) (W.contents writer.new) result.0 }
-{
-    if !connection.is_autocommit() {
-        return (Outcome::Unopened(StoreError::Disk), connection);
+/// Whether a file may be opened as a database: it is missing, has no byte or begins as one, or a run
+/// that was killed left its log beside it. An open would write over the bytes of another file.
+fn may_open(rt: &HostRuntime, file: &str) -> io::Result<bool> {
+    match begins_as_database(rt, file) {
+        Ok(true) => Ok(true),
+        Ok(false) => has_log(rt, file),
+        Err(error) if error.kind() == io::ErrorKind::NotFound => Ok(true),
+        Err(error) => Err(error),
     }
-    match Store::open(alloc, connection) {
-        Ok(store) => {
-            let (ended, connection) = run_on_store(alloc, store, reader, writer);
-            (Outcome::Session(ended), connection)
+}
+
+/// Whether a file is missing or has no byte.
+fn is_new(rt: &HostRuntime, file: &str) -> io::Result<bool> {
+    match fs::metadata(rt, file) {
+        Ok(found) => Ok(found.len() == 0),
+        Err(error) if error.kind() == io::ErrorKind::NotFound => Ok(true),
+        Err(error) => Err(error),
+    }
+}
+
+/// Whether a database lists nothing. The log beside a new file may have its tables.
+fn lists_nothing(connection: &mut Connection<FileDatabase>) -> Result<bool, Error> {
+    let count: i64 = connection
+        .query_row("SELECT count(*) FROM sqlite_schema", &[])?
+        .get(0)?;
+    Ok(count == 0)
+}
+
+/// What a database that can't be opened is for the job, by the error.
+fn failed(error: Error) -> Result<Opened<FileDatabase>, LineFault> {
+    match error {
+        Error::SqliteFailure(ErrorCode::OutOfMemory) => Err(LineFault::OutOfMemory),
+        _ => Ok(Opened::Failed),
+    }
+}
+
+/// Whether a file that may be opened is new, or `None` where it may not be.
+fn looked_at(rt: &HostRuntime, file: &str) -> io::Result<Option<bool>> {
+    if may_open(rt, file)? {
+        Ok(Some(is_new(rt, file)?))
+    } else {
+        Ok(None)
+    }
+}
+
+/// Opens the database in a file, which is made where it is missing. A new one has no registry yet.
+pub fn opened_database(rt: &HostRuntime, file: &str) -> Result<Opened<FileDatabase>, LineFault> {
+    let is_new = match looked_at(rt, file) {
+        Ok(Some(is_new)) => is_new,
+        Err(error) if error.kind() == io::ErrorKind::OutOfMemory => {
+            return Err(LineFault::OutOfMemory);
         }
-        Err((error, connection)) => (Outcome::Unopened(error), connection),
+        _ => return Ok(Opened::Failed),
+    };
+    let mut connection = match Connection::open_from(rt, file, false, Wary) {
+        Ok(connection) => connection,
+        Err((error, _)) => return failed(error),
+    };
+    match lists_nothing(&mut connection) {
+        Ok(true) if is_new => Ok(Opened::Fresh(connection)),
+        Ok(_) => Ok(Opened::Database(connection)),
+        Err(error) => failed(error),
+    }
+}
+
+/// Removes the log of a database file. The caller holds the database's files, so that nobody else
+/// has them open, and the log is empty.
+fn remove_log(rt: &HostRuntime, file: &str) -> io::Result<()> {
+    let real = fs::canonicalize(rt, file)?;
+    let log = format!(in rt.alloc(); "{}-wal", real.as_str())?;
+    fs::remove_file(rt, log.as_str())
+}
+
+/// Closes a database: its log is copied into the file F, and removed. Where the copy fails, what was
+/// committed stands in F and F-wal together.
+pub fn close(rt: &HostRuntime, file: &str, connection: Connection<FileDatabase>) {
+    if let Ok(files) = connection.close_files() {
+        let _ = remove_log(rt, file);
+        drop(files);
     }
 }

@@ -1,6 +1,0 @@
-mod ByteLemmas
-mod ReplyLemmas
-mod SessionLemmas
-mod EndLemmas
-mod LineLemmas
-mod NameLemmas

@@ -1,7 +1,0 @@
-use Rattle.std.proofs.Common.{take}
-use Rattle.std.specs.Io.KnownBytes.{Appends}
-use Rattle.avroreg.specs.Names.{shown}
-use Rattle.avroreg.proofs.name.put_name.Given as goal
-
-abbrev pub invariant-loop-byte : goal.invariant-loop-byte
-invariant-loop-byte g l = Appends (g.E.Write.contents l.fn.errors) (g.E.Write.contents l.errors) (shown (take l.byte-index l.byte-items))

@@ -1,9 +1,0 @@
-pub mod Output
-pub mod Sessions
-pub mod OverTables
-pub mod SessionSteps
-pub mod Files
-pub mod Names
-pub mod Outcomes
-pub mod Databases
-pub mod Jobs

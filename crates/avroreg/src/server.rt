@@ -1,0 +1,48 @@
+//! A registry on a port of 127.0.0.1.
+
+use crate::LineFault;
+use crate::database::{FileDatabase, close, opened_database};
+use reg_jobs::{Outcome, Server, report, serve_on, store_in};
+use reg_service::Service;
+use reg_store::Store;
+use sqlite::Connection;
+use std::net::{Ipv4Addr, TcpListener};
+
+/// Serves the connections to the server's port over a store, and gives its connection back, with the
+/// fault where no connection can come to the port.
+fn listen(
+    rt: &HostRuntime,
+    server: &Server,
+    store: Store<FileDatabase>,
+) -> (Option<Outcome>, Connection<FileDatabase>) {
+    let mut service = Service::new(rt.alloc(), store);
+    let fault = match TcpListener::bind(rt, (Ipv4Addr::LOCALHOST, server.port)) {
+        Ok(listener) => {
+            serve_on(rt.alloc(), &listener, server.connections, &mut service);
+            None
+        }
+        Err(_) => Some(Outcome::NotListening(server.port)),
+    };
+    (fault, service.into_store().into_connection())
+}
+
+/// Opens the server's database, serves its connections, closes it, and answers the program's status.
+pub fn serve(rt: &HostRuntime, server: &Server) -> Result<u8, LineFault> {
+    let file = server.database.as_str();
+    let opened = opened_database(rt, file)?;
+    let (fault, connection) = match store_in(rt.alloc(), opened) {
+        Ok(store) => {
+            let (fault, connection) = listen(rt, server, store);
+            (fault, Some(connection))
+        }
+        Err((error, connection)) => (Some(Outcome::Unopened(error)), connection),
+    };
+    let status = match fault {
+        Some(outcome) => report(&mut rt.stderr(), outcome, file),
+        None => 0,
+    };
+    if let Some(connection) = connection {
+        close(rt, file, connection);
+    }
+    Ok(status)
+}

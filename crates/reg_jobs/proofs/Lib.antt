@@ -1,0 +1,4 @@
+mod JobLemmas
+mod LineLemmas
+mod ListeningLemmas
+mod NameLemmas

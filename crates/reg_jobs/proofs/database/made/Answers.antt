@@ -1,0 +1,17 @@
+use Rattle.std.proofs.Common.{rules, refl, inl, inr}
+use Rattle.std.specs.Prelude.{IsTrue}
+use Rattle.sqlite.specs.Held.{state}
+use Rattle.reg_jobs.proofs.database.made.Goals as goal
+
+pub returns-then-not-is_autocommit-clause-fault : goal.returns-then-not-is_autocommit-clause-fault
+returns-then-not-is_autocommit-clause-fault g c =
+    let busy : IsTrue (state g.S.Store c.args.connection).in_transaction = search rules in
+    record { connection = c.args.connection; given = refl; holds = λ clean. inl (busy, refl) }
+
+pub returns-in-Ok-clause-done : goal.returns-in-Ok-clause-done
+returns-in-Ok-clause-done g c clean = record { empty = λ full. c.in-Ok.ensures.full full; spells = λ is_open. c.in-Ok.ensures.done clean }
+
+pub returns-in-Err-clause-fault : goal.returns-in-Err-clause-fault
+returns-in-Err-clause-fault g c =
+    let e = c.in-Err.ensures in
+    record { connection = c.in-Err.connection; given = refl; holds = λ clean. inr (record { full = λ full. e.full full; fault = e.fault clean; only_reads = e.nothing clean }) }

@@ -1,0 +1,20 @@
+use Rattle.std.proofs.Common.{rules, refl}
+use Rattle.reg_jobs.specs.Jobs.{ComesOut, file_of}
+use Rattle.reg_jobs.specs.Outcomes.{TellsFault, fault_of}
+use Rattle.reg_jobs.proofs.job.do_job.Goals as goal
+use Rattle.reg_jobs.proofs.job.do_job.Goals.{in-Run, in-Text, in-Check}
+
+pub returns : goal.returns
+returns g c =
+    let comes : ComesOut g.S.Store c.args.job.now c.args.opened c.match-job.outcome.1 (g.R.Read.remaining c.args.reader.now) (g.R.Read.remaining c.match-job.reader)
+    (g.W.Write.contents c.args.writer.now) (g.W.Write.contents c.match-job.writer) c.match-job.outcome.0 =
+    elim c.match-job.branch [
+      | in-Run w ↦ rw (w.in-Run.is, w.outcome-is, w.reader-is, w.writer-is) (rw w.is_some.ensures at w.run.ensures)
+      | in-Text w ↦ rw (w.in-Text.is, w.outcome-is, w.writer-is, w.reader-is)
+          (w.into_connection.ensures, refl, record { printed = w.print_text-printed.result; prints = rw w.text.ensures at w.print_text-printed.ensures; outcome_is = refl })
+      | in-Check w ↦ rw (w.in-Check.is, w.outcome-is, w.writer-is, w.reader-is)
+          (w.into_connection-in-Check.ensures, refl, record { checked = w.check-checked.result; checks = rw (w.text-in-Check.ensures, w.text-in-Check-2.ensures) at w.check-checked.ensures; outcome_is = refl })
+    ] in
+    let tells : TellsFault (fault_of c.match-job.outcome.0) (file_of c.args.job.now c.match-job.outcome.0) (g.E.Write.contents c.args.errors.now) (g.E.Write.contents c.report.new.errors) =
+    rw c.file.ensures at c.report.ensures.tells in
+    record { outcome = c.match-job.outcome.0; comes_out = comes; tells = tells; status_is = c.report.ensures.status }

@@ -1,0 +1,48 @@
+-- The registry that a database gives, and why it gives none.
+use Rattle.std.specs.Prelude.{◌≡◌, ◌≢◌, ◌⊎◌, ℕ, List, Option, Some, IsTrue}
+use Rattle.sqlite.specs.Held.{Held, state}
+use Rattle.sqlite.specs.State.{State, HasCleanDisk}
+use Rattle.sqlite_trees.specs.declared.store.Store.{Ghosts}
+use Rattle.reg_core.specs.Registry.{new_registry}
+use Rattle.reg_core.specs.KeptReplies.{nothing_kept}
+use Rattle.reg_tables.specs.Layout.{no_schema}
+use Rattle.reg_tables.specs.Reading.{OnlyReads}
+use Rattle.reg_store.specs.declared.error.StoreError.{StoreError}
+use Rattle.reg_store.specs.declared.error.StoreError.TheVariants.{Disk, NotARegistry}
+use Rattle.reg_store.specs.Failures.{IsFaultBy}
+use Rattle.reg_store.specs.Opening.{IsRefusedBy, TellsNewer}
+use Rattle.reg_store.specs.Spells.{SpellsWhileOpen}
+use Rattle.reg_store.specs.Testing.{IsFaultUnopened}
+
+-- a connection comes back, and this holds of what it shows
+pub record GivesBack {S : Type 0} (g : Ghosts S) (back : Option (Held S)) (P : State → Type 0) : Type 0 where
+  pub connection : Held S
+  pub given : back ≡ Some connection
+  pub holds : HasCleanDisk (state g connection) → P (state g connection)
+
+-- the database was empty, and its tables spell the new registry, which keeps no reply
+pub record IsMadeIn (old new : State) : Type 0 where
+  pub empty : ¬ (old.now.schema ≢ no_schema)
+  pub spells : SpellsWhileOpen new new_registry nothing_kept
+
+-- why no registry was made: a database that isn't empty is told so, over an empty one memory was refused or there was a fault of the disk, and nothing is committed
+pub record FailsToMake (old new : State) (error : StoreError) : Type 0 where
+  pub full : old.now.schema ≢ no_schema → error ≡ NotARegistry
+  pub fault : old.now.schema ≡ no_schema → IsFaultBy old new error
+  pub only_reads : OnlyReads old new
+
+-- Why a database gave no registry. Where its tables spell one, memory was refused or there was a fault of the disk. A newer layout is told,
+-- and with its own number. Nothing is committed.
+pub record FailsToOpen (old new : State) (error : StoreError) : Type 0 where
+  pub fault : IsFaultUnopened old new error
+  pub newer : TellsNewer old error
+  pub refused : IsRefusedBy old.now error
+  pub only_reads : OnlyReads old new
+
+-- a transaction was under way, or no registry was made
+abbrev pub LacksMade : State → State → StoreError → Type 0
+LacksMade old new error = (IsTrue old.in_transaction × (error ≡ Disk)) ⊎ FailsToMake old new error
+
+-- a transaction was under way, or no registry was found
+abbrev pub LacksFound : State → State → StoreError → Type 0
+LacksFound old new error = (IsTrue old.in_transaction × (error ≡ Disk)) ⊎ FailsToOpen old new error

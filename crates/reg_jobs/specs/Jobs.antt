@@ -1,0 +1,149 @@
+-- What a job does.
+use Rattle.std.specs.Prelude.{◌≡◌, ◌≢◌, ℕ, Bool, true, false, List, [], slice_get, is_some, Option, None, Some, Vec, string_bytes}
+use Rattle.std.specs.Global.{Global}
+use Rattle.sqlite.specs.Held.{Held, state}
+use Rattle.sqlite.specs.State.{State}
+use Rattle.sqlite_trees.specs.declared.store.Store.{Ghosts}
+use Rattle.reg_core.specs.Registry.{Registry, new_registry}
+use Rattle.reg_core.specs.KeptReplies.{Kept, nothing_kept}
+use Rattle.reg_tables.specs.Layout.{no_schema}
+use Rattle.reg_store.specs.declared.error.StoreError.{StoreError}
+use Rattle.reg_store.specs.declared.error.StoreError.TheVariants.{Disk}
+use Rattle.reg_store.specs.Opening.{OpensOver}
+use Rattle.reg_store.specs.Spells.{SpellsUnopened}
+use Rattle.reg_http.specs.OverTables.{Reaches}
+use Rattle.reg_http.specs.declared.serving.Ended.{Ended}
+use Rattle.reg_jobs.specs.declared.files.Printed.{Printed}
+use Rattle.reg_jobs.specs.declared.files.Checked.{Checked}
+use Rattle.reg_jobs.specs.declared.files.Checked.TheVariants.{Verdict, Reader, Writer, OutOfMemory as CheckOutOfMemory, NotWritten as VerdictNotWritten}
+use Rattle.reg_jobs.specs.declared.job.Job.{Job}
+use Rattle.reg_jobs.specs.declared.job.Job.TheVariants.{Run, Text as TextJob, Check as CheckJob}
+use Rattle.reg_jobs.specs.declared.job.Opened.{Opened}
+use Rattle.reg_jobs.specs.declared.job.Opened.TheVariants.{Nothing, Texts, Failed, Fresh, Database}
+use Rattle.reg_jobs.specs.declared.outcome.Outcome.{Outcome}
+use Rattle.reg_jobs.specs.declared.outcome.Outcome.TheVariants.{Session as SessionEnded, Unopened, NotListening, Text as TextEnded, Check as CheckEnded}
+use Rattle.reg_jobs.specs.Databases.{GivesBack, IsMadeIn, LacksMade, LacksFound}
+use Rattle.reg_jobs.specs.Files.{PrintsAs, ChecksAs}
+use Rattle.reg_jobs.specs.Outcomes.{fault_of, status_of, TellsFault}
+use Rattle.reg_http.specs.Sessions.{Session}
+
+-- the file that a job's line on standard error may name
+abbrev pub file_of : Job → Outcome → List ℕ
+file_of (Run None) outcome = []
+file_of (Run (Some file)) outcome = string_bytes file
+file_of (TextJob file) outcome = string_bytes file
+file_of (CheckJob reader writer) (SessionEnded ended) = string_bytes reader
+file_of (CheckJob reader writer) (Unopened error) = string_bytes reader
+file_of (CheckJob reader writer) (NotListening port) = string_bytes reader
+file_of (CheckJob reader writer) (TextEnded printed) = string_bytes reader
+file_of (CheckJob reader writer) (CheckEnded (Verdict good)) = string_bytes reader
+file_of (CheckJob reader writer) (CheckEnded (Reader fault)) = string_bytes reader
+file_of (CheckJob reader writer) (CheckEnded (Writer fault)) = string_bytes writer
+file_of (CheckJob reader writer) (CheckEnded CheckOutOfMemory) = string_bytes reader
+file_of (CheckJob reader writer) (CheckEnded VerdictNotWritten) = string_bytes reader
+
+-- a file's bytes, if it could be read
+abbrev pub bytes_of : Option (Option (Vec ℕ Global)) → Option (List ℕ)
+bytes_of None = None
+bytes_of (Some None) = None
+bytes_of (Some (Some bytes)) = Some bytes.items
+
+-- the bytes of the file at a position among those that the job names
+abbrev pub text_at : {S : Type 0} → Opened S → ℕ → Option (List ℕ)
+text_at Nothing position = None
+text_at (Texts texts) position = bytes_of (slice_get texts.items position)
+text_at Failed position = None
+text_at (Fresh connection) position = None
+text_at (Database connection) position = None
+
+-- the connection that was opened, if there is one
+abbrev pub connection_in : {S : Type 0} → Opened S → Option (Held S)
+connection_in Nothing = None
+connection_in (Texts texts) = None
+connection_in Failed = None
+connection_in (Fresh connection) = Some connection
+connection_in (Database connection) = Some connection
+
+-- a session over a new registry
+pub record RunsAs (reader reader' writer writer' : Option (List ℕ)) (outcome : Outcome) : Type 0 where
+  pub registry : Registry
+  pub kept : Kept
+  pub ended : Ended
+  pub session : Session reader reader' writer writer' new_registry nothing_kept registry kept ended
+  pub outcome_is : outcome ≡ SessionEnded ended
+
+-- the registry of what was opened: the new one that was made in an empty database, or the one that the tables of a database spelled
+abbrev pub HasRegistry : {S : Type 0} (g : Ghosts S) → Opened S → State → Type 0
+HasRegistry g Nothing new = ⊥
+HasRegistry g (Texts texts) new = ⊥
+HasRegistry g Failed new = ⊥
+HasRegistry g (Fresh old) new = IsMadeIn (state g old) new
+HasRegistry g (Database old) new = OpensOver (state g old) new
+
+-- why what was opened has no registry, and the connection that comes back
+abbrev pub LacksRegistry : {S : Type 0} (g : Ghosts S) → Opened S → Option (Held S) → StoreError → Type 0
+LacksRegistry g Nothing back error = (back ≡ None) × (error ≡ Disk)
+LacksRegistry g (Texts texts) back error = (back ≡ None) × (error ≡ Disk)
+LacksRegistry g Failed back error = (back ≡ None) × (error ≡ Disk)
+LacksRegistry g (Fresh old) back error = GivesBack g back (λ new. LacksMade (state g old) new error)
+LacksRegistry g (Database old) back error = GivesBack g back (λ new. LacksFound (state g old) new error)
+
+-- the registry and the kept replies with which a session begins, by what was opened
+abbrev pub BeginsWith : {S : Type 0} (g : Ghosts S) → Opened S → Registry → Kept → Type 0
+BeginsWith g Nothing registry kept = ⊥
+BeginsWith g (Texts texts) registry kept = ⊥
+BeginsWith g Failed registry kept = ⊥
+BeginsWith g (Fresh old) registry kept = ¬ ((state g old).now.schema ≢ no_schema) × (registry ≡ new_registry) × (kept ≡ nothing_kept)
+BeginsWith g (Database old) registry kept = SpellsUnopened (state g old).now registry kept
+
+-- a session led from these to what the tables spell
+pub record SessionOver {S : Type 0} (g : Ghosts S) (opened : Opened S) (reader reader' writer writer' : Option (List ℕ)) (ended : Ended) (new : State) : Type 0 where
+  pub registry : Registry
+  pub kept : Kept
+  pub begins : BeginsWith g opened registry kept
+  pub leads : Reaches new (λ after kept_after. Session reader reader' writer writer' registry kept after kept_after ended)
+
+-- there was no registry, and nothing was read or written
+pub record RunsOnNothing {S : Type 0} (g : Ghosts S) (opened : Opened S) (back : Option (Held S)) (reader reader' writer writer' : Option (List ℕ)) (error : StoreError) : Type 0 where
+  pub unread : reader' ≡ reader
+  pub unwritten : writer' ≡ writer
+  pub lacks : LacksRegistry g opened back error
+
+-- how a session over what was opened comes out
+abbrev pub RunsOn : {S : Type 0} (g : Ghosts S) → Opened S → Option (Held S) → Option (List ℕ) → Option (List ℕ) → Option (List ℕ) → Option (List ℕ) → Outcome → Type 0
+RunsOn g opened back reader reader' writer writer' (SessionEnded ended) = GivesBack g back (SessionOver g opened reader reader' writer writer' ended)
+RunsOn g opened back reader reader' writer writer' (Unopened error) = RunsOnNothing g opened back reader reader' writer writer' error
+RunsOn g opened back reader reader' writer writer' (NotListening port) = ⊥
+RunsOn g opened back reader reader' writer writer' (TextEnded printed) = ⊥
+RunsOn g opened back reader reader' writer writer' (CheckEnded checked) = ⊥
+
+-- how a session comes out that is asked for: over what was opened where the job names a file, and else over a new registry in memory
+abbrev pub RunsAsked : {S : Type 0} (g : Ghosts S) → Opened S → Bool → Option (Held S) → Option (List ℕ) → Option (List ℕ) → Option (List ℕ) → Option (List ℕ) → Outcome → Type 0
+RunsAsked g opened false back reader reader' writer writer' outcome = (back ≡ connection_in opened) × RunsAs reader reader' writer writer' outcome
+RunsAsked g opened true back reader reader' writer writer' outcome = RunsOn g opened back reader reader' writer writer' outcome
+
+-- a schema's text was to be printed
+pub record TextsAs (file writer writer' : Option (List ℕ)) (outcome : Outcome) : Type 0 where
+  pub printed : Printed
+  pub prints : PrintsAs file writer writer' printed
+  pub outcome_is : outcome ≡ TextEnded printed
+
+-- two schemas were to be checked
+pub record CheckedAs (reader_file writer_file writer writer' : Option (List ℕ)) (outcome : Outcome) : Type 0 where
+  pub checked : Checked
+  pub checks : ChecksAs reader_file writer_file writer writer' checked
+  pub outcome_is : outcome ≡ CheckEnded checked
+
+-- how a job comes out, by its kind; one on files reads nothing
+abbrev pub ComesOut : {S : Type 0} (g : Ghosts S) → Job → Opened S → Option (Held S) → Option (List ℕ) → Option (List ℕ) → Option (List ℕ) → Option (List ℕ) → Outcome → Type 0
+ComesOut g (Run database) opened back reader reader' writer writer' outcome = RunsAsked g opened (is_some database) back reader reader' writer writer' outcome
+ComesOut g (TextJob file) opened back reader reader' writer writer' outcome = (back ≡ connection_in opened) × (reader' ≡ reader) × TextsAs (text_at opened 0) writer writer' outcome
+ComesOut g (CheckJob r w) opened back reader reader' writer writer' outcome = (back ≡ connection_in opened) × (reader' ≡ reader) × CheckedAs (text_at opened 0) (text_at opened 1) writer writer' outcome
+
+-- a job that was done, with the connection that comes back, its line on standard error and the status
+pub record DoesAs {S : Type 0} (g : Ghosts S) (job : Job) (opened : Opened S) (back : Option (Held S))
+    (reader reader' writer writer' errors errors' : Option (List ℕ)) (status : ℕ) : Type 0 where
+  pub outcome : Outcome
+  pub comes_out : ComesOut g job opened back reader reader' writer writer' outcome
+  pub tells : TellsFault (fault_of outcome) (file_of job outcome) errors errors'
+  pub status_is : status ≡ status_of outcome

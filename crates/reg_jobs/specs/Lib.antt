@@ -1,0 +1,6 @@
+pub mod Files
+pub mod Names
+pub mod Outcomes
+pub mod Databases
+pub mod Jobs
+pub mod Listening

@@ -1,0 +1,76 @@
+//! The registry of a database, and a session over it.
+
+ghost use Rattle.std.specs.Prelude.{IfOk, IfErr};
+ghost use Rattle.sqlite.specs.Held.{state};
+ghost use Rattle.sqlite.specs.State.{HasCleanDisk};
+ghost use Rattle.reg_store.specs.Stores.{state_of};
+ghost use Rattle.reg_store.specs.Opening.{OpensOver};
+ghost use Rattle.reg_http.specs.OverTables.{Over};
+ghost use Rattle.reg_http.specs.Sessions.{Session};
+ghost use Rattle.reg_jobs.specs.Databases.{GivesBack, IsMadeIn, LacksMade, LacksFound};
+
+use reg_http::{Ended, serve};
+use reg_service::Service;
+use reg_store::{Store, StoreError};
+use sqlite::{Alter, Connection};
+use std::alloc::Global;
+use std::io::{Read, Write};
+
+/// Answers the requests of the reader over a store, and gives its connection back.
+pub fn run_on_store<R: Read, W: Write, S: Alter>(
+    alloc: Global,
+    store: Store<S>,
+    reader: &mut R,
+    writer: &mut W,
+) -> (Ended, Connection<S>)
+    ensures clean { HasCleanDisk (state S.Store result.1) → HasCleanDisk (state_of store) }
+    ensures session { HasCleanDisk (state S.Store result.1)
+        → Over (state_of store) (state S.Store result.1) (λ g k g' k'. Session (R.remaining reader.old)
+        (R.remaining reader.new) (W.contents writer.old) (W.contents writer.new) g k g' k' result.0) }
+{
+    let mut service = Service::new(alloc, store);
+    let ended = serve(alloc, reader, writer, &mut service);
+    (ended, service.into_store().into_connection())
+}
+
+/// A store over a new registry, which it makes in an empty database.
+///
+/// # Errors
+///
+/// As `Store::create`, and `Disk` for a connection inside a transaction. The connection is given back.
+pub fn made<S: Alter>(
+    alloc: Global,
+    connection: Connection<S>,
+) -> Result<Store<S>, (StoreError, Option<Connection<S>>)>
+    ensures done { IfOk result (λ store. HasCleanDisk (state_of store) → IsMadeIn (state S.Store connection) (state_of store)) }
+    ensures fault { IfErr result (λ e. GivesBack S.Store e.1 (λ new. LacksMade (state S.Store connection) new e.0)) }
+{
+    if !connection.is_autocommit() {
+        return Err((StoreError::Disk, Some(connection)));
+    }
+    match Store::create(alloc, connection) {
+        Ok(store) => Ok(store),
+        Err((error, connection)) => Err((error, Some(connection))),
+    }
+}
+
+/// A store over the registry that a database has.
+///
+/// # Errors
+///
+/// As `Store::open`, and `Disk` for a connection inside a transaction. The connection is given back.
+pub fn found<S: Alter>(
+    alloc: Global,
+    connection: Connection<S>,
+) -> Result<Store<S>, (StoreError, Option<Connection<S>>)>
+    ensures done { IfOk result (λ store. HasCleanDisk (state_of store) → OpensOver (state S.Store connection) (state_of store)) }
+    ensures fault { IfErr result (λ e. GivesBack S.Store e.1 (λ new. LacksFound (state S.Store connection) new e.0)) }
+{
+    if !connection.is_autocommit() {
+        return Err((StoreError::Disk, Some(connection)));
+    }
+    match Store::open(alloc, connection) {
+        Ok(store) => Ok(store),
+        Err((error, connection)) => Err((error, Some(connection))),
+    }
+}

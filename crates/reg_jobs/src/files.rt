@@ -1,0 +1,139 @@
+//! Schemas in files.
+
+ghost use Rattle.std.specs.Prelude.{◌≡◌, MatchResult, option_map};
+ghost use Rattle.avro_nodes.specs.Nodes.{nodes_view};
+ghost use Rattle.reg_jobs.specs.Files.{Holds, FailsAs, PrintsAs, ChecksAs, TellsVerdict, verdict_line};
+
+use avro_resolve::resolves;
+use avro_schema::{Schema, SchemaError};
+use reg_http::put;
+use std::alloc::Global;
+use std::io::Write;
+use std::str;
+
+/// Why a file gives no schema.
+#[derive(Clone, Copy, Debug, PartialEq, Eq)]
+pub enum FileFault {
+    /// It couldn't be read.
+    CannotRead,
+    /// Its bytes are no text, or its text denotes no schema.
+    NotSchema,
+    /// Room was refused.
+    OutOfMemory,
+}
+
+/// How the printing of a schema ended.
+#[derive(Clone, Copy, Debug, PartialEq, Eq)]
+pub enum Printed {
+    /// The identity text was printed, with a line end.
+    Whole,
+    /// The file gives no schema, and nothing was printed.
+    Nothing(FileFault),
+    /// A write failed. A beginning of the line went out.
+    NotWritten,
+}
+
+/// The schema in a file, given by its bytes if it could be read.
+fn schema_in(alloc: Global, file: Option<&[u8]>) -> Result<Schema, FileFault>
+    ensures { MatchResult result
+        (λ schema. Holds (option_map (λ bytes. bytes.now) file.entry) (nodes_view schema))
+        (FailsAs (option_map (λ bytes. bytes.now) file.entry)) }
+{
+    let Some(bytes) = file else {
+        return Err(FileFault::CannotRead);
+    };
+    let Ok(text) = str::from_utf8(bytes) else {
+        return Err(FileFault::NotSchema);
+    };
+    match Schema::read(alloc, text) {
+        Ok(schema) => Ok(schema),
+        Err(error) => match error {
+            SchemaError::OutOfMemory => Err(FileFault::OutOfMemory),
+            _ => Err(FileFault::NotSchema),
+        },
+    }
+}
+
+/// Prints the identity text of the schema in a file, with a line end.
+pub fn print_text<W: Write>(alloc: Global, file: Option<&[u8]>, writer: &mut W) -> Printed
+    ensures { PrintsAs (option_map (λ bytes. bytes.now) file.entry)
+        (W.contents writer.old) (W.contents writer.new) result }
+{
+    let schema = match schema_in(alloc, file) {
+        Ok(schema) => schema,
+        Err(fault) => return Printed::Nothing(fault),
+    };
+    let Ok(mut text) = schema.text(alloc) else {
+        return Printed::Nothing(FileFault::OutOfMemory);
+    };
+    if text.push('\n').is_err() {
+        return Printed::Nothing(FileFault::OutOfMemory);
+    }
+    if put(writer, text.as_bytes()) {
+        Printed::Whole
+    } else {
+        Printed::NotWritten
+    }
+}
+
+/// How a check of two files ended.
+#[derive(Clone, Copy, Debug, PartialEq, Eq)]
+pub enum Checked {
+    /// The reader's schema reads what the writer's writes, or not; the verdict was printed.
+    Verdict(bool),
+    /// The reader's file gives no schema, and nothing was printed.
+    Reader(FileFault),
+    /// The reader's file gives one, but the writer's gives none, and nothing was printed.
+    Writer(FileFault),
+    /// Room was refused, and nothing was printed.
+    OutOfMemory,
+    /// A write failed. A beginning of the verdict's line went out.
+    NotWritten,
+}
+
+/// A verdict's line.
+fn verdict_line(yes: bool) -> &'static str
+    ensures { result.now ≡ verdict_line yes }
+{
+    if yes {
+        "compatible\n"
+    } else {
+        "incompatible\n"
+    }
+}
+
+/// Prints a verdict's line.
+fn print_verdict<W: Write>(yes: bool, writer: &mut W) -> Checked
+    ensures { TellsVerdict yes (W.contents writer.old) (W.contents writer.new) result }
+{
+    if put(writer, verdict_line(yes).as_bytes()) {
+        Checked::Verdict(yes)
+    } else {
+        Checked::NotWritten
+    }
+}
+
+/// Checks whether the schema in the reader's file reads what the one in the writer's file writes, and prints the
+/// verdict. The reader's file is looked at first.
+pub fn check<W: Write>(
+    alloc: Global,
+    reader_file: Option<&[u8]>,
+    writer_file: Option<&[u8]>,
+    output: &mut W,
+) -> Checked
+    ensures { ChecksAs (option_map (λ bytes. bytes.now) reader_file.entry) (option_map (λ bytes. bytes.now) writer_file.entry)
+        (W.contents output.old) (W.contents output.new) result }
+{
+    let reader = match schema_in(alloc, reader_file) {
+        Ok(schema) => schema,
+        Err(fault) => return Checked::Reader(fault),
+    };
+    let writer = match schema_in(alloc, writer_file) {
+        Ok(schema) => schema,
+        Err(fault) => return Checked::Writer(fault),
+    };
+    match resolves(alloc, &writer, &reader) {
+        Ok(verdict) => print_verdict(verdict.yes, output),
+        Err(_) => Checked::OutOfMemory,
+    }
+}
