@@ -8,6 +8,7 @@ use reg_core::{
 };
 use std::alloc::Global;
 use std::collections::BTreeMap;
+use std::process::Abort;
 use std::test::Fail;
 
 fn text_of(rt: &HostRuntime, text: &str) -> Result<Text, Fail> {
@@ -267,7 +268,7 @@ const NO_NUMBER: &str = "{\"error_code\":42292,\"message\":\"No number is left\"
 const INCOMPATIBLE: &str =
     "{\"error_code\":409,\"message\":\"Schema is incompatible with an earlier version\"}";
 
-fn is_refused(rt: &HostRuntime, decision: &Decision, status: u16, body: &str) {
+fn is_refused(rt: &impl Abort, decision: &Decision, status: u16, body: &str) {
     assert!(rt; decision.changes.is_empty());
     assert_eq!(rt; decision.reply.status(), status);
     assert_eq!(rt; decision.reply.body(), body);
