@@ -93,8 +93,13 @@ pub fn opened_database(rt: &HostRuntime, file: &str) -> Result<Opened<FileDataba
         Err((error, _)) => return failed(error),
     };
     match lists_nothing(&mut connection) {
-        Ok(true) if is_new => Ok(Opened::Fresh(connection)),
-        Ok(_) => Ok(Opened::Database(connection)),
+        Ok(is_empty) => {
+            if is_new && is_empty {
+                Ok(Opened::Fresh(connection))
+            } else {
+                Ok(Opened::Database(connection))
+            }
+        }
         Err(error) => failed(error),
     }
 }
