@@ -1,0 +1,4 @@
+pub mod Parses
+pub mod Joining
+pub mod Taking
+pub mod Examples

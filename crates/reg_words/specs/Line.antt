@@ -1,0 +1,68 @@
+-- What the words behind the program's name ask for, as clap reads them (this project's choice).
+use Rattle.std.specs.Prelude.{ℕ, List, [], ◌∷◌, codes, bytes_eq, Option, Some, None, option_map, option_and_then, if◌then◌else◌}
+use Rattle.clap.specs.Words.{Kinds, Row, Text, fault_of, first_of, subcommand_of}
+use Rattle.reg_words.specs.Commands.{most_connections, program}
+use Rattle.reg_words.specs.Numbers.{number_in}
+use Rattle.reg_words.specs.Tasks.{Asked, to_run, to_print, to_check, to_list, to_serve}
+use Rattle.reg_words.specs.declared.task.Listing.{Listing}
+use Rattle.reg_words.specs.declared.task.Listing.TheVariants.{Subjects, Versions, Schemas}
+
+-- the listing that a word names
+abbrev pub listing_in : Text → Option Listing
+listing_in word =
+    if bytes_eq word (codes "subjects") then Some Subjects
+    else if bytes_eq word (codes "versions") then Some Versions
+    else if bytes_eq word (codes "schemas") then Some Schemas
+    else None
+
+-- how many connections: as many as there may be, where no number is given
+abbrev pub connections_in : Option Text → Option ℕ
+connections_in None = Some most_connections
+connections_in (Some text) = number_in 32 text
+
+-- the port that is given
+abbrev pub port_in : List Row → Option ℕ
+port_in rows = option_and_then (number_in 16) (first_of (codes "port") rows)
+
+-- `run [--db F]`
+abbrev pub run_in : List Row → Option Asked
+run_in rows = Some (to_run (first_of (codes "db") rows))
+
+-- `serve --db F --port N [--connections N]`
+abbrev pub serve_in : List Row → Option Asked
+serve_in rows =
+    option_and_then (λ database. option_and_then (λ port. option_map (to_serve database port)
+    (connections_in (first_of (codes "connections") rows))) (port_in rows)) (first_of (codes "db") rows)
+
+-- `check --reader F --writer F`
+abbrev pub check_in : List Row → Option Asked
+check_in rows = option_and_then (λ reader. option_map (to_check reader) (first_of (codes "writer") rows)) (first_of (codes "reader") rows)
+
+-- `text F`
+abbrev pub text_in : List Row → Option Asked
+text_in rows = option_map to_print (first_of (codes "F") rows)
+
+-- `list --db F W`
+abbrev pub list_in : List Row → Option Asked
+list_in rows =
+    option_and_then (λ database. option_map (to_list database)
+    (option_and_then listing_in (first_of (codes "W") rows))) (first_of (codes "db") rows)
+
+-- what a command with these values asks for
+abbrev pub task_in : Text → List Row → Option Asked
+task_in name rows =
+    if bytes_eq name (codes "run") then run_in rows
+    else if bytes_eq name (codes "serve") then serve_in rows
+    else if bytes_eq name (codes "check") then check_in rows
+    else if bytes_eq name (codes "text") then text_in rows
+    else if bytes_eq name (codes "list") then list_in rows
+    else None
+
+-- what the command that the words name asks for, where clap finds no fault in them
+abbrev pub line_without : Kinds → List Text → Option Asked
+line_without [] words = option_and_then (λ found. task_in found.0 found.1) (subcommand_of program words)
+line_without (fault ∷ faults) words = None
+
+-- What the words ask for. A usage fault asks for nothing: an option twice, a word too many, a request for help.
+abbrev pub line : List Text → Option Asked
+line words = line_without (fault_of program words) words

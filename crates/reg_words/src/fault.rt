@@ -1,0 +1,59 @@
+//! Why the words ask for nothing.
+
+ghost use Rattle.std.specs.Prelude.{◌≢◌};
+ghost use Rattle.clap.specs.Words.{kind_of};
+ghost use Rattle.reg_words.specs.Tasks.{IsUsage};
+
+use clap::error::ErrorKind;
+use clap::{Command, Error};
+use std::alloc::{AllocError, Global};
+use thiserror::Error as ErrorText;
+
+/// Why the words ask for nothing. Its text is printed on standard error.
+#[derive(Debug, Drop, ErrorText)]
+pub enum LineFault {
+    /// The words are a usage fault, or ask for help. The text is whole lines, each with its end.
+    #[error("{0}")]
+    Usage(String),
+    /// Room was refused. The text has no line's end.
+    #[error("out of memory")]
+    OutOfMemory,
+}
+
+impl From<AllocError> for LineFault {
+    ghost use Rattle.std.specs.Prelude.{◌≡◌};
+    ghost use Rattle.reg_words.specs.declared.fault.LineFault.TheVariants.{OutOfMemory};
+
+    ghost from_gives = { λ _ fault. fault ≡ OutOfMemory };
+
+    fn from(_error: AllocError) -> LineFault {
+        LineFault::OutOfMemory
+    }
+}
+
+/// The fault that `clap` found, with its text.
+pub fn fault_of(alloc: Global, error: &Error) -> LineFault
+    ensures { IsUsage result → kind_of error.now ≢ ErrorKind.OutOfMemory }
+{
+    match error.kind() {
+        ErrorKind::OutOfMemory => LineFault::OutOfMemory,
+        _ => match format!(in alloc; "{error}") {
+            Ok(text) => LineFault::Usage(text),
+            Err(_) => LineFault::OutOfMemory,
+        },
+    }
+}
+
+/// The fault of words that `clap` takes, with a text in its form: the message, and the command's
+/// usage.
+pub fn refusal(
+    alloc: Global,
+    mut command: Command<'_>,
+    kind: ErrorKind,
+    message: &str,
+) -> LineFault {
+    match command.error(kind, message) {
+        Ok(error) => fault_of(alloc, &error),
+        Err(_) => LineFault::OutOfMemory,
+    }
+}

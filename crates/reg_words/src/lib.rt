@@ -1,0 +1,12 @@
+//! The words of the program: what those behind its name ask for, as `clap` reads them.
+#![tactic(auto)]
+
+mod command;
+mod fault;
+mod reading;
+mod task;
+mod values;
+
+pub use fault::LineFault;
+pub use reading::task_of;
+pub use task::{Job, Listing, MOST_CONNECTIONS, Server, Task};

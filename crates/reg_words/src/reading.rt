@@ -1,0 +1,149 @@
+//! What the words ask for.
+
+ghost use Rattle.std.specs.Prelude.{◌≡◌, None, Some, MatchResult, map, string_bytes};
+ghost use Rattle.clap.specs.Words.{found_of, rows_of};
+ghost use Rattle.reg_words.specs.Line.{check_in, line, list_in, serve_in, task_in, text_in};
+ghost use Rattle.reg_words.specs.Tasks.{IsUsage, asked_of};
+
+use crate::command::{list_command, program};
+use crate::fault::{LineFault, fault_of, refusal};
+use crate::task::{Job, Server, Task};
+use crate::values::{connections_in, copy_of, listing_in, port_in, value_of};
+use clap::ArgMatches;
+use clap::error::ErrorKind;
+use std::alloc::{AllocError, Global};
+
+/// The fault of a command or a value that is missing. `clap` finds it first.
+fn incomplete(alloc: Global) -> Result<LineFault, AllocError> {
+    Ok(refusal(
+        alloc,
+        program(alloc)?,
+        ErrorKind::MissingRequiredArgument,
+        "a command or a value is missing",
+    ))
+}
+
+/// The fault of a word that names no listing.
+fn unknown_listing(alloc: Global, word: &str) -> Result<LineFault, AllocError> {
+    let message = format!(in alloc;
+        "invalid value '{word}' for '<W>'\n  [possible values: subjects, versions, schemas]"
+    )?;
+    let command = list_command(alloc)?.bin_name("avroreg list")?;
+    Ok(refusal(alloc, command, ErrorKind::InvalidValue, message.as_str()))
+}
+
+/// The server of `serve`.
+fn serve_task(alloc: Global, matches: &ArgMatches<'_>) -> Result<Task, LineFault>
+    ensures { MatchResult result
+        (λ task. serve_in (rows_of (found_of matches.now)) ≡ Some (asked_of task))
+        (λ fault. IsUsage fault → serve_in (rows_of (found_of matches.now)) ≡ None) }
+{
+    let Some(database) = value_of(matches, "db") else {
+        return Err(incomplete(alloc)?);
+    };
+    let Some(port) = value_of(matches, "port") else {
+        return Err(incomplete(alloc)?);
+    };
+    let Some(port) = port_in(port) else {
+        return Err(incomplete(alloc)?);
+    };
+    let Some(connections) = connections_in(value_of(matches, "connections")) else {
+        return Err(incomplete(alloc)?);
+    };
+    Ok(Task::Server(Server {
+        database: String::from_str(alloc, database)?,
+        port,
+        connections,
+    }))
+}
+
+/// The job of `check`.
+fn check_task(alloc: Global, matches: &ArgMatches<'_>) -> Result<Task, LineFault>
+    ensures { MatchResult result
+        (λ task. check_in (rows_of (found_of matches.now)) ≡ Some (asked_of task))
+        (λ fault. IsUsage fault → check_in (rows_of (found_of matches.now)) ≡ None) }
+{
+    let Some(reader) = value_of(matches, "reader") else {
+        return Err(incomplete(alloc)?);
+    };
+    let Some(writer) = value_of(matches, "writer") else {
+        return Err(incomplete(alloc)?);
+    };
+    Ok(Task::Job(Job::Check {
+        reader: String::from_str(alloc, reader)?,
+        writer: String::from_str(alloc, writer)?,
+    }))
+}
+
+/// The job of `text`.
+fn text_task(alloc: Global, matches: &ArgMatches<'_>) -> Result<Task, LineFault>
+    ensures { MatchResult result
+        (λ task. text_in (rows_of (found_of matches.now)) ≡ Some (asked_of task))
+        (λ fault. IsUsage fault → text_in (rows_of (found_of matches.now)) ≡ None) }
+{
+    let Some(file) = value_of(matches, "F") else {
+        return Err(incomplete(alloc)?);
+    };
+    Ok(Task::Job(Job::Text {
+        file: String::from_str(alloc, file)?,
+    }))
+}
+
+/// The job of `list`.
+fn list_task(alloc: Global, matches: &ArgMatches<'_>) -> Result<Task, LineFault>
+    ensures { MatchResult result
+        (λ task. list_in (rows_of (found_of matches.now)) ≡ Some (asked_of task))
+        (λ fault. IsUsage fault → list_in (rows_of (found_of matches.now)) ≡ None) }
+{
+    let Some(database) = value_of(matches, "db") else {
+        return Err(incomplete(alloc)?);
+    };
+    let Some(word) = value_of(matches, "W") else {
+        return Err(incomplete(alloc)?);
+    };
+    let Some(kind) = listing_in(word) else {
+        return Err(unknown_listing(alloc, word)?);
+    };
+    Ok(Task::Job(Job::List {
+        database: String::from_str(alloc, database)?,
+        kind,
+    }))
+}
+
+/// What a command asks for, with the values of its arguments.
+fn task_named(alloc: Global, name: &str, matches: &ArgMatches<'_>) -> Result<Task, LineFault>
+    ensures { MatchResult result
+        (λ task. task_in name.now (rows_of (found_of matches.now)) ≡ Some (asked_of task))
+        (λ fault. IsUsage fault → task_in name.now (rows_of (found_of matches.now)) ≡ None) }
+{
+    match name {
+        "run" => Ok(Task::Job(Job::Run {
+            database: copy_of(alloc, value_of(matches, "db"))?,
+        })),
+        "serve" => serve_task(alloc, matches),
+        "check" => check_task(alloc, matches),
+        "text" => text_task(alloc, matches),
+        "list" => list_task(alloc, matches),
+        _ => Err(incomplete(alloc)?),
+    }
+}
+
+/// What the words behind the program's name ask for.
+///
+/// # Errors
+///
+/// `Usage` where the words ask for nothing that the program does, or for help: `clap` finds a fault
+/// in them, or the word behind `list` names no listing. `OutOfMemory` where room was refused.
+pub fn task_of(alloc: Global, words: &[String]) -> Result<Task, LineFault>
+    ensures { MatchResult result
+        (λ task. line (map string_bytes words.now) ≡ Some (asked_of task))
+        (λ fault. IsUsage fault → line (map string_bytes words.now) ≡ None) }
+{
+    match program(alloc)?.try_get_matches_from(words) {
+        Ok(matches) => match matches.subcommand() {
+            Some((name, inner)) => task_named(alloc, name, inner),
+            None => Err(incomplete(alloc)?),
+        },
+        Err(error) => Err(fault_of(alloc, &error)),
+    }
+}
