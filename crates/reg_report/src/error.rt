@@ -1,0 +1,53 @@
+//! Why a listing isn't written.
+
+use reg_core::OutOfMemory;
+use reg_store::StoreError;
+use std::io;
+use thiserror::Error;
+
+/// Why a listing isn't written, or only a beginning of it.
+#[derive(Debug, Drop, Error)]
+pub enum ReportError {
+    /// The registry couldn't be read.
+    #[error(transparent)]
+    Store(StoreError),
+    /// Memory was refused.
+    #[error("out of memory")]
+    OutOfMemory,
+    /// A write failed.
+    #[error("a write failed")]
+    Write,
+}
+
+impl From<StoreError> for ReportError {
+    ghost use Rattle.std.specs.Prelude.{◌≡◌};
+    ghost use Rattle.reg_report.specs.declared.error.ReportError.TheVariants.{Store};
+
+    ghost from_gives = { λ error failure. failure ≡ Store error };
+
+    fn from(error: StoreError) -> ReportError {
+        ReportError::Store(error)
+    }
+}
+
+impl From<OutOfMemory> for ReportError {
+    ghost use Rattle.std.specs.Prelude.{◌≡◌};
+    ghost use Rattle.reg_report.specs.declared.error.ReportError.TheVariants.{OutOfMemory};
+
+    ghost from_gives = { λ _ failure. failure ≡ OutOfMemory };
+
+    fn from(_error: OutOfMemory) -> ReportError {
+        ReportError::OutOfMemory
+    }
+}
+
+impl From<io::Error> for ReportError {
+    ghost use Rattle.std.specs.Prelude.{◌≡◌};
+    ghost use Rattle.reg_report.specs.declared.error.ReportError.TheVariants.{Write};
+
+    ghost from_gives = { λ _ failure. failure ≡ Write };
+
+    fn from(_error: io::Error) -> ReportError {
+        ReportError::Write
+    }
+}
