@@ -1,6 +1,6 @@
 //! A registry's database in a file: which files are opened as one, and how it is closed.
 
-use crate::LineFault;
+use crate::Unbegun;
 use reg_jobs::Opened;
 use sqlite::{Connection, Error, ErrorCode, FileFrom, FileStore, Wary};
 use std::io::Read;
@@ -63,9 +63,9 @@ fn lists_nothing(connection: &mut Connection<FileDatabase>) -> Result<bool, Erro
 }
 
 /// What a database that can't be opened is for the job, by the error.
-fn failed(error: Error) -> Result<Opened<FileDatabase>, LineFault> {
+fn failed(error: Error) -> Result<Opened<FileDatabase>, Unbegun> {
     match error {
-        Error::SqliteFailure(ErrorCode::OutOfMemory) => Err(LineFault::OutOfMemory),
+        Error::SqliteFailure(ErrorCode::OutOfMemory) => Err(Unbegun::OutOfMemory),
         _ => Ok(Opened::Failed),
     }
 }
@@ -80,11 +80,11 @@ fn looked_at(rt: &HostRuntime, file: &str) -> io::Result<Option<bool>> {
 }
 
 /// Opens the database in a file, which is made where it is missing. A new one has no registry yet.
-pub fn opened_database(rt: &HostRuntime, file: &str) -> Result<Opened<FileDatabase>, LineFault> {
+pub fn opened_database(rt: &HostRuntime, file: &str) -> Result<Opened<FileDatabase>, Unbegun> {
     let is_new = match looked_at(rt, file) {
         Ok(Some(is_new)) => is_new,
         Err(error) if error.kind() == io::ErrorKind::OutOfMemory => {
-            return Err(LineFault::OutOfMemory);
+            return Err(Unbegun::OutOfMemory);
         }
         _ => return Ok(Opened::Failed),
     };
@@ -101,6 +101,35 @@ pub fn opened_database(rt: &HostRuntime, file: &str) -> Result<Opened<FileDataba
             }
         }
         Err(error) => failed(error),
+    }
+}
+
+/// What a job finds in a file that makes no registry: whether there is a file, and whether it has a
+/// byte or a log.
+fn is_found(rt: &HostRuntime, file: &str) -> io::Result<Option<bool>> {
+    match fs::metadata(rt, file) {
+        Ok(found) => Ok(Some(found.len() > 0 || has_log(rt, file)?)),
+        Err(error) if error.kind() == io::ErrorKind::NotFound => Ok(None),
+        Err(error) => Err(error),
+    }
+}
+
+/// Opens the database in a file for a job that makes no registry: a missing file isn't made, and one
+/// without a byte isn't opened.
+pub fn found_database(rt: &HostRuntime, file: &str) -> Result<Opened<FileDatabase>, Unbegun> {
+    let has_bytes = match is_found(rt, file) {
+        Ok(Some(has_bytes)) => has_bytes,
+        Err(error) if error.kind() == io::ErrorKind::OutOfMemory => {
+            return Err(Unbegun::OutOfMemory);
+        }
+        _ => return Ok(Opened::Failed),
+    };
+    if !has_bytes {
+        return Ok(Opened::Empty);
+    }
+    match opened_database(rt, file)? {
+        Opened::Fresh(connection) => Ok(Opened::Database(connection)),
+        opened => Ok(opened),
     }
 }
 

@@ -7,7 +7,7 @@ mod server;
 
 use database::{FileDatabase, close};
 use opening::opened;
-use reg_jobs::{Job, Opened, Task, USAGE, do_job, task_of};
+use reg_jobs::{Job, LineFault, Opened, Task, do_job, task_of};
 use server::serve;
 use std::alloc::{AllocError, AllocFailed};
 use std::io;
@@ -15,33 +15,57 @@ use std::process::ExitCode;
 use std::rt::Env;
 
 /// Why nothing is begun.
-pub enum LineFault {
-    /// The words ask for nothing that the program does.
-    Usage,
+#[derive(Drop)]
+pub enum Unbegun {
+    /// The words ask for nothing that the program does, or for help. The text says so.
+    Usage(String),
     /// Room for the words or for the files was refused.
     OutOfMemory,
 }
 
-impl From<AllocError> for LineFault {
-    fn from(_error: AllocError) -> LineFault {
-        LineFault::OutOfMemory
+impl From<LineFault> for Unbegun {
+    fn from(fault: LineFault) -> Unbegun {
+        match fault {
+            LineFault::Usage(text) => Unbegun::Usage(text),
+            LineFault::OutOfMemory => Unbegun::OutOfMemory,
+        }
     }
 }
 
-impl<T: Drop> From<AllocFailed<T>> for LineFault {
-    fn from(_error: AllocFailed<T>) -> LineFault {
-        LineFault::OutOfMemory
+impl From<AllocError> for Unbegun {
+    fn from(_error: AllocError) -> Unbegun {
+        Unbegun::OutOfMemory
     }
 }
+
+impl<T: Drop> From<AllocFailed<T>> for Unbegun {
+    fn from(_error: AllocFailed<T>) -> Unbegun {
+        Unbegun::OutOfMemory
+    }
+}
+
+/// What is printed where a word isn't UTF-8.
+const NO_TEXT: &str = "error: a word is not UTF-8\n\nFor more information, try '--help'.\n";
 
 /// The words after the program's name. One that isn't UTF-8 asks for nothing.
-fn words_of<R: Env + AllocGlobal>(rt: &R) -> Result<Vec<String>, LineFault> {
+fn words_of<R: Env + AllocGlobal>(rt: &R) -> Result<Vec<String>, Unbegun> {
     match std::env::args(rt) {
         Ok(words) => Ok(words.skip(1).collect(rt.alloc())?),
         Err(error) => match error.kind() {
-            io::ErrorKind::OutOfMemory => Err(LineFault::OutOfMemory),
-            _ => Err(LineFault::Usage),
+            io::ErrorKind::OutOfMemory => Err(Unbegun::OutOfMemory),
+            _ => Err(Unbegun::Usage(String::from_str(rt.alloc(), NO_TEXT)?)),
         },
+    }
+}
+
+/// The database file that a job names, if it names one.
+fn database_of(job: &Job) -> Option<&str> {
+    match job {
+        Job::Run {
+            database: Some(file),
+        } => Some(file.as_str()),
+        Job::List { database, .. } => Some(database.as_str()),
+        _ => None,
     }
 }
 
@@ -55,39 +79,32 @@ fn done(rt: &HostRuntime, job: &Job, opened: Opened<FileDatabase>) -> u8 {
         &mut rt.stdout(),
         &mut rt.stderr(),
     );
-    if let (
-        Job::Run {
-            database: Some(file),
-        },
-        Some(connection),
-    ) = (job, connection)
-    {
-        close(rt, file.as_str(), connection);
+    if let (Some(file), Some(connection)) = (database_of(job), connection) {
+        close(rt, file, connection);
     }
     status
 }
 
 /// Does what the words ask for, and answers the program's status.
-fn ended(rt: &HostRuntime) -> Result<u8, LineFault> {
+fn ended(rt: &HostRuntime) -> Result<u8, Unbegun> {
     let words = words_of(rt)?;
-    match task_of(words.as_slice())? {
-        Some(Task::Job(job)) => {
+    match task_of(rt.alloc(), words.as_slice())? {
+        Task::Job(job) => {
             let opened = opened(rt, &job)?;
             Ok(done(rt, &job, opened))
         }
-        Some(Task::Server(server)) => serve(rt, &server),
-        None => Err(LineFault::Usage),
+        Task::Server(server) => serve(rt, &server),
     }
 }
 
 fn main(rt: HostRuntime) -> ExitCode {
     let status = match ended(&rt) {
         Ok(status) => status,
-        Err(LineFault::Usage) => {
-            let _ = eprint!(rt; "{USAGE}");
+        Err(Unbegun::Usage(text)) => {
+            let _ = eprint!(rt; "{text}");
             64
         }
-        Err(LineFault::OutOfMemory) => {
+        Err(Unbegun::OutOfMemory) => {
             let _ = eprintln!(rt; "avroreg: out of memory");
             2
         }

@@ -1,7 +1,7 @@
 //! What a job names, opened.
 
-use crate::LineFault;
-use crate::database::{FileDatabase, opened_database};
+use crate::Unbegun;
+use crate::database::{FileDatabase, found_database, opened_database};
 use reg_jobs::{Job, Opened};
 use std::io::Read;
 use std::rt::Files;
@@ -21,21 +21,22 @@ fn read_front(rt: &HostRuntime, file: &str) -> io::Result<Vec<u8>> {
 
 /// The text in a file, if it can be read. A longer one than a schema may have is cut behind the byte
 /// by which it is too long.
-fn text_in(rt: &HostRuntime, file: &str) -> Result<Option<Vec<u8>>, LineFault> {
+fn text_in(rt: &HostRuntime, file: &str) -> Result<Option<Vec<u8>>, Unbegun> {
     match read_front(rt, file) {
         Ok(bytes) => Ok(Some(bytes)),
-        Err(error) if error.kind() == io::ErrorKind::OutOfMemory => Err(LineFault::OutOfMemory),
+        Err(error) if error.kind() == io::ErrorKind::OutOfMemory => Err(Unbegun::OutOfMemory),
         Err(_) => Ok(None),
     }
 }
 
 /// Opens what a job names.
-pub fn opened(rt: &HostRuntime, job: &Job) -> Result<Opened<FileDatabase>, LineFault> {
+pub fn opened(rt: &HostRuntime, job: &Job) -> Result<Opened<FileDatabase>, Unbegun> {
     match job {
         Job::Run { database: None } => Ok(Opened::Nothing),
         Job::Run {
             database: Some(file),
         } => opened_database(rt, file.as_str()),
+        Job::List { database, .. } => found_database(rt, database.as_str()),
         Job::Text { file } => {
             let mut texts = Vec::new(rt.alloc());
             texts.push(text_in(rt, file.as_str())?)?;

@@ -1,6 +1,6 @@
 //! A registry on a port of 127.0.0.1.
 
-use crate::LineFault;
+use crate::Unbegun;
 use crate::database::{FileDatabase, close, opened_database};
 use reg_jobs::{Outcome, Server, report, serve_on, store_in};
 use reg_service::Service;
@@ -27,7 +27,7 @@ fn listen(
 }
 
 /// Opens the server's database, serves its connections, closes it, and answers the program's status.
-pub fn serve(rt: &HostRuntime, server: &Server) -> Result<u8, LineFault> {
+pub fn serve(rt: &HostRuntime, server: &Server) -> Result<u8, Unbegun> {
     let file = server.database.as_str();
     let opened = opened_database(rt, file)?;
     let (fault, connection) = match store_in(rt.alloc(), opened) {

@@ -1,8 +1,8 @@
 //! What no clause says: the bytes of messages, whole and in pieces, what fails in mid-stream, and how jobs come out.
 mod jobs;
+mod listings;
 mod loopback;
 mod messages;
 mod schema_files;
 mod sessions;
 mod turns;
-mod words;

@@ -1,6 +1,6 @@
--- Sessions over what was opened.
+-- Sessions over what was opened, and listings of it.
 use Rattle.std.proofs.Common.{ℕ, List, refl}
-use Rattle.std.specs.Prelude.{Option}
+use Rattle.std.specs.Prelude.{IsTrue, Option}
 use Rattle.sqlite.specs.State.{State}
 use Rattle.sqlite_trees.specs.declared.store.Store.{Ghosts}
 use Rattle.reg_core.specs.Registry.{new_registry}
@@ -9,8 +9,18 @@ use Rattle.reg_http.specs.declared.serving.Ended.{Ended}
 use Rattle.reg_http.specs.OverTables.{Over}
 use Rattle.reg_http.specs.Sessions.{Session}
 use Rattle.reg_jobs.specs.declared.job.Opened.{Opened}
-use Rattle.reg_jobs.specs.declared.job.Opened.TheVariants.{Nothing, Texts, Failed, Fresh, Database}
-use Rattle.reg_jobs.specs.Jobs.{HasRegistry, SessionOver}
+use Rattle.reg_jobs.specs.declared.job.Opened.TheVariants.{Nothing, Texts, Failed, Empty, Fresh, Database}
+use Rattle.reg_core.specs.Registry.{Registry}
+use Rattle.reg_core.specs.KeptReplies.{Kept}
+use Rattle.reg_store.specs.declared.error.StoreError.{StoreError}
+use Rattle.reg_store.specs.declared.error.StoreError.TheVariants.{Memory, Disk, NotARegistry, OldLayout, NewerLayout}
+use Rattle.reg_store.specs.Failures.{IsFaultBy, IsFaultOver, is_fault}
+use Rattle.reg_store.specs.Spells.{SpellsWhileOpen}
+use Rattle.reg_words.specs.declared.task.Listing.{Listing}
+use Rattle.reg_jobs.specs.declared.listings.Listed.{Listed}
+use Rattle.reg_jobs.specs.declared.listings.Listed.TheVariants.{Whole, Unread, NotWritten, OutOfMemory}
+use Rattle.reg_jobs.specs.Listings.{IfUnread, ListsAs, table_of}
+use Rattle.reg_jobs.specs.Jobs.{HasRegistry, ListsOver, SessionOver}
 
 -- a session over the registry of what was opened
 pub SessionOver-has : {S : Type 0} (g : Ghosts S) (opened : Opened S) (begun new : State) (reader reader' writer writer' : Option (List ℕ)) (ended : Ended)
@@ -18,7 +28,50 @@ pub SessionOver-has : {S : Type 0} (g : Ghosts S) (opened : Opened S) (begun new
 SessionOver-has g Nothing begun new reader reader' writer writer' ended has over = absurd has
 SessionOver-has g (Texts texts) begun new reader reader' writer writer' ended has over = absurd has
 SessionOver-has g Failed begun new reader reader' writer writer' ended has over = absurd has
+SessionOver-has g Empty begun new reader reader' writer writer' ended has over = absurd has
 SessionOver-has g (Fresh old) begun new reader reader' writer writer' ended has over =
     record { registry = new_registry; kept = nothing_kept; begins = (has.empty, refl, refl); leads = over new_registry nothing_kept has.spells }
 SessionOver-has g (Database old) begun new reader reader' writer writer' ended has over =
     record { registry = has.registry; kept = has.kept; begins = has.spelled; leads = over has.registry has.kept has.spells }
+
+-- an error that stands for memory or the disk
+is_fault-by : (old new : State) (error : StoreError) → IsFaultBy old new error → IsTrue (is_fault error)
+is_fault-by old new Memory by = refl
+is_fault-by old new Disk by = refl
+is_fault-by old new NotARegistry by = absurd by
+is_fault-by old new (OldLayout number) by = absurd by
+is_fault-by old new (NewerLayout number) by = absurd by
+
+-- over tables that spell a registry, memory and the disk alone fail
+IfUnread-fault : (listed : Listed) (begun new : State) (b : Registry) (k : Kept)
+    → IfUnread listed (IsFaultOver begun new) → SpellsWhileOpen begun b k → IfUnread listed (λ error. IsTrue (is_fault error))
+IfUnread-fault Whole begun new b k fault spells = tt
+IfUnread-fault (Unread error) begun new b k fault spells = is_fault-by begun new error (fault b k spells)
+IfUnread-fault NotWritten begun new b k fault spells = tt
+IfUnread-fault OutOfMemory begun new b k fault spells = tt
+
+-- a listing of the registry of what was opened
+pub ListsOver-has : {S : Type 0} (g : Ghosts S) (opened : Opened S) (kind : Listing) (begun new : State) (writer writer' : Option (List ℕ)) (listed : Listed)
+    → HasRegistry g opened begun → ((b : Registry) (k : Kept) → SpellsWhileOpen begun b k → ListsAs (table_of kind) b writer writer' listed)
+    → IfUnread listed (IsFaultOver begun new)
+    → ((b : Registry) (k : Kept) → SpellsWhileOpen begun b k → SpellsWhileOpen new b k) → ListsOver g opened kind writer writer' listed new
+ListsOver-has g Nothing kind begun new writer writer' listed has lists fault same = absurd has
+ListsOver-has g (Texts texts) kind begun new writer writer' listed has lists fault same = absurd has
+ListsOver-has g Failed kind begun new writer writer' listed has lists fault same = absurd has
+ListsOver-has g Empty kind begun new writer writer' listed has lists fault same = absurd has
+ListsOver-has g (Fresh old) kind begun new writer writer' listed has lists fault same = record {
+  registry = new_registry;
+  kept = nothing_kept;
+  begins = (has.empty, refl, refl);
+  lists = lists new_registry nothing_kept has.spells;
+  fault = IfUnread-fault listed begun new new_registry nothing_kept fault has.spells;
+  spells = same new_registry nothing_kept has.spells;
+}
+ListsOver-has g (Database old) kind begun new writer writer' listed has lists fault same = record {
+  registry = has.registry;
+  kept = has.kept;
+  begins = has.spelled;
+  lists = lists has.registry has.kept has.spells;
+  fault = IfUnread-fault listed begun new has.registry has.kept fault has.spells;
+  spells = same has.registry has.kept has.spells;
+}

@@ -1,5 +1,5 @@
 -- What a job does.
-use Rattle.std.specs.Prelude.{◌≡◌, ◌≢◌, ℕ, Bool, true, false, List, [], slice_get, is_some, Option, None, Some, Vec, string_bytes}
+use Rattle.std.specs.Prelude.{◌≡◌, ◌≢◌, ℕ, Bool, true, false, IsTrue, List, [], slice_get, is_some, Option, None, Some, Vec, string_bytes}
 use Rattle.std.specs.Global.{Global}
 use Rattle.sqlite.specs.Held.{Held, state}
 use Rattle.sqlite.specs.State.{State}
@@ -8,22 +8,26 @@ use Rattle.reg_core.specs.Registry.{Registry, new_registry}
 use Rattle.reg_core.specs.KeptReplies.{Kept, nothing_kept}
 use Rattle.reg_tables.specs.Layout.{no_schema}
 use Rattle.reg_store.specs.declared.error.StoreError.{StoreError}
-use Rattle.reg_store.specs.declared.error.StoreError.TheVariants.{Disk}
+use Rattle.reg_store.specs.declared.error.StoreError.TheVariants.{Disk, NotARegistry}
+use Rattle.reg_store.specs.Failures.{is_fault}
 use Rattle.reg_store.specs.Opening.{OpensOver}
-use Rattle.reg_store.specs.Spells.{SpellsUnopened}
+use Rattle.reg_store.specs.Spells.{SpellsUnopened, SpellsWhileOpen}
 use Rattle.reg_http.specs.OverTables.{Reaches}
 use Rattle.reg_http.specs.declared.serving.Ended.{Ended}
 use Rattle.reg_jobs.specs.declared.files.Printed.{Printed}
 use Rattle.reg_jobs.specs.declared.files.Checked.{Checked}
 use Rattle.reg_jobs.specs.declared.files.Checked.TheVariants.{Verdict, Reader, Writer, OutOfMemory as CheckOutOfMemory, NotWritten as VerdictNotWritten}
-use Rattle.reg_jobs.specs.declared.job.Job.{Job}
-use Rattle.reg_jobs.specs.declared.job.Job.TheVariants.{Run, Text as TextJob, Check as CheckJob}
+use Rattle.reg_words.specs.declared.task.Job.{Job}
+use Rattle.reg_words.specs.declared.task.Job.TheVariants.{Run, Text as TextJob, Check as CheckJob, List as ListJob}
+use Rattle.reg_words.specs.declared.task.Listing.{Listing}
 use Rattle.reg_jobs.specs.declared.job.Opened.{Opened}
-use Rattle.reg_jobs.specs.declared.job.Opened.TheVariants.{Nothing, Texts, Failed, Fresh, Database}
+use Rattle.reg_jobs.specs.declared.job.Opened.TheVariants.{Nothing, Texts, Failed, Empty, Fresh, Database}
 use Rattle.reg_jobs.specs.declared.outcome.Outcome.{Outcome}
-use Rattle.reg_jobs.specs.declared.outcome.Outcome.TheVariants.{Session as SessionEnded, Unopened, NotListening, Text as TextEnded, Check as CheckEnded}
+use Rattle.reg_jobs.specs.declared.outcome.Outcome.TheVariants.{Session as SessionEnded, Unopened, NotListening, Text as TextEnded, Check as CheckEnded, List as ListEnded}
 use Rattle.reg_jobs.specs.Databases.{GivesBack, IsMadeIn, LacksMade, LacksFound}
 use Rattle.reg_jobs.specs.Files.{PrintsAs, ChecksAs}
+use Rattle.reg_jobs.specs.Listings.{IfUnread, ListsAs, table_of}
+use Rattle.reg_jobs.specs.declared.listings.Listed.{Listed}
 use Rattle.reg_jobs.specs.Outcomes.{fault_of, status_of, TellsFault}
 use Rattle.reg_http.specs.Sessions.{Session}
 
@@ -41,6 +45,8 @@ file_of (CheckJob reader writer) (CheckEnded (Reader fault)) = string_bytes read
 file_of (CheckJob reader writer) (CheckEnded (Writer fault)) = string_bytes writer
 file_of (CheckJob reader writer) (CheckEnded CheckOutOfMemory) = string_bytes reader
 file_of (CheckJob reader writer) (CheckEnded VerdictNotWritten) = string_bytes reader
+file_of (CheckJob reader writer) (ListEnded listed) = string_bytes reader
+file_of (ListJob database kind) outcome = string_bytes database
 
 -- a file's bytes, if it could be read
 abbrev pub bytes_of : Option (Option (Vec ℕ Global)) → Option (List ℕ)
@@ -53,6 +59,7 @@ abbrev pub text_at : {S : Type 0} → Opened S → ℕ → Option (List ℕ)
 text_at Nothing position = None
 text_at (Texts texts) position = bytes_of (slice_get texts.items position)
 text_at Failed position = None
+text_at Empty position = None
 text_at (Fresh connection) position = None
 text_at (Database connection) position = None
 
@@ -61,6 +68,7 @@ abbrev pub connection_in : {S : Type 0} → Opened S → Option (Held S)
 connection_in Nothing = None
 connection_in (Texts texts) = None
 connection_in Failed = None
+connection_in Empty = None
 connection_in (Fresh connection) = Some connection
 connection_in (Database connection) = Some connection
 
@@ -77,6 +85,7 @@ abbrev pub HasRegistry : {S : Type 0} (g : Ghosts S) → Opened S → State → 
 HasRegistry g Nothing new = ⊥
 HasRegistry g (Texts texts) new = ⊥
 HasRegistry g Failed new = ⊥
+HasRegistry g Empty new = ⊥
 HasRegistry g (Fresh old) new = IsMadeIn (state g old) new
 HasRegistry g (Database old) new = OpensOver (state g old) new
 
@@ -85,6 +94,7 @@ abbrev pub LacksRegistry : {S : Type 0} (g : Ghosts S) → Opened S → Option (
 LacksRegistry g Nothing back error = (back ≡ None) × (error ≡ Disk)
 LacksRegistry g (Texts texts) back error = (back ≡ None) × (error ≡ Disk)
 LacksRegistry g Failed back error = (back ≡ None) × (error ≡ Disk)
+LacksRegistry g Empty back error = (back ≡ None) × (error ≡ NotARegistry)
 LacksRegistry g (Fresh old) back error = GivesBack g back (λ new. LacksMade (state g old) new error)
 LacksRegistry g (Database old) back error = GivesBack g back (λ new. LacksFound (state g old) new error)
 
@@ -93,6 +103,7 @@ abbrev pub BeginsWith : {S : Type 0} (g : Ghosts S) → Opened S → Registry �
 BeginsWith g Nothing registry kept = ⊥
 BeginsWith g (Texts texts) registry kept = ⊥
 BeginsWith g Failed registry kept = ⊥
+BeginsWith g Empty registry kept = ⊥
 BeginsWith g (Fresh old) registry kept = ¬ ((state g old).now.schema ≢ no_schema) × (registry ≡ new_registry) × (kept ≡ nothing_kept)
 BeginsWith g (Database old) registry kept = SpellsUnopened (state g old).now registry kept
 
@@ -116,11 +127,35 @@ RunsOn g opened back reader reader' writer writer' (Unopened error) = RunsOnNoth
 RunsOn g opened back reader reader' writer writer' (NotListening port) = ⊥
 RunsOn g opened back reader reader' writer writer' (TextEnded printed) = ⊥
 RunsOn g opened back reader reader' writer writer' (CheckEnded checked) = ⊥
+RunsOn g opened back reader reader' writer writer' (ListEnded listed) = ⊥
 
 -- how a session comes out that is asked for: over what was opened where the job names a file, and else over a new registry in memory
 abbrev pub RunsAsked : {S : Type 0} (g : Ghosts S) → Opened S → Bool → Option (Held S) → Option (List ℕ) → Option (List ℕ) → Option (List ℕ) → Option (List ℕ) → Outcome → Type 0
 RunsAsked g opened false back reader reader' writer writer' outcome = (back ≡ connection_in opened) × RunsAs reader reader' writer writer' outcome
 RunsAsked g opened true back reader reader' writer writer' outcome = RunsOn g opened back reader reader' writer writer' outcome
+
+-- a listing of the registry of what was opened, which the tables still spell
+pub record ListsOver {S : Type 0} (g : Ghosts S) (opened : Opened S) (kind : Listing) (writer writer' : Option (List ℕ)) (listed : Listed) (new : State) : Type 0 where
+  pub registry : Registry
+  pub kept : Kept
+  pub begins : BeginsWith g opened registry kept
+  pub lists : ListsAs (table_of kind) registry writer writer' listed
+  pub fault : IfUnread listed (λ error. IsTrue (is_fault error))
+  pub spells : SpellsWhileOpen new registry kept
+
+-- there was no registry, and nothing was written
+pub record ListsNothing {S : Type 0} (g : Ghosts S) (opened : Opened S) (back : Option (Held S)) (writer writer' : Option (List ℕ)) (error : StoreError) : Type 0 where
+  pub unwritten : writer' ≡ writer
+  pub lacks : LacksRegistry g opened back error
+
+-- how a listing of what was opened comes out
+abbrev pub ListsOn : {S : Type 0} (g : Ghosts S) → Opened S → Listing → Option (Held S) → Option (List ℕ) → Option (List ℕ) → Outcome → Type 0
+ListsOn g opened kind back writer writer' (SessionEnded ended) = ⊥
+ListsOn g opened kind back writer writer' (Unopened error) = ListsNothing g opened back writer writer' error
+ListsOn g opened kind back writer writer' (NotListening port) = ⊥
+ListsOn g opened kind back writer writer' (TextEnded printed) = ⊥
+ListsOn g opened kind back writer writer' (CheckEnded checked) = ⊥
+ListsOn g opened kind back writer writer' (ListEnded listed) = GivesBack g back (ListsOver g opened kind writer writer' listed)
 
 -- a schema's text was to be printed
 pub record TextsAs (file writer writer' : Option (List ℕ)) (outcome : Outcome) : Type 0 where
@@ -134,11 +169,12 @@ pub record CheckedAs (reader_file writer_file writer writer' : Option (List ℕ)
   pub checks : ChecksAs reader_file writer_file writer writer' checked
   pub outcome_is : outcome ≡ CheckEnded checked
 
--- how a job comes out, by its kind; one on files reads nothing
+-- how a job comes out, by its kind; one that isn't a session reads nothing
 abbrev pub ComesOut : {S : Type 0} (g : Ghosts S) → Job → Opened S → Option (Held S) → Option (List ℕ) → Option (List ℕ) → Option (List ℕ) → Option (List ℕ) → Outcome → Type 0
 ComesOut g (Run database) opened back reader reader' writer writer' outcome = RunsAsked g opened (is_some database) back reader reader' writer writer' outcome
 ComesOut g (TextJob file) opened back reader reader' writer writer' outcome = (back ≡ connection_in opened) × (reader' ≡ reader) × TextsAs (text_at opened 0) writer writer' outcome
 ComesOut g (CheckJob r w) opened back reader reader' writer writer' outcome = (back ≡ connection_in opened) × (reader' ≡ reader) × CheckedAs (text_at opened 0) (text_at opened 1) writer writer' outcome
+ComesOut g (ListJob database kind) opened back reader reader' writer writer' outcome = (reader' ≡ reader) × ListsOn g opened kind back writer writer' outcome
 
 -- a job that was done, with the connection that comes back, its line on standard error and the status
 pub record DoesAs {S : Type 0} (g : Ghosts S) (job : Job) (opened : Opened S) (back : Option (Held S))

@@ -4,3 +4,4 @@ pub mod Outcomes
 pub mod Databases
 pub mod Jobs
 pub mod Listening
+pub mod Listings

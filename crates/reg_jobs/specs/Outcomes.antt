@@ -12,7 +12,8 @@ use Rattle.reg_jobs.specs.declared.files.FileFault.TheVariants.{CannotRead, NotS
 use Rattle.reg_jobs.specs.declared.files.Printed.TheVariants.{Whole, Nothing as NothingPrinted, NotWritten}
 use Rattle.reg_jobs.specs.declared.files.Checked.TheVariants.{Verdict, Reader, Writer, OutOfMemory as CheckOutOfMemory, NotWritten as VerdictNotWritten}
 use Rattle.reg_jobs.specs.declared.outcome.Outcome.{Outcome}
-use Rattle.reg_jobs.specs.declared.outcome.Outcome.TheVariants.{Session as SessionEnded, Unopened, NotListening, Text as TextEnded, Check as CheckEnded}
+use Rattle.reg_jobs.specs.declared.outcome.Outcome.TheVariants.{Session as SessionEnded, Unopened, NotListening, Text as TextEnded, Check as CheckEnded, List as ListEnded}
+use Rattle.reg_jobs.specs.declared.listings.Listed.TheVariants.{Whole as ListedWhole, Unread, NotWritten as ListNotWritten, OutOfMemory as ListOutOfMemory}
 use Rattle.reg_jobs.specs.declared.outcome.Fault.{Fault}
 use Rattle.reg_jobs.specs.declared.outcome.Fault.TheVariants.{ReadFailed as FaultReadFailed, WriteFailed as FaultWriteFailed, MalformedInput as FaultMalformedInput, OutOfMemory as FaultOutOfMemory, CannotRead as FaultCannotRead, NotSchema as FaultNotSchema, CannotOpen as FaultCannotOpen, NotRegistry as FaultNotRegistry, OldLayout as FaultOldLayout, NewerLayout as FaultNewerLayout, CannotListen}
 use Rattle.reg_jobs.specs.declared.line.Line.{Line}
@@ -49,6 +50,10 @@ fault_of (CheckEnded (Reader fault)) = Some (fault_of_file fault)
 fault_of (CheckEnded (Writer fault)) = Some (fault_of_file fault)
 fault_of (CheckEnded CheckOutOfMemory) = Some FaultOutOfMemory
 fault_of (CheckEnded VerdictNotWritten) = Some FaultWriteFailed
+fault_of (ListEnded ListedWhole) = None
+fault_of (ListEnded (Unread error)) = Some (fault_of_database error)
+fault_of (ListEnded ListNotWritten) = Some FaultWriteFailed
+fault_of (ListEnded ListOutOfMemory) = Some FaultOutOfMemory
 
 -- the line for a fault over a file's name and a number's digits
 abbrev pub line_with : Fault → List ℕ → List ℕ → List ℕ
@@ -95,6 +100,7 @@ verdict_status (CheckEnded (Reader fault)) = 0
 verdict_status (CheckEnded (Writer fault)) = 0
 verdict_status (CheckEnded CheckOutOfMemory) = 0
 verdict_status (CheckEnded VerdictNotWritten) = 0
+verdict_status (ListEnded listed) = 0
 
 -- the program's status for an outcome, 2 for each fault
 abbrev pub status_with : Option Fault → ℕ → ℕ

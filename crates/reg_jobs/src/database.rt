@@ -1,9 +1,9 @@
 //! The registry of a database, and a session over it.
 
-ghost use Rattle.std.specs.Prelude.{IfOk, IfErr};
+ghost use Rattle.std.specs.Prelude.{◌≡◌, IfOk, IfErr, false};
 ghost use Rattle.sqlite.specs.Held.{state};
 ghost use Rattle.sqlite.specs.State.{HasCleanDisk};
-ghost use Rattle.reg_store.specs.Stores.{state_of};
+ghost use Rattle.reg_store.specs.Stores.{has_failed, state_of};
 ghost use Rattle.reg_store.specs.Opening.{OpensOver};
 ghost use Rattle.reg_http.specs.OverTables.{Over};
 ghost use Rattle.reg_http.specs.Sessions.{Session};
@@ -43,6 +43,7 @@ pub fn made<S: Alter>(
     connection: Connection<S>,
 ) -> Result<Store<S>, (StoreError, Option<Connection<S>>)>
     ensures done { IfOk result (λ store. HasCleanDisk (state_of store) → IsMadeIn (state S.Store connection) (state_of store)) }
+    ensures unfailed { IfOk result (λ store. has_failed store ≡ false) }
     ensures fault { IfErr result (λ e. GivesBack S.Store e.1 (λ new. LacksMade (state S.Store connection) new e.0)) }
 {
     if !connection.is_autocommit() {
@@ -64,6 +65,7 @@ pub fn found<S: Alter>(
     connection: Connection<S>,
 ) -> Result<Store<S>, (StoreError, Option<Connection<S>>)>
     ensures done { IfOk result (λ store. HasCleanDisk (state_of store) → OpensOver (state S.Store connection) (state_of store)) }
+    ensures unfailed { IfOk result (λ store. has_failed store ≡ false) }
     ensures fault { IfErr result (λ e. GivesBack S.Store e.1 (λ new. LacksFound (state S.Store connection) new e.0)) }
 {
     if !connection.is_autocommit() {

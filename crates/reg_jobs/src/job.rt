@@ -1,32 +1,22 @@
 //! The jobs of the program.
 
-ghost use Rattle.std.specs.Prelude.{◌≡◌, IfOk, IfErr, option_map};
+ghost use Rattle.std.specs.Prelude.{◌≡◌, IfOk, IfErr, false, option_map};
 ghost use Rattle.sqlite.specs.State.{HasCleanDisk};
-ghost use Rattle.reg_store.specs.Stores.{state_of};
-ghost use Rattle.reg_jobs.specs.Jobs.{DoesAs, HasRegistry, LacksRegistry, RunsAs, RunsAsked, RunsOn};
+ghost use Rattle.reg_store.specs.Stores.{has_failed, state_of};
+ghost use Rattle.reg_jobs.specs.Jobs.{DoesAs, HasRegistry, LacksRegistry, ListsOn, RunsAs, RunsAsked, RunsOn, file_of};
 
 use crate::database::{found, made, run_on_store};
 use crate::files::{Checked, check, print_text};
 use crate::line::report;
+use crate::listings::{list_store, table_of};
 use crate::outcome::Outcome;
 use reg_http::{Ended, serve};
 use reg_service::Service;
 use reg_store::{Store, StoreError};
+use reg_words::{Job, Listing};
 use sqlite::{Alter, Connection};
 use std::alloc::Global;
 use std::io::{Read, Write};
-
-/// What the program is asked to do.
-#[derive(Debug, Drop)]
-pub enum Job {
-    /// Answer the requests of standard input on standard output, over the registry in a file, or
-    /// else over a new one in memory.
-    Run { database: Option<String> },
-    /// Print the identity text of the schema in a file.
-    Text { file: String },
-    /// Print whether the schema in the reader's file reads what the one in the writer's file writes.
-    Check { reader: String, writer: String },
-}
 
 /// What was opened for a job.
 #[derive(Drop)]
@@ -37,30 +27,29 @@ pub enum Opened<S: Alter> {
     Texts(Vec<Option<Vec<u8>>>),
     /// The database of the job can't be opened.
     Failed,
+    /// A file without a byte, for a job that makes no registry. It isn't opened.
+    Empty,
     /// An empty database, in which the job makes its registry.
     Fresh(Connection<S>),
     /// A database that has a registry.
     Database(Connection<S>),
 }
 
-impl Job {
-    ghost use Rattle.reg_jobs.specs.Jobs.{file_of};
-
-    /// The file that a job's line on standard error may name.
-    fn file(&self, outcome: Outcome) -> &str
-        ensures { result.now ≡ file_of self.entry.now outcome }
-    {
-        match self {
-            Job::Run { database: None } => "",
-            Job::Run {
-                database: Some(file),
-            } => file.as_str(),
-            Job::Text { file } => file.as_str(),
-            Job::Check { reader, writer } => match outcome {
-                Outcome::Check(Checked::Writer(_)) => writer.as_str(),
-                _ => reader.as_str(),
-            },
-        }
+/// The file that a job's line on standard error may name.
+fn file_of(job: &Job, outcome: Outcome) -> &str
+    ensures { result.now ≡ file_of job.entry.now outcome }
+{
+    match job {
+        Job::Run { database: None } => "",
+        Job::Run {
+            database: Some(file),
+        } => file.as_str(),
+        Job::Text { file } => file.as_str(),
+        Job::Check { reader, writer } => match outcome {
+            Outcome::Check(Checked::Writer(_)) => writer.as_str(),
+            _ => reader.as_str(),
+        },
+        Job::List { database, .. } => database.as_str(),
     }
 }
 
@@ -111,17 +100,20 @@ fn run_in_memory<R: Read, W: Write>(alloc: Global, reader: &mut R, writer: &mut 
 ///
 /// # Errors
 ///
-/// `Disk` where no database was opened, and else why the database gives none, with the connection.
+/// `Disk` where no database was opened, `NotARegistry` for a file without a byte, and else why the database gives none, with
+/// the connection.
 pub fn store_in<S: Alter + Drop>(
     alloc: Global,
     opened: Opened<S>,
 ) -> Result<Store<S>, (StoreError, Option<Connection<S>>)>
     ensures has { IfOk result (λ store. HasCleanDisk (state_of store) → HasRegistry S.Store opened (state_of store)) }
+    ensures unfailed { IfOk result (λ store. has_failed store ≡ false) }
     ensures lacks { IfErr result (λ e. LacksRegistry S.Store opened e.1 e.0) }
 {
     match opened {
         Opened::Fresh(connection) => made(alloc, connection),
         Opened::Database(connection) => found(alloc, connection),
+        Opened::Empty => Err((StoreError::NotARegistry, None)),
         _ => Err((StoreError::Disk, None)),
     }
 }
@@ -165,6 +157,25 @@ fn run<S: Alter + Drop, R: Read, W: Write>(
     (outcome, opened.into_connection())
 }
 
+/// Prints a listing of the registry of what was opened, and gives the connection back. Without a
+/// registry nothing is written.
+fn list_on<S: Alter + Drop, W: Write>(
+    alloc: Global,
+    opened: Opened<S>,
+    kind: Listing,
+    writer: &mut W,
+) -> (Outcome, Option<Connection<S>>)
+    ensures { ListsOn S.Store opened kind result.1 (W.contents writer.old) (W.contents writer.new) result.0 }
+{
+    match store_in(alloc, opened) {
+        Ok(store) => {
+            let (listed, connection) = list_store(alloc, store, table_of(kind), writer);
+            (Outcome::List(listed), Some(connection))
+        }
+        Err((error, connection)) => (Outcome::Unopened(error), connection),
+    }
+}
+
 /// Does a job with what was opened for it, and answers the program's status: 0, 1 for a verdict
 /// of incompatible, or 2 after a fault, whose line goes to `errors`. A connection is given back.
 pub fn do_job<S: Alter + Drop, R: Read, W: Write, E: Write>(
@@ -189,6 +200,7 @@ pub fn do_job<S: Alter + Drop, R: Read, W: Write, E: Write>(
             let checked = check(alloc, opened.text(0), opened.text(1), writer);
             (Outcome::Check(checked), opened.into_connection())
         }
+        Job::List { kind, .. } => list_on(alloc, opened, *kind, writer),
     };
-    (report(errors, outcome, job.file(outcome)), connection)
+    (report(errors, outcome, file_of(job, outcome)), connection)
 }

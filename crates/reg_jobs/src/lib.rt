@@ -1,5 +1,5 @@
-//! The jobs of the program: a session of messages over a registry, connections to a listener, the
-//! identity text of a schema in a file, and the verdict on two.
+//! The jobs of the program: a session of messages over a registry, connections to a listener, a listing
+//! of a registry, the identity text of a schema in a file, and the verdict on two.
 #![tactic(auto)]
 
 mod database;
@@ -7,12 +7,13 @@ mod files;
 mod job;
 mod line;
 mod listening;
+mod listings;
 mod name;
 mod outcome;
-mod words;
 
-pub use job::{Job, Opened, do_job, store_in};
+pub use job::{Opened, do_job, store_in};
 pub use line::report;
 pub use listening::serve_on;
+pub use listings::Listed;
 pub use outcome::Outcome;
-pub use words::{Server, Task, USAGE, task_of};
+pub use reg_words::{Job, LineFault, Listing, Server, Task, task_of};

@@ -4,6 +4,7 @@ ghost use Rattle.std.specs.Prelude.{◌≡◌};
 ghost use Rattle.reg_jobs.specs.Outcomes.{fault_of, fault_of_file, fault_of_database, status_of};
 
 use crate::files::{Checked, FileFault, Printed};
+use crate::listings::Listed;
 use reg_http::Ended;
 use reg_store::StoreError;
 
@@ -20,6 +21,8 @@ pub enum Outcome {
     Text(Printed),
     /// Two schemas were to be checked.
     Check(Checked),
+    /// A registry was to be listed.
+    List(Listed),
 }
 
 /// A fault that has a line on standard error.
@@ -82,6 +85,10 @@ pub fn fault_of(outcome: Outcome) -> Option<Fault>
         Outcome::Check(Checked::Writer(fault)) => Some(fault_of_file(fault)),
         Outcome::Check(Checked::OutOfMemory) => Some(Fault::OutOfMemory),
         Outcome::Check(Checked::NotWritten) => Some(Fault::WriteFailed),
+        Outcome::List(Listed::Whole) => None,
+        Outcome::List(Listed::Unread(error)) => Some(fault_of_database(error)),
+        Outcome::List(Listed::NotWritten) => Some(Fault::WriteFailed),
+        Outcome::List(Listed::OutOfMemory) => Some(Fault::OutOfMemory),
     }
 }
 

@@ -38,7 +38,12 @@ const NO_LEVEL: &str =
     "HTTP/1.1 422 Unprocessable Entity\r\nContent-Type: application/vnd.schemaregistry.v1+json\r\nContent-Length: 60\r\n\r\n{\"error_code\":42203,\"message\":\"Invalid compatibility level\"}";
 
 /// A request for a path with a body, and perhaps further fields.
-fn request(alloc: Global, line: &str, fields: &str, body: &str) -> Result<String, AllocError> {
+pub(super) fn request(
+    alloc: Global,
+    line: &str,
+    fields: &str,
+    body: &str,
+) -> Result<String, AllocError> {
     let length = body.len();
     format!(in alloc; "{line} HTTP/1.1\r\n{fields}Content-Length: {length}\r\n\r\n{body}")
 }

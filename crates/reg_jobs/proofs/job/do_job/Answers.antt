@@ -1,8 +1,8 @@
-use Rattle.std.proofs.Common.{rules, refl}
+use Rattle.std.proofs.Common.{refl}
 use Rattle.reg_jobs.specs.Jobs.{ComesOut, file_of}
 use Rattle.reg_jobs.specs.Outcomes.{TellsFault, fault_of}
 use Rattle.reg_jobs.proofs.job.do_job.Goals as goal
-use Rattle.reg_jobs.proofs.job.do_job.Goals.{in-Run, in-Text, in-Check}
+use Rattle.reg_jobs.proofs.job.do_job.Goals.{in-Run, in-Text, in-Check, in-List}
 
 pub returns : goal.returns
 returns g c =
@@ -14,7 +14,8 @@ returns g c =
           (w.into_connection.ensures, refl, record { printed = w.print_text-printed.result; prints = rw w.text.ensures at w.print_text-printed.ensures; outcome_is = refl })
       | in-Check w ↦ rw (w.in-Check.is, w.outcome-is, w.writer-is, w.reader-is)
           (w.into_connection-in-Check.ensures, refl, record { checked = w.check-checked.result; checks = rw (w.text-in-Check.ensures, w.text-in-Check-2.ensures) at w.check-checked.ensures; outcome_is = refl })
+      | in-List w ↦ rw (w.in-List.is, w.outcome-is, w.writer-is, w.reader-is) (refl, w.list_on.ensures)
     ] in
     let tells : TellsFault (fault_of c.match-job.outcome.0) (file_of c.args.job.now c.match-job.outcome.0) (g.E.Write.contents c.args.errors.now) (g.E.Write.contents c.report.new.errors) =
-    rw c.file.ensures at c.report.ensures.tells in
+    rw c.file_of.ensures at c.report.ensures.tells in
     record { outcome = c.match-job.outcome.0; comes_out = comes; tells = tells; status_is = c.report.ensures.status }

@@ -1,0 +1,41 @@
+-- A listing of a registry, printed.
+use Rattle.std.specs.Prelude.{◌≡◌, ℕ, List, Option, Result, Ok, Err}
+use Rattle.std.specs.Io.KnownBytes.{Appends}
+use Rattle.reg_core.specs.Registry.{Registry}
+use Rattle.reg_store.specs.declared.listing.Listing.{Listing}
+use Rattle.reg_store.specs.declared.listing.Listing.TheVariants.{Subjects, Versions, Schemas}
+use Rattle.reg_store.specs.declared.error.StoreError.{StoreError}
+use Rattle.reg_report.specs.Csv.{listing}
+use Rattle.reg_report.specs.declared.error.ReportError.{ReportError}
+use Rattle.reg_report.specs.declared.error.ReportError.TheVariants.{Store, Write, OutOfMemory as ReportOutOfMemory}
+use Rattle.reg_words.specs.declared.task.Listing.{Listing as Word}
+use Rattle.reg_words.specs.declared.task.Listing.TheVariants.{Subjects as WordSubjects, Versions as WordVersions, Schemas as WordSchemas}
+use Rattle.reg_jobs.specs.declared.listings.Listed.{Listed}
+use Rattle.reg_jobs.specs.declared.listings.Listed.TheVariants.{Whole, Unread, NotWritten, OutOfMemory}
+
+-- what a word of the command line lists
+abbrev pub table_of : Word → Listing
+table_of WordSubjects = Subjects
+table_of WordVersions = Versions
+table_of WordSchemas = Schemas
+
+-- how a listing ended, by what its printing answered
+abbrev pub listed_as : Result (Unit {0}) ReportError → Listed
+listed_as (Ok done) = Whole
+listed_as (Err (Store error)) = Unread error
+listed_as (Err Write) = NotWritten
+listed_as (Err ReportOutOfMemory) = OutOfMemory
+
+-- A listing of the registry, by how it ended. What was written before a failed write, or before memory was refused, isn't said.
+abbrev pub ListsAs : Listing → Registry → Option (List ℕ) → Option (List ℕ) → Listed → Type 0
+ListsAs kind g writer writer' Whole = Appends writer writer' (listing kind g)
+ListsAs kind g writer writer' (Unread error) = writer' ≡ writer
+ListsAs kind g writer writer' NotWritten = Unit {0}
+ListsAs kind g writer writer' OutOfMemory = Unit {0}
+
+-- what holds of the store's error, where the registry couldn't be read
+abbrev pub IfUnread : Listed → (StoreError → Type 0) → Type 0
+IfUnread Whole P = Unit {0}
+IfUnread (Unread error) P = P error
+IfUnread NotWritten P = Unit {0}
+IfUnread OutOfMemory P = Unit {0}

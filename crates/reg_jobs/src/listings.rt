@@ -1,0 +1,73 @@
+//! Listings of the registry in a database.
+
+ghost use Rattle.std.specs.Prelude.{◌≡◌, false};
+ghost use Rattle.sqlite.specs.Held.{state};
+ghost use Rattle.sqlite.specs.State.{HasCleanDisk};
+ghost use Rattle.reg_core.specs.Registry.{Registry};
+ghost use Rattle.reg_core.specs.KeptReplies.{Kept};
+ghost use Rattle.reg_store.specs.Spells.{SpellsWhileOpen};
+ghost use Rattle.reg_store.specs.Failures.{IsFaultOver};
+ghost use Rattle.reg_store.specs.Stores.{has_failed, state_of};
+ghost use Rattle.reg_jobs.specs.Listings.{IfUnread, ListsAs, listed_as, table_of};
+
+use reg_report::{ReportError, list};
+use reg_store::{Listing, Store, StoreError};
+use sqlite::{Alter, Connection};
+use std::alloc::Global;
+use std::io::Write;
+
+/// How a listing ended.
+#[derive(Clone, Copy, Debug, PartialEq, Eq)]
+pub enum Listed {
+    /// All of it was printed.
+    Whole,
+    /// The registry couldn't be read, and nothing was printed.
+    Unread(StoreError),
+    /// A write failed.
+    NotWritten,
+    /// Room for a line was refused.
+    OutOfMemory,
+}
+
+/// What a listing shows of the tables.
+pub fn table_of(kind: reg_words::Listing) -> Listing
+    ensures { result ≡ table_of kind }
+{
+    match kind {
+        reg_words::Listing::Subjects => Listing::Subjects,
+        reg_words::Listing::Versions => Listing::Versions,
+        reg_words::Listing::Schemas => Listing::Schemas,
+    }
+}
+
+/// How a listing ended, by what the printing of it answered.
+fn listed_as(printed: Result<(), ReportError>) -> Listed
+    ensures { result ≡ listed_as printed }
+{
+    match printed {
+        Ok(()) => Listed::Whole,
+        Err(ReportError::Store(error)) => Listed::Unread(error),
+        Err(ReportError::Write) => Listed::NotWritten,
+        Err(ReportError::OutOfMemory) => Listed::OutOfMemory,
+    }
+}
+
+/// Prints a listing of a store's registry, and gives its connection back.
+pub fn list_store<W: Write, S: Alter>(
+    alloc: Global,
+    mut store: Store<S>,
+    kind: Listing,
+    writer: &mut W,
+) -> (Listed, Connection<S>)
+    ensures clean { HasCleanDisk (state S.Store result.1) → HasCleanDisk (state_of store) }
+    ensures lists { HasCleanDisk (state S.Store result.1) → (g : Registry) (k : Kept)
+        → SpellsWhileOpen (state_of store) g k
+        → ListsAs kind g (W.contents writer.old) (W.contents writer.new) result.0 }
+    ensures fault { HasCleanDisk (state S.Store result.1) → has_failed store ≡ false
+        → IfUnread result.0 (IsFaultOver (state_of store) (state S.Store result.1)) }
+    ensures same { HasCleanDisk (state S.Store result.1) → (g : Registry) (k : Kept)
+        → SpellsWhileOpen (state_of store) g k → SpellsWhileOpen (state S.Store result.1) g k }
+{
+    let printed = list(alloc, &mut store, kind, writer);
+    (listed_as(printed), store.into_connection())
+}
