@@ -2,5 +2,6 @@
 mod deleting;
 mod listings;
 mod registering;
+mod reports;
 mod requests;
 mod rows;

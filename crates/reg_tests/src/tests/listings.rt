@@ -28,7 +28,7 @@ fn text_of<S: Alter>(alloc: Global, store: &mut Store<S>, kind: Listing) -> Resu
 }
 
 /// The registry with a deleted version, and with a level of its own for `t`.
-fn with_an_own_level(alloc: Global) -> Result<Store<MemStore>, Fail> {
+pub(super) fn with_an_own_level(alloc: Global) -> Result<Store<MemStore>, Fail> {
     let mut connection = with_a_deleted_version(alloc)?.into_connection();
     let mut tx = connection.transaction();
     set_level(&mut tx, "t", "FULL")?;
