@@ -1,4 +1,4 @@
-# What the scripts here share: where the program is, and a server on a free port. Sourced, not run.
+# What the scripts here share: where the program is, a server on a free port, nginx in front of it. Sourced, not run.
 #
 #   AVROREG    the program; by default as `rt run` builds it
 
@@ -31,6 +31,29 @@ need() {
   done
 }
 
+# packages NAME..: installs those of Debian's packages that aren't here.
+packages() {
+  local missing=() package
+  for package; do
+    dpkg-query -W -f '${Status}' "$package" 2>/dev/null | grep -q ' installed$' || missing+=("$package")
+  done
+  [ ${#missing[@]} = 0 ] && return
+  echo "Installing ${missing[*]}"
+  local as_root=()
+  [ "$(id -u)" = 0 ] || as_root=(sudo)
+  {
+    ${as_root[@]+"${as_root[@]}"} apt-get update -q &&
+      ${as_root[@]+"${as_root[@]}"} env DEBIAN_FRONTEND=noninteractive apt-get install -y -q --no-install-recommends "${missing[@]}"
+  } >"$scratch/install.log" 2>&1 ||
+    fail "couldn't install ${missing[*]}: $(tail -n 3 "$scratch/install.log")"
+}
+
+# Builds the Go client, as $scratch/go-client.
+build_go_client() {
+  (cd "$examples/clients/lenses" && GO111MODULE=off GOPATH=/usr/share/gocode GOCACHE=$scratch/go-cache \
+    /usr/bin/go build -o "$scratch/go-client" main.go) || fail "the Go client doesn't build"
+}
+
 # A port of 127.0.0.1 that no one listens to.
 free_port() {
   local port
@@ -53,6 +76,40 @@ start_server() {
     sleep 0.1
   done
   fail "the server doesn't answer at $url"
+}
+
+# start_nginx NAME PORT [EDIT]: nginx on the free port $front, in front of PORT, by the configuration in nginx, which
+# sed's EDIT changes first.
+start_nginx() {
+  local folder=$scratch/$1 user= tries
+  [ "$(id -u)" != 0 ] || user='user root;'
+  front=$(free_port)
+  mkdir "$folder"
+  sed "${3:-};s/127.0.0.1:8081/127.0.0.1:$2/; s/127.0.0.1:8080/127.0.0.1:$front/" "$examples/nginx/avroreg.conf" >"$folder/avroreg.conf"
+  cat >"$folder/nginx.conf" <<CONF
+daemon off;
+$user
+worker_processes 1;
+pid nginx.pid;
+events { }
+http {
+    log_format  answered "\$status \$request_method \$request_uri";
+    access_log  access.log answered;
+    client_body_temp_path bodies;
+    proxy_temp_path       answers;
+    fastcgi_temp_path     unused;
+    uwsgi_temp_path       unused;
+    scgi_temp_path        unused;
+    include avroreg.conf;
+}
+CONF
+  /usr/sbin/nginx -p "$folder" -c nginx.conf -e error.log &
+  started+=("$!")
+  for tries in $(seq 100); do
+    (exec 3<>"/dev/tcp/127.0.0.1/$front") 2>/dev/null && return
+    sleep 0.1
+  done
+  fail "nginx doesn't listen: $(cat "$folder/error.log")"
 }
 
 # stop_server [SIGNAL]: ends the last server that was started.

@@ -1,0 +1,116 @@
+#!/usr/bin/env python3
+"""What users of Confluent's Python client do, by both of its clients, each answer compared.
+
+    /usr/bin/python3 examples/clients/confluent.py URL [PREFIX]     PREFIX of the subjects, which have to be unused
+"""
+import logging
+import sys
+
+import confluent_kafka
+from confluent_kafka import avro
+from confluent_kafka.avro.cached_schema_registry_client import CachedSchemaRegistryClient
+from confluent_kafka.avro.serializer.message_serializer import MessageSerializer
+from confluent_kafka.schema_registry import Schema, SchemaReference, SchemaRegistryClient
+from confluent_kafka.schema_registry.error import SchemaRegistryError
+
+
+def record(name, *fields):
+    return '{"type":"record","name":"%s","fields":[%s]}' % (name, ",".join(fields))
+
+
+ID = '{"name":"id","type":"long"}'
+NOTE = '{"name":"note","type":"string","default":""}'
+TOTAL = '{"name":"total","type":"double"}'
+
+
+def same(wanted, found):
+    assert wanted == found, f"wanted {wanted!r}, found {found!r}"
+
+
+def refused(status, code, call, *arguments):
+    """The call has to be refused with this status and code."""
+    try:
+        found = call(*arguments)
+    except SchemaRegistryError as error:
+        same((status, code), (error.http_status_code, error.error_code))
+    else:
+        raise AssertionError(f"wanted {code}, found {found!r}")
+
+
+def client_of_today(url, prefix):
+    """`SchemaRegistryClient`, which serializers of the newer interface take."""
+    subject, other = f"{prefix}orders-value", f"{prefix}a/b ü"
+    first, second, third = (Schema(record(f"{prefix}Order", ID, *more), "AVRO") for more in ((), (NOTE,), (TOTAL,)))
+    with SchemaRegistryClient({"url": url}) as client:
+        refused(404, 40401, client.get_versions, subject)
+        refused(404, 40408, client.get_compatibility, subject)
+        same({"compatibility": "FULL"}, client.set_compatibility(subject, "full"))
+        same("FULL", client.get_compatibility(subject))
+
+        one = client.register_schema(subject, first)
+        two = client.register_schema(subject, second)
+        refused(409, 409, client.register_schema, subject, third)
+        same(False, client.test_compatibility(subject, third))
+        same(True, client.test_compatibility(subject, second, version=1))
+        same([1, 2], client.get_versions(subject))
+        assert subject in client.get_subjects()
+
+        found = client.get_latest_version(subject)
+        same((two, subject, 2), (found.schema_id, found.subject, found.version))
+        same(one, client.get_version(subject, 1).schema_id)
+        same(1, client.lookup_schema(subject, first).version)
+        refused(404, 40403, client.lookup_schema, subject, third)
+        refused(404, 40402, client.get_version, subject, 7)
+        refused(422, 42202, client.get_version, subject, -1)
+
+        same(two, client.register_schema(other, second))
+        same([1], client.get_versions(other))
+
+    # A new client has nothing in its cache, so it asks.
+    with SchemaRegistryClient({"url": url}) as client:
+        by_id = client.get_schema(two)
+        same(2, client.lookup_schema(subject, by_id).version)
+        refused(404, 40403, client.get_schema, 2147483647)
+        refused(422, 42201, client.register_schema, subject, Schema("nonsense", "AVRO"))
+        refused(422, 42201, client.register_schema, subject, Schema('{"type":"object"}', "JSON"))
+        reference = SchemaReference("Order", subject, 1)
+        refused(422, 42201, client.register_schema, subject, Schema(second.schema_str, "AVRO", [reference]))
+
+        same(1, client.delete_version(subject, 1))
+        refused(404, 40406, client.delete_version, subject, 1)
+        same([2], client.delete_subject(subject, permanent=True))
+        refused(404, 40401, client.get_versions, subject)
+        same([1], client.delete_subject(other, permanent=True))
+
+
+def client_of_avro_producer(url, prefix):
+    """`CachedSchemaRegistryClient`, which `AvroProducer` and `AvroConsumer` use, with a message there and back."""
+    topic = f"{prefix}payments"
+    subject = f"{topic}-value"
+    first, second = (avro.loads(record(f"{prefix}Payment", ID, *more)) for more in ((), (NOTE,)))
+    with CachedSchemaRegistryClient({"url": url}) as client:
+        same("FORWARD", client.update_compatibility("FORWARD", subject))
+        same("FORWARD", client.get_compatibility(subject))
+        message = MessageSerializer(client).encode_record_with_schema(topic, second, {"id": 7, "note": "paid"})
+        number = client.check_registration(subject, second)
+        same((0, number), (message[0], int.from_bytes(message[1:5], "big")))
+        same(True, client.test_compatibility(subject, first))
+        same(1, client.get_version(subject, second))
+
+    with CachedSchemaRegistryClient({"url": url}) as client:
+        same({"id": 7, "note": "paid"}, MessageSerializer(client).decode_message(message))
+        same((number, 1), client.get_latest_schema(subject)[::2])
+        same([1], client.delete_subject(subject))
+        same((None, None, None), client.get_latest_schema(subject))
+
+
+def main():
+    url, prefix = sys.argv[1], sys.argv[2] if len(sys.argv) > 2 else ""
+    logging.disable()
+    client_of_today(url, prefix)
+    client_of_avro_producer(url, prefix)
+    print(f"confluent-kafka {confluent_kafka.version()[0]}: both clients got what they have to")
+
+
+if __name__ == "__main__":
+    main()
