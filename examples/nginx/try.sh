@@ -1,0 +1,45 @@
+#!/usr/bin/env bash
+# Runs avroreg alone and avroreg behind nginx, on new files and free ports, and holds the second to the first; then
+# runs the clients of examples/clients eight at once, and eight clients at a steady rate. Installs what it needs.
+# Ends with status 0 where no request was lost and each answer was as it has to be.
+#
+#   AVROREG=PROGRAM examples/nginx/try.sh [SECONDS] [RATE]     of the steady run: 20 seconds, 20 a second and client
+set -u
+source "$(dirname "$0")/../serving.sh"
+packages nginx python3-confluent-kafka python3-requests python3-avro golang-go golang-github-lensesio-schema-registry-dev
+build_go_client
+need curl
+here=$examples/nginx
+python=/usr/bin/python3
+
+start_server "$scratch/alone.db"
+alone=${url##*:}
+start_server "$scratch/behind.db"
+start_nginx same "${url##*:}"
+"$python" "$here/same.py" "$alone" "$front" || fail "an answer behind nginx differed"
+
+for at in 1 2 3 4 5 6 7 8; do
+  "$python" "$examples/clients/confluent.py" "http://127.0.0.1:$front" "client$at." >"$scratch/client$at" 2>&1 &
+  clients[at]=$!
+  "$scratch/go-client" "http://127.0.0.1:$front" "client$at." >>"$scratch/go-client$at" 2>&1 &
+  go_clients[at]=$!
+done
+for at in 1 2 3 4 5 6 7 8; do
+  wait "${clients[at]}" || fail "Confluent's Python client $at found a difference: $(tail -n 1 "$scratch/client$at")"
+  wait "${go_clients[at]}" || fail "the Go client $at found a difference: $(cat "$scratch/go-client$at")"
+done
+echo "eight of Confluent's Python client and eight of the Go client at once: each got what it has to"
+
+start_server "$scratch/steady.db"
+start_nginx steady "${url##*:}"
+"$python" "$here/eight.py" "$front" "${1:-20}" "${2:-20}" >"$scratch/eight" || fail "the steady run found a difference"
+cat "$scratch/eight"
+
+# nginx's own count: as many requests as the clients sent, beside those that looked whether it is there; none of them
+# failed in nginx or was given up by its client.
+grep -v ' GET /config$' "$scratch/steady/access.log" >"$scratch/log"
+wanted=$(sed -n 's/^requests: //p' "$scratch/eight")
+found=$(grep -c -E '^(200|409) ' "$scratch/log")
+[ "$wanted" = "$found" ] && [ "$found" = "$(wc -l <"$scratch/log")" ] ||
+  fail "nginx answered $found of $wanted requests well, and $(wc -l <"$scratch/log") in all"
+echo "nginx's log has all $found of them, each with status 200 or 409"
