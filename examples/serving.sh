@@ -63,14 +63,14 @@ free_port() {
 
 # start_server FILE: serves the registry in FILE; $server is the process, $url where it answers.
 start_server() {
-  local port tries
+  local port _
   [ -x "$avroreg" ] || fail "there is no program $avroreg; build it, or name it in AVROREG"
   port=$(free_port)
   "$avroreg" serve --db "$1" --port "$port" &
   server=$!
   started+=("$server")
   url=http://127.0.0.1:$port
-  for tries in $(seq 100); do
+  for _ in $(seq 100); do
     curl -s -o /dev/null "$url/config" && return
     kill -0 "$server" 2>/dev/null || fail "the server ended before it answered"
     sleep 0.1
@@ -81,7 +81,7 @@ start_server() {
 # start_nginx NAME PORT [EDIT]: nginx on the free port $front, in front of PORT, by the configuration in nginx, which
 # sed's EDIT changes first.
 start_nginx() {
-  local folder=$scratch/$1 user= tries
+  local folder=$scratch/$1 user="" _
   [ "$(id -u)" != 0 ] || user='user root;'
   front=$(free_port)
   mkdir "$folder"
@@ -105,7 +105,7 @@ http {
 CONF
   /usr/sbin/nginx -p "$folder" -c nginx.conf -e error.log &
   started+=("$!")
-  for tries in $(seq 100); do
+  for _ in $(seq 100); do
     (exec 3<>"/dev/tcp/127.0.0.1/$front") 2>/dev/null && return
     sleep 0.1
   done
