@@ -100,6 +100,7 @@ def client_of_avro_producer(url, prefix):
     with CachedSchemaRegistryClient({"url": url}) as client:
         same({"id": 7, "note": "paid"}, MessageSerializer(client).decode_message(message))
         same((number, 1), client.get_latest_schema(subject)[::2])
+        same((number, 1), client.get_by_version(subject, 1)[::2])
         same([1], client.delete_subject(subject))
         same((None, None, None), client.get_latest_schema(subject))
 
