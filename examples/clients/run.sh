@@ -5,10 +5,9 @@
 #   AVROREG=PROGRAM examples/clients/run.sh
 set -u
 source "$(dirname "$0")/../serving.sh"
-packages python3-confluent-kafka python3-requests python3-avro golang-go golang-github-lensesio-schema-registry-dev
+packages curl python3-confluent-kafka python3-requests python3-avro golang-go golang-github-lensesio-schema-registry-dev
 build_go_client
 
-need curl
 start_server "$scratch/clients.db"
 /usr/bin/python3 "$examples/clients/confluent.py" "$url" || fail "Confluent's Python client found a difference"
 "$scratch/go-client" "$url" '' alone || fail "the Go client found a difference"

@@ -5,8 +5,7 @@
 #   AVROREG=PROGRAM examples/nginx/tls.sh
 set -u
 source "$(dirname "$0")/../serving.sh"
-packages nginx openssl python3-confluent-kafka python3-requests python3-avro
-need curl openssl
+packages nginx curl openssl python3-confluent-kafka python3-requests python3-avro
 
 openssl req -x509 -newkey rsa:2048 -nodes -days 1 -subj /CN=127.0.0.1 -addext subjectAltName=IP:127.0.0.1 \
   -keyout "$scratch/avroreg.key" -out "$scratch/avroreg.crt" 2>/dev/null || fail "openssl made no certificate"

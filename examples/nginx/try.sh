@@ -6,9 +6,8 @@
 #   AVROREG=PROGRAM examples/nginx/try.sh [SECONDS] [RATE]     of the steady run: 20 seconds, 20 a second and client
 set -u
 source "$(dirname "$0")/../serving.sh"
-packages nginx python3-confluent-kafka python3-requests python3-avro golang-go golang-github-lensesio-schema-registry-dev
+packages nginx curl python3-confluent-kafka python3-requests python3-avro golang-go golang-github-lensesio-schema-registry-dev
 build_go_client
-need curl
 here=$examples/nginx
 python=/usr/bin/python3
 
