@@ -138,7 +138,7 @@ class Client(threading.Thread):
 
 def check(port, known):
     """Asks for all that was registered, and gives the count of subjects, versions and ids."""
-    client = Client(port, 0, 0, 1000000, known)
+    client = Client(port, 0, 0, 500, known)
     client.due = time.monotonic()
     count = 0
     for subject, (versions, live) in known.subjects.items():
