@@ -5,7 +5,9 @@ pub mod Monotone
 pub mod Members
 pub mod PairLemmas
 pub mod SupportLemmas
+pub mod AskerLemmas
 pub mod Strikes
+pub mod Settling
 pub mod Ends
 pub mod Denoted
 pub mod Itself

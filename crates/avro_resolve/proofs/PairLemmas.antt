@@ -1,6 +1,6 @@
 -- The pairs of places below two numbers, and those of them that a set has.
 use Rattle.std.proofs.Common.{◌≡◌, ℕ, zero, suc, ◌+◌, ◌*◌, ◌<◌, ◌≤◌, List, [], ◌∷◌, ◌++◌, Bool, true, false, cond, length, refl, sym, ap, subst, arith, true≢false, inl, inr, length-append}
-use Rattle.std.specs.Prelude.{All, IsTrue, filter, ◌==◌, ◌&&◌}
+use Rattle.std.specs.Prelude.{All, IsTrue, filter, ◌==◌, ◌&&◌, ◌⊎◌}
 use Rattle.std.proofs.lemmas.Bool.{cases_lt}
 use Rattle.std.proofs.lemmas.List.Elements.{filter_passes}
 use Rattle.std.proofs.lemmas.List.Folds.{Any-from_list_any}
@@ -23,9 +23,16 @@ in_row i (suc m) j l = elim (cases_lt j m) [
   | inr g ↦ (let e : m ≡ j = omega arith in subst (λ (x : ℕ). member (row_below i (suc m)) i x ≡ true) e (member_head (i, m) (row_below i m)))
 ]
 
-member_after : (ps qs : List Pair) (i j : ℕ) → member qs i j ≡ true → member (ps ++ qs) i j ≡ true
+pub member_after : (ps qs : List Pair) (i j : ℕ) → member qs i j ≡ true → member (ps ++ qs) i j ≡ true
 member_after [] qs i j h = h
 member_after (p ∷ ps) qs i j h = member_tail p (ps ++ qs) i j (member_after ps qs i j h)
+
+pub member_back : (ps qs : List Pair) (i j : ℕ) → member (ps ++ qs) i j ≡ true → (member ps i j ≡ true) ⊎ (member qs i j ≡ true)
+member_back [] qs i j h = inr h
+member_back (p ∷ ps) qs i j h = elim (member_cases p (ps ++ qs) i j h) [
+  | inl e ↦ inl (subst (λ (x : ℕ). member (p ∷ ps) x j ≡ true) (sym e.0) (subst (λ (y : ℕ). member (p ∷ ps) p.0 y ≡ true) (sym e.1) (member_head p ps)))
+  | inr g ↦ elim (member_back ps qs i j g) [ inl l ↦ inl (member_tail p ps i j l) | inr l ↦ inr l ]
+]
 
 pub in_pairs : (n m i j : ℕ) → i < n → j < m → member (pairs_below n m) i j ≡ true
 unfolding pairs_below

@@ -1,8 +1,9 @@
 -- The pairs that a table has left.
-use Rattle.std.specs.Prelude.{◌≡◌, ℕ, ◌+◌, ◌*◌, List, [], Bool, true, false, ◌&&◌, length, ◌<◌, nat_lt, slice_index_or, sum_by}
+use Rattle.std.specs.Prelude.{◌≡◌, ◌⊎◌, ℕ, ◌+◌, ◌*◌, List, [], Bool, true, false, ◌&&◌, ◌||◌, length, ◌<◌, nat_lt, slice_index_or, sum_by, IsTrue}
 use Rattle.avro_nodes.specs.Nodes.{NodeView}
 use Rattle.avro_resolve.specs.declared.table.Table.{Table}
-use Rattle.avro_resolve.specs.Witnesses.{Pair, without, RefutesAfter, Differ}
+use Rattle.avro_resolve.specs.Resolution.{Pairs, Supports}
+use Rattle.avro_resolve.specs.Witnesses.{Pair, member, without, RefutesAfter, Differ}
 
 -- the flag of a pair, where the flags stand row by row
 unfoldable pub flag : List Bool → ℕ → ℕ → ℕ → Bool
@@ -39,3 +40,28 @@ pub record IsLeft (w r : List NodeView) (t : Table) : Type 0 where
 pub record Shrinks (old new : Table) (any : Bool) : Type 0 where
   pub fewer : any ≡ true → count_left new < count_left old
   pub same : any ≡ false → new ≡ old
+
+-- the pairs that are left, and those that are listed: struck out, and not yet told to the pairs that ask for them
+abbrev pub held : Table → List Pair → Pairs
+held t ps i j = left t i j || member ps i j
+
+-- what is left or listed supports the pair, if it is left
+abbrev pub Settled : List NodeView → List NodeView → Table → List Pair → ℕ → ℕ → Type 0
+Settled w r t ps i j = IsTrue (left t i j) → Supports w r (held t ps) i j
+
+abbrev pub AllSettled : List NodeView → List NodeView → Table → List Pair → Type 0
+AllSettled w r t ps = (i j : ℕ) → i < length w → j < length r → Settled w r t ps i j
+
+-- some pairs were struck out, and each is listed
+pub record Lists (old : Table) (before : List Pair) (new : Table) (after : List Pair) : Type 0 where
+  pub fewer : (i j : ℕ) → IsTrue (left new i j) → IsTrue (left old i j)
+  pub held : (i j : ℕ) → IsTrue (held old before i j) → IsTrue (held new after i j)
+  pub count : count_left new + length after ≡ count_left old + length before
+
+-- each pair of the one set is one of the other, or this pair
+abbrev pub WithinBut : ℕ → ℕ → Pairs → Pairs → Type 0
+WithinBut p q R S = (a b : ℕ) → IsTrue (R a b) → IsTrue (S a b) ⊎ ((a ≡ p) × (b ≡ q))
+
+-- what supports the pair (i, j) does so without the pair (p, q)
+abbrev pub Ignores : List NodeView → List NodeView → ℕ → ℕ → ℕ → ℕ → Type 0
+Ignores w r i j p q = (R S : Pairs) → WithinBut p q R S → Supports w r R i j → Supports w r S i j

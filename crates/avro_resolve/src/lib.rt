@@ -2,6 +2,7 @@
 //! Schema Resolution).
 #![tactic(auto)]
 
+mod askers;
 mod fields;
 mod kinds;
 mod names;

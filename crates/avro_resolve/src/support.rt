@@ -1,12 +1,12 @@
 //! Whether the pairs that are left support a pair.
 
-ghost use Rattle.std.specs.Prelude.{◌≡◌, ◌<◌, ◌↔◌, ◌⊎◌, map, option_map, string_bytes, slice_get, Some, length, All, Any, Contains, IsSome, IsTrue};
+ghost use Rattle.std.specs.Prelude.{◌≡◌, ◌<◌, ◌↔◌, ◌⊎◌, ℕ, false, map, option_map, string_bytes, slice_get, Some, length, All, Any, Contains, IsSome, IsTrue};
 ghost use Rattle.std.specs.List.{list_any, list_all};
 ghost use Rattle.std.specs.Str.{bytes_eq};
 ghost use Rattle.avro_nodes.specs.Nodes.{field_view, node_view, nodes_view, texts_view};
-ghost use Rattle.avro_resolve.specs.Resolution.{Readable, Fits, Supports};
+ghost use Rattle.avro_resolve.specs.Resolution.{Pairs, Readable, Fits, Supports};
 ghost use Rattle.avro_resolve.specs.Places.{Names, IsWhole};
-ghost use Rattle.avro_resolve.specs.Left.{left};
+ghost use Rattle.avro_resolve.specs.Left.{left, WithinBut, Ignores};
 
 use crate::fields::source_of;
 use crate::kinds::promotes;
@@ -116,7 +116,7 @@ fn fits(a: &Node, b: &Node, i: u32, j: u32, table: &Table) -> bool
 }
 
 /// The node at a place.
-fn node_at(schema: &Schema, place: u32) -> &Node
+pub fn node_at(schema: &Schema, place: u32) -> &Node
     requires { place < length schema.now }
     ensures { slice_get (nodes_view schema.now) place ≡ Some (node_view result.now) }
 {
@@ -134,4 +134,50 @@ pub fn supports(writer: &Schema, reader: &Schema, i: u32, j: u32, table: &Table)
     ensures { IsTrue result ↔ Supports (nodes_view writer.now) (nodes_view reader.now) (left table.now) i j }
 {
     fits(node_at(writer, i), node_at(reader, j), i, j, table)
+}
+
+/// Whether a reader's field at the second place is read from a writer's field at the first.
+fn field_asks(fields: &[Field], f: &Field, p: u32, q: u32) -> bool
+    ensures { result ≡ false → (R S : Pairs) → WithinBut p q R S
+        → Readable R (map field_view fields.now) (field_view f.now)
+        → Readable S (map field_view fields.now) (field_view f.now) }
+{
+    f.place == q && source_of(fields, f) == Some(p)
+}
+
+/// Whether one of the reader's fields asks for the pair of these places.
+fn fields_ask(fields: &[Field], wanted: &[Field], p: u32, q: u32) -> bool
+    ensures { result ≡ false → (R S : Pairs) → WithinBut p q R S
+        → All (Readable R (map field_view fields.now)) (map field_view wanted.now)
+        → All (Readable S (map field_view fields.now)) (map field_view wanted.now) }
+{
+    for f in wanted {
+        if field_asks(fields, f, p, q) {
+            return true;
+        }
+    }
+    false
+}
+
+/// Whether the pair of these nodes may ask for the pair of places: two records ask for those of
+/// their fields, and of all other pairs it is not looked into.
+fn asks(a: &Node, b: &Node, p: u32, q: u32) -> bool
+    ensures { result ≡ false → (R S : Pairs) (i j : ℕ) → WithinBut p q R S
+        → Fits R i j (node_view a.now) (node_view b.now) → Fits S i j (node_view a.now) (node_view b.now) }
+{
+    match (a, b) {
+        (Node::Rec { fields, .. }, Node::Rec { fields: wanted, .. }) => fields_ask(
+            fields, wanted, p, q,
+        ),
+        _ => true,
+    }
+}
+
+/// Whether the pair (i, j) may ask for the pair (p, q).
+pub fn pair_asks(writer: &Schema, reader: &Schema, i: u32, j: u32, p: u32, q: u32) -> bool
+    requires i_in { i < length writer.now }
+    requires j_in { j < length reader.now }
+    ensures { result ≡ false → Ignores (nodes_view writer.now) (nodes_view reader.now) i j p q }
+{
+    asks(node_at(writer, i), node_at(reader, j), p, q)
 }

@@ -1,0 +1,154 @@
+-- Pairs that were struck out, told to those that ask for them.
+use Rattle.std.proofs.Common.{◌≡◌, ℕ, ◌+◌, ◌<◌, List, [], ◌∷◌, ◌++◌, Bool, true, false, ◌&&◌, length, refl, sym, subst, ◌∙◌, arith, true≢false, inl, inr, length-append}
+use Rattle.std.specs.Prelude.{◌==◌, ◌⊎◌, if◌then◌else◌, All, Contains, Vec}
+use Rattle.std.specs.declared.alloc.Global.{Global}
+use Rattle.std.proofs.lemmas.List.Elements.{Contains-append_right, All-contains}
+use Rattle.std.proofs.lemmas.Map.Made.{Contains-tail}
+use Rattle.std.proofs.lemmas.Bool.{or_cases, or_left, or_right}
+use Rattle.std.proofs.lemmas.Bool.Decides.{nat_tests}
+use Rattle.avro_nodes.specs.Nodes.{NodeView}
+use Rattle.avro_resolve.specs.declared.table.Table.{Table}
+use Rattle.avro_resolve.specs.Resolution.{Supports}
+use Rattle.avro_resolve.specs.Places.{IsWhole}
+use Rattle.avro_resolve.specs.Witnesses.{Pair, member}
+use Rattle.avro_resolve.specs.Askers.{list_at, Asks, HasAskers}
+use Rattle.avro_resolve.specs.Left.{left, count_left, held, Settled, AllSettled, Lists, Ignores}
+use Rattle.avro_resolve.proofs.Monotone.{supports_within, supports_near}
+use Rattle.avro_resolve.proofs.PairLemmas.{member_back, member_after}
+use Rattle.avro_resolve.proofs.Members.{member-nil, member_front, member_last, push_cases}
+
+-- ---- how the list and the table go on
+
+pub lists_none : (t : Table) (ps : List Pair) → Lists t ps t ps
+lists_none t ps = record { fewer = λ i j h. h; held = λ i j h. h; count = refl }
+
+pub lists_then : (t u v : Table) (ps qs rs : List Pair) → Lists t ps u qs → Lists u qs v rs → Lists t ps v rs
+lists_then t u v ps qs rs g h = record {
+  fewer = λ i j l. g.fewer i j (h.fewer i j l);
+  held = λ i j l. h.held i j (g.held i j l);
+  count = h.count ∙ g.count;
+}
+
+still : (x y : Bool) → (if x then false else y) ≡ true → y ≡ true
+still true y h = absurd (true≢false (sym h))
+still false y h = h
+
+other : (x y : Bool) → x ≡ false → y ≡ true → (if x then false else y) ≡ true
+other x y e h = rw e h
+
+same_pair : (a b i j : ℕ) (x : Bool) → (a == i && b == j) ≡ x → ((a ≡ i) × (b ≡ j)) ⊎ ((a == i && b == j) ≡ false)
+same_pair a b i j true e = inl ((let p : a ≡ i = grind (arith, nat_tests) in p), (let q : b ≡ j = grind (arith, nat_tests) in q))
+same_pair a b i j false e = inr e
+
+-- a pair that was struck out is listed
+module _ (t v : Table) (ps : List Pair) (i j : ℕ) (others : (a b : ℕ) → left v a b ≡ (if a == i && b == j then false else left t a b)) where
+  held_left : (a b : ℕ) → left t a b ≡ true → held v (ps ++ (i, j) ∷ []) a b ≡ true
+  held_left a b l = elim (same_pair a b i j (a == i && b == j) refl) [
+    | inl e ↦ or_right (left v a b) (member (ps ++ (i, j) ∷ []) a b) (subst (λ (x : ℕ). member (ps ++ (i, j) ∷ []) x b ≡ true) (sym e.0) (subst (λ (y : ℕ). member (ps ++ (i, j) ∷ []) i y ≡ true) (sym e.1) (member_last ps i j)))
+    | inr e ↦ or_left (left v a b) (member (ps ++ (i, j) ∷ []) a b) (others a b ∙ other (a == i && b == j) (left t a b) e l)
+  ]
+
+  pub lists_struck : count_left v + 1 ≡ count_left t → Lists t ps v (ps ++ (i, j) ∷ [])
+  lists_struck fewer = record {
+    fewer = λ a b l. still (a == i && b == j) (left t a b) (sym (others a b) ∙ l);
+    held = λ a b l. elim (or_cases (left t a b) (member ps a b) l) [
+      | inl g ↦ held_left a b g
+      | inr g ↦ or_right (left v a b) (member (ps ++ (i, j) ∷ []) a b) (member_front ps ((i, j) ∷ []) a b g)
+    ];
+    count = (let l : length (ps ++ (i, j) ∷ []) ≡ length ps + 1 = length-append ps ((i, j) ∷ []) in omega arith);
+  }
+
+  here : (i j : ℕ) (y : Bool) → (if i == i && j == j then false else y) ≡ false
+  here i j y = grind (arith, nat_tests)
+
+  pub settled_struck : (w r : List NodeView) → Settled w r v (ps ++ (i, j) ∷ []) i j
+  settled_struck w r l = absurd (true≢false (sym l ∙ others i j ∙ here i j (left t i j)))
+
+pub settled_gone : (w r : List NodeView) (t : Table) (ps : List Pair) (i j : ℕ) → left t i j ≡ false → Settled w r t ps i j
+settled_gone w r t ps i j e l = absurd (true≢false (sym l ∙ e))
+
+pub settled_supported : (w r : List NodeView) (t : Table) (ps : List Pair) (i j : ℕ) → IsWhole w → IsWhole r → Supports w r (left t) i j → Settled w r t ps i j
+settled_supported w r t ps i j ww wr s l = supports_within (left t) (held t ps) (λ a b h. or_left (left t a b) (member ps a b) h) w r i j s
+
+-- what is settled stays so
+pub settled_on : (w r : List NodeView) (t v : Table) (ps qs : List Pair) (i j : ℕ) → IsWhole w → IsWhole r → Lists t ps v qs → Settled w r t ps i j → Settled w r v qs i j
+settled_on w r t v ps qs i j ww wr h s l = supports_within (held t ps) (held v qs) h.held w r i j (s (h.fewer i j l))
+
+onto : (v : Table) (qs more : List Pair) (a b : ℕ) → held v qs a b ≡ true → held v (qs ++ more) a b ≡ true
+onto v qs more a b h = elim (or_cases (left v a b) (member qs a b) h) [
+  | inl g ↦ or_left (left v a b) (member (qs ++ more) a b) g
+  | inr g ↦ or_right (left v a b) (member (qs ++ more) a b) (member_front qs more a b g)
+]
+
+-- a further list beside both
+pub lists_beside : (t v : Table) (ps qs more : List Pair) → Lists t ps v qs → Lists t (ps ++ more) v (qs ++ more)
+lists_beside t v ps qs more h = record {
+  fewer = h.fewer;
+  held = λ a b l. elim (or_cases (left t a b) (member (ps ++ more) a b) l) [
+    | inl g ↦ onto v qs more a b (h.held a b (or_left (left t a b) (member ps a b) g))
+    | inr g ↦ elim (member_back ps more a b g) [
+      | inl m ↦ onto v qs more a b (h.held a b (or_right (left t a b) (member ps a b) m))
+      | inr m ↦ or_right (left v a b) (member (qs ++ more) a b) (member_after qs more a b m)
+    ]
+  ];
+  count = (let c = h.count in let l : length (ps ++ more) ≡ length ps + length more = length-append ps more in let m : length (qs ++ more) ≡ length qs + length more = length-append qs more in omega arith);
+}
+
+-- what was settled before a pair is told stays so while others are told of it
+pub all_settled_on : (w r : List NodeView) (t v : Table) (ps qs more : List Pair) → IsWhole w → IsWhole r → Lists t ps v qs → AllSettled w r t (ps ++ more) → AllSettled w r v (qs ++ more)
+all_settled_on w r t v ps qs more ww wr h s i j li lj = settled_on w r t v (ps ++ more) (qs ++ more) i j ww wr (lists_beside t v ps qs more h) (s i j li lj)
+
+-- a pair that does not ask for the one that is told needs no look
+pub settled_ignoring : (w r : List NodeView) (t : Table) (ps : List Pair) (i j p q : ℕ) → Ignores w r i j p q → Settled w r t (ps ++ (p, q) ∷ []) i j → Settled w r t ps i j
+settled_ignoring w r t ps i j p q ignores s l = ignores (held t (ps ++ (p, q) ∷ [])) (held t ps) (λ a b h. elim (or_cases (left t a b) (member (ps ++ (p, q) ∷ []) a b) h) [
+  | inl g ↦ inl (or_left (left t a b) (member ps a b) g)
+  | inr g ↦ elim (push_cases ps p q a b g) [ inl m ↦ inl (or_right (left t a b) (member ps a b) m) | inr e ↦ inr e ]
+]) (s l)
+
+-- ---- one listed pair is told
+
+same_place : (x i : ℕ) → (x ≡ i) ⊎ (x ≡ i → ⊥)
+same_place x i = by (x == i) refl
+  where
+    by : (b : Bool) → (x == i) ≡ b → (x ≡ i) ⊎ (x ≡ i → ⊥)
+    by true e = inl (grind (arith, nat_tests))
+    by false e = inr (λ (h : x ≡ i). grind (arith, nat_tests))
+
+stands : (xs : List ℕ) (i : ℕ) → Contains xs i ⊎ (Contains xs i → ⊥)
+stands [] i = inr (λ h. absurd (let l = h.1 in omega arith))
+stands (x ∷ xs) i = elim (same_place x i) [
+  | inl e ↦ inl (0, omega arith, e)
+  | inr n ↦ elim (stands xs i) [ inl h ↦ inl (Contains-append_right (x ∷ []) xs i h) | inr m ↦ inr (λ h. m (Contains-tail x xs i n h)) ]
+]
+
+module _ (w r : List NodeView) (rows columns : List (Vec ℕ Global)) (t v : Table) (ps qs : List Pair) (p : Pair) (ww : IsWhole w) (wr : IsWhole r)
+    (hw : HasAskers w rows) (hr : HasAskers r columns) (before : AllSettled w r t (ps ++ p ∷ [])) (lists : Lists t ps v qs)
+    (seen : All (λ i. All (Settled w r v qs i) (list_at columns p.1)) (list_at rows p.0)) where
+  -- a pair that does not ask for the one that was told holds none but what is still held
+  near : (i j : ℕ) → (Asks rows i p.0 → Asks columns j p.1 → ⊥) → (a b : ℕ) → Asks rows i a → Asks columns j b → held t (ps ++ p ∷ []) a b ≡ true → held v qs a b ≡ true
+  near i j apart a b ra cb h = elim (or_cases (left t a b) (member (ps ++ p ∷ []) a b) h) [
+    | inl g ↦ lists.held a b (or_left (left t a b) (member ps a b) g)
+    | inr g ↦ elim (push_cases ps p.0 p.1 a b g) [
+      | inl m ↦ lists.held a b (or_right (left t a b) (member ps a b) m)
+      | inr e ↦ absurd (apart (subst (λ (x : ℕ). Asks rows i x) e.0 ra) (subst (λ (y : ℕ). Asks columns j y) e.1 cb))
+    ]
+  ]
+
+  untouched : (i j : ℕ) → i < length w → j < length r → (Asks rows i p.0 → Asks columns j p.1 → ⊥) → Settled w r v qs i j
+  untouched i j li lj apart l =
+      supports_near w r (λ x. Asks rows i x) (λ y. Asks columns j y) (held t (ps ++ p ∷ [])) (held v qs) (near i j apart) i j (hw.own i li) (hr.own j lj)
+      (λ a e. hw.named i a e) (λ b e. hr.named j b e) (before i j li lj (lists.fewer i j l))
+
+  pub told : AllSettled w r v qs
+  told i j li lj = elim (stands (list_at rows p.0) i) [
+    | inr n ↦ untouched i j li lj (λ a b. n a)
+    | inl a ↦ elim (stands (list_at columns p.1) j) [
+      | inr n ↦ untouched i j li lj (λ a b. n b)
+      | inl b ↦ All-contains (Settled w r v qs i) (list_at columns p.1) j (All-contains (λ i. All (Settled w r v qs i) (list_at columns p.1)) (list_at rows p.0) i seen a) b
+    ]
+  ]
+
+-- ---- at the end
+
+pub none_held : (w r : List NodeView) (t : Table) (i j : ℕ) → IsWhole w → IsWhole r → Settled w r t [] i j → left t i j ≡ true → Supports w r (left t) i j
+none_held w r t i j ww wr s l = supports_within (held t []) (left t) (λ a b h. elim (or_cases (left t a b) (member [] a b) h) [ inl g ↦ g | inr g ↦ absurd (true≢false (sym g ∙ member-nil a b)) ]) w r i j (s l)

@@ -1,0 +1,14 @@
+use Rattle.std.proofs.Common.{◌≡◌, ℕ, ◌<◌, Some, length}
+use Rattle.std.specs.Prelude.{slice_get}
+use Rattle.avro_nodes.specs.Nodes.{NodeView, nodes_view}
+use Rattle.avro_resolve.specs.Places.{NamesAll}
+use Rattle.avro_resolve.specs.Askers.{Asks}
+use Rattle.avro_resolve.proofs.askers.askers.Given as goal
+
+abbrev pub invariant-loop-i : goal.invariant-loop-i
+invariant-loop-i l = record {
+  long : length l.lists.items ≡ length l.schema;
+  within : (i place : ℕ) → Asks l.lists.items i place → i < length l.schema;
+  own : (i : ℕ) → i < l.i → Asks l.lists.items i i;
+  named : (i : ℕ) (a : NodeView) → i < l.i → slice_get (nodes_view l.schema) i ≡ Some a → NamesAll (Asks l.lists.items i) a;
+}

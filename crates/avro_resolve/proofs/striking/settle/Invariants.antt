@@ -1,0 +1,13 @@
+use Rattle.std.proofs.Common.{◌+◌, length}
+use Rattle.avro_nodes.specs.Nodes.{nodes_view}
+use Rattle.avro_resolve.specs.Left.{IsLeft, AllSettled, count_left}
+use Rattle.avro_resolve.proofs.striking.settle.Given as goal
+
+abbrev pub invariant-loop-i : goal.invariant-loop-i
+invariant-loop-i l = record {
+  rest : IsLeft (nodes_view l.writer) (nodes_view l.reader) l.table;
+  settled : AllSettled (nodes_view l.writer) (nodes_view l.reader) l.table l.struck.items;
+}
+
+abbrev pub decreases-loop-i : goal.decreases-loop-i
+decreases-loop-i l = count_left l.table + length l.struck.items
