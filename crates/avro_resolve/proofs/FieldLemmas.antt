@@ -7,10 +7,8 @@ use Rattle.std.specs.Str.{bytes_eq}
 use Rattle.std.proofs.lemmas.List.{drop_all}
 use Rattle.avro_nodes.specs.declared.node.Field.{Field}
 use Rattle.avro_nodes.specs.Nodes.{FieldView, field_view, texts_view}
+use Rattle.avro_resolve.specs.Lookups.{place_in}
 use Rattle.avro_resolve.specs.Resolution.{first_named}
-
-abbrev pub place_in : List Field → List ℕ → Option ℕ
-place_in fields name = option_map (λ f. f.place) (find (λ f. bytes_eq (string_bytes f.name) name) fields)
 
 find_step : (f : Field) (x : Option Field) (y : Option FieldView) (b : Bool) → option_map (λ g. g.place) x ≡ option_map (λ g. g.place) y
     → option_map (λ g. g.place) (cond b (Some f) x) ≡ option_map (λ g. g.place) (cond b (Some (field_view f)) y)

@@ -1,4 +1,5 @@
 pub mod NameLemmas
+pub mod LookupLemmas
 pub mod FieldLemmas
 pub mod Flags
 pub mod Monotone

@@ -1,5 +1,5 @@
 -- Striking out one pair, and one after another.
-use Rattle.std.proofs.Common.{◌≡◌, ℕ, ◌+◌, ◌*◌, ◌<◌, List, [], ◌∷◌, ◌++◌, Bool, true, false, ◌&&◌, ◌||◌, not, length, refl, sym, ap, subst, ◌∙◌, arith, true≢false, length-append}
+use Rattle.std.proofs.Common.{◌≡◌, ℕ, ◌+◌, ◌*◌, ◌<◌, List, [], ◌∷◌, ◌++◌, Bool, true, false, ◌&&◌, ◌||◌, not, length, refl, sym, ap, ◌∙◌, arith, true≢false, length-append}
 use Rattle.std.specs.Prelude.{◌==◌, if◌then◌else◌}
 use Rattle.std.specs.List.{list_any}
 use Rattle.std.proofs.lemmas.Bool.Decides.{nat_tests}
@@ -9,7 +9,7 @@ use Rattle.avro_resolve.specs.declared.table.Table.{Table}
 use Rattle.avro_resolve.specs.Resolution.{Supports}
 use Rattle.avro_resolve.specs.Places.{IsWhole}
 use Rattle.avro_resolve.specs.Witnesses.{Pair, member, without, RefutesAfter, Differ}
-use Rattle.avro_resolve.specs.Left.{left, count_left, SameShape, IsLeft, Shrinks}
+use Rattle.avro_resolve.specs.Left.{left, count_left, SameShape, IsLeft}
 use Rattle.avro_resolve.proofs.Monotone.{supports_below}
 use Rattle.avro_resolve.proofs.Members.{differ_push, refutes_push, member-nil}
 
@@ -53,19 +53,3 @@ struck_pair w r t v i j ww wr h li lj here never shape others fewer = record {
 pub all_left : (w r : List NodeView) (t : Table) → t.writers ≡ length w → t.readers ≡ length r → ((i j : ℕ) → i < length w → j < length r → left t i j ≡ true) → count_left t ≡ length w * length r → IsLeft w r t
 unfolding Differ RefutesAfter
 all_left w r t e f whole count = record { writers = e; readers = f; struck = []; refutes = tt; differ = tt; exact = λ i j li lj. whole i j li lj ∙ sym (ap not (member-nil i j)); count = omega arith }
-
-pub shrinks_none : (t : Table) → Shrinks t t false
-shrinks_none t = record { fewer = λ h. absurd (true≢false (sym h)); same = λ h. refl }
-
-pub then_struck : (t u v : Table) (a : Bool) → Shrinks t u a → Shrinks u v true → Shrinks t v true
-then_struck t u v true p q = record {
-  fewer = λ h. let x = p.fewer refl in let y = q.fewer refl in omega arith;
-  same = λ h. absurd (true≢false h);
-}
-then_struck t u v false p q = record {
-  fewer = λ h. let x = q.fewer refl in let e = ap count_left (p.same refl) in omega arith;
-  same = λ h. absurd (true≢false h);
-}
-
-pub then_nothing : (t u v : Table) (a : Bool) → Shrinks t u a → Shrinks u v false → Shrinks t v a
-then_nothing t u v a p q = subst (λ (x : Table). Shrinks t x a) (sym (q.same refl)) p

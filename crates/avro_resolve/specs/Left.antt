@@ -36,11 +36,6 @@ pub record IsLeft (w r : List NodeView) (t : Table) : Type 0 where
   pub exact : (i j : ℕ) → i < length w → j < length r → left t i j ≡ without struck i j
   pub count : length struck + count_left t ≡ length w * length r
 
--- fewer pairs are left, or the table is the same
-pub record Shrinks (old new : Table) (any : Bool) : Type 0 where
-  pub fewer : any ≡ true → count_left new < count_left old
-  pub same : any ≡ false → new ≡ old
-
 -- the pairs that are left, and those that are listed: struck out, and not yet told to the pairs that ask for them
 abbrev pub held : Table → List Pair → Pairs
 held t ps i j = left t i j || member ps i j

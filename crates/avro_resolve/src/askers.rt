@@ -1,13 +1,13 @@
 //! Which places ask for a place: it itself, and those whose nodes name it.
 
 ghost use Rattle.std.specs.Prelude.{◌≡◌, ◌⊎◌, ◌<◌, ℕ, All, Contains, IfOk, OnOk, length, map};
-ghost use Rattle.avro_nodes.specs.Nodes.{field_view, node_view, nodes_view};
+ghost use Rattle.avro_nodes.specs.Nodes.{field_view, node_view};
 ghost use Rattle.avro_resolve.specs.Places.{NamesAll, Names, IsWhole};
+ghost use Rattle.avro_resolve.specs.Sides.{nodes_of};
 ghost use Rattle.avro_resolve.specs.Askers.{list_at, Asks, Adds, HasAskers};
 
-use crate::support::node_at;
+use crate::sides::Side;
 use avro_nodes::{Field, Node};
-use avro_schema::Schema;
 use std::alloc::{AllocError, Global};
 
 /// Adds the place to the list, if it isn't the last of it.
@@ -84,15 +84,15 @@ fn empty_lists(alloc: Global, count: u32) -> Result<Vec<Vec<u32>>, AllocError>
     Ok(lists)
 }
 
-/// For each place of a schema those that ask for it.
-pub fn askers(alloc: Global, schema: &Schema) -> Result<Vec<Vec<u32>>, AllocError>
-    requires { IsWhole (nodes_view schema.now) }
-    ensures { IfOk result (λ v. HasAskers (nodes_view schema.now) v.items) }
+/// For each place of a side those that ask for it.
+pub fn askers(alloc: Global, side: &Side) -> Result<Vec<Vec<u32>>, AllocError>
+    requires { IsWhole (nodes_of side.now) }
+    ensures { IfOk result (λ v. HasAskers (nodes_of side.now) v.items) }
 {
-    let mut lists = empty_lists(alloc, schema.places())?;
-    for i in 0..schema.places() {
+    let mut lists = empty_lists(alloc, side.places())?;
+    for i in 0..side.places() {
         note(&mut lists, i, i)?;
-        note_node(&mut lists, node_at(schema, i), i)?;
+        note_node(&mut lists, side.node(i), i)?;
     }
     Ok(lists)
 }

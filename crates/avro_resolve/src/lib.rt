@@ -5,10 +5,14 @@
 mod askers;
 mod fields;
 mod kinds;
+mod looking;
+mod lookups;
 mod names;
 mod resolving;
+mod sides;
 mod striking;
 mod support;
+mod sweeping;
 mod table;
 
 pub use avro_nodes::OutOfMemory;

@@ -20,9 +20,9 @@ loop-i-init c = record {
 
 pub note_node-requires : goal.note_node-requires
 note_node-requires c =
-    let nodes = nodes_view c.args.schema.now in
-    let long : length c.note.new.lists.items ≡ length nodes = c.in_ok-note.ensures.adds.long ∙ c.loop-i.invariant.long ∙ sym (length-map c.args.schema.now node_view) in
-    subst (λ (n : ℕ). Names n (node_view c.node_at.result.now)) (sym long) (at_place nodes (Names (length nodes)) c.loop-i.i (node_view c.node_at.result.now) c.requires c.node_at.ensures)
+    let nodes = nodes_view c.args.side.now.schema.now in
+    let long : length c.note.new.lists.items ≡ length nodes = c.in_ok-note.ensures.adds.long ∙ c.loop-i.invariant.long ∙ sym (length-map c.args.side.now.schema.now node_view) in
+    subst (λ (n : ℕ). Names n (node_view c.node.result.now)) (sym long) (at_place nodes (Names (length nodes)) c.loop-i.i (node_view c.node.result.now) c.requires c.node.ensures.node)
 
 pub loop-i-preserved : goal.loop-i-preserved
 loop-i-preserved c =
@@ -30,11 +30,11 @@ loop-i-preserved c =
     let xs = c.loop-i.lists.items in let ys = c.note.new.lists.items in let zs = c.note_node.new.lists.items in
     let h = c.in_ok-note_node.ensures.adds in
     let both : Adds xs zs at = adds_then xs ys zs at c.in_ok-note.ensures.adds h in
-    let node = node_view c.node_at.result.now in
-    let below : at < length c.args.schema.now = omega (arith, c.loop-i-test.true, c.places-i-end.ensures.places) in
+    let node = node_view c.node.result.now in
+    let below : at < length c.args.side.now.schema.now = omega (arith, c.loop-i-test.true, c.places-i-end.ensures.places) in
     record {
       long = both.long ∙ inv.long;
-      within = λ i p l. elim (both.only i p l) [ inl m ↦ inv.within i p m | inr e ↦ subst (λ (x : ℕ). x < length c.args.schema.now) (sym e) below ];
+      within = λ i p l. elim (both.only i p l) [ inl m ↦ inv.within i p m | inr e ↦ subst (λ (x : ℕ). x < length c.args.side.now.schema.now) (sym e) below ];
       own = λ i l. elim (cases_lt i at) [
         | inl g ↦ both.kept i i (inv.own i g)
         | inr g ↦ (let e : at ≡ i = omega arith in subst (λ (x : ℕ). Asks zs x x) e (h.kept at at c.in_ok-note.ensures.there))
@@ -42,7 +42,7 @@ loop-i-preserved c =
       named = λ i a l e. elim (cases_lt i at) [
         | inl g ↦ named_on (Asks xs i) (Asks zs i) (λ p. both.kept i p) a (inv.named i a g e)
         | inr g ↦ (let s : at ≡ i = omega arith in
-            let known : slice_get (nodes_view c.args.schema.now) i ≡ Some node = subst (λ (x : ℕ). slice_get (nodes_view c.args.schema.now) x ≡ Some node) s c.node_at.ensures in
+            let known : slice_get (nodes_view c.args.side.now.schema.now) i ≡ Some node = subst (λ (x : ℕ). slice_get (nodes_view c.args.side.now.schema.now) x ≡ Some node) s c.node.ensures.node in
             let same : node ≡ a = cc in
             subst (λ (b : NodeView). NamesAll (Asks zs i) b) same (subst (λ (x : ℕ). NamesAll (Asks zs x) node) s c.in_ok-note_node.ensures.there))
       ];
@@ -51,10 +51,10 @@ loop-i-preserved c =
 pub returns : goal.returns
 returns c =
     let inv = c.loop-i.invariant in
-    let long : length (nodes_view c.args.schema.now) ≡ length c.args.schema.now = length-map c.args.schema.now node_view in
-    let past : length c.args.schema.now ≤ c.loop-i.i = omega (arith, c.loop-i-test.false, c.places-i-end.ensures.places) in
+    let long : length (nodes_view c.args.side.now.schema.now) ≡ length c.args.side.now.schema.now = length-map c.args.side.now.schema.now node_view in
+    let past : length c.args.side.now.schema.now ≤ c.loop-i.i = omega (arith, c.loop-i-test.false, c.places-i-end.ensures.places) in
     record {
       within = λ i p h. subst (λ (n : ℕ). i < n) (sym long) (inv.within i p h);
       own = λ i l. inv.own i (omega (arith, long));
-      named = λ i a e. (let l : i < length (nodes_view c.args.schema.now) = slice_get_within (nodes_view c.args.schema.now) i a e in inv.named i a (omega (arith, long)) e);
+      named = λ i a e. (let l : i < length (nodes_view c.args.side.now.schema.now) = slice_get_within (nodes_view c.args.side.now.schema.now) i a e in inv.named i a (omega (arith, long)) e);
     }

@@ -7,8 +7,8 @@ use Rattle.avro_resolve.proofs.askers.askers.Given as goal
 
 abbrev pub invariant-loop-i : goal.invariant-loop-i
 invariant-loop-i l = record {
-  long : length l.lists.items ≡ length l.schema;
-  within : (i place : ℕ) → Asks l.lists.items i place → i < length l.schema;
+  long : length l.lists.items ≡ length l.side.schema.now;
+  within : (i place : ℕ) → Asks l.lists.items i place → i < length l.side.schema.now;
   own : (i : ℕ) → i < l.i → Asks l.lists.items i i;
-  named : (i : ℕ) (a : NodeView) → i < l.i → slice_get (nodes_view l.schema) i ≡ Some a → NamesAll (Asks l.lists.items i) a;
+  named : (i : ℕ) (a : NodeView) → i < l.i → slice_get (nodes_view l.side.schema.now) i ≡ Some a → NamesAll (Asks l.lists.items i) a;
 }

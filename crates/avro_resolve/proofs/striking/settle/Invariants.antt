@@ -5,8 +5,8 @@ use Rattle.avro_resolve.proofs.striking.settle.Given as goal
 
 abbrev pub invariant-loop-i : goal.invariant-loop-i
 invariant-loop-i l = record {
-  rest : IsLeft (nodes_view l.writer) (nodes_view l.reader) l.table;
-  settled : AllSettled (nodes_view l.writer) (nodes_view l.reader) l.table l.struck.items;
+  rest : IsLeft (nodes_view l.writer.schema.now) (nodes_view l.reader.schema.now) l.table;
+  settled : AllSettled (nodes_view l.writer.schema.now) (nodes_view l.reader.schema.now) l.table l.struck.items;
 }
 
 abbrev pub decreases-loop-i : goal.decreases-loop-i

@@ -5,5 +5,5 @@ use Rattle.avro_resolve.proofs.support.supports.Goals as goal
 
 pub returns : goal.returns
 returns c =
-    let s = supports_at (nodes_view c.args.writer.now) (nodes_view c.args.reader.now) (left c.args.table.now) c.args.i c.args.j (node_view c.node_at.result.now) (node_view c.node_at-2.result.now) c.node_at.ensures c.node_at-2.ensures in
+    let s = supports_at (nodes_view c.args.writer.now.schema.now) (nodes_view c.args.reader.now.schema.now) (left c.args.table.now) c.args.i c.args.j (node_view c.node-a.result.now) (node_view c.node-b.result.now) c.node-a.ensures.node c.node-b.ensures.node in
     ((λ h. s.1 (c.fits.ensures.0 h)), (λ h. c.fits.ensures.1 (s.0 h)))

@@ -3,17 +3,17 @@ use Rattle.std.proofs.lemmas.Bool.{cases_lt}
 use Rattle.avro_nodes.specs.Nodes.{nodes_view}
 use Rattle.avro_resolve.specs.Left.{Settled}
 use Rattle.avro_resolve.proofs.Settling.{lists_then, settled_on}
-use Rattle.avro_resolve.proofs.striking.look_row.Goals as goal
+use Rattle.avro_resolve.proofs.looking.look_row.Goals as goal
 
 pub loop-j-preserved : goal.loop-j-preserved
 loop-j-preserved c =
-    let w = nodes_view c.args.writer.now in let r = nodes_view c.args.reader.now in let i = c.args.i in let j = c.loop-j.j in
+    let w = nodes_view c.args.writer.now.schema.now in let r = nodes_view c.args.reader.now.schema.now in let i = c.args.i in let j = c.loop-j.j in
     let u = c.loop-j.table in let v = c.look.new.table in let qs = c.loop-j.struck.items in let rs = c.look.new.struck.items in
     record {
       rest = c.in_ok-look.ensures.rest;
       lists = lists_then c.args.table.now u v c.args.struck.now.items qs rs c.loop-j.invariant.lists c.in_ok-look.ensures.lists;
       settled = λ b lo hi. elim (cases_lt b j) [
         | inl g ↦ (let e : j - 1 ≡ b = omega arith in subst (λ (x : ℕ). Settled w r v rs i x) e c.in_ok-look.ensures.settled)
-        | inr g ↦ settled_on w r u v qs rs i b c.requires.writer c.requires.reader c.in_ok-look.ensures.lists (c.loop-j.invariant.settled b g hi)
+        | inr g ↦ settled_on w r u v qs rs i b c.requires.writer.whole c.requires.reader.whole c.in_ok-look.ensures.lists (c.loop-j.invariant.settled b g hi)
       ];
     }

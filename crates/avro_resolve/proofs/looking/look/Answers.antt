@@ -5,12 +5,12 @@ use Rattle.avro_resolve.proofs.Strikes.{struck_pair}
 use Rattle.avro_resolve.proofs.Settling.{lists_struck, settled_supported, settled_gone}
 use Rattle.avro_resolve.specs.Witnesses.{Pair}
 use Rattle.avro_resolve.specs.Left.{Lists}
-use Rattle.avro_resolve.proofs.striking.look.Goals.{else-has-via-then-has+else-not-supports, else-has-via-else-has}
-use Rattle.avro_resolve.proofs.striking.look.Goals as goal
+use Rattle.avro_resolve.proofs.looking.look.Goals.{else-has-via-then-has+else-not-supports, else-has-via-else-has}
+use Rattle.avro_resolve.proofs.looking.look.Goals as goal
 
 pub returns-in_ok-push-clause-rest : goal.returns-in_ok-push-clause-rest
 returns-in_ok-push-clause-rest c =
-    struck_pair (nodes_view c.args.writer.now) (nodes_view c.args.reader.now) c.args.table.now c.strike.new.self c.args.i c.args.j c.requires.writer c.requires.reader c.requires.rest
+    struck_pair (nodes_view c.args.writer.now.schema.now) (nodes_view c.args.reader.now.schema.now) c.args.table.now c.strike.new.self c.args.i c.args.j c.requires.writer.whole c.requires.reader.whole c.requires.rest
     (rw length-map c.requires.i_in) (rw length-map c.requires.j_in) (sym c.has.ensures ∙ c.if-has.true)
     (λ s. true≢false (sym (c.supports.ensures.1 s) ∙ c.if-not-supports.true)) c.strike.ensures.shape c.strike.ensures.others c.strike.ensures.fewer
 
@@ -21,8 +21,8 @@ returns-in_ok-push-clause-lists c =
 
 pub returns-else-has-clause-settled : goal.returns-else-has-clause-settled
 returns-else-has-clause-settled c =
-    let w = nodes_view c.args.writer.now in let r = nodes_view c.args.reader.now in let t = c.args.table.now in let ps = c.args.struck.now.items in
+    let w = nodes_view c.args.writer.now.schema.now in let r = nodes_view c.args.reader.now.schema.now in let t = c.args.table.now in let ps = c.args.struck.now.items in
     elim c.else-has.branch [
-      | else-has-via-then-has+else-not-supports b ↦ settled_supported w r t ps c.args.i c.args.j c.requires.writer c.requires.reader (b.supports.ensures.0 b.if-not-supports.false)
+      | else-has-via-then-has+else-not-supports b ↦ settled_supported w r t ps c.args.i c.args.j c.requires.writer.whole c.requires.reader.whole (b.supports.ensures.0 b.if-not-supports.false)
       | else-has-via-else-has b ↦ settled_gone w r t ps c.args.i c.args.j (sym c.has.ensures ∙ b.if-has.false)
     ]

@@ -1,0 +1,44 @@
+//! The two sides of a resolution: a writer's schema and a reader's.
+
+ghost use Rattle.std.specs.Prelude.{◌≡◌, ◌<◌, IfSome, slice_get, length, Some};
+ghost use Rattle.avro_nodes.specs.Nodes.{node_view};
+ghost use Rattle.avro_resolve.specs.Lookups.{IsLookupOf};
+ghost use Rattle.avro_resolve.specs.Sides.{nodes_of, IsSide};
+
+use crate::lookups::{Lookup, lookup_at};
+use avro_nodes::Node;
+use avro_schema::Schema;
+
+/// A schema, with the tables of what is found by name at its places.
+#[derive(Drop)]
+pub struct Side<'a> {
+    pub schema: &'a Schema,
+    pub lookups: Vec<Option<Lookup<'a>>>,
+}
+
+impl<'a> Side<'a> {
+    /// The number of places.
+    pub fn places(&self) -> u32
+        ensures places { result ≡ length self.now.schema.now }
+    {
+        self.schema.places()
+    }
+
+    /// The node at a place.
+    pub fn node(&self, place: u32) -> &Node
+        requires { place < length self.now.schema.now }
+        ensures raw { slice_get self.now.schema.now place ≡ Some result.now }
+        ensures node { slice_get (nodes_of self.now) place ≡ Some (node_view result.now) }
+    {
+        self.schema.node(place)
+    }
+
+    /// The table of the node at a place, where it has one.
+    pub fn lookup(&self, place: u32, node: &Node) -> Option<&Lookup<'a>>
+        requires side { IsSide self.now }
+        requires node { slice_get self.now.schema.now place ≡ Some node.now }
+        ensures { IfSome result (λ t. IsLookupOf t.now node.now) }
+    {
+        lookup_at(&self.lookups, place, self.schema, node)
+    }
+}
