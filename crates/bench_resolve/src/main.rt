@@ -1,60 +1,77 @@
-//! Measures the resolution of a large record with itself. With a number of fields as its word it
-//! prints the number of pairs of places, how long `resolves` and `resolves_plain` took, and the
-//! most memory that the process held. Without a word it does nothing.
+//! Measures the resolution of large schemas. Its words are the name of a shape and a count of its
+//! parts, or `all`. For each pair of schemas it prints the numbers of places, what `resolves`
+//! answers, how long it and `resolves_plain` took, and the most memory that the process held so
+//! far. Without words it does nothing.
 #![tactic(auto)]
 
-use anyhow::{Context, Result};
+mod parts;
+mod shape;
+mod text;
+
+use anyhow::{Context, Result, bail};
 use avro_resolve::{resolves, resolves_plain};
 use avro_schema::Schema;
-use std::alloc::Global;
+use shape::{SHAPES, Shape};
 use std::time::Instant;
 use std::{env, fs};
+use text::{Role, text_of};
 
-/// The text of a record with so many fields of type `int`.
-fn record_text(alloc: Global, fields: u32) -> Result<String> {
-    let mut text = String::new(alloc);
-    text.push_str(r#"{"type":"record","name":"R","fields":["#)?;
-    for i in 0..fields {
-        if i > 0 {
-            text.push_str(",")?;
-        }
-        write!(text, r#"{{"name":"f{i}","type":"int"}}"#)?;
-    }
-    text.push_str("]}")?;
-    Ok(text)
-}
-
-fn main(rt: HostRuntime) -> Result<()> {
-    let alloc = rt.alloc();
-    let mut words = env::args(&rt)?;
-    let Some(word) = words.nth(1) else {
-        return Ok(());
-    };
-    let fields: u32 = word.parse().context("a number of fields is wanted")?;
-    let text = record_text(alloc, fields)?;
-    let start = Instant::now(&rt)?;
-    let schema = Schema::read(alloc, text.as_str())?;
-    println!(rt;
-        "read: {} places in {:?}",
-        schema.places(),
-        start.elapsed(&rt)?
-    )?;
-    let start = Instant::now(&rt)?;
-    let verdict = resolves(alloc, &schema, &schema)?;
-    println!(rt;
-        "resolves: {} with {} visits in {:?}",
-        verdict.yes,
-        verdict.visits,
-        start.elapsed(&rt)?
-    )?;
-    let start = Instant::now(&rt)?;
-    let yes = resolves_plain(alloc, &schema, &schema)?;
-    println!(rt; "resolves_plain: {yes} in {:?}", start.elapsed(&rt)?)?;
-    let status = fs::read_to_string(&rt, "/proc/self/status")?;
+/// Prints the most memory that the process held so far.
+fn print_memory(rt: &HostRuntime) -> Result<()> {
+    let status = fs::read_to_string(rt, "/proc/self/status")?;
     for line in status.lines() {
         if line.starts_with("VmHWM:") {
-            println!(rt; "{line}")?;
+            println!(rt; "  {line}")?;
         }
     }
     Ok(())
+}
+
+/// Measures one pair of schemas.
+fn measure(rt: &HostRuntime, name: &str, shape: Shape, count: u32) -> Result<()> {
+    let alloc = rt.alloc();
+    let writer = text_of(alloc, shape, count, Role::Writer)?;
+    let reader = text_of(alloc, shape, count, Role::Reader)?;
+    let writer = Schema::read(alloc, writer.as_str())?;
+    let reader = Schema::read(alloc, reader.as_str())?;
+    let start = Instant::now(rt)?;
+    let verdict = resolves(alloc, &writer, &reader)?;
+    let took = start.elapsed(rt)?;
+    let start = Instant::now(rt)?;
+    let yes = resolves_plain(alloc, &writer, &reader)?;
+    let plain = start.elapsed(rt)?;
+    let (rows, columns) = (writer.places(), reader.places());
+    println!(rt; "{name} {count}: {rows} and {columns} places")?;
+    println!(rt;
+        "  resolves: {} with {} visits in {took:?}",
+        verdict.yes, verdict.visits
+    )?;
+    println!(rt; "  resolves_plain: {yes} in {plain:?}")?;
+    print_memory(rt)
+}
+
+/// Measures all pairs.
+fn measure_all(rt: &HostRuntime) -> Result<()> {
+    for (name, shape, counts) in &SHAPES {
+        for count in *counts {
+            measure(rt, name, *shape, *count)?;
+        }
+    }
+    Ok(())
+}
+
+fn main(rt: HostRuntime) -> Result<()> {
+    let mut words = env::args(&rt)?.skip(1);
+    let Some(word) = words.next() else {
+        return Ok(());
+    };
+    if word.as_str() == "all" {
+        return measure_all(&rt);
+    }
+    let Some((name, shape, _)) = SHAPES.iter().find(|s| s.0 == word.as_str()) else {
+        bail!("no shape is named {word}");
+    };
+    let count = words.next().context("a count is wanted")?;
+    let count: u32 = count.parse().context("a count is wanted")?;
+    measure(&rt, name, *shape, count)
 }

@@ -1,0 +1,55 @@
+//! The pairs of schemas that are measured.
+
+/// How a writer's text and a reader's are made, of a count of parts.
+#[derive(Clone, Copy, Debug, PartialEq, Eq)]
+pub enum Shape {
+    /// a record of so many fields of type int, with itself
+    Fields,
+    /// the same, where the reader has the fields the other way round
+    Reversed,
+    /// the same, where the reader has strings
+    OtherTypes,
+    /// records in one another, 20 deep, each of so many fields, with itself
+    Nested,
+    /// so many fields of a binary tree, with itself
+    Tree,
+    /// a union of so many records, with itself
+    Union,
+    /// an enum of so many symbols, with itself
+    Enum,
+    /// so many enums of 35 symbols and one last name, with themselves
+    Enums,
+    /// a union of records, each with a field of the one before it, with itself
+    Chain,
+    /// the same, where the first record has an int, and the reader's a string
+    BrokenChain,
+    /// the same, where all records have one last name
+    OneName,
+    /// so many records that have a field of one record, which has an int, and the reader's a string
+    Fan,
+    /// a cycle of records of one last name, with a cycle of one more
+    Cycles,
+    /// a ladder of two records a rung on the reader's side, of which the last ones differ
+    Ladder,
+    /// a broken chain beside an enum of 5000 symbols
+    Beside,
+}
+
+/// All shapes, with the counts of `all`.
+pub static SHAPES: [(&str, Shape, &[u32]); 15] = [
+    ("fields", Shape::Fields, &[10, 100, 1000, 4095]),
+    ("reversed", Shape::Reversed, &[10, 100, 1000, 4095]),
+    ("other-types", Shape::OtherTypes, &[10, 100, 1000, 4095]),
+    ("nested", Shape::Nested, &[1, 10, 100]),
+    ("tree", Shape::Tree, &[1, 100]),
+    ("union", Shape::Union, &[100, 680]),
+    ("enum", Shape::Enum, &[100, 1000, 10000, 140000]),
+    ("enums", Shape::Enums, &[100, 1000, 3500]),
+    ("chain", Shape::Chain, &[100, 1000, 4000]),
+    ("broken-chain", Shape::BrokenChain, &[100, 1000, 4000]),
+    ("one-name", Shape::OneName, &[100, 1000, 4000]),
+    ("fan", Shape::Fan, &[100, 1000, 4000]),
+    ("cycles", Shape::Cycles, &[40, 400, 4000]),
+    ("ladder", Shape::Ladder, &[30, 300]),
+    ("beside", Shape::Beside, &[200]),
+];

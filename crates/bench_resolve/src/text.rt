@@ -1,0 +1,91 @@
+//! The texts of the schemas that are measured.
+
+use crate::parts::{
+    push_chain, push_cycle, push_enum, push_enums, push_fan, push_fields, push_ladder, push_nested,
+    push_record, push_tree,
+};
+use crate::shape::Shape;
+use std::alloc::{AllocError, Global};
+
+/// How many symbols each enum of `Enums` has.
+const FEW_SYMBOLS: u32 = 35;
+
+/// How many symbols the enum of `Beside` has.
+const MANY_SYMBOLS: u32 = 5000;
+
+/// Whose text is made.
+#[derive(Clone, Copy, Debug, PartialEq, Eq)]
+pub enum Role {
+    /// the writer's
+    Writer,
+    /// the reader's
+    Reader,
+}
+
+/// A type that the reader can't read as the writer's, for the one and the other.
+fn broken(role: Role) -> &'static str {
+    match role {
+        Role::Writer => r#""int""#,
+        Role::Reader => r#""string""#,
+    }
+}
+
+/// The branches of a union.
+fn push_branches(
+    alloc: Global,
+    text: &mut String,
+    shape: Shape,
+    count: u32,
+    role: Role,
+) -> Result<(), AllocError> {
+    match shape {
+        Shape::Enums => push_enums(alloc, text, count, FEW_SYMBOLS),
+        Shape::Chain => push_chain(alloc, text, count, r#""int""#, false),
+        Shape::BrokenChain => push_chain(alloc, text, count, broken(role), false),
+        Shape::OneName => push_chain(alloc, text, count, broken(role), true),
+        Shape::Fan => push_fan(alloc, text, count, broken(role)),
+        Shape::Beside => {
+            push_enum(text, "E", MANY_SYMBOLS)?;
+            text.push_str(",")?;
+            push_chain(alloc, text, count, broken(role), false)
+        }
+        _ => push_union(alloc, text, count),
+    }
+}
+
+/// Records, each with a field of type int.
+fn push_union(alloc: Global, text: &mut String, count: u32) -> Result<(), AllocError> {
+    for index in 0..count {
+        if index > 0 {
+            text.push_str(",")?;
+        }
+        let name = format!(in alloc; "A{index}")?;
+        push_record(text, name.as_str(), r#""int""#)?;
+    }
+    Ok(())
+}
+
+/// The text of a pair's one schema.
+pub fn text_of(alloc: Global, shape: Shape, count: u32, role: Role) -> Result<String, AllocError> {
+    let mut text = String::new(alloc);
+    let is_reader = role == Role::Reader;
+    match shape {
+        Shape::Fields => push_fields(&mut text, count, "int", false)?,
+        Shape::Reversed => push_fields(&mut text, count, "int", is_reader)?,
+        Shape::OtherTypes if is_reader => push_fields(&mut text, count, "string", false)?,
+        Shape::OtherTypes => push_fields(&mut text, count, "int", false)?,
+        Shape::Nested => push_nested(&mut text, count)?,
+        Shape::Tree => push_tree(&mut text, count)?,
+        Shape::Enum => push_enum(&mut text, "E", count)?,
+        Shape::Cycles if is_reader => push_cycle(alloc, &mut text, count.saturating_add(1))?,
+        Shape::Cycles => push_cycle(alloc, &mut text, count)?,
+        Shape::Ladder if is_reader => push_ladder(&mut text, count, &["x", "y"], r#""string""#)?,
+        Shape::Ladder => push_ladder(&mut text, count, &["w"], r#""int""#)?,
+        _ => {
+            text.push_str("[")?;
+            push_branches(alloc, &mut text, shape, count, role)?;
+            text.push_str("]")?;
+        }
+    }
+    Ok(text)
+}
