@@ -1,6 +1,6 @@
 -- Fields, symbols and nodes of the code, and what contracts see of them.
-use Rattle.std.proofs.Common.{◌≡◌, List, Option, Some, None, Bool, false, true≢false, map, get_or, is_some, String, Global, string_bytes, sym, subst, ◌∙◌}
-use Rattle.std.specs.Prelude.{All, Contains, IsSome, IsTrue, option_map, ◌↔◌}
+use Rattle.std.proofs.Common.{◌≡◌, ◌<◌, ◌≤◌, ℕ, length, refl, arith, List, Option, Some, None, Bool, false, true≢false, map, get_or, is_some, String, Global, string_bytes, sym, subst, ◌∙◌}
+use Rattle.std.specs.Prelude.{All, Any, Contains, IfSome, IsSome, IsTrue, option_map, ◌↔◌}
 use Rattle.std.specs.List.{list_any, list_all}
 use Rattle.std.proofs.lemmas.List.Sums.{AllPass-from_list_all, list_all-from_AllPass}
 use Rattle.std.specs.Str.{bytes_eq}
@@ -8,6 +8,7 @@ use Rattle.std.proofs.Math.ListN.{get_or-map}
 use Rattle.std.proofs.lemmas.List.{length-map}
 use Rattle.std.proofs.lemmas.List.Elements.{All-map}
 use Rattle.avro_nodes.specs.Nodes.{texts_view}
+use Rattle.avro_resolve.proofs.AskerLemmas.{get_or_any}
 use Rattle.avro_resolve.proofs.NameLemmas.{has_texts}
 
 -- what holds of each element's view
@@ -25,3 +26,16 @@ all_symbols known symbols =
 pub no_fallback : (o : Option (String Global)) (b : Bool) → b ≡ is_some o → b ≡ false → IsSome (option_map string_bytes o) → ⊥
 no_fallback None b e f h = true≢false (sym h)
 no_fallback (Some x) b e f h = true≢false (sym e ∙ f)
+
+-- ---- the branches of a union
+
+pub found_at : (R : ℕ → Bool) (places : List ℕ) (at : ℕ) → (at < length places) × IsTrue (R (get_or places at 0)) → Any (λ p. IsTrue (R p)) places
+found_at R places at h = (at, get_or places at 0, h.0, get_or_any places at (get_or places at 0) 0 h.0, h.1)
+
+pub found_any : (R : ℕ → Bool) (places : List ℕ) (o : Option ℕ) (b : Bool) → b ≡ is_some o → IfSome o (λ at. (at < length places) × IsTrue (R (get_or places at 0)))
+    → (o ≡ None → (k d : ℕ) → 0 ≤ k → k < length places → R (get_or places k d) ≡ false) → IsTrue b ↔ Any (λ p. IsTrue (R p)) places
+found_any R places None b e found none = (
+  (λ h. absurd (true≢false (sym h ∙ e))),
+  (λ (k, x, l, same, h). absurd (true≢false (sym h ∙ subst (λ (p : ℕ). R p ≡ false) same (none refl k x (omega arith) l)))),
+)
+found_any R places (Some at) b e found none = ((λ h. found_at R places at found), (λ h. e))

@@ -14,6 +14,7 @@ use crate::lookups::lookups_of;
 use crate::sides::Side;
 use crate::sweeping::sweep;
 use crate::table::Table;
+use avro_nodes::Node;
 use avro_schema::Schema;
 use std::alloc::{AllocError, Global};
 
@@ -67,6 +68,11 @@ fn strike_out(
     Ok(())
 }
 
+/// Whether some place of the schema has a union.
+fn has_union(schema: &Schema) -> bool {
+    (0..schema.places()).any(|place| matches!(schema.node(place), Node::Union { .. }))
+}
+
 /// What is left of all pairs when no pair is left to strike: the largest closed set.
 pub fn largest_closed(alloc: Global, writer: &Schema, reader: &Schema) -> Result<Table, AllocError>
     ensures rest { IfOk result (λ t. IsLeft (nodes_view writer.now) (nodes_view reader.now) t) }
@@ -74,7 +80,8 @@ pub fn largest_closed(alloc: Global, writer: &Schema, reader: &Schema) -> Result
     ensures writer { IfOk result (λ _. IsSchema (nodes_view writer.now)) }
     ensures reader { IfOk result (λ _. IsSchema (nodes_view reader.now)) }
 {
-    let mut table = Table::all(alloc, writer.places() as usize, reader.places() as usize)?;
+    let (rows, columns) = (writer.places() as usize, reader.places() as usize);
+    let mut table = Table::all(alloc, rows, columns, has_union(reader))?;
     let lookups = lookups_of(alloc, writer)?;
     let written = Side {
         schema: writer,

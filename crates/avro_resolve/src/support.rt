@@ -1,6 +1,6 @@
 //! Whether the pairs that are left support a pair.
 
-ghost use Rattle.std.specs.Prelude.{◌≡◌, IfSome, ◌<◌, ◌↔◌, ◌⊎◌, ℕ, false, map, option_map, string_bytes, length, All, Any, Contains, IsSome, IsTrue};
+ghost use Rattle.std.specs.Prelude.{◌≡◌, ◌≤◌, IfSome, None, get_or, ◌<◌, ◌↔◌, ◌⊎◌, ℕ, false, map, option_map, string_bytes, length, All, Any, Contains, IsSome, IsTrue};
 ghost use Rattle.std.specs.List.{list_any, list_all};
 ghost use Rattle.std.specs.Str.{bytes_eq};
 ghost use Rattle.avro_nodes.specs.Nodes.{field_view, node_view, texts_view};
@@ -27,13 +27,37 @@ fn all_left(places: &[u32], j: u32, table: &Table) -> bool
     places.iter().all(|p| table.has(*p, j))
 }
 
-/// Whether the writer's place is left with some branch of a reader's union.
-fn any_left(i: u32, places: &[u32], table: &Table) -> bool
+/// The first branch of a reader's union, from this one on, with which the writer's place is left.
+fn next_left(i: u32, places: &[u32], from: usize, table: &Table) -> Option<usize>
     requires within { All (λ p. p < table.now.readers) places.now }
     requires i_in { i < table.now.writers }
+    ensures found { IfSome result (λ at. at < length places.now
+        × IsTrue (left table.now i (get_or places.now at 0))) }
+    ensures none { result ≡ None → (k d : ℕ) → from ≤ k → k < length places.now
+        → left table.now i (get_or places.now k d) ≡ false }
+{
+    for at in from..places.len() {
+        if table.has(i, places[at]) {
+            return Some(at);
+        }
+    }
+    None
+}
+
+/// Whether the writer's place is left with some branch of the reader's union at j. It looks first
+/// where one was left last: as none comes back, each branch is passed once, and all once more.
+fn any_left(i: u32, j: u32, places: &[u32], table: &Table) -> bool
+    requires within { All (λ p. p < table.now.readers) places.now }
+    requires i_in { i < table.now.writers }
+    requires j_in { j < table.now.readers }
     ensures { IsTrue result ↔ Any (λ p. IsTrue (left table.now i p)) places.now }
 {
-    places.iter().any(|p| table.has(i, *p))
+    let from = table.hint(i, j);
+    if let Some(at) = next_left(i, places, from, table) {
+        table.set_hint(i, j, at);
+        return true;
+    }
+    next_left(i, places, 0, table).is_some()
 }
 
 /// Whether a reader's field can be read: from its source, or by its default.
@@ -115,7 +139,7 @@ fn fits(
 {
     match (a, b) {
         (Node::Union { branches }, _) => all_left(branches, j, table),
-        (_, Node::Union { branches }) => any_left(i, branches, table),
+        (_, Node::Union { branches }) => any_left(i, j, branches, table),
         (Node::Primitive { kind, .. }, Node::Primitive { kind: wanted, .. }) => {
             promotes(*kind, *wanted)
         }
