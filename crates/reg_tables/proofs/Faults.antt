@@ -27,7 +27,7 @@ use Rattle.reg_tables.specs.Layout.{IsLayout}
 use Rattle.reg_tables.specs.Reading.{CanBeRead, IsFault}
 use Rattle.sqlite.specs.Schema.{Schema}
 use Rattle.reg_tables.proofs.Reasons.{reason_of, reason_if_shut, reason_by, fault_until}
-use Rattle.reg_tables.proofs.Statements.{TableQuery, body_of, program_of, IsQuery, laid_out, in_layouts, find_text, find_id, find_version, find_versions, find_last_version, find_last_live, find_last, find_of_id, find_one_of_id, list_versions, find_level, find_meta, find_kept, all_texts, all_versions, all_levels, all_kept, all_meta}
+use Rattle.reg_tables.proofs.Statements.{TableQuery, body_of, program_of, IsQuery, laid_out, in_layouts, find_text, find_id, find_version, find_versions, find_last_version, find_last_live, find_last, find_behind, find_next, find_of_id, find_one_of_id, list_versions, find_level, find_meta, find_kept, all_texts, all_versions, all_levels, all_kept, all_meta}
 
 -- the text is one statement, with so many parameters
 abbrev IsWhole : List ℕ → ℕ → Result Compiled CompileError → Type 0
@@ -70,6 +70,14 @@ takes_last_live subject = in_layouts (Takes find_last_live (Text subject ∷ [])
 pub takes_last : (schema : Schema) → IsLayout schema → Takes find_last [] schema
 unfolding understood everything
 takes_last = in_layouts (Takes find_last []) (record { whole = (lit≤ tt, refl); typed = refl }) (record { whole = (lit≤ tt, refl); typed = refl })
+
+pub takes_behind : (subject : List ℕ) → (schema : Schema) → IsLayout schema → Takes find_behind (Text subject ∷ []) schema
+unfolding understood everything
+takes_behind subject = in_layouts (Takes find_behind (Text subject ∷ [])) (record { whole = (lit≤ tt, refl); typed = refl }) (record { whole = (lit≤ tt, refl); typed = refl })
+
+pub takes_next : (subject : List ℕ) (number : ℕ) → (schema : Schema) → IsLayout schema → Takes find_next (Text subject ∷ Int (pos number) ∷ []) schema
+unfolding understood everything
+takes_next subject number = in_layouts (Takes find_next (Text subject ∷ Int (pos number) ∷ [])) (record { whole = (lit≤ tt, refl); typed = refl }) (record { whole = (lit≤ tt, refl); typed = refl })
 
 pub takes_of_id : (id : ℕ) → (schema : Schema) → IsLayout schema → Takes find_of_id (Int (pos id) ∷ []) schema
 unfolding understood everything

@@ -31,20 +31,20 @@ use Rattle.reg_tables.proofs.TableLines.{all_if_each}
 use Rattle.reg_tables.proofs.TableReads.{first_shown}
 use Rattle.reg_tables.proofs.VersionLists.{same_cells, lists_versions, readable_versions}
 
-distinct_keyed : (a b : KeyedVersion) → keyed_cells a ≡ keyed_cells b → a ≡ b
+pub distinct_keyed : (a b : KeyedVersion) → keyed_cells a ≡ keyed_cells b → a ≡ b
 distinct_keyed a b h =
     let subject : a.0.0 ≡ b.0.0 = cc in
     let number : a.0.1 ≡ b.0.1 = cc in
     let rest : version_cells a.1 ≡ version_cells b.1 = cc in
     λ i. ((subject i, number i), distinct_version_rows a.1 b.1 rest i)
 
-whole : (row : Row) (e : KeyedVersion) → IsEntry version_form row e.0 e.1 → column row 1 ∷ column row 2 ∷ column row 3 ∷ column row 4 ∷ [] ≡ keyed_cells e
+pub whole : (row : Row) (e : KeyedVersion) → IsEntry version_form row e.0 e.1 → column row 1 ∷ column row 2 ∷ column row 3 ∷ column row 4 ∷ [] ≡ keyed_cells e
 whole row e is =
     let subject : column row 1 ≡ Text e.0.0 = (let k = is.0 in cc) in
     let number : column row 2 ≡ Int (pos e.0.1) = (let k = is.0 in cc) in
     λ i. subject i ∷ number i ∷ is.1 i
 
-can_be_held : (e : KeyedVersion) → IsUtf8 e.0.0 × (e.0.1 < 2 ^ 32) × (e.1.id < 2 ^ 32) → IsReadableKeyed (keyed_cells e)
+pub can_be_held : (e : KeyedVersion) → IsUtf8 e.0.0 × (e.0.1 < 2 ^ 32) × (e.1.id < 2 ^ 32) → IsReadableKeyed (keyed_cells e)
 can_be_held e can = record { subject = e.0.0; number = e.0.1; version = e.1; is = refl; utf8 = can.0; low = can.1; low_id = can.2 }
 
 -- the lines that were read are what the rows spell

@@ -41,7 +41,7 @@ module _ {A : Type 0} where
   first_onto [] ys = refl
   first_onto (x ∷ xs) ys = first_onto xs (x ∷ ys)
 
-  first_taken : (xs : List A) → slice_get (take 1 xs) 0 ≡ slice_get xs 0
+  pub first_taken : (xs : List A) → slice_get (take 1 xs) 0 ≡ slice_get xs 0
   first_taken [] = refl
   first_taken (x ∷ xs) = refl
 
@@ -58,18 +58,18 @@ last_mapped : {A B : Type 0} (f : A → B) (o : Option A) (xs : List A) → last
 last_mapped f o [] = refl
 last_mapped f o (x ∷ xs) = last_mapped f (Some x) xs
 
-map_twice : {A B C : Type 0} (f : B → C) (g : A → B) (o : Option A) → option_map f (option_map g o) ≡ option_map (λ x. f (g x)) o
+pub map_twice : {A B C : Type 0} (f : B → C) (g : A → B) (o : Option A) → option_map f (option_map g o) ≡ option_map (λ x. f (g x)) o
 map_twice f g None = refl
 map_twice f g (Some x) = refl
 
-filter_both : {A : Type 0} (q p : A → Bool) (xs : List A) → filter q (filter p xs) ≡ filter (λ x. p x && q x) xs
+pub filter_both : {A : Type 0} (q p : A → Bool) (xs : List A) → filter q (filter p xs) ≡ filter (λ x. p x && q x) xs
 filter_both q p [] = refl
 filter_both q p (x ∷ xs) =
     elim (p x) as (λ b. filter q (cond b (x ∷ filter p xs) (filter p xs)) ≡ cond (b && q x) (x ∷ filter (λ y. p y && q y) xs) (filter (λ y. p y && q y) xs))
     [ true ↦ ap (λ l. cond (q x) (x ∷ l) l) (filter_both q p xs) | false ↦ filter_both q p xs ]
 
 -- values are told apart by their cells
-same_shown : {A : Type 0} (f : A → Row) → ((a b : A) → f a ≡ f b → a ≡ b) → (a b : Option A) → option_map f a ≡ option_map f b → a ≡ b
+pub same_shown : {A : Type 0} (f : A → Row) → ((a b : A) → f a ≡ f b → a ≡ b) → (a b : Option A) → option_map f a ≡ option_map f b → a ≡ b
 same_shown f distinct None None h = refl
 same_shown f distinct None (Some b) h = absurd (cc)
 same_shown f distinct (Some a) None h = absurd (cc)
@@ -114,11 +114,11 @@ module _ (q : TableQuery) (ordered : body_of q ≡ ordered_query 2 q.tests q.sho
 
 -- ---- the versions of a subject
 
-abbrev entry_version : Entry → NumberedVersion
+abbrev pub entry_version : Entry → NumberedVersion
 entry_version e = (e.0.1, e.1)
 
 -- what a line reads of a row
-abbrev line_columns : Row → Row
+abbrev pub line_columns : Row → Row
 line_columns row = column row 0 ∷ column row 1 ∷ column row 2 ∷ []
 
 -- the line that was read is what the row spells

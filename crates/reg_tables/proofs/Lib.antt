@@ -21,6 +21,7 @@ pub mod LastIds
 pub mod Opening
 pub mod VersionLists
 pub mod KeyedLists
+pub mod FirstVersions
 pub mod LastVersions
 pub mod CheckLemmas
 pub mod UniqueKeys

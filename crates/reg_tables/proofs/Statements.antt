@@ -19,7 +19,7 @@ use Rattle.reg_tables.specs.Contents.{Contents, HoldsIn}
 use Rattle.sqlite.specs.Listing.{understood, reads_listing}
 use Rattle.sqlite.proofs.Callers.{IsPlain, command_of, statement_of}
 use Rattle.sqlite_sql.specs.declared.ops.BinaryOp.TheVariants.{Compare}
-use Rattle.sqlite_sql.specs.declared.ops.CompareOp.TheVariants.{Eq}
+use Rattle.sqlite_sql.specs.declared.ops.CompareOp.TheVariants.{Eq, Gt}
 use Rattle.sqlite_tied.specs.Compute.{everything}
 use Rattle.reg_tables.specs.Layout.{no_schema, begun, layout, unindexed, IsLayout, texts, versions, levels, kept, meta, versions_of_id}
 use Rattle.reg_tables.proofs.Queries.{all_rows, ordered_query, plain_query}
@@ -302,6 +302,44 @@ find_last_live = record {
 pub find_last_live_is : (schema : Schema) → IsLayout schema → IsQuery find_last_live schema
 unfolding understood everything
 find_last_live_is = in_layouts (IsQuery find_last_live) (record { command = record { is = refl; plain = (refl, refl) }; unlisted = refl }) (record { command = record { is = refl; plain = (refl, refl) }; unlisted = refl })
+
+-- the subject is behind the parameter
+abbrev pub by_later_subject : List Term
+by_later_subject = op2 (Compare Gt Binary) (col 1 1) (col 0 0) ∷ []
+
+abbrev pub find_behind : TableQuery
+find_behind = record {
+  sql = codes "SELECT subject, version, id, deleted FROM versions WHERE subject > ?1 ORDER BY subject, version LIMIT 1";
+  tree = 2;
+  tests = by_later_subject;
+  shown = col 1 1 ∷ col 1 2 ∷ col 1 3 ∷ col 1 4 ∷ [];
+  names = codes "subject" ∷ codes "version" ∷ codes "id" ∷ codes "deleted" ∷ [];
+  order = in_order;
+  limit = first_row;
+}
+
+pub find_behind_is : (schema : Schema) → IsLayout schema → IsQuery find_behind schema
+unfolding understood everything
+find_behind_is = in_layouts (IsQuery find_behind) (record { command = record { is = refl; plain = (refl, refl) }; unlisted = refl }) (record { command = record { is = refl; plain = (refl, refl) }; unlisted = refl })
+
+-- the subject is the first parameter, and the number is above the second
+abbrev pub by_later_number : List Term
+by_later_number = op2 (Compare Eq Binary) (col 1 1) (col 0 0) ∷ op2 (Compare Gt Binary) (col 1 2) (col 0 1) ∷ []
+
+abbrev pub find_next : TableQuery
+find_next = record {
+  sql = codes "SELECT version, id, deleted FROM versions WHERE subject = ?1 AND version > ?2 ORDER BY subject, version LIMIT 1";
+  tree = 2;
+  tests = by_later_number;
+  shown = col 1 2 ∷ col 1 3 ∷ col 1 4 ∷ [];
+  names = codes "version" ∷ codes "id" ∷ codes "deleted" ∷ [];
+  order = in_order;
+  limit = first_row;
+}
+
+pub find_next_is : (schema : Schema) → IsLayout schema → IsQuery find_next schema
+unfolding understood everything
+find_next_is = in_layouts (IsQuery find_next) (record { command = record { is = refl; plain = (refl, refl) }; unlisted = refl }) (record { command = record { is = refl; plain = (refl, refl) }; unlisted = refl })
 
 -- the id of the version is the parameter
 abbrev pub by_its_id : List Term

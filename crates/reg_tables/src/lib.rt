@@ -28,8 +28,8 @@ pub use lines::{
     text_lines, version_lines,
 };
 pub use listed::{
-    ListedVersion, SubjectVersion, a_version_of_id, all_versions, last_live_version_of,
-    last_version_of, versions_of, versions_of_id,
+    ListedVersion, SubjectVersion, a_version_of_id, all_versions, first_version_behind,
+    last_live_version_of, last_version_of, next_version_of, versions_of, versions_of_id,
 };
 pub use meta::{global_level, set_global};
 pub use texts::{id_of, last_id, put_text, text_of};

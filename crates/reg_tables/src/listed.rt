@@ -1,13 +1,14 @@
 //! Rows of `versions`, in the order of their subjects and numbers, or one of them.
 
-ghost use Rattle.std.specs.Prelude.{◌≡◌, ◌≢◌, ℕ, List, [], ◌∷◌, IfOk, IfErr, MatchOption, None, Some, false, not, map, filter, option_map};
+ghost use Rattle.std.specs.Prelude.{◌≡◌, ◌≢◌, ℕ, List, [], ◌∷◌, IfOk, IfErr, MatchOption, None, Some, false, not, map, filter, find, option_map};
+ghost use Rattle.std.specs.Ordering.{is_gt, nat_cmp};
 ghost use Rattle.std.specs.List.{last_or};
 ghost use Rattle.std.specs.FinMap.{entries, get};
 ghost use Rattle.sqlite.specs.Order.{column};
 ghost use Rattle.sqlite.specs.Held.{state};
 ghost use Rattle.sqlite.specs.State.{HasCleanDisk};
 ghost use Rattle.reg_tables.specs.Frames.{StaysIdle};
-ghost use Rattle.reg_tables.specs.Contents.{VersionRow, Contents, Holds};
+ghost use Rattle.reg_tables.specs.Contents.{VersionRow, Contents, Holds, text_cmp};
 ghost use Rattle.reg_tables.specs.Entries.{numbered, numbered_cells, subject_versions, IsReadableNumbered, keyed, keyed_cells, id_versions, IsReadableKeyed};
 ghost use Rattle.reg_tables.specs.Reading.{CanBeRead, IsFault};
 
@@ -129,6 +130,51 @@ pub fn last_live_version_of<S: Alter>(
     first(
         conn,
         "SELECT version, id, deleted FROM versions WHERE subject = ?1 AND deleted = 0 ORDER BY subject DESC, version DESC LIMIT 1",
+        params![subject],
+    )
+}
+
+/// The version of a subject with the least number above this one, if the subject has one.
+pub fn next_version_of<S: Alter>(
+    conn: &mut Connection<S>,
+    subject: &str,
+    number: u32,
+) -> Result<Option<SubjectVersion>, Error>
+    requires idle { conn.old.in_transaction ≡ false }
+    ensures frame { StaysIdle S.Store conn.old conn.new result }
+    ensures found { HasCleanDisk (state S.Store conn.new) → IfOk result (λ found.
+        (contents : Contents) → Holds (state S.Store conn.old).now contents
+        → option_map numbered found
+        ≡ find (λ version. is_gt (nat_cmp version.0 number)) (subject_versions subject.now contents)) }
+    ensures fault { HasCleanDisk (state S.Store conn.new) → IfErr result (λ e.
+        CanBeRead (state S.Store conn.old)
+        → IsFault (state S.Store conn.old) (state S.Store conn.new) e) }
+{
+    first(
+        conn,
+        "SELECT version, id, deleted FROM versions WHERE subject = ?1 AND version > ?2 ORDER BY subject, version LIMIT 1",
+        params![subject, number],
+    )
+}
+
+/// The first version of the first subject behind this one, if there is one.
+pub fn first_version_behind<S: Alter>(
+    conn: &mut Connection<S>,
+    subject: &str,
+) -> Result<Option<ListedVersion>, Error>
+    requires idle { conn.old.in_transaction ≡ false }
+    ensures frame { StaysIdle S.Store conn.old conn.new result }
+    ensures found { HasCleanDisk (state S.Store conn.new) → IfOk result (λ found.
+        (contents : Contents) → Holds (state S.Store conn.old).now contents
+        → option_map keyed found
+        ≡ find (λ entry. is_gt (text_cmp entry.0.0 subject.now)) (entries contents.versions)) }
+    ensures fault { HasCleanDisk (state S.Store conn.new) → IfErr result (λ e.
+        CanBeRead (state S.Store conn.old)
+        → IsFault (state S.Store conn.old) (state S.Store conn.new) e) }
+{
+    first(
+        conn,
+        "SELECT subject, version, id, deleted FROM versions WHERE subject > ?1 ORDER BY subject, version LIMIT 1",
         params![subject],
     )
 }
