@@ -22,3 +22,5 @@ pub mod RowLemmas
 pub mod ChosenLemmas
 pub mod ViewTexts
 pub mod ListingLemmas
+pub mod Behind
+pub mod HandingLemmas

@@ -6,3 +6,5 @@ pub mod Stores
 pub mod Testing
 pub mod Viewing
 pub mod Listings
+pub mod Handing
+pub mod Lending

@@ -41,3 +41,13 @@ pub record KeepsStore {S T : Type 0} {g : Ghosts S} (old new : Store S g) (resul
   pub was_open : HasCleanDisk (state_of new) → OnOk result (IsTrue (state_of old).is_open)
   pub connection : KeepsOpen (state_of old) (state_of new)
   pub settled : LeavesCommit (state_of new)
+
+-- this project's choice: what each call of its lines keeps of a store that lends them, whatever it answers
+pub record KeepsLent {S T : Type 0} {g : Ghosts S} (old new : Store S g) (result : Result T StoreError) : Type 0 where
+  -- a fault of the disk is remembered by the lines alone
+  pub failed : has_failed new ≡ has_failed old
+  pub clean : HasCleanDisk (state_of new) → HasCleanDisk (state_of old)
+  -- it succeeds over an open connection alone
+  pub was_open : HasCleanDisk (state_of new) → OnOk result (IsTrue (state_of old).is_open)
+  pub connection : KeepsOpen (state_of old) (state_of new)
+  pub settled : LeavesCommit (state_of new)

@@ -15,4 +15,4 @@ mod testing;
 pub use error::StoreError;
 pub use keep::Keep;
 pub use listing::Listing;
-pub use store::Store;
+pub use store::{Lines, Store};

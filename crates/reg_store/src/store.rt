@@ -6,18 +6,24 @@ use sqlite::{Alter, Connection};
 use std::alloc::Global;
 
 mod applying;
+mod behind;
 mod chosen;
+mod lent;
 mod levels;
 mod lines;
 mod listing;
 mod making;
 mod opening;
+mod place;
 mod reading;
 mod rows;
 mod schema_lines;
+mod stepping;
 mod subject_lines;
 mod texts;
 mod viewing;
+
+pub use lent::Lines;
 
 /// A registry and its kept replies in a database. Contracts see what its connection shows
 /// (`state_of`), and whether the disk has failed (`has_failed`).

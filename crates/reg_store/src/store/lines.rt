@@ -27,7 +27,7 @@ pub(crate) fn push_line(lines: &mut Vec<Vec<String>>, line: Vec<String>) -> Resu
 }
 
 /// The line of a version.
-fn version_line(alloc: Global, row: &Row) -> Result<Vec<String>, OutOfMemory>
+pub(crate) fn version_line(alloc: Global, row: &Row) -> Result<Vec<String>, OutOfMemory>
     ensures { IfOk result (λ line. fields_of line ≡ version_line row.now) }
 {
     let subject = String::from_str(alloc, row.subject().as_str())?;

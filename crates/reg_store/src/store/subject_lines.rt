@@ -72,7 +72,7 @@ fn each_subject<S: Alter>(
 }
 
 /// The line of the subject.
-fn listed_subject<S: Alter>(
+pub(crate) fn listed_subject<S: Alter>(
     alloc: Global,
     conn: &mut Connection<S>,
     subject: &Subject,

@@ -1,0 +1,6 @@
+use Rattle.sqlite.specs.Held.{state}
+use Rattle.reg_store.proofs.Reading.{reads_on}
+use Rattle.reg_store.proofs.store.Store.line_behind.Goals as goal
+
+pub returns-clause-same : goal.returns-clause-same
+returns-clause-same g c clean registry k = reads_on (state g.S.Store c.args.self.now.conn) (state g.S.Store c.line_at.new.conn) registry k (c.line_at.ensures.frame.only_reads clean)

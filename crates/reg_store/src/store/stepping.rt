@@ -1,0 +1,144 @@
+//! The line of a listing behind a place.
+
+ghost use Rattle.std.specs.Prelude.{◌≡◌, ℕ, None, IfOk, IfErr, false};
+ghost use Rattle.sqlite.specs.Tree.{Trees};
+ghost use Rattle.sqlite.specs.Held.{state};
+ghost use Rattle.sqlite.specs.State.{HasCleanDisk};
+ghost use Rattle.reg_core.specs.Registry.{Registry};
+ghost use Rattle.reg_core.specs.KeptReplies.{Kept};
+ghost use Rattle.reg_tables.specs.Frames.{StaysIdle};
+ghost use Rattle.reg_store.specs.Spells.{SpellsWhileOpen};
+ghost use Rattle.reg_store.specs.Failures.{IsFaultOver};
+ghost use Rattle.reg_store.specs.Stores.{state_of, KeepsLent};
+ghost use Rattle.reg_store.specs.declared.listing.Listing.{Listing};
+ghost use Rattle.reg_store.specs.Handing.{IsAt, LeadsOn};
+
+use crate::error::StoreError;
+use crate::store::Store;
+use crate::store::behind::{next_subject, next_version};
+use crate::store::lines::{schema_line, version_line};
+use crate::store::place::Place;
+use crate::store::subject_lines::listed_subject;
+use crate::store::texts::text_under;
+use reg_core::Row;
+use sqlite::{Alter, Connection};
+use std::alloc::Global;
+
+impl<S: Alter> Store<S> {
+    /// The next line behind the place, if there is one, and where the lines then end.
+    pub(crate) fn line_behind(
+        &mut self,
+        place: Place,
+    ) -> Result<(Option<Vec<String>>, Place), StoreError>
+        ensures frame { KeepsLent self.old self.new result }
+        ensures found { HasCleanDisk (state_of self.new) → IfOk result (λ found.
+            (kind : Listing) (g : Registry) (k : Kept) (count : ℕ)
+            → SpellsWhileOpen (state_of self.old) g k
+            → IsAt kind g count place → LeadsOn kind g count found) }
+        ensures fault { HasCleanDisk (state_of self.new)
+            → IfErr result (IsFaultOver (state_of self.old) (state_of self.new)) }
+        ensures same { HasCleanDisk (state_of self.new) → (g : Registry) (k : Kept)
+            → SpellsWhileOpen (state_of self.old) g k → SpellsWhileOpen (state_of self.new) g k }
+        ensures crash { HasCleanDisk (state_of self.new) → (db : Trees)
+            → (state_of self.new).may_leave db → (state_of self.old).may_leave db }
+    {
+        line_at(self.alloc, &mut self.conn, place)
+    }
+}
+
+/// The next line behind the place, if there is one, and where the lines then end.
+fn line_at<S: Alter>(
+    alloc: Global,
+    conn: &mut Connection<S>,
+    place: Place,
+) -> Result<(Option<Vec<String>>, Place), StoreError>
+    requires idle { conn.old.in_transaction ≡ false }
+    requires unlimited { conn.old.step_limit ≡ None }
+    ensures frame { StaysIdle S.Store conn.old conn.new result }
+    ensures found { HasCleanDisk (state S.Store conn.new) → IfOk result (λ found.
+        (kind : Listing) (g : Registry) (k : Kept) (count : ℕ)
+        → SpellsWhileOpen (state S.Store conn.old) g k
+        → IsAt kind g count place → LeadsOn kind g count found) }
+    ensures fault { HasCleanDisk (state S.Store conn.new)
+        → IfErr result (IsFaultOver (state S.Store conn.old) (state S.Store conn.new)) }
+{
+    match place {
+        Place::Subject(last) => subject_at(alloc, conn, last),
+        Place::Version(last) => version_at(alloc, conn, last),
+        Place::Schema(id) => schema_at(alloc, conn, id),
+    }
+}
+
+/// The line of the next subject, if there is one, and where the lines then end.
+fn subject_at<S: Alter>(
+    alloc: Global,
+    conn: &mut Connection<S>,
+    last: Option<Row>,
+) -> Result<(Option<Vec<String>>, Place), StoreError>
+    requires idle { conn.old.in_transaction ≡ false }
+    requires unlimited { conn.old.step_limit ≡ None }
+    ensures frame { StaysIdle S.Store conn.old conn.new result }
+    ensures found { HasCleanDisk (state S.Store conn.new) → IfOk result (λ found.
+        (g : Registry) (k : Kept) (count : ℕ) → SpellsWhileOpen (state S.Store conn.old) g k
+        → IsAt Listing.Subjects g count (Place.Subject last) → LeadsOn Listing.Subjects g count found) }
+    ensures fault { HasCleanDisk (state S.Store conn.new)
+        → IfErr result (IsFaultOver (state S.Store conn.old) (state S.Store conn.new)) }
+{
+    match next_subject(conn, last.as_ref())? {
+        None => Ok((None, Place::Subject(last))),
+        Some(row) => {
+            let line = listed_subject(alloc, conn, row.subject())?;
+            Ok((Some(line), Place::Subject(Some(row))))
+        }
+    }
+}
+
+/// The line of the next version, if there is one, and where the lines then end.
+fn version_at<S: Alter>(
+    alloc: Global,
+    conn: &mut Connection<S>,
+    last: Option<Row>,
+) -> Result<(Option<Vec<String>>, Place), StoreError>
+    requires idle { conn.old.in_transaction ≡ false }
+    requires unlimited { conn.old.step_limit ≡ None }
+    ensures frame { StaysIdle S.Store conn.old conn.new result }
+    ensures found { HasCleanDisk (state S.Store conn.new) → IfOk result (λ found.
+        (g : Registry) (k : Kept) (count : ℕ) → SpellsWhileOpen (state S.Store conn.old) g k
+        → IsAt Listing.Versions g count (Place.Version last) → LeadsOn Listing.Versions g count found) }
+    ensures fault { HasCleanDisk (state S.Store conn.new)
+        → IfErr result (IsFaultOver (state S.Store conn.old) (state S.Store conn.new)) }
+{
+    match next_version(conn, last.as_ref())? {
+        None => Ok((None, Place::Version(last))),
+        Some(row) => {
+            let line = version_line(alloc, &row)?;
+            Ok((Some(line), Place::Version(Some(row))))
+        }
+    }
+}
+
+/// The line of the schema with the next id, if there is one, and where the lines then end.
+fn schema_at<S: Alter>(
+    alloc: Global,
+    conn: &mut Connection<S>,
+    id: u32,
+) -> Result<(Option<Vec<String>>, Place), StoreError>
+    requires idle { conn.old.in_transaction ≡ false }
+    requires unlimited { conn.old.step_limit ≡ None }
+    ensures frame { StaysIdle S.Store conn.old conn.new result }
+    ensures found { HasCleanDisk (state S.Store conn.new) → IfOk result (λ found.
+        (g : Registry) (k : Kept) (count : ℕ) → SpellsWhileOpen (state S.Store conn.old) g k
+        → IsAt Listing.Schemas g count (Place.Schema id) → LeadsOn Listing.Schemas g count found) }
+    ensures fault { HasCleanDisk (state S.Store conn.new)
+        → IfErr result (IsFaultOver (state S.Store conn.old) (state S.Store conn.new)) }
+{
+    // The last number that there can be is no id, so that nothing is found past it.
+    let next = id.saturating_add(1);
+    match text_under(conn, next)? {
+        None => Ok((None, Place::Schema(id))),
+        Some(text) => {
+            let line = schema_line(alloc, next, text)?;
+            Ok((Some(line), Place::Schema(next)))
+        }
+    }
+}
