@@ -1,2 +1,3 @@
 pub mod Csv
 pub mod StoreAnswers
+pub mod Keeping

@@ -1,33 +1,61 @@
 //! Lines of CSV.
 
-ghost use Rattle.std.specs.Prelude.{◌≡◌, ◌<◌, ◌-◌, ◌^◌, IfOk, IsOk, OnOk, length, map};
+ghost use Rattle.std.specs.Prelude.{◌≡◌, ◌<◌, ◌-◌, ◌^◌, [], None, IfOk, IfErr, IsOk, OnOk, length, map};
 ghost use Rattle.std.specs.Io.KnownBytes.{Appends};
+ghost use Rattle.sqlite.specs.Tree.{Trees};
+ghost use Rattle.sqlite.specs.State.{HasCleanDisk};
 ghost use Rattle.csv.specs.Writing.{default_writer, row_text};
-ghost use Rattle.reg_store.specs.Listings.{fields_of};
+ghost use Rattle.reg_core.specs.Registry.{Registry};
+ghost use Rattle.reg_core.specs.KeptReplies.{Kept};
+ghost use Rattle.reg_store.specs.declared.listing.Listing.{Listing};
+ghost use Rattle.reg_store.specs.Spells.{SpellsWhileOpen};
+ghost use Rattle.reg_store.specs.Failures.{IsFaultOver};
+ghost use Rattle.reg_store.specs.Stores.{state_of};
+ghost use Rattle.reg_store.specs.Listings.{listing_lines};
+ghost use Rattle.reg_store.specs.Handing.{store_of, failure_in, HasHanded};
 ghost use Rattle.reg_report.specs.Csv.{csv_text};
+ghost use Rattle.reg_report.specs.Keeping.{KeepsListed};
 ghost use Rattle.reg_report.specs.StoreAnswers.{store_answer};
 
 use crate::error::ReportError;
 use csv::WriterBuilder;
 use reg_core::OutOfMemory;
+use reg_store::Lines;
+use sqlite::Alter;
 use std::alloc::Global;
 use std::convert::AsSlice;
 use std::io::Write;
 
-/// Writes the lines, one after the other.
-pub(crate) fn put_lines<W: Write>(
+/// Writes the lines that the store lends, each before it asks for the next.
+pub(crate) fn put_lines<W: Write, S: Alter>(
     alloc: Global,
     writer: &mut W,
-    lines: &[Vec<String>],
+    lines: &mut Lines<'_, S>,
 ) -> Result<(), ReportError>
-    ensures text { OnOk result (Appends (W.contents writer.old) (W.contents writer.new)
-        (csv_text (map fields_of lines.now))) }
-    ensures apart { IsOk (store_answer result) }
+    requires { failure_in lines.old ≡ None }
+    ensures same_reference { lines.new.store.ghost_name ≡ lines.old.store.ghost_name }
+    ensures frame { KeepsListed (store_of lines.old) (store_of lines.new) result }
+    ensures text { HasCleanDisk (state_of (store_of lines.new)) → OnOk result ((kind : Listing)
+        (g : Registry) (k : Kept) → SpellsWhileOpen (state_of (store_of lines.old)) g k
+        → HasHanded lines.old kind g []
+        → Appends (W.contents writer.old) (W.contents writer.new) (csv_text (listing_lines kind g))) }
+    ensures fault { HasCleanDisk (state_of (store_of lines.new)) → IfErr (store_answer result)
+        (IsFaultOver (state_of (store_of lines.old)) (state_of (store_of lines.new))) }
+    ensures same { HasCleanDisk (state_of (store_of lines.new)) → (g : Registry) (k : Kept)
+        → SpellsWhileOpen (state_of (store_of lines.old)) g k
+        → SpellsWhileOpen (state_of (store_of lines.new)) g k }
+    ensures crash { HasCleanDisk (state_of (store_of lines.new)) → (db : Trees)
+        → (state_of (store_of lines.new)).may_leave db
+        → (state_of (store_of lines.old)).may_leave db }
 {
-    for line in lines {
+    for _ in 0..u64::MAX {
+        let Some(line) = lines.next()? else {
+            return Ok(());
+        };
         put_line(alloc, writer, line.as_slice())?;
     }
-    Ok(())
+    // No memory holds so many lines.
+    Err(ReportError::OutOfMemory)
 }
 
 /// Writes the line that has these fields.

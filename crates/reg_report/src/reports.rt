@@ -1,6 +1,6 @@
 //! Listings, written to a writer.
 
-ghost use Rattle.std.specs.Prelude.{◌≡◌, ◌∷◌, IfErr, IsOk, OnErr, OnOk, false, map};
+ghost use Rattle.std.specs.Prelude.{◌≡◌, [], None, Err, IfErr, IsOk, IsTrue, OnOk, false};
 ghost use Rattle.std.specs.Io.KnownBytes.{Appends};
 ghost use Rattle.sqlite.specs.Tree.{Trees};
 ghost use Rattle.sqlite.specs.State.{HasCleanDisk};
@@ -9,15 +9,17 @@ ghost use Rattle.reg_core.specs.Registry.{Registry};
 ghost use Rattle.reg_core.specs.KeptReplies.{Kept};
 ghost use Rattle.reg_store.specs.Spells.{SpellsWhileOpen};
 ghost use Rattle.reg_store.specs.Failures.{IsFaultOver};
-ghost use Rattle.reg_store.specs.Stores.{state_of, has_failed, KeepsStore};
-ghost use Rattle.reg_store.specs.Listings.{fields_of};
+ghost use Rattle.reg_store.specs.Stores.{state_of, has_failed};
+ghost use Rattle.reg_store.specs.Handing.{store_of, failure_in, HasHanded};
+ghost use Rattle.reg_store.specs.declared.error.StoreError.TheVariants.{Disk};
 ghost use Rattle.reg_store.specs.declared.listing.Listing.TheVariants.{Schemas, Subjects, Versions};
-ghost use Rattle.reg_report.specs.Csv.{listing, csv_text, header};
+ghost use Rattle.reg_report.specs.Csv.{listing, header};
+ghost use Rattle.reg_report.specs.Keeping.{KeepsListed};
 ghost use Rattle.reg_report.specs.StoreAnswers.{store_answer};
 
 use crate::error::ReportError;
 use crate::lines::{put_line, put_lines};
-use reg_store::{Listing, Store};
+use reg_store::{Lines, Listing, Store};
 use sqlite::Alter;
 use std::alloc::Global;
 use std::io::Write;
@@ -27,20 +29,20 @@ use std::io::Write;
 ///
 /// # Errors
 ///
-/// `Store` where the registry couldn't be read: nothing was written. `OutOfMemory` where room for a
-/// line is refused, and `Write` where a write fails: a beginning of the text was written. Whatever
-/// is answered, the registry stays as it was.
+/// `Store` where the registry couldn't be read, `OutOfMemory` where room for a line is refused, and
+/// `Write` where a write fails: a beginning of the text was written. Whatever is answered, the
+/// registry stays as it was.
 pub fn list_subjects<W: Write, S: Alter>(
     alloc: Global,
     store: &mut Store<S>,
     writer: &mut W,
 ) -> Result<(), ReportError>
-    ensures frame { KeepsStore store.old store.new (store_answer result) }
+    ensures frame { KeepsListed store.old store.new result }
+    ensures refused { IsTrue (has_failed store.old)
+        → (store_answer result ≡ Err Disk) × (store.new ≡ store.old) }
     ensures ok { HasCleanDisk (state_of store.new) → OnOk result ((g : Registry) (k : Kept)
         → SpellsWhileOpen (state_of store.old) g k
         → Appends (W.contents writer.old) (W.contents writer.new) (listing Subjects g)) }
-    ensures unwritten { OnErr (store_answer result)
-        (W.contents writer.new ≡ W.contents writer.old) }
     ensures fault { HasCleanDisk (state_of store.new) → has_failed store.old ≡ false
         → IfErr (store_answer result) (IsFaultOver (state_of store.old) (state_of store.new)) }
     ensures same { HasCleanDisk (state_of store.new) → (g : Registry) (k : Kept)
@@ -55,20 +57,20 @@ pub fn list_subjects<W: Write, S: Alter>(
 ///
 /// # Errors
 ///
-/// `Store` where the registry couldn't be read: nothing was written. `OutOfMemory` where room for a
-/// line is refused, and `Write` where a write fails: a beginning of the text was written. Whatever
-/// is answered, the registry stays as it was.
+/// `Store` where the registry couldn't be read, `OutOfMemory` where room for a line is refused, and
+/// `Write` where a write fails: a beginning of the text was written. Whatever is answered, the
+/// registry stays as it was.
 pub fn list_versions<W: Write, S: Alter>(
     alloc: Global,
     store: &mut Store<S>,
     writer: &mut W,
 ) -> Result<(), ReportError>
-    ensures frame { KeepsStore store.old store.new (store_answer result) }
+    ensures frame { KeepsListed store.old store.new result }
+    ensures refused { IsTrue (has_failed store.old)
+        → (store_answer result ≡ Err Disk) × (store.new ≡ store.old) }
     ensures ok { HasCleanDisk (state_of store.new) → OnOk result ((g : Registry) (k : Kept)
         → SpellsWhileOpen (state_of store.old) g k
         → Appends (W.contents writer.old) (W.contents writer.new) (listing Versions g)) }
-    ensures unwritten { OnErr (store_answer result)
-        (W.contents writer.new ≡ W.contents writer.old) }
     ensures fault { HasCleanDisk (state_of store.new) → has_failed store.old ≡ false
         → IfErr (store_answer result) (IsFaultOver (state_of store.old) (state_of store.new)) }
     ensures same { HasCleanDisk (state_of store.new) → (g : Registry) (k : Kept)
@@ -83,20 +85,20 @@ pub fn list_versions<W: Write, S: Alter>(
 ///
 /// # Errors
 ///
-/// `Store` where the registry couldn't be read: nothing was written. `OutOfMemory` where room for a
-/// line is refused, and `Write` where a write fails: a beginning of the text was written. Whatever
-/// is answered, the registry stays as it was.
+/// `Store` where the registry couldn't be read, `OutOfMemory` where room for a line is refused, and
+/// `Write` where a write fails: a beginning of the text was written. Whatever is answered, the
+/// registry stays as it was.
 pub fn list_schemas<W: Write, S: Alter>(
     alloc: Global,
     store: &mut Store<S>,
     writer: &mut W,
 ) -> Result<(), ReportError>
-    ensures frame { KeepsStore store.old store.new (store_answer result) }
+    ensures frame { KeepsListed store.old store.new result }
+    ensures refused { IsTrue (has_failed store.old)
+        → (store_answer result ≡ Err Disk) × (store.new ≡ store.old) }
     ensures ok { HasCleanDisk (state_of store.new) → OnOk result ((g : Registry) (k : Kept)
         → SpellsWhileOpen (state_of store.old) g k
         → Appends (W.contents writer.old) (W.contents writer.new) (listing Schemas g)) }
-    ensures unwritten { OnErr (store_answer result)
-        (W.contents writer.new ≡ W.contents writer.old) }
     ensures fault { HasCleanDisk (state_of store.new) → has_failed store.old ≡ false
         → IfErr (store_answer result) (IsFaultOver (state_of store.old) (state_of store.new)) }
     ensures same { HasCleanDisk (state_of store.new) → (g : Registry) (k : Kept)
@@ -111,21 +113,21 @@ pub fn list_schemas<W: Write, S: Alter>(
 ///
 /// # Errors
 ///
-/// `Store` where the registry couldn't be read: nothing was written. `OutOfMemory` where room for a
-/// line is refused, and `Write` where a write fails: a beginning of the text was written. Whatever
-/// is answered, the registry stays as it was.
+/// `Store` where the registry couldn't be read, `OutOfMemory` where room for a line is refused, and
+/// `Write` where a write fails: a beginning of the text was written. Whatever is answered, the
+/// registry stays as it was.
 pub fn list<W: Write, S: Alter>(
     alloc: Global,
     store: &mut Store<S>,
     kind: Listing,
     writer: &mut W,
 ) -> Result<(), ReportError>
-    ensures frame { KeepsStore store.old store.new (store_answer result) }
+    ensures frame { KeepsListed store.old store.new result }
+    ensures refused { IsTrue (has_failed store.old)
+        → (store_answer result ≡ Err Disk) × (store.new ≡ store.old) }
     ensures ok { HasCleanDisk (state_of store.new) → OnOk result ((g : Registry) (k : Kept)
         → SpellsWhileOpen (state_of store.old) g k
         → Appends (W.contents writer.old) (W.contents writer.new) (listing kind g)) }
-    ensures unwritten { OnErr (store_answer result)
-        (W.contents writer.new ≡ W.contents writer.old) }
     ensures fault { HasCleanDisk (state_of store.new) → has_failed store.old ≡ false
         → IfErr (store_answer result) (IsFaultOver (state_of store.old) (state_of store.new)) }
     ensures same { HasCleanDisk (state_of store.new) → (g : Registry) (k : Kept)
@@ -133,23 +135,34 @@ pub fn list<W: Write, S: Alter>(
     ensures crash { HasCleanDisk (state_of store.new) → (db : Trees)
         → (state_of store.new).may_leave db → (state_of store.old).may_leave db }
 {
-    let rows = store.rows(kind)?;
-    put_listing(alloc, writer, kind, rows.as_slice())
+    let mut lines = store.lines(kind)?;
+    put_listing(alloc, writer, kind, &mut lines)
 }
 
-/// Writes the header line of the listing, and these lines of it.
-fn put_listing<W: Write>(
+/// Writes the header line of the listing, and the lines that the store lends.
+fn put_listing<W: Write, S: Alter>(
     alloc: Global,
     writer: &mut W,
     kind: Listing,
-    rows: &[Vec<String>],
+    lines: &mut Lines<'_, S>,
 ) -> Result<(), ReportError>
-    ensures text { OnOk result (Appends (W.contents writer.old) (W.contents writer.new)
-        (csv_text (header kind ∷ map fields_of rows.now))) }
-    ensures apart { IsOk (store_answer result) }
+    requires { failure_in lines.old ≡ None }
+    ensures same_reference { lines.new.store.ghost_name ≡ lines.old.store.ghost_name }
+    ensures frame { KeepsListed (store_of lines.old) (store_of lines.new) result }
+    ensures text { HasCleanDisk (state_of (store_of lines.new)) → OnOk result ((g : Registry) (k : Kept)
+        → SpellsWhileOpen (state_of (store_of lines.old)) g k → HasHanded lines.old kind g []
+        → Appends (W.contents writer.old) (W.contents writer.new) (listing kind g)) }
+    ensures fault { HasCleanDisk (state_of (store_of lines.new)) → IfErr (store_answer result)
+        (IsFaultOver (state_of (store_of lines.old)) (state_of (store_of lines.new))) }
+    ensures same { HasCleanDisk (state_of (store_of lines.new)) → (g : Registry) (k : Kept)
+        → SpellsWhileOpen (state_of (store_of lines.old)) g k
+        → SpellsWhileOpen (state_of (store_of lines.new)) g k }
+    ensures crash { HasCleanDisk (state_of (store_of lines.new)) → (db : Trees)
+        → (state_of (store_of lines.new)).may_leave db
+        → (state_of (store_of lines.old)).may_leave db }
 {
     put_header(alloc, writer, kind)?;
-    put_lines(alloc, writer, rows)
+    put_lines(alloc, writer, lines)
 }
 
 /// Writes the header line of the listing.

@@ -1,22 +1,57 @@
-use Rattle.std.proofs.Common.{map, subst}
+use Rattle.std.proofs.Common.{◌∙◌, ◌++◌, ◌∷◌, [], map, refl, sym, subst}
 use Rattle.std.specs.Prelude.{string_bytes}
 use Rattle.std.specs.Io.KnownBytes.{Appends}
 use Rattle.csv.specs.Writing.{default_writer, row_text}
 use Rattle.csv.proofs.WriteFacts.{appends-none, appends-more}
+use Rattle.reg_store.specs.Handing.{store_of}
 use Rattle.reg_store.specs.Listings.{fields_of}
 use Rattle.reg_report.specs.Csv.{csv_text}
-use Rattle.reg_report.proofs.CsvLemmas.{csv_text-take}
+use Rattle.reg_report.proofs.CsvLemmas.{csv_text-snoc}
+use Rattle.reg_report.proofs.KeepingLemmas.{keeps_still, keeps_then}
 use Rattle.reg_report.proofs.lines.put_lines.Goals as goal
 
-pub loop-line-init : goal.loop-line-init
+pub loop-init : goal.loop-init
 unfolding csv_text
-loop-line-init g c = appends-none (g.W.Write.contents c.args.writer.now)
+loop-init g c = record {
+  same_reference = refl;
+  going = c.requires;
+  keeps = keeps_still g.met.S.Store.settled (store_of c.args.lines.now);
+  written = λ clean kind registry k over h. ([], h, appends-none (g.W.Write.contents c.args.writer.now));
+}
 
-pub loop-line-preserved : goal.loop-line-preserved
-loop-line-preserved g c =
+pub loop-preserved : goal.loop-preserved
+loop-preserved g c =
     let old = g.W.Write.contents c.args.writer.now in
-    let mid = g.W.Write.contents c.loop-line.writer in
+    let mid = g.W.Write.contents c.loop.writer in
     let new = g.W.Write.contents c.put_line.new.writer in
-    let next = subst (λ line. Appends mid new (row_text default_writer (map string_bytes line))) c.as_slice.ensures.value c.in_ok-put_line.ensures.text in
-    subst (Appends old new) (csv_text-take fields_of c.args.lines.now c.loop-line.line-index c.line-item.result c.loop-line-test.true c.line-item.is)
-    (appends-more old mid new _ _ c.loop-line.invariant next)
+    let before = c.loop.invariant in
+    let it = c.in_ok-line.ensures in
+    let line = subst (λ line. Appends mid new (row_text default_writer (map string_bytes line))) c.as_slice.ensures.value c.in_ok-put_line.ensures.text in
+    record {
+      same_reference = it.same_reference ∙ before.same_reference;
+      going = it.going;
+      keeps = keeps_then (store_of c.args.lines.now) (store_of c.loop.lines) (store_of c.next.new.self) _ before.keeps it.frame it.same it.crash;
+      written = λ clean kind registry k over h.
+          (let early = it.frame.clean clean in
+          let was = before.written early kind registry k over h in
+          let handed = rw c.in-Some.is at (it.hands clean kind registry k was.0 (before.keeps.same early registry k over) was.1) in
+          (was.0 ++ fields_of c.in-Some.line ∷ [], handed, subst (Appends old new) (sym (csv_text-snoc was.0 (fields_of c.in-Some.line))) (appends-more old mid new _ _ was.2 line)));
+    }
+
+pub returns-in_default-clause-text : goal.returns-in_default-clause-text
+returns-in_default-clause-text g c clean kind registry k over h =
+    let before = c.loop.invariant in
+    let it = c.in_ok-line.ensures in
+    let early = it.frame.clean clean in
+    let was = before.written early kind registry k over h in
+    let handed = rw c.in_default.is at (it.hands clean kind registry k was.0 (before.keeps.same early registry k over) was.1) in
+    subst (λ done. Appends (g.W.Write.contents c.args.writer.now) (g.W.Write.contents c.loop.writer) (csv_text done)) handed.0 was.2
+
+pub returns-in_err-line-clause-same : goal.returns-in_err-line-clause-same
+returns-in_err-line-clause-same g c clean registry k over = let it = c.next.ensures in it.same clean registry k (c.loop.invariant.keeps.same (it.frame.clean clean) registry k over)
+
+pub returns-in_default-clause-same : goal.returns-in_default-clause-same
+returns-in_default-clause-same g c clean registry k over = let it = c.next.ensures in it.same clean registry k (c.loop.invariant.keeps.same (it.frame.clean clean) registry k over)
+
+pub returns-in_err-put_line-clause-same : goal.returns-in_err-put_line-clause-same
+returns-in_err-put_line-clause-same g c clean registry k over = let it = c.next.ensures in it.same clean registry k (c.loop.invariant.keeps.same (it.frame.clean clean) registry k over)

@@ -1,8 +1,22 @@
-use Rattle.std.proofs.Common.{map, take}
+use Rattle.std.proofs.Common.{◌≡◌, List, [], None}
 use Rattle.std.specs.Io.KnownBytes.{Appends}
-use Rattle.reg_store.specs.Listings.{fields_of}
+use Rattle.sqlite.specs.State.{HasCleanDisk}
+use Rattle.reg_core.specs.Registry.{Registry}
+use Rattle.reg_core.specs.KeptReplies.{Kept}
+use Rattle.reg_store.specs.declared.listing.Listing.{Listing}
+use Rattle.reg_store.specs.Handing.{store_of, failure_in, HasHanded}
+use Rattle.reg_store.specs.Listings.{Fields}
+use Rattle.reg_store.specs.Spells.{SpellsWhileOpen}
+use Rattle.reg_store.specs.Stores.{state_of}
 use Rattle.reg_report.specs.Csv.{csv_text}
+use Rattle.reg_report.proofs.KeepingLemmas.{Keeps}
 use Rattle.reg_report.proofs.lines.put_lines.Given as goal
 
-abbrev pub invariant-loop-line : goal.invariant-loop-line
-invariant-loop-line g l = Appends (g.W.Write.contents l.initial.writer) (g.W.Write.contents l.writer) (csv_text (map fields_of (take l.line-index l.lines)))
+abbrev pub invariant-loop : goal.invariant-loop
+invariant-loop g l = record {
+  same_reference : l.lines.store.ghost_name ≡ l.initial.lines.store.ghost_name;
+  going : failure_in l.lines ≡ None;
+  keeps : Keeps (store_of l.initial.lines) (store_of l.lines);
+  written : HasCleanDisk (state_of (store_of l.lines)) → (kind : Listing) (registry : Registry) (k : Kept) → SpellsWhileOpen (state_of (store_of l.initial.lines)) registry k → HasHanded l.initial.lines kind registry []
+      → (done : List Fields) × HasHanded l.lines kind registry done × Appends (g.W.Write.contents l.initial.writer) (g.W.Write.contents l.writer) (csv_text done);
+}

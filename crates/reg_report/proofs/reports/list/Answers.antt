@@ -1,14 +1,25 @@
-use Rattle.std.proofs.Common.{◌∙◌, ◌∷◌, map, ap, subst}
-use Rattle.std.specs.Io.KnownBytes.{Appends}
+use Rattle.std.proofs.Common.{◌≡◌, sym, subst, rules}
 use Rattle.std.proofs.lemmas.Result.{on_ok_weaker}
-use Rattle.reg_store.specs.Listings.{fields_of}
-use Rattle.reg_report.specs.Csv.{csv_text, header}
+use Rattle.sqlite.specs.State.{HasCleanDisk}
+use Rattle.reg_store.specs.Handing.{store_of}
+use Rattle.reg_store.specs.Spells.{SpellsWhileOpen}
+use Rattle.reg_store.specs.Stores.{state_of}
 use Rattle.reg_report.proofs.reports.list.Goals as goal
+
+pub returns-in_err-lines-clause-same : goal.returns-in_err-lines-clause-same
+returns-in_err-lines-clause-same g c clean registry k over =
+    let same : c.lines.follows.lender-at-none ≡ c.args.store.now = search rules in
+    subst (λ s. SpellsWhileOpen (state_of s) registry k) (sym same) over
 
 pub returns-clause-ok : goal.returns-clause-ok
 returns-clause-ok g c clean =
-    let old = g.W.Write.contents c.args.writer.now in
-    let new = g.W.Write.contents c.put_listing.new.writer in
+    let last : c.store-2-1.given.0 ≡ store_of c.put_listing.new.lines = search rules in
     on_ok_weaker c.put_listing.result
-    (λ text registry k over. subst (λ lines. Appends old new (csv_text (header c.args.kind ∷ lines))) (ap (map fields_of) c.as_slice.ensures.value ∙ c.in_ok-rows.ensures.rows clean registry k over) text)
-    c.put_listing.ensures.text
+    (λ text registry k over. text registry k (subst (λ s. SpellsWhileOpen (state_of s) registry k) (sym c.in_ok-lines.ensures.same) over) (c.in_ok-lines.ensures.starts registry))
+    (c.put_listing.ensures.text (subst (λ s. HasCleanDisk (state_of s)) last clean))
+
+pub returns-clause-same : goal.returns-clause-same
+returns-clause-same g c clean registry k over =
+    let last : c.store-2-1.given.0 ≡ store_of c.put_listing.new.lines = search rules in
+    subst (λ s. SpellsWhileOpen (state_of s) registry k) (sym last)
+    (c.put_listing.ensures.same (subst (λ s. HasCleanDisk (state_of s)) last clean) registry k (subst (λ s. SpellsWhileOpen (state_of s) registry k) (sym c.in_ok-lines.ensures.same) over))

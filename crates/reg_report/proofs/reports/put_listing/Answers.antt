@@ -5,8 +5,8 @@ use Rattle.reg_report.proofs.reports.put_listing.Goals as goal
 
 pub returns-clause-text : goal.returns-clause-text
 unfolding csv_text
-returns-clause-text g c =
+returns-clause-text g c clean =
     let old = g.W.Write.contents c.args.writer.now in
     let mid = g.W.Write.contents c.put_header.new.writer in
     let new = g.W.Write.contents c.put_lines.new.writer in
-    on_ok_weaker c.put_lines.result (appends-more old mid new _ _ c.in_ok-put_header.ensures.text) c.put_lines.ensures.text
+    on_ok_weaker c.put_lines.result (λ text registry k over h. appends-more old mid new _ _ c.in_ok-put_header.ensures.text (text c.args.kind registry k over h)) (c.put_lines.ensures.text clean)

@@ -1,0 +1,71 @@
+-- What several calls of lines that are lent keep of the store.
+use Rattle.std.proofs.Common.{◌≡◌, inl, inr, Result, IsTrue, refl, ◌∙◌, arith}
+use Rattle.std.specs.Prelude.{OnOk}
+use Rattle.sqlite.specs.Tree.{Trees}
+use Rattle.sqlite.specs.State.{State, HasCleanDisk}
+use Rattle.sqlite_trees.specs.declared.store.Store.{Ghosts}
+use Rattle.reg_core.specs.Registry.{Registry}
+use Rattle.reg_core.specs.KeptReplies.{Kept}
+use Rattle.reg_store.specs.declared.error.StoreError.{StoreError}
+use Rattle.reg_store.specs.declared.store.Store.{Store}
+use Rattle.reg_store.specs.Failures.{IsFaultOver}
+use Rattle.reg_store.specs.Spells.{SpellsWhileOpen}
+use Rattle.reg_store.specs.Stores.{state_of, has_failed, KeepsOpen, KeepsLent, LeavesCommit}
+use Rattle.reg_store.proofs.Failing.{by_since}
+use Rattle.reg_store.proofs.Keeping.{Settles}
+use Rattle.reg_report.specs.declared.error.ReportError.{ReportError}
+use Rattle.reg_report.specs.Keeping.{KeepsListed}
+
+-- the same, whatever is answered
+pub record Keeps {S : Type 0} {g : Ghosts S} (old new : Store S g) : Type 0 where
+  pub failed : has_failed new ≡ has_failed old
+  pub clean : HasCleanDisk (state_of new) → HasCleanDisk (state_of old)
+  pub connection : KeepsOpen (state_of old) (state_of new)
+  pub settled : LeavesCommit (state_of new)
+  pub same : HasCleanDisk (state_of new) → (registry : Registry) (k : Kept) → SpellsWhileOpen (state_of old) registry k → SpellsWhileOpen (state_of new) registry k
+  pub crash : HasCleanDisk (state_of new) → (db : Trees) → (state_of new).may_leave db → (state_of old).may_leave db
+
+opens_then : (a b c : State) → (HasCleanDisk c → HasCleanDisk b) → KeepsOpen a b → KeepsOpen b c → KeepsOpen a c
+opens_then a b c clean_before p q = record {
+  counts = omega (arith, p.counts, q.counts);
+  stays_shut = λ clean is_open. p.stays_shut (clean_before clean) (q.stays_shut clean is_open);
+  closes = λ clean is_open. elim (p.closes (clean_before clean) is_open) [
+    | inl still ↦ elim (q.closes clean still) [ inl after ↦ inl after | inr more ↦ inr (omega (arith, p.counts, more)) ]
+    | inr more ↦ inr (omega (arith, q.counts, more))
+  ];
+}
+
+module _ {S : Type 0} {g : Ghosts S} where
+  -- no call
+  pub keeps_still : Settles g → (s : Store S g) → Keeps s s
+  keeps_still settles s = record {
+    failed = refl;
+    clean = λ clean. clean;
+    connection = record { counts = omega arith; stays_shut = λ _ is_open. is_open; closes = λ _ is_open. inl is_open };
+    settled = λ is_open db it. settles s.conn.store db is_open it;
+    same = λ _ registry k over. over;
+    crash = λ _ db it. it;
+  }
+
+  -- one call after others
+  pub keeps_then : {T : Type 0} (a b c : Store S g) (r : Result T StoreError) → Keeps a b → KeepsLent b c r
+      → (HasCleanDisk (state_of c) → (registry : Registry) (k : Kept) → SpellsWhileOpen (state_of b) registry k → SpellsWhileOpen (state_of c) registry k)
+      → (HasCleanDisk (state_of c) → (db : Trees) → (state_of c).may_leave db → (state_of b).may_leave db) → Keeps a c
+  keeps_then a b c r p q same crash = record {
+    failed = q.failed ∙ p.failed;
+    clean = λ clean. p.clean (q.clean clean);
+    connection = opens_then (state_of a) (state_of b) (state_of c) q.clean p.connection q.connection;
+    settled = q.settled;
+    same = λ clean registry k over. same clean registry k (p.same (q.clean clean) registry k over);
+    crash = λ clean db it. p.crash (q.clean clean) db (crash clean db it);
+  }
+
+  -- what they answer succeeds over an open connection alone
+  pub keeps_listed : {T : Type 0} (old new : Store S g) (r : Result T ReportError) → Keeps old new → (HasCleanDisk (state_of new) → OnOk r (IsTrue (state_of old).is_open)) → KeepsListed old new r
+  keeps_listed old new r p was_open = record { failed = p.failed; clean = p.clean; was_open = was_open; connection = p.connection; settled = p.settled }
+
+  -- a fault that the last call tells is one of all
+  pub fault_on : {T : Type 0} (a b c : Store S g) (r : Result T StoreError) → Keeps a b → KeepsLent b c r → HasCleanDisk (state_of c) → (e : StoreError) → IsFaultOver (state_of b) (state_of c) e → IsFaultOver (state_of a) (state_of c) e
+  fault_on a b c r p q clean e fault registry k over =
+      let early = q.clean clean in
+      by_since (state_of a) (state_of b) (state_of c) (p.connection.closes early) p.connection.counts q.connection.counts e (fault registry k (p.same early registry k over))
