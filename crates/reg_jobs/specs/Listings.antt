@@ -1,11 +1,12 @@
 -- A listing of a registry, printed.
-use Rattle.std.specs.Prelude.{◌≡◌, ℕ, List, Option, Result, Ok, Err}
+use Rattle.std.specs.Prelude.{◌∷◌, ℕ, List, Option, Result, Ok, Err}
 use Rattle.std.specs.Io.KnownBytes.{Appends}
 use Rattle.reg_core.specs.Registry.{Registry}
 use Rattle.reg_store.specs.declared.listing.Listing.{Listing}
 use Rattle.reg_store.specs.declared.listing.Listing.TheVariants.{Subjects, Versions, Schemas}
 use Rattle.reg_store.specs.declared.error.StoreError.{StoreError}
-use Rattle.reg_report.specs.Csv.{listing}
+use Rattle.reg_store.specs.Listings.{listing_lines}
+use Rattle.reg_report.specs.Csv.{IsBegun, header, listing}
 use Rattle.reg_report.specs.declared.error.ReportError.{ReportError}
 use Rattle.reg_report.specs.declared.error.ReportError.TheVariants.{Store, Write, OutOfMemory as ReportOutOfMemory}
 use Rattle.reg_words.specs.declared.task.Listing.{Listing as Word}
@@ -26,10 +27,11 @@ listed_as (Err (Store error)) = Unread error
 listed_as (Err Write) = NotWritten
 listed_as (Err ReportOutOfMemory) = OutOfMemory
 
--- A listing of the registry, by how it ended. What was written before a failed write, or before memory was refused, isn't said.
+-- A listing of the registry, by how it ended: so many whole lines, from the header on, where the registry couldn't be read to the end. What was
+-- written before a failed write, or before memory was refused, isn't said.
 abbrev pub ListsAs : Listing → Registry → Option (List ℕ) → Option (List ℕ) → Listed → Type 0
 ListsAs kind g writer writer' Whole = Appends writer writer' (listing kind g)
-ListsAs kind g writer writer' (Unread error) = writer' ≡ writer
+ListsAs kind g writer writer' (Unread error) = IsBegun (header kind ∷ listing_lines kind g) writer writer'
 ListsAs kind g writer writer' NotWritten = Unit {0}
 ListsAs kind g writer writer' OutOfMemory = Unit {0}
 

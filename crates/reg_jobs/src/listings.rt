@@ -21,7 +21,7 @@ use std::io::Write;
 pub enum Listed {
     /// All of it was printed.
     Whole,
-    /// The registry couldn't be read, and nothing was printed.
+    /// The registry couldn't be read to its end. So many whole lines were printed, from the header on.
     Unread(StoreError),
     /// A write failed.
     NotWritten,

@@ -1,6 +1,6 @@
 -- What several calls of lines that are lent keep of the store.
 use Rattle.std.proofs.Common.{◌≡◌, inl, inr, Result, IsTrue, refl, ◌∙◌, arith}
-use Rattle.std.specs.Prelude.{OnOk}
+use Rattle.std.specs.Prelude.{Ok, Err, OnErr, OnOk}
 use Rattle.sqlite.specs.Tree.{Trees}
 use Rattle.sqlite.specs.State.{State, HasCleanDisk}
 use Rattle.sqlite_trees.specs.declared.store.Store.{Ghosts}
@@ -15,6 +15,11 @@ use Rattle.reg_store.proofs.Failing.{by_since}
 use Rattle.reg_store.proofs.Keeping.{Settles}
 use Rattle.reg_report.specs.declared.error.ReportError.{ReportError}
 use Rattle.reg_report.specs.Keeping.{KeepsListed}
+
+-- what holds, holds after an error
+pub after_err : {T E : Type 0} (r : Result T E) (P : Type 0) → P → OnErr r P
+after_err (Ok x) P holds = tt
+after_err (Err e) P holds = holds
 
 -- the same, whatever is answered
 pub record Keeps {S : Type 0} {g : Ghosts S} (old new : Store S g) : Type 0 where

@@ -1,5 +1,6 @@
 -- Listings as CSV.
-use Rattle.std.specs.Prelude.{ℕ, List, [], ◌∷◌, ◌++◌, codes}
+use Rattle.std.specs.Prelude.{ℕ, List, [], ◌∷◌, ◌++◌, take, codes, Option}
+use Rattle.std.specs.Io.KnownBytes.{Appends}
 use Rattle.csv.specs.Writing.{default_writer, row_text}
 use Rattle.reg_core.specs.Registry.{Registry}
 use Rattle.reg_store.specs.declared.listing.Listing.{Listing}
@@ -20,3 +21,7 @@ header Schemas = codes "id" ∷ codes "text" ∷ []
 -- this project's choice: a header line, and the lines of the listing
 abbrev pub listing : Listing → Registry → List ℕ
 listing kind g = csv_text (header kind ∷ listing_lines kind g)
+
+-- so many of these lines were written, from the first on, each of them whole
+abbrev pub IsBegun : List Fields → Option (List ℕ) → Option (List ℕ) → Type 0
+IsBegun lines writer writer' = (count : ℕ) × Appends writer writer' (csv_text (take count lines))

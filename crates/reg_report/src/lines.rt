@@ -1,6 +1,6 @@
 //! Lines of CSV.
 
-ghost use Rattle.std.specs.Prelude.{◌≡◌, ◌<◌, ◌-◌, ◌^◌, [], None, IfOk, IfErr, IsOk, OnOk, length, map};
+ghost use Rattle.std.specs.Prelude.{◌≡◌, ◌<◌, ◌-◌, ◌^◌, [], None, IfOk, IfErr, IsOk, OnErr, OnOk, length, map};
 ghost use Rattle.std.specs.Io.KnownBytes.{Appends};
 ghost use Rattle.sqlite.specs.Tree.{Trees};
 ghost use Rattle.sqlite.specs.State.{HasCleanDisk};
@@ -13,7 +13,7 @@ ghost use Rattle.reg_store.specs.Failures.{IsFaultOver};
 ghost use Rattle.reg_store.specs.Stores.{state_of};
 ghost use Rattle.reg_store.specs.Listings.{listing_lines};
 ghost use Rattle.reg_store.specs.Handing.{store_of, failure_in, HasHanded};
-ghost use Rattle.reg_report.specs.Csv.{csv_text};
+ghost use Rattle.reg_report.specs.Csv.{IsBegun, csv_text};
 ghost use Rattle.reg_report.specs.Keeping.{KeepsListed};
 ghost use Rattle.reg_report.specs.StoreAnswers.{store_answer};
 
@@ -39,6 +39,10 @@ pub(crate) fn put_lines<W: Write, S: Alter>(
         (g : Registry) (k : Kept) → SpellsWhileOpen (state_of (store_of lines.old)) g k
         → HasHanded lines.old kind g []
         → Appends (W.contents writer.old) (W.contents writer.new) (csv_text (listing_lines kind g))) }
+    ensures begun { HasCleanDisk (state_of (store_of lines.new)) → OnErr (store_answer result) ((kind : Listing)
+        (g : Registry) (k : Kept) → SpellsWhileOpen (state_of (store_of lines.old)) g k
+        → HasHanded lines.old kind g []
+        → IsBegun (listing_lines kind g) (W.contents writer.old) (W.contents writer.new)) }
     ensures fault { HasCleanDisk (state_of (store_of lines.new)) → IfErr (store_answer result)
         (IsFaultOver (state_of (store_of lines.old)) (state_of (store_of lines.new))) }
     ensures same { HasCleanDisk (state_of (store_of lines.new)) → (g : Registry) (k : Kept)

@@ -1,6 +1,6 @@
 //! Listings, written to a writer.
 
-ghost use Rattle.std.specs.Prelude.{◌≡◌, [], None, Err, IfErr, IsOk, IsTrue, OnOk, false};
+ghost use Rattle.std.specs.Prelude.{◌≡◌, ◌∷◌, [], None, Err, IfErr, IsOk, IsTrue, OnErr, OnOk, false};
 ghost use Rattle.std.specs.Io.KnownBytes.{Appends};
 ghost use Rattle.sqlite.specs.Tree.{Trees};
 ghost use Rattle.sqlite.specs.State.{HasCleanDisk};
@@ -10,10 +10,11 @@ ghost use Rattle.reg_core.specs.KeptReplies.{Kept};
 ghost use Rattle.reg_store.specs.Spells.{SpellsWhileOpen};
 ghost use Rattle.reg_store.specs.Failures.{IsFaultOver};
 ghost use Rattle.reg_store.specs.Stores.{state_of, has_failed};
+ghost use Rattle.reg_store.specs.Listings.{listing_lines};
 ghost use Rattle.reg_store.specs.Handing.{store_of, failure_in, HasHanded};
 ghost use Rattle.reg_store.specs.declared.error.StoreError.TheVariants.{Disk};
 ghost use Rattle.reg_store.specs.declared.listing.Listing.TheVariants.{Schemas, Subjects, Versions};
-ghost use Rattle.reg_report.specs.Csv.{listing, header};
+ghost use Rattle.reg_report.specs.Csv.{IsBegun, header, listing};
 ghost use Rattle.reg_report.specs.Keeping.{KeepsListed};
 ghost use Rattle.reg_report.specs.StoreAnswers.{store_answer};
 
@@ -29,9 +30,9 @@ use std::io::Write;
 ///
 /// # Errors
 ///
-/// `Store` where the registry couldn't be read, `OutOfMemory` where room for a line is refused, and
-/// `Write` where a write fails: a beginning of the text was written. Whatever is answered, the
-/// registry stays as it was.
+/// `Store` where the registry couldn't be read: so many whole lines were written, from the first on.
+/// `OutOfMemory` where room for a line is refused, and `Write` where a write fails: a beginning of the
+/// text was written. Whatever is answered, the registry stays as it was.
 pub fn list_subjects<W: Write, S: Alter>(
     alloc: Global,
     store: &mut Store<S>,
@@ -43,6 +44,9 @@ pub fn list_subjects<W: Write, S: Alter>(
     ensures ok { HasCleanDisk (state_of store.new) → OnOk result ((g : Registry) (k : Kept)
         → SpellsWhileOpen (state_of store.old) g k
         → Appends (W.contents writer.old) (W.contents writer.new) (listing Subjects g)) }
+    ensures begun { HasCleanDisk (state_of store.new) → OnErr (store_answer result) ((g : Registry) (k : Kept)
+        → SpellsWhileOpen (state_of store.old) g k → IsBegun (header Subjects ∷ listing_lines Subjects g)
+        (W.contents writer.old) (W.contents writer.new)) }
     ensures fault { HasCleanDisk (state_of store.new) → has_failed store.old ≡ false
         → IfErr (store_answer result) (IsFaultOver (state_of store.old) (state_of store.new)) }
     ensures same { HasCleanDisk (state_of store.new) → (g : Registry) (k : Kept)
@@ -57,9 +61,9 @@ pub fn list_subjects<W: Write, S: Alter>(
 ///
 /// # Errors
 ///
-/// `Store` where the registry couldn't be read, `OutOfMemory` where room for a line is refused, and
-/// `Write` where a write fails: a beginning of the text was written. Whatever is answered, the
-/// registry stays as it was.
+/// `Store` where the registry couldn't be read: so many whole lines were written, from the first on.
+/// `OutOfMemory` where room for a line is refused, and `Write` where a write fails: a beginning of the
+/// text was written. Whatever is answered, the registry stays as it was.
 pub fn list_versions<W: Write, S: Alter>(
     alloc: Global,
     store: &mut Store<S>,
@@ -71,6 +75,9 @@ pub fn list_versions<W: Write, S: Alter>(
     ensures ok { HasCleanDisk (state_of store.new) → OnOk result ((g : Registry) (k : Kept)
         → SpellsWhileOpen (state_of store.old) g k
         → Appends (W.contents writer.old) (W.contents writer.new) (listing Versions g)) }
+    ensures begun { HasCleanDisk (state_of store.new) → OnErr (store_answer result) ((g : Registry) (k : Kept)
+        → SpellsWhileOpen (state_of store.old) g k → IsBegun (header Versions ∷ listing_lines Versions g)
+        (W.contents writer.old) (W.contents writer.new)) }
     ensures fault { HasCleanDisk (state_of store.new) → has_failed store.old ≡ false
         → IfErr (store_answer result) (IsFaultOver (state_of store.old) (state_of store.new)) }
     ensures same { HasCleanDisk (state_of store.new) → (g : Registry) (k : Kept)
@@ -85,9 +92,9 @@ pub fn list_versions<W: Write, S: Alter>(
 ///
 /// # Errors
 ///
-/// `Store` where the registry couldn't be read, `OutOfMemory` where room for a line is refused, and
-/// `Write` where a write fails: a beginning of the text was written. Whatever is answered, the
-/// registry stays as it was.
+/// `Store` where the registry couldn't be read: so many whole lines were written, from the first on.
+/// `OutOfMemory` where room for a line is refused, and `Write` where a write fails: a beginning of the
+/// text was written. Whatever is answered, the registry stays as it was.
 pub fn list_schemas<W: Write, S: Alter>(
     alloc: Global,
     store: &mut Store<S>,
@@ -99,6 +106,9 @@ pub fn list_schemas<W: Write, S: Alter>(
     ensures ok { HasCleanDisk (state_of store.new) → OnOk result ((g : Registry) (k : Kept)
         → SpellsWhileOpen (state_of store.old) g k
         → Appends (W.contents writer.old) (W.contents writer.new) (listing Schemas g)) }
+    ensures begun { HasCleanDisk (state_of store.new) → OnErr (store_answer result) ((g : Registry) (k : Kept)
+        → SpellsWhileOpen (state_of store.old) g k → IsBegun (header Schemas ∷ listing_lines Schemas g)
+        (W.contents writer.old) (W.contents writer.new)) }
     ensures fault { HasCleanDisk (state_of store.new) → has_failed store.old ≡ false
         → IfErr (store_answer result) (IsFaultOver (state_of store.old) (state_of store.new)) }
     ensures same { HasCleanDisk (state_of store.new) → (g : Registry) (k : Kept)
@@ -113,9 +123,9 @@ pub fn list_schemas<W: Write, S: Alter>(
 ///
 /// # Errors
 ///
-/// `Store` where the registry couldn't be read, `OutOfMemory` where room for a line is refused, and
-/// `Write` where a write fails: a beginning of the text was written. Whatever is answered, the
-/// registry stays as it was.
+/// `Store` where the registry couldn't be read: so many whole lines were written, from the first on.
+/// `OutOfMemory` where room for a line is refused, and `Write` where a write fails: a beginning of the
+/// text was written. Whatever is answered, the registry stays as it was.
 pub fn list<W: Write, S: Alter>(
     alloc: Global,
     store: &mut Store<S>,
@@ -128,6 +138,9 @@ pub fn list<W: Write, S: Alter>(
     ensures ok { HasCleanDisk (state_of store.new) → OnOk result ((g : Registry) (k : Kept)
         → SpellsWhileOpen (state_of store.old) g k
         → Appends (W.contents writer.old) (W.contents writer.new) (listing kind g)) }
+    ensures begun { HasCleanDisk (state_of store.new) → OnErr (store_answer result) ((g : Registry) (k : Kept)
+        → SpellsWhileOpen (state_of store.old) g k → IsBegun (header kind ∷ listing_lines kind g)
+        (W.contents writer.old) (W.contents writer.new)) }
     ensures fault { HasCleanDisk (state_of store.new) → has_failed store.old ≡ false
         → IfErr (store_answer result) (IsFaultOver (state_of store.old) (state_of store.new)) }
     ensures same { HasCleanDisk (state_of store.new) → (g : Registry) (k : Kept)
@@ -152,6 +165,9 @@ fn put_listing<W: Write, S: Alter>(
     ensures text { HasCleanDisk (state_of (store_of lines.new)) → OnOk result ((g : Registry) (k : Kept)
         → SpellsWhileOpen (state_of (store_of lines.old)) g k → HasHanded lines.old kind g []
         → Appends (W.contents writer.old) (W.contents writer.new) (listing kind g)) }
+    ensures begun { HasCleanDisk (state_of (store_of lines.new)) → OnErr (store_answer result) ((g : Registry) (k : Kept)
+        → SpellsWhileOpen (state_of (store_of lines.old)) g k → HasHanded lines.old kind g []
+        → IsBegun (header kind ∷ listing_lines kind g) (W.contents writer.old) (W.contents writer.new)) }
     ensures fault { HasCleanDisk (state_of (store_of lines.new)) → IfErr (store_answer result)
         (IsFaultOver (state_of (store_of lines.old)) (state_of (store_of lines.new))) }
     ensures same { HasCleanDisk (state_of (store_of lines.new)) → (g : Registry) (k : Kept)

@@ -6,8 +6,9 @@ use Rattle.csv.proofs.WriteFacts.{appends-none, appends-more}
 use Rattle.reg_store.specs.Handing.{store_of}
 use Rattle.reg_store.specs.Listings.{fields_of}
 use Rattle.reg_report.specs.Csv.{csv_text}
+use Rattle.reg_report.specs.StoreAnswers.{store_answer}
 use Rattle.reg_report.proofs.CsvLemmas.{csv_text-snoc}
-use Rattle.reg_report.proofs.KeepingLemmas.{keeps_still, keeps_then}
+use Rattle.reg_report.proofs.KeepingLemmas.{after_err, keeps_still, keeps_then}
 use Rattle.reg_report.proofs.lines.put_lines.Goals as goal
 
 pub loop-init : goal.loop-init
@@ -55,3 +56,8 @@ returns-in_default-clause-same g c clean registry k over = let it = c.next.ensur
 
 pub returns-in_err-put_line-clause-same : goal.returns-in_err-put_line-clause-same
 returns-in_err-put_line-clause-same g c clean registry k over = let it = c.next.ensures in it.same clean registry k (c.loop.invariant.keeps.same (it.frame.clean clean) registry k over)
+
+pub returns-in_err-line-clause-begun : goal.returns-in_err-line-clause-begun
+returns-in_err-line-clause-begun g c clean = after_err (store_answer c.from_residual.result) _ (λ kind registry k over h.
+    (let was = c.loop.invariant.written (c.next.ensures.frame.clean clean) kind registry k over h in
+    (was.1.count, subst (λ done. Appends (g.W.Write.contents c.args.writer.now) (g.W.Write.contents c.loop.writer) (csv_text done)) was.1.begins was.2)))

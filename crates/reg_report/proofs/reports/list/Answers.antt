@@ -1,9 +1,13 @@
 use Rattle.std.proofs.Common.{◌≡◌, sym, subst, rules}
-use Rattle.std.proofs.lemmas.Result.{on_ok_weaker}
+use Rattle.std.proofs.lemmas.Result.{on_ok_weaker, on_err_weaker}
+use Rattle.csv.proofs.WriteFacts.{appends-none}
+use Rattle.reg_report.specs.Csv.{csv_text}
+use Rattle.reg_report.specs.StoreAnswers.{store_answer}
 use Rattle.sqlite.specs.State.{HasCleanDisk}
 use Rattle.reg_store.specs.Handing.{store_of}
 use Rattle.reg_store.specs.Spells.{SpellsWhileOpen}
 use Rattle.reg_store.specs.Stores.{state_of}
+use Rattle.reg_report.proofs.KeepingLemmas.{after_err}
 use Rattle.reg_report.proofs.reports.list.Goals as goal
 
 pub returns-in_err-lines-clause-same : goal.returns-in_err-lines-clause-same
@@ -23,3 +27,14 @@ returns-clause-same g c clean registry k over =
     let last : c.store-2-1.given.0 ≡ store_of c.put_listing.new.lines = search rules in
     subst (λ s. SpellsWhileOpen (state_of s) registry k) (sym last)
     (c.put_listing.ensures.same (subst (λ s. HasCleanDisk (state_of s)) last clean) registry k (subst (λ s. SpellsWhileOpen (state_of s) registry k) (sym c.in_ok-lines.ensures.same) over))
+
+pub returns-in_err-lines-clause-begun : goal.returns-in_err-lines-clause-begun
+unfolding csv_text
+returns-in_err-lines-clause-begun g c clean = after_err (store_answer c.from_residual.result) _ (λ registry k over. (0, appends-none (g.W.Write.contents c.args.writer.now)))
+
+pub returns-clause-begun : goal.returns-clause-begun
+returns-clause-begun g c clean =
+    let last : c.store-2-1.given.0 ≡ store_of c.put_listing.new.lines = search rules in
+    on_err_weaker (store_answer c.put_listing.result)
+    (λ begun registry k over. begun registry k (subst (λ s. SpellsWhileOpen (state_of s) registry k) (sym c.in_ok-lines.ensures.same) over) (c.in_ok-lines.ensures.starts registry))
+    (c.put_listing.ensures.begun (subst (λ s. HasCleanDisk (state_of s)) last clean))
