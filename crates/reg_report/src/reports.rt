@@ -40,7 +40,8 @@ pub fn list_subjects<W: Write, S: Alter>(
 ) -> Result<(), ReportError>
     ensures frame { KeepsListed store.old store.new result }
     ensures refused { IsTrue (has_failed store.old)
-        → (store_answer result ≡ Err Disk) × (store.new ≡ store.old) }
+        → (store_answer result ≡ Err Disk) × (store.new ≡ store.old)
+        × (W.contents writer.new ≡ W.contents writer.old) }
     ensures ok { HasCleanDisk (state_of store.new) → OnOk result ((g : Registry) (k : Kept)
         → SpellsWhileOpen (state_of store.old) g k
         → Appends (W.contents writer.old) (W.contents writer.new) (listing Subjects g)) }
@@ -71,7 +72,8 @@ pub fn list_versions<W: Write, S: Alter>(
 ) -> Result<(), ReportError>
     ensures frame { KeepsListed store.old store.new result }
     ensures refused { IsTrue (has_failed store.old)
-        → (store_answer result ≡ Err Disk) × (store.new ≡ store.old) }
+        → (store_answer result ≡ Err Disk) × (store.new ≡ store.old)
+        × (W.contents writer.new ≡ W.contents writer.old) }
     ensures ok { HasCleanDisk (state_of store.new) → OnOk result ((g : Registry) (k : Kept)
         → SpellsWhileOpen (state_of store.old) g k
         → Appends (W.contents writer.old) (W.contents writer.new) (listing Versions g)) }
@@ -102,7 +104,8 @@ pub fn list_schemas<W: Write, S: Alter>(
 ) -> Result<(), ReportError>
     ensures frame { KeepsListed store.old store.new result }
     ensures refused { IsTrue (has_failed store.old)
-        → (store_answer result ≡ Err Disk) × (store.new ≡ store.old) }
+        → (store_answer result ≡ Err Disk) × (store.new ≡ store.old)
+        × (W.contents writer.new ≡ W.contents writer.old) }
     ensures ok { HasCleanDisk (state_of store.new) → OnOk result ((g : Registry) (k : Kept)
         → SpellsWhileOpen (state_of store.old) g k
         → Appends (W.contents writer.old) (W.contents writer.new) (listing Schemas g)) }
@@ -134,7 +137,8 @@ pub fn list<W: Write, S: Alter>(
 ) -> Result<(), ReportError>
     ensures frame { KeepsListed store.old store.new result }
     ensures refused { IsTrue (has_failed store.old)
-        → (store_answer result ≡ Err Disk) × (store.new ≡ store.old) }
+        → (store_answer result ≡ Err Disk) × (store.new ≡ store.old)
+        × (W.contents writer.new ≡ W.contents writer.old) }
     ensures ok { HasCleanDisk (state_of store.new) → OnOk result ((g : Registry) (k : Kept)
         → SpellsWhileOpen (state_of store.old) g k
         → Appends (W.contents writer.old) (W.contents writer.new) (listing kind g)) }
