@@ -7,7 +7,7 @@ use Rattle.std.proofs.lemmas.List.{length-set}
 use Rattle.std.proofs.lemmas.Bool.Decides.{nat_tests}
 use Rattle.avro_nodes.specs.Nodes.{NodeView, primitive, array, mapping, union, enumeration, fixed, rec}
 use Rattle.avro_resolve.specs.Places.{NamesAll}
-use Rattle.avro_resolve.specs.Askers.{list_at, Asks, Adds}
+use Rattle.avro_resolve.specs.Askers.{list_at, IsAsker, Adds}
 
 pub nothing_asks : (i : ℕ) → Contains [] i → ⊥
 nothing_asks i h = let l = h.1 in absurd (omega arith)
@@ -54,16 +54,16 @@ same_place x i = by (x == i) refl
 
 module _ (xs : List (Vec ℕ Global)) (k : ℕ) (v : Vec ℕ Global) (a : ℕ) (l : k < length xs)
     (kept : (i : ℕ) → Contains (list_at xs k) i → Contains v.items i) (only : (i : ℕ) → Contains v.items i → Contains (list_at xs k) i ⊎ (i ≡ a)) where
-  keeps : (i p : ℕ) → Asks xs i p → Asks (set xs k v) i p
+  keeps : (i p : ℕ) → IsAsker xs i p → IsAsker (set xs k v) i p
   keeps i p h = elim (same_place p k) [
-    | inl e ↦ subst (λ (q : ℕ). Asks (set xs k v) i q) (sym e) (subst (λ (ys : List ℕ). Contains ys i) (sym (list_set xs k v l)) (kept i (subst (λ (q : ℕ). Asks xs i q) e h)))
+    | inl e ↦ subst (λ (q : ℕ). IsAsker (set xs k v) i q) (sym e) (subst (λ (ys : List ℕ). Contains ys i) (sym (list_set xs k v l)) (kept i (subst (λ (q : ℕ). IsAsker xs i q) e h)))
     | inr n ↦ subst (λ (ys : List ℕ). Contains ys i) (sym (list_set_other xs k p v n)) h
   ]
 
-  onlys : (i p : ℕ) → Asks (set xs k v) i p → Asks xs i p ⊎ (i ≡ a)
+  onlys : (i p : ℕ) → IsAsker (set xs k v) i p → IsAsker xs i p ⊎ (i ≡ a)
   onlys i p h = elim (same_place p k) [
-    | inl e ↦ elim (only i (subst (λ (ys : List ℕ). Contains ys i) (list_set xs k v l) (subst (λ (q : ℕ). Asks (set xs k v) i q) e h))) [
-      | inl g ↦ inl (subst (λ (q : ℕ). Asks xs i q) (sym e) g)
+    | inl e ↦ elim (only i (subst (λ (ys : List ℕ). Contains ys i) (list_set xs k v l) (subst (λ (q : ℕ). IsAsker (set xs k v) i q) e h))) [
+      | inl g ↦ inl (subst (λ (q : ℕ). IsAsker xs i q) (sym e) g)
       | inr g ↦ inr g
     ]
     | inr n ↦ inl (subst (λ (ys : List ℕ). Contains ys i) (list_set_other xs k p v n) h)

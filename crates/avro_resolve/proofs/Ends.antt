@@ -48,7 +48,7 @@ kept_end w r t h (R, roots, closed) =
     not_struck (left t 0 0) (member h.struck 0 0) (h.exact 0 0 here.0 here.1) (refuted w r R h.struck closed h.refutes 0 0 roots)
 
 -- the list up to the pair of the roots
-up_to : (w r : List NodeView) (before f : List Pair) (i j : ℕ) → RefutesAfter w r before f → Differ f → IsTrue (member f i j)
+pub up_to : (w r : List NodeView) (before f : List Pair) (i j : ℕ) → RefutesAfter w r before f → Differ f → IsTrue (member f i j)
     → (ps : List Pair) × RefutesAfter w r before (ps ++ (i, j) ∷ []) × Differ (ps ++ (i, j) ∷ []) × (length (ps ++ (i, j) ∷ []) ≤ length f) × ((a b : ℕ) → member (ps ++ (i, j) ∷ []) a b ≡ true → member f a b ≡ true)
 unfolding RefutesAfter Differ
 up_to w r before [] i j h d m = absurd (true≢false (sym m ∙ member-nil i j))

@@ -13,3 +13,9 @@ pub mod Ends
 pub mod Denoted
 pub mod Itself
 pub mod VerdictLemmas
+pub mod Counting
+pub mod WalkSteps
+pub mod Reaching
+pub mod MarkLemmas
+pub mod WalkLemmas
+pub mod WalkEnds

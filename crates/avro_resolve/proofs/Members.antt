@@ -60,14 +60,14 @@ member_take (suc n) (p ∷ ps) i j e = elim (or_cases (p.0 == i && p.1 == j) (me
   | inr h ↦ member_tail p ps i j (member_take n ps i j h)
 ]
 
-false_unless : (b : Bool) → (b ≡ true → ⊥) → b ≡ false
+pub false_unless : (b : Bool) → (b ≡ true → ⊥) → b ≡ false
 false_unless true h = absurd (h refl)
 false_unless false h = refl
 
 tail_false : (p : Pair) (ps : List Pair) (i j : ℕ) → member (p ∷ ps) i j ≡ false → member ps i j ≡ false
 tail_false p ps i j e = false_unless (member ps i j) (λ h. true≢false (sym (member_tail p ps i j h) ∙ e))
 
-at_pair : (p : Pair) (ps : List Pair) (i j : ℕ) → p.0 ≡ i → p.1 ≡ j → member (p ∷ ps) i j ≡ true
+pub at_pair : (p : Pair) (ps : List Pair) (i j : ℕ) → p.0 ≡ i → p.1 ≡ j → member (p ∷ ps) i j ≡ true
 at_pair p ps i j e f = subst (λ (x : ℕ). member (p ∷ ps) x j ≡ true) e (subst (λ (y : ℕ). member (p ∷ ps) p.0 y ≡ true) f (member_head p ps))
 
 apart_push : (p : Pair) (ps : List Pair) (i j : ℕ) → member ps p.0 p.1 ≡ false → member (p ∷ ps) i j ≡ false → member (ps ++ (i, j) ∷ []) p.0 p.1 ≡ false

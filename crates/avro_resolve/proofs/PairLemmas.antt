@@ -46,7 +46,7 @@ length-row_below : (i m : ℕ) → length (row_below i m) ≡ m
 length-row_below i zero = refl
 length-row_below i (suc m) = ap suc (length-row_below i m)
 
-length-pairs_below : (n m : ℕ) → length (pairs_below n m) ≡ n * m
+pub length-pairs_below : (n m : ℕ) → length (pairs_below n m) ≡ n * m
 unfolding pairs_below
 length-pairs_below zero m = omega arith
 length-pairs_below (suc n) m =

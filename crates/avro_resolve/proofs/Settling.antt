@@ -11,7 +11,7 @@ use Rattle.avro_resolve.specs.declared.table.Table.{Table}
 use Rattle.avro_resolve.specs.Resolution.{Supports}
 use Rattle.avro_resolve.specs.Places.{IsWhole}
 use Rattle.avro_resolve.specs.Witnesses.{Pair, member}
-use Rattle.avro_resolve.specs.Askers.{list_at, Asks, HasAskers}
+use Rattle.avro_resolve.specs.Askers.{list_at, IsAsker, HasAskers}
 use Rattle.avro_resolve.specs.Left.{left, count_left, held, Settled, AllSettled, Lists, Ignores}
 use Rattle.avro_resolve.proofs.Monotone.{supports_within, supports_near}
 use Rattle.avro_resolve.proofs.PairLemmas.{member_back, member_after}
@@ -36,7 +36,7 @@ still false y h = h
 other : (x y : Bool) → x ≡ false → y ≡ true → (if x then false else y) ≡ true
 other x y e h = rw e h
 
-same_pair : (a b i j : ℕ) (x : Bool) → (a == i && b == j) ≡ x → ((a ≡ i) × (b ≡ j)) ⊎ ((a == i && b == j) ≡ false)
+pub same_pair : (a b i j : ℕ) (x : Bool) → (a == i && b == j) ≡ x → ((a ≡ i) × (b ≡ j)) ⊎ ((a == i && b == j) ≡ false)
 same_pair a b i j true e = inl ((let p : a ≡ i = grind (arith, nat_tests) in p), (let q : b ≡ j = grind (arith, nat_tests) in q))
 same_pair a b i j false e = inr e
 
@@ -125,18 +125,18 @@ module _ (w r : List NodeView) (rows columns : List (Vec ℕ Global)) (t v : Tab
     (hw : HasAskers w rows) (hr : HasAskers r columns) (before : AllSettled w r t (ps ++ p ∷ [])) (lists : Lists t ps v qs)
     (seen : All (λ i. All (Settled w r v qs i) (list_at columns p.1)) (list_at rows p.0)) where
   -- a pair that does not ask for the one that was told holds none but what is still held
-  near : (i j : ℕ) → (Asks rows i p.0 → Asks columns j p.1 → ⊥) → (a b : ℕ) → Asks rows i a → Asks columns j b → held t (ps ++ p ∷ []) a b ≡ true → held v qs a b ≡ true
+  near : (i j : ℕ) → (IsAsker rows i p.0 → IsAsker columns j p.1 → ⊥) → (a b : ℕ) → IsAsker rows i a → IsAsker columns j b → held t (ps ++ p ∷ []) a b ≡ true → held v qs a b ≡ true
   near i j apart a b ra cb h = elim (or_cases (left t a b) (member (ps ++ p ∷ []) a b) h) [
     | inl g ↦ lists.held a b (or_left (left t a b) (member ps a b) g)
     | inr g ↦ elim (push_cases ps p.0 p.1 a b g) [
       | inl m ↦ lists.held a b (or_right (left t a b) (member ps a b) m)
-      | inr e ↦ absurd (apart (subst (λ (x : ℕ). Asks rows i x) e.0 ra) (subst (λ (y : ℕ). Asks columns j y) e.1 cb))
+      | inr e ↦ absurd (apart (subst (λ (x : ℕ). IsAsker rows i x) e.0 ra) (subst (λ (y : ℕ). IsAsker columns j y) e.1 cb))
     ]
   ]
 
-  untouched : (i j : ℕ) → i < length w → j < length r → (Asks rows i p.0 → Asks columns j p.1 → ⊥) → Settled w r v qs i j
+  untouched : (i j : ℕ) → i < length w → j < length r → (IsAsker rows i p.0 → IsAsker columns j p.1 → ⊥) → Settled w r v qs i j
   untouched i j li lj apart l =
-      supports_near w r (λ x. Asks rows i x) (λ y. Asks columns j y) (held t (ps ++ p ∷ [])) (held v qs) (near i j apart) i j (hw.own i li) (hr.own j lj)
+      supports_near w r (λ x. IsAsker rows i x) (λ y. IsAsker columns j y) (held t (ps ++ p ∷ [])) (held v qs) (near i j apart) i j (hw.own i li) (hr.own j lj)
       (λ a e. hw.named i a e) (λ b e. hr.named j b e) (before i j li lj (lists.fewer i j l))
 
   pub told : AllSettled w r v qs

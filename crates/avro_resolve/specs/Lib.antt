@@ -6,3 +6,5 @@ pub mod Askers
 pub mod Witnesses
 pub mod Left
 pub mod Verdicts
+pub mod Asking
+pub mod Walking

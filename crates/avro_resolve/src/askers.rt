@@ -4,7 +4,7 @@ ghost use Rattle.std.specs.Prelude.{◌≡◌, ◌⊎◌, ◌<◌, ℕ, All, Con
 ghost use Rattle.avro_nodes.specs.Nodes.{field_view, node_view};
 ghost use Rattle.avro_resolve.specs.Places.{NamesAll, Names, IsWhole};
 ghost use Rattle.avro_resolve.specs.Sides.{nodes_of};
-ghost use Rattle.avro_resolve.specs.Askers.{list_at, Asks, Adds, HasAskers};
+ghost use Rattle.avro_resolve.specs.Askers.{list_at, IsAsker, Adds, HasAskers};
 
 use crate::sides::Side;
 use avro_nodes::{Field, Node};
@@ -26,7 +26,7 @@ fn add(list: &mut Vec<u32>, asker: u32) -> Result<(), AllocError>
 fn note(lists: &mut Vec<Vec<u32>>, place: u32, asker: u32) -> Result<(), AllocError>
     requires { place < length lists.old.items }
     ensures adds { OnOk result (Adds lists.old.items lists.new.items asker) }
-    ensures there { OnOk result (Asks lists.new.items asker place) }
+    ensures there { OnOk result (IsAsker lists.new.items asker place) }
 {
     add(&mut lists[place as usize], asker)?;
     Ok(())
@@ -36,7 +36,7 @@ fn note(lists: &mut Vec<Vec<u32>>, place: u32, asker: u32) -> Result<(), AllocEr
 fn note_places(lists: &mut Vec<Vec<u32>>, places: &[u32], asker: u32) -> Result<(), AllocError>
     requires { All (λ p. p < length lists.old.items) places.now }
     ensures adds { OnOk result (Adds lists.old.items lists.new.items asker) }
-    ensures there { OnOk result (All (Asks lists.new.items asker) places.now) }
+    ensures there { OnOk result (All (IsAsker lists.new.items asker) places.now) }
 {
     for place in places {
         note(lists, *place, asker)?;
@@ -48,7 +48,7 @@ fn note_places(lists: &mut Vec<Vec<u32>>, places: &[u32], asker: u32) -> Result<
 fn note_fields(lists: &mut Vec<Vec<u32>>, fields: &[Field], asker: u32) -> Result<(), AllocError>
     requires { All (λ f. f.place < length lists.old.items) (map field_view fields.now) }
     ensures adds { OnOk result (Adds lists.old.items lists.new.items asker) }
-    ensures there { OnOk result (All (λ f. Asks lists.new.items asker f.place)
+    ensures there { OnOk result (All (λ f. IsAsker lists.new.items asker f.place)
         (map field_view fields.now)) }
 {
     for field in fields {
@@ -61,7 +61,7 @@ fn note_fields(lists: &mut Vec<Vec<u32>>, fields: &[Field], asker: u32) -> Resul
 fn note_node(lists: &mut Vec<Vec<u32>>, node: &Node, asker: u32) -> Result<(), AllocError>
     requires { Names (length lists.old.items) (node_view node.now) }
     ensures adds { OnOk result (Adds lists.old.items lists.new.items asker) }
-    ensures there { OnOk result (NamesAll (Asks lists.new.items asker) (node_view node.now)) }
+    ensures there { OnOk result (NamesAll (IsAsker lists.new.items asker) (node_view node.now)) }
 {
     match node {
         Node::Array { items, .. } => note(lists, *items, asker),
@@ -75,7 +75,7 @@ fn note_node(lists: &mut Vec<Vec<u32>>, node: &Node, asker: u32) -> Result<(), A
 /// So many empty lists.
 fn empty_lists(alloc: Global, count: u32) -> Result<Vec<Vec<u32>>, AllocError>
     ensures long { IfOk result (λ v. length v.items ≡ count) }
-    ensures empty { IfOk result (λ v. (i place : ℕ) → Asks v.items i place → ⊥) }
+    ensures empty { IfOk result (λ v. (i place : ℕ) → IsAsker v.items i place → ⊥) }
 {
     let mut lists: Vec<Vec<u32>> = Vec::new(alloc);
     for _i in 0..count {

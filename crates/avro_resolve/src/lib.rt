@@ -8,12 +8,14 @@ mod kinds;
 mod looking;
 mod lookups;
 mod names;
+mod recursion;
 mod resolving;
 mod sides;
 mod striking;
 mod support;
 mod sweeping;
 mod table;
+mod walk;
 
 pub use avro_nodes::OutOfMemory;
 pub use resolving::{Verdict, resolution_is_decided, resolves, resolves_itself, resolves_plain};

@@ -3,10 +3,13 @@
 ghost use Rattle.std.specs.Prelude.{◌≡◌, ◌<◌, ◌≤◌, ◌*◌, ◌↔◌, List, length, IsTrue, IfOk, false};
 ghost use Rattle.avro_nodes.specs.Nodes.{NodeView, nodes_view};
 ghost use Rattle.avro_resolve.specs.Resolution.{Resolves};
-ghost use Rattle.avro_resolve.specs.Witnesses.{HasClosedSet, HasRefutation};
+ghost use Rattle.avro_resolve.specs.Witnesses.{Pair, HasClosedSet, HasRefutation};
+ghost use Rattle.avro_resolve.specs.Asking.{AreReached, HoldsAsked};
 ghost use Rattle.avro_resolve.specs.Verdicts.{is_resolved};
 
+use crate::recursion::walk_roots;
 use crate::striking::largest_closed;
+use crate::walk::Answer;
 use avro_nodes::OutOfMemory;
 use avro_schema::Schema;
 use std::alloc::Global;
@@ -16,7 +19,7 @@ use std::alloc::Global;
 pub struct Verdict {
     /// whether the writer's schema resolves with the reader's
     pub yes: bool,
-    /// how many pairs of places were looked at; as long as pairs are struck out, all of them
+    /// how many pairs of places were opened
     pub visits: u128,
 }
 
@@ -30,8 +33,10 @@ pub fn resolves_plain(alloc: Global, writer: &Schema, reader: &Schema) -> Result
 }
 
 /// Whether the writer's schema resolves with the reader's (Avro 1.11 specification, Schema
-/// Resolution), and how many pairs of places were looked at for it: all of them. A small number
-/// comes with a small witness: a closed set, or a list of pairs that refutes the roots.
+/// Resolution), by opening the pair of the roots, and how many pairs were opened: at most the square
+/// of the number of those that the roots reach. A small number comes with a small witness: a closed
+/// set, or a list of pairs that refutes the roots. Where more than a thousand pairs would be open at
+/// once, the answer comes by striking out.
 pub fn resolves(alloc: Global, writer: &Schema, reader: &Schema) -> Result<Verdict, OutOfMemory>
     ensures yes { IfOk result (λ v. IsTrue v.yes ↔ Resolves (nodes_view writer.now) (nodes_view reader.now)) }
     ensures at_least { IfOk result (λ v. 1 ≤ v.visits) }
@@ -39,13 +44,21 @@ pub fn resolves(alloc: Global, writer: &Schema, reader: &Schema) -> Result<Verdi
         → HasClosedSet (nodes_view writer.now) (nodes_view reader.now) v.visits) }
     ensures refuted { IfOk result (λ v. v.yes ≡ false → v.visits < 1000
         → HasRefutation (nodes_view writer.now) (nodes_view reader.now) v.visits) }
-    ensures all_pairs { IfOk result (λ v. v.visits ≡ length writer.now * length reader.now) }
+    ensures reached { IfOk result (λ v. (ps : List Pair) → AreReached (nodes_view writer.now) (nodes_view reader.now) ps
+        → v.visits ≤ length ps * length ps) }
+    // the pairs that the roots reach are in each list that holds what is asked
+    ensures at_most { IfOk result (λ v. (ps : List Pair) → HoldsAsked (nodes_view writer.now) (nodes_view reader.now) ps
+        → v.visits ≤ length ps * length ps) }
 {
-    let left = largest_closed(alloc, writer, reader)?;
-    Ok(Verdict {
-        yes: left.has(0, 0),
-        visits: writer.places() as u128 * reader.places() as u128,
-    })
+    let (answer, visits) = walk_roots(alloc, writer, reader)?;
+    match answer {
+        Answer::Yes => Ok(Verdict { yes: true, visits }),
+        Answer::No => Ok(Verdict { yes: false, visits }),
+        Answer::TooDeep => {
+            let yes = resolves_plain(alloc, writer, reader)?;
+            Ok(Verdict { yes, visits })
+        }
+    }
 }
 
 /// Every schema resolves with itself: a law of the rules, in whose proof the pairs of a place with

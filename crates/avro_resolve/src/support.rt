@@ -3,8 +3,8 @@
 ghost use Rattle.std.specs.Prelude.{◌≡◌, ◌≤◌, IfSome, None, get_or, ◌<◌, ◌↔◌, ◌⊎◌, ℕ, false, map, option_map, string_bytes, length, All, Any, Contains, IsSome, IsTrue};
 ghost use Rattle.std.specs.List.{list_any, list_all};
 ghost use Rattle.std.specs.Str.{bytes_eq};
-ghost use Rattle.avro_nodes.specs.Nodes.{field_view, node_view, texts_view};
-ghost use Rattle.avro_resolve.specs.Resolution.{Pairs, Readable, Fits, Supports};
+ghost use Rattle.avro_nodes.specs.Nodes.{field_view, named_view, node_view, texts_view};
+ghost use Rattle.avro_resolve.specs.Resolution.{Pairs, NameMatch, Readable, Fits, Supports};
 ghost use Rattle.avro_resolve.specs.Lookups.{FindsFields, FindsTexts, IsLookupOf};
 ghost use Rattle.avro_resolve.specs.Places.{Names};
 ghost use Rattle.avro_resolve.specs.Sides.{nodes_of, IsSide};
@@ -16,7 +16,7 @@ use crate::lookups::Lookup;
 use crate::names::{has_text, names_match};
 use crate::sides::Side;
 use crate::table::Table;
-use avro_nodes::{Field, Node};
+use avro_nodes::{Field, Named, Node};
 
 /// Whether each branch of a writer's union is left with the reader's place.
 fn all_left(places: &[u32], j: u32, table: &Table) -> bool
@@ -118,6 +118,31 @@ fn symbols_fit(
     fallback.is_some() || all_known(symbols, known, lookup)
 }
 
+/// Whether a writer's enum is read as the reader's: their names match, and each symbol may come.
+pub fn enums_fit(
+    named: &Named,
+    symbols: &[String],
+    wanted: &Named,
+    known: &[String],
+    lookup: Option<&Lookup>,
+    fallback: &Option<String>,
+) -> bool
+    requires { IfSome lookup (λ t. FindsTexts t.now known.now) }
+    ensures { IsTrue result ↔ (NameMatch (named_view named.now) (named_view wanted.now)
+        × (IsSome (option_map string_bytes fallback.now)
+        ⊎ All (Contains (texts_view known.now)) (texts_view symbols.now))) }
+{
+    names_match(named, wanted) && symbols_fit(symbols, known, lookup, fallback)
+}
+
+/// Whether a writer's fixed is read as the reader's: their names match, and their sizes are the
+/// same.
+pub fn fixed_fit(named: &Named, size: u32, wanted: &Named, wanted_size: u32) -> bool
+    ensures { IsTrue result ↔ (NameMatch (named_view named.now) (named_view wanted.now) × (size ≡ wanted_size)) }
+{
+    names_match(named, wanted) && size == wanted_size
+}
+
 /// Whether what is left supports the pair of these nodes, by the first case that fits (Avro 1.11
 /// specification, Schema Resolution).
 fn fits(
@@ -153,7 +178,7 @@ fn fits(
                 fallback,
                 ..
             },
-        ) => names_match(named, wanted) && symbols_fit(symbols, known, symbols_known, fallback),
+        ) => enums_fit(named, symbols, wanted, known, symbols_known, fallback),
         (
             Node::Fixed { named, size, .. },
             Node::Fixed {
@@ -161,7 +186,7 @@ fn fits(
                 size: wanted_size,
                 ..
             },
-        ) => names_match(named, wanted) && *size == *wanted_size,
+        ) => fixed_fit(named, *size, wanted, *wanted_size),
         (
             Node::Rec { named, fields, .. },
             Node::Rec {

@@ -5,7 +5,7 @@ use Rattle.std.proofs.lemmas.List.{length-map}
 use Rattle.std.proofs.lemmas.Option.{slice_get_within}
 use Rattle.avro_nodes.specs.Nodes.{NodeView, node_view, nodes_view}
 use Rattle.avro_resolve.specs.Places.{NamesAll, Names}
-use Rattle.avro_resolve.specs.Askers.{Asks, Adds}
+use Rattle.avro_resolve.specs.Askers.{IsAsker, Adds}
 use Rattle.avro_resolve.proofs.Monotone.{at_place}
 use Rattle.avro_resolve.proofs.AskerLemmas.{adds_then, named_on}
 use Rattle.avro_resolve.proofs.askers.askers.Goals as goal
@@ -37,14 +37,14 @@ loop-i-preserved c =
       within = λ i p l. elim (both.only i p l) [ inl m ↦ inv.within i p m | inr e ↦ subst (λ (x : ℕ). x < length c.args.side.now.schema.now) (sym e) below ];
       own = λ i l. elim (cases_lt i at) [
         | inl g ↦ both.kept i i (inv.own i g)
-        | inr g ↦ (let e : at ≡ i = omega arith in subst (λ (x : ℕ). Asks zs x x) e (h.kept at at c.in_ok-note.ensures.there))
+        | inr g ↦ (let e : at ≡ i = omega arith in subst (λ (x : ℕ). IsAsker zs x x) e (h.kept at at c.in_ok-note.ensures.there))
       ];
       named = λ i a l e. elim (cases_lt i at) [
-        | inl g ↦ named_on (Asks xs i) (Asks zs i) (λ p. both.kept i p) a (inv.named i a g e)
+        | inl g ↦ named_on (IsAsker xs i) (IsAsker zs i) (λ p. both.kept i p) a (inv.named i a g e)
         | inr g ↦ (let s : at ≡ i = omega arith in
             let known : slice_get (nodes_view c.args.side.now.schema.now) i ≡ Some node = subst (λ (x : ℕ). slice_get (nodes_view c.args.side.now.schema.now) x ≡ Some node) s c.node.ensures.node in
             let same : node ≡ a = cc in
-            subst (λ (b : NodeView). NamesAll (Asks zs i) b) same (subst (λ (x : ℕ). NamesAll (Asks zs x) node) s c.in_ok-note_node.ensures.there))
+            subst (λ (b : NodeView). NamesAll (IsAsker zs i) b) same (subst (λ (x : ℕ). NamesAll (IsAsker zs x) node) s c.in_ok-note_node.ensures.there))
       ];
     }
 

@@ -3,7 +3,7 @@ use Rattle.std.proofs.lemmas.Bool.{cases_lt}
 use Rattle.std.proofs.lemmas.List.Elements.{All-map}
 use Rattle.avro_nodes.specs.declared.node.Field.{Field}
 use Rattle.avro_nodes.specs.Nodes.{FieldView, field_view}
-use Rattle.avro_resolve.specs.Askers.{Asks}
+use Rattle.avro_resolve.specs.Askers.{IsAsker}
 use Rattle.avro_resolve.proofs.SupportLemmas.{all_of}
 use Rattle.avro_resolve.proofs.AskerLemmas.{adds_then, get_or_any}
 use Rattle.avro_resolve.proofs.askers.note_fields.Goals as goal
@@ -24,11 +24,11 @@ loop-field-preserved c =
       there = λ k d l. elim (cases_lt k at) [
         | inl g ↦ more.kept a (get_or fs k d).place (inv.there k d g)
         | inr g ↦ (let e : at ≡ k = omega arith in
-            subst (λ (x : ℕ). Asks xs a (get_or fs x d).place) e (subst (λ (g : Field). Asks xs a g.place) (c.field-item.is ∙ get_or_any fs at f d within) c.in_ok-note.ensures.there))
+            subst (λ (x : ℕ). IsAsker xs a (get_or fs x d).place) e (subst (λ (g : Field). IsAsker xs a g.place) (c.field-item.is ∙ get_or_any fs at f d within) c.in_ok-note.ensures.there))
       ];
     }
 
 pub returns-clause-there : goal.returns-clause-there
 returns-clause-there c =
     let fs = c.args.fields.now in let xs = c.loop-field.lists.items in let past : length fs ≤ c.loop-field.field-index = c.loop-field-test.false in
-    All-map (λ (g : FieldView). Asks xs c.args.asker g.place) field_view fs (λ k d l. c.loop-field.invariant.there k d (omega arith))
+    All-map (λ (g : FieldView). IsAsker xs c.args.asker g.place) field_view fs (λ k d l. c.loop-field.invariant.there k d (omega arith))

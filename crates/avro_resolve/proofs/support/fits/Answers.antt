@@ -12,22 +12,18 @@ pub all_readable-requires-clause-wanted_in : goal.all_readable-requires-clause-w
 all_readable-requires-clause-wanted_in c =
     let names = rw c.in-Rec-Rec.is-1 at c.requires.b_in in
     let below : All (λ (f : Field). f.place < c.args.table.now.readers) c.in-Rec-Rec.wanted_fields.items = all_of (λ (f : FieldView). f.place < c.args.table.now.readers) field_view c.in-Rec-Rec.wanted_fields.items names in
-    subst (λ (fs : List Field). All (λ (f : Field). f.place < c.args.table.now.readers) fs) (sym c.deref-then-names_match-3-2.ensures.value) below
+    subst (λ (fs : List Field). All (λ (f : Field). f.place < c.args.table.now.readers) fs) (sym c.deref-then-names_match-2.ensures.value) below
+
+pub returns-in-Enum-Enum : goal.returns-in-Enum-Enum
+returns-in-Enum-Enum c =
+    let told = rw (c.deref-in-Enum-Enum.ensures.value, c.deref-in-Enum-Enum-2.ensures.value) at c.enums_fit.ensures in
+    rw (c.in-Enum-Enum.is-0, c.in-Enum-Enum.is-1) told
 
 pub returns-then-names_match : goal.returns-then-names_match
 returns-then-names_match c =
-    let names = c.names_match.ensures.0 c.if-names_match.true in
-    let told = rw (c.deref-then-names_match.ensures.value, c.deref-then-names_match-2.ensures.value) at c.symbols_fit.ensures in
-    rw (c.in-Enum-Enum.is-0, c.in-Enum-Enum.is-1) (
-      (λ h. (names, told.0 h)),
-      (λ h. told.1 h.1),
-    )
-
-pub returns-then-names_match-3 : goal.returns-then-names_match-3
-returns-then-names_match-3 c =
     let t = left c.args.table.now in let fs = map field_view c.in-Rec-Rec.fields.items in let gs = c.in-Rec-Rec.wanted_fields.items in
-    let names = c.names_match-in-Rec-Rec.ensures.0 c.if-names_match-3.true in
-    let told = rw (c.deref-then-names_match-3.ensures.value, c.deref-then-names_match-3-2.ensures.value) at c.all_readable.ensures in
+    let names = c.names_match.ensures.0 c.if-names_match.true in
+    let told = rw (c.deref-then-names_match.ensures.value, c.deref-then-names_match-2.ensures.value) at c.all_readable.ensures in
     rw (c.in-Rec-Rec.is-0, c.in-Rec-Rec.is-1) (
       (λ h. (names, All-map (Readable t fs) field_view gs (told.0 h))),
       (λ h. told.1 (all_of (Readable t fs) field_view gs h.1)),

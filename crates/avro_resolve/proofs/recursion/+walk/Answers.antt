@@ -1,0 +1,178 @@
+use Rattle.std.proofs.Common.{rules, ◌≡◌, ℕ, ◌+◌, ◌<◌, ◌≤◌, List, false, not, true≢false, length, map, take, take_all, get_or, All, IsTrue, sym, subst, ap, ◌∙◌, arith}
+use Rattle.std.proofs.lemmas.List.{get_or_default}
+use Rattle.std.specs.Prelude.{IfSome}
+use Rattle.std.proofs.lemmas.List.Elements.{All-map, All-more, All-weaker}
+use Rattle.serde_json.specs.View.{view}
+use Rattle.avro_nodes.specs.declared.node.Field.{Field}
+use Rattle.avro_nodes.specs.Nodes.{FieldView, node_view, nodes_view, field_view}
+use Rattle.avro_resolve.specs.Resolution.{Readable}
+use Rattle.avro_resolve.specs.Lookups.{FindsFields}
+use Rattle.avro_resolve.specs.Asking.{IsSourceAsked}
+use Rattle.avro_resolve.specs.Witnesses.{Pair, member, without}
+use Rattle.avro_resolve.proofs.Monotone.{supports_at}
+use Rattle.avro_resolve.proofs.SupportLemmas.{all_of}
+use Rattle.avro_resolve.proofs.WalkLemmas.{asked_on, grown2, within2, readable_source, readable_default, held_more, ask_yes, ask_no, not_failed, not_without, marks_at, tells_leaf, tells_on, told_ok, any_never, fields_asked, some_mapped}
+use Rattle.avro_resolve.proofs.recursion.+walk.Goals as goal
+use Rattle.avro_resolve.proofs.recursion.+walk.Goals.{all_readable-in-Some+in_ok-ask-in-Some+in-Yes, all_readable-in-None+else-is_none}
+
+pub ask-fits-requires : goal.ask-fits-requires
+ask-fits-requires t c =
+    let a = asked_on (nodes_view c.args.writer.now.schema.now) (nodes_view c.args.reader.now.schema.now) c.args.i c.args.j (node_view c.node_in-a.result.now) (node_view c.node_in-b.result.now) c.node_in-a.ensures.at c.node_in-b.ensures.at c.requires.asked in
+    search rules
+
+pub ask-fail_pair-requires-clause-not_failed : goal.ask-fail_pair-requires-clause-not_failed
+ask-fail_pair-requires-clause-not_failed t c =
+    let w = nodes_view c.args.writer.now.schema.now in let r = nodes_view c.args.reader.now.schema.now in
+    let told = rw c.in-No.is at c.in_ok-fits.ensures in
+    not_failed w r (c.args.depth + 1) c.args.walk.now c.open_pair.new.walk c.fits.new.walk c.args.i c.args.j c.in_ok-open_pair.ensures.assumed told.0 told.1
+
+pub ask-returns-in-Yes : goal.ask-returns-in-Yes
+ask-returns-in-Yes t c =
+    let w = nodes_view c.args.writer.now.schema.now in let r = nodes_view c.args.reader.now.schema.now in let v = c.fits.new.walk in
+    let told = rw c.in-Yes.is at c.in_ok-fits.ensures in
+    ask_yes w r c.args.depth c.args.walk.now c.open_pair.new.walk v c.args.i c.args.j c.requires.ready c.in_ok-open_pair.ensures.assumed c.in_ok-open_pair.ensures.failed told.0 told.1
+    ((supports_at w r (member v.assumed.items) c.args.i c.args.j (node_view c.node_in-a.result.now) (node_view c.node_in-b.result.now) c.node_in-a.ensures.at c.node_in-b.ensures.at).1 told.2)
+
+pub ask-returns-in_ok-fail_pair-in-No : goal.ask-returns-in_ok-fail_pair-in-No
+ask-returns-in_ok-fail_pair-in-No t c =
+    let w = nodes_view c.args.writer.now.schema.now in let r = nodes_view c.args.reader.now.schema.now in let s = c.args.walk.now in let v = c.fits.new.walk in let x = c.fail_pair.new.walk in
+    let told = rw c.in-No.is at c.in_ok-fits.ensures in
+    let out : member s.assumed.items c.args.i c.args.j ≡ false = sym (ap (λ (ps : List Pair). member ps c.args.i c.args.j) c.deref.ensures.value) ∙ sym c.is_marked.ensures ∙ c.if-is_marked.false in
+    let mark : c.len-mark.result ≡ length s.assumed.items = omega (arith, s.assumed.ok.0) in
+    let after = c.in_ok-fail_pair-in-No.ensures in
+    ask_no w r c.args.depth s c.open_pair.new.walk v x c.args.i c.args.j c.requires.ready c.requires.asked out c.in_ok-open_pair.ensures.assumed c.in_ok-open_pair.ensures.failed told.0 told.1
+    (λ h. told.2 ((supports_at w r (without v.failed.items) c.args.i c.args.j (node_view c.node_in-a.result.now) (node_view c.node_in-b.result.now) c.node_in-a.ensures.at c.node_in-b.ensures.at).0 h))
+    (subst (λ (n : ℕ). x.assumed.items ≡ take n v.assumed.items) mark after.assumed) after.failed after.visits
+    (marks_at _ _ (length w) (length r) x.unassumed x.assumed.items after.assumed_marks told.0.assumed.writers told.0.assumed.readers)
+    (marks_at _ _ (length w) (length r) x.unfailed x.failed.items after.failed_marks told.0.failed.writers told.0.failed.readers)
+
+pub fits-all_readable-requires : goal.fits-all_readable-requires
+fits-all_readable-requires t c =
+    let w = nodes_view c.args.writer.now.schema.now in let r = nodes_view c.args.reader.now.schema.now in let fs = c.in-Rec-Rec.fields.items in let gs = c.in-Rec-Rec.wanted_fields.items in
+    let e = sym c.deref-in-Rec-Rec.ensures.value in let e2 = sym c.deref-in-Rec-Rec-2.ensures.value in
+    let sources : IfSome c.lookup-sources.result (λ t. FindsFields t.now c.deref-in-Rec-Rec.result.now) = subst (λ (xs : List Field). IfSome c.lookup-sources.result (λ t. FindsFields t.now xs)) e (rw c.in-Rec-Rec.is-0 at c.lookup-sources.ensures) in
+    let fields_in : All (λ f. f.place < length w) (map field_view c.deref-in-Rec-Rec.result.now) = subst (λ (xs : List Field). All (λ f. f.place < length w) (map field_view xs)) e (rw c.in-Rec-Rec.is-0 at c.requires.a_in) in
+    let wanted_in : All (λ (f : Field). f.place < length r) c.deref-in-Rec-Rec-2.result.now = subst (λ (xs : List Field). All (λ (f : Field). f.place < length r) xs) e2 (all_of (λ (f : FieldView). f.place < length r) field_view gs (rw c.in-Rec-Rec.is-1 at c.requires.b_in)) in
+    let asked0 : All (λ (f : Field). IsSourceAsked w r (map field_view fs) (field_view f)) gs = fields_asked w r (map field_view fs) gs (rw (c.in-Rec-Rec.is-0, c.in-Rec-Rec.is-1) at c.requires.asked) in
+    let asked : All (λ (f : Field). IsSourceAsked w r (map field_view c.deref-in-Rec-Rec.result.now) (field_view f)) c.deref-in-Rec-Rec-2.result.now =
+    subst (λ (xs : List Field). All (λ (f : Field). IsSourceAsked w r (map field_view xs) (field_view f)) c.deref-in-Rec-Rec-2.result.now) e (subst (λ (ys : List Field). All (λ (f : Field). IsSourceAsked w r (map field_view fs) (field_view f)) ys) e2 asked0) in
+    search rules
+
+pub fits-returns-in-Primitive-Primitive : goal.fits-returns-in-Primitive-Primitive
+fits-returns-in-Primitive-Primitive t c =
+    let s = c.args.walk.now in let told = c.promotes.ensures in
+    rw (c.in-Primitive-Primitive.is-0, c.in-Primitive-Primitive.is-1) (tells_leaf _ _ c.args.depth s _ _ c.promotes.result c.yes_if.result c.requires.ready c.yes_if.ensures.yes c.yes_if.ensures.no told.0 (λ e h. true≢false (sym (told.1 h) ∙ e)))
+
+pub fits-returns-in-Enum-Enum : goal.fits-returns-in-Enum-Enum
+fits-returns-in-Enum-Enum t c =
+    let s = c.args.walk.now in let told = rw (c.deref-in-Enum-Enum.ensures.value, c.deref-in-Enum-Enum-2.ensures.value) at c.enums_fit-fit.ensures in
+    rw (c.in-Enum-Enum.is-0, c.in-Enum-Enum.is-1) (tells_leaf _ _ c.args.depth s _ _ c.enums_fit-fit.result c.yes_if-in-Enum-Enum.result c.requires.ready c.yes_if-in-Enum-Enum.ensures.yes c.yes_if-in-Enum-Enum.ensures.no told.0 (λ e h. true≢false (sym (told.1 h) ∙ e)))
+
+pub fits-returns-in-Fixed-Fixed : goal.fits-returns-in-Fixed-Fixed
+fits-returns-in-Fixed-Fixed t c =
+    let s = c.args.walk.now in let told = c.fixed_fit.ensures in
+    rw (c.in-Fixed-Fixed.is-0, c.in-Fixed-Fixed.is-1) (tells_leaf _ _ c.args.depth s _ _ c.fixed_fit.result c.yes_if-in-Fixed-Fixed.result c.requires.ready c.yes_if-in-Fixed-Fixed.ensures.yes c.yes_if-in-Fixed-Fixed.ensures.no told.0 (λ e h. true≢false (sym (told.1 h) ∙ e)))
+
+pub fits-returns-else-not-names_match : goal.fits-returns-else-not-names_match
+fits-returns-else-not-names_match t c =
+    let w = nodes_view c.args.writer.now.schema.now in let r = nodes_view c.args.reader.now.schema.now in let s = c.args.walk.now in let v = c.all_readable.new.walk in
+    let fs = map field_view c.in-Rec-Rec.fields.items in let gs = c.in-Rec-Rec.wanted_fields.items in
+    let names = c.names_match.ensures.0 c.if-not-names_match.false in
+    let told = rw (c.deref-in-Rec-Rec.ensures.value, c.deref-in-Rec-Rec-2.ensures.value) at c.all_readable.ensures in
+    rw (c.in-Rec-Rec.is-0, c.in-Rec-Rec.is-1) (told_ok c.all_readable.result _ _ (λ answer. tells_on w r c.args.depth s v _ _ _ _ (λ h. (names, All-map (Readable (member v.assumed.items) fs) field_view gs h)) (λ l h. any_never (Readable (without v.failed.items) fs) gs l h.1) answer) told)
+
+pub all_asked-loop-p-preserved : goal.all_asked-loop-p-preserved
+all_asked-loop-p-preserved t c =
+    let w = nodes_view c.args.writer.now.schema.now in let r = nodes_view c.args.reader.now.schema.now in let s = c.args.walk.now in let u = c.loop-p.walk in let v = c.ask.new.walk in
+    let told = rw c.in-Yes.is at c.in_ok-ask.ensures in
+    let l : c.loop-p.p-index < length c.args.places.now = omega arith in
+    record {
+      ready = told.0;
+      grown = grown2 w r s u v c.loop-p.invariant.grown told.1;
+      held = All-more (λ p. IsTrue (member v.assumed.items p c.args.j)) c.args.places.now c.loop-p.p-index 0 l
+          (All-weaker (λ p. IsTrue (member u.assumed.items p c.args.j)) (λ p. IsTrue (member v.assumed.items p c.args.j)) (λ p. within2 w r u v told.1 p c.args.j) (take c.loop-p.p-index c.args.places.now) c.loop-p.invariant.held) told.2;
+    }
+
+pub all_asked-returns : goal.all_asked-returns
+all_asked-returns t c =
+    let l : length c.args.places.now ≤ c.loop-p.p-index = omega arith in
+    (c.loop-p.invariant.ready, c.loop-p.invariant.grown, subst (λ (x : List ℕ). All (λ p. IsTrue (member c.loop-p.walk.assumed.items p c.args.j)) x) (take_all c.loop-p.p-index c.args.places.now l) c.loop-p.invariant.held)
+
+pub any_asked-loop-p-preserved : goal.any_asked-loop-p-preserved
+any_asked-loop-p-preserved t c =
+    let w = nodes_view c.args.writer.now.schema.now in let r = nodes_view c.args.reader.now.schema.now in let s = c.args.walk.now in let u = c.loop-p.walk in let v = c.ask.new.walk in
+    let told = rw c.in-No.is at c.in_ok-ask.ensures in
+    let l : c.loop-p.p-index < length c.args.places.now = omega arith in
+    record {
+      ready = told.0;
+      grown = grown2 w r s u v c.loop-p.invariant.grown told.1;
+      lost = All-more (λ p. IsTrue (member v.failed.items c.args.i p)) c.args.places.now c.loop-p.p-index 0 l
+          (All-weaker (λ p. IsTrue (member u.failed.items c.args.i p)) (λ p. IsTrue (member v.failed.items c.args.i p)) (λ p. told.1.failed_kept c.args.i p) (take c.loop-p.p-index c.args.places.now) c.loop-p.invariant.lost) told.2.1;
+    }
+
+pub any_asked-returns : goal.any_asked-returns
+any_asked-returns t c =
+    let l : length c.args.places.now ≤ c.loop-p.p-index = omega arith in
+    (c.loop-p.invariant.ready, c.loop-p.invariant.grown, subst (λ (x : List ℕ). All (λ p. IsTrue (member c.loop-p.walk.failed.items c.args.i p)) x) (take_all c.loop-p.p-index c.args.places.now l) c.loop-p.invariant.lost)
+
+pub any_asked-returns-in-Yes : goal.any_asked-returns-in-Yes
+any_asked-returns-in-Yes t c =
+    let w = nodes_view c.args.writer.now.schema.now in let r = nodes_view c.args.reader.now.schema.now in let s = c.args.walk.now in let u = c.loop-p.walk in let v = c.ask.new.walk in
+    let told = rw c.in-Yes.is at c.in_ok-ask.ensures in
+    let l : c.loop-p.p-index < length c.args.places.now = omega arith in
+    (told.0, grown2 w r s u v c.loop-p.invariant.grown told.1, (c.loop-p.p-index, get_or c.args.places.now c.loop-p.p-index 0, l, get_or_default c.args.places.now c.loop-p.p-index (get_or c.args.places.now c.loop-p.p-index 0) 0 l, told.2))
+
+pub all_readable-returns-in-No : goal.all_readable-returns-in-No
+all_readable-returns-in-No t c =
+    let w = nodes_view c.args.writer.now.schema.now in let r = nodes_view c.args.reader.now.schema.now in let s = c.args.walk.now in let u = c.loop-f.walk in let v = c.ask.new.walk in
+    let told = rw c.in-No.is at c.in_ok-ask-in-Some.ensures in let f = c.f-item.result in (
+      told.0,
+      grown2 w r s u v c.loop-f.invariant.grown told.1,
+      (
+        c.loop-f.f-index,
+        f,
+        c.loop-f-test.true,
+        sym c.f-item.is,
+        (λ h. not_without v.failed.items c.in-Some.p f.place told.2.1 ((readable_source (without v.failed.items) (map field_view c.args.fields.now) (field_view f) c.in-Some.p c.in-Some.ensures.source).0 h)),
+      ),
+    )
+
+pub all_readable-returns-then-is_none : goal.all_readable-returns-then-is_none
+all_readable-returns-then-is_none t c =
+    let u = c.loop-f.walk in let f = c.f-item.result in (
+      c.loop-f.invariant.ready,
+      c.loop-f.invariant.grown,
+      (
+        c.loop-f.f-index,
+        f,
+        c.loop-f-test.true,
+        sym c.f-item.is,
+        (λ h. true≢false (sym (sym (some_mapped view f.value) ∙ (readable_default (without u.failed.items) (map field_view c.args.fields.now) (field_view f) c.in-None.ensures.none).0 h) ∙ c.is_none.ensures ∙ ap not c.if-is_none.true)),
+      ),
+    )
+
+pub all_readable-loop-f-preserved : goal.all_readable-loop-f-preserved
+all_readable-loop-f-preserved t c =
+    let w' = nodes_view c.args.writer.now.schema.now in let r' = nodes_view c.args.reader.now.schema.now in let s = c.args.walk.now in let u = c.loop-f.walk in
+    let fs = map field_view c.args.fields.now in let gs = c.args.wanted.now in let f = c.f-item.result in
+    elim c.match-source_in.branch [
+      | all_readable-in-Some+in_ok-ask-in-Some+in-Yes w ↦ (
+          let told = rw w.in-Yes.is at w.in_ok-ask-in-Some.ensures in
+          let v = w.ask.new.walk in
+          rw w.walk-is (record {
+            ready = told.0;
+            grown = grown2 w' r' s u v c.loop-f.invariant.grown told.1;
+            held = held_more (member u.assumed.items) (member v.assumed.items) fs gs c.loop-f.f-index f c.loop-f-test.true c.f-item.is (within2 w' r' u v told.1) c.loop-f.invariant.held ((readable_source (member v.assumed.items) fs (field_view f) w.in-Some.p w.in-Some.ensures.source).1 told.2);
+          }))
+      | all_readable-in-None+else-is_none w ↦ (
+          rw w.walk-is (record {
+            ready = c.loop-f.invariant.ready;
+            grown = c.loop-f.invariant.grown;
+            held = held_more (member u.assumed.items) (member u.assumed.items) fs gs c.loop-f.f-index f c.loop-f-test.true c.f-item.is (λ i j h. h) c.loop-f.invariant.held ((readable_default (member u.assumed.items) fs (field_view f) w.in-None.ensures.none).1 (some_mapped view f.value ∙ w.is_none.ensures ∙ ap not w.if-is_none.false));
+          }))
+    ]
+
+pub all_readable-returns : goal.all_readable-returns
+all_readable-returns t c =
+    let l : length c.args.wanted.now ≤ c.loop-f.f-index = omega arith in
+    (c.loop-f.invariant.ready, c.loop-f.invariant.grown, subst (λ (x : List Field). All (λ f. Readable (member c.loop-f.walk.assumed.items) (map field_view c.args.fields.now) (field_view f)) x) (take_all c.loop-f.f-index c.args.wanted.now l) c.loop-f.invariant.held)

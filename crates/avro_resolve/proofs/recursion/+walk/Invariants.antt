@@ -1,0 +1,42 @@
+use Rattle.std.proofs.Common.{◌*◌, ◌+◌, ◌-◌, take, All, IsTrue, map}
+use Rattle.avro_nodes.specs.Nodes.{field_view, nodes_view}
+use Rattle.avro_resolve.specs.Resolution.{Readable}
+use Rattle.avro_resolve.specs.Witnesses.{member}
+use Rattle.avro_resolve.specs.Walking.{Ready, HasGrown}
+use Rattle.avro_resolve.proofs.recursion.+walk.Given as goal
+
+abbrev pub decreases-ask : goal.decreases-ask
+decreases-ask l = 3 * (1000 - l.depth)
+
+abbrev pub decreases-fits : goal.decreases-fits
+decreases-fits l = 3 * (1000 - l.depth) + 2
+
+abbrev pub decreases-all_asked : goal.decreases-all_asked
+decreases-all_asked l = 3 * (1000 - l.depth) + 1
+
+abbrev pub decreases-any_asked : goal.decreases-any_asked
+decreases-any_asked l = 3 * (1000 - l.depth) + 1
+
+abbrev pub decreases-all_readable : goal.decreases-all_readable
+decreases-all_readable l = 3 * (1000 - l.depth) + 1
+
+abbrev pub invariant-all_asked-loop-p : goal.invariant-all_asked-loop-p
+invariant-all_asked-loop-p l = record {
+  ready : Ready (nodes_view l.writer.schema.now) (nodes_view l.reader.schema.now) l.depth l.walk;
+  grown : HasGrown (nodes_view l.writer.schema.now) (nodes_view l.reader.schema.now) l.initial.walk l.walk;
+  held : All (λ p. IsTrue (member l.walk.assumed.items p l.j)) (take l.p-index l.places);
+}
+
+abbrev pub invariant-any_asked-loop-p : goal.invariant-any_asked-loop-p
+invariant-any_asked-loop-p l = record {
+  ready : Ready (nodes_view l.writer.schema.now) (nodes_view l.reader.schema.now) l.depth l.walk;
+  grown : HasGrown (nodes_view l.writer.schema.now) (nodes_view l.reader.schema.now) l.initial.walk l.walk;
+  lost : All (λ p. IsTrue (member l.walk.failed.items l.i p)) (take l.p-index l.places);
+}
+
+abbrev pub invariant-all_readable-loop-f : goal.invariant-all_readable-loop-f
+invariant-all_readable-loop-f l = record {
+  ready : Ready (nodes_view l.writer.schema.now) (nodes_view l.reader.schema.now) l.depth l.walk;
+  grown : HasGrown (nodes_view l.writer.schema.now) (nodes_view l.reader.schema.now) l.initial.walk l.walk;
+  held : All (λ f. Readable (member l.walk.assumed.items) (map field_view l.fields) (field_view f)) (take l.f-index l.wanted);
+}

@@ -1,0 +1,65 @@
+-- What the recursion keeps: the assumed pairs, the failed ones in their order, and how many visits it counted.
+use Rattle.std.specs.Prelude.{◌≡◌, ℕ, ◌+◌, ◌*◌, ◌<◌, ◌≤◌, ◌⊎◌, [], List, take, length, IsTrue}
+use Rattle.avro_nodes.specs.Nodes.{NodeView}
+use Rattle.avro_resolve.specs.declared.table.Table.{Table}
+use Rattle.avro_resolve.specs.declared.walk.Walk.{Walk}
+use Rattle.avro_resolve.specs.declared.walk.Answer.{Answer}
+use Rattle.avro_resolve.specs.declared.walk.Answer.TheVariants.{Yes, No, TooDeep}
+use Rattle.avro_resolve.specs.Resolution.{Supports, Resolves}
+use Rattle.avro_resolve.specs.Places.{IsWhole}
+use Rattle.avro_resolve.specs.Witnesses.{Pair, member, without, RefutesAfter, Differ, HasClosedSet, HasRefutation}
+use Rattle.avro_resolve.specs.Left.{left}
+use Rattle.avro_resolve.specs.Asking.{HoldsAsked, Asked, IsSmall}
+
+-- the table has all pairs of so many places but the list's
+pub record Marks (n m : ℕ) (t : Table) (ps : List Pair) : Type 0 where
+  pub writers : t.writers ≡ n
+  pub readers : t.readers ≡ m
+  pub within : (i j : ℕ) → IsTrue (member ps i j) → (i < n) × (j < m)
+  pub exact : (i j : ℕ) → i < n → j < m → left t i j ≡ without ps i j
+
+pub record Good (w r : List NodeView) (assumed failed : List Pair) (visits : ℕ) : Type 0 where
+  pub assumed_asked : (i j : ℕ) → IsTrue (member assumed i j) → Asked w r i j
+  pub failed_asked : (i j : ℕ) → IsTrue (member failed i j) → Asked w r i j
+  pub assumed_differ : Differ assumed
+  pub failed_differ : Differ failed
+  pub apart : (i j : ℕ) → IsTrue (member assumed i j) → IsTrue (member failed i j) → ⊥
+  pub refutes : RefutesAfter w r [] failed
+  pub at_least : length assumed + length failed ≤ visits
+  pub at_most : (ps : List Pair) → HoldsAsked w r ps → visits ≤ length ps * length failed + length assumed
+
+-- from one state to a later one, where nothing that was assumed is taken back
+pub record Grown (w r : List NodeView) (assumed failed assumed2 failed2 : List Pair) : Type 0 where
+  pub longer : length assumed ≤ length assumed2
+  pub front : take (length assumed) assumed2 ≡ assumed
+  pub supported : (i j : ℕ) → IsTrue (member assumed2 i j) → IsTrue (member assumed i j) ⊎ Supports w r (member assumed2) i j
+  pub failed_kept : (i j : ℕ) → IsTrue (member failed i j) → IsTrue (member failed2 i j)
+
+abbrev pub IsGood : List NodeView → List NodeView → Walk → Type 0
+IsGood w r s = Good w r s.assumed.items s.failed.items s.visits
+
+abbrev pub HasGrown : List NodeView → List NodeView → Walk → Walk → Type 0
+HasGrown w r s t = Grown w r s.assumed.items s.failed.items t.assumed.items t.failed.items
+
+-- the recursion may go on, with so many pairs open
+pub record Ready (w r : List NodeView) (depth : ℕ) (s : Walk) : Type 0 where
+  pub writer : IsWhole w
+  pub reader : IsWhole r
+  pub small : IsSmall w r
+  pub low : depth ≤ 1000
+  pub opened : depth ≤ length s.assumed.items
+  pub good : IsGood w r s
+  pub assumed : Marks (length w) (length r) s.unassumed s.assumed.items
+  pub failed : Marks (length w) (length r) s.unfailed s.failed.items
+
+-- Yes and no hold at their answers. The third comes only after a thousand visits.
+abbrev pub Tells : List NodeView → List NodeView → ℕ → Walk → Walk → Type 0 → Type 0 → Answer → Type 0
+Tells w r depth s t held lost Yes = Ready w r depth t × HasGrown w r s t × held
+Tells w r depth s t held lost No = Ready w r depth t × HasGrown w r s t × lost
+Tells w r depth s t held lost TooDeep = IsGood w r t × (1000 ≤ t.visits)
+
+-- what the recursion's answer for the roots shows
+abbrev pub Shows : List NodeView → List NodeView → ℕ → Answer → Type 0
+Shows w r visits Yes = Resolves w r × HasClosedSet w r visits
+Shows w r visits No = (Resolves w r → ⊥) × HasRefutation w r visits
+Shows w r visits TooDeep = 1000 ≤ visits

@@ -1,0 +1,318 @@
+//! Resolution by recursion: a pair that is opened is assumed, until it turns out not to be
+//! supported.
+
+ghost use Rattle.std.specs.Prelude.{◌≡◌, ℕ, ◌<◌, ◌≤◌, ◌*◌, false, true, map, Some, IfSome, IfNone, None, slice_get, length, All, Any, IsTrue, IfOk, List};
+ghost use Rattle.avro_nodes.specs.Nodes.{field_view, node_view, nodes_view};
+ghost use Rattle.avro_resolve.specs.Resolution.{source, Readable, Fits};
+ghost use Rattle.avro_resolve.specs.Places.{Names};
+ghost use Rattle.avro_resolve.specs.Lookups.{FindsFields};
+ghost use Rattle.avro_resolve.specs.Sides.{nodes_of, IsSide};
+ghost use Rattle.avro_resolve.specs.Witnesses.{Pair, member, without};
+ghost use Rattle.avro_resolve.specs.Asking.{source_place, Asked, AreAsked, IsSourceAsked, HoldsAsked};
+ghost use Rattle.avro_resolve.specs.Walking.{Ready, Tells, Shows};
+
+use crate::fields::source_of;
+use crate::kinds::promotes;
+use crate::lookups::{Lookup, lookups_of};
+use crate::names::names_match;
+use crate::sides::Side;
+use crate::support::{enums_fit, fixed_fit};
+use crate::table::Table;
+use crate::walk::{Answer, Walk, fail_pair, is_marked, open_pair};
+use avro_nodes::{Field, Node};
+use avro_schema::Schema;
+use std::alloc::{AllocError, Global};
+
+/// The most pairs that are open at once.
+const MAX_OPEN: usize = 1000;
+
+/// Yes where it holds, and no where it doesn't.
+fn yes_if(holds: bool) -> Answer
+    ensures yes { holds ≡ true → result ≡ Answer.Yes }
+    ensures no { holds ≡ false → result ≡ Answer.No }
+{
+    if holds { Answer::Yes } else { Answer::No }
+}
+
+/// The node at a place, which names places of nodes.
+fn node_in<'a>(side: &'a Side, place: u32) -> &'a Node
+    requires side { IsSide side.now }
+    requires within { place < length (nodes_of side.now) }
+    ensures raw { slice_get side.now.schema.now place ≡ Some result.now }
+    ensures at { slice_get (nodes_of side.now) place ≡ Some (node_view result.now) }
+    ensures names { Names (length (nodes_of side.now)) (node_view result.now) }
+{
+    side.node(place)
+}
+
+/// The place of the type of a reader's field's source.
+fn source_in(
+    writer: &Side,
+    reader: &Side,
+    fields: &[Field],
+    sources: Option<&Lookup>,
+    f: &Field,
+) -> Option<u32>
+    requires sources { IfSome sources (λ t. FindsFields t.now fields.now) }
+    requires fields_in { All (λ g. g.place < length (nodes_of writer.now)) (map field_view fields.now) }
+    requires asked { IsSourceAsked (nodes_of writer.now) (nodes_of reader.now) (map field_view fields.now) (field_view f.now) }
+    ensures none { IfNone result (source_place (map field_view fields.now) (field_view f.now) ≡ None) }
+    ensures source { IfSome result (λ p. source_place (map field_view fields.now) (field_view f.now) ≡ Some p) }
+    ensures within { IfSome result (λ p. p < length (nodes_of writer.now)) }
+    ensures asked { IfSome result (λ p. Asked (nodes_of writer.now) (nodes_of reader.now) p f.now.place) }
+{
+    let (_writer, _reader) = (writer, reader);
+    source_of(fields, sources, f)
+}
+
+/// Whether the pair is assumed, or is supported if it is opened and assumed.
+#[cycle(walk)]
+fn ask(
+    writer: &Side,
+    reader: &Side,
+    i: u32,
+    j: u32,
+    depth: usize,
+    walk: &mut Walk,
+) -> Result<Answer, AllocError>
+    requires writer { IsSide writer.now }
+    requires reader { IsSide reader.now }
+    requires ready { Ready (nodes_of writer.now) (nodes_of reader.now) depth walk.old }
+    requires i_in { i < length (nodes_of writer.now) }
+    requires j_in { j < length (nodes_of reader.now) }
+    requires asked { Asked (nodes_of writer.now) (nodes_of reader.now) i j }
+    ensures { IfOk result (λ answer. Tells (nodes_of writer.now) (nodes_of reader.now) depth walk.old walk.new
+        (IsTrue (member walk.new.assumed.items i j))
+        ((walk.new.assumed.items ≡ walk.old.assumed.items) × IsTrue (member walk.new.failed.items i j)) answer) }
+{
+    if is_marked(&walk.unassumed, &walk.assumed, i, j) {
+        return Ok(Answer::Yes);
+    }
+    if is_marked(&walk.unfailed, &walk.failed, i, j) {
+        return Ok(Answer::No);
+    }
+    if depth == MAX_OPEN {
+        return Ok(Answer::TooDeep);
+    }
+    let mark = walk.assumed.len();
+    open_pair(writer, reader, i, j, depth, walk)?;
+    let (a, b) = (node_in(writer, i), node_in(reader, j));
+    match fits(writer, reader, a, b, (i, j), depth + 1, walk)? {
+        Answer::Yes => Ok(Answer::Yes),
+        Answer::No => {
+            fail_pair(i, j, mark, walk)?;
+            Ok(Answer::No)
+        }
+        Answer::TooDeep => Ok(Answer::TooDeep),
+    }
+}
+
+/// Whether the pair of these nodes, at the places of the pair, is supported, by the first case that
+/// fits (Avro 1.11 specification, Schema Resolution).
+#[cycle(walk)]
+fn fits(
+    writer: &Side,
+    reader: &Side,
+    a: &Node,
+    b: &Node,
+    at: (u32, u32),
+    depth: usize,
+    walk: &mut Walk,
+) -> Result<Answer, AllocError>
+    requires writer { IsSide writer.now }
+    requires reader { IsSide reader.now }
+    requires ready { Ready (nodes_of writer.now) (nodes_of reader.now) depth walk.old }
+    requires a_at { slice_get writer.now.schema.now at.0 ≡ Some a.now }
+    requires b_at { slice_get reader.now.schema.now at.1 ≡ Some b.now }
+    requires a_in { Names (length (nodes_of writer.now)) (node_view a.now) }
+    requires b_in { Names (length (nodes_of reader.now)) (node_view b.now) }
+    requires i_in { at.0 < length (nodes_of writer.now) }
+    requires j_in { at.1 < length (nodes_of reader.now) }
+    requires asked { AreAsked (nodes_of writer.now) (nodes_of reader.now) at.0 at.1 (node_view a.now) (node_view b.now) }
+    ensures { IfOk result (λ answer. Tells (nodes_of writer.now) (nodes_of reader.now) depth walk.old walk.new
+        (Fits (member walk.new.assumed.items) at.0 at.1 (node_view a.now) (node_view b.now))
+        (Fits (without walk.new.failed.items) at.0 at.1 (node_view a.now) (node_view b.now) → ⊥) answer) }
+{
+    match (a, b) {
+        (Node::Union { branches }, _) => all_asked(writer, reader, branches, at.1, depth, walk),
+        (_, Node::Union { branches }) => any_asked(writer, reader, at.0, branches, depth, walk),
+        (Node::Primitive { kind, .. }, Node::Primitive { kind: wanted, .. }) => {
+            Ok(yes_if(promotes(*kind, *wanted)))
+        }
+        (Node::Array { items: p, .. }, Node::Array { items: q, .. }) => {
+            ask(writer, reader, *p, *q, depth, walk)
+        }
+        (Node::Map { values: p, .. }, Node::Map { values: q, .. }) => {
+            ask(writer, reader, *p, *q, depth, walk)
+        }
+        (
+            Node::Enum { named, symbols, .. },
+            Node::Enum {
+                named: wanted,
+                symbols: known,
+                fallback,
+                ..
+            },
+        ) => {
+            let lookup = reader.lookup(at.1, b);
+            let fit = enums_fit(named, symbols, wanted, known, lookup, fallback);
+            Ok(yes_if(fit))
+        }
+        (
+            Node::Fixed { named, size, .. },
+            Node::Fixed {
+                named: wanted,
+                size: wanted_size,
+                ..
+            },
+        ) => Ok(yes_if(fixed_fit(named, *size, wanted, *wanted_size))),
+        (
+            Node::Rec { named, fields, .. },
+            Node::Rec {
+                named: wanted,
+                fields: wanted_fields,
+                ..
+            },
+        ) => {
+            if !names_match(named, wanted) {
+                return Ok(Answer::No);
+            }
+            let sources = writer.lookup(at.0, a);
+            all_readable(writer, reader, fields, sources, wanted_fields, depth, walk)
+        }
+        _ => Ok(Answer::No),
+    }
+}
+
+/// Whether each branch of a writer's union is supported with the reader's place.
+#[cycle(walk)]
+fn all_asked(
+    writer: &Side,
+    reader: &Side,
+    places: &[u32],
+    j: u32,
+    depth: usize,
+    walk: &mut Walk,
+) -> Result<Answer, AllocError>
+    requires writer { IsSide writer.now }
+    requires reader { IsSide reader.now }
+    requires ready { Ready (nodes_of writer.now) (nodes_of reader.now) depth walk.old }
+    requires places_in { All (λ p. p < length (nodes_of writer.now)) places.now }
+    requires j_in { j < length (nodes_of reader.now) }
+    requires asked { All (λ p. Asked (nodes_of writer.now) (nodes_of reader.now) p j) places.now }
+    ensures { IfOk result (λ answer. Tells (nodes_of writer.now) (nodes_of reader.now) depth walk.old walk.new
+        (All (λ p. IsTrue (member walk.new.assumed.items p j)) places.now)
+        (Any (λ p. IsTrue (member walk.new.failed.items p j)) places.now) answer) }
+{
+    for p in places {
+        match ask(writer, reader, *p, j, depth, walk)? {
+            Answer::Yes => {}
+            Answer::No => return Ok(Answer::No),
+            Answer::TooDeep => return Ok(Answer::TooDeep),
+        }
+    }
+    Ok(Answer::Yes)
+}
+
+/// Whether the writer's place is supported with some branch of a reader's union.
+#[cycle(walk)]
+fn any_asked(
+    writer: &Side,
+    reader: &Side,
+    i: u32,
+    places: &[u32],
+    depth: usize,
+    walk: &mut Walk,
+) -> Result<Answer, AllocError>
+    requires writer { IsSide writer.now }
+    requires reader { IsSide reader.now }
+    requires ready { Ready (nodes_of writer.now) (nodes_of reader.now) depth walk.old }
+    requires places_in { All (λ p. p < length (nodes_of reader.now)) places.now }
+    requires i_in { i < length (nodes_of writer.now) }
+    requires asked { All (λ p. Asked (nodes_of writer.now) (nodes_of reader.now) i p) places.now }
+    ensures { IfOk result (λ answer. Tells (nodes_of writer.now) (nodes_of reader.now) depth walk.old walk.new
+        (Any (λ p. IsTrue (member walk.new.assumed.items i p)) places.now)
+        (All (λ p. IsTrue (member walk.new.failed.items i p)) places.now) answer) }
+{
+    for p in places {
+        match ask(writer, reader, i, *p, depth, walk)? {
+            Answer::Yes => return Ok(Answer::Yes),
+            Answer::No => {}
+            Answer::TooDeep => return Ok(Answer::TooDeep),
+        }
+    }
+    Ok(Answer::No)
+}
+
+/// Whether each of the reader's fields can be read, in their order.
+#[cycle(walk)]
+fn all_readable(
+    writer: &Side,
+    reader: &Side,
+    fields: &[Field],
+    sources: Option<&Lookup>,
+    wanted: &[Field],
+    depth: usize,
+    walk: &mut Walk,
+) -> Result<Answer, AllocError>
+    requires writer { IsSide writer.now }
+    requires reader { IsSide reader.now }
+    requires ready { Ready (nodes_of writer.now) (nodes_of reader.now) depth walk.old }
+    requires sources { IfSome sources (λ t. FindsFields t.now fields.now) }
+    requires fields_in { All (λ f. f.place < length (nodes_of writer.now)) (map field_view fields.now) }
+    requires wanted_in { All (λ f. f.place < length (nodes_of reader.now)) wanted.now }
+    requires asked { All (λ f. IsSourceAsked (nodes_of writer.now) (nodes_of reader.now) (map field_view fields.now) (field_view f)) wanted.now }
+    ensures { IfOk result (λ answer. Tells (nodes_of writer.now) (nodes_of reader.now) depth walk.old walk.new
+        (All (λ f. Readable (member walk.new.assumed.items) (map field_view fields.now) (field_view f)) wanted.now)
+        (Any (λ f. Readable (without walk.new.failed.items) (map field_view fields.now) (field_view f) → ⊥) wanted.now) answer) }
+{
+    for f in wanted {
+        match source_in(writer, reader, fields, sources, f) {
+            Some(p) => match ask(writer, reader, p, f.place, depth, walk)? {
+                Answer::Yes => {}
+                Answer::No => return Ok(Answer::No),
+                Answer::TooDeep => return Ok(Answer::TooDeep),
+            },
+            None => {
+                if f.value.is_none() {
+                    return Ok(Answer::No);
+                }
+            }
+        }
+    }
+    Ok(Answer::Yes)
+}
+
+/// Opens the pair of the roots, and says what came of it and how many pairs were opened.
+pub fn walk_roots(
+    alloc: Global,
+    writer: &Schema,
+    reader: &Schema,
+) -> Result<(Answer, u128), AllocError>
+    ensures shows { IfOk result (λ p. Shows (nodes_view writer.now) (nodes_view reader.now) p.1 p.0) }
+    ensures at_least { IfOk result (λ p. 1 ≤ p.1) }
+    ensures at_most { IfOk result (λ p. (ps : List Pair) → HoldsAsked (nodes_view writer.now) (nodes_view reader.now) ps → p.1 ≤ length ps * length ps) }
+{
+    let (rows, columns) = (writer.places() as usize, reader.places() as usize);
+    let unassumed = Table::all(alloc, rows, columns, false)?;
+    let unfailed = Table::all(alloc, rows, columns, false)?;
+    let mut walk = Walk {
+        assumed: Vec::new(alloc),
+        failed: Vec::new(alloc),
+        unassumed,
+        unfailed,
+        visits: 0,
+    };
+    let lookups = lookups_of(alloc, writer)?;
+    let written = Side {
+        schema: writer,
+        lookups,
+    };
+    let lookups = lookups_of(alloc, reader)?;
+    let read = Side {
+        schema: reader,
+        lookups,
+    };
+    let answer = ask(&written, &read, 0, 0, 0, &mut walk)?;
+    Ok((answer, walk.visits))
+}
