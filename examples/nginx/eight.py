@@ -25,10 +25,10 @@ def compact(value):
 
 def record(name, fields, required=False):
     """A record's identity text; its last field has no default where it is required."""
-    list_ = [{"default": 0, "name": f"f{at}", "type": "long"} for at in range(fields)]
+    members = [{"default": 0, "name": f"f{at}", "type": "long"} for at in range(fields)]
     if required:
-        list_.append({"name": "last", "type": "long"})
-    return compact({"fields": list_, "name": name, "type": "record"})
+        members.append({"name": "last", "type": "long"})
+    return compact({"fields": members, "name": name, "type": "record"})
 
 
 INCOMPATIBLE = (409, compact({"error_code": 409, "message": "Schema is incompatible with an earlier version"}))
