@@ -1,4 +1,5 @@
 mod JobLemmas
 mod LineLemmas
 mod ListeningLemmas
+mod ListingLemmas
 mod NameLemmas

@@ -1,8 +1,20 @@
 use Rattle.std.proofs.Common.{sym, subst}
+use Rattle.std.proofs.lemmas.Result.{on_ok_weaker, on_err_weaker}
 use Rattle.sqlite.specs.Held.{state}
 use Rattle.sqlite.specs.State.{HasCleanDisk}
 use Rattle.reg_store.specs.Spells.{SpellsWhileOpen}
+use Rattle.reg_report.specs.StoreAnswers.{store_answer}
+use Rattle.reg_jobs.specs.Listings.{ListsAs}
+use Rattle.reg_jobs.proofs.ListingLemmas.{ListsAs-printed}
 use Rattle.reg_jobs.proofs.listings.list_store.Goals as goal
+
+pub returns-clause-lists : goal.returns-clause-lists
+returns-clause-lists g c clean registry kept spells =
+    let still = subst (λ held. HasCleanDisk (state g.S.Store held)) c.into_connection.ensures.same clean in
+    let it = c.list-printed.ensures in
+    subst (ListsAs c.args.kind registry _ _) (sym c.listed_as.ensures) (ListsAs-printed c.args.kind registry _ _ c.list-printed.result
+      (on_ok_weaker c.list-printed.result (λ whole. whole registry kept spells) (it.ok still))
+      (on_err_weaker (store_answer c.list-printed.result) (λ begun. begun registry kept spells) (it.begun still)))
 
 pub returns-clause-same : goal.returns-clause-same
 returns-clause-same g c clean registry kept spells =
