@@ -13,8 +13,8 @@ returns-clause-lists g c clean registry kept spells =
     let still = subst (λ held. HasCleanDisk (state g.S.Store held)) c.into_connection.ensures.same clean in
     let it = c.list-printed.ensures in
     subst (ListsAs c.args.kind registry _ _) (sym c.listed_as.ensures) (ListsAs-printed c.args.kind registry _ _ c.list-printed.result
-      (on_ok_weaker c.list-printed.result (λ whole. whole registry kept spells) (it.ok still))
-      (on_err_weaker (store_answer c.list-printed.result) (λ begun. begun registry kept spells) (it.begun still)))
+    (on_ok_weaker c.list-printed.result (λ whole. whole registry kept spells) (it.ok still))
+    (on_err_weaker (store_answer c.list-printed.result) (λ begun. begun registry kept spells) (it.begun still)))
 
 pub returns-clause-same : goal.returns-clause-same
 returns-clause-same g c clean registry kept spells =
