@@ -8,7 +8,7 @@ use Rattle.avro_nodes.specs.Nodes.{FieldView, NodeView, field_view}
 use Rattle.avro_resolve.specs.declared.table.Table.{Table}
 use Rattle.avro_resolve.specs.declared.walk.Walk.{Walk}
 use Rattle.avro_resolve.specs.declared.walk.Answer.{Answer}
-use Rattle.avro_resolve.specs.declared.walk.Answer.TheVariants.{Yes, No, TooDeep}
+use Rattle.avro_resolve.specs.declared.walk.Answer.TheVariants.{Yes, No, Unfinished}
 use Rattle.avro_resolve.specs.Resolution.{Pairs, Supports, Readable, source}
 use Rattle.avro_resolve.specs.Witnesses.{Pair, member, without}
 use Rattle.avro_resolve.specs.Asking.{source_place, Asked, Asks, AsksFor, AreAsked, IsSourceAsked}
@@ -152,7 +152,7 @@ fields_asked w r fs gs h = all_of (IsSourceAsked w r fs) field_view gs (λ k d l
 pub tells_on : (w r : List NodeView) (d : ℕ) (s t : Walk) (H L H2 L2 : Type 0) → (H → H2) → (L → L2) → (answer : Answer) → Tells w r d s t H L answer → Tells w r d s t H2 L2 answer
 tells_on w r d s t H L H2 L2 f g Yes h = (h.0, h.1, f h.2)
 tells_on w r d s t H L H2 L2 f g No h = (h.0, h.1, g h.2)
-tells_on w r d s t H L H2 L2 f g TooDeep h = h
+tells_on w r d s t H L H2 L2 f g Unfinished h = h
 
 pub told_ok : {E : Type 0} (x : Result Answer E) (P Q : Answer → Type 0) → ((answer : Answer) → P answer → Q answer) → IfOk x P → IfOk x Q
 told_ok (Ok answer) P Q f h = f answer h

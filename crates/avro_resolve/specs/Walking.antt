@@ -4,7 +4,7 @@ use Rattle.avro_nodes.specs.Nodes.{NodeView}
 use Rattle.avro_resolve.specs.declared.table.Table.{Table}
 use Rattle.avro_resolve.specs.declared.walk.Walk.{Walk}
 use Rattle.avro_resolve.specs.declared.walk.Answer.{Answer}
-use Rattle.avro_resolve.specs.declared.walk.Answer.TheVariants.{Yes, No, TooDeep}
+use Rattle.avro_resolve.specs.declared.walk.Answer.TheVariants.{Yes, No, Unfinished}
 use Rattle.avro_resolve.specs.Resolution.{Supports, Resolves}
 use Rattle.avro_resolve.specs.Places.{IsWhole}
 use Rattle.avro_resolve.specs.Witnesses.{Pair, member, without, RefutesAfter, Differ, HasClosedSet, HasRefutation}
@@ -56,10 +56,10 @@ pub record Ready (w r : List NodeView) (depth : ℕ) (s : Walk) : Type 0 where
 abbrev pub Tells : List NodeView → List NodeView → ℕ → Walk → Walk → Type 0 → Type 0 → Answer → Type 0
 Tells w r depth s t held lost Yes = Ready w r depth t × HasGrown w r s t × held
 Tells w r depth s t held lost No = Ready w r depth t × HasGrown w r s t × lost
-Tells w r depth s t held lost TooDeep = IsGood w r t × (1000 ≤ t.visits)
+Tells w r depth s t held lost Unfinished = IsGood w r t × (1000 ≤ t.visits)
 
 -- what the recursion's answer for the roots shows
 abbrev pub Shows : List NodeView → List NodeView → ℕ → Answer → Type 0
 Shows w r visits Yes = Resolves w r × HasClosedSet w r visits
 Shows w r visits No = (Resolves w r → ⊥) × HasRefutation w r visits
-Shows w r visits TooDeep = 1000 ≤ visits
+Shows w r visits Unfinished = 1000 ≤ visits

@@ -10,6 +10,7 @@ mod lookups;
 mod names;
 mod recursion;
 mod resolving;
+mod roots;
 mod sides;
 mod striking;
 mod support;

@@ -1,30 +1,31 @@
 //! Resolution by recursion: a pair that is opened is assumed, until it turns out not to be
 //! supported.
 
-ghost use Rattle.std.specs.Prelude.{◌≡◌, ℕ, ◌<◌, ◌≤◌, ◌*◌, false, true, map, Some, IfSome, IfNone, None, slice_get, length, All, Any, IsTrue, IfOk, List};
-ghost use Rattle.avro_nodes.specs.Nodes.{field_view, node_view, nodes_view};
+ghost use Rattle.std.specs.Prelude.{◌≡◌, ℕ, ◌<◌, false, true, map, Some, IfSome, IfNone, None, slice_get, length, All, Any, IsTrue, IfOk};
+ghost use Rattle.avro_nodes.specs.Nodes.{field_view, node_view};
 ghost use Rattle.avro_resolve.specs.Resolution.{source, Readable, Fits};
 ghost use Rattle.avro_resolve.specs.Places.{Names};
 ghost use Rattle.avro_resolve.specs.Lookups.{FindsFields};
 ghost use Rattle.avro_resolve.specs.Sides.{nodes_of, IsSide};
-ghost use Rattle.avro_resolve.specs.Witnesses.{Pair, member, without};
-ghost use Rattle.avro_resolve.specs.Asking.{source_place, Asked, AreAsked, IsSourceAsked, HoldsAsked};
-ghost use Rattle.avro_resolve.specs.Walking.{Ready, Tells, Shows};
+ghost use Rattle.avro_resolve.specs.Witnesses.{member, without};
+ghost use Rattle.avro_resolve.specs.Asking.{source_place, Asked, AreAsked, IsSourceAsked};
+ghost use Rattle.avro_resolve.specs.Walking.{Ready, Tells};
 
 use crate::fields::source_of;
 use crate::kinds::promotes;
-use crate::lookups::{Lookup, lookups_of};
+use crate::lookups::Lookup;
 use crate::names::names_match;
 use crate::sides::Side;
 use crate::support::{enums_fit, fixed_fit};
-use crate::table::Table;
 use crate::walk::{Answer, Walk, fail_pair, is_marked, open_pair};
 use avro_nodes::{Field, Node};
-use avro_schema::Schema;
-use std::alloc::{AllocError, Global};
+use std::alloc::AllocError;
 
 /// The most pairs that are open at once.
 const MAX_OPEN: usize = 1000;
+
+/// The most pairs that are opened, one after the other.
+const MAX_VISITS: u128 = 1_000_000;
 
 /// Yes where it holds, and no where it doesn't.
 fn yes_if(holds: bool) -> Answer
@@ -67,7 +68,7 @@ fn source_in(
 
 /// Whether the pair is assumed, or is supported if it is opened and assumed.
 #[cycle(walk)]
-fn ask(
+pub fn ask(
     writer: &Side,
     reader: &Side,
     i: u32,
@@ -92,7 +93,10 @@ fn ask(
         return Ok(Answer::No);
     }
     if depth == MAX_OPEN {
-        return Ok(Answer::TooDeep);
+        return Ok(Answer::Unfinished);
+    }
+    if walk.visits >= MAX_VISITS {
+        return Ok(Answer::Unfinished);
     }
     let mark = walk.assumed.len();
     open_pair(writer, reader, i, j, depth, walk)?;
@@ -103,7 +107,7 @@ fn ask(
             fail_pair(i, j, mark, walk)?;
             Ok(Answer::No)
         }
-        Answer::TooDeep => Ok(Answer::TooDeep),
+        Answer::Unfinished => Ok(Answer::Unfinished),
     }
 }
 
@@ -208,7 +212,7 @@ fn all_asked(
         match ask(writer, reader, *p, j, depth, walk)? {
             Answer::Yes => {}
             Answer::No => return Ok(Answer::No),
-            Answer::TooDeep => return Ok(Answer::TooDeep),
+            Answer::Unfinished => return Ok(Answer::Unfinished),
         }
     }
     Ok(Answer::Yes)
@@ -238,7 +242,7 @@ fn any_asked(
         match ask(writer, reader, i, *p, depth, walk)? {
             Answer::Yes => return Ok(Answer::Yes),
             Answer::No => {}
-            Answer::TooDeep => return Ok(Answer::TooDeep),
+            Answer::Unfinished => return Ok(Answer::Unfinished),
         }
     }
     Ok(Answer::No)
@@ -271,7 +275,7 @@ fn all_readable(
             Some(p) => match ask(writer, reader, p, f.place, depth, walk)? {
                 Answer::Yes => {}
                 Answer::No => return Ok(Answer::No),
-                Answer::TooDeep => return Ok(Answer::TooDeep),
+                Answer::Unfinished => return Ok(Answer::Unfinished),
             },
             None => {
                 if f.value.is_none() {
@@ -281,38 +285,4 @@ fn all_readable(
         }
     }
     Ok(Answer::Yes)
-}
-
-/// Opens the pair of the roots, and says what came of it and how many pairs were opened.
-pub fn walk_roots(
-    alloc: Global,
-    writer: &Schema,
-    reader: &Schema,
-) -> Result<(Answer, u128), AllocError>
-    ensures shows { IfOk result (λ p. Shows (nodes_view writer.now) (nodes_view reader.now) p.1 p.0) }
-    ensures at_least { IfOk result (λ p. 1 ≤ p.1) }
-    ensures at_most { IfOk result (λ p. (ps : List Pair) → HoldsAsked (nodes_view writer.now) (nodes_view reader.now) ps → p.1 ≤ length ps * length ps) }
-{
-    let (rows, columns) = (writer.places() as usize, reader.places() as usize);
-    let unassumed = Table::all(alloc, rows, columns, false)?;
-    let unfailed = Table::all(alloc, rows, columns, false)?;
-    let mut walk = Walk {
-        assumed: Vec::new(alloc),
-        failed: Vec::new(alloc),
-        unassumed,
-        unfailed,
-        visits: 0,
-    };
-    let lookups = lookups_of(alloc, writer)?;
-    let written = Side {
-        schema: writer,
-        lookups,
-    };
-    let lookups = lookups_of(alloc, reader)?;
-    let read = Side {
-        schema: reader,
-        lookups,
-    };
-    let answer = ask(&written, &read, 0, 0, 0, &mut walk)?;
-    Ok((answer, walk.visits))
 }

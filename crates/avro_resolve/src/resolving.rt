@@ -7,7 +7,7 @@ ghost use Rattle.avro_resolve.specs.Witnesses.{Pair, HasClosedSet, HasRefutation
 ghost use Rattle.avro_resolve.specs.Asking.{AreReached, HoldsAsked};
 ghost use Rattle.avro_resolve.specs.Verdicts.{is_resolved};
 
-use crate::recursion::walk_roots;
+use crate::roots::walk_roots;
 use crate::striking::largest_closed;
 use crate::walk::Answer;
 use avro_nodes::OutOfMemory;
@@ -36,7 +36,7 @@ pub fn resolves_plain(alloc: Global, writer: &Schema, reader: &Schema) -> Result
 /// Resolution), by opening the pair of the roots, and how many pairs were opened: at most the square
 /// of the number of those that the roots reach. A small number comes with a small witness: a closed
 /// set, or a list of pairs that refutes the roots. Where more than a thousand pairs would be open at
-/// once, the answer comes by striking out.
+/// once, or more than a million be opened in all, the answer comes by striking out.
 pub fn resolves(alloc: Global, writer: &Schema, reader: &Schema) -> Result<Verdict, OutOfMemory>
     ensures yes { IfOk result (λ v. IsTrue v.yes ↔ Resolves (nodes_view writer.now) (nodes_view reader.now)) }
     ensures at_least { IfOk result (λ v. 1 ≤ v.visits) }
@@ -54,7 +54,7 @@ pub fn resolves(alloc: Global, writer: &Schema, reader: &Schema) -> Result<Verdi
     match answer {
         Answer::Yes => Ok(Verdict { yes: true, visits }),
         Answer::No => Ok(Verdict { yes: false, visits }),
-        Answer::TooDeep => {
+        Answer::Unfinished => {
             let yes = resolves_plain(alloc, writer, reader)?;
             Ok(Verdict { yes, visits })
         }

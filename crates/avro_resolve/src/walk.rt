@@ -17,8 +17,8 @@ pub enum Answer {
     Yes,
     /// not by any that hasn't failed
     No,
-    /// too many pairs were open
-    TooDeep,
+    /// not known: too many pairs were open, or too many had been opened
+    Unfinished,
 }
 
 /// The pairs that were opened.

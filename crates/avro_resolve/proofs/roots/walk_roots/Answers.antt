@@ -8,7 +8,7 @@ use Rattle.avro_resolve.proofs.MarkLemmas.{marks_none}
 use Rattle.avro_resolve.proofs.Reaching.{is_small}
 use Rattle.avro_resolve.proofs.WalkLemmas.{roots_asked, marks_at}
 use Rattle.avro_resolve.proofs.WalkEnds.{good_start, shown, at_most, at_least}
-use Rattle.avro_resolve.proofs.recursion.walk_roots.Goals as goal
+use Rattle.avro_resolve.proofs.roots.walk_roots.Goals as goal
 
 pub ask-requires-clause-writer : goal.ask-requires-clause-writer
 ask-requires-clause-writer c = record {

@@ -1,0 +1,49 @@
+//! Where the recursion begins: at the pair of the roots.
+
+ghost use Rattle.std.specs.Prelude.{◌≤◌, ◌*◌, length, IfOk, List};
+ghost use Rattle.avro_nodes.specs.Nodes.{nodes_view};
+ghost use Rattle.avro_resolve.specs.Witnesses.{Pair};
+ghost use Rattle.avro_resolve.specs.Asking.{HoldsAsked};
+ghost use Rattle.avro_resolve.specs.Walking.{Shows};
+
+use crate::lookups::lookups_of;
+use crate::recursion::ask;
+use crate::sides::Side;
+use crate::table::Table;
+use crate::walk::{Answer, Walk};
+use avro_schema::Schema;
+use std::alloc::{AllocError, Global};
+
+/// Opens the pair of the roots, and says what came of it and how many pairs were opened.
+pub fn walk_roots(
+    alloc: Global,
+    writer: &Schema,
+    reader: &Schema,
+) -> Result<(Answer, u128), AllocError>
+    ensures shows { IfOk result (λ p. Shows (nodes_view writer.now) (nodes_view reader.now) p.1 p.0) }
+    ensures at_least { IfOk result (λ p. 1 ≤ p.1) }
+    ensures at_most { IfOk result (λ p. (ps : List Pair) → HoldsAsked (nodes_view writer.now) (nodes_view reader.now) ps → p.1 ≤ length ps * length ps) }
+{
+    let (rows, columns) = (writer.places() as usize, reader.places() as usize);
+    let unassumed = Table::all(alloc, rows, columns, false)?;
+    let unfailed = Table::all(alloc, rows, columns, false)?;
+    let mut walk = Walk {
+        assumed: Vec::new(alloc),
+        failed: Vec::new(alloc),
+        unassumed,
+        unfailed,
+        visits: 0,
+    };
+    let lookups = lookups_of(alloc, writer)?;
+    let written = Side {
+        schema: writer,
+        lookups,
+    };
+    let lookups = lookups_of(alloc, reader)?;
+    let read = Side {
+        schema: reader,
+        lookups,
+    };
+    let answer = ask(&written, &read, 0, 0, 0, &mut walk)?;
+    Ok((answer, walk.visits))
+}
