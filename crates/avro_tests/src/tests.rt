@@ -2,3 +2,4 @@
 mod nodes;
 mod resolution;
 mod schemas;
+mod visits;

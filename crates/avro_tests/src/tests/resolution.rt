@@ -35,10 +35,10 @@ const LIST_INT: &str =
 const LIST_LONG: &str =
     r#"{"type":"record","name":"N","fields":[{"name":"next","type":["null","N"]},{"name":"v","type":"long"}]}"#;
 
-const STALE_WRITER: &str =
+pub const STALE_WRITER: &str =
     r#"{"type":"record","name":"A","fields":[{"name":"b","type":{"type":"record","name":"B","fields":[{"name":"a","type":["null","A"]}]}},{"name":"c","type":"int"}]}"#;
 
-const STALE_READER: &str =
+pub const STALE_READER: &str =
     r#"[{"type":"record","name":"x.A","fields":[{"name":"b","type":{"type":"record","name":"x.B","fields":[{"name":"a","type":["null","x.A"]}]}},{"name":"c","type":"string"}]},{"type":"record","name":"y.A","fields":[{"name":"b","type":"x.B"}]}]"#;
 
 /// Writer, reader, and whether the one resolves with the other.
