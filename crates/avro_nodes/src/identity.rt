@@ -160,7 +160,11 @@ fn write_fields(
 ///
 /// The nodes are to be those of a schema: places number them depth first, and types nest at most
 /// `MAX_NESTING` deep. A default or another attribute that has a float is written, but no clause
-/// says how. The error says that memory was refused.
+/// says how.
+///
+/// # Errors
+///
+/// `OutOfMemory` where room for the text is refused.
 pub fn identity_of(alloc: Global, nodes: &[Node]) -> Result<String, OutOfMemory>
     ensures text { IfOk result (λ s. IsTrue (nodes_pass has_whole_numbers (nodes_view nodes.now))
         → string_bytes s ≡ identity (nodes_view nodes.now)) }

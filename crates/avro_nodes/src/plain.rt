@@ -178,7 +178,10 @@ fn spelling(run: &str) -> Option<&str>
 /// isn't a whole number from -2^63 to 2^64 - 1 (this project's choice). A number is a maximal run
 /// of the characters `0` to `9`, `+`, `-`, `.`, `e`, `E` outside the strings that begins with a
 /// digit or `-`. It has no leading zero, no exponent, and after its point zeros alone; `-0` is 0.
-/// The error says that memory was refused.
+///
+/// # Errors
+///
+/// `OutOfMemory` where room for the text is refused.
 pub fn plain_of(alloc: Global, text: &str) -> Result<Option<String>, OutOfMemory>
     ensures { IfOk result (λ o. option_map string_bytes o ≡ plain text.now) }
 {

@@ -25,6 +25,10 @@ pub struct Verdict {
 
 /// Whether the writer's schema resolves with the reader's (Avro 1.11 specification, Schema
 /// Resolution), by striking out pairs of places from the set of all pairs.
+///
+/// # Errors
+///
+/// `OutOfMemory` where room for the pairs or for the tables of a schema is refused.
 pub fn resolves_plain(alloc: Global, writer: &Schema, reader: &Schema) -> Result<bool, OutOfMemory>
     ensures { IfOk result (λ yes. IsTrue yes ↔ Resolves (nodes_view writer.now) (nodes_view reader.now)) }
 {
@@ -37,6 +41,10 @@ pub fn resolves_plain(alloc: Global, writer: &Schema, reader: &Schema) -> Result
 /// of the number of those that the roots reach. A small number comes with a small witness: a closed
 /// set, or a list of pairs that refutes the roots. Where more than a thousand pairs would be open at
 /// once, or more than a million be opened in all, the answer comes by striking out.
+///
+/// # Errors
+///
+/// `OutOfMemory` where room for the pairs or for the tables of a schema is refused.
 pub fn resolves(alloc: Global, writer: &Schema, reader: &Schema) -> Result<Verdict, OutOfMemory>
     ensures yes { IfOk result (λ v. IsTrue v.yes ↔ Resolves (nodes_view writer.now) (nodes_view reader.now)) }
     ensures at_least { IfOk result (λ v. 1 ≤ v.visits) }

@@ -91,6 +91,10 @@ pub fn take_items(attributes: &mut Extra, key: &str) -> Option<Vec<Value>>
 }
 
 /// Takes an attribute out that is a string, and may be missing.
+///
+/// # Errors
+///
+/// `BadShape` where it is no string. It is taken out then too.
 #[tactic(auto, unfolding(crate::specs::Members::text_if_any))]
 pub fn take_text_if_any(attributes: &mut Extra, key: &str) -> Result<Option<String>, SchemaError>
     ensures text { Gives (option_map string_bytes) result
@@ -127,6 +131,11 @@ fn name_by(alloc: Global, text: String, space: Option<&str>) -> Result<String, S
 }
 
 /// The names in an array, each by the rule.
+///
+/// # Errors
+///
+/// `BadShape` for an item that is no string, `BadName` for one that is no name by the rule, and
+/// `OutOfMemory` where room is refused.
 pub fn names_of(
     alloc: Global,
     items: Vec<Value>,
@@ -146,6 +155,10 @@ pub fn names_of(
 }
 
 /// The names in an attribute that is an array and may be missing, each by the rule.
+///
+/// # Errors
+///
+/// `BadShape` where it is no array, and the errors of `names_of`.
 pub fn names_if_any(
     alloc: Global,
     attribute: Option<Value>,

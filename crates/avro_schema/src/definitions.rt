@@ -23,6 +23,10 @@ use serde_json::Value;
 use std::alloc::Global;
 
 /// The place of the next node, if there is room.
+///
+/// # Errors
+///
+/// `TooLarge` where there are as many nodes as a schema may have.
 #[tactic(auto, unfolding(crate::specs::Parts::room_at))]
 pub fn room(nodes: &Vec<Node>) -> Result<u32, SchemaError>
     ensures room { Gives (λ p. p) result (room_at (length nodes.now.items)) }
@@ -36,6 +40,10 @@ pub fn room(nodes: &Vec<Node>) -> Result<u32, SchemaError>
 }
 
 /// Whether the other attributes nest within the limit.
+///
+/// # Errors
+///
+/// `TooLarge` where one of them nests deeper.
 #[tactic(auto, unfolding(crate::specs::Definitions::bounded))]
 pub fn bound(attributes: &Extra) -> Result<(), SchemaError>
     ensures { Gives (λ _. members_view attributes.now.entries) result
@@ -50,6 +58,10 @@ pub fn bound(attributes: &Extra) -> Result<(), SchemaError>
 
 /// The other attributes, which nest within the limit. Where none is left, the map that held what
 /// was taken out is given back, so that a node keeps no room for it.
+///
+/// # Errors
+///
+/// `TooLarge` where one of them nests deeper.
 pub fn others(alloc: Global, attributes: Extra) -> Result<Extra, SchemaError>
     ensures { Gives (λ m. members_view m.entries) result
         (bounded (members_view attributes.entries)) }
@@ -99,6 +111,12 @@ fn new_name(
 }
 
 /// The names of a new definition.
+///
+/// # Errors
+///
+/// `BadShape` where the name is missing, or an attribute of the three has another JSON type,
+/// `BadName` where a name isn't well formed or is a primitive's, `Redefined` where the full name is
+/// known, and `OutOfMemory` where room is refused. Some of the attributes may be taken out then.
 #[tactic(auto, unfolding(crate::specs::Definitions::named_in))]
 pub fn named_of(
     alloc: Global,
@@ -161,6 +179,13 @@ fn fallback_of(attribute: Option<Value>, symbols: &[String]) -> Result<Option<St
 }
 
 /// Reads an enum, whose other attributes are left.
+///
+/// # Errors
+///
+/// `TooLarge` where there is no place left or an attribute nests too deep, the errors of
+/// `named_of`, `BadShape` where the symbols are missing or no array of strings, or the default is
+/// none of them, `BadName` for a symbol that isn't well formed, `Redefined` for one that stands
+/// twice, and `OutOfMemory` where room is refused. The name may be known then.
 #[tactic(auto, unfolding(crate::specs::Definitions::enum_at))]
 pub fn enum_at(
     alloc: Global,
@@ -190,6 +215,12 @@ pub fn enum_at(
 }
 
 /// Reads a fixed, whose other attributes are left.
+///
+/// # Errors
+///
+/// `TooLarge` where there is no place left or an attribute nests too deep, the errors of
+/// `named_of`, `BadShape` where the size is missing or no size, and `OutOfMemory` where room is
+/// refused. The name may be known then.
 #[tactic(auto, unfolding(crate::specs::Definitions::fixed_at))]
 pub fn fixed_at(
     alloc: Global,
@@ -254,6 +285,12 @@ pub struct Label {
 }
 
 /// What a field says beside its type and its other attributes, which are left.
+///
+/// # Errors
+///
+/// `BadShape` where the name is missing, the order is none, or an attribute of these has another
+/// JSON type, `BadName` where a name isn't well formed, `TooLarge` where the default nests too
+/// deep, and `OutOfMemory` where room is refused. Some of the attributes may be taken out then.
 #[tactic(auto, unfolding(crate::specs::Definitions::label_in))]
 pub fn label_of(alloc: Global, attributes: &mut Extra) -> Result<Label, SchemaError>
     ensures label { Gives label_view result (label_in (members_view attributes.old.entries)) }

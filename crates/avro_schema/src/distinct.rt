@@ -32,6 +32,10 @@ impl Titled for Field {
 }
 
 /// Whether no text, or no field's name, stands twice.
+///
+/// # Errors
+///
+/// `AllocError` where room for those seen so far is refused.
 pub fn texts_differ<T: Titled>(alloc: Global, items: &[T]) -> Result<bool, AllocError>
     ensures { IfOk result (λ b. b ≡ all_differ bytes_eq (map T.title_of items.now)) }
 {
@@ -45,6 +49,10 @@ pub fn texts_differ<T: Titled>(alloc: Global, items: &[T]) -> Result<bool, Alloc
 }
 
 /// Whether no kind of a branch, its second part, stands twice.
+///
+/// # Errors
+///
+/// `AllocError` where room for those seen so far is refused.
 pub fn kinds_differ(alloc: Global, branches: &[(u32, u64)]) -> Result<bool, AllocError>
     ensures { IfOk result (λ b. b ≡ all_differ (λ a c. a == c) (map (λ p. p.1) branches.now)) }
 {

@@ -87,6 +87,10 @@ pub fn place_of(known: &Places, name: &str) -> Option<u32>
 }
 
 /// Adds a definition's full name.
+///
+/// # Errors
+///
+/// `AllocError` where room for the name is refused. The contract leaves open what is known then.
 pub fn define(alloc: Global, known: &mut Places, full: &str, place: u32) -> Result<(), AllocError>
     ensures { OnOk result (known_in known.new ≡ defined (known_in known.old) full.now place) }
 {
@@ -96,6 +100,10 @@ pub fn define(alloc: Global, known: &mut Places, full: &str, place: u32) -> Resu
 }
 
 /// The place of what a reference names, in the enclosing namespace or else in the null one.
+///
+/// # Errors
+///
+/// `AllocError` where room for a full name is refused.
 #[tactic(auto, unfolding(crate::specs::Names::resolved))]
 pub fn resolve(
     alloc: Global,
@@ -119,6 +127,10 @@ pub fn resolve(
 }
 
 /// The full name of a definition, from its `name` and `namespace` and the enclosing namespace.
+///
+/// # Errors
+///
+/// `AllocError` where room for it is refused.
 #[tactic(auto, unfolding(crate::specs::Names::full_name))]
 pub fn full_name(
     alloc: Global,
@@ -148,6 +160,10 @@ pub fn full_name(
 }
 
 /// The full name of an alias of a type in the namespace.
+///
+/// # Errors
+///
+/// `AllocError` where room for it is refused.
 #[tactic(auto, unfolding(crate::specs::Names::alias_in))]
 pub fn alias_in(alloc: Global, space: &str, name: String) -> Result<Option<String>, AllocError>
     ensures { IfOk result (λ o. option_map string_bytes o ≡ alias_in space.now (string_bytes name)) }

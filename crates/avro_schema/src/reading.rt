@@ -25,6 +25,11 @@ mod names;
 mod nodes;
 
 /// Reads a type, nested no deeper than the number, and answers its place.
+///
+/// # Errors
+///
+/// `TooLarge` where it is past a limit, `OutOfMemory` where room is refused, and else what makes
+/// the value no type (see `SchemaError`). Nodes and names may be left behind then.
 #[cycle(read)]
 pub fn type_at(
     alloc: Global,

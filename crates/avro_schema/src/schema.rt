@@ -84,7 +84,12 @@ fn nodes_of(alloc: Global, text: &str) -> Result<Vec<Node>, SchemaError>
 
 impl Schema {
     /// Reads a schema text. It succeeds only where the text denotes a schema, and gives that
-    /// schema. Each error but `OutOfMemory` says that the text denotes none.
+    /// schema.
+    ///
+    /// # Errors
+    ///
+    /// `OutOfMemory` where room is refused. Each other one says that the text denotes no schema;
+    /// the reason that it names (see `SchemaError`) stands in no clause.
     pub fn read(alloc: Global, text: &str) -> Result<Schema, SchemaError>
         ensures ok { IfOk result (λ s. TextDenotes text.now (nodes_view s)) }
         // a text denotes at most one schema
@@ -109,6 +114,10 @@ impl Schema {
 
     /// The identity text: one JSON text for the schema, compact and with its members in byte
     /// order. It denotes this schema and no other, so reading it gives the schema back.
+    ///
+    /// # Errors
+    ///
+    /// `OutOfMemory` where room for the copy is refused.
     pub fn text(&self, alloc: Global) -> Result<String, OutOfMemory>
         ensures text { IfOk result (λ s. string_bytes s ≡ identity (nodes_view self.now)) }
         ensures denotes { IfOk result (λ s. TextDenotes (string_bytes s) (nodes_view self.now)) }

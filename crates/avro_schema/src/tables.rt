@@ -70,6 +70,10 @@ fn has_such_default(node: &Node) -> bool {
 
 /// The tables of the records that have more than a few fields, each at its record's place. There
 /// are none where no default holds other values.
+///
+/// # Errors
+///
+/// `AllocError` where room for them is refused.
 pub fn tables_of(alloc: Global, nodes: &[Node]) -> Result<Vec<Option<FieldTable>>, AllocError>
     ensures { IfOk result (λ v. AreTables (nodes_view nodes.now) v.items) }
 {

@@ -80,6 +80,10 @@ fn looked_at(rt: &HostRuntime, file: &str) -> io::Result<Option<bool>> {
 }
 
 /// Opens the database in a file, which is made where it is missing. A new one has no registry yet.
+///
+/// # Errors
+///
+/// `Unbegun::OutOfMemory` where room is refused. Every other failure is `Opened::Failed`.
 pub fn opened_database(rt: &HostRuntime, file: &str) -> Result<Opened<FileDatabase>, Unbegun> {
     let is_new = match looked_at(rt, file) {
         Ok(Some(is_new)) => is_new,
@@ -116,6 +120,10 @@ fn is_found(rt: &HostRuntime, file: &str) -> io::Result<Option<bool>> {
 
 /// Opens the database in a file for a job that makes no registry: a missing file isn't made, and one
 /// without a byte isn't opened.
+///
+/// # Errors
+///
+/// `Unbegun::OutOfMemory` where room is refused. Every other failure is `Opened::Failed`.
 pub fn found_database(rt: &HostRuntime, file: &str) -> Result<Opened<FileDatabase>, Unbegun> {
     let has_bytes = match is_found(rt, file) {
         Ok(Some(has_bytes)) => has_bytes,

@@ -27,6 +27,10 @@ fn listen(
 }
 
 /// Opens the server's database, serves its connections, closes it, and answers the program's status.
+///
+/// # Errors
+///
+/// `Unbegun::OutOfMemory` where room to open the file is refused. Nothing was served then.
 pub fn serve(rt: &HostRuntime, server: &Server) -> Result<u8, Unbegun> {
     let file = server.database.as_str();
     let opened = opened_database(rt, file)?;

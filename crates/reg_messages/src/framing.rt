@@ -33,8 +33,12 @@ fn number(text: &[u8]) -> Result<usize, Code>
     Ok(n as usize)
 }
 
-/// The body's length in bytes by the fields of the head, 0 without a `Content-Length`. A
-/// `Transfer-Encoding` is `CodingNotSupported`, two lengths are `MalformedRequest`.
+/// The body's length in bytes by the fields of the head, 0 without a `Content-Length`.
+///
+/// # Errors
+///
+/// `CodingNotSupported` for a `Transfer-Encoding`. Else `MalformedRequest` for two lengths, or for
+/// one that isn't 1 to 19 digits, and `BodyTooLarge` for one above `MAX_BODY`.
 pub fn length_by(head: &[u8], fields: &[HeaderSpan]) -> Result<usize, Code>
     requires { All (IsHeaderWithin (length head.now)) fields.now }
     ensures value { result ≡ framing (map (header_bytes head.now) fields.now) }

@@ -26,6 +26,14 @@ pub struct KeptReply {
 }
 
 /// Keeps a command's text and its reply under a retry key, which the caller has seen to have none.
+///
+/// # Errors
+///
+/// `OutOfMemory`, a fault of the disk, `OperationInterrupted` at the limit on steps,
+/// `TransactionState` where a failure has ended the transaction, `TooBig` for a row that is too
+/// large, or `NoRowid` or `ConstraintViolation(PrimaryKey)` where no rowid is free behind the last
+/// row; another where the key has something or the tables aren't the layout's. Nothing is
+/// committed, and the transaction is to be rolled back.
 pub fn keep_reply<S: Alter>(
     tx: &mut Transaction<'_, S>,
     key: &str,
@@ -73,6 +81,11 @@ fn reply_in(row: &Row) -> Result<KeptReply, Error>
 }
 
 /// What is kept under a retry key, if something is.
+///
+/// # Errors
+///
+/// `OutOfMemory`, a fault of the disk, or `OperationInterrupted` at the limit on steps; where the
+/// tables can't be read, another error too. Nothing is changed.
 pub fn kept_reply<S: Alter>(conn: &mut Connection<S>, key: &str) -> Result<Option<KeptReply>, Error>
     requires idle { conn.old.in_transaction ≡ false }
     ensures frame { StaysIdle S.Store conn.old conn.new result }

@@ -60,6 +60,13 @@ fn make_other_tables<S: Alter>(tx: &mut Transaction<'_, S>) -> Result<(), Error>
 }
 
 /// Makes the index of `versions`, which tables that another program made may lack (`is_unindexed`).
+///
+/// # Errors
+///
+/// `OutOfMemory`, a fault of the disk, `OperationInterrupted` at the limit on steps, or
+/// `TransactionState` where a failure has ended the transaction; another where the index is there
+/// or the tables aren't the layout's. Nothing is committed, and the transaction is to be rolled
+/// back.
 pub fn index_versions<S: Alter>(tx: &mut Transaction<'_, S>) -> Result<(), Error>
     ensures frame { StaysInside S.Store tx.old tx.new result }
     ensures indexed { HasCleanDisk (state_in S.Store tx.new) → OnOk result ((contents : Contents)
@@ -88,6 +95,12 @@ fn make_tables<S: Alter>(tx: &mut Transaction<'_, S>) -> Result<(), Error>
 
 /// Makes the tables of a new registry in a database that has none (`has_no_tables`), with the global
 /// level BACKWARD. (Schema Registry API reference, Config.)
+///
+/// # Errors
+///
+/// `OutOfMemory`, a fault of the disk, `OperationInterrupted` at the limit on steps, or
+/// `TransactionState` where a failure has ended the transaction; another where there are tables.
+/// Nothing is committed, and the transaction is to be rolled back.
 pub fn create<S: Alter>(tx: &mut Transaction<'_, S>) -> Result<(), Error>
     ensures frame { StaysInside S.Store tx.old tx.new result }
     ensures made { HasCleanDisk (state_in S.Store tx.new)

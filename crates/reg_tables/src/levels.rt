@@ -42,6 +42,12 @@ fn put_level<S: Alter>(tx: &mut Transaction<'_, S>, subject: &str, level: &str) 
 }
 
 /// Drops the own level of a subject, if it has one.
+///
+/// # Errors
+///
+/// `OutOfMemory`, a fault of the disk, `OperationInterrupted` at the limit on steps, or
+/// `TransactionState` where a failure has ended the transaction; another where the tables aren't
+/// the layout's. Nothing is committed, and the transaction is to be rolled back.
 pub fn drop_level<S: Alter>(tx: &mut Transaction<'_, S>, subject: &str) -> Result<(), Error>
     ensures frame { StaysInside S.Store tx.old tx.new result }
     ensures dropped { HasCleanDisk (state_in S.Store tx.new)
@@ -61,6 +67,14 @@ pub fn drop_level<S: Alter>(tx: &mut Transaction<'_, S>, subject: &str) -> Resul
 }
 
 /// Sets the own level of a subject, in place of the one that it may have.
+///
+/// # Errors
+///
+/// `OutOfMemory`, a fault of the disk, `OperationInterrupted` at the limit on steps,
+/// `TransactionState` where a failure has ended the transaction, `TooBig` for a row that is too
+/// large, or `NoRowid` or `ConstraintViolation(PrimaryKey)` where no rowid is free behind the last
+/// row; another where the tables aren't the layout's. Nothing is committed, and the transaction is
+/// to be rolled back.
 pub fn set_level<S: Alter>(
     tx: &mut Transaction<'_, S>,
     subject: &str,
@@ -86,6 +100,11 @@ pub fn set_level<S: Alter>(
 }
 
 /// The own level of a subject, if it has one.
+///
+/// # Errors
+///
+/// `OutOfMemory`, a fault of the disk, or `OperationInterrupted` at the limit on steps; where the
+/// tables can't be read, another error too. Nothing is changed.
 pub fn own_level<S: Alter>(conn: &mut Connection<S>, subject: &str) -> Result<Option<String>, Error>
     requires idle { conn.old.in_transaction ≡ false }
     ensures frame { StaysIdle S.Store conn.old conn.new result }

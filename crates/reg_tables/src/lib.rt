@@ -5,7 +5,9 @@
 //! clause says, and whatever it answers nothing is committed: that is the caller's commit.
 //! A call that only reads takes a connection outside a transaction. What a call says of the
 //! contents holds where the disk has returned what was written to it (`HasCleanDisk`). Errors are
-//! `sqlite`'s, and a clause `fault` says which of them are left where the tables are as it asks.
+//! `sqlite`'s, and a clause `fault` says which of them are left where the tables are as it asks:
+//! codes of `SqliteFailure`, where a fault of the disk is `SystemIoFailure`, `DatabaseCorrupt`,
+//! `DiskFull`, or `Closed` after an earlier one.
 #![tactic(auto)]
 
 mod declared;

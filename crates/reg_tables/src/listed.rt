@@ -68,6 +68,11 @@ impl Line for ListedVersion {
 }
 
 /// The versions of a subject, in the order of their numbers.
+///
+/// # Errors
+///
+/// `OutOfMemory`, a fault of the disk, or `OperationInterrupted` at the limit on steps; where the
+/// tables can't be read, another error too. Nothing is changed.
 pub fn versions_of<S: Alter>(
     alloc: Global,
     conn: &mut Connection<S>,
@@ -91,6 +96,11 @@ pub fn versions_of<S: Alter>(
 }
 
 /// The version of a subject with the greatest number, if the subject has one.
+///
+/// # Errors
+///
+/// `OutOfMemory`, a fault of the disk, or `OperationInterrupted` at the limit on steps; where the
+/// tables can't be read, another error too. Nothing is changed.
 pub fn last_version_of<S: Alter>(
     conn: &mut Connection<S>,
     subject: &str,
@@ -113,6 +123,11 @@ pub fn last_version_of<S: Alter>(
 
 /// The version of a subject with the greatest number among those that aren't marked as deleted, if
 /// there is one.
+///
+/// # Errors
+///
+/// `OutOfMemory`, a fault of the disk, or `OperationInterrupted` at the limit on steps; where the
+/// tables can't be read, another error too. Nothing is changed.
 pub fn last_live_version_of<S: Alter>(
     conn: &mut Connection<S>,
     subject: &str,
@@ -135,6 +150,11 @@ pub fn last_live_version_of<S: Alter>(
 }
 
 /// The version of a subject with the least number above this one, if the subject has one.
+///
+/// # Errors
+///
+/// `OutOfMemory`, a fault of the disk, or `OperationInterrupted` at the limit on steps; where the
+/// tables can't be read, another error too. Nothing is changed.
 pub fn next_version_of<S: Alter>(
     conn: &mut Connection<S>,
     subject: &str,
@@ -158,6 +178,11 @@ pub fn next_version_of<S: Alter>(
 }
 
 /// The first version of the first subject behind this one, if there is one.
+///
+/// # Errors
+///
+/// `OutOfMemory`, a fault of the disk, or `OperationInterrupted` at the limit on steps; where the
+/// tables can't be read, another error too. Nothing is changed.
 pub fn first_version_behind<S: Alter>(
     conn: &mut Connection<S>,
     subject: &str,
@@ -180,6 +205,11 @@ pub fn first_version_behind<S: Alter>(
 }
 
 /// The versions of an id, in the order of their subjects and numbers.
+///
+/// # Errors
+///
+/// `OutOfMemory`, a fault of the disk, or `OperationInterrupted` at the limit on steps; where the
+/// tables can't be read, another error too. Nothing is changed.
 pub fn versions_of_id<S: Alter>(
     alloc: Global,
     conn: &mut Connection<S>,
@@ -203,6 +233,11 @@ pub fn versions_of_id<S: Alter>(
 }
 
 /// A version of an id, whichever it is, if the id has one.
+///
+/// # Errors
+///
+/// `OutOfMemory`, a fault of the disk, or `OperationInterrupted` at the limit on steps; where the
+/// tables can't be read, another error too. Nothing is changed.
 pub fn a_version_of_id<S: Alter>(
     conn: &mut Connection<S>,
     id: u32,
@@ -226,6 +261,11 @@ pub fn a_version_of_id<S: Alter>(
 }
 
 /// All versions, in the order of their subjects and numbers.
+///
+/// # Errors
+///
+/// `OutOfMemory`, a fault of the disk, or `OperationInterrupted` at the limit on steps; where the
+/// tables can't be read, another error too. Nothing is changed.
 pub fn all_versions<S: Alter>(
     alloc: Global,
     conn: &mut Connection<S>,

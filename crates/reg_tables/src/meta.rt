@@ -60,6 +60,14 @@ fn drop_meta<S: Alter>(tx: &mut Transaction<'_, S>, name: &str) -> Result<(), Er
 }
 
 /// Sets the global level, in place of the one that is there.
+///
+/// # Errors
+///
+/// `OutOfMemory`, a fault of the disk, `OperationInterrupted` at the limit on steps,
+/// `TransactionState` where a failure has ended the transaction, `TooBig` for a row that is too
+/// large, or `NoRowid` or `ConstraintViolation(PrimaryKey)` where no rowid is free behind the last
+/// row; another where the tables aren't the layout's. Nothing is committed, and the transaction is
+/// to be rolled back.
 pub fn set_global<S: Alter>(tx: &mut Transaction<'_, S>, level: &str) -> Result<(), Error>
     ensures frame { StaysInside S.Store tx.old tx.new result }
     ensures set { HasCleanDisk (state_in S.Store tx.new)
@@ -81,6 +89,11 @@ pub fn set_global<S: Alter>(tx: &mut Transaction<'_, S>, level: &str) -> Result<
 }
 
 /// The global level, if the database has one.
+///
+/// # Errors
+///
+/// `OutOfMemory`, a fault of the disk, or `OperationInterrupted` at the limit on steps; where the
+/// tables can't be read, another error too. Nothing is changed.
 pub fn global_level<S: Alter>(conn: &mut Connection<S>) -> Result<Option<String>, Error>
     requires idle { conn.old.in_transaction ≡ false }
     ensures frame { StaysIdle S.Store conn.old conn.new result }

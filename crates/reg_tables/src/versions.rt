@@ -24,6 +24,14 @@ pub struct VersionEntry {
 }
 
 /// Puts a version of a subject under its number, which the caller has seen to have none.
+///
+/// # Errors
+///
+/// `OutOfMemory`, a fault of the disk, `OperationInterrupted` at the limit on steps,
+/// `TransactionState` where a failure has ended the transaction, `TooBig` for a row that is too
+/// large, or `NoRowid` or `ConstraintViolation(PrimaryKey)` where no rowid is free behind the last
+/// row; another where the number is taken, no text has the id, or the tables aren't the layout's.
+/// Nothing is committed, and the transaction is to be rolled back.
 pub fn put_version<S: Alter>(
     tx: &mut Transaction<'_, S>,
     subject: &str,
@@ -60,6 +68,12 @@ pub fn put_version<S: Alter>(
 }
 
 /// Drops the version of a subject that has the number, if there is one.
+///
+/// # Errors
+///
+/// `OutOfMemory`, a fault of the disk, `OperationInterrupted` at the limit on steps, or
+/// `TransactionState` where a failure has ended the transaction; another where the tables aren't
+/// the layout's. Nothing is committed, and the transaction is to be rolled back.
 pub fn drop_version<S: Alter>(
     tx: &mut Transaction<'_, S>,
     subject: &str,
@@ -84,6 +98,14 @@ pub fn drop_version<S: Alter>(
 }
 
 /// Marks the version of a subject that has the number as deleted, if there is one.
+///
+/// # Errors
+///
+/// `OutOfMemory`, a fault of the disk, `OperationInterrupted` at the limit on steps,
+/// `TransactionState` where a failure has ended the transaction, `TooBig` for a row that is too
+/// large, or `NoRowid` or `ConstraintViolation(PrimaryKey)` where rows don't stand in the order of
+/// their rowids; another where the tables aren't the layout's. Nothing is committed, and the
+/// transaction is to be rolled back.
 pub fn mark_deleted<S: Alter>(
     tx: &mut Transaction<'_, S>,
     subject: &str,
@@ -127,6 +149,11 @@ fn entry_in(row: &Row) -> Result<VersionEntry, Error>
 }
 
 /// The version of a subject that has the number, if there is one.
+///
+/// # Errors
+///
+/// `OutOfMemory`, a fault of the disk, or `OperationInterrupted` at the limit on steps; where the
+/// tables can't be read, another error too. Nothing is changed.
 pub fn version_of<S: Alter>(
     conn: &mut Connection<S>,
     subject: &str,

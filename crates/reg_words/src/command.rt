@@ -121,6 +121,10 @@ fn text_command<'a>(alloc: Global) -> Result<Command<'a>, AllocError>
 }
 
 /// `list --db F W`.
+///
+/// # Errors
+///
+/// `AllocError` where room is refused.
 pub fn list_command<'a>(alloc: Global) -> Result<Command<'a>, AllocError>
     ensures { IfOk result (IsApp list_command) }
 {
@@ -158,6 +162,10 @@ Examples:
 }
 
 /// The program, with its commands.
+///
+/// # Errors
+///
+/// `AllocError` where room is refused.
 pub fn program<'a>(alloc: Global) -> Result<Command<'a>, AllocError>
     ensures { IfOk result (IsApp program) }
 {

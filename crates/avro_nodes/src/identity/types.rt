@@ -34,6 +34,10 @@ fn kind_text(kind: Kind) -> &'static str
 }
 
 /// Writes a primitive type: its name, or an object where it has other attributes.
+///
+/// # Errors
+///
+/// `AllocError` where room is refused. A part of it may be written then.
 pub fn write_primitive(out: &mut Compact, kind: Kind, extra: &Extra) -> Result<(), AllocError>
     ensures { OnOk result (WritesValue (primitive_value kind (members_view extra.now.entries))
         out.old out.new) }
@@ -48,6 +52,10 @@ pub fn write_primitive(out: &mut Compact, kind: Kind, extra: &Extra) -> Result<(
 }
 
 /// Writes an enum.
+///
+/// # Errors
+///
+/// `AllocError` where room is refused. A part of it may be written then.
 pub fn write_enum(
     out: &mut Compact,
     enclosing: &str,
@@ -74,6 +82,10 @@ pub fn write_enum(
 }
 
 /// Writes a fixed.
+///
+/// # Errors
+///
+/// `AllocError` where room is refused. A part of it may be written then.
 pub fn write_fixed(
     out: &mut Compact,
     enclosing: &str,
@@ -96,8 +108,11 @@ pub fn write_fixed(
     write_rest(out, others)
 }
 
-// An array up to its items, which are to be written next.
-/// Writes an array up to its items.
+/// Writes an array up to its items, which are to be written next.
+///
+/// # Errors
+///
+/// `AllocError` where room is refused. A part of it may be written then.
 pub fn begin_array<'a>(out: &mut Compact, extra: &'a Extra) -> Result<Others<'a>, AllocError>
     ensures { IfOk result (λ others. Awaits
         (λ items. array_value items (members_view extra.now.entries))
@@ -110,6 +125,10 @@ pub fn begin_array<'a>(out: &mut Compact, extra: &'a Extra) -> Result<Others<'a>
 }
 
 /// Writes the rest of an array.
+///
+/// # Errors
+///
+/// `AllocError` where room is refused. A part of it may be written then.
 pub fn end_array(out: &mut Compact, mut others: Others<'_>) -> Result<(), AllocError>
     ensures { OnOk result (Ends (merged array_end (members_view others.entry)) out.old out.new) }
 {
@@ -117,8 +136,11 @@ pub fn end_array(out: &mut Compact, mut others: Others<'_>) -> Result<(), AllocE
     write_rest(out, others)
 }
 
-// A map up to its values, which are to be written next.
-/// Writes a map up to its values.
+/// Writes a map up to its values, which are to be written next.
+///
+/// # Errors
+///
+/// `AllocError` where room is refused. A part of it may be written then.
 pub fn begin_map<'a>(out: &mut Compact, extra: &'a Extra) -> Result<Others<'a>, AllocError>
     ensures { IfOk result (λ others. Awaits
         (λ values. map_value values (members_view extra.now.entries))
@@ -131,8 +153,11 @@ pub fn begin_map<'a>(out: &mut Compact, extra: &'a Extra) -> Result<Others<'a>, 
     Ok(others)
 }
 
-// A record up to its fields, which are to be written next.
-/// Writes a record up to its fields.
+/// Writes a record up to its fields, which are to be written next.
+///
+/// # Errors
+///
+/// `AllocError` where room is refused. A part of it may be written then.
 pub fn begin_record<'a>(
     out: &mut Compact,
     named: &Named,
@@ -152,6 +177,10 @@ pub fn begin_record<'a>(
 }
 
 /// Writes the rest of a record.
+///
+/// # Errors
+///
+/// `AllocError` where room is refused. A part of it may be written then.
 pub fn end_record(
     out: &mut Compact,
     mut others: Others<'_>,
@@ -167,8 +196,11 @@ pub fn end_record(
     write_rest(out, others)
 }
 
-// A field up to its type, which is to be written next.
-/// Writes a field up to its type.
+/// Writes a field up to its type, which is to be written next.
+///
+/// # Errors
+///
+/// `AllocError` where room is refused. A part of it may be written then.
 pub fn begin_field<'a>(out: &mut Compact, field: &'a Field) -> Result<Others<'a>, AllocError>
     ensures { IfOk result (λ others. Awaits (field_value (field_view field.now))
         (members_view others) out.old out.new) }

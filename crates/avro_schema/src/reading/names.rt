@@ -14,6 +14,11 @@ use avro_nodes::{Extra, Kind, Node};
 use std::alloc::Global;
 
 /// Reads a primitive type, whose other attributes are left.
+///
+/// # Errors
+///
+/// `TooLarge` where there is no place left or an attribute nests too deep, and `OutOfMemory` where
+/// room is refused.
 #[tactic(auto, unfolding(crate::specs::Reading::primitive_at))]
 pub fn primitive_at(
     alloc: Global,
@@ -33,6 +38,11 @@ pub fn primitive_at(
 }
 
 /// Finds what a reference names.
+///
+/// # Errors
+///
+/// `Undefined` where nothing known has the name, and `OutOfMemory` where room for a full name is
+/// refused.
 #[tactic(auto, unfolding(crate::specs::Reading::reference_to))]
 pub fn reference_to(
     alloc: Global,
@@ -51,6 +61,10 @@ pub fn reference_to(
 }
 
 /// Reads a string: a primitive's name, or else a reference.
+///
+/// # Errors
+///
+/// The errors of `primitive_at` and of `reference_to`.
 #[tactic(auto, unfolding(crate::specs::Reading::name_at))]
 pub fn name_at(
     alloc: Global,
