@@ -1,4 +1,5 @@
 //! The nodes of an Avro schema, the rule for the numbers in its text, and its identity text.
+
 #![tactic(auto)]
 
 mod attributes;

@@ -1,5 +1,6 @@
 //! Whether a reader's schema can read what a writer's schema wrote (Avro 1.11 specification,
 //! Schema Resolution).
+
 #![tactic(auto)]
 
 mod askers;

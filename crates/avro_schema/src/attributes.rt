@@ -1,4 +1,5 @@
 //! The attributes of a declaration, which are taken out of a JSON object one by one.
+
 ghost use Rattle.std.specs.Prelude.{◌≡◌, Some, None, option_map, option_and_then, string_bytes};
 ghost use Rattle.serde_json.specs.Find.{get_member, as_str, as_array, as_object};
 ghost use Rattle.serde_json.specs.View.{view, items_view, members_view};

@@ -1,4 +1,5 @@
 //! What a declaration says beside the types inside it: names, symbols, sizes, orders, defaults.
+
 ghost use Rattle.std.specs.Prelude.{◌≡◌, length, Some, None, IfOk, OnOk, option_map, string_bytes, codes, ◌∷◌, []};
 ghost use Rattle.std.specs.Str.{bytes_eq};
 ghost use Rattle.std.specs.List.{list_any};

@@ -1,4 +1,5 @@
 //! Whether none stands twice.
+
 ghost use Rattle.std.specs.Prelude.{◌≡◌, ◌==◌, List, ℕ, IfOk, map, string_bytes};
 ghost use Rattle.std.specs.Str.{bytes_eq};
 ghost use Rattle.avro_schema.specs.Distinct.{all_differ};

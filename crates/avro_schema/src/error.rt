@@ -1,4 +1,5 @@
 //! Why a text denotes no schema.
+
 ghost use Rattle.std.specs.Prelude.{◌≡◌};
 ghost use Rattle.avro_schema.specs.declared.error.SchemaError.TheVariants.{OutOfMemory};
 

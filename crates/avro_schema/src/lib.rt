@@ -1,4 +1,5 @@
 //! Reads the text of an Avro schema exactly where it denotes one.
+
 #![tactic(auto)]
 
 mod attributes;

@@ -1,5 +1,6 @@
 //! How many bytes the names of the types that nodes are made of will take in the identity text. It
 //! refers to a type by its full name, so that it may be far longer than the nodes are large.
+
 ghost use Rattle.std.specs.Prelude.{◌≡◌, ◌-◌, length, map, nat_le};
 ghost use Rattle.avro_nodes.specs.Nodes.{field_view, node_view, nodes_view};
 ghost use Rattle.avro_nodes.specs.Limits.{max_text};

@@ -1,4 +1,5 @@
 //! Names and namespaces.
+
 ghost use Rattle.std.specs.Prelude.{◌≡◌, ◌<◌, length, Some, None, IfOk, OnOk, option_map, string_bytes, true};
 ghost use Rattle.avro_schema.specs.Names.{is_start, is_part, is_dotted, is_simple, joined, resolved, is_space, full_name, alias_in, defined};
 ghost use Rattle.avro_nodes.specs.Names.{namespace_of};

@@ -1,4 +1,5 @@
 //! A schema, and how it is read.
+
 ghost use Rattle.std.specs.Prelude.{◌≡◌, ◌≢◌, ◌<◌, ◌≤◌, ◌↔◌, ℕ, List, Some, length, IsTrue, slice_get, string_bytes, IfOk, IfErr};
 ghost use Rattle.serde_json.specs.View.{view};
 ghost use Rattle.avro_nodes.specs.Identity.{identity};

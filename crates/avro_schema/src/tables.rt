@@ -1,5 +1,6 @@
 //! The fields of a record by name, so that a default is judged by its own members and not by all
 //! the fields that the record has.
+
 ghost use Rattle.std.specs.Prelude.{IfOk, IfSome, map};
 ghost use Rattle.avro_nodes.specs.Nodes.{field_view, node_view, nodes_view};
 ghost use Rattle.avro_schema.specs.Tables.{IsTable, IsTableOf, AreTables};

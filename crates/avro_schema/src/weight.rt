@@ -1,5 +1,6 @@
 //! How many bytes the names of a value's definitions will take. A short name or alias takes its
 //! namespace on, so nodes may hold far more bytes than the text that they are read from.
+
 ghost use Rattle.std.specs.Prelude.{◌≡◌, ◌-◌, length, option_map, nat_le, codes, []};
 ghost use Rattle.serde_json.specs.Find.{get_member};
 ghost use Rattle.serde_json.specs.View.{view, items_view, members_view};

@@ -1,4 +1,5 @@
 //! The words of a declaration.
+
 ghost use Rattle.std.specs.Prelude.{◌≡◌, Some, None};
 ghost use Rattle.avro_schema.specs.Words.{kind_of, word_of, order_of};
 

@@ -1,4 +1,5 @@
 //! avroreg, a registry of Avro schemas.
+
 #![tactic(auto)]
 
 mod database;

@@ -1,6 +1,7 @@
 //! Measures the interface over HTTP: a connection whose requests are all there at once, over a registry in memory.
 //!
 //! Without words it does nothing.
+
 #![tactic(auto)]
 
 mod requests;

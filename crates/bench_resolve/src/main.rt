@@ -2,6 +2,7 @@
 //! parts, or `all`. For each pair of schemas it prints the numbers of places, what `resolves`
 //! answers, how long it and `resolves_plain` took, and the most memory that the process held so
 //! far. Without words it does nothing.
+
 #![tactic(auto)]
 
 mod parts;

@@ -3,6 +3,7 @@
 //!
 //! The words are the names of cases, or `all`. Without words it measures nothing and prints
 //! nothing.
+
 #![tactic(auto)]
 
 mod case;

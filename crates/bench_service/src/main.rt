@@ -1,6 +1,7 @@
 //! Measures the registry's service, over a store in memory and over one in a file.
 //!
 //! Without words it does nothing. What is delivered is made before the time of it begins.
+
 #![tactic(auto)]
 
 mod deliveries;

@@ -1,4 +1,5 @@
 //! Tests of messages and of what they ask for.
+
 #![tactic(auto)]
 
 #[cfg(test)]

@@ -1,4 +1,5 @@
 //! Tests of connections and of jobs.
+
 #![tactic(auto)]
 
 #[cfg(test)]

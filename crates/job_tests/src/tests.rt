@@ -1,4 +1,5 @@
 //! What no clause says: the bytes of messages, whole and in pieces, what fails in mid-stream, and how jobs come out.
+
 mod jobs;
 mod listings;
 mod loopback;

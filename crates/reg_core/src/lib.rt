@@ -1,5 +1,6 @@
 //! The plain registry: levels, codes, replies, retry keys and commands, and what each command
 //! does and answers.
+
 #![tactic(auto)]
 
 mod code;

@@ -1,4 +1,5 @@
 //! The registry over HTTP/1.1: requests read from a stream, carried out and answered in order.
+
 #![tactic(auto)]
 
 mod answering;

@@ -1,5 +1,6 @@
 //! The jobs of the program: a session of messages over a registry, connections to a listener, a listing
 //! of a registry, the identity text of a schema in a file, and the verdict on two.
+
 #![tactic(auto)]
 
 mod database;

@@ -1,4 +1,5 @@
 //! HTTP messages: from bytes to requests, and from replies to bytes.
+
 #![tactic(auto)]
 
 mod answer;

@@ -1,4 +1,5 @@
 //! Listings as CSV.
+
 #![tactic(auto)]
 
 mod error;

@@ -1,4 +1,5 @@
 //! What a request asks of the registry: its path, its method, its query, its retry key and its body.
+
 #![tactic(auto)]
 
 mod body;

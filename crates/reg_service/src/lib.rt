@@ -1,4 +1,5 @@
 //! Retry keys: a delivery that comes again is carried out once, and gets its first reply.
+
 #![tactic(auto)]
 
 mod delivery;

@@ -2,6 +2,7 @@
 //!
 //! What a call says of the tables holds where the disk has returned what was written to it
 //! (`HasCleanDisk`).
+
 #![tactic(auto)]
 
 mod changes;

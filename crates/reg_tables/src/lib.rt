@@ -8,6 +8,7 @@
 //! `sqlite`'s, and a clause `fault` says which of them are left where the tables are as it asks:
 //! codes of `SqliteFailure`, where a fault of the disk is `SystemIoFailure`, `DatabaseCorrupt`,
 //! `DiskFull`, or `Closed` after an earlier one.
+
 #![tactic(auto)]
 
 mod declared;

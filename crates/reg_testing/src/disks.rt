@@ -1,4 +1,5 @@
 //! Connections over disks in memory.
+
 use sqlite::{Connection, FileStore, Files, Options};
 use sqlite_disk::{Disk, Memory};
 use std::alloc::Global;

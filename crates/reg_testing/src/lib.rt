@@ -1,5 +1,6 @@
 //! What the tests of stores, requests and jobs share: disks in memory, registries over them, and readers and writers that
 //! give and take little. It promises nothing.
+
 #![tactic(auto)]
 
 mod disks;

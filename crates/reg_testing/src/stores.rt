@@ -1,4 +1,5 @@
 //! Stores and services over new registries, and stores over those that a database has.
+
 use crate::disks::{close, empty_disk, over};
 use reg_service::Service;
 use reg_store::Store;

@@ -1,4 +1,5 @@
 //! Tests of what registries answer, as deliveries and as bytes, over memory and over a disk.
+
 #![tactic(auto)]
 
 #[cfg(test)]

@@ -1,4 +1,5 @@
 //! The words of the program: what those behind its name ask for, as `clap` reads them.
+
 #![tactic(auto)]
 
 mod command;

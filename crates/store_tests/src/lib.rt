@@ -1,4 +1,5 @@
 //! Tests of the tables, of stores and of services, over memory and over disks that fail.
+
 #![tactic(auto)]
 
 #[cfg(test)]

@@ -1,4 +1,5 @@
 //! Tests of what the words behind the program's name ask for.
+
 #![tactic(auto)]
 
 #[cfg(test)]

@@ -1,4 +1,5 @@
 //! Deleting versions and subjects, softly and for good, over a registry in memory and over a disk that is opened again after each row.
+
 use super::rows::{
     Ask, ID_1, ID_2, INCOMPATIBLE, INT, INVALID_VERSION, LONG, NO, NO_OWN_LEVEL, NO_SCHEMA,
     NO_SUBJECT, NO_VERSION, REUSED, Row, S1, STRING, YES, answers_rows, both,

@@ -1,4 +1,5 @@
 //! What a store lists.
+
 use super::registering::with_a_deleted_version;
 use reg_store::{Listing, Store};
 use reg_tables::set_level;

@@ -1,4 +1,5 @@
 //! Registering schemas and looking them up, over a registry in memory and over a disk that is opened again after each row.
+
 use super::requests::in_bytes_of;
 use super::rows::{
     Ask, ID_1, ID_2, ID_3, INCOMPATIBLE, INT, INVALID_VERSION, LONG, NO, NO_OWN_LEVEL, NO_SCHEMA,

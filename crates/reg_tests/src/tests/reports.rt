@@ -1,4 +1,5 @@
 //! Listings as CSV.
+
 use super::listings::with_an_own_level;
 use reg_report::{ReportError, list, list_schemas, list_subjects, list_versions};
 use reg_store::{Listing, Store};

@@ -1,4 +1,5 @@
 //! What is asked of a service and what it answers, row by row.
+
 use super::requests::in_bytes;
 use reg_core::{Command, Key, OutOfMemory, Reply, Subject, Text};
 use reg_service::{Delivery, Service};

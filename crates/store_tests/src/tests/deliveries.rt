@@ -1,4 +1,5 @@
 //! Deliveries and their answers.
+
 use reg_core::{Command, Key, Reply, Subject, Text};
 use reg_service::{Delivery, Service};
 use sqlite::Alter;

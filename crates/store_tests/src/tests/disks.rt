@@ -1,4 +1,5 @@
 //! What disks in memory hold.
+
 use sqlite::{Alter, Connection, Error, Files, Row};
 use sqlite_disk::{Disk, Memory};
 use std::alloc::Global;

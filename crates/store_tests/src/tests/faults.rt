@@ -1,4 +1,5 @@
 //! Deliveries over a disk that fails from some call on.
+
 use super::deliveries::{Ask, FAULT, Row, answers_each, reply_to};
 use super::disks::{contents, copied, copy};
 use reg_service::Service;

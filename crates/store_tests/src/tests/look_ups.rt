@@ -1,4 +1,5 @@
 //! The calls that look texts and versions up, in memory and over a disk.
+
 use super::tables::{make, put_texts, put_versions};
 use reg_store::{Listing, Store};
 use reg_tables::{

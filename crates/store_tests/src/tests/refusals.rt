@@ -1,4 +1,5 @@
 //! Databases that aren't opened as a registry, and one that gets its index.
+
 use super::disks::{contents, copy};
 use reg_store::{Store, StoreError};
 use reg_tables::{has_layout, is_unindexed};

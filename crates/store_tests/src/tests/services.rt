@@ -1,4 +1,5 @@
 //! The service over a registry in memory.
+
 use reg_core::{Command, Key, OutOfMemory, Reply, Subject, Text};
 use reg_service::{Delivery, Service};
 use reg_testing::new_service;

@@ -1,4 +1,5 @@
 //! Stores in memory and over a disk.
+
 use super::deliveries::{Ask, Row, answers_each, subject};
 use reg_core::{Change, Command, Key, Level, Reply};
 use reg_service::Service;

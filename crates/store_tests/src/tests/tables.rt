@@ -1,4 +1,5 @@
 //! The calls that change and read the tables, in memory and over a disk.
+
 use reg_tables::{
     create, drop_level, drop_version, global_level, has_layout, has_no_tables, index_versions,
     is_unindexed, keep_reply, kept_lines, kept_reply, level_lines, mark_deleted, meta_lines,
