@@ -4,7 +4,7 @@ use Rattle.reg_core.specs.declared.code.Code.{Code}
 use Rattle.reg_core.specs.declared.code.Code.TheVariants.{MalformedRequest, NotFound, SubjectNotFound, VersionNotFound, SchemaNotFound, SubjectSoftDeleted, SubjectNotSoftDeleted, VersionSoftDeleted, VersionNotSoftDeleted, NoOwnLevel, MethodNotAllowed, Incompatible, BodyTooLarge, InvalidSchema, InvalidVersion, InvalidLevel, InvalidMode, NotPermitted, KeyReused, NoNumberLeft, CodingNotSupported, BackendFault}
 
 -- Schema Registry API reference, errors: the number of a code.
--- (This project's choice: 40001, 40404 to 40408, 42204, 42290 and 42292.)
+-- (This project's choice: 40001, 40404 to 40408, 42290 and 42292.)
 abbrev pub number_of : Code → ℕ
 number_of MalformedRequest = 40001
 number_of NotFound = 404
