@@ -164,7 +164,7 @@ fn write_fields(
 ///
 /// # Errors
 ///
-/// `OutOfMemory` where room for the text is refused.
+/// `OutOfMemory` where memory for the text is refused.
 pub fn identity_of(alloc: Global, nodes: &[Node]) -> Result<String, OutOfMemory>
     ensures text { IfOk result (λ s. IsTrue (nodes_pass has_whole_numbers (nodes_view nodes.now))
         → string_bytes s ≡ identity (nodes_view nodes.now)) }

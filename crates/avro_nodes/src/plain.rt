@@ -181,7 +181,7 @@ fn spelling(run: &str) -> Option<&str>
 ///
 /// # Errors
 ///
-/// `OutOfMemory` where room for the text is refused.
+/// `OutOfMemory` where memory for the text is refused.
 pub fn plain_of(alloc: Global, text: &str) -> Result<Option<String>, OutOfMemory>
     ensures { IfOk result (λ o. option_map string_bytes o ≡ plain text.now) }
 {

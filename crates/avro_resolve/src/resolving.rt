@@ -28,7 +28,7 @@ pub struct Verdict {
 ///
 /// # Errors
 ///
-/// `OutOfMemory` where room for the pairs or for the tables of a schema is refused.
+/// `OutOfMemory` where memory for the pairs or for the tables of a schema is refused.
 pub fn resolves_plain(alloc: Global, writer: &Schema, reader: &Schema) -> Result<bool, OutOfMemory>
     ensures { IfOk result (λ yes. IsTrue yes ↔ Resolves (nodes_view writer.now) (nodes_view reader.now)) }
 {
@@ -44,7 +44,7 @@ pub fn resolves_plain(alloc: Global, writer: &Schema, reader: &Schema) -> Result
 ///
 /// # Errors
 ///
-/// `OutOfMemory` where room for the pairs or for the tables of a schema is refused.
+/// `OutOfMemory` where memory for the pairs or for the tables of a schema is refused.
 pub fn resolves(alloc: Global, writer: &Schema, reader: &Schema) -> Result<Verdict, OutOfMemory>
     ensures yes { IfOk result (λ v. IsTrue v.yes ↔ Resolves (nodes_view writer.now) (nodes_view reader.now)) }
     ensures at_least { IfOk result (λ v. 1 ≤ v.visits) }

@@ -136,7 +136,7 @@ fn name_by(alloc: Global, text: String, space: Option<&str>) -> Result<String, S
 /// # Errors
 ///
 /// `BadShape` for an item that is no string, `BadName` for one that is no name by the rule, and
-/// `OutOfMemory` where room is refused.
+/// `OutOfMemory` where memory is refused.
 pub fn names_of(
     alloc: Global,
     items: Vec<Value>,

@@ -117,7 +117,7 @@ fn new_name(
 ///
 /// `BadShape` where the name is missing, or an attribute of the three has another JSON type,
 /// `BadName` where a name isn't well formed or is a primitive's, `Redefined` where the full name is
-/// known, and `OutOfMemory` where room is refused. Some of the attributes may be taken out then.
+/// known, and `OutOfMemory` where memory is refused. Some of the attributes may be taken out then.
 #[tactic(auto, unfolding(crate::specs::Definitions::named_in))]
 pub fn named_of(
     alloc: Global,
@@ -186,7 +186,7 @@ fn fallback_of(attribute: Option<Value>, symbols: &[String]) -> Result<Option<St
 /// `TooLarge` where there is no place left or an attribute nests too deep, the errors of
 /// `named_of`, `BadShape` where the symbols are missing or no array of strings, or the default is
 /// none of them, `BadName` for a symbol that isn't well formed, `Redefined` for one that stands
-/// twice, and `OutOfMemory` where room is refused. The name may be known then.
+/// twice, and `OutOfMemory` where memory is refused. The name may be known then.
 #[tactic(auto, unfolding(crate::specs::Definitions::enum_at))]
 pub fn enum_at(
     alloc: Global,
@@ -220,7 +220,7 @@ pub fn enum_at(
 /// # Errors
 ///
 /// `TooLarge` where there is no place left or an attribute nests too deep, the errors of
-/// `named_of`, `BadShape` where the size is missing or no size, and `OutOfMemory` where room is
+/// `named_of`, `BadShape` where the size is missing or no size, and `OutOfMemory` where memory is
 /// refused. The name may be known then.
 #[tactic(auto, unfolding(crate::specs::Definitions::fixed_at))]
 pub fn fixed_at(
@@ -291,7 +291,7 @@ pub struct Label {
 ///
 /// `BadShape` where the name is missing, the order is none, or an attribute of these has another
 /// JSON type, `BadName` where a name isn't well formed, `TooLarge` where the default nests too
-/// deep, and `OutOfMemory` where room is refused. Some of the attributes may be taken out then.
+/// deep, and `OutOfMemory` where memory is refused. Some of the attributes may be taken out then.
 #[tactic(auto, unfolding(crate::specs::Definitions::label_in))]
 pub fn label_of(alloc: Global, attributes: &mut Extra) -> Result<Label, SchemaError>
     ensures label { Gives label_view result (label_in (members_view attributes.old.entries)) }

@@ -36,7 +36,7 @@ impl Titled for Field {
 ///
 /// # Errors
 ///
-/// `AllocError` where room for those seen so far is refused.
+/// `AllocError` where memory for those seen so far is refused.
 pub fn texts_differ<T: Titled>(alloc: Global, items: &[T]) -> Result<bool, AllocError>
     ensures { IfOk result (λ b. b ≡ all_differ bytes_eq (map T.title_of items.now)) }
 {
@@ -53,7 +53,7 @@ pub fn texts_differ<T: Titled>(alloc: Global, items: &[T]) -> Result<bool, Alloc
 ///
 /// # Errors
 ///
-/// `AllocError` where room for those seen so far is refused.
+/// `AllocError` where memory for those seen so far is refused.
 pub fn kinds_differ(alloc: Global, branches: &[(u32, u64)]) -> Result<bool, AllocError>
     ensures { IfOk result (λ b. b ≡ all_differ (λ a c. a == c) (map (λ p. p.1) branches.now)) }
 {

@@ -91,7 +91,7 @@ pub fn place_of(known: &Places, name: &str) -> Option<u32>
 ///
 /// # Errors
 ///
-/// `AllocError` where room for the name is refused. The contract leaves open what is known then.
+/// `AllocError` where memory for the name is refused. The contract leaves open what is known then.
 pub fn define(alloc: Global, known: &mut Places, full: &str, place: u32) -> Result<(), AllocError>
     ensures { OnOk result (known_in known.new ≡ defined (known_in known.old) full.now place) }
 {
@@ -104,7 +104,7 @@ pub fn define(alloc: Global, known: &mut Places, full: &str, place: u32) -> Resu
 ///
 /// # Errors
 ///
-/// `AllocError` where room for a full name is refused.
+/// `AllocError` where memory for a full name is refused.
 #[tactic(auto, unfolding(crate::specs::Names::resolved))]
 pub fn resolve(
     alloc: Global,
@@ -131,7 +131,7 @@ pub fn resolve(
 ///
 /// # Errors
 ///
-/// `AllocError` where room for it is refused.
+/// `AllocError` where memory for it is refused.
 #[tactic(auto, unfolding(crate::specs::Names::full_name))]
 pub fn full_name(
     alloc: Global,
@@ -164,7 +164,7 @@ pub fn full_name(
 ///
 /// # Errors
 ///
-/// `AllocError` where room for it is refused.
+/// `AllocError` where memory for it is refused.
 #[tactic(auto, unfolding(crate::specs::Names::alias_in))]
 pub fn alias_in(alloc: Global, space: &str, name: String) -> Result<Option<String>, AllocError>
     ensures { IfOk result (λ o. option_map string_bytes o ≡ alias_in space.now (string_bytes name)) }

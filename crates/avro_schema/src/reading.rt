@@ -28,7 +28,7 @@ mod nodes;
 ///
 /// # Errors
 ///
-/// `TooLarge` where it is past a limit, `OutOfMemory` where room is refused, and else what makes
+/// `TooLarge` where it is past a limit, `OutOfMemory` where memory is refused, and else what makes
 /// the value no type (see `SchemaError`). Nodes and names may be left behind then.
 #[cycle(read)]
 pub fn type_at(

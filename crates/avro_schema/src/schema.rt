@@ -89,7 +89,7 @@ impl Schema {
     ///
     /// # Errors
     ///
-    /// `OutOfMemory` where room is refused. Each other one says that the text denotes no schema;
+    /// `OutOfMemory` where memory is refused. Each other one says that the text denotes no schema;
     /// the reason that it names (see `SchemaError`) stands in no clause.
     pub fn read(alloc: Global, text: &str) -> Result<Schema, SchemaError>
         ensures ok { IfOk result (λ s. TextDenotes text.now (nodes_view s)) }
@@ -118,7 +118,7 @@ impl Schema {
     ///
     /// # Errors
     ///
-    /// `OutOfMemory` where room for the copy is refused.
+    /// `OutOfMemory` where memory for the copy is refused.
     pub fn text(&self, alloc: Global) -> Result<String, OutOfMemory>
         ensures text { IfOk result (λ s. string_bytes s ≡ identity (nodes_view self.now)) }
         ensures denotes { IfOk result (λ s. TextDenotes (string_bytes s) (nodes_view self.now)) }

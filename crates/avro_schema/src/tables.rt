@@ -74,7 +74,7 @@ fn has_such_default(node: &Node) -> bool {
 ///
 /// # Errors
 ///
-/// `AllocError` where room for them is refused.
+/// `AllocError` where memory for them is refused.
 pub fn tables_of(alloc: Global, nodes: &[Node]) -> Result<Vec<Option<FieldTable>>, AllocError>
     ensures { IfOk result (λ v. AreTables (nodes_view nodes.now) v.items) }
 {

@@ -83,7 +83,7 @@ fn looked_at(rt: &HostRuntime, file: &str) -> io::Result<Option<bool>> {
 ///
 /// # Errors
 ///
-/// `Unbegun::OutOfMemory` where room is refused. Every other failure is `Opened::Failed`.
+/// `OutOfMemory` where memory is refused. Every other failure is `Opened::Failed`.
 pub fn opened_database(rt: &HostRuntime, file: &str) -> Result<Opened<FileDatabase>, Unbegun> {
     let is_new = match looked_at(rt, file) {
         Ok(Some(is_new)) => is_new,
@@ -123,7 +123,7 @@ fn is_found(rt: &HostRuntime, file: &str) -> io::Result<Option<bool>> {
 ///
 /// # Errors
 ///
-/// `Unbegun::OutOfMemory` where room is refused. Every other failure is `Opened::Failed`.
+/// `OutOfMemory` where memory is refused. Every other failure is `Opened::Failed`.
 pub fn found_database(rt: &HostRuntime, file: &str) -> Result<Opened<FileDatabase>, Unbegun> {
     let has_bytes = match is_found(rt, file) {
         Ok(Some(has_bytes)) => has_bytes,

@@ -33,8 +33,8 @@ fn text_in(rt: &HostRuntime, file: &str) -> Result<Option<Vec<u8>>, Unbegun> {
 ///
 /// # Errors
 ///
-/// `Unbegun::OutOfMemory` where room is refused. A file that can't be read is no error: what was
-/// opened says so.
+/// `OutOfMemory` where memory is refused. A file that can't be read is no error: what was opened
+/// says so.
 pub fn opened(rt: &HostRuntime, job: &Job) -> Result<Opened<FileDatabase>, Unbegun> {
     match job {
         Job::Run { database: None } => Ok(Opened::Nothing),

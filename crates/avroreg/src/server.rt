@@ -30,7 +30,7 @@ fn listen(
 ///
 /// # Errors
 ///
-/// `Unbegun::OutOfMemory` where room to open the file is refused. Nothing was served then.
+/// `OutOfMemory` where memory to open the file is refused. Nothing was served then.
 pub fn serve(rt: &HostRuntime, server: &Server) -> Result<u8, Unbegun> {
     let file = server.database.as_str();
     let opened = opened_database(rt, file)?;

@@ -124,7 +124,7 @@ fn text_command<'a>(alloc: Global) -> Result<Command<'a>, AllocError>
 ///
 /// # Errors
 ///
-/// `AllocError` where room is refused.
+/// `AllocError` where memory is refused.
 pub fn list_command<'a>(alloc: Global) -> Result<Command<'a>, AllocError>
     ensures { IfOk result (IsApp list_command) }
 {
@@ -165,7 +165,7 @@ Examples:
 ///
 /// # Errors
 ///
-/// `AllocError` where room is refused.
+/// `AllocError` where memory is refused.
 pub fn program<'a>(alloc: Global) -> Result<Command<'a>, AllocError>
     ensures { IfOk result (IsApp program) }
 {

@@ -21,7 +21,7 @@ pub fn value_of<'a>(matches: &ArgMatches<'a>, id: &str) -> Option<&'a str>
 ///
 /// # Errors
 ///
-/// `AllocError` where room for the copy is refused.
+/// `AllocError` where memory for the copy is refused.
 pub fn copy_of(alloc: Global, text: Option<&str>) -> Result<Option<String>, AllocError>
     ensures { IfOk result (λ copy. option_map string_bytes copy
         ≡ option_map (λ text. text.now) text.entry) }

@@ -37,7 +37,7 @@ fn kind_text(kind: Kind) -> &'static str
 ///
 /// # Errors
 ///
-/// `AllocError` where room is refused. A part of it may be written then.
+/// `AllocError` where memory is refused. A part of it may be written then.
 pub fn write_primitive(out: &mut Compact, kind: Kind, extra: &Extra) -> Result<(), AllocError>
     ensures { OnOk result (WritesValue (primitive_value kind (members_view extra.now.entries))
         out.old out.new) }
@@ -55,7 +55,7 @@ pub fn write_primitive(out: &mut Compact, kind: Kind, extra: &Extra) -> Result<(
 ///
 /// # Errors
 ///
-/// `AllocError` where room is refused. A part of it may be written then.
+/// `AllocError` where memory is refused. A part of it may be written then.
 pub fn write_enum(
     out: &mut Compact,
     enclosing: &str,
@@ -85,7 +85,7 @@ pub fn write_enum(
 ///
 /// # Errors
 ///
-/// `AllocError` where room is refused. A part of it may be written then.
+/// `AllocError` where memory is refused. A part of it may be written then.
 pub fn write_fixed(
     out: &mut Compact,
     enclosing: &str,
@@ -112,7 +112,7 @@ pub fn write_fixed(
 ///
 /// # Errors
 ///
-/// `AllocError` where room is refused. A part of it may be written then.
+/// `AllocError` where memory is refused. A part of it may be written then.
 pub fn begin_array<'a>(out: &mut Compact, extra: &'a Extra) -> Result<Others<'a>, AllocError>
     ensures { IfOk result (λ others. Awaits
         (λ items. array_value items (members_view extra.now.entries))
@@ -128,7 +128,7 @@ pub fn begin_array<'a>(out: &mut Compact, extra: &'a Extra) -> Result<Others<'a>
 ///
 /// # Errors
 ///
-/// `AllocError` where room is refused. A part of it may be written then.
+/// `AllocError` where memory is refused. A part of it may be written then.
 pub fn end_array(out: &mut Compact, mut others: Others<'_>) -> Result<(), AllocError>
     ensures { OnOk result (Ends (merged array_end (members_view others.entry)) out.old out.new) }
 {
@@ -140,7 +140,7 @@ pub fn end_array(out: &mut Compact, mut others: Others<'_>) -> Result<(), AllocE
 ///
 /// # Errors
 ///
-/// `AllocError` where room is refused. A part of it may be written then.
+/// `AllocError` where memory is refused. A part of it may be written then.
 pub fn begin_map<'a>(out: &mut Compact, extra: &'a Extra) -> Result<Others<'a>, AllocError>
     ensures { IfOk result (λ others. Awaits
         (λ values. map_value values (members_view extra.now.entries))
@@ -157,7 +157,7 @@ pub fn begin_map<'a>(out: &mut Compact, extra: &'a Extra) -> Result<Others<'a>, 
 ///
 /// # Errors
 ///
-/// `AllocError` where room is refused. A part of it may be written then.
+/// `AllocError` where memory is refused. A part of it may be written then.
 pub fn begin_record<'a>(
     out: &mut Compact,
     named: &Named,
@@ -180,7 +180,7 @@ pub fn begin_record<'a>(
 ///
 /// # Errors
 ///
-/// `AllocError` where room is refused. A part of it may be written then.
+/// `AllocError` where memory is refused. A part of it may be written then.
 pub fn end_record(
     out: &mut Compact,
     mut others: Others<'_>,
@@ -200,7 +200,7 @@ pub fn end_record(
 ///
 /// # Errors
 ///
-/// `AllocError` where room is refused. A part of it may be written then.
+/// `AllocError` where memory is refused. A part of it may be written then.
 pub fn begin_field<'a>(out: &mut Compact, field: &'a Field) -> Result<Others<'a>, AllocError>
     ensures { IfOk result (λ others. Awaits (field_value (field_view field.now))
         (members_view others) out.old out.new) }

@@ -18,7 +18,7 @@ use std::alloc::Global;
 /// # Errors
 ///
 /// `TooLarge` where there is no place left or an attribute nests too deep, and `OutOfMemory` where
-/// room is refused.
+/// memory is refused.
 #[tactic(auto, unfolding(crate::specs::Reading::primitive_at))]
 pub fn primitive_at(
     alloc: Global,
@@ -41,7 +41,7 @@ pub fn primitive_at(
 ///
 /// # Errors
 ///
-/// `Undefined` where nothing known has the name, and `OutOfMemory` where room for a full name is
+/// `Undefined` where nothing known has the name, and `OutOfMemory` where memory for a full name is
 /// refused.
 #[tactic(auto, unfolding(crate::specs::Reading::reference_to))]
 pub fn reference_to(
