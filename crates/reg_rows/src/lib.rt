@@ -12,4 +12,4 @@ pub use meta::{is_meta, layout_of};
 pub use reg_core::OutOfMemory;
 pub use rows::{fits_kept, fits_levels, fits_versions};
 pub use tables::{Tables, spells};
-pub use texts::are_texts;
+pub use texts::{are_ids, are_texts, is_identity};

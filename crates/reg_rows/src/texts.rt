@@ -1,15 +1,20 @@
 //! The rows of `texts`.
 
-ghost use Rattle.std.specs.Prelude.{IfOk, IsTrue, ◌↔◌, map};
+ghost use Rattle.std.specs.Prelude.{IfOk, IsTrue, ◌≡◌, ◌≤◌, ◌↔◌, length, map};
 ghost use Rattle.std.specs.List.{AllByRecursion};
+ghost use Rattle.reg_core.specs.Registry.{max_number};
 ghost use Rattle.reg_rows.specs.Spelling.{AreNumbered, AreTexts, IsIdentity, IsTextRow};
 
 use avro_schema::{Schema, SchemaError};
 use reg_core::{MAX_NUMBER, OutOfMemory};
-use std::alloc::Global;
+use std::alloc::{AllocError, Global};
 
 /// Whether the text is the identity text of a schema.
-fn is_identity(alloc: Global, text: &str) -> Result<bool, OutOfMemory>
+///
+/// # Errors
+///
+/// `OutOfMemory` where room for the schema is refused.
+pub fn is_identity(alloc: Global, text: &str) -> Result<bool, OutOfMemory>
     ensures { IfOk result (λ yes. IsTrue yes ↔ IsIdentity text.now) }
 {
     match Schema::read(alloc, text) {
@@ -33,18 +38,35 @@ fn are_identities(alloc: Global, rows: &[(u32, String)]) -> Result<bool, OutOfMe
     Ok(true)
 }
 
-/// Whether the ids are 1 to their count, in order.
-fn are_numbered(rows: &[(u32, String)]) -> bool
-    ensures { IsTrue result ↔ AreNumbered 1 (map (λ row. row.0) rows.now) }
+/// Whether the ids are 1 to their count, in order, and no more than there may be: 2,147,483,647.
+pub fn are_ids(ids: &[u32]) -> bool
+    ensures { IsTrue result ↔ (AreNumbered 1 ids.now × (length ids.now ≤ max_number)) }
+{
+    ids.len() <= MAX_NUMBER as usize && are_numbered(ids)
+}
+
+/// Whether the numbers are 1 to their count, in order.
+fn are_numbered(numbers: &[u32]) -> bool
+    ensures { IsTrue result ↔ AreNumbered 1 numbers.now }
 {
     let mut next: u64 = 1;
-    for row in rows {
-        if u64::from(row.0) != next {
+    for number in numbers {
+        if u64::from(*number) != next {
             return false;
         }
         next += 1;
     }
     true
+}
+
+fn ids_of(alloc: Global, rows: &[(u32, String)]) -> Result<Vec<u32>, AllocError>
+    ensures { IfOk result (λ ids. ids.items ≡ map (λ row. row.0) rows.now) }
+{
+    let mut ids = Vec::new(alloc);
+    for row in rows {
+        ids.push(row.0)?;
+    }
+    Ok(ids)
 }
 
 /// Whether each row of `texts` has the identity text of a schema, and the ids are 1 to their count,
@@ -56,7 +78,7 @@ fn are_numbered(rows: &[(u32, String)]) -> bool
 pub fn are_texts(alloc: Global, rows: &[(u32, String)]) -> Result<bool, OutOfMemory>
     ensures { IfOk result (λ yes. IsTrue yes ↔ AreTexts rows.now) }
 {
-    if rows.len() > MAX_NUMBER as usize || !are_numbered(rows) {
+    if !are_ids(&ids_of(alloc, rows)?) {
         return Ok(false);
     }
     are_identities(alloc, rows)

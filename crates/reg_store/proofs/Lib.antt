@@ -24,3 +24,6 @@ pub mod ViewTexts
 pub mod ListingLemmas
 pub mod Behind
 pub mod HandingLemmas
+pub mod TextParts
+pub mod TextIds
+pub mod TextTests

@@ -45,7 +45,7 @@ use Rattle.reg_store.proofs.Texts.{readable_if_spelled}
 
 -- ---- lines and rows
 
-each_row : {A B : Type 0} (f : A → B) (P : B → Type 0) (xs : List A) → AllByRecursion (λ x. P (f x)) xs → AllByRecursion P (map f xs)
+pub each_row : {A B : Type 0} (f : A → B) (P : B → Type 0) (xs : List A) → AllByRecursion (λ x. P (f x)) xs → AllByRecursion P (map f xs)
 each_row f P [] h = tt
 each_row f P (x ∷ xs) h = (h.0, each_row f P xs h.1)
 

@@ -1,5 +1,5 @@
 -- Reads, one after the other.
-use Rattle.std.proofs.Common.{◌≡◌, false, inl, Option, None, Some, Ok, Err, Result, refl, sym, arith}
+use Rattle.std.proofs.Common.{◌≡◌, false, inl, Option, None, Some, Ok, Err, Result, IsTrue, refl, sym, subst, ◌∙◌, arith}
 use Rattle.std.specs.Prelude.{OnOk, option_map, option_and_then}
 use Rattle.sqlite.specs.Held.{Held, state}
 use Rattle.sqlite.specs.State.{HasCleanDisk}
@@ -7,6 +7,7 @@ use Rattle.sqlite_trees.specs.declared.store.Store.{Ghosts}
 use Rattle.reg_core.specs.Registry.{Registry}
 use Rattle.reg_core.specs.KeptReplies.{Kept}
 use Rattle.reg_tables.specs.Frames.{StaysIdle}
+use Rattle.reg_tables.specs.Reading.{HoldsReadable, CanBeRead}
 use Rattle.reg_tables.proofs.Transactions.{keeps_then, survives_both}
 use Rattle.reg_store.specs.declared.error.StoreError.{StoreError}
 use Rattle.reg_store.specs.Spells.{SpellsWhileOpen}
@@ -79,3 +80,14 @@ module _ {S : Type 0} (g : Ghosts S) where
     fault_then c p q clean e fault registry k over =
         let early = clean_before a b c q clean in
         by_since (state g a) (state g b) (state g c) (p.survives.closes early) p.survives.counts q.survives.counts e (fault registry k (spells_on p early registry k over))
+
+module _ {S : Type 0} (g : Ghosts S) (a b : Held S) (p : KeepsIdle g a b) (settled : IsTrue (state g a).is_open → (state g a).now ≡ (state g a).committed) (clean : HasCleanDisk (state g b)) where
+  -- after reads the tables hold what they held
+  pub same_db : IsTrue (state g b).is_open → (state g b).now ≡ (state g a).now
+  same_db is_open =
+      let commit = p.commit_stays clean in
+      let was = settled (commit.was_open is_open) in
+      p.settled clean is_open was ∙ commit.committed is_open ∙ sym was
+
+  pub readable_on : CanBeRead (state g a) → CanBeRead (state g b)
+  readable_on can is_open = subst HoldsReadable (sym (same_db is_open)) (can ((p.commit_stays clean).was_open is_open))

@@ -1,5 +1,5 @@
 -- What the tables are tested for before a store is opened over them.
-use Rattle.std.specs.Prelude.{◌≡◌, ◌<◌, ◌≤◌, ℕ, ℤ, List, map, string_bytes, Bool, false, Option, Some, Result, Ok, Err, IfErr, OnOk, IsTrue}
+use Rattle.std.specs.Prelude.{◌≡◌, ◌<◌, ◌≤◌, ◌↔◌, ℕ, ℤ, List, map, length, string_bytes, Bool, false, Option, Some, Result, Ok, Err, IfErr, OnOk, IsTrue}
 use Rattle.std.specs.List.{IsDistinct, AllByRecursion}
 use Rattle.std.specs.Ordering.{int_cmp, eq_by_cmp}
 use Rattle.sqlite.specs.Effect.{Database}
@@ -12,10 +12,10 @@ use Rattle.reg_tables.specs.declared.lines.LevelLine.{LevelLine}
 use Rattle.reg_tables.specs.declared.lines.KeptLine.{KeptLine}
 use Rattle.reg_tables.specs.declared.lines.MetaLine.{MetaLine}
 use Rattle.reg_tables.specs.Layout.{IsLayout}
-use Rattle.reg_tables.specs.Listings.{ListsTexts, ListsVersions, ListsLevels, ListsKept, ListsMeta}
+use Rattle.reg_tables.specs.Listings.{ListsIds, ListsTexts, ListsVersions, ListsLevels, ListsKept, ListsMeta}
 use Rattle.reg_tables.specs.Frames.{StaysIdle}
-use Rattle.reg_rows.specs.Spelling.{Pair, pair_of, is_meta, layout_in, AreTexts, FitsVersions, FitsLevels, FitsKept}
-use Rattle.reg_core.specs.Registry.{Registry}
+use Rattle.reg_rows.specs.Spelling.{Pair, pair_of, is_meta, layout_in, IsIdentity, AreNumbered, AreTexts, FitsVersions, FitsLevels, FitsKept}
+use Rattle.reg_core.specs.Registry.{Registry, max_number}
 use Rattle.reg_store.specs.declared.error.StoreError.{StoreError}
 use Rattle.reg_store.specs.declared.error.StoreError.TheVariants.{Memory, Disk, NotARegistry, OldLayout, NewerLayout}
 use Rattle.reg_store.specs.Failures.{IsFaultBy}
@@ -28,6 +28,9 @@ abbrev pub AreApart : List ℤ → Type 0
 AreApart = IsDistinct (eq_by_cmp int_cmp)
 
 -- ---- what passes, table by table
+
+abbrev pub text_fits : TextLine → Type 0
+text_fits line = IsIdentity (string_bytes line.text)
 
 abbrev pub version_fits : VersionLine → Type 0
 version_fits line = FitsVersions (string_bytes line.subject) line.version
@@ -80,6 +83,22 @@ pub record RestPasses (db : Database) : Type 0 where
 pub record TablesPass (db : Database) : Type 0 where
   pub meta : MetaPass db
   pub rest : RestPasses db
+
+-- ---- texts, of which some are held at a time
+
+-- the ids of all rows are the numbers from 1 to this one
+pub record NumbersTexts (db : Database) (count : ℕ) : Type 0 where
+  pub ids : List ℕ
+  pub lists : ListsIds db ids
+  pub numbered : AreNumbered 1 ids
+  pub is : length ids ≡ count
+  pub few : count ≤ max_number
+
+-- what is said of the rows that these lines list: whether each has the identity text of a schema
+pub record Judges (Lists : List TextLine → Type 0) (fit : Bool) : Type 0 where
+  pub lines : List TextLine
+  pub lists : Lists lines
+  pub judged : IsTrue fit ↔ AllByRecursion text_fits lines
 
 -- ---- verdicts
 

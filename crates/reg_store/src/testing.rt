@@ -7,17 +7,19 @@ ghost use Rattle.sqlite.specs.Held.{state};
 ghost use Rattle.sqlite.specs.State.{HasCleanDisk};
 ghost use Rattle.reg_tables.specs.Layout.{IsLayout};
 ghost use Rattle.reg_store.specs.Failures.{IsNumberless};
-ghost use Rattle.reg_store.specs.Opening.{text_row, meta_row, IsRefusedBy, TellsNewer};
-ghost use Rattle.reg_rows.specs.Spelling.{pair_of, is_meta, AreTexts};
-ghost use Rattle.reg_store.specs.Testing.{Allows, AreApart, version_fits, level_fits, kept_fits, JudgesMeta, Tests, TextsPass, VersionsPass, LevelsPass, KeptPass, RestPasses, MetaPass, TablesPass};
+ghost use Rattle.reg_store.specs.Opening.{meta_row, IsRefusedBy, TellsNewer};
+ghost use Rattle.reg_rows.specs.Spelling.{pair_of, is_meta};
+ghost use Rattle.reg_store.specs.Testing.{Allows, AreApart, version_fits, level_fits, kept_fits, JudgesMeta, Tests, VersionsPass, LevelsPass, KeptPass, RestPasses, MetaPass, TablesPass};
+
+mod texts;
 
 use crate::error::StoreError;
 use crate::rowids::are_apart;
-use reg_core::OutOfMemory;
-use reg_rows::{are_texts, fits_kept, fits_levels, fits_versions, is_meta, layout_of};
+use crate::testing::texts::test_texts;
+use reg_rows::{fits_kept, fits_levels, fits_versions, is_meta, layout_of};
 use reg_tables::{
-    KeptLine, LevelLine, MetaLine, TextLine, VersionLine, has_layout, is_unindexed, kept_lines,
-    level_lines, meta_lines, text_lines, version_lines,
+    KeptLine, LevelLine, MetaLine, VersionLine, has_layout, is_unindexed, kept_lines, level_lines,
+    meta_lines, version_lines,
 };
 use sqlite::{Alter, Connection};
 use std::alloc::{AllocError, Global};
@@ -136,36 +138,6 @@ fn allow(passes: bool) -> Result<(), StoreError>
     } else {
         Err(StoreError::NotARegistry)
     }
-}
-
-fn text_rows(alloc: Global, lines: Vec<TextLine>) -> Result<Vec<(u32, String)>, AllocError>
-    ensures { IfOk result (λ rows. rows.items ≡ map text_row lines.items) }
-{
-    let mut rows = Vec::new(alloc);
-    for line in lines {
-        rows.push((line.id, line.text))?;
-    }
-    Ok(rows)
-}
-
-/// Whether the lines are those of schemas whose ids are 1 to their count, in order.
-fn pass_texts(alloc: Global, lines: Vec<TextLine>) -> Result<bool, OutOfMemory>
-    ensures { IfOk result (λ yes. IsTrue yes ↔ AreTexts (map text_row lines.items)) }
-{
-    let rows = text_rows(alloc, lines)?;
-    are_texts(alloc, &rows)
-}
-
-/// Reads `texts`, and tests it.
-fn test_texts<S: Alter>(alloc: Global, conn: &mut Connection<S>) -> Result<(), StoreError>
-    requires idle { conn.old.in_transaction ≡ false }
-    requires unlimited { conn.old.step_limit ≡ None }
-    ensures tests { Tests S.Store conn.old conn.new result TextsPass }
-    ensures plain { IfErr result IsNumberless }
-{
-    let mut lines = text_lines(alloc, conn)?;
-    lines.sort_unstable_by_key(|line| line.id);
-    allow(pass_texts(alloc, lines)?)
 }
 
 /// Reads `versions`, and tests it.

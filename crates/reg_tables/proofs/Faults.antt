@@ -27,7 +27,7 @@ use Rattle.reg_tables.specs.Layout.{IsLayout}
 use Rattle.reg_tables.specs.Reading.{CanBeRead, IsFault}
 use Rattle.sqlite.specs.Schema.{Schema}
 use Rattle.reg_tables.proofs.Reasons.{reason_of, reason_if_shut, reason_by, fault_until}
-use Rattle.reg_tables.proofs.Statements.{TableQuery, body_of, program_of, IsQuery, laid_out, in_layouts, find_text, find_id, find_version, find_versions, find_last_version, find_last_live, find_last, find_behind, find_next, find_of_id, find_one_of_id, list_versions, find_level, find_meta, find_kept, all_texts, all_versions, all_levels, all_kept, all_meta}
+use Rattle.reg_tables.proofs.Statements.{TableQuery, body_of, program_of, IsQuery, laid_out, in_layouts, find_text, find_id, find_version, find_versions, find_last_version, find_last_live, find_last, find_behind, find_next, find_of_id, find_one_of_id, list_versions, find_level, find_meta, find_kept, all_ids, texts_between, all_versions, all_levels, all_kept, all_meta}
 
 -- the text is one statement, with so many parameters
 abbrev IsWhole : List ℕ → ℕ → Result Compiled CompileError → Type 0
@@ -99,9 +99,13 @@ pub takes_kept : (k : List ℕ) → (schema : Schema) → IsLayout schema → Ta
 unfolding understood everything
 takes_kept k = in_layouts (Takes find_kept (Text k ∷ [])) (record { whole = (lit≤ tt, refl); typed = refl }) (record { whole = (lit≤ tt, refl); typed = refl })
 
-pub takes_all_texts : (schema : Schema) → IsLayout schema → Takes all_texts [] schema
+pub takes_all_ids : (schema : Schema) → IsLayout schema → Takes all_ids [] schema
 unfolding understood everything
-takes_all_texts = in_layouts (Takes all_texts []) (record { whole = (lit≤ tt, refl); typed = refl }) (record { whole = (lit≤ tt, refl); typed = refl })
+takes_all_ids = in_layouts (Takes all_ids []) (record { whole = (lit≤ tt, refl); typed = refl }) (record { whole = (lit≤ tt, refl); typed = refl })
+
+pub takes_between : (low high : ℕ) → (schema : Schema) → IsLayout schema → Takes texts_between (Int (pos low) ∷ Int (pos high) ∷ []) schema
+unfolding understood everything
+takes_between low high = in_layouts (Takes texts_between (Int (pos low) ∷ Int (pos high) ∷ [])) (record { whole = (lit≤ tt, refl); typed = refl }) (record { whole = (lit≤ tt, refl); typed = refl })
 
 pub takes_all_versions : (schema : Schema) → IsLayout schema → Takes all_versions [] schema
 unfolding understood everything

@@ -16,6 +16,7 @@ pub mod TableReads
 pub mod Transactions
 pub mod ReadableRows
 pub mod TableLines
+pub mod TextLines
 pub mod ListingLemmas
 pub mod LastIds
 pub mod Opening

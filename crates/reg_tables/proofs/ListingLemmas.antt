@@ -25,10 +25,10 @@ use Rattle.reg_tables.proofs.RowLemmas.{same_if_tied}
 
 -- ---- rowids
 
-abbrev same_id : Value → Value → Bool
+abbrev pub same_id : Value → Value → Bool
 same_id a b = is_eq (value_cmp a b)
 
-same_id_swaps : (a b : Value) → same_id a b ≡ same_id b a
+pub same_id_swaps : (a b : Value) → same_id a b ≡ same_id b a
 same_id_swaps a b = sym (ap is_eq (value_cmp_total.antisymm b a) ∙ turned (value_cmp a b))
   where
     turned : (o : Ordering) → is_eq (ordering_reverse o) ≡ is_eq o
@@ -41,7 +41,7 @@ unfolding IsDistinct
 apart_if_distinct [] h = tt
 apart_if_distinct (r ∷ rows) h = (all_from (HaveOwnRowids r) rows (λ x there. all_has (λ v. same_id (rowid r) v ≡ false) (map rowid rows) (rowid x) h.0 (maps_had rowid rows x there)), apart_if_distinct rows h.1)
 
-distinct_if_apart : (rows : List Row) → IsAscending HaveOwnRowids rows → IsDistinct same_id (map rowid rows)
+pub distinct_if_apart : (rows : List Row) → IsAscending HaveOwnRowids rows → IsDistinct same_id (map rowid rows)
 unfolding IsDistinct
 distinct_if_apart [] h = tt
 distinct_if_apart (r ∷ rows) h = (all_from (λ v. same_id (rowid r) v ≡ false) (map rowid rows) (λ v there. let x = has_mapped rowid rows v there in ap (same_id (rowid r)) x.2 ∙ all_has (HaveOwnRowids r) rows x.0 h.0 x.1), distinct_if_apart rows h.1)
@@ -52,7 +52,7 @@ distinct_ints [] h = tt
 distinct_ints (i ∷ ids) h =
     (all_from _ (map Int ids) (λ v there. let from = has_mapped Int ids v there in ap (same_id (Int i)) from.2 ∙ ap is_eq (value_cmp-Int i from.0) ∙ all_has _ ids from.0 h.0 from.1), distinct_ints ids h.1)
 
-ints_distinct : (ids : List ℤ) → IsDistinct same_id (map Int ids) → IsDistinct (eq_by_cmp int_cmp) ids
+pub ints_distinct : (ids : List ℤ) → IsDistinct same_id (map Int ids) → IsDistinct (eq_by_cmp int_cmp) ids
 unfolding IsDistinct
 ints_distinct [] h = tt
 ints_distinct (i ∷ ids) h =

@@ -1,5 +1,5 @@
 -- What a query on one table answers: the rows that pass, each shown.
-use Rattle.std.proofs.Common.{arith, lit≤, length, ◌≤◌, ◌≡◌, inl, inr, ℕ, pos, negsuc, List, [], ◌∷◌, ◌++◌, map, flat_map, Bool, true, false, cond, None, refl, sym, ap, subst, ◌∙◌}
+use Rattle.std.proofs.Common.{arith, lit≤, length, ◌≤◌, ◌≡◌, inl, inr, ℕ, pos, negsuc, List, [], ◌∷◌, ◌++◌, map, filter, flat_map, Bool, true, false, cond, None, refl, sym, ap, subst, ◌∙◌}
 use Rattle.std.specs.List.{list_all}
 use Rattle.std.specs.List.Sorted.{IsPermutation}
 use Rattle.std.proofs.lemmas.List.Sorted.{IsPermutation-sym, IsPermutation-map, length_permutation}
@@ -119,16 +119,30 @@ module _ (tests : List Term) (params : Row) where
     pub has_answer : (row : Row) → Has (db tree) row → passes row ≡ true → Has found (eval_all shown (params ∷ row ∷ []))
     has_answer r h is = subst (λ l. Has l (eval_all shown (params ∷ r ∷ []))) (sym a.shown) (maps_had (λ (p : Output). p.1) a.ordered _ (has_ordered tree shown [] all_rows db found a r h is))
 
--- with no test, the answer has each row, shown
-module _ (params : Row) (tree : ℕ) (shown : List Term) (db : Trees) (found : List Row) (a : IsAnswer (plain_query tree [] shown) db params found) where
-  outputs_are : (rows : List Row) → map (λ (o : Output). o.1) (map (output (plain_query tree [] shown)) (passing [] params rows)) ≡ map (λ row. eval_all shown (params ∷ row ∷ [])) rows
-  outputs_are [] = refl
-  outputs_are (r ∷ rows) = ap (λ l. eval_all shown (params ∷ r ∷ []) ∷ l) (outputs_are rows)
+-- the answer has each row that passes, shown
+module _ (tests : List Term) (params : Row) (tree : ℕ) (shown : List Term) (db : Trees) (found : List Row) (a : IsAnswer (plain_query tree tests shown) db params found) where
+  abbrev show : Row → Row
+  show row = eval_all shown (params ∷ row ∷ [])
 
-  pub answer_all : IsPermutation (map (λ row. eval_all shown (params ∷ row ∷ [])) (db tree)) found
-  answer_all =
-      let q = plain_query tree [] shown in
-      let kept : a.kept ≡ map (output q) (passing [] params (db tree)) = a.distinct ∙ ap (map (output q)) a.grouped in
+  outputs_are : (rows : List Row) → map (λ (o : Output). o.1) (map (output (plain_query tree tests shown)) (passing tests params rows)) ≡ map show (filter (passes tests params) rows)
+  outputs_are [] = refl
+  outputs_are (r ∷ rows) =
+      elim (passes tests params r)
+      as (λ b. map (λ (o : Output). o.1) (map (output (plain_query tree tests shown)) (cond b ((params ∷ r ∷ []) ∷ []) [] ++ passing tests params rows)) ≡ map show (cond b (r ∷ filter (passes tests params) rows) (filter (passes tests params) rows)))
+      [ true ↦ ap (λ l. show r ∷ l) (outputs_are rows) | false ↦ outputs_are rows ]
+
+  pub answer_passing : IsPermutation (map show (filter (passes tests params) (db tree))) found
+  answer_passing =
+      let q = plain_query tree tests shown in
+      let kept : a.kept ≡ map (output q) (passing tests params (db tree)) = a.distinct ∙ ap (map (output q)) a.grouped in
       let moved = IsPermutation-map (λ (o : Output). o.1) _ _ (subst (λ k. IsPermutation k a.ordered) kept a.same) in
-      subst (IsPermutation (map (λ row. eval_all shown (params ∷ row ∷ [])) (db tree))) (sym a.shown)
+      subst (IsPermutation (map show (filter (passes tests params) (db tree)))) (sym a.shown)
       (subst (λ l. IsPermutation l (map (λ (o : Output). o.1) a.ordered)) (outputs_are (db tree)) moved)
+
+-- and with no test each row
+pub answer_all : (params : Row) (tree : ℕ) (shown : List Term) (db : Trees) (found : List Row) → IsAnswer (plain_query tree [] shown) db params found → IsPermutation (map (λ row. eval_all shown (params ∷ row ∷ [])) (db tree)) found
+answer_all params tree shown db found a = subst (λ l. IsPermutation (map (λ row. eval_all shown (params ∷ row ∷ [])) l) found) (all (db tree)) (answer_passing [] params tree shown db found a)
+  where
+    all : (rows : List Row) → filter (passes [] params) rows ≡ rows
+    all [] = refl
+    all (r ∷ rows) = ap (λ l. r ∷ l) (all rows)

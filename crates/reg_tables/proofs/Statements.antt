@@ -19,7 +19,7 @@ use Rattle.reg_tables.specs.Contents.{Contents, HoldsIn}
 use Rattle.sqlite.specs.Listing.{understood, reads_listing}
 use Rattle.sqlite.proofs.Callers.{IsPlain, command_of, statement_of}
 use Rattle.sqlite_sql.specs.declared.ops.BinaryOp.TheVariants.{Compare}
-use Rattle.sqlite_sql.specs.declared.ops.CompareOp.TheVariants.{Eq, Gt}
+use Rattle.sqlite_sql.specs.declared.ops.CompareOp.TheVariants.{Eq, Gt, Ge, Le}
 use Rattle.sqlite_tied.specs.Compute.{everything}
 use Rattle.reg_tables.specs.Layout.{no_schema, begun, layout, unindexed, IsLayout, texts, versions, levels, kept, meta, versions_of_id}
 use Rattle.reg_tables.proofs.Queries.{all_rows, ordered_query, plain_query}
@@ -395,12 +395,31 @@ pub find_kept_is : (schema : Schema) → IsLayout schema → IsQuery find_kept s
 unfolding understood everything
 find_kept_is = in_layouts (IsQuery find_kept) (record { command = record { is = refl; plain = (refl, refl) }; unlisted = refl }) (record { command = record { is = refl; plain = (refl, refl) }; unlisted = refl })
 
-abbrev pub all_texts : TableQuery
-all_texts = record { sql = codes "SELECT rowid, id, text FROM texts"; tree = 0; tests = []; shown = col 1 0 ∷ col 1 0 ∷ col 1 2 ∷ []; names = codes "id" ∷ codes "id" ∷ codes "text" ∷ []; order = []; limit = all_rows }
+abbrev pub all_ids : TableQuery
+all_ids = record { sql = codes "SELECT id FROM texts"; tree = 0; tests = []; shown = col 1 0 ∷ []; names = codes "id" ∷ []; order = []; limit = all_rows }
 
-pub all_texts_is : (schema : Schema) → IsLayout schema → IsQuery all_texts schema
+pub all_ids_is : (schema : Schema) → IsLayout schema → IsQuery all_ids schema
 unfolding understood everything
-all_texts_is = in_layouts (IsQuery all_texts) (record { command = record { is = refl; plain = (refl, refl) }; unlisted = refl }) (record { command = record { is = refl; plain = (refl, refl) }; unlisted = refl })
+all_ids_is = in_layouts (IsQuery all_ids) (record { command = record { is = refl; plain = (refl, refl) }; unlisted = refl }) (record { command = record { is = refl; plain = (refl, refl) }; unlisted = refl })
+
+-- the rowid is no less than the first parameter, and no greater than the second
+abbrev pub by_range : List Term
+by_range = op2 (Compare Ge Binary) (col 1 0) (col 0 0) ∷ op2 (Compare Le Binary) (col 1 0) (col 0 1) ∷ []
+
+abbrev pub texts_between : TableQuery
+texts_between = record {
+  sql = codes "SELECT rowid, id, text FROM texts WHERE id >= ?1 AND id <= ?2";
+  tree = 0;
+  tests = by_range;
+  shown = col 1 0 ∷ col 1 0 ∷ col 1 2 ∷ [];
+  names = codes "id" ∷ codes "id" ∷ codes "text" ∷ [];
+  order = [];
+  limit = all_rows;
+}
+
+pub texts_between_is : (schema : Schema) → IsLayout schema → IsQuery texts_between schema
+unfolding understood everything
+texts_between_is = in_layouts (IsQuery texts_between) (record { command = record { is = refl; plain = (refl, refl) }; unlisted = refl }) (record { command = record { is = refl; plain = (refl, refl) }; unlisted = refl })
 
 abbrev pub all_versions : TableQuery
 all_versions = record { sql = codes "SELECT rowid, subject, version, id, deleted FROM versions"; tree = 2; tests = []; shown = col 1 0 ∷ col 1 1 ∷ col 1 2 ∷ col 1 3 ∷ col 1 4 ∷ []; names = codes "rowid" ∷ codes "subject" ∷ codes "version" ∷ codes "id" ∷ codes "deleted" ∷ []; order = []; limit = all_rows }

@@ -17,14 +17,14 @@ use Rattle.sqlite_rules.specs.Lists.{Has}
 use Rattle.reg_tables.specs.Layout.{IsLayout}
 use Rattle.reg_tables.specs.Reading.{HoldsReadable, CanBeRead, IsFault}
 use Rattle.reg_tables.specs.TableMaps.{Form}
-use Rattle.reg_tables.specs.Contents.{text_form, version_form, pair_form, kept_form}
-use Rattle.reg_tables.specs.Listings.{parts_of, entry_parts, Lists, IsReadableText, IsReadableVersion, IsReadablePair, IsReadableKept}
+use Rattle.reg_tables.specs.Contents.{version_form, pair_form, kept_form}
+use Rattle.reg_tables.specs.Listings.{parts_of, entry_parts, Lists, IsReadableVersion, IsReadablePair, IsReadableKept}
 use Rattle.reg_tables.proofs.Queries.{plain_query, answer_has, answer_all}
 use Rattle.reg_tables.proofs.KeyedTables.{with_nothing, answered}
-use Rattle.reg_tables.proofs.Statements.{TableQuery, body_of, IsQuery, laid_out, all_texts, all_texts_is, all_versions, all_versions_is, all_levels, all_levels_is, all_kept, all_kept_is, all_meta, all_meta_is}
-use Rattle.reg_tables.proofs.Faults.{Takes, takes_all_texts, takes_all_versions, takes_all_levels, takes_all_kept, takes_all_meta, query_faults, read_fault_until, memory_is_fault}
+use Rattle.reg_tables.proofs.Statements.{TableQuery, body_of, IsQuery, laid_out, all_versions, all_versions_is, all_levels, all_levels_is, all_kept, all_kept_is, all_meta, all_meta_is}
+use Rattle.reg_tables.proofs.Faults.{Takes, takes_all_versions, takes_all_levels, takes_all_kept, takes_all_meta, query_faults, read_fault_until, memory_is_fault}
 use Rattle.reg_tables.proofs.Transactions.{shown_open}
-use Rattle.reg_tables.proofs.ReadableRows.{readable_text, readable_version, readable_level, readable_kept, readable_meta}
+use Rattle.reg_tables.proofs.ReadableRows.{readable_version, readable_level, readable_kept, readable_meta}
 
 -- in each layout the query shows all rows of its table, each with its parts in the same places
 pub record ShowsTable {K V : Type 0} (form : Form K V) (is_readable : Row → Type 0) (q : TableQuery) : Type 0 where
@@ -33,9 +33,6 @@ pub record ShowsTable {K V : Type 0} (form : Form K V) (is_readable : Row → Ty
   pub untested : body_of q ≡ plain_query q.tree [] q.shown
   pub whole : (row : Row) → parts_of form (eval_all q.shown ([] ∷ row ∷ [])) ≡ parts_of form row
   pub readable : (db : Database) → HoldsReadable db → (row : Row) → Has (db.trees q.tree) row → is_readable (eval_all q.shown ([] ∷ row ∷ []))
-
-pub shows_texts : ShowsTable text_form IsReadableText all_texts
-shows_texts = record { is = all_texts_is; takes = takes_all_texts; untested = refl; whole = λ row. refl; readable = readable_text }
 
 pub shows_versions : ShowsTable version_form IsReadableVersion all_versions
 shows_versions = record { is = all_versions_is; takes = takes_all_versions; untested = refl; whole = λ row. refl; readable = readable_version }

@@ -1,12 +1,12 @@
 -- When a list has each row of a table once, in any order.
-use Rattle.std.specs.Prelude.{◌≡◌, ℕ, ◌<◌, ◌^◌, ℤ, pos, List, [], ◌∷◌, map, string_bytes, IsUtf8, IsPermutation}
+use Rattle.std.specs.Prelude.{◌≡◌, ℕ, ◌<◌, ◌^◌, ℤ, pos, Bool, not, ◌&&◌, List, [], ◌∷◌, map, filter, string_bytes, IsUtf8, IsPermutation}
 use Rattle.std.specs.declared.cmp.Ordering.{Ordering}
-use Rattle.std.specs.Ordering.{nat_cmp, int_cmp, eq_by_cmp}
+use Rattle.std.specs.Ordering.{is_lt, is_gt, nat_cmp, int_cmp, eq_by_cmp}
 use Rattle.std.specs.List.{IsDistinct}
 use Rattle.std.specs.FinMap.{from_entries}
 use Rattle.sqlite.specs.declared.types.Value.{Value}
 use Rattle.sqlite.specs.declared.types.Value.TheVariants.{Int, Text}
-use Rattle.sqlite.specs.Order.{Row}
+use Rattle.sqlite.specs.Order.{Row, value_cmp}
 use Rattle.sqlite.specs.Tree.{rowid}
 use Rattle.sqlite.specs.Effect.{Database}
 use Rattle.reg_tables.specs.declared.lines.TextLine.{TextLine}
@@ -42,6 +42,11 @@ abbrev pub without_rowid : {K V : Type 0} → ℤ × K × V → K × V
 without_rowid entry = (entry.1, entry.2)
 
 -- ---- rows that a line holds, as a query shows them
+
+pub record IsReadableId (row : Row) : Type 0 where
+  pub id : ℕ
+  pub is : row ≡ Int (pos id) ∷ []
+  pub low : id < 2 ^ 32
 
 pub record IsReadableText (row : Row) : Type 0 where
   pub id : ℕ
@@ -107,6 +112,20 @@ ListsKept db lines = Lists kept_form (db.trees kept.tree) (map kept_entry lines)
 
 abbrev pub ListsMeta : Database → List MetaLine → Type 0
 ListsMeta db lines = Lists pair_form (db.trees meta.tree) (map meta_entry lines)
+
+-- ---- parts of `texts`
+
+-- the ids of all rows, which are their rowids
+abbrev pub ListsIds : Database → List ℕ → Type 0
+ListsIds db ids = IsPermutation (map rowid (db.trees texts.tree)) (map (λ id. Int (pos id)) ids)
+
+-- the rowid is neither below the one number nor above the other
+abbrev pub is_between : ℕ → ℕ → Row → Bool
+is_between low high row = not (is_lt (value_cmp (rowid row) (Int (pos low)))) && not (is_gt (value_cmp (rowid row) (Int (pos high))))
+
+-- the rows whose ids lie between two, both counted
+abbrev pub ListsTextsBetween : ℕ → ℕ → Database → List TextLine → Type 0
+ListsTextsBetween low high db lines = Lists text_form (filter (is_between low high) (db.trees texts.tree)) (map text_entry lines)
 
 -- ---- all five
 

@@ -28,7 +28,7 @@ pub use layout::{create, index_versions};
 pub use levels::{drop_level, own_level, set_level};
 pub use lines::{
     KeptLine, LevelLine, MetaLine, TextLine, VersionLine, kept_lines, level_lines, meta_lines,
-    text_lines, version_lines,
+    text_ids, texts_between, version_lines,
 };
 pub use listed::{
     ListedVersion, SubjectVersion, a_version_of_id, all_versions, first_version_behind,

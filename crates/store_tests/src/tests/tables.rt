@@ -3,7 +3,8 @@
 use reg_tables::{
     create, drop_level, drop_version, global_level, has_layout, has_no_tables, index_versions,
     is_unindexed, keep_reply, kept_lines, kept_reply, level_lines, mark_deleted, meta_lines,
-    own_level, put_text, put_version, set_global, set_level, text_lines, text_of, version_lines,
+    own_level, put_text, put_version, set_global, set_level, text_ids, text_of, texts_between,
+    version_lines,
 };
 use reg_testing::{empty_disk, over};
 use sqlite::{Alter, Connection, Error, Transaction};
@@ -95,8 +96,9 @@ fn shows_texts<S: Alter + Drop>(
     let text = text_of(connection, 2)?;
     assert_eq!(rt; text.ok_or("no text")?.as_str(), "\"long\"");
     assert!(rt; text_of(connection, 3)?.is_none());
-    let lines = text_lines(alloc, connection)?;
-    assert_eq!(rt; lines.len(), 2);
+    assert_eq!(rt; text_ids(alloc, connection)?.as_slice(), &[1u32, 2]);
+    let lines = texts_between(alloc, connection, 1, 1)?;
+    assert_eq!(rt; lines.len(), 1);
     assert_eq!(rt; lines[0].id, 1);
     assert_eq!(rt; lines[0].text.as_str(), "\"int\"");
     Ok(())

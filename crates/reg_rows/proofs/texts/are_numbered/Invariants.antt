@@ -1,8 +1,8 @@
-use Rattle.std.specs.Prelude.{◌≡◌, ◌+◌, drop, map}
+use Rattle.std.specs.Prelude.{◌≡◌, ◌+◌, drop}
 use Rattle.reg_rows.specs.Spelling.{AreNumbered}
 use Rattle.reg_rows.proofs.texts.are_numbered.Given as goal
 
-abbrev pub invariant-loop-row : goal.invariant-loop-row
-invariant-loop-row l =
-    (l.next ≡ l.row-index + 1) × (AreNumbered l.next (map (λ row. row.0) (drop l.row-index l.rows)) → AreNumbered 1 (map (λ row. row.0) l.rows))
-    × (AreNumbered 1 (map (λ row. row.0) l.rows) → AreNumbered l.next (map (λ row. row.0) (drop l.row-index l.rows)))
+abbrev pub invariant-loop-number : goal.invariant-loop-number
+invariant-loop-number l =
+    (l.next ≡ l.number-index + 1) × (AreNumbered l.next (drop l.number-index l.numbers) → AreNumbered 1 l.numbers)
+    × (AreNumbered 1 l.numbers → AreNumbered l.next (drop l.number-index l.numbers))

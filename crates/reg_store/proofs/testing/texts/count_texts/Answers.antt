@@ -1,0 +1,45 @@
+use Rattle.std.proofs.Common.{◌≡◌, ◌≤◌, ℕ, List, length, map, false, IsTrue, sym, subst, ◌∙◌, arith}
+use Rattle.std.proofs.lemmas.Bool.{both_ways}
+use Rattle.std.proofs.lemmas.List.{map-id}
+use Rattle.std.specs.List.Sorted.{IsPermutation}
+use Rattle.std.proofs.lemmas.List.Sorted.{IsNonDecreasingBy-from_sort, IsPermutation-map, IsPermutation-trans}
+use Rattle.sqlite.specs.Held.{state}
+use Rattle.reg_core.specs.Registry.{max_number}
+use Rattle.reg_rows.specs.Spelling.{AreNumbered}
+use Rattle.reg_tables.specs.Listings.{ListsIds}
+use Rattle.reg_store.specs.Testing.{IsFaultUnopened}
+use Rattle.reg_store.proofs.Failing.{fault_by, passed}
+use Rattle.reg_store.proofs.Numbering.{Rises, rises}
+use Rattle.reg_store.proofs.TestLemmas.{is_known, unopened_can_be_read}
+use Rattle.reg_store.proofs.TextIds.{ids_fit, ids_sorted}
+use Rattle.reg_store.proofs.testing.texts.count_texts.Goals as goal
+
+pub returns-in_err-ids-clause-fault : goal.returns-in_err-ids-clause-fault
+returns-in_err-ids-clause-fault g c clean =
+    let old = state g.S.Store c.args.conn.now in
+    let new = state g.S.Store c.text_ids.new.conn in
+    passed (IsFaultUnopened old new) c.from_residual.result _ c.from_residual.ensures.1
+    (λ registry k over. fault_by old new c.in_err-ids.field-0.0 c.requires.unlimited (c.in_err-ids.ensures.fault clean (unopened_can_be_read old registry k over)))
+
+pub returns-in_err-allow-clause-fault : goal.returns-in_err-allow-clause-fault
+returns-in_err-allow-clause-fault g c clean =
+    let old = state g.S.Store c.args.conn.now in
+    let new = state g.S.Store c.text_ids.new.conn in
+    let sorted = c.sort_unstable.new.self.items in
+    passed (IsFaultUnopened old new) c.from_residual-in_err-allow.result _ c.from_residual-in_err-allow.ensures.1
+    (λ registry k over.
+    let spelled = over (c.in_ok-ids.ensures.frame.was_open clean) in
+    let lists = ids_sorted old.now c.in_ok-ids.ids.items sorted c.sort_unstable.ensures.permutation (c.in_ok-ids.ensures.listed clean (is_known old.now registry k spelled)) in
+    let rising : Rises sorted = subst Rises (map-id sorted) (rises (λ (n : ℕ). n) sorted (IsNonDecreasingBy-from_sort (λ (n : ℕ). n) sorted c.sort_unstable.ensures.sorted)) in
+    let fit = ids_fit spelled.schema old.now registry k spelled.spells sorted lists rising in
+    let no : c.are_ids.result ≡ false = c.in_err-allow.ensures.err.1 in
+    absurd (both_ways _ no (c.are_ids.ensures.1 (subst (λ (l : List ℕ). AreNumbered 1 l × (length l ≤ max_number)) (sym c.deref.ensures.value) fit))))
+
+pub returns-clause-counted : goal.returns-clause-counted
+returns-clause-counted g c clean known =
+    let db = (state g.S.Store c.args.conn.now).now in
+    let sorted = c.sort_unstable.new.self.items in
+    let fit = subst (λ (l : List ℕ). AreNumbered 1 l × (length l ≤ max_number)) c.deref.ensures.value (c.are_ids.ensures.0 c.in_ok-allow.ensures.ok) in
+    let few = fit.1 in
+    let is : length sorted ≡ c.len.result = sym c.sort_unstable.new.self.ok.0 ∙ sym c.len.ensures in
+    record { ids = sorted; lists = ids_sorted db c.in_ok-ids.ids.items sorted c.sort_unstable.ensures.permutation (c.in_ok-ids.ensures.listed clean known); numbered = fit.0; is = is; few = omega (arith, few, is) }
