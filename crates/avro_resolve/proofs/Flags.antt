@@ -73,36 +73,3 @@ flag_all fs n m i j e li lj =
 
 pub ups_all : (n : ℕ) → ups (replicate n true) ≡ n
 ups_all n = let h = sum_by-replicate up n true in omega arith
-
--- ---- a flag that is raised
-
-raise_cases : (fs : List Bool) (m i j a b : ℕ) → j < m → i * m + j < length fs → b < m → (x y : Bool) → (a == i) ≡ x → (b == j) ≡ y → get_or (set fs (i * m + j) true) (a * m + b) false ≡ if x && y then true else get_or fs (a * m + b) false
-raise_cases fs m i j a b l k c true true e f =
-    let p : a ≡ i = grind (arith, nat_tests) in
-    let q : b ≡ j = grind (arith, nat_tests) in
-    rw (p, q) (rw get_or-set_same)
-raise_cases fs m i j a b l k c false y e f =
-    let p : a ≢ i = grind (arith, nat_tests) in
-    let ne : a * m + b ≢ i * m + j = λ s. p (same_from_place a b i j m c l s).0 in
-    rw get_or-set_other
-raise_cases fs m i j a b l k c true false e f =
-    let p : b ≢ j = grind (arith, nat_tests) in
-    let ne : a * m + b ≢ i * m + j = λ s. p (same_from_place a b i j m c l s).1 in
-    rw get_or-set_other
-
-raised_past : (x y t : Bool) → y ≡ false → t ≡ false → false ≡ if x && y then true else t
-raised_past true true t e f = absurd (true≢false e)
-raised_past true false t e f = sym f
-raised_past false y t e f = sym f
-
-apart : (b j m : ℕ) → j < m → m ≤ b → (b == j) ≡ false
-apart b j m l k = grind (arith, nat_tests)
-
-raise_at : (fs : List Bool) (m i j a b : ℕ) → j < m → i * m + j < length fs → (b < m) ⊎ (m ≤ b) → flag (set fs (i * m + j) true) m a b ≡ if a == i && b == j then true else flag fs m a b
-raise_at fs m i j a b l k c = elim c [
-  | inl c' ↦ flag_at (set fs (i * m + j) true) m a b c' ∙ raise_cases fs m i j a b l k c' (a == i) (b == j) refl refl ∙ ap (λ t. if a == i && b == j then true else t) (sym (flag_at fs m a b c'))
-  | inr c' ↦ flag_past (set fs (i * m + j) true) m a b c' ∙ raised_past (a == i) (b == j) (flag fs m a b) (apart b j m l c') (flag_past fs m a b c')
-]
-
-pub flag_raise : (fs : List Bool) (m i j : ℕ) → j < m → i * m + j < length fs → (a b : ℕ) → flag (set fs (i * m + j) true) m a b ≡ if a == i && b == j then true else flag fs m a b
-flag_raise fs m i j l k a b = raise_at fs m i j a b l k (cases_lt b m)

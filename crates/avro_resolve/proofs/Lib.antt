@@ -2,6 +2,7 @@ pub mod NameLemmas
 pub mod LookupLemmas
 pub mod FieldLemmas
 pub mod Flags
+pub mod BitLemmas
 pub mod Monotone
 pub mod Members
 pub mod PairLemmas

@@ -1,32 +1,43 @@
--- Tables of all pairs but a list's.
-use Rattle.std.proofs.Common.{◌≡◌, ℕ, ◌<◌, List, [], ◌∷◌, ◌++◌, Bool, true, false, ◌&&◌, not, refl, sym, ap, subst, ◌∙◌, arith, true≢false, inl, inr}
+-- Sets that have the pairs of a list.
+use Rattle.std.proofs.Common.{◌≡◌, ℕ, ◌<◌, List, [], ◌∷◌, ◌++◌, Bool, true, false, ◌&&◌, ◌||◌, refl, sym, ap, subst, ◌∙◌, arith, true≢false, inl, inr}
 use Rattle.std.specs.Prelude.{◌==◌, if◌then◌else◌, ◌⊎◌}
 use Rattle.std.proofs.lemmas.Bool.Decides.{nat_tests}
-use Rattle.avro_resolve.specs.declared.table.Table.{Table}
-use Rattle.avro_resolve.specs.Witnesses.{Pair, member, without, Differ}
-use Rattle.avro_resolve.specs.Left.{left, SameShape}
+use Rattle.std.proofs.lemmas.List.Folds.{list_any-append}
+use Rattle.avro_resolve.specs.declared.pair_set.PairSet.{PairSet}
+use Rattle.avro_resolve.specs.Witnesses.{Pair, member, Differ}
+use Rattle.avro_resolve.specs.PairSets.{has}
 use Rattle.avro_resolve.specs.Walking.{Marks}
 use Rattle.avro_resolve.proofs.Members.{member-nil, member_front, member_last, push_cases, member_cases}
-use Rattle.avro_resolve.proofs.Strikes.{without-push}
+use Rattle.avro_resolve.proofs.Strikes.{push_one}
 use Rattle.avro_resolve.proofs.Settling.{same_pair}
 
-pub marks_none : (t : Table) → ((i j : ℕ) → i < t.writers → j < t.readers → left t i j ≡ true) → Marks t.writers t.readers t []
-marks_none t whole = record {
-  writers = refl;
-  readers = refl;
+pub marks_none : (m : ℕ) (s : PairSet) → s.readers ≡ m → ((i j : ℕ) → has s i j ≡ false) → Marks m s []
+marks_none m s e empty = record {
+  readers = e;
   within = λ i j h. absurd (true≢false (sym h ∙ member-nil i j));
-  exact = λ i j li lj. whole i j li lj ∙ sym (ap not (member-nil i j));
+  exact = λ i j l. empty i j ∙ sym (member-nil i j);
 }
 
-pub marks_push : (n m : ℕ) (t v : Table) (ps : List Pair) (i j : ℕ) → Marks n m t ps → i < n → j < m → SameShape t v → ((a b : ℕ) → left v a b ≡ (if a == i && b == j then false else left t a b)) → Marks n m v (ps ++ (i, j) ∷ [])
-marks_push n m t v ps i j h li lj shape others = record {
-  writers = shape.writers ∙ h.writers;
-  readers = shape.readers ∙ h.readers;
+put_in : (x z : Bool) → (if x then true else z) ≡ (z || (x || false))
+put_in true true = refl
+put_in true false = refl
+put_in false true = refl
+put_in false false = refl
+
+member-push : (ps : List Pair) (i j a b : ℕ) → (if a == i && b == j then true else member ps a b) ≡ member (ps ++ (i, j) ∷ []) a b
+unfolding member
+member-push ps i j a b =
+    put_in (a == i && b == j) (member ps a b)
+    ∙ sym (list_any-append (λ (p : Pair). p.0 == a && p.1 == b) ps ((i, j) ∷ []) ∙ ap (λ x. member ps a b || x) (push_one i j a b))
+
+pub marks_push : (m : ℕ) (s t : PairSet) (ps : List Pair) (i j : ℕ) → Marks m s ps → j < m → t.readers ≡ s.readers → ((a b : ℕ) → b < s.readers → has t a b ≡ (if a == i && b == j then true else has s a b)) → Marks m t (ps ++ (i, j) ∷ [])
+marks_push m s t ps i j h l same others = record {
+  readers = same ∙ h.readers;
   within = λ a b g. elim (push_cases ps i j a b g) [
     | inl k ↦ h.within a b k
-    | inr e ↦ (subst (λ (x : ℕ). x < n) (sym e.0) li, subst (λ (x : ℕ). x < m) (sym e.1) lj)
+    | inr e ↦ subst (λ (x : ℕ). x < m) (sym e.1) l
   ];
-  exact = λ a b la lb. others a b ∙ ap (λ x. if a == i && b == j then false else x) (h.exact a b la lb) ∙ without-push ps i j a b;
+  exact = λ a b k. others a b (subst (λ (n : ℕ). b < n) (sym h.readers) k) ∙ ap (λ x. if a == i && b == j then true else x) (h.exact a b k) ∙ member-push ps i j a b;
 }
 
 apart_step : (q : Pair) (ps : List Pair) (p : Pair) (b : Bool) → member (q ∷ ps) p.0 p.1 ≡ b → member (ps ++ p ∷ []) q.0 q.1 ≡ false → member ps p.0 p.1 ≡ false → b ≡ false
@@ -51,24 +62,26 @@ differ_front (q ∷ ps) p d = (outside (member ps q.0 q.1) (λ h. true≢false (
     outside true h = absurd (h refl)
     outside false h = refl
 
-put_back : (x : Bool) (y z : Bool) → x ≡ false → (if x then false else y) ≡ z → (if x then true else z) ≡ y
-put_back true y z e h = absurd (true≢false e)
-put_back false y z e h = sym h
+taken_here : (i j : ℕ) (z : Bool) → (if i == i && j == j then false else z) ≡ false
+taken_here i j z = grind (arith, nat_tests)
 
-put_here : (i j : ℕ) (z : Bool) → (if i == i && j == j then true else z) ≡ true
-put_here i j z = grind (arith, nat_tests)
+taken_else : (x y z : Bool) → x ≡ false → (if x then true else y) ≡ z → (if x then false else z) ≡ y
+taken_else true y z e h = absurd (true≢false e)
+taken_else false y z e h = sym h
 
-put_at : (ps : List Pair) (i j a b : ℕ) → Differ (ps ++ (i, j) ∷ []) → ((a ≡ i) × (b ≡ j)) ⊎ ((a == i && b == j) ≡ false) → (if a == i && b == j then true else without (ps ++ (i, j) ∷ []) a b) ≡ without ps a b
-put_at ps i j a b d (inr e) = put_back (a == i && b == j) (without ps a b) (without (ps ++ (i, j) ∷ []) a b) e (without-push ps i j a b)
-put_at ps i j a b d (inl e) =
-    subst (λ (x : ℕ). (if x == i && b == j then true else without (ps ++ (i, j) ∷ []) x b) ≡ without ps x b) (sym e.0)
-    (subst (λ (y : ℕ). (if i == i && y == j then true else without (ps ++ (i, j) ∷ []) i y) ≡ without ps i y) (sym e.1)
-    (put_here i j (without (ps ++ (i, j) ∷ []) i j) ∙ sym (ap not (last_apart ps (i, j) d))))
+take_at : (ps : List Pair) (i j a b : ℕ) → Differ (ps ++ (i, j) ∷ []) → ((a ≡ i) × (b ≡ j)) ⊎ ((a == i && b == j) ≡ false) → (if a == i && b == j then false else member (ps ++ (i, j) ∷ []) a b) ≡ member ps a b
+take_at ps i j a b d (inr e) = taken_else (a == i && b == j) (member ps a b) (member (ps ++ (i, j) ∷ []) a b) e (member-push ps i j a b)
+take_at ps i j a b d (inl e) =
+    subst (λ (x : ℕ). (if x == i && b == j then false else member (ps ++ (i, j) ∷ []) x b) ≡ member ps x b) (sym e.0)
+    (subst (λ (y : ℕ). (if i == i && y == j then false else member (ps ++ (i, j) ∷ []) i y) ≡ member ps i y) (sym e.1)
+    (taken_here i j (member (ps ++ (i, j) ∷ []) i j) ∙ sym (last_apart ps (i, j) d)))
 
-pub marks_pop : (n m : ℕ) (t v : Table) (ps : List Pair) (i j : ℕ) → Marks n m t (ps ++ (i, j) ∷ []) → Differ (ps ++ (i, j) ∷ []) → SameShape t v → ((a b : ℕ) → left v a b ≡ (if a == i && b == j then true else left t a b)) → Marks n m v ps
-marks_pop n m t v ps i j h d shape others = record {
-  writers = shape.writers ∙ h.writers;
-  readers = shape.readers ∙ h.readers;
+pub marks_pop : (m : ℕ) (s t : PairSet) (ps : List Pair) (i j : ℕ) → Marks m s (ps ++ (i, j) ∷ []) → Differ (ps ++ (i, j) ∷ []) → t.readers ≡ s.readers → ((a b : ℕ) → b < s.readers → has t a b ≡ (if a == i && b == j then false else has s a b)) → Marks m t ps
+marks_pop m s t ps i j h d same others = record {
+  readers = same ∙ h.readers;
   within = λ a b g. h.within a b (member_front ps ((i, j) ∷ []) a b g);
-  exact = λ a b la lb. others a b ∙ ap (λ x. if a == i && b == j then true else x) (h.exact a b la lb) ∙ put_at ps i j a b d (same_pair a b i j (a == i && b == j) refl);
+  exact = λ a b k. others a b (subst (λ (n : ℕ). b < n) (sym h.readers) k) ∙ ap (λ x. if a == i && b == j then false else x) (h.exact a b k) ∙ take_at ps i j a b d (same_pair a b i j (a == i && b == j) refl);
 }
+
+pub marks_at : (m n : ℕ) (s : PairSet) (ps : List Pair) → Marks m s ps → m ≡ n → Marks n s ps
+marks_at m n s ps h e = subst (λ (x : ℕ). Marks x s ps) e h

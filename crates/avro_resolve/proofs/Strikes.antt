@@ -24,7 +24,7 @@ push_bools false z false = refl
 turned : (a i : ℕ) → (i == a) ≡ (a == i)
 turned a i = grind (arith, nat_tests)
 
-push_one : (i j a b : ℕ) → list_any (λ (p : Pair). p.0 == a && p.1 == b) ((i, j) ∷ []) ≡ ((a == i && b == j) || false)
+pub push_one : (i j a b : ℕ) → list_any (λ (p : Pair). p.0 == a && p.1 == b) ((i, j) ∷ []) ≡ ((a == i && b == j) || false)
 push_one i j a b = rw (turned a i, turned b j) refl
 
 pub without-push : (ps : List Pair) (i j a b : ℕ) → (if a == i && b == j then false else without ps a b) ≡ without (ps ++ (i, j) ∷ []) a b

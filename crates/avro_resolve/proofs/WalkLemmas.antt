@@ -5,7 +5,6 @@ use Rattle.std.proofs.lemmas.List.{length_push, get_or_default}
 use Rattle.std.proofs.lemmas.List.Elements.{All-more, All-weaker}
 use Rattle.avro_nodes.specs.declared.node.Field.{Field}
 use Rattle.avro_nodes.specs.Nodes.{FieldView, NodeView, field_view}
-use Rattle.avro_resolve.specs.declared.table.Table.{Table}
 use Rattle.avro_resolve.specs.declared.walk.Walk.{Walk}
 use Rattle.avro_resolve.specs.declared.walk.Answer.{Answer}
 use Rattle.avro_resolve.specs.declared.walk.Answer.TheVariants.{Yes, No, Unfinished}
@@ -105,7 +104,7 @@ ask_yes w r d s u v i j ready e f after g h =
 -- one that isn't fails, and what was assumed since is taken back
 pub ask_no : (w r : List NodeView) (d : ℕ) (s u v x : Walk) (i j : ℕ) → Ready w r d s → Asked w r i j → member s.assumed.items i j ≡ false → u.assumed.items ≡ s.assumed.items ++ (i, j) ∷ [] → u.failed.items ≡ s.failed.items → Ready w r (d + 1) v → HasGrown w r u v → (Supports w r (without v.failed.items) i j → ⊥)
     → x.assumed.items ≡ take (length s.assumed.items) v.assumed.items → x.failed.items ≡ v.failed.items ++ (i, j) ∷ [] → x.visits ≡ v.visits
-    → Marks (length w) (length r) x.unassumed x.assumed.items → Marks (length w) (length r) x.unfailed x.failed.items
+    → Marks (length r) x.assumed_set x.assumed.items → Marks (length r) x.failed_set x.failed.items
     → Ready w r d x × HasGrown w r s x × ((x.assumed.items ≡ s.assumed.items) × IsTrue (member x.failed.items i j))
 ask_no w r d s u v x i j ready asked out e f after g never back fails visits marks marks2 =
     let grown = from_opened w r s u v i j e f g in
@@ -130,9 +129,6 @@ ask_no w r d s u v x i j ready asked out e f after g never back fails visits mar
 pub tells_leaf : (w r : List NodeView) (d : ℕ) (s : Walk) (H L : Type 0) (b : Bool) (answer : Answer) → Ready w r d s → (b ≡ true → answer ≡ Yes) → (b ≡ false → answer ≡ No) → (b ≡ true → H) → (b ≡ false → L) → Tells w r d s s H L answer
 tells_leaf w r d s H L true answer ready to_yes to_no held lost = rw (to_yes refl) (ready, grown0 w r s, held refl)
 tells_leaf w r d s H L false answer ready to_yes to_no held lost = rw (to_no refl) (ready, grown0 w r s, lost refl)
-
-pub marks_at : (n m n2 m2 : ℕ) (t : Table) (ps : List Pair) → Marks n m t ps → n ≡ n2 → m ≡ m2 → Marks n2 m2 t ps
-marks_at n m n2 m2 t ps h e f = subst (λ (x : ℕ). Marks x m2 t ps) e (subst (λ (y : ℕ). Marks n y t ps) f h)
 
 -- a pair that is open hasn't failed
 pub not_failed : (w r : List NodeView) (d : ℕ) (s u v : Walk) (i j : ℕ) → u.assumed.items ≡ s.assumed.items ++ (i, j) ∷ [] → Ready w r d v → HasGrown w r u v → member v.failed.items i j ≡ false

@@ -5,6 +5,7 @@ pub mod Sides
 pub mod Askers
 pub mod Witnesses
 pub mod Left
+pub mod PairSets
 pub mod Verdicts
 pub mod Asking
 pub mod Walking

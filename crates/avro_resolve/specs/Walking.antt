@@ -1,22 +1,21 @@
 -- What the recursion keeps: the assumed pairs, the failed ones in their order, and how many visits it counted.
 use Rattle.std.specs.Prelude.{◌≡◌, ℕ, ◌+◌, ◌*◌, ◌<◌, ◌≤◌, ◌⊎◌, [], List, take, length, IsTrue}
 use Rattle.avro_nodes.specs.Nodes.{NodeView}
-use Rattle.avro_resolve.specs.declared.table.Table.{Table}
+use Rattle.avro_resolve.specs.declared.pair_set.PairSet.{PairSet}
 use Rattle.avro_resolve.specs.declared.walk.Walk.{Walk}
 use Rattle.avro_resolve.specs.declared.walk.Answer.{Answer}
 use Rattle.avro_resolve.specs.declared.walk.Answer.TheVariants.{Yes, No, Unfinished}
 use Rattle.avro_resolve.specs.Resolution.{Supports, Resolves}
 use Rattle.avro_resolve.specs.Places.{IsWhole}
-use Rattle.avro_resolve.specs.Witnesses.{Pair, member, without, RefutesAfter, Differ, HasClosedSet, HasRefutation}
-use Rattle.avro_resolve.specs.Left.{left}
+use Rattle.avro_resolve.specs.Witnesses.{Pair, member, RefutesAfter, Differ, HasClosedSet, HasRefutation}
+use Rattle.avro_resolve.specs.PairSets.{has}
 use Rattle.avro_resolve.specs.Asking.{HoldsAsked, Asked, IsSmall}
 
--- the table has all pairs of so many places but the list's
-pub record Marks (n m : ℕ) (t : Table) (ps : List Pair) : Type 0 where
-  pub writers : t.writers ≡ n
-  pub readers : t.readers ≡ m
-  pub within : (i j : ℕ) → IsTrue (member ps i j) → (i < n) × (j < m)
-  pub exact : (i j : ℕ) → i < n → j < m → left t i j ≡ without ps i j
+-- the set has the pairs of the list, which are of a reader with so many places
+pub record Marks (m : ℕ) (s : PairSet) (ps : List Pair) : Type 0 where
+  pub readers : s.readers ≡ m
+  pub within : (i j : ℕ) → IsTrue (member ps i j) → j < m
+  pub exact : (i j : ℕ) → j < m → has s i j ≡ member ps i j
 
 pub record Good (w r : List NodeView) (assumed failed : List Pair) (visits : ℕ) : Type 0 where
   pub assumed_asked : (i j : ℕ) → IsTrue (member assumed i j) → Asked w r i j
@@ -49,8 +48,8 @@ pub record Ready (w r : List NodeView) (depth : ℕ) (s : Walk) : Type 0 where
   pub low : depth ≤ 1000
   pub opened : depth ≤ length s.assumed.items
   pub good : IsGood w r s
-  pub assumed : Marks (length w) (length r) s.unassumed s.assumed.items
-  pub failed : Marks (length w) (length r) s.unfailed s.failed.items
+  pub assumed : Marks (length r) s.assumed_set s.assumed.items
+  pub failed : Marks (length r) s.failed_set s.failed.items
 
 -- Yes and no hold at their answers. The third comes only after a thousand visits.
 abbrev pub Tells : List NodeView → List NodeView → ℕ → Walk → Walk → Type 0 → Type 0 → Answer → Type 0

@@ -9,6 +9,7 @@ mod kinds;
 mod looking;
 mod lookups;
 mod names;
+mod pair_set;
 mod recursion;
 mod resolving;
 mod roots;

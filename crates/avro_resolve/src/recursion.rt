@@ -86,10 +86,10 @@ pub fn ask(
         (IsTrue (member walk.new.assumed.items i j))
         ((walk.new.assumed.items ≡ walk.old.assumed.items) × IsTrue (member walk.new.failed.items i j)) answer) }
 {
-    if is_marked(&walk.unassumed, &walk.assumed, i, j) {
+    if is_marked(&walk.assumed_set, &walk.assumed, i, j) {
         return Ok(Answer::Yes);
     }
-    if is_marked(&walk.unfailed, &walk.failed, i, j) {
+    if is_marked(&walk.failed_set, &walk.failed, i, j) {
         return Ok(Answer::No);
     }
     if depth == MAX_OPEN {

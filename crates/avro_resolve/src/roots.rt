@@ -7,9 +7,9 @@ ghost use Rattle.avro_resolve.specs.Asking.{HoldsAsked};
 ghost use Rattle.avro_resolve.specs.Walking.{Shows};
 
 use crate::lookups::lookups_of;
+use crate::pair_set::PairSet;
 use crate::recursion::ask;
 use crate::sides::Side;
-use crate::table::Table;
 use crate::walk::{Answer, Walk};
 use avro_schema::Schema;
 use std::alloc::{AllocError, Global};
@@ -24,14 +24,12 @@ pub fn walk_roots(
     ensures at_least { IfOk result (λ p. 1 ≤ p.1) }
     ensures at_most { IfOk result (λ p. (ps : List Pair) → HoldsAsked (nodes_view writer.now) (nodes_view reader.now) ps → p.1 ≤ length ps * length ps) }
 {
-    let (rows, columns) = (writer.places() as usize, reader.places() as usize);
-    let unassumed = Table::all(alloc, rows, columns, false)?;
-    let unfailed = Table::all(alloc, rows, columns, false)?;
+    let (_rows, columns) = (writer.places(), reader.places());
     let mut walk = Walk {
         assumed: Vec::new(alloc),
         failed: Vec::new(alloc),
-        unassumed,
-        unfailed,
+        assumed_set: PairSet::none(alloc, columns),
+        failed_set: PairSet::none(alloc, columns),
         visits: 0,
     };
     let lookups = lookups_of(alloc, writer)?;

@@ -17,7 +17,7 @@ pub struct Table {
 }
 
 impl Table {
-    ghost use Rattle.std.specs.Prelude.{ℕ, ◌+◌, ◌^◌, ◌<◌, IfOk, IsTrue, ◌==◌, ◌&&◌, if◌then◌else◌, true, false};
+    ghost use Rattle.std.specs.Prelude.{ℕ, ◌+◌, ◌^◌, ◌<◌, IfOk, IsTrue, ◌==◌, ◌&&◌, if◌then◌else◌, false};
     ghost use Rattle.avro_resolve.specs.Left.{left, count_left, SameShape};
 
     /// All pairs of so many places of the writer and of the reader, with hints or without.
@@ -85,16 +85,5 @@ impl Table {
     {
         let k = i as usize * self.readers + j as usize;
         self.flags[k] = false;
-    }
-
-    /// Puts the pair back.
-    pub fn restore(&mut self, i: u32, j: u32)
-        requires i_in { i < self.old.writers }
-        requires j_in { j < self.old.readers }
-        ensures shape { SameShape self.old self.new }
-        ensures others { (a b : ℕ) → left self.new a b ≡ (if a == i && b == j then true else left self.old a b) }
-    {
-        let k = i as usize * self.readers + j as usize;
-        self.flags[k] = true;
     }
 }

@@ -6,8 +6,8 @@ ghost use Rattle.avro_resolve.specs.Asking.{Asked};
 ghost use Rattle.avro_resolve.specs.Sides.{nodes_of};
 ghost use Rattle.avro_resolve.specs.Walking.{Marks, Ready};
 
+use crate::pair_set::PairSet;
 use crate::sides::Side;
-use crate::table::Table;
 use std::alloc::AllocError;
 
 /// Whether a pair is supported, as far as the recursion goes.
@@ -28,23 +28,22 @@ pub struct Walk {
     pub assumed: Vec<(u16, u16)>,
     /// those that have failed, in order
     pub failed: Vec<(u16, u16)>,
-    /// all pairs but the assumed ones
-    pub unassumed: Table,
-    /// all pairs but the failed ones
-    pub unfailed: Table,
+    /// the assumed ones, as a set
+    pub assumed_set: PairSet,
+    /// the failed ones, as a set
+    pub failed_set: PairSet,
     /// how many pairs were opened
     pub visits: u128,
 }
 
-/// Whether the pair is one of a list, of which this table has all other pairs.
-pub fn is_marked(table: &Table, pairs: &[(u16, u16)], i: u32, j: u32) -> bool
-    requires marks { Marks table.now.writers table.now.readers table.now pairs.now }
-    requires i_in { i < table.now.writers }
-    requires j_in { j < table.now.readers }
+/// Whether the pair is one of a list, whose pairs this set has.
+pub fn is_marked(set: &PairSet, pairs: &[(u16, u16)], i: u32, j: u32) -> bool
+    requires marks { Marks set.now.readers set.now pairs.now }
+    requires j_in { j < set.now.readers }
     ensures { result ≡ member pairs.now i j }
 {
     let _pairs = pairs;
-    !table.has(i, j)
+    set.has(i, j)
 }
 
 /// Assumes the pair, and counts a visit.
@@ -71,43 +70,42 @@ pub fn open_pair(
 {
     let (_writer, _reader) = (writer, reader);
     walk.visits += 1;
-    walk.unassumed.strike(i, j);
+    walk.assumed_set.insert(i, j)?;
     walk.assumed.push((i as u16, j as u16))?;
     Ok(())
 }
 
 /// Takes back what was assumed after so many pairs.
-fn take_back(mark: usize, assumed: &mut Vec<(u16, u16)>, unassumed: &mut Table)
-    requires marks { Marks unassumed.old.writers unassumed.old.readers unassumed.old assumed.old.items }
+fn take_back(mark: usize, assumed: &mut Vec<(u16, u16)>, set: &mut PairSet)
+    requires marks { Marks set.old.readers set.old assumed.old.items }
     requires differ { Differ assumed.old.items }
     ensures items { assumed.new.items ≡ take mark assumed.old.items }
-    ensures marks { Marks unassumed.old.writers unassumed.old.readers unassumed.new assumed.new.items }
+    ensures marks { Marks set.old.readers set.new assumed.new.items }
 {
     while assumed.len() > mark {
         if let Some((i, j)) = assumed.pop() {
-            unassumed.restore(i as u32, j as u32);
+            set.remove(i as u32, j as u32);
         }
     }
 }
 
 /// Takes back what was assumed after so many pairs, and fails the pair.
 pub fn fail_pair(i: u32, j: u32, mark: usize, walk: &mut Walk) -> Result<(), AllocError>
-    requires assumed { Marks walk.old.unassumed.writers walk.old.unassumed.readers walk.old.unassumed walk.old.assumed.items }
+    requires assumed { Marks walk.old.assumed_set.readers walk.old.assumed_set walk.old.assumed.items }
     requires differ { Differ walk.old.assumed.items }
-    requires failed { Marks walk.old.unfailed.writers walk.old.unfailed.readers walk.old.unfailed walk.old.failed.items }
-    requires i_in { i < walk.old.unfailed.writers }
-    requires j_in { j < walk.old.unfailed.readers }
-    requires few_rows { walk.old.unfailed.writers < 65536 }
-    requires few_columns { walk.old.unfailed.readers < 65536 }
+    requires failed { Marks walk.old.failed_set.readers walk.old.failed_set walk.old.failed.items }
+    requires i_in { i < 65536 }
+    requires j_in { j < walk.old.failed_set.readers }
+    requires few_columns { walk.old.failed_set.readers < 65536 }
     requires not_failed { member walk.old.failed.items i j ≡ false }
     ensures assumed { OnOk result (walk.new.assumed.items ≡ take mark walk.old.assumed.items) }
     ensures failed { OnOk result (walk.new.failed.items ≡ walk.old.failed.items ++ (i, j) ∷ []) }
     ensures visits { OnOk result (walk.new.visits ≡ walk.old.visits) }
-    ensures assumed_marks { OnOk result (Marks walk.old.unassumed.writers walk.old.unassumed.readers walk.new.unassumed walk.new.assumed.items) }
-    ensures failed_marks { OnOk result (Marks walk.old.unfailed.writers walk.old.unfailed.readers walk.new.unfailed walk.new.failed.items) }
+    ensures assumed_marks { OnOk result (Marks walk.old.assumed_set.readers walk.new.assumed_set walk.new.assumed.items) }
+    ensures failed_marks { OnOk result (Marks walk.old.failed_set.readers walk.new.failed_set walk.new.failed.items) }
 {
-    take_back(mark, &mut walk.assumed, &mut walk.unassumed);
-    walk.unfailed.strike(i, j);
+    take_back(mark, &mut walk.assumed, &mut walk.assumed_set);
+    walk.failed_set.insert(i, j)?;
     walk.failed.push((i as u16, j as u16))?;
     Ok(())
 }

@@ -9,9 +9,10 @@ use Rattle.avro_resolve.specs.Resolution.{Readable}
 use Rattle.avro_resolve.specs.Lookups.{FindsFields}
 use Rattle.avro_resolve.specs.Asking.{IsSourceAsked}
 use Rattle.avro_resolve.specs.Witnesses.{Pair, member, without}
+use Rattle.avro_resolve.proofs.MarkLemmas.{marks_at}
 use Rattle.avro_resolve.proofs.Monotone.{supports_at}
 use Rattle.avro_resolve.proofs.SupportLemmas.{all_of}
-use Rattle.avro_resolve.proofs.WalkLemmas.{asked_on, grown2, within2, readable_source, readable_default, held_more, ask_yes, ask_no, not_failed, not_without, marks_at, tells_leaf, tells_on, told_ok, any_never, fields_asked, some_mapped}
+use Rattle.avro_resolve.proofs.WalkLemmas.{asked_on, grown2, within2, readable_source, readable_default, held_more, ask_yes, ask_no, not_failed, not_without, tells_leaf, tells_on, told_ok, any_never, fields_asked, some_mapped}
 use Rattle.avro_resolve.proofs.recursion.+walk.Goals as goal
 use Rattle.avro_resolve.proofs.recursion.+walk.Goals.{all_readable-in-Some+in_ok-ask-in-Some+in-Yes, all_readable-in-None+else-is_none}
 
@@ -43,8 +44,8 @@ ask-returns-in_ok-fail_pair-in-No t c =
     ask_no w r c.args.depth s c.open_pair.new.walk v x c.args.i c.args.j c.requires.ready c.requires.asked out c.in_ok-open_pair.ensures.assumed c.in_ok-open_pair.ensures.failed told.0 told.1
     (λ h. told.2 ((supports_at w r (without v.failed.items) c.args.i c.args.j (node_view c.node_in-a.result.now) (node_view c.node_in-b.result.now) c.node_in-a.ensures.at c.node_in-b.ensures.at).0 h))
     (subst (λ (n : ℕ). x.assumed.items ≡ take n v.assumed.items) mark after.assumed) after.failed after.visits
-    (marks_at _ _ (length w) (length r) x.unassumed x.assumed.items after.assumed_marks told.0.assumed.writers told.0.assumed.readers)
-    (marks_at _ _ (length w) (length r) x.unfailed x.failed.items after.failed_marks told.0.failed.writers told.0.failed.readers)
+    (marks_at _ (length r) x.assumed_set x.assumed.items after.assumed_marks told.0.assumed.readers)
+    (marks_at _ (length r) x.failed_set x.failed.items after.failed_marks told.0.failed.readers)
 
 pub fits-all_readable-requires : goal.fits-all_readable-requires
 fits-all_readable-requires t c =

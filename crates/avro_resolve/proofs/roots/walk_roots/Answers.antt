@@ -6,22 +6,22 @@ use Rattle.avro_resolve.specs.Walking.{Good, Marks}
 use Rattle.avro_resolve.proofs.Denoted.{some_node, is_whole}
 use Rattle.avro_resolve.proofs.MarkLemmas.{marks_none}
 use Rattle.avro_resolve.proofs.Reaching.{is_small}
-use Rattle.avro_resolve.proofs.WalkLemmas.{roots_asked, marks_at}
+use Rattle.avro_resolve.proofs.WalkLemmas.{roots_asked}
 use Rattle.avro_resolve.proofs.WalkEnds.{good_start, shown, at_most, at_least}
 use Rattle.avro_resolve.proofs.roots.walk_roots.Goals as goal
 
 pub ask-requires-clause-writer : goal.ask-requires-clause-writer
 ask-requires-clause-writer c = record {
-  whole = is_whole (nodes_view c.args.writer.now) c.places.ensures.schema;
+  whole = is_whole (nodes_view c.args.writer.now) c.places-rows.ensures.schema;
   lookups = c.in_ok-lookups.ensures;
-  few = omega (arith, c.places.ensures.places, c.places.ensures.few);
+  few = omega (arith, c.places-rows.ensures.places, c.places-rows.ensures.few);
 }
 
 pub ask-requires-clause-reader : goal.ask-requires-clause-reader
 ask-requires-clause-reader c = record {
-  whole = is_whole (nodes_view c.args.reader.now) c.places-2.ensures.schema;
+  whole = is_whole (nodes_view c.args.reader.now) c.places-columns.ensures.schema;
   lookups = c.in_ok-lookups-2.ensures;
-  few = omega (arith, c.places-2.ensures.places, c.places-2.ensures.few);
+  few = omega (arith, c.places-columns.ensures.places, c.places-columns.ensures.few);
 }
 
 pub ask-requires-clause-ready : goal.ask-requires-clause-ready
@@ -29,39 +29,35 @@ ask-requires-clause-ready c =
     let w = nodes_view c.args.writer.now in let r = nodes_view c.args.reader.now in
     let lw : length w ≡ length c.args.writer.now = length-map c.args.writer.now node_view in
     let lr : length r ≡ length c.args.reader.now = length-map c.args.reader.now node_view in
-    let ww = is_whole w c.places.ensures.schema in let wr = is_whole r c.places-2.ensures.schema in
-    let few_rows : length w < 65536 = omega (arith, lw, c.places.ensures.places, c.places.ensures.few) in
-    let few_columns : length r < 65536 = omega (arith, lr, c.places-2.ensures.places, c.places-2.ensures.few) in
-    let t = c.in_ok-unassumed.unassumed in let u = c.in_ok-unfailed.unfailed in
-    let tw : t.writers ≡ length w = c.in_ok-unassumed.ensures.writers ∙ c.places.ensures.places ∙ sym lw in
-    let tr : t.readers ≡ length r = c.in_ok-unassumed.ensures.readers ∙ c.places-2.ensures.places ∙ sym lr in
-    let uw : u.writers ≡ length w = c.in_ok-unfailed.ensures.writers ∙ c.places.ensures.places ∙ sym lw in
-    let ur : u.readers ≡ length r = c.in_ok-unfailed.ensures.readers ∙ c.places-2.ensures.places ∙ sym lr in
+    let ww = is_whole w c.places-rows.ensures.schema in let wr = is_whole r c.places-columns.ensures.schema in
+    let few_rows : length w < 65536 = omega (arith, lw, c.places-rows.ensures.places, c.places-rows.ensures.few) in
+    let few_columns : length r < 65536 = omega (arith, lr, c.places-columns.ensures.places, c.places-columns.ensures.few) in
+    let m : c.places-columns.result ≡ length r = c.places-columns.ensures.places ∙ sym lr in
     record {
       writer = ww;
       reader = wr;
-      small = is_small w r ww wr (some_node w c.places.ensures.schema) (some_node r c.places-2.ensures.schema) few_rows few_columns;
+      small = is_small w r ww wr (some_node w c.places-rows.ensures.schema) (some_node r c.places-columns.ensures.schema) few_rows few_columns;
       low = omega arith;
       opened = omega arith;
       good = subst (λ (x : List Pair). Good w r x c.new-2.result.items 0) (sym c.new.ensures.items) (subst (λ (x : List Pair). Good w r [] x 0) (sym c.new-2.ensures.items) (good_start w r));
-      assumed = subst (λ (x : List Pair). Marks (length w) (length r) t x) (sym c.new.ensures.items) (marks_at _ _ (length w) (length r) t [] (marks_none t (λ i j li lj. c.in_ok-unassumed.ensures.whole i j (subst (λ n. i < n) c.in_ok-unassumed.ensures.writers li) (subst (λ n. j < n) c.in_ok-unassumed.ensures.readers lj))) tw tr);
-      failed = subst (λ (x : List Pair). Marks (length w) (length r) u x) (sym c.new-2.ensures.items) (marks_at _ _ (length w) (length r) u [] (marks_none u (λ i j li lj. c.in_ok-unfailed.ensures.whole i j (subst (λ n. i < n) c.in_ok-unfailed.ensures.writers li) (subst (λ n. j < n) c.in_ok-unfailed.ensures.readers lj))) uw ur);
+      assumed = subst (λ (x : List Pair). Marks (length r) c.none.result x) (sym c.new.ensures.items) (marks_none (length r) c.none.result (c.none.ensures.readers ∙ m) c.none.ensures.empty);
+      failed = subst (λ (x : List Pair). Marks (length r) c.none-2.result x) (sym c.new-2.ensures.items) (marks_none (length r) c.none-2.result (c.none-2.ensures.readers ∙ m) c.none-2.ensures.empty);
     }
 
 pub ask-requires-clause-i_in : goal.ask-requires-clause-i_in
-ask-requires-clause-i_in c = some_node (nodes_view c.args.writer.now) c.places.ensures.schema
+ask-requires-clause-i_in c = some_node (nodes_view c.args.writer.now) c.places-rows.ensures.schema
 
 pub ask-requires-clause-j_in : goal.ask-requires-clause-j_in
-ask-requires-clause-j_in c = some_node (nodes_view c.args.reader.now) c.places-2.ensures.schema
+ask-requires-clause-j_in c = some_node (nodes_view c.args.reader.now) c.places-columns.ensures.schema
 
 pub ask-requires-clause-asked : goal.ask-requires-clause-asked
 ask-requires-clause-asked c = roots_asked (nodes_view c.args.writer.now) (nodes_view c.args.reader.now)
 
 pub returns-clause-shows : goal.returns-clause-shows
-returns-clause-shows c = shown (nodes_view c.args.writer.now) (nodes_view c.args.reader.now) (record { assumed = c.new.result; failed = c.new-2.result; unassumed = c.in_ok-unassumed.unassumed; unfailed = c.in_ok-unfailed.unfailed; visits = 0 }) c.ask.new.walk c.new.ensures.items c.new-2.ensures.items c.in_ok-answer.answer c.in_ok-answer.ensures
+returns-clause-shows c = shown (nodes_view c.args.writer.now) (nodes_view c.args.reader.now) (record { assumed = c.new.result; failed = c.new-2.result; assumed_set = c.none.result; failed_set = c.none-2.result; visits = 0 }) c.ask.new.walk c.new.ensures.items c.new-2.ensures.items c.in_ok-answer.answer c.in_ok-answer.ensures
 
 pub returns-clause-at_most : goal.returns-clause-at_most
-returns-clause-at_most c = at_most (nodes_view c.args.writer.now) (nodes_view c.args.reader.now) (record { assumed = c.new.result; failed = c.new-2.result; unassumed = c.in_ok-unassumed.unassumed; unfailed = c.in_ok-unfailed.unfailed; visits = 0 }) c.ask.new.walk c.new.ensures.items c.new-2.ensures.items c.in_ok-answer.answer c.in_ok-answer.ensures
+returns-clause-at_most c = at_most (nodes_view c.args.writer.now) (nodes_view c.args.reader.now) (record { assumed = c.new.result; failed = c.new-2.result; assumed_set = c.none.result; failed_set = c.none-2.result; visits = 0 }) c.ask.new.walk c.new.ensures.items c.new-2.ensures.items c.in_ok-answer.answer c.in_ok-answer.ensures
 
 pub returns-clause-at_least : goal.returns-clause-at_least
-returns-clause-at_least c = at_least (nodes_view c.args.writer.now) (nodes_view c.args.reader.now) (record { assumed = c.new.result; failed = c.new-2.result; unassumed = c.in_ok-unassumed.unassumed; unfailed = c.in_ok-unfailed.unfailed; visits = 0 }) c.ask.new.walk c.new.ensures.items c.new-2.ensures.items c.in_ok-answer.answer c.in_ok-answer.ensures
+returns-clause-at_least c = at_least (nodes_view c.args.writer.now) (nodes_view c.args.reader.now) (record { assumed = c.new.result; failed = c.new-2.result; assumed_set = c.none.result; failed_set = c.none-2.result; visits = 0 }) c.ask.new.walk c.new.ensures.items c.new-2.ensures.items c.in_ok-answer.answer c.in_ok-answer.ensures

@@ -20,6 +20,6 @@ returns-clause-ready c =
       low = omega arith;
       opened = (let e : length c.push.new.self.items ≡ length (s.assumed.items ++ (i, j) ∷ []) = ap length is in let o = ready.opened in omega (arith, e, l, o));
       good = subst (λ (x : List Pair). Good w r x s.failed.items (s.visits + 1)) (sym is) (opened w r s.assumed.items s.failed.items s.visits i j ready.good c.requires.asked c.requires.not_assumed c.requires.not_failed);
-      assumed = subst (λ (x : List Pair). Marks (length w) (length r) c.strike.new.self x) (sym is) (marks_push (length w) (length r) s.unassumed c.strike.new.self s.assumed.items i j ready.assumed c.requires.i_in c.requires.j_in c.strike.ensures.shape c.strike.ensures.others);
+      assumed = subst (λ (x : List Pair). Marks (length r) c.insert.new.self x) (sym is) (marks_push (length r) s.assumed_set c.insert.new.self s.assumed.items i j ready.assumed c.requires.j_in c.in_ok-insert.ensures.readers c.in_ok-insert.ensures.others);
       failed = ready.failed;
     }

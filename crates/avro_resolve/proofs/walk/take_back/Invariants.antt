@@ -8,7 +8,7 @@ invariant-loop-assumed l = record {
   front : take (length l.assumed.items) l.initial.assumed.items ≡ l.assumed.items;
   low : length l.assumed.items < l.mark → l.assumed.items ≡ l.initial.assumed.items;
   differ : Differ l.assumed.items;
-  marks : Marks l.initial.unassumed.writers l.initial.unassumed.readers l.unassumed l.assumed.items;
+  marks : Marks l.initial.set.readers l.set l.assumed.items;
 }
 
 abbrev pub decreases-loop-assumed : goal.decreases-loop-assumed

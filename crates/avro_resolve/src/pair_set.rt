@@ -1,0 +1,85 @@
+//! Sets of pairs of places.
+
+ghost use Rattle.std.specs.Prelude.{◌≡◌, ℕ, ◌<◌, ◌/◌, OnOk, length};
+ghost use Rattle.avro_resolve.specs.PairSets.{bit};
+
+use std::alloc::{AllocError, Global};
+
+/// A set of pairs of places, the writer's first: one bit a pair, as far as the last that was ever
+/// put in.
+#[derive(Drop)]
+pub struct PairSet {
+    words: Vec<u64>,
+    readers: u32,
+}
+
+/// Makes room for the bit at a place.
+fn make_room(words: &mut Vec<u64>, at: usize) -> Result<(), AllocError>
+    ensures room { OnOk result (at / 64 < length words.new.items) }
+    ensures bits { OnOk result ((k : ℕ) → bit words.new.items k ≡ bit words.old.items k) }
+{
+    if words.len() <= at / 64 {
+        words.resize(at / 64 + 1, 0)?;
+    }
+    Ok(())
+}
+
+impl PairSet {
+    ghost use Rattle.std.specs.Prelude.{◌≡◌, ℕ, ◌+◌, ◌*◌, ◌<◌, OnOk, ◌==◌, ◌&&◌, if◌then◌else◌, true, false};
+    ghost use Rattle.avro_resolve.specs.PairSets.{has};
+
+    /// No pairs, of a reader with so many places.
+    pub fn none(alloc: Global, readers: u32) -> PairSet
+        ensures readers { result.readers ≡ readers }
+        ensures empty { (i j : ℕ) → has result i j ≡ false }
+    {
+        PairSet {
+            words: Vec::new(alloc),
+            readers,
+        }
+    }
+
+    /// Whether the pair is in the set.
+    pub fn has(&self, i: u32, j: u32) -> bool
+        ensures { result ≡ has self.now i j }
+    {
+        let at = self.place(i, j);
+        match self.words.get(at / 64) {
+            Some(word) => (*word >> (at % 64)) & 1 == 1,
+            None => false,
+        }
+    }
+
+    /// Puts the pair in.
+    pub fn insert(&mut self, i: u32, j: u32) -> Result<(), AllocError>
+        requires { j < self.old.readers }
+        ensures readers { OnOk result (self.new.readers ≡ self.old.readers) }
+        ensures others { OnOk result ((a b : ℕ) → b < self.old.readers
+            → has self.new a b ≡ (if a == i && b == j then true else has self.old a b)) }
+    {
+        let at = self.place(i, j);
+        make_room(&mut self.words, at)?;
+        self.words[at / 64] |= 1 << (at % 64);
+        Ok(())
+    }
+
+    /// Takes the pair out.
+    pub fn remove(&mut self, i: u32, j: u32)
+        requires { j < self.old.readers }
+        ensures readers { self.new.readers ≡ self.old.readers }
+        ensures others { (a b : ℕ) → b < self.old.readers
+            → has self.new a b ≡ (if a == i && b == j then false else has self.old a b) }
+    {
+        let at = self.place(i, j);
+        if at / 64 < self.words.len() {
+            self.words[at / 64] &= !(1 << (at % 64));
+        }
+    }
+
+    /// Where the bit of a pair stands.
+    fn place(&self, i: u32, j: u32) -> usize
+        ensures { result ≡ i * self.now.readers + j }
+    {
+        i as usize * self.readers as usize + j as usize
+    }
+}
