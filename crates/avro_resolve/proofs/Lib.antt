@@ -3,6 +3,7 @@ pub mod LookupLemmas
 pub mod FieldLemmas
 pub mod Flags
 pub mod BitLemmas
+pub mod Agreement
 pub mod Monotone
 pub mod Members
 pub mod PairLemmas

@@ -1,5 +1,6 @@
 pub mod Resolution
 pub mod Places
+pub mod Agreeing
 pub mod Lookups
 pub mod Sides
 pub mod Askers

@@ -3,6 +3,7 @@
 
 #![tactic(auto)]
 
+mod agreeing;
 mod askers;
 mod fields;
 mod kinds;

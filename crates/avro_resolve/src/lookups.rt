@@ -92,25 +92,42 @@ fn lookup_of<T: Titled>(alloc: Global, items: &[T]) -> Result<Lookup, AllocError
     Ok(Lookup { by_name })
 }
 
+/// What is found by name in a schema.
+#[derive(Clone, Copy, Debug, PartialEq, Eq)]
+pub enum Sought {
+    /// the fields of a writer's records
+    Fields,
+    /// the symbols of a reader's enums
+    Symbols,
+}
+
 /// The table of a record that has more than a few fields, or of an enum that has more than a few
-/// symbols.
-fn lookup_if_any(alloc: Global, node: &Node) -> Result<Option<Lookup>, AllocError>
+/// symbols, if such are sought.
+fn lookup_if_any(alloc: Global, sought: Sought, node: &Node) -> Result<Option<Lookup>, AllocError>
     ensures { IfOk result (λ o. IfSome o (λ t. IsLookupOf t node.now)) }
 {
-    match node {
-        Node::Rec { fields, .. } if fields.len() > FEW => Ok(Some(lookup_of(alloc, fields)?)),
-        Node::Enum { symbols, .. } if symbols.len() > FEW => Ok(Some(lookup_of(alloc, symbols)?)),
+    match (sought, node) {
+        (Sought::Fields, Node::Rec { fields, .. }) if fields.len() > FEW => {
+            Ok(Some(lookup_of(alloc, fields)?))
+        }
+        (Sought::Symbols, Node::Enum { symbols, .. }) if symbols.len() > FEW => {
+            Ok(Some(lookup_of(alloc, symbols)?))
+        }
         _ => Ok(None),
     }
 }
 
-/// The tables of a schema's records and enums that have one, each at its place.
-pub fn lookups_of(alloc: Global, schema: &Schema) -> Result<Vec<Option<Lookup>>, AllocError>
+/// The tables of a schema's records or enums that have one, each at its place.
+pub fn lookups_of(
+    alloc: Global,
+    sought: Sought,
+    schema: &Schema,
+) -> Result<Vec<Option<Lookup>>, AllocError>
     ensures { IfOk result (λ v. AreLookups schema.now v.items) }
 {
     let mut lookups = Vec::with_capacity(alloc, schema.places() as usize)?;
     for place in 0..schema.places() {
-        lookups.push(lookup_if_any(alloc, schema.node(place))?)?;
+        lookups.push(lookup_if_any(alloc, sought, schema.node(place))?)?;
     }
     Ok(lookups)
 }

@@ -11,12 +11,10 @@ ghost use Rattle.avro_resolve.specs.Witnesses.{member, without};
 ghost use Rattle.avro_resolve.specs.Asking.{source_place, Asked, AreAsked, IsSourceAsked};
 ghost use Rattle.avro_resolve.specs.Walking.{Ready, Tells};
 
+use crate::agreeing::agree;
 use crate::fields::source_of;
-use crate::kinds::promotes;
 use crate::lookups::Lookup;
-use crate::names::names_match;
 use crate::sides::Side;
-use crate::support::{enums_fit, fixed_fit};
 use crate::walk::{Answer, Walk, fail_pair, is_marked, open_pair};
 use avro_nodes::{Field, Node};
 use std::alloc::AllocError;
@@ -26,14 +24,6 @@ const MAX_OPEN: usize = 1000;
 
 /// The most pairs that are opened, one after the other.
 const MAX_VISITS: u128 = 1_000_000;
-
-/// Yes where it holds, and no where it doesn't.
-fn yes_if(holds: bool) -> Answer
-    ensures yes { holds ≡ true → result ≡ Answer.Yes }
-    ensures no { holds ≡ false → result ≡ Answer.No }
-{
-    if holds { Answer::Yes } else { Answer::No }
-}
 
 /// The node at a place, which names places of nodes.
 fn node_in<'a>(side: &'a Side, place: u32) -> &'a Node
@@ -137,54 +127,23 @@ fn fits(
         (Fits (member walk.new.assumed.items) at.0 at.1 (node_view a.now) (node_view b.now))
         (Fits (without walk.new.failed.items) at.0 at.1 (node_view a.now) (node_view b.now) → ⊥) answer) }
 {
+    if !agree(a, b, reader.lookup(at.1, b)) {
+        return Ok(Answer::No);
+    }
     match (a, b) {
         (Node::Union { branches }, _) => all_asked(writer, reader, branches, at.1, depth, walk),
         (_, Node::Union { branches }) => any_asked(writer, reader, at.0, branches, depth, walk),
-        (Node::Primitive { kind, .. }, Node::Primitive { kind: wanted, .. }) => {
-            Ok(yes_if(promotes(*kind, *wanted)))
-        }
         (Node::Array { items: p, .. }, Node::Array { items: q, .. }) => {
             ask(writer, reader, *p, *q, depth, walk)
         }
         (Node::Map { values: p, .. }, Node::Map { values: q, .. }) => {
             ask(writer, reader, *p, *q, depth, walk)
         }
-        (
-            Node::Enum { named, symbols, .. },
-            Node::Enum {
-                named: wanted,
-                symbols: known,
-                fallback,
-                ..
-            },
-        ) => {
-            let lookup = reader.lookup(at.1, b);
-            let fit = enums_fit(named, symbols, wanted, known, lookup, fallback);
-            Ok(yes_if(fit))
-        }
-        (
-            Node::Fixed { named, size, .. },
-            Node::Fixed {
-                named: wanted,
-                size: wanted_size,
-                ..
-            },
-        ) => Ok(yes_if(fixed_fit(named, *size, wanted, *wanted_size))),
-        (
-            Node::Rec { named, fields, .. },
-            Node::Rec {
-                named: wanted,
-                fields: wanted_fields,
-                ..
-            },
-        ) => {
-            if !names_match(named, wanted) {
-                return Ok(Answer::No);
-            }
+        (Node::Rec { fields, .. }, Node::Rec { fields: wanted, .. }) => {
             let sources = writer.lookup(at.0, a);
-            all_readable(writer, reader, fields, sources, wanted_fields, depth, walk)
+            all_readable(writer, reader, fields, sources, wanted, depth, walk)
         }
-        _ => Ok(Answer::No),
+        _ => Ok(Answer::Yes),
     }
 }
 

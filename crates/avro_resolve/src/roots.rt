@@ -6,7 +6,7 @@ ghost use Rattle.avro_resolve.specs.Witnesses.{Pair};
 ghost use Rattle.avro_resolve.specs.Asking.{HoldsAsked};
 ghost use Rattle.avro_resolve.specs.Walking.{Shows};
 
-use crate::lookups::lookups_of;
+use crate::lookups::{Sought, lookups_of};
 use crate::pair_set::PairSet;
 use crate::recursion::ask;
 use crate::sides::Side;
@@ -32,12 +32,12 @@ pub fn walk_roots(
         failed_set: PairSet::none(alloc, columns),
         visits: 0,
     };
-    let lookups = lookups_of(alloc, writer)?;
+    let lookups = lookups_of(alloc, Sought::Fields, writer)?;
     let written = Side {
         schema: writer,
         lookups,
     };
-    let lookups = lookups_of(alloc, reader)?;
+    let lookups = lookups_of(alloc, Sought::Symbols, reader)?;
     let read = Side {
         schema: reader,
         lookups,

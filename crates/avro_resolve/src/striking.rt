@@ -10,7 +10,7 @@ ghost use Rattle.avro_resolve.specs.Askers.{HasAskers};
 
 use crate::askers::{askers, askers_of};
 use crate::looking::{look_across, look_everywhere};
-use crate::lookups::lookups_of;
+use crate::lookups::{Sought, lookups_of};
 use crate::sides::Side;
 use crate::sweeping::sweep;
 use crate::table::Table;
@@ -82,12 +82,12 @@ pub fn largest_closed(alloc: Global, writer: &Schema, reader: &Schema) -> Result
 {
     let (rows, columns) = (writer.places() as usize, reader.places() as usize);
     let mut table = Table::all(alloc, rows, columns, has_union(reader))?;
-    let lookups = lookups_of(alloc, writer)?;
+    let lookups = lookups_of(alloc, Sought::Fields, writer)?;
     let written = Side {
         schema: writer,
         lookups,
     };
-    let lookups = lookups_of(alloc, reader)?;
+    let lookups = lookups_of(alloc, Sought::Symbols, reader)?;
     let read = Side {
         schema: reader,
         lookups,

@@ -1,22 +1,20 @@
 //! Whether the pairs that are left support a pair.
 
-ghost use Rattle.std.specs.Prelude.{◌≡◌, ◌≤◌, IfSome, None, get_or, ◌<◌, ◌↔◌, ◌⊎◌, ℕ, false, map, option_map, string_bytes, length, All, Any, Contains, IsSome, IsTrue};
-ghost use Rattle.std.specs.List.{list_any, list_all};
-ghost use Rattle.std.specs.Str.{bytes_eq};
-ghost use Rattle.avro_nodes.specs.Nodes.{field_view, named_view, node_view, texts_view};
-ghost use Rattle.avro_resolve.specs.Resolution.{Pairs, NameMatch, Readable, Fits, Supports};
-ghost use Rattle.avro_resolve.specs.Lookups.{FindsFields, FindsTexts, IsLookupOf};
+ghost use Rattle.std.specs.Prelude.{◌≡◌, ◌≤◌, IfSome, None, get_or, ◌<◌, ◌↔◌, ℕ, false, map, length, All, Any, IsTrue};
+ghost use Rattle.avro_nodes.specs.Nodes.{field_view, node_view};
+ghost use Rattle.avro_resolve.specs.Resolution.{Pairs, Readable, Fits, Supports};
+ghost use Rattle.avro_resolve.specs.Agreeing.{Agree};
+ghost use Rattle.avro_resolve.specs.Lookups.{FindsFields, IsLookupOf};
 ghost use Rattle.avro_resolve.specs.Places.{Names};
 ghost use Rattle.avro_resolve.specs.Sides.{nodes_of, IsSide};
 ghost use Rattle.avro_resolve.specs.Left.{left, WithinBut, Ignores};
 
+use crate::agreeing::agree;
 use crate::fields::source_of;
-use crate::kinds::promotes;
 use crate::lookups::Lookup;
-use crate::names::{has_text, names_match};
 use crate::sides::Side;
 use crate::table::Table;
-use avro_nodes::{Field, Named, Node};
+use avro_nodes::{Field, Node};
 
 /// Whether each branch of a writer's union is left with the reader's place.
 fn all_left(places: &[u32], j: u32, table: &Table) -> bool
@@ -85,117 +83,26 @@ fn all_readable(fields: &[Field], sources: Option<&Lookup>, wanted: &[Field], ta
         .all(|f| is_readable(fields, sources, f, table))
 }
 
-/// Whether the text is one of a reader's symbols.
-fn is_known(known: &[String], lookup: Option<&Lookup>, symbol: &str) -> bool
-    requires { IfSome lookup (λ t. FindsTexts t.now known.now) }
-    ensures { result ≡ list_any (λ t. bytes_eq (string_bytes t) symbol.now) known.now }
-{
-    match lookup {
-        Some(lookup) => lookup.get(symbol).is_some(),
-        None => has_text(known, symbol),
-    }
-}
-
-/// Whether each of a writer's symbols is one of the reader's.
-fn all_known(symbols: &[String], known: &[String], lookup: Option<&Lookup>) -> bool
-    requires { IfSome lookup (λ t. FindsTexts t.now known.now) }
-    ensures { result ≡ list_all (λ s. list_any (λ t. bytes_eq (string_bytes t) (string_bytes s)) known.now) symbols.now }
-{
-    symbols.iter().all(|symbol| is_known(known, lookup, symbol))
-}
-
-/// Whether each of a writer's symbols may come: the reader has a default, or knows all of them.
-fn symbols_fit(
-    symbols: &[String],
-    known: &[String],
-    lookup: Option<&Lookup>,
-    fallback: &Option<String>,
-) -> bool
-    requires { IfSome lookup (λ t. FindsTexts t.now known.now) }
-    ensures { IsTrue result ↔ (IsSome (option_map string_bytes fallback.now)
-        ⊎ All (Contains (texts_view known.now)) (texts_view symbols.now)) }
-{
-    fallback.is_some() || all_known(symbols, known, lookup)
-}
-
-/// Whether a writer's enum is read as the reader's: their names match, and each symbol may come.
-pub fn enums_fit(
-    named: &Named,
-    symbols: &[String],
-    wanted: &Named,
-    known: &[String],
-    lookup: Option<&Lookup>,
-    fallback: &Option<String>,
-) -> bool
-    requires { IfSome lookup (λ t. FindsTexts t.now known.now) }
-    ensures { IsTrue result ↔ (NameMatch (named_view named.now) (named_view wanted.now)
-        × (IsSome (option_map string_bytes fallback.now)
-        ⊎ All (Contains (texts_view known.now)) (texts_view symbols.now))) }
-{
-    names_match(named, wanted) && symbols_fit(symbols, known, lookup, fallback)
-}
-
-/// Whether a writer's fixed is read as the reader's: their names match, and their sizes are the
-/// same.
-pub fn fixed_fit(named: &Named, size: u32, wanted: &Named, wanted_size: u32) -> bool
-    ensures { IsTrue result ↔ (NameMatch (named_view named.now) (named_view wanted.now) × (size ≡ wanted_size)) }
-{
-    names_match(named, wanted) && size == wanted_size
-}
-
-/// Whether what is left supports the pair of these nodes, by the first case that fits (Avro 1.11
-/// specification, Schema Resolution).
-fn fits(
-    a: &Node,
-    sources: Option<&Lookup>,
-    b: &Node,
-    symbols_known: Option<&Lookup>,
-    i: u32,
-    j: u32,
-    table: &Table,
-) -> bool
+/// Whether what is left has the pairs that the pair of these nodes asks for, by the first case that
+/// fits (Avro 1.11 specification, Schema Resolution).
+fn asked_left(a: &Node, sources: Option<&Lookup>, b: &Node, i: u32, j: u32, table: &Table) -> bool
     requires sources { IfSome sources (λ t. IsLookupOf t.now a.now) }
-    requires symbols_known { IfSome symbols_known (λ t. IsLookupOf t.now b.now) }
     requires a_in { Names table.now.writers (node_view a.now) }
     requires b_in { Names table.now.readers (node_view b.now) }
     requires i_in { i < table.now.writers }
     requires j_in { j < table.now.readers }
+    requires agree { Agree (node_view a.now) (node_view b.now) }
     ensures { IsTrue result ↔ Fits (left table.now) i j (node_view a.now) (node_view b.now) }
 {
     match (a, b) {
         (Node::Union { branches }, _) => all_left(branches, j, table),
         (_, Node::Union { branches }) => any_left(i, j, branches, table),
-        (Node::Primitive { kind, .. }, Node::Primitive { kind: wanted, .. }) => {
-            promotes(*kind, *wanted)
-        }
         (Node::Array { items: p, .. }, Node::Array { items: q, .. }) => table.has(*p, *q),
         (Node::Map { values: p, .. }, Node::Map { values: q, .. }) => table.has(*p, *q),
-        (
-            Node::Enum { named, symbols, .. },
-            Node::Enum {
-                named: wanted,
-                symbols: known,
-                fallback,
-                ..
-            },
-        ) => enums_fit(named, symbols, wanted, known, symbols_known, fallback),
-        (
-            Node::Fixed { named, size, .. },
-            Node::Fixed {
-                named: wanted,
-                size: wanted_size,
-                ..
-            },
-        ) => fixed_fit(named, *size, wanted, *wanted_size),
-        (
-            Node::Rec { named, fields, .. },
-            Node::Rec {
-                named: wanted,
-                fields: wanted_fields,
-                ..
-            },
-        ) => names_match(named, wanted) && all_readable(fields, sources, wanted_fields, table),
-        _ => false,
+        (Node::Rec { fields, .. }, Node::Rec { fields: wanted, .. }) => {
+            all_readable(fields, sources, wanted, table)
+        }
+        _ => true,
     }
 }
 
@@ -210,7 +117,7 @@ pub fn supports(writer: &Side, reader: &Side, i: u32, j: u32, table: &Table) -> 
     ensures { IsTrue result ↔ Supports (nodes_of writer.now) (nodes_of reader.now) (left table.now) i j }
 {
     let (a, b) = (writer.node(i), reader.node(j));
-    fits(a, writer.lookup(i, a), b, reader.lookup(j, b), i, j, table)
+    agree(a, b, reader.lookup(j, b)) && asked_left(a, writer.lookup(i, a), b, i, j, table)
 }
 
 /// Whether a reader's field at the second place is read from a writer's field at the first.

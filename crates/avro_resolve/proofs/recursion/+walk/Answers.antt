@@ -9,10 +9,11 @@ use Rattle.avro_resolve.specs.Resolution.{Readable}
 use Rattle.avro_resolve.specs.Lookups.{FindsFields}
 use Rattle.avro_resolve.specs.Asking.{IsSourceAsked}
 use Rattle.avro_resolve.specs.Witnesses.{Pair, member, without}
+use Rattle.avro_resolve.proofs.Agreement.{fits_agree}
 use Rattle.avro_resolve.proofs.MarkLemmas.{marks_at}
 use Rattle.avro_resolve.proofs.Monotone.{supports_at}
 use Rattle.avro_resolve.proofs.SupportLemmas.{all_of}
-use Rattle.avro_resolve.proofs.WalkLemmas.{asked_on, grown2, within2, readable_source, readable_default, held_more, ask_yes, ask_no, not_failed, not_without, tells_leaf, tells_on, told_ok, any_never, fields_asked, some_mapped}
+use Rattle.avro_resolve.proofs.WalkLemmas.{asked_on, grown0, grown2, within2, readable_source, readable_default, held_more, ask_yes, ask_no, not_failed, not_without, tells_on, told_ok, any_never, fields_asked, some_mapped}
 use Rattle.avro_resolve.proofs.recursion.+walk.Goals as goal
 use Rattle.avro_resolve.proofs.recursion.+walk.Goals.{all_readable-in-Some+in_ok-ask-in-Some+in-Yes, all_readable-in-None+else-is_none}
 
@@ -49,7 +50,7 @@ ask-returns-in_ok-fail_pair-in-No t c =
 
 pub fits-all_readable-requires : goal.fits-all_readable-requires
 fits-all_readable-requires t c =
-    let w = nodes_view c.args.writer.now.schema.now in let r = nodes_view c.args.reader.now.schema.now in let fs = c.in-Rec-Rec.fields.items in let gs = c.in-Rec-Rec.wanted_fields.items in
+    let w = nodes_view c.args.writer.now.schema.now in let r = nodes_view c.args.reader.now.schema.now in let fs = c.in-Rec-Rec.fields.items in let gs = c.in-Rec-Rec.wanted.items in
     let e = sym c.deref-in-Rec-Rec.ensures.value in let e2 = sym c.deref-in-Rec-Rec-2.ensures.value in
     let sources : IfSome c.lookup-sources.result (λ t. FindsFields t.now c.deref-in-Rec-Rec.result.now) = subst (λ (xs : List Field). IfSome c.lookup-sources.result (λ t. FindsFields t.now xs)) e (rw c.in-Rec-Rec.is-0 at c.lookup-sources.ensures) in
     let fields_in : All (λ f. f.place < length w) (map field_view c.deref-in-Rec-Rec.result.now) = subst (λ (xs : List Field). All (λ f. f.place < length w) (map field_view xs)) e (rw c.in-Rec-Rec.is-0 at c.requires.a_in) in
@@ -59,26 +60,16 @@ fits-all_readable-requires t c =
     subst (λ (xs : List Field). All (λ (f : Field). IsSourceAsked w r (map field_view xs) (field_view f)) c.deref-in-Rec-Rec-2.result.now) e (subst (λ (ys : List Field). All (λ (f : Field). IsSourceAsked w r (map field_view fs) (field_view f)) ys) e2 asked0) in
     search rules
 
-pub fits-returns-in-Primitive-Primitive : goal.fits-returns-in-Primitive-Primitive
-fits-returns-in-Primitive-Primitive t c =
-    let s = c.args.walk.now in let told = c.promotes.ensures in
-    rw (c.in-Primitive-Primitive.is-0, c.in-Primitive-Primitive.is-1) (tells_leaf _ _ c.args.depth s _ _ c.promotes.result c.yes_if.result c.requires.ready c.yes_if.ensures.yes c.yes_if.ensures.no told.0 (λ e h. true≢false (sym (told.1 h) ∙ e)))
+pub fits-returns-then-not-agree : goal.fits-returns-then-not-agree
+fits-returns-then-not-agree t c =
+    let w = nodes_view c.args.writer.now.schema.now in let r = nodes_view c.args.reader.now.schema.now in let s = c.args.walk.now in
+    (c.requires.ready, grown0 w r s, (λ h. true≢false (sym (c.agree.ensures.1 (fits_agree (without s.failed.items) c.args.at.0 c.args.at.1 (node_view c.args.a.now) (node_view c.args.b.now) h)) ∙ c.if-not-agree.true)))
 
-pub fits-returns-in-Enum-Enum : goal.fits-returns-in-Enum-Enum
-fits-returns-in-Enum-Enum t c =
-    let s = c.args.walk.now in let told = rw (c.deref-in-Enum-Enum.ensures.value, c.deref-in-Enum-Enum-2.ensures.value) at c.enums_fit-fit.ensures in
-    rw (c.in-Enum-Enum.is-0, c.in-Enum-Enum.is-1) (tells_leaf _ _ c.args.depth s _ _ c.enums_fit-fit.result c.yes_if-in-Enum-Enum.result c.requires.ready c.yes_if-in-Enum-Enum.ensures.yes c.yes_if-in-Enum-Enum.ensures.no told.0 (λ e h. true≢false (sym (told.1 h) ∙ e)))
-
-pub fits-returns-in-Fixed-Fixed : goal.fits-returns-in-Fixed-Fixed
-fits-returns-in-Fixed-Fixed t c =
-    let s = c.args.walk.now in let told = c.fixed_fit.ensures in
-    rw (c.in-Fixed-Fixed.is-0, c.in-Fixed-Fixed.is-1) (tells_leaf _ _ c.args.depth s _ _ c.fixed_fit.result c.yes_if-in-Fixed-Fixed.result c.requires.ready c.yes_if-in-Fixed-Fixed.ensures.yes c.yes_if-in-Fixed-Fixed.ensures.no told.0 (λ e h. true≢false (sym (told.1 h) ∙ e)))
-
-pub fits-returns-else-not-names_match : goal.fits-returns-else-not-names_match
-fits-returns-else-not-names_match t c =
+pub fits-returns-in-Rec-Rec : goal.fits-returns-in-Rec-Rec
+fits-returns-in-Rec-Rec t c =
     let w = nodes_view c.args.writer.now.schema.now in let r = nodes_view c.args.reader.now.schema.now in let s = c.args.walk.now in let v = c.all_readable.new.walk in
-    let fs = map field_view c.in-Rec-Rec.fields.items in let gs = c.in-Rec-Rec.wanted_fields.items in
-    let names = c.names_match.ensures.0 c.if-not-names_match.false in
+    let fs = map field_view c.in-Rec-Rec.fields.items in let gs = c.in-Rec-Rec.wanted.items in
+    let names = rw (c.in-Rec-Rec.is-0, c.in-Rec-Rec.is-1) at (c.agree.ensures.0 c.if-not-agree.false) in
     let told = rw (c.deref-in-Rec-Rec.ensures.value, c.deref-in-Rec-Rec-2.ensures.value) at c.all_readable.ensures in
     rw (c.in-Rec-Rec.is-0, c.in-Rec-Rec.is-1) (told_ok c.all_readable.result _ _ (λ answer. tells_on w r c.args.depth s v _ _ _ _ (λ h. (names, All-map (Readable (member v.assumed.items) fs) field_view gs h)) (λ l h. any_never (Readable (without v.failed.items) fs) gs l h.1) answer) told)
 

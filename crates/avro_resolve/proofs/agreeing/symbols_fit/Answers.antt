@@ -1,6 +1,6 @@
 use Rattle.std.proofs.Common.{sym, ◌∙◌, inl, inr}
 use Rattle.avro_resolve.proofs.SupportLemmas.{all_symbols, no_fallback}
-use Rattle.avro_resolve.proofs.support.symbols_fit.Goals as goal
+use Rattle.avro_resolve.proofs.agreeing.symbols_fit.Goals as goal
 
 pub returns-else-is_some : goal.returns-else-is_some
 returns-else-is_some c =
