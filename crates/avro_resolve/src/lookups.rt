@@ -83,11 +83,10 @@ fn lookup_of<T: Titled>(alloc: Global, items: &[T]) -> Result<Lookup, AllocError
         ≡ first_of T.title_of T.given_by name items.now) }
 {
     let mut by_name = HashMap::with_capacity(alloc, items.len())?;
-    for item in items {
-        let name = item.title();
-        if !by_name.contains_key(name) {
-            by_name.insert(name, item.given())?;
-        }
+    // from the last one on, so that the first of a name stays
+    for index in (0..items.len()).rev() {
+        let item = &items[index];
+        by_name.insert(item.title(), item.given())?;
     }
     Ok(Lookup { by_name })
 }

@@ -1,8 +1,8 @@
-use Rattle.std.proofs.Common.{drop}
+use Rattle.std.proofs.Common.{◌≡◌, ℕ, List, drop}
 use Rattle.std.specs.HashMap.{get_by}
 use Rattle.std.specs.Str.{bytes_eq}
-use Rattle.avro_resolve.proofs.LookupLemmas.{GivesAll}
+use Rattle.avro_resolve.specs.Lookups.{first_of}
 use Rattle.avro_resolve.proofs.lookups.lookup_of.Given as goal
 
-abbrev pub invariant-loop-item : goal.invariant-loop-item
-invariant-loop-item g l = GivesAll g.T.Titled.title_of g.T.Titled.given_by (λ q. get_by (λ k. bytes_eq q k.now) l.by_name) (drop l.item-index l.items) l.items
+abbrev pub invariant-loop-index : goal.invariant-loop-index
+invariant-loop-index g l = (name : List ℕ) → get_by (λ k. bytes_eq name k.now) l.by_name ≡ first_of g.T.Titled.title_of g.T.Titled.given_by name (drop l.index l.items)
