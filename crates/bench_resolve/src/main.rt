@@ -1,21 +1,28 @@
 //! Measures the resolution of large schemas. Its words are the name of a shape and a count of its
 //! parts, or `all`. For each pair of schemas it prints the numbers of places, what `resolves`
 //! answers, how long it and `resolves_plain` took, and the most memory that the process held so
-//! far. Without words it does nothing.
+//! far. The word `random` has 2,000 pairs made at random, always the same ones, and tells whether
+//! both ways answer each of them alike. Without words it does nothing.
 
 #![tactic(auto)]
 
 mod parts;
+mod random;
 mod shape;
 mod text;
 
 use anyhow::{Context, Result, bail};
 use avro_resolve::{resolves, resolves_plain};
 use avro_schema::Schema;
+use random::random_text;
 use shape::{SHAPES, Shape};
+use std::alloc::Global;
 use std::time::Instant;
 use std::{env, fs};
 use text::{Role, text_of};
+
+/// How many pairs are made at random.
+const RANDOM_PAIRS: u64 = 2000;
 
 /// Prints the most memory that the process held so far.
 fn print_memory(rt: &HostRuntime) -> Result<()> {
@@ -51,6 +58,31 @@ fn measure(rt: &HostRuntime, name: &str, shape: Shape, count: u32) -> Result<()>
     print_memory(rt)
 }
 
+/// Whether both ways say yes to a random pair; they answer alike, or it is an error.
+fn answer_alike(alloc: Global, pair: u64) -> Result<bool> {
+    let writer = random_text(alloc, pair, Role::Writer)?;
+    let reader = random_text(alloc, pair, Role::Reader)?;
+    let writer = Schema::read(alloc, writer.as_str())?;
+    let reader = Schema::read(alloc, reader.as_str())?;
+    let yes = resolves(alloc, &writer, &reader)?.yes;
+    if resolves_plain(alloc, &writer, &reader)? != yes {
+        bail!("the two ways answer pair {pair} differently");
+    }
+    Ok(yes)
+}
+
+/// Has both ways answer all random pairs.
+fn answer_random(rt: &HostRuntime) -> Result<()> {
+    let mut yes = 0u64;
+    for pair in 0..RANDOM_PAIRS {
+        if answer_alike(rt.alloc(), pair)? {
+            yes = yes.saturating_add(1);
+        }
+    }
+    println!(rt; "{RANDOM_PAIRS} random pairs: both ways agree on each, and {yes} resolve")?;
+    Ok(())
+}
+
 /// Measures all pairs.
 fn measure_all(rt: &HostRuntime) -> Result<()> {
     for (name, shape, counts) in &SHAPES {
@@ -68,6 +100,9 @@ fn main(rt: HostRuntime) -> Result<()> {
     };
     if word.as_str() == "all" {
         return measure_all(&rt);
+    }
+    if word.as_str() == "random" {
+        return answer_random(&rt);
     }
     let Some((name, shape, _)) = SHAPES.iter().find(|s| s.0 == word.as_str()) else {
         bail!("no shape is named {word}");
