@@ -1,4 +1,4 @@
--- What stands behind a place of a listing.
+-- What stands behind a cursor of a listing.
 use Rattle.std.proofs.Common.{◌≡◌, inl, inr, ◌&&◌, ℕ, zero, suc, ◌+◌, ◌-◌, ◌^◌, ◌<◌, ◌≤◌, min, List, [], ◌∷◌, length, map, take, find, Bool, true, false, cond, Option, None, Some, slice_get, Ordering, Less, Equal, Greater, refl, sym, ap, subst, ◌∙◌, add-one, arith}
 use Rattle.std.specs.Prelude.{bytes_eq, option_map, IsTrue, IfOk, OnOk, Result, Ok, Err, Vec, String}
 use Rattle.std.specs.declared.alloc.Global.{Global}
@@ -30,8 +30,8 @@ use Rattle.reg_tables.proofs.OrderedQueries.{entries_rise, entry_got}
 use Rattle.reg_store.specs.declared.listing.Listing.{Listing}
 use Rattle.reg_store.specs.declared.listing.Listing.TheVariants.{Subjects, Versions, Schemas as AllSchemas}
 use Rattle.reg_store.specs.declared.store.lent.Lines.{Lines}
-use Rattle.reg_store.specs.declared.store.place.Place.{Place}
-use Rattle.reg_store.specs.declared.store.place.Place.TheVariants.{Version, Schema}
+use Rattle.reg_store.specs.declared.store.cursor.Cursor.{Cursor}
+use Rattle.reg_store.specs.declared.store.cursor.Cursor.TheVariants.{Version, Schema}
 use Rattle.reg_store.specs.Handing.{is_behind, subject_in, key_in, IsAt, LeadsOn, HasHanded, HandsOn}
 use Rattle.reg_store.specs.Listings.{Fields, fields_of, listing_lines, schema_line, schema_lines, subject_listed, subjects_of, version_line}
 use Rattle.reg_store.specs.Spells.{IsSpelled, version_row}
@@ -123,7 +123,7 @@ line_of n [] i id is = refl
 line_of n (nodes ∷ schemas) zero id is = let same : n ≡ id = omega arith in ap (λ m. Some (schema_line m (identity nodes))) same
 line_of n (nodes ∷ schemas) (suc i) id is = line_of (n + 1) schemas i id (omega arith)
 
--- the line at a place is that of the next id
+-- the line at a cursor is that of the next id
 pub schema_leads : (g : Registry) (count : ℕ) → option_map (schema_line (count + 1)) (text_at g.schemas (count + 1)) ≡ slice_get (listing_lines AllSchemas g) count
 schema_leads g count = subst (λ id. option_map (schema_line id) (text_at g.schemas id) ≡ slice_get (schema_lines g.schemas) count) (sym (add-one count)) (sym (line_of 1 g.schemas count (suc count) (omega arith)))
 
@@ -175,7 +175,7 @@ past_all g few zero past = absurd (omega arith)
 past_all g few (suc id) past =
     (ap (option_map identity) (slice_get_past g.schemas id (omega arith)), slice_get_past (schema_lines g.schemas) (suc id) (omega (arith, length-schema_lines g.schemas)))
 
--- the line at a place is that of the next id, which is the next number but where there is none
+-- the line at a cursor is that of the next id, which is the next number but where there is none
 pub schema_next : (g : Registry) → length g.schemas ≤ max_number → (id next : ℕ) → id < 2 ^ 32 → next ≡ min (id + 1) (2 ^ 32 - 1) → (found : Option (List ℕ)) → found ≡ text_at g.schemas next
     → (option_map (schema_line next) found ≡ slice_get (listing_lines AllSchemas g) id) × ((text : List ℕ) → found ≡ Some text → next ≡ id + 1)
 schema_next g few id next low is found there = elim (cases_lt id (2 ^ 32 - 1)) [
@@ -209,7 +209,7 @@ all_taken [] (suc n) h = refl
 all_taken (x ∷ xs) zero h = absurd (none-some x h)
 all_taken (x ∷ xs) (suc n) h = ap (λ ys. x ∷ ys) (all_taken xs n h)
 
-pub hands_on : {S : Type 0} {g : Ghosts S} (old new : Lines S Place g) (kind : Listing) (registry : Registry) (done : List Fields) (h : HasHanded old kind registry done) (line : Option (Vec (String Global) Global))
-    → LeadsOn kind registry h.count (line, new.place) → HandsOn new kind registry done line
-hands_on old new kind registry done h None leads = (h.begins ∙ all_taken (listing_lines kind registry) h.count leads.line, record { count = h.count; begins = h.begins; place = leads.place })
-hands_on old new kind registry done h (Some line) leads = record { count = h.count + 1; begins = taken_more (listing_lines kind registry) done h.count (fields_of line) h.begins (sym leads.line); place = leads.place }
+pub hands_on : {S : Type 0} {g : Ghosts S} (old new : Lines S Cursor g) (kind : Listing) (registry : Registry) (done : List Fields) (h : HasHanded old kind registry done) (line : Option (Vec (String Global) Global))
+    → LeadsOn kind registry h.count (line, new.cursor) → HandsOn new kind registry done line
+hands_on old new kind registry done h None leads = (h.begins ∙ all_taken (listing_lines kind registry) h.count leads.line, record { count = h.count; begins = h.begins; cursor = leads.cursor })
+hands_on old new kind registry done h (Some line) leads = record { count = h.count + 1; begins = taken_more (listing_lines kind registry) done h.count (fields_of line) h.begins (sym leads.line); cursor = leads.cursor }

@@ -67,7 +67,7 @@ below_none first (line ∷ lines) n id l =
     ap (λ b. cond b (Some (string_bytes line.text)) (find nat_cmp id (pairs_of lines))) (other_key nat_cmp number_order id line.id (λ e. let a = n.0 in omega (arith, l, a, e)))
     ∙ below_none (first + 1) lines n.1 id (omega (arith, l))
 
--- numbered rows have the text of each id at its place
+-- numbered rows have the text of each id at its position
 found_at : (first : ℕ) (lines : List TextLine) → AreNumbered first (ids_of lines) → (fit : AllByRecursion IsTextRow (map text_row lines)) → (n id : ℕ) → id ≡ first + n
     → find nat_cmp id (pairs_of lines) ≡ option_map identity (slice_get (schemas_in lines fit) n)
 found_at first [] h fit n id e = refl

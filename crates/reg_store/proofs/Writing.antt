@@ -40,7 +40,7 @@ pub nonempty : {X : Type 0} (xs : List X) → xs ≢ [] → 0 < length xs
 nonempty [] some = absurd (some refl)
 nonempty (x ∷ xs) some = omega arith
 
--- what holds of each holds of the one at a place
+-- what holds of each holds of the one at a position
 pub all_got : {X : Type 0} (P : X → Type 0) (xs : List X) (i : ℕ) (x d : X) → i < length xs → x ≡ get_or xs i d → AllByRecursion P xs → P x
 all_got P [] i x d low is all = absurd (omega (arith, low))
 all_got P (y ∷ ys) zero x d low is all = subst P (sym is) all.0

@@ -79,7 +79,7 @@ CanStoreReply None = ⊤
 CanStoreReply (Some keep) = CanBeStored kept (Text keep.key.now ∷ kept_cells (row_of (entry_of keep)))
 
 -- there is room for all rows that are to be written, and none is too large
-pub record HasPlace (s : State) (changes : List Change) (keep : Option Keep) : Type 0 where
+pub record HasRoomFor (s : State) (changes : List Change) (keep : Option Keep) : Type 0 where
   pub rooms : IsTrue s.is_open → HasRooms s.now (length changes + 1)
   pub changes_fit : AllByRecursion CanStoreChange changes
   pub reply_fits : CanStoreReply keep

@@ -10,8 +10,8 @@ use Rattle.reg_core.specs.Registry.{Registry, Row, RowKey}
 use Rattle.reg_store.specs.declared.error.StoreError.{StoreError}
 use Rattle.reg_store.specs.declared.listing.Listing.{Listing}
 use Rattle.reg_store.specs.declared.listing.Listing.TheVariants.{Subjects, Versions, Schemas}
-use Rattle.reg_store.specs.declared.store.place.Place.{Place}
-use Rattle.reg_store.specs.declared.store.place.Place.TheVariants.{Subject, Version, Schema}
+use Rattle.reg_store.specs.declared.store.cursor.Cursor.{Cursor}
+use Rattle.reg_store.specs.declared.store.cursor.Cursor.TheVariants.{Subject, Version, Schema}
 use Rattle.reg_store.specs.declared.store.Store.{Store}
 use Rattle.reg_store.specs.declared.store.lent.Lines.{Lines}
 use Rattle.reg_store.specs.Listings.{Fields, fields_of, listing_lines, subjects_of}
@@ -29,10 +29,10 @@ abbrev pub is_behind : {K : Type 0} → (K → K → Ordering) → Option K → 
 is_behind cmp None key = true
 is_behind cmp (Some last) key = is_gt (cmp key last)
 
--- ---- places
+-- ---- cursors
 
 -- this project's choice: so many lines of the listing end here
-abbrev pub IsAt : Listing → Registry → ℕ → Place → Type 0
+abbrev pub IsAt : Listing → Registry → ℕ → Cursor → Type 0
 IsAt Subjects g count (Subject last) = option_map subject_in last ≡ last_or None (take count (subjects_of (entries g.rows)))
 IsAt Versions g count (Version last) = last ≡ last_or None (take count (entries g.rows))
 IsAt Schemas g count (Schema id) = id ≡ count
@@ -44,9 +44,9 @@ count_after None count = count
 count_after (Some line) count = count + 1
 
 -- the next line, if there is one, and where the lines then end
-pub record LeadsOn (kind : Listing) (g : Registry) (count : ℕ) (found : Option (Vec (String Global) Global) × Place) : Type 0 where
+pub record LeadsOn (kind : Listing) (g : Registry) (count : ℕ) (found : Option (Vec (String Global) Global) × Cursor) : Type 0 where
   pub line : option_map fields_of found.0 ≡ slice_get (listing_lines kind g) count
-  pub place : IsAt kind g (count_after found.0 count) found.1
+  pub cursor : IsAt kind g (count_after found.0 count) found.1
 
 -- ---- lines that are lent
 
@@ -59,12 +59,12 @@ abbrev pub failure_in : {S P : Type 0} {g : Ghosts S} → Lines S P g → Option
 failure_in lines = lines.failure
 
 -- this project's choice: they have handed out these lines, which begin the listing
-pub record HasHanded {S : Type 0} {g : Ghosts S} (lines : Lines S Place g) (kind : Listing) (registry : Registry) (done : List Fields) : Type 0 where
+pub record HasHanded {S : Type 0} {g : Ghosts S} (lines : Lines S Cursor g) (kind : Listing) (registry : Registry) (done : List Fields) : Type 0 where
   pub count : ℕ
   pub begins : done ≡ take count (listing_lines kind registry)
-  pub place : IsAt kind registry count lines.place
+  pub cursor : IsAt kind registry count lines.cursor
 
 -- one more line is handed out, or those that were are all
-abbrev pub HandsOn : {S : Type 0} {g : Ghosts S} → Lines S Place g → Listing → Registry → List Fields → Option (Vec (String Global) Global) → Type 0
+abbrev pub HandsOn : {S : Type 0} {g : Ghosts S} → Lines S Cursor g → Listing → Registry → List Fields → Option (Vec (String Global) Global) → Type 0
 HandsOn lines kind registry done (Some line) = HasHanded lines kind registry (done ++ fields_of line ∷ [])
 HandsOn lines kind registry done None = (done ≡ listing_lines kind registry) × HasHanded lines kind registry done

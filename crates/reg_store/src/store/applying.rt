@@ -9,7 +9,7 @@ ghost use Rattle.reg_core.specs.Views.{ChangesFit, after_changes};
 ghost use Rattle.reg_tables.specs.Reading.{OnlyReads};
 ghost use Rattle.reg_core.specs.KeptReplies.{Kept};
 ghost use Rattle.reg_store.specs.Spells.{Leaves, IsOpenOver, SpellsWhileOpen};
-ghost use Rattle.reg_store.specs.Changes.{with_reply, IsNewTo, IsKeepable, ActsOn, HasPlace};
+ghost use Rattle.reg_store.specs.Changes.{with_reply, IsNewTo, IsKeepable, ActsOn, HasRoomFor};
 ghost use Rattle.reg_store.specs.Failures.{failure_of, is_fault, IsFaultBy};
 ghost use Rattle.reg_store.specs.Stores.{state_of, has_failed, KeepsStore};
 
@@ -39,7 +39,7 @@ fn commit_all<S: Alter>(
     ensures fits { HasCleanDisk (state S.Store conn.new) → IfErr result (λ e.
         (g : Registry) (k : Kept) → SpellsWhileOpen (state S.Store conn.old) g k
         → IsNewTo k keep.entry → ChangesFit changes.now g
-        → HasPlace (state S.Store conn.old) changes.now keep.entry
+        → HasRoomFor (state S.Store conn.old) changes.now keep.entry
         → IsFaultBy (state S.Store conn.old) (state S.Store conn.new) (failure_of e)) }
     ensures was_open { HasCleanDisk (state S.Store conn.new)
         → OnOk result (IsTrue (state S.Store conn.old).is_open) }
@@ -81,7 +81,7 @@ impl<S: Alter> Store<S> {
         ensures fits { HasCleanDisk (state_of self.new) → has_failed self.old ≡ false
             → IfErr result (λ e. (g : Registry) (k : Kept) → SpellsWhileOpen (state_of self.old) g k
             → IsNewTo k keep.entry → ChangesFit changes.now g
-            → HasPlace (state_of self.old) changes.now keep.entry
+            → HasRoomFor (state_of self.old) changes.now keep.entry
             → IsFaultBy (state_of self.old) (state_of self.new) e) }
         ensures nothing { HasCleanDisk (state_of self.new) → OnErr result ((g : Registry) (k : Kept)
             → SpellsWhileOpen (state_of self.old) g k → SpellsWhileOpen (state_of self.new) g k) }

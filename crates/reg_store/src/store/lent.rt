@@ -16,15 +16,15 @@ ghost use Rattle.reg_store.specs.Lending.{StoreRests};
 use crate::error::StoreError;
 use crate::listing::Listing;
 use crate::store::Store;
-use crate::store::place::Place;
+use crate::store::cursor::Cursor;
 use sqlite::Alter;
 use std::mem;
 
 /// The lines of a listing, which a store hands out one at a time. While they live it can't be
-/// used. They hold the place where the last line ended, and no other line.
-pub struct Lines<'s, S: Alter, P: Drop = Place> {
+/// used. They hold the cursor behind the last line, and no other line.
+pub struct Lines<'s, S: Alter, P: Drop = Cursor> {
     store: &'s mut Store<S>,
-    place: P,
+    cursor: P,
     failure: Option<StoreError>,
 }
 
@@ -34,7 +34,7 @@ impl<S: Alter, P: Drop> Drop for Lines<'_, S, P> {
     {
         let Lines {
             store: _,
-            place: _,
+            cursor: _,
             failure: _,
         } = self;
     }
@@ -61,20 +61,20 @@ impl<S: Alter> Store<S> {
         }
         Ok(Lines {
             store: self,
-            place: start_of(kind),
+            cursor: start_of(kind),
             failure: None,
         })
     }
 }
 
 /// Before all lines of the listing.
-fn start_of(kind: Listing) -> Place
+fn start_of(kind: Listing) -> Cursor
     ensures { (g : Registry) → IsAt kind g 0 result }
 {
     match kind {
-        Listing::Subjects => Place::Subject(None),
-        Listing::Versions => Place::Version(None),
-        Listing::Schemas => Place::Schema(0),
+        Listing::Subjects => Cursor::Subject(None),
+        Listing::Versions => Cursor::Version(None),
+        Listing::Schemas => Cursor::Schema(0),
     }
 }
 
@@ -109,10 +109,10 @@ impl<S: Alter> Lines<'_, S> {
         if let Some(error) = self.failure {
             return Err(error);
         }
-        let place = mem::replace(&mut self.place, Place::Schema(0));
-        match self.store.line_behind(place) {
-            Ok((line, place)) => {
-                self.place = place;
+        let cursor = mem::replace(&mut self.cursor, Cursor::Schema(0));
+        match self.store.line_behind(cursor) {
+            Ok((line, cursor)) => {
+                self.cursor = cursor;
                 Ok(line)
             }
             Err(error) => {

@@ -1,4 +1,4 @@
-//! The line of a listing behind a place.
+//! The line of a listing behind a cursor.
 
 ghost use Rattle.std.specs.Prelude.{◌≡◌, ℕ, None, IfOk, IfErr, false};
 ghost use Rattle.sqlite.specs.Tree.{Trees};
@@ -16,8 +16,8 @@ ghost use Rattle.reg_store.specs.Handing.{IsAt, LeadsOn};
 use crate::error::StoreError;
 use crate::store::Store;
 use crate::store::behind::{next_subject, next_version};
+use crate::store::cursor::Cursor;
 use crate::store::lines::{schema_line, version_line};
-use crate::store::place::Place;
 use crate::store::subject_lines::listed_subject;
 use crate::store::texts::text_under;
 use reg_core::Row;
@@ -25,16 +25,16 @@ use sqlite::{Alter, Connection};
 use std::alloc::Global;
 
 impl<S: Alter> Store<S> {
-    /// The next line behind the place, if there is one, and where the lines then end.
+    /// The next line behind the cursor, if there is one, and where the lines then end.
     pub(crate) fn line_behind(
         &mut self,
-        place: Place,
-    ) -> Result<(Option<Vec<String>>, Place), StoreError>
+        cursor: Cursor,
+    ) -> Result<(Option<Vec<String>>, Cursor), StoreError>
         ensures frame { KeepsLent self.old self.new result }
         ensures found { HasCleanDisk (state_of self.new) → IfOk result (λ found.
             (kind : Listing) (g : Registry) (k : Kept) (count : ℕ)
             → SpellsWhileOpen (state_of self.old) g k
-            → IsAt kind g count place → LeadsOn kind g count found) }
+            → IsAt kind g count cursor → LeadsOn kind g count found) }
         ensures fault { HasCleanDisk (state_of self.new)
             → IfErr result (IsFaultOver (state_of self.old) (state_of self.new)) }
         ensures same { HasCleanDisk (state_of self.new) → (g : Registry) (k : Kept)
@@ -42,30 +42,30 @@ impl<S: Alter> Store<S> {
         ensures crash { HasCleanDisk (state_of self.new) → (db : Trees)
             → (state_of self.new).may_leave db → (state_of self.old).may_leave db }
     {
-        line_at(self.alloc, &mut self.conn, place)
+        line_at(self.alloc, &mut self.conn, cursor)
     }
 }
 
-/// The next line behind the place, if there is one, and where the lines then end.
+/// The next line behind the cursor, if there is one, and where the lines then end.
 fn line_at<S: Alter>(
     alloc: Global,
     conn: &mut Connection<S>,
-    place: Place,
-) -> Result<(Option<Vec<String>>, Place), StoreError>
+    cursor: Cursor,
+) -> Result<(Option<Vec<String>>, Cursor), StoreError>
     requires idle { conn.old.in_transaction ≡ false }
     requires unlimited { conn.old.step_limit ≡ None }
     ensures frame { StaysIdle S.Store conn.old conn.new result }
     ensures found { HasCleanDisk (state S.Store conn.new) → IfOk result (λ found.
         (kind : Listing) (g : Registry) (k : Kept) (count : ℕ)
         → SpellsWhileOpen (state S.Store conn.old) g k
-        → IsAt kind g count place → LeadsOn kind g count found) }
+        → IsAt kind g count cursor → LeadsOn kind g count found) }
     ensures fault { HasCleanDisk (state S.Store conn.new)
         → IfErr result (IsFaultOver (state S.Store conn.old) (state S.Store conn.new)) }
 {
-    match place {
-        Place::Subject(last) => subject_at(alloc, conn, last),
-        Place::Version(last) => version_at(alloc, conn, last),
-        Place::Schema(id) => schema_at(alloc, conn, id),
+    match cursor {
+        Cursor::Subject(last) => subject_at(alloc, conn, last),
+        Cursor::Version(last) => version_at(alloc, conn, last),
+        Cursor::Schema(id) => schema_at(alloc, conn, id),
     }
 }
 
@@ -74,21 +74,21 @@ fn subject_at<S: Alter>(
     alloc: Global,
     conn: &mut Connection<S>,
     last: Option<Row>,
-) -> Result<(Option<Vec<String>>, Place), StoreError>
+) -> Result<(Option<Vec<String>>, Cursor), StoreError>
     requires idle { conn.old.in_transaction ≡ false }
     requires unlimited { conn.old.step_limit ≡ None }
     ensures frame { StaysIdle S.Store conn.old conn.new result }
     ensures found { HasCleanDisk (state S.Store conn.new) → IfOk result (λ found.
         (g : Registry) (k : Kept) (count : ℕ) → SpellsWhileOpen (state S.Store conn.old) g k
-        → IsAt Listing.Subjects g count (Place.Subject last) → LeadsOn Listing.Subjects g count found) }
+        → IsAt Listing.Subjects g count (Cursor.Subject last) → LeadsOn Listing.Subjects g count found) }
     ensures fault { HasCleanDisk (state S.Store conn.new)
         → IfErr result (IsFaultOver (state S.Store conn.old) (state S.Store conn.new)) }
 {
     match next_subject(conn, last.as_ref())? {
-        None => Ok((None, Place::Subject(last))),
+        None => Ok((None, Cursor::Subject(last))),
         Some(row) => {
             let line = listed_subject(alloc, conn, row.subject())?;
-            Ok((Some(line), Place::Subject(Some(row))))
+            Ok((Some(line), Cursor::Subject(Some(row))))
         }
     }
 }
@@ -98,21 +98,21 @@ fn version_at<S: Alter>(
     alloc: Global,
     conn: &mut Connection<S>,
     last: Option<Row>,
-) -> Result<(Option<Vec<String>>, Place), StoreError>
+) -> Result<(Option<Vec<String>>, Cursor), StoreError>
     requires idle { conn.old.in_transaction ≡ false }
     requires unlimited { conn.old.step_limit ≡ None }
     ensures frame { StaysIdle S.Store conn.old conn.new result }
     ensures found { HasCleanDisk (state S.Store conn.new) → IfOk result (λ found.
         (g : Registry) (k : Kept) (count : ℕ) → SpellsWhileOpen (state S.Store conn.old) g k
-        → IsAt Listing.Versions g count (Place.Version last) → LeadsOn Listing.Versions g count found) }
+        → IsAt Listing.Versions g count (Cursor.Version last) → LeadsOn Listing.Versions g count found) }
     ensures fault { HasCleanDisk (state S.Store conn.new)
         → IfErr result (IsFaultOver (state S.Store conn.old) (state S.Store conn.new)) }
 {
     match next_version(conn, last.as_ref())? {
-        None => Ok((None, Place::Version(last))),
+        None => Ok((None, Cursor::Version(last))),
         Some(row) => {
             let line = version_line(alloc, &row)?;
-            Ok((Some(line), Place::Version(Some(row))))
+            Ok((Some(line), Cursor::Version(Some(row))))
         }
     }
 }
@@ -122,23 +122,23 @@ fn schema_at<S: Alter>(
     alloc: Global,
     conn: &mut Connection<S>,
     id: u32,
-) -> Result<(Option<Vec<String>>, Place), StoreError>
+) -> Result<(Option<Vec<String>>, Cursor), StoreError>
     requires idle { conn.old.in_transaction ≡ false }
     requires unlimited { conn.old.step_limit ≡ None }
     ensures frame { StaysIdle S.Store conn.old conn.new result }
     ensures found { HasCleanDisk (state S.Store conn.new) → IfOk result (λ found.
         (g : Registry) (k : Kept) (count : ℕ) → SpellsWhileOpen (state S.Store conn.old) g k
-        → IsAt Listing.Schemas g count (Place.Schema id) → LeadsOn Listing.Schemas g count found) }
+        → IsAt Listing.Schemas g count (Cursor.Schema id) → LeadsOn Listing.Schemas g count found) }
     ensures fault { HasCleanDisk (state S.Store conn.new)
         → IfErr result (IsFaultOver (state S.Store conn.old) (state S.Store conn.new)) }
 {
     // The last number that there can be is no id, so that nothing is found past it.
     let next = id.saturating_add(1);
     match text_under(conn, next)? {
-        None => Ok((None, Place::Schema(id))),
+        None => Ok((None, Cursor::Schema(id))),
         Some(text) => {
             let line = schema_line(alloc, next, text)?;
-            Ok((Some(line), Place::Schema(next)))
+            Ok((Some(line), Cursor::Schema(next)))
         }
     }
 }

@@ -7,7 +7,7 @@ use Rattle.reg_core.specs.Registry.{Registry}
 use Rattle.reg_core.specs.KeptReplies.{Kept}
 use Rattle.reg_core.specs.Views.{ChangesFit}
 use Rattle.reg_store.specs.Spells.{SpellsWhileOpen}
-use Rattle.reg_store.specs.Changes.{IsNewTo, HasPlace}
+use Rattle.reg_store.specs.Changes.{IsNewTo, HasRoomFor}
 use Rattle.reg_store.specs.Failures.{is_fault, IsFaultBy}
 use Rattle.reg_store.proofs.Committing.{leaves_if_spelled, still_spells, on_ok_same, on_err_same}
 use Rattle.reg_store.proofs.Keeping.{keeps_store, opens_none}
@@ -56,5 +56,5 @@ pub returns-clause-fits : goal.returns-clause-fits
 returns-clause-fits g c clean unfailed =
     let old = state g.S.Store c.args.self.now.conn in
     let new = state g.S.Store c.commit_all-done.new.conn in
-    mapped_err (λ e. (registry : Registry) (k : Kept) → SpellsWhileOpen old registry k → IsNewTo k c.args.keep → ChangesFit c.args.changes.now registry → HasPlace old c.args.changes.now c.args.keep → IsFaultBy old new e) c.commit_all-done.result c.map_err-done.result c.map_err-done.ensures.cases
+    mapped_err (λ e. (registry : Registry) (k : Kept) → SpellsWhileOpen old registry k → IsNewTo k c.args.keep → ChangesFit c.args.changes.now registry → HasRoomFor old c.args.changes.now c.args.keep → IsFaultBy old new e) c.commit_all-done.result c.map_err-done.result c.map_err-done.ensures.cases
     (c.commit_all-done.ensures.fits clean)

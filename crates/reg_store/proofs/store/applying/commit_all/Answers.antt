@@ -11,7 +11,7 @@ use Rattle.reg_tables.proofs.Transactions.{on_ok, if_err, keeps_then, keeps_if_u
 use Rattle.reg_tables.proofs.WriteFaults.{erred_with}
 use Rattle.reg_core.specs.KeptReplies.{Kept}
 use Rattle.reg_store.specs.Spells.{Spells, Leaves, IsOpenOver, SpellsWhileOpen}
-use Rattle.reg_store.specs.Changes.{with_reply, IsNewTo, HasPlace, ActsOn}
+use Rattle.reg_store.specs.Changes.{with_reply, IsNewTo, HasRoomFor, ActsOn}
 use Rattle.reg_tables.specs.Rooms.{HasRooms}
 use Rattle.sqlite_trees.specs.declared.store.Store.{Ghosts}
 use Rattle.reg_store.specs.Failures.{failure_of, is_fault, IsFaultBy}
@@ -184,9 +184,9 @@ returns-in_err-make_all-clause-fits g c clean =
     let late : HasCleanDisk (state g.S.Store end) = search rules in
     let clean_mid : HasCleanDisk (state g.S.Store last) = omega (arith, c.drop-tx.ensures.survives.clean) in
     erred_with c.from_residual.result e
-    (λ e. (registry : Registry) (k : Kept) → SpellsWhileOpen (state g.S.Store conn) registry k → IsNewTo k c.args.keep → ChangesFit c.args.changes.now registry → HasPlace (state g.S.Store conn) c.args.changes.now c.args.keep → IsFaultBy (state g.S.Store conn) (state g.S.Store c.conn-1.given.0) (failure_of e)) c.from_residual.ensures.1
-    (λ registry k over fresh fits place.
-    let write = c.in_err-make_all.ensures.fits clean_mid registry k (begun_spells g.S.Store conn begun is registry k over) fits 1 (begun_rooms g.S.Store conn begun is (length c.args.changes.now + 1) place.rooms) place.changes_fit in
+    (λ e. (registry : Registry) (k : Kept) → SpellsWhileOpen (state g.S.Store conn) registry k → IsNewTo k c.args.keep → ChangesFit c.args.changes.now registry → HasRoomFor (state g.S.Store conn) c.args.changes.now c.args.keep → IsFaultBy (state g.S.Store conn) (state g.S.Store c.conn-1.given.0) (failure_of e)) c.from_residual.ensures.1
+    (λ registry k over fresh fits room.
+    let write = c.in_err-make_all.ensures.fits clean_mid registry k (begun_spells g.S.Store conn begun is registry k over) fits 1 (begun_rooms g.S.Store conn begun is (length c.args.changes.now + 1) room.rooms) room.changes_fit in
     subst (λ h. IsFaultBy (state g.S.Store conn) (state g.S.Store h) (failure_of e)) same
     (of_call g.S.Store conn begun last end is c.drop-tx.ensures.survives.counts (failure_of e)
     (fault_of_write (state g.S.Store begun) (state g.S.Store last) e (ap (λ (h : Held _). h.step_limit) is ∙ c.requires.unlimited) (ap (λ (h : Held _). h.in_transaction) is) write)))
@@ -205,14 +205,14 @@ returns-in_err-keep_reply-clause-fits g c clean =
     let clean_last : HasCleanDisk (state g.S.Store last) = omega (arith, c.drop-tx-in_err-keep_reply.ensures.survives.clean) in
     let clean_mid : HasCleanDisk (state g.S.Store mid) = omega (arith, c.keep_reply.ensures.frame.survives.clean) in
     erred_with c.from_residual-in_err-keep_reply.result e
-    (λ e. (registry : Registry) (k : Kept) → SpellsWhileOpen (state g.S.Store conn) registry k → IsNewTo k c.args.keep → ChangesFit c.args.changes.now registry → HasPlace (state g.S.Store conn) c.args.changes.now c.args.keep → IsFaultBy (state g.S.Store conn) (state g.S.Store c.conn-in_err-keep_reply-1.given.0) (failure_of e)) c.from_residual-in_err-keep_reply.ensures.1
-    (λ registry k over fresh fits place.
+    (λ e. (registry : Registry) (k : Kept) → SpellsWhileOpen (state g.S.Store conn) registry k → IsNewTo k c.args.keep → ChangesFit c.args.changes.now registry → HasRoomFor (state g.S.Store conn) c.args.changes.now c.args.keep → IsFaultBy (state g.S.Store conn) (state g.S.Store c.conn-in_err-keep_reply-1.given.0) (failure_of e)) c.from_residual-in_err-keep_reply.ensures.1
+    (λ registry k over fresh fits room.
     let spelled = begun_spells g.S.Store conn begun is registry k over in
     let was = λ (is_open : IsTrue (state g.S.Store mid).is_open). (c.make_all.ensures.frame.commit_stays clean_mid).was_open is_open in
-    let rooms = begun_rooms g.S.Store conn begun is (length c.args.changes.now + 1) place.rooms in
+    let rooms = begun_rooms g.S.Store conn begun is (length c.args.changes.now + 1) room.rooms in
     let write = write_later (state g.S.Store begun) (state g.S.Store mid) (state g.S.Store last) c.make_all.ensures.frame.survives clean_mid c.keep_reply.ensures.frame.survives.counts (c.in_ok-make_all.ensures.goes_on clean_mid) e
     (c.in_err-keep_reply.ensures.fits clean_last (after_changes c.args.changes.now registry) k (λ is_open. c.in_ok-make_all.ensures.made clean_mid registry k (spelled (was is_open)) fits) fresh 0
-    (λ is_open. c.in_ok-make_all.ensures.room clean_mid registry k (spelled (was is_open)) fits 1 (rooms (was is_open))) place.reply_fits) in
+    (λ is_open. c.in_ok-make_all.ensures.room clean_mid registry k (spelled (was is_open)) fits 1 (rooms (was is_open))) room.reply_fits) in
     subst (λ h. IsFaultBy (state g.S.Store conn) (state g.S.Store h) (failure_of e)) same
     (of_call g.S.Store conn begun last end is c.drop-tx-in_err-keep_reply.ensures.survives.counts (failure_of e)
     (fault_of_write (state g.S.Store begun) (state g.S.Store last) e (ap (λ (h : Held _). h.step_limit) is ∙ c.requires.unlimited) (ap (λ (h : Held _). h.in_transaction) is) write)))
@@ -232,6 +232,6 @@ returns-clause-fits g c clean =
     let whole = survives_both (state g.S.Store begun) (state g.S.Store mid) (state g.S.Store last) c.make_all.ensures.frame.survives c.keep_reply.ensures.frame.survives in
     let unlimited = whole.limit ∙ ap (λ (h : Held _). h.step_limit) is ∙ c.requires.unlimited in
     let inside = still_inside (state g.S.Store mid) (state g.S.Store last) (still_inside (state g.S.Store begun) (state g.S.Store mid) (ap (λ (h : Held _). h.in_transaction) is) (c.in_ok-make_all.ensures.goes_on clean_mid)) (c.in_ok-keep_reply.ensures.goes_on clean_last) in
-    if_err c.commit.result (λ e fails registry k over fresh fits place.
+    if_err c.commit.result (λ e fails registry k over fresh fits room.
     let since = by_since (state g.S.Store begun) (state g.S.Store last) (state g.S.Store end) (whole.closes clean_last) whole.counts c.commit.ensures.survives.counts (failure_of e) (fault_of_commit (state g.S.Store last) (state g.S.Store end) e unlimited inside fails) in
     subst (λ h. IsFaultBy (state g.S.Store conn) (state g.S.Store h) (failure_of e)) same (subst (λ b. IsFaultBy (state g.S.Store b) (state g.S.Store end) (failure_of e)) is since)) (c.commit.ensures.err late)

@@ -1,7 +1,7 @@
 use Rattle.std.proofs.Common.{sym, subst}
 use Rattle.reg_tables.proofs.Transactions.{if_ok}
 use Rattle.reg_store.specs.Handing.{IsAt, LeadsOn}
-use Rattle.reg_store.specs.declared.store.place.Place.TheVariants.{Version, Schema}
+use Rattle.reg_store.specs.declared.store.cursor.Cursor.TheVariants.{Version, Schema}
 use Rattle.reg_store.proofs.HandingLemmas.{of_versions, of_schemas}
 use Rattle.reg_store.proofs.store.stepping.line_at.Goals as goal
 

@@ -10,7 +10,7 @@ returns-in-None-clause-found g c clean registry k count over at =
     let was = (over (c.in_ok-text_under.ensures.frame.was_open clean)).spells.spelled.registry in
     let found = rw c.in-None.is at (c.in_ok-text_under.ensures.found clean registry k over) in
     let it = schema_next registry was.few c.args.id c.saturating_add-next.result (omega (arith, c.ranges.id.fits)) c.saturating_add-next.ensures None found in
-    record { line = subst (λ n. None ≡ slice_get (listing_lines Schemas registry) n) at it.0; place = at }
+    record { line = subst (λ n. None ≡ slice_get (listing_lines Schemas registry) n) at it.0; cursor = at }
 
 pub returns-in_ok-line-in-Some-clause-found : goal.returns-in_ok-line-in-Some-clause-found
 returns-in_ok-line-in-Some-clause-found g c clean registry k count over at =
@@ -20,5 +20,5 @@ returns-in_ok-line-in-Some-clause-found g c clean registry k count over at =
     let it = schema_next registry was.few c.args.id c.saturating_add-next.result (omega (arith, c.ranges.id.fits)) c.saturating_add-next.ensures (Some bytes) found in
     record {
       line = ap Some c.in_ok-line-in-Some.ensures ∙ subst (λ n. Some (schema_line c.saturating_add-next.result bytes) ≡ slice_get (listing_lines Schemas registry) n) at it.0;
-      place = it.1 bytes refl ∙ ap (λ n. n + 1) at;
+      cursor = it.1 bytes refl ∙ ap (λ n. n + 1) at;
     }

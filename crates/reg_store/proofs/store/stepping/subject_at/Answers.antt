@@ -21,7 +21,7 @@ returns-in_err-line-in-Some-clause-fault g c clean =
 pub returns-in-None-clause-found : goal.returns-in-None-clause-found
 returns-in-None-clause-found g c clean registry k count over at =
     let found = rw (c.in-None.is, c.as_ref.ensures.value) at (c.in_ok-next_subject.ensures.found clean registry k over) in
-    record { line = subject_leads registry count None (next_subject_is registry count c.args.last None at found); place = at }
+    record { line = subject_leads registry count None (next_subject_is registry count c.args.last None at found); cursor = at }
 
 pub returns-in_ok-line-in-Some-clause-found : goal.returns-in_ok-line-in-Some-clause-found
 returns-in_ok-line-in-Some-clause-found g c clean registry k count over at =
@@ -35,5 +35,5 @@ returns-in_ok-line-in-Some-clause-found g c clean registry k count over at =
     let line = c.in_ok-line-in-Some.ensures.found clean registry k (spells_on g.S.Store old mid first early registry k over) in
     record {
       line = ap Some (line ∙ ap (subject_listed registry) c.subject.ensures) ∙ subject_leads registry count (Some c.in-Some.row.0.0) here;
-      place = sym (last_taken None count (subjects_of (entries registry.rows)) c.in-Some.row.0.0 (sym here));
+      cursor = sym (last_taken None count (subjects_of (entries registry.rows)) c.in-Some.row.0.0 (sym here));
     }
