@@ -5,7 +5,7 @@ use Rattle.std.specs.Prelude as list
 use Rattle.std.specs.List.{AllByRecursion}
 use Rattle.std.specs.Ordering.{is_eq}
 use Rattle.std.specs.FinMap.{get, empty, find, from_entries, get-empty, get-insert, get-from_entries, same_map}
-use Rattle.std.proofs.lemmas.Bool.{cases_Bool, both_ways, and_parts}
+use Rattle.std.proofs.lemmas.Bool.{cases_Bool, both_ways, and_from, and_parts}
 use Rattle.std.proofs.lemmas.Slice.Eq.{bytes_eq-Decides}
 use Rattle.std.proofs.lemmas.Str.{IsUtf8-string_bytes}
 use Rattle.sqlite_rules.specs.Lists.{Has}
@@ -31,7 +31,7 @@ use Rattle.reg_core.specs.KeptReplies.{Entry, Kept}
 use Rattle.reg_store.specs.Spells.{CanBeKept, IsSpelled, row_of}
 use Rattle.reg_store.specs.Opening.{level_row, kept_row, meta_row, rows_of}
 use Rattle.reg_store.proofs.Maps.{same_bytes, other_bytes}
-use Rattle.reg_store.proofs.Reading.{level_of-level_text}
+use Rattle.reg_store.proofs.ReadBack.{level_of-level_text}
 use Rattle.reg_store.proofs.Texts.{was_written}
 use Rattle.reg_store.proofs.Ids.{schema_within}
 use Rattle.reg_store.proofs.Schemas.{schemas_in, all_schemas, length_schemas, utf8_schemas, texts_spelled, rows_in, versions_spelled, row_there, version_fits}
@@ -56,9 +56,6 @@ spelt_back (Some v) f = go (level_of v) refl (f v refl)
 
 -- ---- rows of `meta`
 
-both : (a b : Bool) → a ≡ true → b ≡ true → (a && b) ≡ true
-both a b e f = λ i. e i && f i
-
 same_test : (name q : List ℕ) → bytes_eq name q ≡ is_eq (text_cmp q name)
 same_test name q = elim (same_or_not text_cmp text_order q name) [
   | inl e ↦ ap (bytes_eq name) e ∙ same_bytes name ∙ sym (tied_key text_cmp text_order q name e)
@@ -81,7 +78,7 @@ each_known (r ∷ rows) h row (inr later) = each_known rows (and_parts (is_name 
 
 known_if_each : (rows : List Pair) → ((row : Pair) → Has rows row → is_name row.0 ≡ true) → names_known rows ≡ true
 known_if_each [] f = refl
-known_if_each (r ∷ rows) f = both (is_name r.0) (names_known rows) (f r (inl refl)) (known_if_each rows (λ x h. f x (inr h)))
+known_if_each (r ∷ rows) f = and_from (is_name r.0) (names_known rows) (f r (inl refl)) (known_if_each rows (λ x h. f x (inr h)))
 
 -- a name is one of the three
 named : (q : List ℕ) → (q ≡ codes "format") ⊎ ((q ≡ codes "layout") ⊎ ((q ≡ codes "global") ⊎ (is_name q ≡ false)))
@@ -254,9 +251,9 @@ module _ (lines : List MetaLine) where
   pub meta_fit : HasNoTwins text_cmp (map meta_entry lines) → (level : Level) → meta_in ≡ meta_of (level_text level) → IsTrue (is_meta pairs_in)
   meta_fit apart level is =
       let text = level_text level in
-      both _ (names_known pairs_in)
-      (both _ _
-      (both _ _ (ap (has_value (codes "avroreg")) (look (codes "format") ∙ has_format text) ∙ same_bytes (codes "avroreg")) (ap (has_value (codes "1")) (look (codes "layout") ∙ has_layout text) ∙ same_bytes (codes "1")))
+      and_from _ (names_known pairs_in)
+      (and_from _ _
+      (and_from _ _ (ap (has_value (codes "avroreg")) (look (codes "format") ∙ has_format text) ∙ same_bytes (codes "avroreg")) (ap (has_value (codes "1")) (look (codes "layout") ∙ has_layout text) ∙ same_bytes (codes "1")))
       (ap has_level (look (codes "global") ∙ has_global text) ∙ ap is_some (level_of-level_text level)))
       (known_if_each pairs_in known)
     where

@@ -2,7 +2,7 @@ pub mod Maps
 pub mod Numbering
 pub mod Ids
 pub mod Spelling
-pub mod Reading
+pub mod ReadBack
 pub mod Committing
 pub mod Texts
 pub mod Failing

@@ -1,5 +1,5 @@
 use Rattle.sqlite.specs.Held.{state}
-use Rattle.reg_store.proofs.Reading.{reads_on}
+use Rattle.reg_store.proofs.ReadBack.{reads_on}
 use Rattle.reg_store.proofs.store.Store.text_of.Goals as goal
 
 pub returns-clause-same : goal.returns-clause-same

@@ -5,7 +5,7 @@ use Rattle.reg_tables.proofs.Transactions.{if_ok}
 use Rattle.sqlite.specs.Held.{state}
 use Rattle.reg_core.specs.Levels.{level_of}
 use Rattle.reg_store.specs.Failures.{IsFaultOver}
-use Rattle.reg_store.proofs.Reading.{level_of-level_text, level_is, global_is}
+use Rattle.reg_store.proofs.ReadBack.{level_of-level_text, level_is, global_is}
 use Rattle.reg_store.proofs.Failing.{fault_over, passed, if_err_on}
 use Rattle.reg_store.proofs.store.levels.global.Goals as goal
 

@@ -3,7 +3,7 @@ use Rattle.std.specs.Prelude.{string_bytes}
 use Rattle.sqlite.specs.Held.{state}
 use Rattle.reg_core.specs.Levels.{level_of, level_text}
 use Rattle.reg_store.specs.Failures.{IsFaultOver}
-use Rattle.reg_store.proofs.Reading.{level_of-level_text}
+use Rattle.reg_store.proofs.ReadBack.{level_of-level_text}
 use Rattle.reg_store.proofs.Texts.{was_written}
 use Rattle.reg_store.proofs.Failing.{fault_over, passed, if_err_each}
 use Rattle.reg_store.proofs.store.levels.own.Goals as goal
