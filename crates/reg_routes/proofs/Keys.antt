@@ -3,20 +3,13 @@ use Rattle.std.proofs.Common.{◌≡◌, ℕ, ◌<◌, ◌≤◌, Bool, true, fa
 use Rattle.std.specs.Prelude.{length, nat_lt, nat_le}
 use Rattle.std.specs.List.{list_all}
 use Rattle.std.specs.Str.{IsUtf8, IsAscii}
-use Rattle.std.proofs.lemmas.Bool.{ltb-false}
+use Rattle.std.proofs.lemmas.Bool.{and_from, and_parts, ltb-false}
 use Rattle.std.proofs.lemmas.Bool.Decides.{nat_tests}
 use Rattle.std.proofs.lemmas.List.{get_or_past}
 use Rattle.std.proofs.lemmas.List.Sums.{AllPass-from_list_all, list_all-from_AllPass}
 use Rattle.std.proofs.lemmas.Str.{IsUtf8-from_ascii}
 use Rattle.reg_core.specs.Keys.{is_key_byte, IsKey}
 use Rattle.reg_routes.specs.Keys.{is_key}
-
-both : (a b : Bool) → a && b ≡ true → (a ≡ true) × (b ≡ true)
-both true b e = (refl, e)
-both false b e = absurd (cc)
-
-joined : (a b : Bool) → a ≡ true → b ≡ true → a && b ≡ true
-joined a b e f = λ i. e i && f i
 
 at_least_one : (n : ℕ) → nat_lt 0 n ≡ true → 0 < n
 at_least_one n e = grind (arith, nat_tests)
@@ -37,16 +30,16 @@ pub is_key-true : (text : List ℕ) → is_key text ≡ true → IsKey text
 is_key-true text e =
     let some = nat_lt 0 (length text) in
     let few = nat_le (length text) 64 in
-    let bytes = both (some && few) (list_all is_key_byte text) e in
-    let sizes = both some few bytes.0 in
+    let bytes = and_parts (some && few) (list_all is_key_byte text) e in
+    let sizes = and_parts some few bytes.0 in
     (at_least_one (length text) sizes.0, at_most (length text) 64 sizes.1, AllPass-from_list_all is_key_byte text bytes.1)
 
 pub is_key-from : (text : List ℕ) → IsKey text → is_key text ≡ true
 is_key-from text k =
     let some = nat_lt 0 (length text) in
     let few = nat_le (length text) 64 in
-    joined (some && few) (list_all is_key_byte text)
-    (joined some few (from_one (length text) k.0) (from_most (length text) 64 k.1))
+    and_from (some && few) (list_all is_key_byte text)
+    (and_from some few (from_one (length text) k.0) (from_most (length text) 64 k.1))
     (list_all-from_AllPass is_key_byte text k.2)
 
 key_byte_ascii : (c : ℕ) → is_key_byte c ≡ true → c < 128

@@ -1,5 +1,5 @@
 pub mod Routes
-pub mod Parts
+pub mod PathParts
 pub mod Queries
 pub mod Targets
 pub mod Bodies

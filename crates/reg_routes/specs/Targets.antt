@@ -4,7 +4,7 @@ use Rattle.std.specs.List.{before_first, after_first}
 use Rattle.std.specs.Str.{is_utf8}
 use Rattle.percent_encoding.specs.Percent.{percent_decode}
 use Rattle.reg_core.specs.Subjects.{is_subject}
-use Rattle.reg_routes.specs.Parts.{part_at}
+use Rattle.reg_routes.specs.PathParts.{part_at}
 
 -- up to the first `?` (RFC 9110, section 7.1; RFC 3986, section 3.3)
 abbrev pub path_of : List ℕ → List ℕ

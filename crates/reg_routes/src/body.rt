@@ -107,7 +107,7 @@ fn text_of(value: Value) -> Option<Text>
 ///
 /// # Errors
 ///
-/// `OutOfMemory` where room for the value is refused.
+/// `OutOfMemory` where memory for the value is refused.
 pub fn level_sent(alloc: Global, body: &[u8]) -> Result<Option<Text>, OutOfMemory>
     ensures { IfOk result (λ level. level ≡ level_sent body.now) }
 {
@@ -123,7 +123,7 @@ pub fn level_sent(alloc: Global, body: &[u8]) -> Result<Option<Text>, OutOfMemor
 ///
 /// # Errors
 ///
-/// `OutOfMemory` where room for the value is refused.
+/// `OutOfMemory` where memory for the value is refused.
 pub fn schema_sent(alloc: Global, body: &[u8]) -> Result<Option<SentSchema>, OutOfMemory>
     ensures { IfOk result (λ schema. schema ≡ schema_sent body.now) }
 {

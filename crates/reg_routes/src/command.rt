@@ -224,7 +224,7 @@ impl<'a> Sent<'a> {
     ///
     /// # Errors
     ///
-    /// `OutOfMemory` where room for what is decoded or read is refused.
+    /// `OutOfMemory` where memory for what is decoded or read is refused.
     pub fn command(&self, alloc: Global, asked: Asked) -> Result<Option<Command>, OutOfMemory>
         ensures { IfOk result (λ command. command ≡ command_in asked self.now) }
     {

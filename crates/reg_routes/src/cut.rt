@@ -4,7 +4,7 @@ ghost use Rattle.std.specs.Prelude.{◌≡◌, ◌<◌, ◌==◌, IfSome, length
 ghost use Rattle.std.specs.List.{after_first, before_first};
 
 /// Where the byte stands first.
-fn place_of(bytes: &[u8], byte: u8) -> Option<usize>
+fn position_of(bytes: &[u8], byte: u8) -> Option<usize>
     ensures value { result ≡ position (λ b. b == byte) bytes.now }
     ensures within { IfSome result (λ at. at < length bytes.now) }
 {
@@ -16,7 +16,7 @@ pub fn cut(bytes: &[u8], byte: u8) -> (&[u8], &[u8])
     ensures before { result.0.now ≡ before_first (λ b. b == byte) bytes.entry.now }
     ensures after { result.1.now ≡ after_first (λ b. b == byte) bytes.entry.now }
 {
-    match place_of(bytes, byte) {
+    match position_of(bytes, byte) {
         None => (bytes, &[]),
         Some(at) => (&bytes[..at], &bytes[at + 1..]),
     }

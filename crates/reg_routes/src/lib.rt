@@ -7,7 +7,7 @@ mod command;
 mod cut;
 mod delivery;
 mod line;
-mod parts;
+mod path_parts;
 mod query;
 mod routes;
 mod target;

@@ -10,7 +10,7 @@ use std::alloc::Global;
 ///
 /// # Errors
 ///
-/// `OutOfMemory` where room for a decoded name or value is refused.
+/// `OutOfMemory` where memory for a decoded name or value is refused.
 pub fn is_on(alloc: Global, query: &[u8], name: &str) -> Result<bool, OutOfMemory>
     ensures { IfOk result (λ on. on ≡ is_on query.now name.now) }
 {

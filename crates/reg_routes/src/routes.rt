@@ -80,7 +80,7 @@ impl Routes {
     ///
     /// # Errors
     ///
-    /// `OutOfMemory` where room for a path is refused.
+    /// `OutOfMemory` where memory for a path is refused.
     pub fn new(alloc: Global) -> Result<Routes, OutOfMemory> {
         match router(alloc) {
             Ok(router) => Ok(Routes { router }),

@@ -5,7 +5,7 @@ ghost use Rattle.reg_routes.specs.Queries.{is_on};
 ghost use Rattle.reg_routes.specs.Targets.{path_of, query_of, subject_at, text_at, text_of};
 
 use crate::cut::cut;
-use crate::parts::part_at;
+use crate::path_parts::part_at;
 use crate::query::is_on;
 use percent_encoding::percent_decode;
 use reg_core::{OutOfMemory, Subject, Text};
@@ -44,7 +44,7 @@ impl<'a> Target<'a> {
     ///
     /// # Errors
     ///
-    /// `OutOfMemory` where room for the text is refused.
+    /// `OutOfMemory` where memory for the text is refused.
     pub fn text_at(&self, alloc: Global, count: u32) -> Result<Option<Text>, OutOfMemory>
         ensures { IfOk result (λ text. text ≡ text_at count self.now.path.now) }
     {
@@ -55,7 +55,7 @@ impl<'a> Target<'a> {
     ///
     /// # Errors
     ///
-    /// `OutOfMemory` where room for the text is refused.
+    /// `OutOfMemory` where memory for the text is refused.
     pub fn subject_at(&self, alloc: Global, count: u32) -> Result<Option<Subject>, OutOfMemory>
         ensures { IfOk result (λ subject. subject ≡ subject_at count self.now.path.now) }
     {
@@ -69,7 +69,7 @@ impl<'a> Target<'a> {
     ///
     /// # Errors
     ///
-    /// `OutOfMemory` where room for a decoded name or value is refused.
+    /// `OutOfMemory` where memory for a decoded name or value is refused.
     pub fn is_on(&self, alloc: Global, name: &str) -> Result<bool, OutOfMemory>
         ensures { IfOk result (λ on. on ≡ is_on self.now.query.now name.now) }
     {

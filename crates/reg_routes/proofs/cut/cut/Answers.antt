@@ -11,8 +11,8 @@ past_the_end p xs e = by (nat_lt (position_or_len p xs) (length xs)) refl e
     by true t h = absurd (cc)
     by false t h = ltb-false (position_or_len p xs) (length xs) t
 
-first_place : {X : Type 0} (p : X → Bool) (xs : List X) (at : ℕ) → Some at ≡ position p xs → at ≡ position_or_len p xs
-first_place p xs at e = by (nat_lt (position_or_len p xs) (length xs)) e
+first_position : {X : Type 0} (p : X → Bool) (xs : List X) (at : ℕ) → Some at ≡ position p xs → at ≡ position_or_len p xs
+first_position p xs at e = by (nat_lt (position_or_len p xs) (length xs)) e
   where
     by : (b : Bool) → Some at ≡ cond b (Some (position_or_len p xs)) None → at ≡ position_or_len p xs
     by true h = cc

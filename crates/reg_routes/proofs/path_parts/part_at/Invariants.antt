@@ -1,6 +1,6 @@
 use Rattle.std.proofs.Common.{◌≡◌, ◌-◌}
-use Rattle.reg_routes.specs.Parts.{part_at}
-use Rattle.reg_routes.proofs.parts.part_at.Given as goal
+use Rattle.reg_routes.specs.PathParts.{part_at}
+use Rattle.reg_routes.proofs.path_parts.part_at.Given as goal
 
 abbrev pub invariant-loop : goal.invariant-loop
 invariant-loop l = part_at (l.count - l.counter) l.rest ≡ part_at l.count l.path

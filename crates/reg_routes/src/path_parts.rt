@@ -1,7 +1,7 @@
 //! The parts of a path, between its slashes. (RFC 3986, section 3.3.)
 
 ghost use Rattle.std.specs.Prelude.{◌≡◌};
-ghost use Rattle.reg_routes.specs.Parts.{part_at};
+ghost use Rattle.reg_routes.specs.PathParts.{part_at};
 
 use crate::cut::cut;
 

@@ -1,6 +1,6 @@
 use Rattle.std.proofs.Common.{◌≡◌, ◌∙◌, ◌-◌, ◌+◌, suc, ap, sym, arith}
-use Rattle.reg_routes.specs.Parts.{part_at}
-use Rattle.reg_routes.proofs.parts.part_at.Goals as goal
+use Rattle.reg_routes.specs.PathParts.{part_at}
+use Rattle.reg_routes.proofs.path_parts.part_at.Goals as goal
 
 pub loop-preserved : goal.loop-preserved
 loop-preserved c =
