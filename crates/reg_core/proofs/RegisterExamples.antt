@@ -36,8 +36,8 @@ deleted_versions_are_shown_where_asked_for = refl
 latest_is_the_last_that_is_shown : chosen_row Latest (live_rows rows) ≡ Some (row 3 2 false)
 latest_is_the_last_that_is_shown = refl
 
-number_is_no_place : found_row (Some (Numbered 3)) rows ≡ Ok (row 3 2 false)
-number_is_no_place = refl
+number_is_no_position : found_row (Some (Numbered 3)) rows ≡ Ok (row 3 2 false)
+number_is_no_position = refl
 
 no_version_has_the_number : found_row (Some (Numbered 2)) rows ≡ Err VersionNotFound
 no_version_has_the_number = refl

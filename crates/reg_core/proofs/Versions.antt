@@ -20,7 +20,7 @@ latest_rest (x ∷ xs) k e =
     let all_but_one : k ≡ length xs = omega (arith, e) in
     rw all_but_one (latest_after x xs)
 
--- the latest version is the slice from the last place on
+-- the latest version is the slice from the last position on
 pub latest_slice : {X : Type 0} (xs : List X) (k : ℕ) → k ≡ length xs - 1 → take (length xs - k) (drop k xs) ≡ latest xs
 latest_slice xs k e =
     let within : length (drop k xs) ≤ length xs - k = omega (arith, length-drop k xs) in

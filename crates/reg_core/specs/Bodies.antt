@@ -32,12 +32,12 @@ abbrev pub numbers_body : List ℕ → List ℕ
 numbers_body numbers = compact_text (array (items_of (map (λ n. number (unsigned n)) numbers)))
 
 -- Schema Registry API reference, GET /schemas/ids/{id}/versions: a version's subject and number
-abbrev pub place_data : Row → Data
-place_data row = object (member (codes "subject") (string row.0.0) (member (codes "version") (number (unsigned row.0.1)) no_members))
+abbrev pub subject_version_data : Row → Data
+subject_version_data row = object (member (codes "subject") (string row.0.0) (member (codes "version") (number (unsigned row.0.1)) no_members))
 
 -- Schema Registry API reference, GET /schemas/ids/{id}/versions: an array of subjects and numbers
-abbrev pub places_body : List Row → List ℕ
-places_body rows = compact_text (array (items_of (map place_data rows)))
+abbrev pub subject_versions_body : List Row → List ℕ
+subject_versions_body rows = compact_text (array (items_of (map subject_version_data rows)))
 
 -- Schema Registry API reference, Compatibility: a verdict
 abbrev pub verdict_body : Bool → List ℕ

@@ -9,7 +9,7 @@ use Rattle.reg_core.specs.declared.number.Choice.{Choice}
 use Rattle.reg_core.specs.Registry.{Row}
 use Rattle.reg_core.specs.Replies.{Told, answer, fault}
 use Rattle.reg_core.specs.Rows.{rows_with, shown_rows, chosen_row}
-use Rattle.reg_core.specs.Bodies.{texts_body, numbers_body, places_body, version_body, schema_body}
+use Rattle.reg_core.specs.Bodies.{texts_body, numbers_body, subject_versions_body, version_body, schema_body}
 
 -- Schema Registry API reference, GET /schemas/types: Avro alone
 abbrev pub types_reply : Told
@@ -59,7 +59,7 @@ id_reply texts (Some id) (row ∷ rows) = text_reply schema_body (texts id)
 abbrev pub id_versions_reply : Option ℕ → Bool → List Row → Told
 id_versions_reply None deleted rows = fault SchemaNotFound
 id_versions_reply (Some id) deleted [] = fault SchemaNotFound
-id_versions_reply (Some id) deleted (row ∷ rows) = answer (places_body (shown_rows deleted (row ∷ rows)))
+id_versions_reply (Some id) deleted (row ∷ rows) = answer (subject_versions_body (shown_rows deleted (row ∷ rows)))
 
 -- the versions with this id, if there is an id
 abbrev pub rows_with_id : Option ℕ → List Row → List Row

@@ -3,7 +3,7 @@
 ghost use Rattle.std.specs.Prelude.{◌≡◌, IfOk, false, map};
 ghost use Rattle.serde_json.specs.View.{view};
 ghost use Rattle.serde_json.specs.Written.{compact_text, has_float};
-ghost use Rattle.reg_core.specs.Bodies.{number_body, numbers_body, place_data, places_body, schema_body, texts_body, version_body};
+ghost use Rattle.reg_core.specs.Bodies.{number_body, numbers_body, subject_version_data, subject_versions_body, schema_body, texts_body, version_body};
 ghost use Rattle.reg_core.specs.Replies.{answer};
 
 use crate::reply::Reply;
@@ -63,19 +63,19 @@ pub fn numbers_reply(alloc: Global, rows: &[&Row]) -> Result<Reply, OutOfMemory>
 }
 
 /// An array of the versions' subjects and numbers.
-pub fn places_reply(alloc: Global, rows: &[&Row]) -> Result<Reply, OutOfMemory>
-    ensures { IfOk result (λ reply. reply ≡ answer (places_body (map (λ row. row.now) rows.now))) }
+pub fn subject_versions_reply(alloc: Global, rows: &[&Row]) -> Result<Reply, OutOfMemory>
+    ensures { IfOk result (λ reply. reply ≡ answer (subject_versions_body (map (λ row. row.now) rows.now))) }
 {
     let mut values = Vec::new(alloc);
     for row in rows {
-        values.push(place(alloc, row)?)?;
+        values.push(subject_version(alloc, row)?)?;
     }
     value_reply(alloc, Value::Array(values))
 }
 
 /// An object with the version's subject and number.
-fn place(alloc: Global, row: &Row) -> Result<Value, OutOfMemory>
-    ensures { IfOk result (λ place. view place ≡ place_data row.now) }
+fn subject_version(alloc: Global, row: &Row) -> Result<Value, OutOfMemory>
+    ensures { IfOk result (λ value. view value ≡ subject_version_data row.now) }
 {
     let subject = row.subject().as_str();
     let version = row.version();

@@ -13,7 +13,7 @@ ghost use Rattle.reg_core.specs.Views.{text_in};
 use crate::code::Code;
 use crate::decision::View;
 use crate::decision::bodies::{
-    numbers_reply, places_reply, schema_reply, texts_reply, version_reply,
+    numbers_reply, schema_reply, subject_versions_reply, texts_reply, version_reply,
 };
 use crate::decision::rows::{found_row, shown_rows};
 use crate::number::{choice_in, id_in};
@@ -164,7 +164,7 @@ pub fn versions_of_id(
         return Ok(Reply::fault(Code::SchemaNotFound));
     }
     let shown = shown_rows(alloc, deleted, rows)?;
-    places_reply(alloc, shown.as_slice())
+    subject_versions_reply(alloc, shown.as_slice())
 }
 
 /// The version with its schema.
