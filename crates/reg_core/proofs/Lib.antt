@@ -1,8 +1,9 @@
 pub mod Examples
 pub mod RegisterExamples
 pub mod Arrays
-pub mod Steps
-pub mod Texts
+pub mod OwnReplies
+pub mod UnchangedRegistries
+pub mod CommandTextLemmas
 pub mod Versions
 pub mod VerdictLemmas
 pub mod IdLemmas

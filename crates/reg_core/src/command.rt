@@ -213,7 +213,7 @@ impl Command {
 ///
 /// # Errors
 ///
-/// `OutOfMemory` where room for the text is refused.
+/// `OutOfMemory` where memory for the text is refused.
 pub fn print_of(alloc: Global, command: &Command) -> Result<String, OutOfMemory>
     ensures text { IfOk result (λ text. string_bytes text ≡ command_text command.now) }
     ensures one { IfOk result (λ text. (other : Command)

@@ -20,7 +20,7 @@ use std::alloc::Global;
 ///
 /// # Errors
 ///
-/// `OutOfMemory` where room for a comparison is refused.
+/// `OutOfMemory` where memory for a comparison is refused.
 pub fn admits(
     alloc: Global,
     level: Level,

@@ -88,7 +88,7 @@ pub struct Decision {
 ///
 /// # Errors
 ///
-/// `OutOfMemory` where room for the changes, for the reply or for a comparison is refused.
+/// `OutOfMemory` where memory for the changes, for the reply or for a comparison is refused.
 #[tactic(auto, unfolding(crate::specs::Machine::step))]
 pub fn decide(
     alloc: Global,
@@ -127,65 +127,54 @@ pub fn decide(
         Command::DeleteSubject { subject, permanent } => {
             delete_subject(alloc, view, subject, *permanent)
         }
-        Command::Global => {
-            let reply = level_reply(alloc, "compatibilityLevel", view.global)?;
+        _ => {
+            let reply = reply_to_read(alloc, view, command, schema)?;
             Ok(unchanged(alloc, reply))
         }
+    }
+}
+
+/// The reply to a read.
+#[tactic(auto, unfolding(crate::specs::Machine::step))]
+fn reply_to_read(
+    alloc: Global,
+    view: &View,
+    command: &Command,
+    schema: Option<&Schema>,
+) -> Result<Reply, OutOfMemory>
+    requires { is_write command.now ≡ false }
+    ensures reply { IfOk result (λ reply. (g : Registry)
+        → IsGround g command.now (option_map nodes_view (option_copied schema.entry)) view.now
+        → reply ≡ (step g command.now).1) }
+    ensures own { IfOk result (λ reply. IsOwnReply reply) }
+{
+    match command {
+        Command::Global => level_reply(alloc, "compatibilityLevel", view.global),
         Command::LevelOf {
             default_to_global,
             ..
-        } => {
-            let reply = shown_reply(alloc, level_shown(view, *default_to_global))?;
-            Ok(unchanged(alloc, reply))
-        }
-        Command::Lookup { deleted, .. } => {
-            let reply = lookup(alloc, view, schema, *deleted)?;
-            Ok(unchanged(alloc, reply))
-        }
-        Command::Subjects { deleted } => {
-            let reply = subjects(alloc, *deleted, view.rows.as_slice())?;
-            Ok(unchanged(alloc, reply))
-        }
-        Command::Versions { deleted, .. } => {
-            let reply = versions(alloc, *deleted, view.rows.as_slice())?;
-            Ok(unchanged(alloc, reply))
-        }
+        } => shown_reply(alloc, level_shown(view, *default_to_global)),
+        Command::Lookup { deleted, .. } => lookup(alloc, view, schema, *deleted),
+        Command::Subjects { deleted } => subjects(alloc, *deleted, view.rows.as_slice()),
+        Command::Versions { deleted, .. } => versions(alloc, *deleted, view.rows.as_slice()),
         Command::Version {
             version: chosen,
             deleted,
             ..
-        } => {
-            let reply = version(alloc, view, chosen.as_str(), *deleted)?;
-            Ok(unchanged(alloc, reply))
-        }
+        } => version(alloc, view, chosen.as_str(), *deleted),
         Command::Text {
             version: chosen,
             deleted,
             ..
-        } => {
-            let reply = version_text(alloc, view, chosen.as_str(), *deleted)?;
-            Ok(unchanged(alloc, reply))
-        }
-        Command::ById { id } => {
-            let reply = by_id(alloc, view, id.as_str())?;
-            Ok(unchanged(alloc, reply))
-        }
+        } => version_text(alloc, view, chosen.as_str(), *deleted),
+        Command::ById { id } => by_id(alloc, view, id.as_str()),
         Command::VersionsOfId { id, deleted } => {
-            let reply = versions_of_id(alloc, *deleted, view.rows.as_slice(), id.as_str())?;
-            Ok(unchanged(alloc, reply))
+            versions_of_id(alloc, *deleted, view.rows.as_slice(), id.as_str())
         }
-        Command::Types => {
-            let reply = types(alloc)?;
-            Ok(unchanged(alloc, reply))
-        }
-        Command::Check { version, .. } => {
-            let reply = check(alloc, view, version.as_str(), schema)?;
-            Ok(unchanged(alloc, reply))
-        }
-        Command::CheckAll { .. } => {
-            let reply = check_all(alloc, view, schema)?;
-            Ok(unchanged(alloc, reply))
-        }
+        Command::Types => types(alloc),
+        Command::Check { version, .. } => check(alloc, view, version.as_str(), schema),
+        Command::CheckAll { .. } => check_all(alloc, view, schema),
+        _ => unreachable!(),
     }
 }
 

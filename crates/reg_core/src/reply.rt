@@ -89,7 +89,7 @@ impl Reply {
     ///
     /// # Errors
     ///
-    /// `OutOfMemory` where room for the body is refused.
+    /// `OutOfMemory` where memory for the body is refused.
     pub fn try_clone(&self) -> Result<Reply, OutOfMemory>
         ensures { IfOk result (λ copy. copy ≡ self.now) }
     {

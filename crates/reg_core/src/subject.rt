@@ -74,7 +74,7 @@ impl Subject {
     ///
     /// # Errors
     ///
-    /// `OutOfMemory` where room for the text is refused.
+    /// `OutOfMemory` where memory for the text is refused.
     pub fn try_clone(&self) -> Result<Subject, OutOfMemory>
         ensures { IfOk result (λ copy. copy ≡ self.now) }
     {

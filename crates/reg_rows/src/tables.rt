@@ -31,7 +31,7 @@ pub struct Tables {
 ///
 /// # Errors
 ///
-/// `OutOfMemory` where room for a schema is refused.
+/// `OutOfMemory` where memory for a schema is refused.
 pub fn spells(alloc: Global, tables: &Tables) -> Result<bool, OutOfMemory>
     ensures { IfOk result (λ yes. IsTrue yes ↔ IsSpelling (rows_in tables.now)) }
 {

@@ -74,7 +74,7 @@ fn ids_of(alloc: Global, rows: &[(u32, String)]) -> Result<Vec<u32>, AllocError>
 ///
 /// # Errors
 ///
-/// `OutOfMemory` where room for a schema is refused.
+/// `OutOfMemory` where memory for a schema is refused.
 pub fn are_texts(alloc: Global, rows: &[(u32, String)]) -> Result<bool, OutOfMemory>
     ensures { IfOk result (λ yes. IsTrue yes ↔ AreTexts rows.now) }
 {

@@ -22,7 +22,7 @@ use Rattle.reg_service.specs.Crashes.{LeavesAfter, LeavesUnderWay, IsFoundAfter,
 use Rattle.reg_service.proofs.JoinedExchanges.{kept_after-append, is_first-append, registry-append, serves_none}
 use Rattle.reg_service.proofs.ExchangeLists.{served-append, zip-push}
 use Rattle.reg_service.proofs.SingleDeliveries.{is_first-keyless, is_first-keyed, kept_after-keyed, kept_after-known, run_commands-one, serves_keyless, serves_first, serves_again, serves_refused}
-use Rattle.reg_core.proofs.Steps.{step-read}
+use Rattle.reg_core.proofs.UnchangedRegistries.{step-read}
 
 -- ---- lists
 

@@ -10,7 +10,7 @@ use Rattle.reg_core.specs.CommandTexts.{command_text}
 use Rattle.reg_core.specs.Machine.{subject_of}
 use Rattle.reg_core.specs.Registry.{Registry}
 use Rattle.reg_core.specs.Replies.{Told, fault, answer}
-use Rattle.reg_core.proofs.Texts.{command_text-injective}
+use Rattle.reg_core.proofs.CommandTextLemmas.{command_text-injective}
 use Rattle.reg_core.specs.declared.delivery.Delivery.{Delivery}
 use Rattle.reg_core.specs.KeptReplies.{Kept, nothing_kept}
 use Rattle.reg_service.specs.Deliveries.{Exchange, firsts, entry_of, kept_after, IsDue}

@@ -3,7 +3,7 @@ use Rattle.std.proofs.Common.{◌≡◌, ◌≢◌, ℕ, true, ◌<◌, ◌+◌,
 use Rattle.std.specs.Prelude.{IfOk}
 use Rattle.sqlite.specs.State.{State}
 use Rattle.reg_core.specs.declared.code.Code.TheVariants.{KeyReused, BackendFault}
-use Rattle.reg_core.proofs.Steps.{step-read}
+use Rattle.reg_core.proofs.UnchangedRegistries.{step-read}
 use Rattle.reg_core.specs.CommandTexts.{command_text}
 use Rattle.reg_core.specs.Machine.{step}
 use Rattle.reg_core.specs.Registry.{Registry}

@@ -31,7 +31,7 @@ pub fn schema_of(alloc: Global, text: &str) -> Result<Option<Schema>, OutOfMemor
 ///
 /// # Errors
 ///
-/// `OutOfMemory` where room for a schema or for a comparison is refused.
+/// `OutOfMemory` where memory for a schema or for a comparison is refused.
 pub fn admits_after(
     alloc: Global,
     view: &View,

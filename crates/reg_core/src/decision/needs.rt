@@ -26,7 +26,7 @@ use std::alloc::Global;
 ///
 /// # Errors
 ///
-/// `OutOfMemory` where room for the ids is refused.
+/// `OutOfMemory` where memory for the ids is refused.
 pub fn ids_read(alloc: Global, command: &Command, view: &View) -> Result<Vec<u32>, OutOfMemory>
     ensures { IfOk result (λ ids. ids.items ≡ map (λ row. row.1.id) (rows_read command.now view.now)) }
 {

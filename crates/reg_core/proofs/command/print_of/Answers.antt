@@ -6,7 +6,7 @@ use Rattle.serde_json.specs.View.{view}
 use Rattle.serde_json.specs.declared.value.Value.{the_lemmas}
 use Rattle.serde_json.proofs.OnLiterals.{serde_json_on_literals}
 use Rattle.reg_core.specs.CommandTexts.{command_text}
-use Rattle.reg_core.proofs.Texts.{command_text-injective}
+use Rattle.reg_core.proofs.CommandTextLemmas.{command_text-injective}
 use Rattle.reg_core.proofs.command.print_of.Goals as goal
 
 pub returns-in_ok-to_string-in-SetGlobal-clause-text : goal.returns-in_ok-to_string-in-SetGlobal-clause-text

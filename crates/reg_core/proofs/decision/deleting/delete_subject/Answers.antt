@@ -13,7 +13,7 @@ use Rattle.reg_core.specs.Rows.{live_rows, shown_rows}
 use Rattle.reg_core.specs.Views.{after_changes, ChangesFit}
 use Rattle.reg_core.proofs.DeletionChanges.{changes_of, changes_of-fit}
 use Rattle.reg_core.proofs.DeletionSteps.{subject_refused, subject_gone, subject_removed, all_shown}
-use Rattle.reg_core.proofs.Steps.{subject_refusal-fault}
+use Rattle.reg_core.proofs.OwnReplies.{subject_refusal-fault}
 use Rattle.reg_core.proofs.decision.deleting.delete_subject.Goals as goal
 
 abbrev now : List (Bor Row) → List Row

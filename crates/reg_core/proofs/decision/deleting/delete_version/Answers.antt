@@ -13,7 +13,7 @@ use Rattle.reg_core.specs.Replies.{Told, IsOwnReply, answer}
 use Rattle.reg_core.specs.Rows.{live_rows, shown_rows}
 use Rattle.reg_core.specs.Views.{after_changes}
 use Rattle.reg_core.proofs.DeletionSteps.{deletion_refused, version_gone, all_shown}
-use Rattle.reg_core.proofs.Steps.{HasOwnFault, row_to_delete-fault}
+use Rattle.reg_core.proofs.OwnReplies.{HasOwnFault, row_to_delete-fault}
 use Rattle.reg_core.proofs.decision.deleting.delete_version.Goals as goal
 
 -- what is found among the versions that are looked at is found in the view

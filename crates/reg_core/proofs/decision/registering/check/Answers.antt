@@ -9,7 +9,7 @@ use Rattle.reg_core.specs.Rows.{live_rows}
 use Rattle.std.specs.Borrow.{Bor}
 use Rattle.reg_core.specs.Numbers.{choice_in}
 use Rattle.reg_core.specs.ReadCommands.{found_row}
-use Rattle.reg_core.proofs.Steps.{invalid_schema-IsOwnReply, invalid_version-IsOwnReply, HasOwnFault, found_row-fault}
+use Rattle.reg_core.proofs.OwnReplies.{invalid_schema-IsOwnReply, invalid_version-IsOwnReply, HasOwnFault, found_row-fault}
 use Rattle.reg_core.proofs.CheckLemmas.{check_no_choice, check_none, check_fault, check_shown}
 use Rattle.reg_core.proofs.RegisterLemmas.{verdict_of}
 use Rattle.reg_core.proofs.decision.registering.check.Goals as goal

@@ -9,7 +9,7 @@ use Rattle.std.specs.Borrow.{Bor}
 use Rattle.reg_core.specs.Registering.{id_among, id_shown, has_numbers_shown, row_shown, version_added}
 use Rattle.reg_core.specs.Views.{after_changes, ChangesFit}
 use Rattle.reg_core.specs.declared.decision.Change.{Change}
-use Rattle.reg_core.proofs.Steps.{invalid_schema-IsOwnReply, no_number_left-IsOwnReply}
+use Rattle.reg_core.proofs.OwnReplies.{invalid_schema-IsOwnReply, no_number_left-IsOwnReply}
 use Rattle.reg_core.proofs.RegisterLemmas.{register_none, register_known, register_refused, register_full, register_added, added_changes, added_fit, not_among, no_row, some_row, verdict_of}
 use Rattle.reg_core.proofs.decision.registering.register.Goals as goal
 

@@ -1,5 +1,5 @@
--- What is known of each step.
-use Rattle.std.proofs.Common.{◌≡◌, ◌≢◌, ℕ, Bool, true, List, [], ◌∷◌, false, refl, ap, get_or, sym, subst, ◌∙◌, true≢false}
+-- Each reply is the registry's own.
+use Rattle.std.proofs.Common.{◌≡◌, ◌≢◌, ℕ, Bool, true, List, [], ◌∷◌, false, refl, ap, get_or, sym, subst, ◌∙◌}
 use Rattle.std.specs.Prelude.{Option, None, Some, Result, Ok, Err, if◌then◌else◌}
 use Rattle.std.specs.Option.{ok_or}
 use Rattle.std.specs.List.{last_or}
@@ -25,7 +25,7 @@ use Rattle.reg_core.specs.declared.number.Choice.TheVariants.{Latest, Numbered}
 use Rattle.reg_core.specs.Deleting.{row_to_delete, subject_refusal}
 use Rattle.reg_core.specs.DeletionCommands.{if_live, if_deleted, found_and, row_to_mark, row_to_remove, with_deleted, without_row, version_deleted, delete_version, soft_delete, remove_subject, delete_subject}
 use Rattle.reg_core.specs.RegisterCommands.{schema_in, register, registered, check_reply, check_all_reply, verdict_reply}
-use Rattle.reg_core.specs.Machine.{is_write, step}
+use Rattle.reg_core.specs.Machine.{step}
 
 other_status : (m n : Told) → m.status ≢ n.status → m ≢ n
 other_status m n ne e = ne (ap (λ (t : Told). t.status) e)
@@ -49,12 +49,12 @@ not_found code e = record {
 }
 
 -- something of the command can't be, and the number differs from that of a reused key in this digit
-unprocessable : (code : Code) (place : ℕ) → (fault code).status ≡ 422 → get_or (fault code).body place 0 ≢ get_or (fault KeyReused).body place 0 → IsOwnReply (fault code)
-unprocessable code place e ne = record {
+unprocessable : (code : Code) (position : ℕ) → (fault code).status ≡ 422 → get_or (fault code).body position 0 ≢ get_or (fault KeyReused).body position 0 → IsOwnReply (fault code)
+unprocessable code position e ne = record {
   status = subst IsStatus (sym e) refl;
   kept = subst IsKeptStatus (sym e) refl;
   no_backend_fault = λ h. eqb-false 422 500 refl (sym e ∙ h);
-  no_reused_key = λ h. ne (ap (λ (t : Told). get_or t.body place 0) h);
+  no_reused_key = λ h. ne (ap (λ (t : Told). get_or t.body position 0) h);
 }
 
 pub subject_not_found-IsOwnReply : IsOwnReply (fault SubjectNotFound)
@@ -268,81 +268,3 @@ step-never_backend g c = (step-IsOwnReply g c).no_backend_fault
 -- no reply says that a key was used for another request
 pub step-never_reused : (g : Registry) (c : Command) → (step g c).1 ≢ fault KeyReused
 step-never_reused g c = (step-IsOwnReply g c).no_reused_key
-
--- a read leaves the registry
-pub step-read : (g : Registry) (c : Command) → is_write c ≡ false → (step g c).0 ≡ g
-unfolding step
-step-read g (SetGlobal text) e = absurd (true≢false e)
-step-read g (SetLevel subject text) e = absurd (true≢false e)
-step-read g (Register subject text supported) e = absurd (true≢false e)
-step-read g (DeleteVersion subject version permanent) e = absurd (true≢false e)
-step-read g (DeleteSubject subject permanent) e = absurd (true≢false e)
-step-read g Global e = refl
-step-read g (LevelOf subject default) e = refl
-step-read g (Lookup subject text supported deleted) e = refl
-step-read g (Subjects deleted) e = refl
-step-read g (Versions subject deleted) e = refl
-step-read g (Version subject version deleted) e = refl
-step-read g (Text subject version deleted) e = refl
-step-read g (ById id) e = refl
-step-read g (VersionsOfId id deleted) e = refl
-step-read g Types e = refl
-step-read g (Check subject version text supported) e = refl
-step-read g (CheckAll subject text supported) e = refl
-
-set_level-refusal : (g : Registry) (s : Option (List ℕ)) (o : Option Level) → (set_level g s o).1.status ≢ 200 → (set_level g s o).0 ≡ g
-set_level-refusal g s None ne = refl
-set_level-refusal g s (Some level) ne = absurd (ne refl)
-
-registered-refusal : (g : Registry) (subject : List ℕ) (new : List NodeView) (is_there admitted left : Bool) → (registered g subject new is_there admitted left).1.status ≢ 200 → (registered g subject new is_there admitted left).0 ≡ g
-registered-refusal g subject new true admitted left ne = refl
-registered-refusal g subject new false false left ne = refl
-registered-refusal g subject new false true false ne = refl
-registered-refusal g subject new false true true ne = absurd (ne refl)
-
-register-refusal : (g : Registry) (subject : List ℕ) (schema : Option (List NodeView)) → (register g subject schema).1.status ≢ 200 → (register g subject schema).0 ≡ g
-register-refusal g subject None ne = refl
-register-refusal g subject (Some new) ne = registered-refusal g subject new _ _ _ ne
-
-version_deleted-refusal : (change : Registry → Row → Registry) (g : Registry) (found : Result Row Code) → (version_deleted change g found).1.status ≢ 200 → (version_deleted change g found).0 ≡ g
-version_deleted-refusal change g (Err code) ne = refl
-version_deleted-refusal change g (Ok row) ne = absurd (ne refl)
-
-delete_version-refusal : (g : Registry) (subject : List ℕ) (choice : Option Choice) (permanent : Bool) → (delete_version g subject choice permanent).1.status ≢ 200 → (delete_version g subject choice permanent).0 ≡ g
-delete_version-refusal g subject choice false ne = version_deleted-refusal with_deleted g (row_to_mark choice (rows_of g subject)) ne
-delete_version-refusal g subject choice true ne = version_deleted-refusal without_row g (row_to_remove choice (rows_of g subject)) ne
-
-soft_delete-refusal : (g : Registry) (subject : List ℕ) (rows live : List Row) → (soft_delete g subject rows live).1.status ≢ 200 → (soft_delete g subject rows live).0 ≡ g
-soft_delete-refusal g subject [] live ne = refl
-soft_delete-refusal g subject (row ∷ rows) [] ne = refl
-soft_delete-refusal g subject (row ∷ rows) (one ∷ live) ne = absurd (ne refl)
-
-remove_subject-refusal : (g : Registry) (subject : List ℕ) (rows live : List Row) → (remove_subject g subject rows live).1.status ≢ 200 → (remove_subject g subject rows live).0 ≡ g
-remove_subject-refusal g subject [] live ne = refl
-remove_subject-refusal g subject (row ∷ rows) (one ∷ live) ne = refl
-remove_subject-refusal g subject (row ∷ rows) [] ne = absurd (ne refl)
-
-delete_subject-refusal : (g : Registry) (subject : List ℕ) (permanent : Bool) → (delete_subject g subject permanent).1.status ≢ 200 → (delete_subject g subject permanent).0 ≡ g
-delete_subject-refusal g subject false ne = soft_delete-refusal g subject (rows_of g subject) (live_rows (rows_of g subject)) ne
-delete_subject-refusal g subject true ne = remove_subject-refusal g subject (rows_of g subject) (live_rows (rows_of g subject)) ne
-
--- and so does a refusal
-pub step-refusal : (g : Registry) (c : Command) → (step g c).1.status ≢ 200 → (step g c).0 ≡ g
-unfolding step
-step-refusal g (SetGlobal text) ne = set_level-refusal g None (level_of text) ne
-step-refusal g (SetLevel subject text) ne = set_level-refusal g (Some subject) (level_of text) ne
-step-refusal g (Register subject text supported) ne = register-refusal g subject (schema_in text supported) ne
-step-refusal g (DeleteVersion subject version permanent) ne = delete_version-refusal g subject (choice_in version) permanent ne
-step-refusal g (DeleteSubject subject permanent) ne = delete_subject-refusal g subject permanent ne
-step-refusal g Global ne = refl
-step-refusal g (LevelOf subject default) ne = refl
-step-refusal g (Lookup subject text supported deleted) ne = refl
-step-refusal g (Subjects deleted) ne = refl
-step-refusal g (Versions subject deleted) ne = refl
-step-refusal g (Version subject version deleted) ne = refl
-step-refusal g (Text subject version deleted) ne = refl
-step-refusal g (ById id) ne = refl
-step-refusal g (VersionsOfId id deleted) ne = refl
-step-refusal g Types ne = refl
-step-refusal g (Check subject version text supported) ne = refl
-step-refusal g (CheckAll subject text supported) ne = refl
