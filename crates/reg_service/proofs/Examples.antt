@@ -93,7 +93,7 @@ status_at (x ∷ xs) = x.1.status
 -- what was answered stays: no delivery was under way then
 answered_stays : (g : Registry) (k : Kept) (d : Delivery) (body : List ℕ) (db : Trees) → IsFoundAfter g k ((d, answer body) ∷ []) db → LeavesAfter g k ((d, answer body) ∷ []) db
 answered_stays g k d body db (inl leaves) = leaves
-answered_stays g k d body db (inr u) = absurd (none u.before u.place)
+answered_stays g k d body db (inr u) = absurd (none u.before u.split)
   where
     no_more : (before : List Exchange) (x : Exchange) (after : List Exchange) → [] ≡ before ++ x ∷ after → ⊥
     no_more [] x after e = absurd (cc)

@@ -20,7 +20,7 @@ pub record LeavesUnderWay (g : Registry) (k : Kept) (xs : List Exchange) (db : T
   pub before : List Exchange
   pub delivery : Delivery
   pub after : List Exchange
-  pub place : xs ≡ before ++ (delivery, fault BackendFault) ∷ after
+  pub split : xs ≡ before ++ (delivery, fault BackendFault) ∷ after
   pub unanswered : served after ≡ []
   pub first : IsTrue (is_first k (served before) delivery)
   pub leaves : LeavesAfter g k (served before ++ (delivery, reply_after g k (served before) delivery.command) ∷ []) db

@@ -68,7 +68,7 @@ pub record IsDue (g : Registry) (k : Kept) (before : List Exchange) (d : Deliver
   pub other : (key : List ℕ) (entry : Entry) → key_of d ≡ Some key → kept_after k before key ≡ Some entry
       → command_text d.command ≢ entry.text → reply ≡ fault KeyReused
 
--- Each exchange, at its place in the list, has the reply that is due there.
+-- Each exchange, at its position in the list, has the reply that is due there.
 abbrev pub Answers : Registry → Kept → List Exchange → Type 0
 Answers g k xs = (before : List Exchange) (x : Exchange) (after : List Exchange)
     → xs ≡ before ++ x ∷ after → IsDue g k before x.0 x.1

@@ -100,7 +100,7 @@ impl<S: Alter> Service<S> {
     ///
     /// # Errors
     ///
-    /// `OutOfMemory` where room for the replies is refused. Then nothing was carried out.
+    /// `OutOfMemory` where memory for the replies is refused. Then nothing was carried out.
     pub fn run(&mut self, list: &[Delivery]) -> Result<Vec<Reply>, OutOfMemory>
         ensures count { IfOk result (λ replies. vec_len replies ≡ length list.now) }
         ensures clean { HasCleanDisk (state_in self.new) → HasCleanDisk (state_in self.old) }
