@@ -2,7 +2,7 @@
 
 ghost use Rattle.std.specs.Prelude.{◌≡◌, ◌≤◌, IfOk, map, length, All};
 ghost use Rattle.httparse.specs.Spans.{IsHeaderWithin, header_bytes};
-ghost use Rattle.reg_messages.specs.Framing.{framing, body_length};
+ghost use Rattle.reg_messages.specs.Framing.{framing, body_length, max_body};
 
 use crate::fields::Found;
 use httparse::spans::HeaderSpan;
@@ -15,7 +15,7 @@ pub const MAX_BODY: u64 = 1_048_576;
 /// it doesn't, and `BodyTooLarge` past the limit.
 fn number(text: &[u8]) -> Result<usize, Code>
     ensures value { result ≡ body_length text.now }
-    ensures within { IfOk result (λ length. length ≤ 1048576) }
+    ensures within { IfOk result (λ length. length ≤ max_body) }
 {
     if text.is_empty() || text.len() > 19 {
         return Err(Code::MalformedRequest);
@@ -42,7 +42,7 @@ fn number(text: &[u8]) -> Result<usize, Code>
 pub fn length_by(head: &[u8], fields: &[HeaderSpan]) -> Result<usize, Code>
     requires { All (IsHeaderWithin (length head.now)) fields.now }
     ensures value { result ≡ framing (map (header_bytes head.now) fields.now) }
-    ensures within { IfOk result (λ length. length ≤ 1048576) }
+    ensures within { IfOk result (λ length. length ≤ max_body) }
 {
     match Found::look(head, fields, b"Transfer-Encoding") {
         Found::Missing => {}
