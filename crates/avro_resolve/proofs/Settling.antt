@@ -40,6 +40,15 @@ pub same_pair : (a b i j : ℕ) (x : Bool) → (a == i && b == j) ≡ x → ((a 
 same_pair a b i j true e = inl ((let p : a ≡ i = grind (arith, nat_tests) in p), (let q : b ≡ j = grind (arith, nat_tests) in q))
 same_pair a b i j false e = inr e
 
+pub fewer_struck : (t v : Table) (i j : ℕ) → ((a b : ℕ) → left v a b ≡ (if a == i && b == j then false else left t a b)) → (a b : ℕ) → left v a b ≡ true → left t a b ≡ true
+fewer_struck t v i j others a b l = still (a == i && b == j) (left t a b) (sym (others a b) ∙ l)
+
+none_here : (i j : ℕ) (y : Bool) → (if i == i && j == j then false else y) ≡ false
+none_here i j y = grind (arith, nat_tests)
+
+pub gone_struck : (t v : Table) (i j : ℕ) → ((a b : ℕ) → left v a b ≡ (if a == i && b == j then false else left t a b)) → left v i j ≡ false
+gone_struck t v i j others = others i j ∙ none_here i j (left t i j)
+
 -- a pair that was struck out is listed
 module _ (t v : Table) (ps : List Pair) (i j : ℕ) (others : (a b : ℕ) → left v a b ≡ (if a == i && b == j then false else left t a b)) where
   held_left : (a b : ℕ) → left t a b ≡ true → held v (ps ++ (i, j) ∷ []) a b ≡ true
@@ -50,7 +59,7 @@ module _ (t v : Table) (ps : List Pair) (i j : ℕ) (others : (a b : ℕ) → le
 
   pub lists_struck : count_left v + 1 ≡ count_left t → Lists t ps v (ps ++ (i, j) ∷ [])
   lists_struck fewer = record {
-    fewer = λ a b l. still (a == i && b == j) (left t a b) (sym (others a b) ∙ l);
+    fewer = fewer_struck t v i j others;
     held = λ a b l. elim (or_cases (left t a b) (member ps a b) l) [
       | inl g ↦ held_left a b g
       | inr g ↦ or_right (left v a b) (member (ps ++ (i, j) ∷ []) a b) (member_front ps ((i, j) ∷ []) a b g)
@@ -58,11 +67,8 @@ module _ (t v : Table) (ps : List Pair) (i j : ℕ) (others : (a b : ℕ) → le
     count = (let l : length (ps ++ (i, j) ∷ []) ≡ length ps + 1 = length-append ps ((i, j) ∷ []) in omega arith);
   }
 
-  here : (i j : ℕ) (y : Bool) → (if i == i && j == j then false else y) ≡ false
-  here i j y = grind (arith, nat_tests)
-
   pub settled_struck : (w r : List NodeView) → Settled w r v (ps ++ (i, j) ∷ []) i j
-  settled_struck w r l = absurd (true≢false (sym l ∙ others i j ∙ here i j (left t i j)))
+  settled_struck w r l = absurd (true≢false (sym l ∙ gone_struck t v i j others))
 
 pub settled_gone : (w r : List NodeView) (t : Table) (ps : List Pair) (i j : ℕ) → left t i j ≡ false → Settled w r t ps i j
 settled_gone w r t ps i j e l = absurd (true≢false (sym l ∙ e))

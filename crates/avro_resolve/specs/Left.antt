@@ -1,8 +1,9 @@
 -- The pairs that a table has left.
-use Rattle.std.specs.Prelude.{◌≡◌, ◌⊎◌, ℕ, ◌+◌, ◌*◌, List, [], Bool, true, false, ◌&&◌, ◌||◌, length, ◌<◌, nat_lt, slice_index_or, sum_by, IsTrue}
+use Rattle.std.specs.Prelude.{◌≡◌, ◌⊎◌, ℕ, ◌+◌, ◌*◌, List, [], Bool, true, false, ◌&&◌, ◌||◌, length, ◌<◌, nat_lt, slice_get, slice_index_or, sum_by, IsTrue, MatchOption}
 use Rattle.avro_nodes.specs.Nodes.{NodeView}
 use Rattle.avro_resolve.specs.declared.table.Table.{Table}
 use Rattle.avro_resolve.specs.Resolution.{Pairs, Supports}
+use Rattle.avro_resolve.specs.Agreeing.{Agree}
 use Rattle.avro_resolve.specs.Witnesses.{Pair, member, without, RefutesAfter, Differ}
 
 -- the flag of a pair, where the flags stand row by row
@@ -35,6 +36,15 @@ pub record IsLeft (w r : List NodeView) (t : Table) : Type 0 where
   pub differ : Differ struck
   pub exact : (i j : ℕ) → i < length w → j < length r → left t i j ≡ without struck i j
   pub count : length struck + count_left t ≡ length w * length r
+
+-- the nodes at the two places agree
+abbrev pub Agreed : List NodeView → List NodeView → ℕ → ℕ → Type 0
+Agreed w r i j = MatchOption (slice_get w i) ⊥ (λ a. MatchOption (slice_get r j) ⊥ (λ b. Agree a b))
+
+-- what is left after those pairs were struck out whose nodes don't agree
+pub record IsRest (w r : List NodeView) (t : Table) : Type 0 where
+  pub rest : IsLeft w r t
+  pub agreed : (i j : ℕ) → i < length w → j < length r → IsTrue (left t i j) → Agreed w r i j
 
 -- the pairs that are left, and those that are listed: struck out, and not yet told to the pairs that ask for them
 abbrev pub held : Table → List Pair → Pairs

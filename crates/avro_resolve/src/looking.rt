@@ -2,7 +2,7 @@
 
 ghost use Rattle.std.specs.Prelude.{ℕ, ◌<◌, length, OnOk, All, [], ◌∷◌, ◌++◌};
 ghost use Rattle.avro_resolve.specs.Sides.{nodes_of, IsSide};
-ghost use Rattle.avro_resolve.specs.Left.{IsLeft, Lists, Settled, AllSettled};
+ghost use Rattle.avro_resolve.specs.Left.{IsRest, Lists, Settled, AllSettled};
 
 use crate::sides::Side;
 use crate::support::{pair_asks, supports};
@@ -20,10 +20,10 @@ fn look(
 ) -> Result<(), AllocError>
     requires writer { IsSide writer.now }
     requires reader { IsSide reader.now }
-    requires rest { IsLeft (nodes_of writer.now) (nodes_of reader.now) table.old }
+    requires rest { IsRest (nodes_of writer.now) (nodes_of reader.now) table.old }
     requires i_in { i < length writer.now.schema.now }
     requires j_in { j < length reader.now.schema.now }
-    ensures rest { OnOk result (IsLeft (nodes_of writer.now) (nodes_of reader.now) table.new) }
+    ensures rest { OnOk result (IsRest (nodes_of writer.now) (nodes_of reader.now) table.new) }
     ensures lists { OnOk result (Lists table.old struck.old.items table.new struck.new.items) }
     ensures settled { OnOk result (Settled (nodes_of writer.now) (nodes_of reader.now) table.new
         struck.new.items i j) }
@@ -47,12 +47,12 @@ fn look_again(
 ) -> Result<(), AllocError>
     requires writer { IsSide writer.now }
     requires reader { IsSide reader.now }
-    requires rest { IsLeft (nodes_of writer.now) (nodes_of reader.now) table.old }
+    requires rest { IsRest (nodes_of writer.now) (nodes_of reader.now) table.old }
     requires before { AllSettled (nodes_of writer.now) (nodes_of reader.now) table.old
         (struck.old.items ++ told ∷ []) }
     requires i_in { i < length writer.now.schema.now }
     requires j_in { j < length reader.now.schema.now }
-    ensures rest { OnOk result (IsLeft (nodes_of writer.now) (nodes_of reader.now) table.new) }
+    ensures rest { OnOk result (IsRest (nodes_of writer.now) (nodes_of reader.now) table.new) }
     ensures lists { OnOk result (Lists table.old struck.old.items table.new struck.new.items) }
     ensures settled { OnOk result (Settled (nodes_of writer.now) (nodes_of reader.now) table.new
         struck.new.items i j) }
@@ -76,12 +76,12 @@ fn look_along(
 ) -> Result<(), AllocError>
     requires writer { IsSide writer.now }
     requires reader { IsSide reader.now }
-    requires rest { IsLeft (nodes_of writer.now) (nodes_of reader.now) table.old }
+    requires rest { IsRest (nodes_of writer.now) (nodes_of reader.now) table.old }
     requires before { AllSettled (nodes_of writer.now) (nodes_of reader.now) table.old
         (struck.old.items ++ told ∷ []) }
     requires i_in { i < length writer.now.schema.now }
     requires columns_in { All (λ j. j < length reader.now.schema.now) columns.now }
-    ensures rest { OnOk result (IsLeft (nodes_of writer.now) (nodes_of reader.now) table.new) }
+    ensures rest { OnOk result (IsRest (nodes_of writer.now) (nodes_of reader.now) table.new) }
     ensures lists { OnOk result (Lists table.old struck.old.items table.new struck.new.items) }
     ensures settled { OnOk result (All (Settled (nodes_of writer.now) (nodes_of reader.now) table.new
         struck.new.items i) columns.now) }
@@ -105,12 +105,12 @@ pub fn look_across(
 ) -> Result<(), AllocError>
     requires writer { IsSide writer.now }
     requires reader { IsSide reader.now }
-    requires rest { IsLeft (nodes_of writer.now) (nodes_of reader.now) table.old }
+    requires rest { IsRest (nodes_of writer.now) (nodes_of reader.now) table.old }
     requires before { AllSettled (nodes_of writer.now) (nodes_of reader.now) table.old
         (struck.old.items ++ told ∷ []) }
     requires rows_in { All (λ i. i < length writer.now.schema.now) rows.now }
     requires columns_in { All (λ j. j < length reader.now.schema.now) columns.now }
-    ensures rest { OnOk result (IsLeft (nodes_of writer.now) (nodes_of reader.now) table.new) }
+    ensures rest { OnOk result (IsRest (nodes_of writer.now) (nodes_of reader.now) table.new) }
     ensures lists { OnOk result (Lists table.old struck.old.items table.new struck.new.items) }
     ensures settled { OnOk result (All (λ i. All (Settled (nodes_of writer.now) (nodes_of reader.now)
         table.new struck.new.items i) columns.now) rows.now) }
@@ -131,9 +131,9 @@ fn look_row(
 ) -> Result<(), AllocError>
     requires writer { IsSide writer.now }
     requires reader { IsSide reader.now }
-    requires rest { IsLeft (nodes_of writer.now) (nodes_of reader.now) table.old }
+    requires rest { IsRest (nodes_of writer.now) (nodes_of reader.now) table.old }
     requires i_in { i < length writer.now.schema.now }
-    ensures rest { OnOk result (IsLeft (nodes_of writer.now) (nodes_of reader.now) table.new) }
+    ensures rest { OnOk result (IsRest (nodes_of writer.now) (nodes_of reader.now) table.new) }
     ensures lists { OnOk result (Lists table.old struck.old.items table.new struck.new.items) }
     ensures settled { OnOk result ((j : ℕ) → j < length reader.now.schema.now
         → Settled (nodes_of writer.now) (nodes_of reader.now) table.new struck.new.items i j) }
@@ -153,8 +153,8 @@ pub fn look_everywhere(
 ) -> Result<(), AllocError>
     requires writer { IsSide writer.now }
     requires reader { IsSide reader.now }
-    requires rest { IsLeft (nodes_of writer.now) (nodes_of reader.now) table.old }
-    ensures rest { OnOk result (IsLeft (nodes_of writer.now) (nodes_of reader.now) table.new) }
+    requires rest { IsRest (nodes_of writer.now) (nodes_of reader.now) table.old }
+    ensures rest { OnOk result (IsRest (nodes_of writer.now) (nodes_of reader.now) table.new) }
     ensures settled { OnOk result (AllSettled (nodes_of writer.now) (nodes_of reader.now) table.new
         struck.new.items) }
 {

@@ -5,7 +5,7 @@ ghost use Rattle.avro_nodes.specs.Nodes.{nodes_view};
 ghost use Rattle.avro_schema.specs.Texts.{IsSchema};
 ghost use Rattle.avro_resolve.specs.Resolution.{Closed};
 ghost use Rattle.avro_resolve.specs.Sides.{nodes_of, IsSide};
-ghost use Rattle.avro_resolve.specs.Left.{left, IsLeft, AllSettled};
+ghost use Rattle.avro_resolve.specs.Left.{left, IsLeft, IsRest, AllSettled};
 ghost use Rattle.avro_resolve.specs.Askers.{HasAskers};
 
 use crate::askers::{askers, askers_of};
@@ -31,9 +31,9 @@ fn settle(
     requires reader { IsSide reader.now }
     requires rows { HasAskers (nodes_of writer.now) rows.now }
     requires columns { HasAskers (nodes_of reader.now) columns.now }
-    requires rest { IsLeft (nodes_of writer.now) (nodes_of reader.now) table.old }
+    requires rest { IsRest (nodes_of writer.now) (nodes_of reader.now) table.old }
     requires settled { AllSettled (nodes_of writer.now) (nodes_of reader.now) table.old struck.items }
-    ensures rest { OnOk result (IsLeft (nodes_of writer.now) (nodes_of reader.now) table.new) }
+    ensures rest { OnOk result (IsRest (nodes_of writer.now) (nodes_of reader.now) table.new) }
     ensures closed { OnOk result (AllSettled (nodes_of writer.now) (nodes_of reader.now) table.new []) }
 {
     while let Some((i, j)) = struck.pop() {
@@ -45,8 +45,9 @@ fn settle(
     Ok(())
 }
 
-/// Strikes out what the rest doesn't support, until each pair that is left is supported: after a
-/// sweep, a pair is looked at once more, and again only where one was struck out that it asks for.
+/// Strikes out what the rest doesn't support, until each pair that is left is supported: after the
+/// pairs whose nodes don't agree, a pair is looked at once, and again only where one was struck out
+/// that it asks for.
 fn strike_out(
     alloc: Global,
     writer: &Side,

@@ -7,7 +7,7 @@ ghost use Rattle.avro_resolve.specs.Agreeing.{Agree};
 ghost use Rattle.avro_resolve.specs.Lookups.{FindsFields, IsLookupOf};
 ghost use Rattle.avro_resolve.specs.Places.{Names};
 ghost use Rattle.avro_resolve.specs.Sides.{nodes_of, IsSide};
-ghost use Rattle.avro_resolve.specs.Left.{left, WithinBut, Ignores};
+ghost use Rattle.avro_resolve.specs.Left.{left, Agreed, WithinBut, Ignores};
 
 use crate::agreeing::agree;
 use crate::fields::source_of;
@@ -106,7 +106,19 @@ fn asked_left(a: &Node, sources: Option<&Lookup>, b: &Node, i: u32, j: u32, tabl
     }
 }
 
-/// Whether what is left supports the pair of these places.
+/// Whether the nodes at these places agree.
+pub fn agree_at(writer: &Side, reader: &Side, i: u32, j: u32) -> bool
+    requires writer { IsSide writer.now }
+    requires reader { IsSide reader.now }
+    requires i_in { i < length writer.now.schema.now }
+    requires j_in { j < length reader.now.schema.now }
+    ensures { IsTrue result ↔ Agreed (nodes_of writer.now) (nodes_of reader.now) i j }
+{
+    let (a, b) = (writer.node(i), reader.node(j));
+    agree(a, b, reader.lookup(j, b))
+}
+
+/// Whether what is left supports the pair of these places, whose nodes agree.
 pub fn supports(writer: &Side, reader: &Side, i: u32, j: u32, table: &Table) -> bool
     requires writer { IsSide writer.now }
     requires reader { IsSide reader.now }
@@ -114,10 +126,11 @@ pub fn supports(writer: &Side, reader: &Side, i: u32, j: u32, table: &Table) -> 
     requires readers { table.now.readers ≡ length reader.now.schema.now }
     requires i_in { i < table.now.writers }
     requires j_in { j < table.now.readers }
+    requires agreed { Agreed (nodes_of writer.now) (nodes_of reader.now) i j }
     ensures { IsTrue result ↔ Supports (nodes_of writer.now) (nodes_of reader.now) (left table.now) i j }
 {
     let (a, b) = (writer.node(i), reader.node(j));
-    agree(a, b, reader.lookup(j, b)) && asked_left(a, writer.lookup(i, a), b, i, j, table)
+    asked_left(a, writer.lookup(i, a), b, i, j, table)
 }
 
 /// Whether a reader's field at the second place is read from a writer's field at the first.

@@ -2,7 +2,7 @@ use Rattle.std.proofs.Common.{List, true≢false, sym, subst, ◌∙◌}
 use Rattle.std.proofs.lemmas.List.{length-map}
 use Rattle.avro_nodes.specs.Nodes.{nodes_view}
 use Rattle.avro_resolve.proofs.Strikes.{struck_pair}
-use Rattle.avro_resolve.proofs.Settling.{lists_struck, settled_supported, settled_gone}
+use Rattle.avro_resolve.proofs.Settling.{fewer_struck, lists_struck, settled_supported, settled_gone}
 use Rattle.avro_resolve.specs.Witnesses.{Pair}
 use Rattle.avro_resolve.specs.Left.{Lists}
 use Rattle.avro_resolve.proofs.looking.look.Goals.{else-has-via-then-has+else-not-supports, else-has-via-else-has}
@@ -10,9 +10,14 @@ use Rattle.avro_resolve.proofs.looking.look.Goals as goal
 
 pub returns-in_ok-push-clause-rest : goal.returns-in_ok-push-clause-rest
 returns-in_ok-push-clause-rest c =
-    struck_pair (nodes_view c.args.writer.now.schema.now) (nodes_view c.args.reader.now.schema.now) c.args.table.now c.strike.new.self c.args.i c.args.j c.requires.writer.whole c.requires.reader.whole c.requires.rest
+    let w = nodes_view c.args.writer.now.schema.now in let r = nodes_view c.args.reader.now.schema.now in let t = c.args.table.now in let v = c.strike.new.self in
+    let rest = struck_pair w r t v c.args.i c.args.j c.requires.writer.whole c.requires.reader.whole c.requires.rest.rest
     (rw length-map c.requires.i_in) (rw length-map c.requires.j_in) (sym c.has.ensures ∙ c.if-has.true)
-    (λ s. true≢false (sym (c.supports.ensures.1 s) ∙ c.if-not-supports.true)) c.strike.ensures.shape c.strike.ensures.others c.strike.ensures.fewer
+    (λ s. true≢false (sym (c.supports.ensures.1 s) ∙ c.if-not-supports.true)) c.strike.ensures.shape c.strike.ensures.others c.strike.ensures.fewer in
+    record { rest = rest; agreed = λ a b l k h. c.requires.rest.agreed a b l k (fewer_struck t v c.args.i c.args.j c.strike.ensures.others a b h) }
+
+pub supports-requires-clause-agreed : goal.supports-requires-clause-agreed
+supports-requires-clause-agreed c = c.requires.rest.agreed c.args.i c.args.j (rw length-map c.requires.i_in) (rw length-map c.requires.j_in) (sym c.has.ensures ∙ c.if-has.true)
 
 pub returns-in_ok-push-clause-lists : goal.returns-in_ok-push-clause-lists
 returns-in_ok-push-clause-lists c =

@@ -1,12 +1,12 @@
 use Rattle.std.proofs.Common.{ℕ, ◌<◌, get_or}
 use Rattle.std.specs.Prelude.{All}
 use Rattle.avro_nodes.specs.Nodes.{nodes_view}
-use Rattle.avro_resolve.specs.Left.{IsLeft, Lists, Settled}
+use Rattle.avro_resolve.specs.Left.{IsRest, Lists, Settled}
 use Rattle.avro_resolve.proofs.looking.look_across.Given as goal
 
 abbrev pub invariant-loop-i : goal.invariant-loop-i
 invariant-loop-i l = record {
-  rest : IsLeft (nodes_view l.writer.schema.now) (nodes_view l.reader.schema.now) l.table;
+  rest : IsRest (nodes_view l.writer.schema.now) (nodes_view l.reader.schema.now) l.table;
   lists : Lists l.initial.table l.initial.struck.items l.table l.struck.items;
   settled : (k d : ℕ) → k < l.i-index → All (Settled (nodes_view l.writer.schema.now) (nodes_view l.reader.schema.now) l.table l.struck.items (get_or l.rows k d)) l.columns;
 }

@@ -1,11 +1,11 @@
 use Rattle.std.proofs.Common.{◌+◌, length}
 use Rattle.avro_nodes.specs.Nodes.{nodes_view}
-use Rattle.avro_resolve.specs.Left.{IsLeft, AllSettled, count_left}
+use Rattle.avro_resolve.specs.Left.{IsRest, AllSettled, count_left}
 use Rattle.avro_resolve.proofs.striking.settle.Given as goal
 
 abbrev pub invariant-loop-i : goal.invariant-loop-i
 invariant-loop-i l = record {
-  rest : IsLeft (nodes_view l.writer.schema.now) (nodes_view l.reader.schema.now) l.table;
+  rest : IsRest (nodes_view l.writer.schema.now) (nodes_view l.reader.schema.now) l.table;
   settled : AllSettled (nodes_view l.writer.schema.now) (nodes_view l.reader.schema.now) l.table l.struck.items;
 }
 

@@ -1,6 +1,11 @@
+use Rattle.std.proofs.Common.{ℕ, ◌<◌, IsTrue}
 use Rattle.avro_nodes.specs.Nodes.{nodes_view}
-use Rattle.avro_resolve.specs.Left.{IsLeft}
+use Rattle.avro_resolve.specs.Left.{left, Agreed, IsLeft}
 use Rattle.avro_resolve.proofs.sweeping.strike_row.Given as goal
 
 abbrev pub invariant-loop-j : goal.invariant-loop-j
-invariant-loop-j l = IsLeft (nodes_view l.writer.schema.now) (nodes_view l.reader.schema.now) l.table
+invariant-loop-j l = record {
+  rest : IsLeft (nodes_view l.writer.schema.now) (nodes_view l.reader.schema.now) l.table;
+  fewer : (a b : ℕ) → IsTrue (left l.table a b) → IsTrue (left l.initial.table a b);
+  agreed : (b : ℕ) → b < l.j → IsTrue (left l.table l.i b) → Agreed (nodes_view l.writer.schema.now) (nodes_view l.reader.schema.now) l.i b;
+}

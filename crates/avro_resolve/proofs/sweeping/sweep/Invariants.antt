@@ -1,6 +1,10 @@
+use Rattle.std.proofs.Common.{ℕ, ◌<◌, IsTrue, length}
 use Rattle.avro_nodes.specs.Nodes.{nodes_view}
-use Rattle.avro_resolve.specs.Left.{IsLeft}
+use Rattle.avro_resolve.specs.Left.{left, Agreed, IsLeft}
 use Rattle.avro_resolve.proofs.sweeping.sweep.Given as goal
 
 abbrev pub invariant-loop-i : goal.invariant-loop-i
-invariant-loop-i l = IsLeft (nodes_view l.writer.schema.now) (nodes_view l.reader.schema.now) l.table
+invariant-loop-i l = record {
+  rest : IsLeft (nodes_view l.writer.schema.now) (nodes_view l.reader.schema.now) l.table;
+  agreed : (a b : ℕ) → a < l.i → b < length l.reader.schema.now → IsTrue (left l.table a b) → Agreed (nodes_view l.writer.schema.now) (nodes_view l.reader.schema.now) a b;
+}

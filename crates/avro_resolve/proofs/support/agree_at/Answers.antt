@@ -1,0 +1,8 @@
+use Rattle.avro_nodes.specs.Nodes.{node_view, nodes_view}
+use Rattle.avro_resolve.proofs.Agreement.{agreed_at}
+use Rattle.avro_resolve.proofs.support.agree_at.Goals as goal
+
+pub returns : goal.returns
+returns c =
+    let s = agreed_at (nodes_view c.args.writer.now.schema.now) (nodes_view c.args.reader.now.schema.now) c.args.i c.args.j (node_view c.node-a.result.now) (node_view c.node-b.result.now) c.node-a.ensures.node c.node-b.ensures.node in
+    ((λ h. s.1 (c.agree.ensures.0 h)), (λ h. c.agree.ensures.1 (s.0 h)))
