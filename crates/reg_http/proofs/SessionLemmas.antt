@@ -13,9 +13,9 @@ use Rattle.reg_service.specs.Deliveries.{Exchange, Serves, served}
 use Rattle.reg_service.proofs.JoinedExchanges.{serves_none, serves-append}
 use Rattle.reg_service.proofs.ExchangeLists.{served-append}
 use Rattle.reg_http.specs.declared.writing.Sent.{Sent}
-use Rattle.reg_http.specs.declared.writing.Sent.TheVariants.{Whole, CutShort, NoRoom as Unsent}
+use Rattle.reg_http.specs.declared.writing.Sent.TheVariants.{Whole, CutShort, OutOfMemory as Unsent}
 use Rattle.reg_http.specs.declared.answering.Stop.{Stop}
-use Rattle.reg_http.specs.declared.answering.Stop.TheVariants.{Waiting, AtClose, AtFault, NotWritten, NoRoom}
+use Rattle.reg_http.specs.declared.answering.Stop.TheVariants.{Waiting, AtClose, AtFault, NotWritten, OutOfMemory}
 use Rattle.reg_messages.specs.Messages.{Message, IsMessage, Leads, Follows, Faulty}
 use Rattle.reg_messages.specs.Closing.{closes}
 use Rattle.reg_messages.specs.Answers.{fault_answer}
@@ -122,8 +122,8 @@ StopsAs-after xs ys rest held out (Waiting needs) p s = (StayOpen-append xs ys p
 StopsAs-after xs ys rest held out AtClose p s = (LastCloses-after xs ys p s.0, all_joined xs ys out s.1)
 StopsAs-after xs ys rest held out AtFault p s = (s.0, StayOpen-append xs ys p s.1, s.2, joined xs ys out (fault_answer s.0) s.3)
 StopsAs-after xs ys rest held out NotWritten p s = IsCutShort-after xs ys rest out p s
-StopsAs-after xs ys rest held out NoRoom p (inl s) = inl (StayOpen-append xs ys p s.0, all_joined xs ys out s.1)
-StopsAs-after xs ys rest held out NoRoom p (inr s) = inr (IsCutShort-after xs ys rest out p s)
+StopsAs-after xs ys rest held out OutOfMemory p (inl s) = inl (StayOpen-append xs ys p s.0, all_joined xs ys out s.1)
+StopsAs-after xs ys rest held out OutOfMemory p (inr s) = inr (IsCutShort-after xs ys rest out p s)
 
 -- the answers after messages
 pub AnswersAs-after : (w w1 w2 : Option (List ℕ)) (g g1 g2 : Registry) (k k1 k2 : Kept) (bytes mid held : List ℕ) (xs : List Answered) (stop : Stop)
@@ -158,7 +158,7 @@ pub AnswersAs-fault : (w w' : Option (List ℕ)) (g : Registry) (k : Kept) (byte
     → Follows bytes (Faulty code) → FaultAs w w' code stop → AnswersAs w w' g k g k bytes bytes stop
 AnswersAs-fault w w' g k bytes code AtFault f a = written w w' g k bytes (fault_answer code) AtFault a (code, tt, f, refl)
 AnswersAs-fault w w' g k bytes code NotWritten f a = written w w' g k bytes a.0 NotWritten a.2 (fault_cut bytes a.0 code f a.1)
-AnswersAs-fault w w' g k bytes code NoRoom f a = written w w' g k bytes a.0 NoRoom a.2 (inr (fault_cut bytes a.0 code f a.1))
+AnswersAs-fault w w' g k bytes code OutOfMemory f a = written w w' g k bytes a.0 OutOfMemory a.2 (inr (fault_cut bytes a.0 code f a.1))
 AnswersAs-fault w w' g k bytes code AtClose f a = absurd a
 AnswersAs-fault w w' g k bytes code (Waiting needs) f a = absurd a
 

@@ -5,11 +5,11 @@ use Rattle.reg_core.specs.declared.code.Code.{Code}
 use Rattle.reg_core.specs.Registry.{Registry}
 use Rattle.reg_core.specs.KeptReplies.{Kept}
 use Rattle.reg_http.specs.declared.answering.Stop.{Stop}
-use Rattle.reg_http.specs.declared.answering.Stop.TheVariants.{Waiting, AtClose, AtFault, NotWritten, NoRoom}
+use Rattle.reg_http.specs.declared.answering.Stop.TheVariants.{Waiting, AtClose, AtFault, NotWritten, OutOfMemory}
 use Rattle.reg_http.specs.declared.answering.Next.{Next}
 use Rattle.reg_http.specs.declared.answering.Next.TheVariants.{Answered as AnsweredNext, Stopped}
 use Rattle.reg_http.specs.declared.writing.Sent.{Sent}
-use Rattle.reg_http.specs.declared.writing.Sent.TheVariants.{Whole, CutShort, NoRoom as Unsent}
+use Rattle.reg_http.specs.declared.writing.Sent.TheVariants.{Whole, CutShort, OutOfMemory as Unsent}
 use Rattle.reg_messages.specs.Messages.{Follows, Part, Faulty}
 use Rattle.reg_messages.specs.Closing.{closes}
 use Rattle.reg_messages.specs.Answers.{fault_answer}
@@ -29,7 +29,7 @@ StopsAs xs rest held out (Waiting needs) = StayOpen xs × (rest ≡ held) × Wai
 StopsAs xs rest held out AtClose = LastCloses xs × (out ≡ answers xs)
 StopsAs xs rest held out AtFault = (code : Code) × StayOpen xs × Follows rest (Faulty code) × (out ≡ answers xs ++ fault_answer code)
 StopsAs xs rest held out NotWritten = IsCutShort xs rest out
-StopsAs xs rest held out NoRoom = (StayOpen xs × (out ≡ answers xs)) ⊎ IsCutShort xs rest out
+StopsAs xs rest held out OutOfMemory = (StayOpen xs × (out ≡ answers xs)) ⊎ IsCutShort xs rest out
 
 -- Messages at the front of the bytes were carried out, up to a stop.
 pub record AnswersAs (old new : Option (List ℕ)) (g : Registry) (k : Kept) (g' : Registry) (k' : Kept) (bytes held : List ℕ) (stop : Stop) : Type 0 where
@@ -64,13 +64,13 @@ abbrev pub next_after : Sent → Bool → ℕ → Next
 next_after Whole true size = Stopped AtClose
 next_after Whole false size = AnsweredNext size
 next_after CutShort close size = Stopped NotWritten
-next_after Unsent close size = Stopped NoRoom
+next_after Unsent close size = Stopped OutOfMemory
 
 -- what was written for a fault, at each stop
 abbrev pub FaultAs : Option (List ℕ) → Option (List ℕ) → Code → Stop → Type 0
 FaultAs old new code AtFault = Appends old new (fault_answer code)
 FaultAs old new code NotWritten = (part : List ℕ) × IsFront part (fault_answer code) × Appends old new part
-FaultAs old new code NoRoom = (part : List ℕ) × IsFront part (fault_answer code) × Appends old new part
+FaultAs old new code OutOfMemory = (part : List ℕ) × IsFront part (fault_answer code) × Appends old new part
 FaultAs old new code AtClose = ⊥
 FaultAs old new code (Waiting needs) = ⊥
 

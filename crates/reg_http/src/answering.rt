@@ -32,8 +32,8 @@ pub enum Stop {
     AtFault,
     /// An answer wasn't written whole.
     NotWritten,
-    /// Room for an answer, or for the fields of a head, was refused.
-    NoRoom,
+    /// Memory for an answer was refused, or there were more fields than slots for them.
+    OutOfMemory,
 }
 
 /// One step: a whole message of so many bytes was answered and the connection goes on, or the answers
@@ -71,7 +71,7 @@ fn next_after(sent: Sent, close: bool, size: usize) -> Next
         Sent::Whole if close => Next::Stopped(Stop::AtClose),
         Sent::Whole => Next::Answered(size),
         Sent::CutShort => Next::Stopped(Stop::NotWritten),
-        Sent::NoRoom => Next::Stopped(Stop::NoRoom),
+        Sent::OutOfMemory => Next::Stopped(Stop::OutOfMemory),
     }
 }
 
@@ -106,7 +106,7 @@ fn answer_fault<W: Write>(alloc: Global, code: Code, writer: &mut W) -> Stop
     match send(alloc, writer, &reply, None, true) {
         Sent::Whole => Stop::AtFault,
         Sent::CutShort => Stop::NotWritten,
-        Sent::NoRoom => Stop::NoRoom,
+        Sent::OutOfMemory => Stop::OutOfMemory,
     }
 }
 
@@ -131,7 +131,7 @@ fn answer_front<W: Write, S: Alter>(
         Look::Nothing => Next::Stopped(Stop::Waiting(1)),
         Look::Part(needs) => Next::Stopped(Stop::Waiting(needs)),
         Look::Faulty(code) => Next::Stopped(answer_fault(alloc, code, writer)),
-        Look::NoRoom => Next::Stopped(Stop::NoRoom),
+        Look::TooManyFields => Next::Stopped(Stop::OutOfMemory),
     }
 }
 

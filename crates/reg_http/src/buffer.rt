@@ -33,7 +33,7 @@ impl Model for Buffer {
     ghost invariant = { λ b. (b.first ≤ b.last) × (b.last ≤ 1064960) × (vec_len b.bytes ≡ 1064960) };
 }
 
-/// Reads once, into the bytes from a place on.
+/// Reads once, into the bytes from a position on.
 fn read_into<R: Read>(bytes: &mut Vec<u8>, at: usize, reader: &mut R) -> io::Result<usize>
     requires { at ≤ vec_len bytes.old }
     ensures len { vec_len bytes.new ≡ vec_len bytes.old }
@@ -47,7 +47,7 @@ fn read_into<R: Read>(bytes: &mut Vec<u8>, at: usize, reader: &mut R) -> io::Res
     reader.read(room)
 }
 
-/// Moves the bytes between two places to the front.
+/// Moves the bytes between two positions to the front.
 fn to_front(bytes: &mut Vec<u8>, first: usize, last: usize)
     requires order { first ≤ last }
     requires within { last ≤ vec_len bytes.old }
@@ -57,7 +57,7 @@ fn to_front(bytes: &mut Vec<u8>, first: usize, last: usize)
     bytes.copy_within(first..last, 0);
 }
 
-/// Where the part between two places stands once there is room behind it. It is moved only where there
+/// Where the part between two positions stands once there is room behind it. It is moved only where there
 /// was none.
 fn make_room(bytes: &mut Vec<u8>, first: usize, last: usize) -> (usize, usize)
     requires order { first ≤ last }
@@ -80,7 +80,7 @@ impl Buffer {
     ///
     /// # Errors
     ///
-    /// `OutOfMemory` where that room is refused.
+    /// `OutOfMemory` where memory for that room is refused.
     pub fn new(alloc: Global) -> Result<Buffer, OutOfMemory>
         ensures { IfOk result (λ buffer. buffer ≡ []) }
     {

@@ -10,4 +10,4 @@ mod writing;
 pub use reg_messages::bytes_of;
 pub use reg_routes::{Routes, command_of};
 pub use serving::{Ended, serve};
-pub use writing::put;
+pub use writing::write_whole;

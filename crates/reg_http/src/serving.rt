@@ -29,7 +29,7 @@ pub enum Ended {
     WriteFailed,
     /// What came was no message, or the input ended inside one.
     Malformed,
-    /// Room for the table of paths, the buffer or an answer was refused.
+    /// Memory for the table of paths, the buffer or an answer was refused.
     Memory,
 }
 
@@ -118,7 +118,7 @@ fn serve_with<R: Read, W: Write, S: Alter>(
             Stop::AtClose => return Ended::Closed,
             Stop::AtFault => return Ended::Malformed,
             Stop::NotWritten => return Ended::WriteFailed,
-            Stop::NoRoom => return Ended::Memory,
+            Stop::OutOfMemory => return Ended::Memory,
         }
     }
     Ended::ReadFailed

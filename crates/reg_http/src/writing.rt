@@ -17,13 +17,13 @@ pub enum Sent {
     Whole,
     /// A beginning of it was written.
     CutShort,
-    /// Room for it was refused.
-    NoRoom,
+    /// Memory for it was refused.
+    OutOfMemory,
 }
 
 /// Writes the bytes, and tries again where a write was interrupted. Where it answers false, a beginning
 /// of them went out.
-pub fn put<W: Write>(writer: &mut W, bytes: &[u8]) -> bool
+pub fn write_whole<W: Write>(writer: &mut W, bytes: &[u8]) -> bool
     ensures front { (n : ℕ) × (n ≤ length bytes.now)
         × Appends (W.contents writer.old) (W.contents writer.new) (take n bytes.now) }
     ensures whole { IsTrue result → Appends (W.contents writer.old) (W.contents writer.new) bytes.now }
@@ -58,9 +58,9 @@ pub fn send<W: Write>(
         (answer_bytes reply.now (option_map (λ text. text.now) allow.entry) close) }
 {
     let Ok(text) = bytes_of(alloc, reply, allow, close) else {
-        return Sent::NoRoom;
+        return Sent::OutOfMemory;
     };
-    if put(writer, text.as_bytes()) {
+    if write_whole(writer, text.as_bytes()) {
         Sent::Whole
     } else {
         Sent::CutShort

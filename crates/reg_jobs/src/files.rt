@@ -6,7 +6,7 @@ ghost use Rattle.reg_jobs.specs.Files.{Holds, FailsAs, PrintsAs, ChecksAs, Tells
 
 use avro_resolve::resolves;
 use avro_schema::{Schema, SchemaError};
-use reg_http::put;
+use reg_http::write_whole;
 use std::alloc::Global;
 use std::io::Write;
 use std::str;
@@ -69,7 +69,7 @@ pub fn print_text<W: Write>(alloc: Global, file: Option<&[u8]>, writer: &mut W) 
     if text.push('\n').is_err() {
         return Printed::Nothing(FileFault::OutOfMemory);
     }
-    if put(writer, text.as_bytes()) {
+    if write_whole(writer, text.as_bytes()) {
         Printed::Whole
     } else {
         Printed::NotWritten
@@ -106,7 +106,7 @@ fn verdict_line(yes: bool) -> &'static str
 fn print_verdict<W: Write>(yes: bool, writer: &mut W) -> Checked
     ensures { TellsVerdict yes (W.contents writer.old) (W.contents writer.new) result }
 {
-    if put(writer, verdict_line(yes).as_bytes()) {
+    if write_whole(writer, verdict_line(yes).as_bytes()) {
         Checked::Verdict(yes)
     } else {
         Checked::NotWritten

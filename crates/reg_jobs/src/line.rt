@@ -8,7 +8,7 @@ ghost use Rattle.reg_jobs.specs.Outcomes.{TellsFault, fault_of, status_of, numbe
 use crate::name::put_name;
 use crate::outcome::{Fault, Outcome, fault_of, status_of};
 use itoa::Buffer;
-use reg_http::put;
+use reg_http::write_whole;
 use std::io::Write;
 
 /// A line: a text, the name of a file that it may name, and what follows, in three parts at most.
@@ -81,7 +81,7 @@ fn put_parts<E: Write>(errors: &mut E, parts: &[&str])
     ensures { Begins (E.contents errors.old) (E.contents errors.new) (text_of_parts parts.now) }
 {
     for part in parts {
-        if !put(errors, part.as_bytes()) {
+        if !write_whole(errors, part.as_bytes()) {
             return;
         }
     }
@@ -91,7 +91,7 @@ fn put_parts<E: Write>(errors: &mut E, parts: &[&str])
 fn put_line<E: Write>(errors: &mut E, line: Line)
     ensures { Begins (E.contents errors.old) (E.contents errors.new) (text_of_line line.entry) }
 {
-    if !put(errors, line.front.as_bytes()) {
+    if !write_whole(errors, line.front.as_bytes()) {
         return;
     }
     if !put_name(errors, line.name) {

@@ -5,7 +5,7 @@ ghost use Rattle.std.specs.Io.KnownBytes.{Appends};
 ghost use Rattle.reg_http.specs.Output.{Begins};
 ghost use Rattle.reg_jobs.specs.Names.{hex_digit, shown, shown_byte, HasNoControl};
 
-use reg_http::put;
+use reg_http::write_whole;
 use std::io::Write;
 
 /// The hexadecimal digit of a number below 16.
@@ -24,15 +24,15 @@ fn put_byte<E: Write>(errors: &mut E, byte: u8) -> bool
         → Appends (E.contents errors.old) (E.contents errors.new) (shown_byte byte) }
 {
     if !byte.is_ascii_control() {
-        return put(errors, &[byte]);
+        return write_whole(errors, &[byte]);
     }
     match byte {
-        b'\t' => put(errors, b"\\t"),
-        b'\n' => put(errors, b"\\n"),
-        b'\r' => put(errors, b"\\r"),
+        b'\t' => write_whole(errors, b"\\t"),
+        b'\n' => write_whole(errors, b"\\n"),
+        b'\r' => write_whole(errors, b"\\r"),
         _ => {
             let (high, low) = (hex_digit(byte / 16), hex_digit(byte % 16));
-            put(errors, &[b'\\', b'u', b'{', high, low, b'}'])
+            write_whole(errors, &[b'\\', b'u', b'{', high, low, b'}'])
         }
     }
 }

@@ -8,7 +8,7 @@ use Rattle.reg_messages.specs.Framing.{framing}
 use Rattle.reg_messages.specs.Messages.{Message, HasHead, HasNoHeadEver, IsMessage, Leads, Follows, Agree, Messages, fields_of, Tail, End, Part, Faulty}
 use Rattle.reg_messages.proofs.Fronts.{head_some}
 
--- equal lists that are split at one place
+-- equal lists that are split at one position
 same_split : (a b c d : List ℕ) → a ++ b ≡ c ++ d → length a ≡ length c → (a ≡ c) × (b ≡ d)
 same_split [] b [] d e n = (refl, e)
 same_split [] b (y ∷ c) d e n = absurd (omega arith)

@@ -4,7 +4,7 @@ use Rattle.httparse.specs.declared.spans.HeaderSpan.{HeaderSpan}
 use Rattle.httparse.specs.Spans.{IsRequestWithin, span_bytes, header_bytes}
 use Rattle.reg_messages.specs.declared.message.Whole.{Whole}
 use Rattle.reg_messages.specs.declared.message.Look.{Look}
-use Rattle.reg_messages.specs.declared.message.Look.TheVariants.{Whole as WholeLook, Nothing, Part as PartLook, Faulty as FaultyLook, NoRoom}
+use Rattle.reg_messages.specs.declared.message.Look.TheVariants.{Whole as WholeLook, Nothing, Part as PartLook, Faulty as FaultyLook, TooManyFields}
 use Rattle.reg_messages.specs.Framing.{max_body}
 use Rattle.reg_messages.specs.Messages.{Message, max_head, IsMessage, Follows, End, Part, Faulty, fields_of}
 
@@ -12,7 +12,7 @@ use Rattle.reg_messages.specs.Messages.{Message, max_head, IsMessage, Follows, E
 abbrev pub head_bytes : List ℕ → Whole → List ℕ
 head_bytes bytes whole = take whole.head.len bytes
 
--- the message is at the front, and these are the places of its parts
+-- the message is at the front, and these are the positions of its parts
 pub record IsWhole (bytes : List ℕ) (headers : List HeaderSpan) (whole : Whole) (message : Message) : Type 0 where
   pub reads : IsMessage bytes message (drop (whole.head.len + whole.body) bytes)
   pub size : whole.head.len + whole.body ≤ length bytes
@@ -31,10 +31,10 @@ pub record IsPartUpTo (bytes : List ℕ) (needs : ℕ) : Type 0 where
   pub fits : needs ≤ max_head + max_body
   pub part : (more : List ℕ) → length (bytes ++ more) < needs → Follows (bytes ++ more) Part
 
--- what a look found that had places for so many fields; as many as a head may have bytes suffice
+-- what a look found that had room for so many fields; as many as a head may have bytes suffice
 abbrev pub LooksAs : ℕ → List ℕ → List HeaderSpan → Look → Type 0
 LooksAs room bytes headers (WholeLook whole) = (message : Message) × IsWhole bytes headers whole message
 LooksAs room bytes headers Nothing = Follows bytes End
 LooksAs room bytes headers (PartLook needs) = IsPartUpTo bytes needs
 LooksAs room bytes headers (FaultyLook code) = Follows bytes (Faulty code)
-LooksAs room bytes headers NoRoom = room < max_head
+LooksAs room bytes headers TooManyFields = room < max_head

@@ -61,7 +61,7 @@ fn close_line(close: bool) -> &'static str
 ///
 /// # Errors
 ///
-/// `OutOfMemory` where room for the bytes is refused.
+/// `OutOfMemory` where memory for the bytes is refused.
 pub fn bytes_of(
     alloc: Global,
     reply: &Reply,

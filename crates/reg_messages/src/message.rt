@@ -32,10 +32,10 @@ pub enum Look {
     /// What is no message, with the code of its fault.
     Faulty(Code),
     /// More fields than there is room for.
-    NoRoom,
+    TooManyFields,
 }
 
-/// Looks at the front of the bytes, with room for the fields of a head. 16,384 places are enough.
+/// Looks at the front of the bytes, with room for the fields of a head. 16,384 fields are enough.
 pub fn look_at(bytes: &[u8], headers: &mut [HeaderSpan]) -> Look
     ensures { LooksAs (length headers.old) bytes.now headers.new result }
 {
@@ -62,7 +62,7 @@ pub fn look_at(bytes: &[u8], headers: &mut [HeaderSpan]) -> Look
             }
         }
         Err(error) => match error {
-            Error::TooManyHeaders => Look::NoRoom,
+            Error::TooManyHeaders => Look::TooManyFields,
             _ => Look::Faulty(Code::MalformedRequest),
         },
     }

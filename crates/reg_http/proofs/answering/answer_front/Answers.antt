@@ -1,5 +1,5 @@
 use Rattle.std.proofs.Common.{inl, refl}
-use Rattle.reg_http.specs.declared.answering.Stop.TheVariants.{Waiting, NoRoom}
+use Rattle.reg_http.specs.declared.answering.Stop.TheVariants.{Waiting, OutOfMemory}
 use Rattle.reg_http.proofs.SessionLemmas.{AnswersAs-nil, AnswersAs-fault}
 use Rattle.reg_http.proofs.EndLemmas.{Waits-nothing, Waits-part}
 use Rattle.reg_http.proofs.answering.answer_front.Goals as goal
@@ -22,6 +22,6 @@ pub returns-in-Faulty-clause-next : goal.returns-in-Faulty-clause-next
 returns-in-Faulty-clause-next g c clean registry k over =
     record { registry = registry; kept = k; spells = over; holds = AnswersAs-fault _ _ _ _ c.args.bytes.now c.in-Faulty.code c.answer_fault.result c.in-Faulty.ensures c.answer_fault.ensures }
 
-pub returns-in-NoRoom-clause-next : goal.returns-in-NoRoom-clause-next
-returns-in-NoRoom-clause-next g c clean registry k over =
-    record { registry = registry; kept = k; spells = over; holds = AnswersAs-nil _ _ _ c.args.bytes.now NoRoom (inl (tt, refl)) }
+pub returns-in-TooManyFields-clause-next : goal.returns-in-TooManyFields-clause-next
+returns-in-TooManyFields-clause-next g c clean registry k over =
+    record { registry = registry; kept = k; spells = over; holds = AnswersAs-nil _ _ _ c.args.bytes.now OutOfMemory (inl (tt, refl)) }

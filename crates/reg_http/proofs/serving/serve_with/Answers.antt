@@ -1,7 +1,7 @@
 use Rattle.std.proofs.Common.{◌++◌, ℕ, List, [], inl, subst, append-nil}
 use Rattle.std.specs.Io.KnownBytes.{Consumes}
 use Rattle.std.proofs.KnownBytes.{Consumes-nil, Consumes-trans}
-use Rattle.reg_http.specs.declared.answering.Stop.TheVariants.{Waiting, AtClose, AtFault, NotWritten, NoRoom}
+use Rattle.reg_http.specs.declared.answering.Stop.TheVariants.{Waiting, AtClose, AtFault, NotWritten, OutOfMemory}
 use Rattle.reg_http.specs.declared.serving.Ended.TheVariants.{Closed, WriteFailed, Malformed, Memory}
 use Rattle.reg_http.proofs.SessionLemmas.{Served-none}
 use Rattle.reg_http.proofs.EndLemmas.{AnswersAs-read, Session-ended, Session-failed, Session-stopped, Served-waiting, Waits-nothing}
@@ -106,18 +106,18 @@ returns-in-NotWritten-clause-session g c clean registry k over =
       holds = Session-stopped _ _ _ _ _ _ _ _ _ _ NotWritten WriteFailed (Consumes-trans _ _ _ _ _ inv.reads read) all all.stops;
     }
 
-pub returns-in-NoRoom-clause-session : goal.returns-in-NoRoom-clause-session
-returns-in-NoRoom-clause-session g c clean registry k over =
+pub returns-in-OutOfMemory-clause-session : goal.returns-in-OutOfMemory-clause-session
+returns-in-OutOfMemory-clause-session g c clean registry k over =
     let inv = c.loop.invariant in
     let (more, is, read) = c.in-Bytes.ensures in
     let before = inv.served (c.answer_more.ensures.clean clean) registry k over in
-    let now = c.in-NoRoom.ensures.answers clean before.registry before.kept before.spells in
-    let all = AnswersAs-read _ _ _ _ _ _ _ _ _ inv.input _ _ more _ NoRoom before.holds is now.holds in
+    let now = c.in-OutOfMemory.ensures.answers clean before.registry before.kept before.spells in
+    let all = AnswersAs-read _ _ _ _ _ _ _ _ _ inv.input _ _ more _ OutOfMemory before.holds is now.holds in
     record {
       registry = now.registry;
       kept = now.kept;
       spells = now.spells;
-      holds = Session-stopped _ _ _ _ _ _ _ _ _ _ NoRoom Memory (Consumes-trans _ _ _ _ _ inv.reads read) all all.stops;
+      holds = Session-stopped _ _ _ _ _ _ _ _ _ _ OutOfMemory Memory (Consumes-trans _ _ _ _ _ inv.reads read) all all.stops;
     }
 
 pub returns-clause-session : goal.returns-clause-session

@@ -7,7 +7,7 @@ use Rattle.reg_jobs.proofs.files.print_text.Goals as goal
 
 pub returns : goal.returns
 returns g c =
-    let front = c.put.ensures.front in
+    let front = c.write_whole.ensures.front in
     let bytes = c.as_bytes.result.now in
     let on = c.is_err.ensures.negation ∙ ap not c.if-is_err.false in
     let text = string_bytes c.in-Ok-text.text in

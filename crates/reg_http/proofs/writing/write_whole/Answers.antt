@@ -3,8 +3,8 @@ use Rattle.std.specs.Io.KnownBytes.{Appends}
 use Rattle.std.proofs.KnownBytes.{Appends-trans, Appends-kept}
 use Rattle.std.proofs.lemmas.List.{take_rest}
 use Rattle.reg_http.proofs.ByteLemmas.{take-joined}
-use Rattle.reg_http.proofs.writing.put.Goals as goal
-use Rattle.reg_http.proofs.writing.put.Goals.{in-Ok, in-Err}
+use Rattle.reg_http.proofs.writing.write_whole.Goals as goal
+use Rattle.reg_http.proofs.writing.write_whole.Goals.{in-Ok, in-Err}
 
 pub loop-preserved : goal.loop-preserved
 loop-preserved g c =
