@@ -31,7 +31,7 @@ use std::io::Write;
 /// # Errors
 ///
 /// `Store` where the registry couldn't be read: so many whole lines were written, from the first on.
-/// `OutOfMemory` where room for a line is refused, and `Write` where a write fails: a beginning of the
+/// `OutOfMemory` where memory for a line is refused, and `Write` where a write fails: a beginning of the
 /// text was written. Whatever is answered, the registry stays as it was.
 pub fn list_subjects<W: Write, S: Alter>(
     alloc: Global,
@@ -63,7 +63,7 @@ pub fn list_subjects<W: Write, S: Alter>(
 /// # Errors
 ///
 /// `Store` where the registry couldn't be read: so many whole lines were written, from the first on.
-/// `OutOfMemory` where room for a line is refused, and `Write` where a write fails: a beginning of the
+/// `OutOfMemory` where memory for a line is refused, and `Write` where a write fails: a beginning of the
 /// text was written. Whatever is answered, the registry stays as it was.
 pub fn list_versions<W: Write, S: Alter>(
     alloc: Global,
@@ -95,7 +95,7 @@ pub fn list_versions<W: Write, S: Alter>(
 /// # Errors
 ///
 /// `Store` where the registry couldn't be read: so many whole lines were written, from the first on.
-/// `OutOfMemory` where room for a line is refused, and `Write` where a write fails: a beginning of the
+/// `OutOfMemory` where memory for a line is refused, and `Write` where a write fails: a beginning of the
 /// text was written. Whatever is answered, the registry stays as it was.
 pub fn list_schemas<W: Write, S: Alter>(
     alloc: Global,
@@ -127,7 +127,7 @@ pub fn list_schemas<W: Write, S: Alter>(
 /// # Errors
 ///
 /// `Store` where the registry couldn't be read: so many whole lines were written, from the first on.
-/// `OutOfMemory` where room for a line is refused, and `Write` where a write fails: a beginning of the
+/// `OutOfMemory` where memory for a line is refused, and `Write` where a write fails: a beginning of the
 /// text was written. Whatever is answered, the registry stays as it was.
 pub fn list<W: Write, S: Alter>(
     alloc: Global,

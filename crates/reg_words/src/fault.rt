@@ -15,7 +15,7 @@ pub enum LineFault {
     /// The words are a usage fault, or ask for help. The text is whole lines, each with its end.
     #[error("{0}")]
     Usage(String),
-    /// Room was refused. The text has no line's end.
+    /// Memory was refused. The text has no line's end.
     #[error("out of memory")]
     OutOfMemory,
 }

@@ -133,7 +133,7 @@ fn task_named(alloc: Global, name: &str, matches: &ArgMatches<'_>) -> Result<Tas
 /// # Errors
 ///
 /// `Usage` where the words ask for nothing that the program does, or for help: `clap` finds a fault
-/// in them, or the word behind `list` names no listing. `OutOfMemory` where room was refused.
+/// in them, or the word behind `list` names no listing. `OutOfMemory` where memory was refused.
 pub fn task_of(alloc: Global, words: &[String]) -> Result<Task, LineFault>
     ensures { MatchResult result
         (λ task. line (map string_bytes words.now) ≡ Some (asked_of task))
