@@ -6,7 +6,7 @@ use Rattle.std.specs.Char.{is_ascii_control}
 use Rattle.std.proofs.lemmas.Bool.{cases_lt}
 use Rattle.std.proofs.lemmas.List.Folds.{list_any_at, list_any-append}
 use Rattle.std.proofs.lemmas.List.FromFn.{get_or-range_with_len}
-use Rattle.reg_jobs.specs.Names.{HasNoControl, escape_of, shown, shown_byte}
+use Rattle.reg_jobs.specs.Names.{HasNoControl, escape_of, shown_name, shown_byte}
 
 -- whether a byte is shown with a control character
 shows_control : ℕ → Bool
@@ -40,13 +40,13 @@ shown_byte-HasNoControl byte =
     ]
 
 -- a shown name
-pub shown-HasNoControl : (name : List ℕ) → HasNoControl (shown name)
-shown-HasNoControl [] = refl
-shown-HasNoControl (byte ∷ name) =
-    list_any-append is_ascii_control (shown_byte byte) (shown name) ∙ (λ i. shown_byte-HasNoControl byte i || shown-HasNoControl name i)
+pub shown_name-HasNoControl : (name : List ℕ) → HasNoControl (shown_name name)
+shown_name-HasNoControl [] = refl
+shown_name-HasNoControl (byte ∷ name) =
+    list_any-append is_ascii_control (shown_byte byte) (shown_name name) ∙ (λ i. shown_byte-HasNoControl byte i || shown_name-HasNoControl name i)
 
 -- a name without control characters is shown as it is
-pub shown_same : (name : List ℕ) → HasNoControl name → shown name ≡ name
+pub shown_same : (name : List ℕ) → HasNoControl name → shown_name name ≡ name
 shown_same [] none = refl
 shown_same (byte ∷ name) none =
     let first : is_ascii_control byte ≡ false = grind arith in

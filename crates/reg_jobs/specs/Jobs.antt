@@ -1,5 +1,5 @@
 -- What a job does.
-use Rattle.std.specs.Prelude.{◌≡◌, ◌≢◌, ℕ, Bool, true, false, IsTrue, List, [], slice_get, is_some, Option, None, Some, Vec, string_bytes}
+use Rattle.std.specs.Prelude.{◌≡◌, ◌≢◌, ℕ, Bool, true, false, IsTrue, List, [], slice_get, is_some, Option, None, Some, Result, Vec, string_bytes}
 use Rattle.std.specs.Global.{Global}
 use Rattle.sqlite.specs.Held.{Held, state}
 use Rattle.sqlite.specs.State.{State}
@@ -16,37 +16,39 @@ use Rattle.reg_http.specs.OverTables.{Reaches}
 use Rattle.reg_http.specs.declared.serving.Ended.{Ended}
 use Rattle.reg_jobs.specs.declared.files.Printed.{Printed}
 use Rattle.reg_jobs.specs.declared.files.Checked.{Checked}
-use Rattle.reg_jobs.specs.declared.files.Checked.TheVariants.{Verdict, Reader, Writer, OutOfMemory as CheckOutOfMemory, NotWritten as VerdictNotWritten}
 use Rattle.reg_words.specs.declared.task.Job.{Job}
 use Rattle.reg_words.specs.declared.task.Job.TheVariants.{Run, Text as TextJob, Check as CheckJob, List as ListJob}
 use Rattle.reg_words.specs.declared.task.Listing.{Listing}
 use Rattle.reg_jobs.specs.declared.job.Opened.{Opened}
 use Rattle.reg_jobs.specs.declared.job.Opened.TheVariants.{Nothing, Texts, Failed, Empty, Fresh, Database}
+use Rattle.reg_jobs.specs.declared.outcome.Fault.{Fault}
 use Rattle.reg_jobs.specs.declared.outcome.Outcome.{Outcome}
 use Rattle.reg_jobs.specs.declared.outcome.Outcome.TheVariants.{Session as SessionEnded, Unopened, NotListening, Text as TextEnded, Check as CheckEnded, List as ListEnded}
 use Rattle.reg_jobs.specs.Databases.{GivesBack, IsMadeIn, LacksMade, LacksFound}
 use Rattle.reg_jobs.specs.Files.{PrintsAs, ChecksAs}
 use Rattle.reg_jobs.specs.Listings.{IfUnread, ListsAs, table_of}
 use Rattle.reg_jobs.specs.declared.listings.Listed.{Listed}
-use Rattle.reg_jobs.specs.Outcomes.{fault_of, status_of, TellsFault}
+use Rattle.reg_jobs.specs.Outcomes.{answer_of, status_of, TellsFault}
 use Rattle.reg_http.specs.Sessions.{Session}
 
--- the file that a job's line on standard error may name
-abbrev pub file_of : Job → Outcome → List ℕ
-file_of (Run None) outcome = []
-file_of (Run (Some file)) outcome = string_bytes file
-file_of (TextJob file) outcome = string_bytes file
-file_of (CheckJob reader writer) (SessionEnded ended) = string_bytes reader
-file_of (CheckJob reader writer) (Unopened error) = string_bytes reader
-file_of (CheckJob reader writer) (NotListening port) = string_bytes reader
-file_of (CheckJob reader writer) (TextEnded printed) = string_bytes reader
-file_of (CheckJob reader writer) (CheckEnded (Verdict good)) = string_bytes reader
-file_of (CheckJob reader writer) (CheckEnded (Reader fault)) = string_bytes reader
-file_of (CheckJob reader writer) (CheckEnded (Writer fault)) = string_bytes writer
-file_of (CheckJob reader writer) (CheckEnded CheckOutOfMemory) = string_bytes reader
-file_of (CheckJob reader writer) (CheckEnded VerdictNotWritten) = string_bytes reader
-file_of (CheckJob reader writer) (ListEnded listed) = string_bytes reader
-file_of (ListJob database kind) outcome = string_bytes database
+-- the file that a job names, the reader's of two, or an empty name
+abbrev pub file_of : Job → List ℕ
+file_of (Run None) = []
+file_of (Run (Some file)) = string_bytes file
+file_of (TextJob file) = string_bytes file
+file_of (CheckJob reader writer) = string_bytes reader
+file_of (ListJob database kind) = string_bytes database
+
+-- the writer's file of a job that names two, or the one that it names
+abbrev pub writer_of : Job → List ℕ
+writer_of (Run database) = file_of (Run database)
+writer_of (TextJob file) = string_bytes file
+writer_of (CheckJob reader writer) = string_bytes writer
+writer_of (ListJob database kind) = string_bytes database
+
+-- what a job answers: the program's status, or a fault and the file that it is on
+abbrev pub job_answer : Job → Outcome → Result ℕ (Fault × List ℕ)
+job_answer job outcome = answer_of outcome (file_of job) (writer_of job)
 
 -- a file's bytes, if it could be read
 abbrev pub bytes_of : Option (Option (Vec ℕ Global)) → Option (List ℕ)
@@ -181,5 +183,5 @@ pub record DoesAs {S : Type 0} (g : Ghosts S) (job : Job) (opened : Opened S) (b
     (reader reader' writer writer' errors errors' : Option (List ℕ)) (status : ℕ) : Type 0 where
   pub outcome : Outcome
   pub comes_out : ComesOut g job opened back reader reader' writer writer' outcome
-  pub tells : TellsFault (fault_of outcome) (file_of job outcome) errors errors'
-  pub status_is : status ≡ status_of outcome
+  pub tells : TellsFault (job_answer job outcome) errors errors'
+  pub status_is : status ≡ status_of (job_answer job outcome)

@@ -24,5 +24,5 @@ abbrev pub shown_byte : ℕ → List ℕ
 shown_byte byte = if is_ascii_control byte then escape_of byte else byte ∷ []
 
 -- this project's choice: a name is shown with each control character as its escape, so that a line stays one line
-abbrev pub shown : List ℕ → List ℕ
-shown name = flat_map shown_byte name
+abbrev pub shown_name : List ℕ → List ℕ
+shown_name name = flat_map shown_byte name

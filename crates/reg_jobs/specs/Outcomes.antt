@@ -1,5 +1,5 @@
--- The faults of jobs, their lines and the program's status.
-use Rattle.std.specs.Prelude.{ℕ, true, false, List, [], ◌++◌, codes, Option, None, Some}
+-- What jobs answer, by how they come out: the program's status, or a fault, its file and its line.
+use Rattle.std.specs.Prelude.{ℕ, true, false, List, [], ◌++◌, codes, Option, Result, Ok, Err}
 use Rattle.std.specs.Fmt.{decimal}
 use Rattle.std.specs.List.{flat_map}
 use Rattle.std.specs.Io.KnownBytes.{Appends}
@@ -14,11 +14,12 @@ use Rattle.reg_jobs.specs.declared.files.Checked.TheVariants.{Verdict, Reader, W
 use Rattle.reg_jobs.specs.declared.outcome.Outcome.{Outcome}
 use Rattle.reg_jobs.specs.declared.outcome.Outcome.TheVariants.{Session as SessionEnded, Unopened, NotListening, Text as TextEnded, Check as CheckEnded, List as ListEnded}
 use Rattle.reg_jobs.specs.declared.listings.Listed.TheVariants.{Whole as ListedWhole, Unread, NotWritten as ListNotWritten, OutOfMemory as ListOutOfMemory}
+use Rattle.reg_jobs.specs.declared.outcome.Trouble.{Trouble}
 use Rattle.reg_jobs.specs.declared.outcome.Fault.{Fault}
 use Rattle.reg_jobs.specs.declared.outcome.Fault.TheVariants.{ReadFailed as FaultReadFailed, WriteFailed as FaultWriteFailed, MalformedInput as FaultMalformedInput, OutOfMemory as FaultOutOfMemory, CannotRead as FaultCannotRead, NotSchema as FaultNotSchema, CannotOpen as FaultCannotOpen, NotRegistry as FaultNotRegistry, OldLayout as FaultOldLayout, NewerLayout as FaultNewerLayout, CannotListen}
 use Rattle.reg_jobs.specs.declared.line.Line.{Line}
 use Rattle.reg_http.specs.Output.{Begins}
-use Rattle.reg_jobs.specs.Names.{shown}
+use Rattle.reg_jobs.specs.Names.{shown_name}
 
 abbrev pub fault_of_file : FileFault → Fault
 fault_of_file CannotRead = FaultCannotRead
@@ -33,27 +34,38 @@ fault_of_database NotARegistry = FaultNotRegistry
 fault_of_database (OldLayout layout) = FaultOldLayout layout
 fault_of_database (NewerLayout layout) = FaultNewerLayout layout
 
--- the fault of an outcome, if it is one
-abbrev pub fault_of : Outcome → Option Fault
-fault_of (SessionEnded Closed) = None
-fault_of (SessionEnded ReadFailed) = Some FaultReadFailed
-fault_of (SessionEnded WriteFailed) = Some FaultWriteFailed
-fault_of (SessionEnded Malformed) = Some FaultMalformedInput
-fault_of (SessionEnded Memory) = Some FaultOutOfMemory
-fault_of (Unopened error) = Some (fault_of_database error)
-fault_of (NotListening port) = Some (CannotListen port)
-fault_of (TextEnded Whole) = None
-fault_of (TextEnded (NothingPrinted fault)) = Some (fault_of_file fault)
-fault_of (TextEnded NotWritten) = Some FaultWriteFailed
-fault_of (CheckEnded (Verdict good)) = None
-fault_of (CheckEnded (Reader fault)) = Some (fault_of_file fault)
-fault_of (CheckEnded (Writer fault)) = Some (fault_of_file fault)
-fault_of (CheckEnded CheckOutOfMemory) = Some FaultOutOfMemory
-fault_of (CheckEnded VerdictNotWritten) = Some FaultWriteFailed
-fault_of (ListEnded ListedWhole) = None
-fault_of (ListEnded (Unread error)) = Some (fault_of_database error)
-fault_of (ListEnded ListNotWritten) = Some FaultWriteFailed
-fault_of (ListEnded ListOutOfMemory) = Some FaultOutOfMemory
+-- a trouble's fault and the name of its file
+abbrev pub named : Result ℕ Trouble → Result ℕ (Fault × List ℕ)
+named (Ok status) = Ok status
+named (Err trouble) = Err (trouble.fault, trouble.file.now)
+
+-- what a job answers, by how it came out: the program's status, 1 for a verdict of incompatible, or the fault and the file that it is on
+abbrev pub answer_of : Outcome → List ℕ → List ℕ → Result ℕ (Fault × List ℕ)
+answer_of (SessionEnded Closed) file writer = Ok 0
+answer_of (SessionEnded ReadFailed) file writer = Err (FaultReadFailed, file)
+answer_of (SessionEnded WriteFailed) file writer = Err (FaultWriteFailed, file)
+answer_of (SessionEnded Malformed) file writer = Err (FaultMalformedInput, file)
+answer_of (SessionEnded Memory) file writer = Err (FaultOutOfMemory, file)
+answer_of (Unopened error) file writer = Err (fault_of_database error, file)
+answer_of (NotListening port) file writer = Err (CannotListen port, file)
+answer_of (TextEnded Whole) file writer = Ok 0
+answer_of (TextEnded (NothingPrinted fault)) file writer = Err (fault_of_file fault, file)
+answer_of (TextEnded NotWritten) file writer = Err (FaultWriteFailed, file)
+answer_of (CheckEnded (Verdict true)) file writer = Ok 0
+answer_of (CheckEnded (Verdict false)) file writer = Ok 1
+answer_of (CheckEnded (Reader fault)) file writer = Err (fault_of_file fault, file)
+answer_of (CheckEnded (Writer fault)) file writer = Err (fault_of_file fault, writer)
+answer_of (CheckEnded CheckOutOfMemory) file writer = Err (FaultOutOfMemory, file)
+answer_of (CheckEnded VerdictNotWritten) file writer = Err (FaultWriteFailed, file)
+answer_of (ListEnded ListedWhole) file writer = Ok 0
+answer_of (ListEnded (Unread error)) file writer = Err (fault_of_database error, file)
+answer_of (ListEnded ListNotWritten) file writer = Err (FaultWriteFailed, file)
+answer_of (ListEnded ListOutOfMemory) file writer = Err (FaultOutOfMemory, file)
+
+-- the program's status, 2 for each fault
+abbrev pub status_of : Result ℕ (Fault × List ℕ) → ℕ
+status_of (Ok status) = status
+status_of (Err trouble) = 2
 
 -- the line for a fault over a file's name and a number's digits
 abbrev pub line_with : Fault → List ℕ → List ℕ → List ℕ
@@ -78,7 +90,7 @@ number_of _ = 0
 
 -- the line for a fault, the file's name as it is shown
 abbrev pub line_of : Fault → List ℕ → List ℕ
-line_of fault file = line_with fault (shown file) (decimal (number_of fault))
+line_of fault file = line_with fault (shown_name file) (decimal (number_of fault))
 
 -- parts of a line
 abbrev pub text_of_parts : List (Bor (List ℕ)) → List ℕ
@@ -86,31 +98,9 @@ text_of_parts parts = flat_map (λ part. part.now) parts
 
 -- a line, the file's name as it is shown
 abbrev pub text_of_line : Line → List ℕ
-text_of_line line = line.front.now ++ (shown line.name.now ++ text_of_parts line.rest)
+text_of_line line = line.front.now ++ (shown_name line.name.now ++ text_of_parts line.rest)
 
--- the program's status for an outcome that is no fault: 1 for a verdict of incompatible
-abbrev pub verdict_status : Outcome → ℕ
-verdict_status (SessionEnded ended) = 0
-verdict_status (Unopened error) = 0
-verdict_status (NotListening port) = 0
-verdict_status (TextEnded printed) = 0
-verdict_status (CheckEnded (Verdict true)) = 0
-verdict_status (CheckEnded (Verdict false)) = 1
-verdict_status (CheckEnded (Reader fault)) = 0
-verdict_status (CheckEnded (Writer fault)) = 0
-verdict_status (CheckEnded CheckOutOfMemory) = 0
-verdict_status (CheckEnded VerdictNotWritten) = 0
-verdict_status (ListEnded listed) = 0
-
--- the program's status for an outcome, 2 for each fault
-abbrev pub status_with : Option Fault → ℕ → ℕ
-status_with None status = status
-status_with (Some fault) status = 2
-
-abbrev pub status_of : Outcome → ℕ
-status_of outcome = status_with (fault_of outcome) (verdict_status outcome)
-
--- the line of an outcome that is a fault was written, or a beginning of it
-abbrev pub TellsFault : Option Fault → List ℕ → Option (List ℕ) → Option (List ℕ) → Type 0
-TellsFault None file old new = Appends old new []
-TellsFault (Some fault) file old new = Begins old new (line_of fault file)
+-- the line of a fault was written, or a beginning of it
+abbrev pub TellsFault : Result ℕ (Fault × List ℕ) → Option (List ℕ) → Option (List ℕ) → Type 0
+TellsFault (Ok status) old new = Appends old new []
+TellsFault (Err trouble) old new = Begins old new (line_of trouble.0 trouble.1)

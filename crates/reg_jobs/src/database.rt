@@ -38,7 +38,7 @@ pub fn run_on_store<R: Read, W: Write, S: Alter>(
 /// # Errors
 ///
 /// As `Store::create`, and `Disk` for a connection inside a transaction. The connection is given back.
-pub fn made<S: Alter>(
+pub fn create_in<S: Alter>(
     alloc: Global,
     connection: Connection<S>,
 ) -> Result<Store<S>, (StoreError, Option<Connection<S>>)>
@@ -60,7 +60,7 @@ pub fn made<S: Alter>(
 /// # Errors
 ///
 /// As `Store::open`, and `Disk` for a connection inside a transaction. The connection is given back.
-pub fn found<S: Alter>(
+pub fn open_in<S: Alter>(
     alloc: Global,
     connection: Connection<S>,
 ) -> Result<Store<S>, (StoreError, Option<Connection<S>>)>

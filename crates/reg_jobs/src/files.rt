@@ -18,7 +18,7 @@ pub enum FileFault {
     CannotRead,
     /// Its bytes are no text, or its text denotes no schema.
     NotSchema,
-    /// Room was refused.
+    /// Memory was refused.
     OutOfMemory,
 }
 
@@ -85,7 +85,7 @@ pub enum Checked {
     Reader(FileFault),
     /// The reader's file gives one, but the writer's gives none, and nothing was printed.
     Writer(FileFault),
-    /// Room was refused, and nothing was printed.
+    /// Memory was refused, and nothing was printed.
     OutOfMemory,
     /// A write failed. A beginning of the verdict's line went out.
     NotWritten,

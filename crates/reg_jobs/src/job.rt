@@ -3,13 +3,13 @@
 ghost use Rattle.std.specs.Prelude.{◌≡◌, IfOk, IfErr, false, option_map};
 ghost use Rattle.sqlite.specs.State.{HasCleanDisk};
 ghost use Rattle.reg_store.specs.Stores.{has_failed, state_of};
-ghost use Rattle.reg_jobs.specs.Jobs.{DoesAs, HasRegistry, LacksRegistry, ListsOn, RunsAs, RunsAsked, RunsOn, file_of};
+ghost use Rattle.reg_jobs.specs.Jobs.{DoesAs, HasRegistry, LacksRegistry, ListsOn, RunsAs, RunsAsked, RunsOn, file_of, writer_of};
 
-use crate::database::{found, made, run_on_store};
-use crate::files::{Checked, check, print_text};
-use crate::line::report;
+use crate::database::{create_in, open_in, run_on_store};
+use crate::files::{check, print_text};
+use crate::line::tell_answer;
 use crate::listings::{list_store, table_of};
-use crate::outcome::Outcome;
+use crate::outcome::{Outcome, answer_of};
 use reg_http::{Ended, serve};
 use reg_service::Service;
 use reg_store::{Store, StoreError};
@@ -35,9 +35,9 @@ pub enum Opened<S: Alter> {
     Database(Connection<S>),
 }
 
-/// The file that a job's line on standard error may name.
-fn file_of(job: &Job, outcome: Outcome) -> &str
-    ensures { result.now ≡ file_of job.entry.now outcome }
+/// The file that a job names, the reader's of two, or an empty name.
+fn file_of(job: &Job) -> &str
+    ensures { result.now ≡ file_of job.entry.now }
 {
     match job {
         Job::Run { database: None } => "",
@@ -45,11 +45,18 @@ fn file_of(job: &Job, outcome: Outcome) -> &str
             database: Some(file),
         } => file.as_str(),
         Job::Text { file } => file.as_str(),
-        Job::Check { reader, writer } => match outcome {
-            Outcome::Check(Checked::Writer(_)) => writer.as_str(),
-            _ => reader.as_str(),
-        },
+        Job::Check { reader, .. } => reader.as_str(),
         Job::List { database, .. } => database.as_str(),
+    }
+}
+
+/// The writer's file of a job that names two, or the one that it names.
+fn writer_of(job: &Job) -> &str
+    ensures { result.now ≡ writer_of job.entry.now }
+{
+    match job {
+        Job::Check { writer, .. } => writer.as_str(),
+        _ => file_of(job),
     }
 }
 
@@ -111,8 +118,8 @@ pub fn store_in<S: Alter + Drop>(
     ensures lacks { IfErr result (λ e. LacksRegistry S.Store opened e.1 e.0) }
 {
     match opened {
-        Opened::Fresh(connection) => made(alloc, connection),
-        Opened::Database(connection) => found(alloc, connection),
+        Opened::Fresh(connection) => create_in(alloc, connection),
+        Opened::Database(connection) => open_in(alloc, connection),
         Opened::Empty => Err((StoreError::NotARegistry, None)),
         _ => Err((StoreError::Disk, None)),
     }
@@ -202,5 +209,6 @@ pub fn do_job<S: Alter + Drop, R: Read, W: Write, E: Write>(
         }
         Job::List { kind, .. } => list_on(alloc, opened, *kind, writer),
     };
-    (report(errors, outcome, file_of(job, outcome)), connection)
+    let answer = answer_of(outcome, file_of(job), writer_of(job));
+    (tell_answer(errors, answer), connection)
 }

@@ -2,11 +2,11 @@
 
 ghost use Rattle.std.specs.Prelude.{◌≡◌};
 ghost use Rattle.reg_http.specs.Output.{Begins};
-ghost use Rattle.reg_jobs.specs.Names.{shown};
-ghost use Rattle.reg_jobs.specs.Outcomes.{TellsFault, fault_of, status_of, number_of, line_of, line_with, text_of_line, text_of_parts};
+ghost use Rattle.reg_jobs.specs.Names.{shown_name};
+ghost use Rattle.reg_jobs.specs.Outcomes.{TellsFault, answer_of, line_of, line_with, named, number_of, status_of, text_of_line, text_of_parts};
 
 use crate::name::put_name;
-use crate::outcome::{Fault, Outcome, fault_of, status_of};
+use crate::outcome::{Fault, Outcome, Trouble, answer_of, status_of};
 use itoa::Buffer;
 use reg_http::write_whole;
 use std::io::Write;
@@ -20,7 +20,7 @@ struct Line<'a> {
 }
 
 /// A line that names nothing.
-fn plain<'a>(front: &'a str) -> Line<'a>
+fn naming_nothing<'a>(front: &'a str) -> Line<'a>
     ensures { text_of_line result ≡ front.entry.now }
 {
     Line {
@@ -51,13 +51,13 @@ fn number_of(fault: Fault) -> u32
 
 /// The line for a fault, with the digits of the number that it names.
 fn line_of<'a>(fault: Fault, file: &'a str, digits: &'a str) -> Line<'a>
-    ensures { text_of_line result ≡ line_with fault (shown file.entry.now) digits.entry.now }
+    ensures { text_of_line result ≡ line_with fault (shown_name file.entry.now) digits.entry.now }
 {
     match fault {
-        Fault::ReadFailed => plain("avroreg: read failed\n"),
-        Fault::WriteFailed => plain("avroreg: write failed\n"),
-        Fault::MalformedInput => plain("avroreg: malformed input\n"),
-        Fault::OutOfMemory => plain("avroreg: out of memory\n"),
+        Fault::ReadFailed => naming_nothing("avroreg: read failed\n"),
+        Fault::WriteFailed => naming_nothing("avroreg: write failed\n"),
+        Fault::MalformedInput => naming_nothing("avroreg: malformed input\n"),
+        Fault::OutOfMemory => naming_nothing("avroreg: out of memory\n"),
         Fault::CannotRead => naming("avroreg: cannot read ", file, ["\n", "", ""]),
         Fault::NotSchema => naming("avroreg: ", file, [" is not a schema\n", "", ""]),
         Fault::CannotOpen => naming("avroreg: cannot open ", file, ["\n", "", ""]),
@@ -100,22 +100,32 @@ fn put_line<E: Write>(errors: &mut E, line: Line)
     put_parts(errors, &line.rest);
 }
 
-/// Writes the line for a fault. What can't be written is lost.
-fn tell<E: Write>(errors: &mut E, fault: Fault, file: &str)
-    ensures { Begins (E.contents errors.old) (E.contents errors.new) (line_of fault file.now) }
+/// Writes the line for trouble. What can't be written is lost.
+fn tell<E: Write>(errors: &mut E, trouble: Trouble)
+    ensures { Begins (E.contents errors.old) (E.contents errors.new) (line_of trouble.entry.fault trouble.entry.file.now) }
 {
     let mut digits = Buffer::new();
-    let number = digits.format(number_of(fault));
-    put_line(errors, line_of(fault, file, number));
+    let number = digits.format(number_of(trouble.fault));
+    put_line(errors, line_of(trouble.fault, trouble.file, number));
 }
 
-/// Writes the line for an outcome, where it is a fault, and answers the program's status for it.
-pub fn report<E: Write>(errors: &mut E, outcome: Outcome, file: &str) -> u8
-    ensures tells { TellsFault (fault_of outcome) file.now (E.contents errors.old) (E.contents errors.new) }
-    ensures status { result ≡ status_of outcome }
+/// Writes the line for what a job answers, where that is trouble, and answers the program's status.
+pub fn tell_answer<E: Write>(errors: &mut E, answer: Result<u8, Trouble>) -> u8
+    ensures tells { TellsFault (named answer.entry) (E.contents errors.old) (E.contents errors.new) }
+    ensures status { result ≡ status_of (named answer.entry) }
 {
-    if let Some(fault) = fault_of(outcome) {
-        tell(errors, fault, file);
+    if let Err(trouble) = answer {
+        tell(errors, trouble);
     }
-    status_of(outcome)
+    status_of(answer)
+}
+
+/// Writes the line for an outcome on a file, where it is trouble, and answers the program's status for
+/// it.
+pub fn report<E: Write>(errors: &mut E, outcome: Outcome, file: &str) -> u8
+    ensures tells { TellsFault (answer_of outcome file.now file.now) (E.contents errors.old) (E.contents errors.new) }
+    ensures status { result ≡ status_of (answer_of outcome file.now file.now) }
+{
+    let answer = answer_of(outcome, file, file);
+    tell_answer(errors, answer)
 }

@@ -25,7 +25,7 @@ pub enum Listed {
     Unread(StoreError),
     /// A write failed.
     NotWritten,
-    /// Room for a line was refused.
+    /// Memory for a line was refused.
     OutOfMemory,
 }
 

@@ -3,7 +3,7 @@
 ghost use Rattle.std.specs.Prelude.{◌≡◌, ◌<◌, IsTrue};
 ghost use Rattle.std.specs.Io.KnownBytes.{Appends};
 ghost use Rattle.reg_http.specs.Output.{Begins};
-ghost use Rattle.reg_jobs.specs.Names.{hex_digit, shown, shown_byte, HasNoControl};
+ghost use Rattle.reg_jobs.specs.Names.{hex_digit, shown_name, shown_byte, HasNoControl};
 
 use reg_http::write_whole;
 use std::io::Write;
@@ -40,11 +40,11 @@ fn put_byte<E: Write>(errors: &mut E, byte: u8) -> bool
 /// Writes a file's name, each control character as its escape, so that a line stays one line. Where
 /// it answers false, a beginning of that went out.
 pub fn put_name<E: Write>(errors: &mut E, name: &str) -> bool
-    ensures front { Begins (E.contents errors.old) (E.contents errors.new) (shown name.now) }
+    ensures front { Begins (E.contents errors.old) (E.contents errors.new) (shown_name name.now) }
     ensures whole { IsTrue result
-        → Appends (E.contents errors.old) (E.contents errors.new) (shown name.now) }
-    ensures no_control { HasNoControl (shown name.now) }
-    ensures same { HasNoControl name.now → shown name.now ≡ name.now }
+        → Appends (E.contents errors.old) (E.contents errors.new) (shown_name name.now) }
+    ensures no_control { HasNoControl (shown_name name.now) }
+    ensures same { HasNoControl name.now → shown_name name.now ≡ name.now }
 {
     for byte in name.as_bytes() {
         if !put_byte(errors, *byte) {

@@ -1,7 +1,7 @@
-//! How a job came out, and the faults among that.
+//! How a job came out, and what it answers then: a status, or what failed and on which file.
 
 ghost use Rattle.std.specs.Prelude.{◌≡◌};
-ghost use Rattle.reg_jobs.specs.Outcomes.{fault_of, fault_of_file, fault_of_database, status_of};
+ghost use Rattle.reg_jobs.specs.Outcomes.{answer_of, fault_of_database, fault_of_file, named, status_of};
 
 use crate::files::{Checked, FileFault, Printed};
 use crate::listings::Listed;
@@ -41,6 +41,24 @@ pub enum Fault {
     CannotListen(u16),
 }
 
+/// What failed, and on which file.
+#[derive(Clone, Copy)]
+pub struct Trouble<'a> {
+    /// What failed.
+    pub fault: Fault,
+    /// The name of the file. The lines of some faults leave it out.
+    pub file: &'a str,
+}
+
+impl Fault {
+    /// The fault, on this file.
+    pub fn on(self, file: &str) -> Trouble<'_>
+        ensures { result ≡ record { fault = self; file = file.entry } }
+    {
+        Trouble { fault: self, file }
+    }
+}
+
 /// The fault of a file.
 fn fault_of_file(fault: FileFault) -> Fault
     ensures { result ≡ fault_of_file fault }
@@ -65,42 +83,41 @@ fn fault_of_database(error: StoreError) -> Fault
     }
 }
 
-/// The fault of an outcome, if it is one.
-pub fn fault_of(outcome: Outcome) -> Option<Fault>
-    ensures { result ≡ fault_of outcome }
+/// What a job answers, by how it came out: the program's status, which is 1 for a verdict of
+/// incompatible, or its trouble. That is on the writer's file where that one gives no schema.
+pub fn answer_of<'a>(outcome: Outcome, file: &'a str, writer: &'a str) -> Result<u8, Trouble<'a>>
+    ensures { named result ≡ answer_of outcome file.entry.now writer.entry.now }
 {
     match outcome {
-        Outcome::Session(Ended::Closed) => None,
-        Outcome::Session(Ended::ReadFailed) => Some(Fault::ReadFailed),
-        Outcome::Session(Ended::WriteFailed) => Some(Fault::WriteFailed),
-        Outcome::Session(Ended::Malformed) => Some(Fault::MalformedInput),
-        Outcome::Session(Ended::Memory) => Some(Fault::OutOfMemory),
-        Outcome::Unopened(error) => Some(fault_of_database(error)),
-        Outcome::NotListening(port) => Some(Fault::CannotListen(port)),
-        Outcome::Text(Printed::Whole) => None,
-        Outcome::Text(Printed::Nothing(fault)) => Some(fault_of_file(fault)),
-        Outcome::Text(Printed::NotWritten) => Some(Fault::WriteFailed),
-        Outcome::Check(Checked::Verdict(_)) => None,
-        Outcome::Check(Checked::Reader(fault)) => Some(fault_of_file(fault)),
-        Outcome::Check(Checked::Writer(fault)) => Some(fault_of_file(fault)),
-        Outcome::Check(Checked::OutOfMemory) => Some(Fault::OutOfMemory),
-        Outcome::Check(Checked::NotWritten) => Some(Fault::WriteFailed),
-        Outcome::List(Listed::Whole) => None,
-        Outcome::List(Listed::Unread(error)) => Some(fault_of_database(error)),
-        Outcome::List(Listed::NotWritten) => Some(Fault::WriteFailed),
-        Outcome::List(Listed::OutOfMemory) => Some(Fault::OutOfMemory),
+        Outcome::Session(Ended::Closed) => Ok(0),
+        Outcome::Session(Ended::ReadFailed) => Err(Fault::ReadFailed.on(file)),
+        Outcome::Session(Ended::WriteFailed) => Err(Fault::WriteFailed.on(file)),
+        Outcome::Session(Ended::Malformed) => Err(Fault::MalformedInput.on(file)),
+        Outcome::Session(Ended::Memory) => Err(Fault::OutOfMemory.on(file)),
+        Outcome::Unopened(error) => Err(fault_of_database(error).on(file)),
+        Outcome::NotListening(port) => Err(Fault::CannotListen(port).on(file)),
+        Outcome::Text(Printed::Whole) => Ok(0),
+        Outcome::Text(Printed::Nothing(fault)) => Err(fault_of_file(fault).on(file)),
+        Outcome::Text(Printed::NotWritten) => Err(Fault::WriteFailed.on(file)),
+        Outcome::Check(Checked::Verdict(true)) => Ok(0),
+        Outcome::Check(Checked::Verdict(false)) => Ok(1),
+        Outcome::Check(Checked::Reader(fault)) => Err(fault_of_file(fault).on(file)),
+        Outcome::Check(Checked::Writer(fault)) => Err(fault_of_file(fault).on(writer)),
+        Outcome::Check(Checked::OutOfMemory) => Err(Fault::OutOfMemory.on(file)),
+        Outcome::Check(Checked::NotWritten) => Err(Fault::WriteFailed.on(file)),
+        Outcome::List(Listed::Whole) => Ok(0),
+        Outcome::List(Listed::Unread(error)) => Err(fault_of_database(error).on(file)),
+        Outcome::List(Listed::NotWritten) => Err(Fault::WriteFailed.on(file)),
+        Outcome::List(Listed::OutOfMemory) => Err(Fault::OutOfMemory.on(file)),
     }
 }
 
-/// The program's status for an outcome: 0, 1 for a verdict of incompatible, and 2 for a fault.
-pub fn status_of(outcome: Outcome) -> u8
-    ensures { result ≡ status_of outcome }
+/// The program's status for what a job answers: 2 for trouble.
+pub fn status_of(answer: Result<u8, Trouble>) -> u8
+    ensures { result ≡ status_of (named answer.entry) }
 {
-    match fault_of(outcome) {
-        Some(_) => 2,
-        None => match outcome {
-            Outcome::Check(Checked::Verdict(false)) => 1,
-            _ => 0,
-        },
+    match answer {
+        Ok(status) => status,
+        Err(_) => 2,
     }
 }

@@ -1,6 +1,6 @@
-use Rattle.std.proofs.Common.{refl}
-use Rattle.reg_jobs.specs.Jobs.{ComesOut, file_of}
-use Rattle.reg_jobs.specs.Outcomes.{TellsFault, fault_of}
+use Rattle.std.proofs.Common.{◌≡◌, ◌∙◌, ap, refl}
+use Rattle.reg_jobs.specs.Jobs.{ComesOut, job_answer}
+use Rattle.reg_jobs.specs.Outcomes.{TellsFault, named, status_of}
 use Rattle.reg_jobs.proofs.job.do_job.Goals as goal
 use Rattle.reg_jobs.proofs.job.do_job.Goals.{in-Run, in-Text, in-Check, in-List}
 
@@ -16,6 +16,8 @@ returns g c =
           (w.into_connection-in-Check.ensures, refl, record { checked = w.check-checked.result; checks = rw (w.text-in-Check.ensures, w.text-in-Check-2.ensures) at w.check-checked.ensures; outcome_is = refl })
       | in-List w ↦ rw (w.in-List.is, w.outcome-is, w.writer-is, w.reader-is) (refl, w.list_on.ensures)
     ] in
-    let tells : TellsFault (fault_of c.match-job.outcome.0) (file_of c.args.job.now c.match-job.outcome.0) (g.E.Write.contents c.args.errors.now) (g.E.Write.contents c.report.new.errors) =
-    rw c.file_of.ensures at c.report.ensures.tells in
-    record { outcome = c.match-job.outcome.0; comes_out = comes; tells = tells; status_is = c.report.ensures.status }
+    let answer : named c.answer_of-answer.result ≡ job_answer c.args.job.now c.match-job.outcome.0 =
+    rw (c.file_of.ensures, c.writer_of.ensures) at c.answer_of-answer.ensures in
+    let tells : TellsFault (job_answer c.args.job.now c.match-job.outcome.0) (g.E.Write.contents c.args.errors.now) (g.E.Write.contents c.tell_answer.new.errors) =
+    rw answer at c.tell_answer.ensures.tells in
+    record { outcome = c.match-job.outcome.0; comes_out = comes; tells = tells; status_is = c.tell_answer.ensures.status ∙ ap status_of answer }

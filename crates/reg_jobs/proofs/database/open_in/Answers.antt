@@ -1,7 +1,7 @@
 use Rattle.std.proofs.Common.{rules, refl, inl, inr}
 use Rattle.std.specs.Prelude.{IsTrue}
 use Rattle.sqlite.specs.Held.{state}
-use Rattle.reg_jobs.proofs.database.found.Goals as goal
+use Rattle.reg_jobs.proofs.database.open_in.Goals as goal
 
 pub returns-then-not-is_autocommit-clause-fault : goal.returns-then-not-is_autocommit-clause-fault
 returns-then-not-is_autocommit-clause-fault g c =
