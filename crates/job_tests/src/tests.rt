@@ -1,9 +1,10 @@
-//! What no clause says: the bytes of messages, whole and in pieces, what fails in mid-stream, and how jobs come out.
+//! What no clause says: the bytes of messages, whole and in pieces, what fails in mid-stream, what is opened for jobs and how they come out.
 
 mod jobs;
 mod listings;
 mod loopback;
 mod messages;
+mod opening;
 mod schema_files;
 mod sessions;
 mod turns;

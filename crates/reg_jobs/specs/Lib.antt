@@ -5,3 +5,4 @@ pub mod Databases
 pub mod Jobs
 pub mod Listening
 pub mod Listings
+pub mod Opening

@@ -10,11 +10,13 @@ mod line;
 mod listening;
 mod listings;
 mod name;
+mod opening;
 mod outcome;
 
 pub use job::{Opened, do_job, store_in};
 pub use line::report;
 pub use listening::serve_on;
 pub use listings::Listed;
+pub use opening::{Opener, open_for};
 pub use outcome::Outcome;
 pub use reg_words::{Job, LineFault, Listing, Server, Task, task_of};

@@ -1,0 +1,41 @@
+-- What is opened for a job.
+use Rattle.std.specs.Prelude.{◌≡◌, ⊤, ℕ, length, None, Some}
+use Rattle.reg_words.specs.declared.task.Job.{Job}
+use Rattle.reg_words.specs.declared.task.Job.TheVariants.{Run, Text as TextJob, Check as CheckJob, List as ListJob}
+use Rattle.reg_jobs.specs.declared.job.Opened.{Opened}
+use Rattle.reg_jobs.specs.declared.job.Opened.TheVariants.{Nothing, Texts, Failed, Empty, Fresh, Database}
+
+-- a database for a job that may make its registry: it has one, or is empty, or can't be opened
+abbrev pub OpensToRun : {S : Type 0} → Opened S → Type 0
+OpensToRun Nothing = ⊥
+OpensToRun (Texts texts) = ⊥
+OpensToRun Failed = ⊤
+OpensToRun Empty = ⊥
+OpensToRun (Fresh connection) = ⊤
+OpensToRun (Database connection) = ⊤
+
+-- a database for a job that makes no registry: it is one, or its file has no byte, or it can't be opened
+abbrev pub OpensToList : {S : Type 0} → Opened S → Type 0
+OpensToList Nothing = ⊥
+OpensToList (Texts texts) = ⊥
+OpensToList Failed = ⊤
+OpensToList Empty = ⊤
+OpensToList (Fresh connection) = ⊥
+OpensToList (Database connection) = ⊤
+
+-- so many files of schemas, which may be read or not
+abbrev pub OpensTexts : {S : Type 0} → ℕ → Opened S → Type 0
+OpensTexts count Nothing = ⊥
+OpensTexts count (Texts texts) = length texts.items ≡ count
+OpensTexts count Failed = ⊥
+OpensTexts count Empty = ⊥
+OpensTexts count (Fresh connection) = ⊥
+OpensTexts count (Database connection) = ⊥
+
+-- what is opened for a job, by its kind
+abbrev pub OpensFor : {S : Type 0} → Job → Opened S → Type 0
+OpensFor (Run None) opened = opened ≡ Nothing
+OpensFor (Run (Some file)) opened = OpensToRun opened
+OpensFor (TextJob file) opened = OpensTexts 1 opened
+OpensFor (CheckJob reader writer) opened = OpensTexts 2 opened
+OpensFor (ListJob database kind) opened = OpensToList opened

@@ -1,0 +1,71 @@
+//! What a job names, opened.
+
+ghost use Rattle.std.specs.Prelude.{IfOk};
+ghost use Rattle.reg_jobs.specs.Opening.{OpensFor, OpensToList, OpensToRun};
+
+use crate::job::Opened;
+use avro_nodes::OutOfMemory;
+use reg_words::Job;
+use sqlite::Alter;
+use std::alloc::Global;
+
+/// What opens the files that a job names.
+pub trait Opener<S: Alter> {
+    ghost use Rattle.std.specs.Prelude.{IfOk};
+    ghost use Rattle.reg_jobs.specs.Opening.{OpensToList, OpensToRun};
+
+    /// Opens the database in a file, which is made where it is missing.
+    ///
+    /// # Errors
+    ///
+    /// `OutOfMemory` where memory is refused.
+    fn open_to_run(&self, file: &str) -> Result<Opened<S>, OutOfMemory>
+        ensures { IfOk result OpensToRun };
+
+    /// Opens the database in a file for a job that makes no registry.
+    ///
+    /// # Errors
+    ///
+    /// `OutOfMemory` where memory is refused.
+    fn open_to_list(&self, file: &str) -> Result<Opened<S>, OutOfMemory>
+        ensures { IfOk result OpensToList };
+
+    /// The bytes of a file, if it can be read.
+    ///
+    /// # Errors
+    ///
+    /// `OutOfMemory` where memory is refused.
+    fn read(&self, file: &str) -> Result<Option<Vec<u8>>, OutOfMemory>;
+}
+
+/// Opens what a job names: nothing, one database, or the files of its schemas, in their order.
+///
+/// # Errors
+///
+/// `OutOfMemory` where memory is refused.
+pub fn open_for<S: Alter, O: Opener<S>>(
+    alloc: Global,
+    opener: &O,
+    job: &Job,
+) -> Result<Opened<S>, OutOfMemory>
+    ensures { IfOk result (OpensFor job.now) }
+{
+    match job {
+        Job::Run { database: None } => Ok(Opened::Nothing),
+        Job::Run {
+            database: Some(file),
+        } => opener.open_to_run(file.as_str()),
+        Job::List { database, .. } => opener.open_to_list(database.as_str()),
+        Job::Text { file } => {
+            let mut texts = Vec::new(alloc);
+            texts.push(opener.read(file.as_str())?)?;
+            Ok(Opened::Texts(texts))
+        }
+        Job::Check { reader, writer } => {
+            let mut texts = Vec::new(alloc);
+            texts.push(opener.read(reader.as_str())?)?;
+            texts.push(opener.read(writer.as_str())?)?;
+            Ok(Opened::Texts(texts))
+        }
+    }
+}
