@@ -16,8 +16,8 @@ pub returns-in-Lookup-clause-reply : goal.returns-in-Lookup-clause-reply
 returns-in-Lookup-clause-reply c =
     IfOk-weaker c.lookup.result _ _
     (λ reply is g ground.
-      is ∙ at_command g _ c.args.view.now _ c.args.command.now (Lookup c.in-Lookup.subject c.in-Lookup.text c.in-Lookup.supported c.in-Lookup.deleted) c.in-Lookup.is
-      (λ at. told_lookup g c.args.view.now _ c.in-Lookup.subject c.in-Lookup.text c.in-Lookup.supported c.in-Lookup.deleted at.sent at.shows) ground)
+    is ∙ at_command g _ c.args.view.now _ c.args.command.now (Lookup c.in-Lookup.subject c.in-Lookup.text c.in-Lookup.supported c.in-Lookup.deleted) c.in-Lookup.is
+    (λ at. told_lookup g c.args.view.now _ c.in-Lookup.subject c.in-Lookup.text c.in-Lookup.supported c.in-Lookup.deleted at.sent at.shows) ground)
     c.lookup.ensures
 
 pub returns-in-Lookup-clause-own : goal.returns-in-Lookup-clause-own
@@ -31,9 +31,9 @@ pub returns-in-Version-clause-reply : goal.returns-in-Version-clause-reply
 returns-in-Version-clause-reply c =
     IfOk-weaker c.version.result _ _
     (λ reply is g ground.
-      is ∙ (ap (λ text. version_reply (text_in c.args.view.now) (found_row (choice_in text) (shown_rows c.in-Version.deleted c.args.view.now.rows.items))) c.as_str.ensures ∙
-      at_command g _ c.args.view.now _ c.args.command.now (Version c.in-Version.subject c.in-Version.chosen c.in-Version.deleted) c.in-Version.is
-      (λ at. told_version g c.args.view.now c.in-Version.subject c.in-Version.chosen c.in-Version.deleted at.shows) ground))
+    is ∙ (ap (λ text. version_reply (text_in c.args.view.now) (found_row (choice_in text) (shown_rows c.in-Version.deleted c.args.view.now.rows.items))) c.as_str.ensures ∙
+    at_command g _ c.args.view.now _ c.args.command.now (Version c.in-Version.subject c.in-Version.chosen c.in-Version.deleted) c.in-Version.is
+    (λ at. told_version g c.args.view.now c.in-Version.subject c.in-Version.chosen c.in-Version.deleted at.shows) ground))
     c.version.ensures
 
 pub returns-in-Version-clause-own : goal.returns-in-Version-clause-own
@@ -47,9 +47,9 @@ pub returns-in-Text-clause-reply : goal.returns-in-Text-clause-reply
 returns-in-Text-clause-reply c =
     IfOk-weaker c.version_text.result _ _
     (λ reply is g ground.
-      is ∙ (ap (λ text. version_text_reply (text_in c.args.view.now) (found_row (choice_in text) (shown_rows c.in-Text.deleted c.args.view.now.rows.items))) c.as_str-in-Text.ensures ∙
-      at_command g _ c.args.view.now _ c.args.command.now (Text c.in-Text.subject c.in-Text.chosen c.in-Text.deleted) c.in-Text.is
-      (λ at. told_text g c.args.view.now c.in-Text.subject c.in-Text.chosen c.in-Text.deleted at.shows) ground))
+    is ∙ (ap (λ text. version_text_reply (text_in c.args.view.now) (found_row (choice_in text) (shown_rows c.in-Text.deleted c.args.view.now.rows.items))) c.as_str-in-Text.ensures ∙
+    at_command g _ c.args.view.now _ c.args.command.now (Text c.in-Text.subject c.in-Text.chosen c.in-Text.deleted) c.in-Text.is
+    (λ at. told_text g c.args.view.now c.in-Text.subject c.in-Text.chosen c.in-Text.deleted at.shows) ground))
     c.version_text.ensures
 
 pub returns-in-Text-clause-own : goal.returns-in-Text-clause-own
@@ -63,9 +63,9 @@ pub returns-in-ById-clause-reply : goal.returns-in-ById-clause-reply
 returns-in-ById-clause-reply c =
     IfOk-weaker c.by_id.result _ _
     (λ reply is g ground.
-      is ∙ (ap (λ text. id_reply (text_in c.args.view.now) (id_in text) c.args.view.now.rows.items) c.as_str-in-ById.ensures ∙
-      at_command g _ c.args.view.now _ c.args.command.now (ById c.in-ById.id) c.in-ById.is
-      (λ at. told_id g c.args.view.now c.in-ById.id at.shows) ground))
+    is ∙ (ap (λ text. id_reply (text_in c.args.view.now) (id_in text) c.args.view.now.rows.items) c.as_str-in-ById.ensures ∙
+    at_command g _ c.args.view.now _ c.args.command.now (ById c.in-ById.id) c.in-ById.is
+    (λ at. told_id g c.args.view.now c.in-ById.id at.shows) ground))
     c.by_id.ensures
 
 pub returns-in-ById-clause-own : goal.returns-in-ById-clause-own
