@@ -1,6 +1,9 @@
 //! A registry's database in a file: which files are opened as one, and how it is closed.
 
-use crate::Unbegun;
+ghost use Rattle.std.specs.Prelude.{IfOk};
+ghost use Rattle.reg_jobs.specs.Opening.{OpensToList, OpensToRun};
+
+use avro_nodes::OutOfMemory;
 use reg_jobs::Opened;
 use sqlite::{Connection, Error, ErrorCode, FileFrom, FileStore, Wary};
 use std::io::Read;
@@ -63,9 +66,11 @@ fn lists_nothing(connection: &mut Connection<FileDatabase>) -> Result<bool, Erro
 }
 
 /// What a database that can't be opened is for the job, by the error.
-fn failed(error: Error) -> Result<Opened<FileDatabase>, Unbegun> {
+fn failed(error: Error) -> Result<Opened<FileDatabase>, OutOfMemory>
+    ensures { IfOk result OpensToRun }
+{
     match error {
-        Error::SqliteFailure(ErrorCode::OutOfMemory) => Err(Unbegun::OutOfMemory),
+        Error::SqliteFailure(ErrorCode::OutOfMemory) => Err(OutOfMemory),
         _ => Ok(Opened::Failed),
     }
 }
@@ -84,11 +89,13 @@ fn looked_at(rt: &HostRuntime, file: &str) -> io::Result<Option<bool>> {
 /// # Errors
 ///
 /// `OutOfMemory` where memory is refused. Every other failure is `Opened::Failed`.
-pub fn opened_database(rt: &HostRuntime, file: &str) -> Result<Opened<FileDatabase>, Unbegun> {
+pub fn opened_database(rt: &HostRuntime, file: &str) -> Result<Opened<FileDatabase>, OutOfMemory>
+    ensures { IfOk result OpensToRun }
+{
     let is_new = match looked_at(rt, file) {
         Ok(Some(is_new)) => is_new,
         Err(error) if error.kind() == io::ErrorKind::OutOfMemory => {
-            return Err(Unbegun::OutOfMemory);
+            return Err(OutOfMemory);
         }
         _ => return Ok(Opened::Failed),
     };
@@ -124,11 +131,13 @@ fn is_found(rt: &HostRuntime, file: &str) -> io::Result<Option<bool>> {
 /// # Errors
 ///
 /// `OutOfMemory` where memory is refused. Every other failure is `Opened::Failed`.
-pub fn found_database(rt: &HostRuntime, file: &str) -> Result<Opened<FileDatabase>, Unbegun> {
+pub fn found_database(rt: &HostRuntime, file: &str) -> Result<Opened<FileDatabase>, OutOfMemory>
+    ensures { IfOk result OpensToList }
+{
     let has_bytes = match is_found(rt, file) {
         Ok(Some(has_bytes)) => has_bytes,
         Err(error) if error.kind() == io::ErrorKind::OutOfMemory => {
-            return Err(Unbegun::OutOfMemory);
+            return Err(OutOfMemory);
         }
         _ => return Ok(Opened::Failed),
     };

@@ -6,9 +6,10 @@ mod database;
 mod opening;
 mod server;
 
+use avro_nodes::OutOfMemory;
 use database::{FileDatabase, close};
-use opening::opened;
-use reg_jobs::{Job, LineFault, Opened, Task, do_job, task_of};
+use opening::HostFiles;
+use reg_jobs::{Job, LineFault, Opened, Task, do_job, open_for, task_of};
 use server::serve;
 use std::alloc::{AllocError, AllocFailed};
 use std::io;
@@ -20,7 +21,7 @@ use std::rt::Env;
 pub enum Unbegun {
     /// The words ask for nothing that the program does, or for help. The text says so.
     Usage(String),
-    /// Room for the words or for the files was refused.
+    /// Memory for the words or for the files was refused.
     OutOfMemory,
 }
 
@@ -35,6 +36,12 @@ impl From<LineFault> for Unbegun {
 
 impl From<AllocError> for Unbegun {
     fn from(_error: AllocError) -> Unbegun {
+        Unbegun::OutOfMemory
+    }
+}
+
+impl From<OutOfMemory> for Unbegun {
+    fn from(_error: OutOfMemory) -> Unbegun {
         Unbegun::OutOfMemory
     }
 }
@@ -71,7 +78,7 @@ fn database_of(job: &Job) -> Option<&str> {
 }
 
 /// Does a job with what was opened for it, and closes that.
-fn done(rt: &HostRuntime, job: &Job, opened: Opened<FileDatabase>) -> u8 {
+fn do_and_close(rt: &HostRuntime, job: &Job, opened: Opened<FileDatabase>) -> u8 {
     let (status, connection) = do_job(
         rt.alloc(),
         job,
@@ -87,19 +94,19 @@ fn done(rt: &HostRuntime, job: &Job, opened: Opened<FileDatabase>) -> u8 {
 }
 
 /// Does what the words ask for, and answers the program's status.
-fn ended(rt: &HostRuntime) -> Result<u8, Unbegun> {
+fn status_of_words(rt: &HostRuntime) -> Result<u8, Unbegun> {
     let words = words_of(rt)?;
     match task_of(rt.alloc(), words.as_slice())? {
         Task::Job(job) => {
-            let opened = opened(rt, &job)?;
-            Ok(done(rt, &job, opened))
+            let opened = open_for(rt.alloc(), &HostFiles { rt }, &job)?;
+            Ok(do_and_close(rt, &job, opened))
         }
         Task::Server(server) => serve(rt, &server),
     }
 }
 
 fn main(rt: HostRuntime) -> ExitCode {
-    let status = match ended(&rt) {
+    let status = match status_of_words(&rt) {
         Ok(status) => status,
         Err(Unbegun::Usage(text)) => {
             let _ = eprint!(rt; "{text}");

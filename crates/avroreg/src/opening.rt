@@ -1,14 +1,40 @@
-//! What a job names, opened.
+//! The files that jobs name, opened.
 
-use crate::Unbegun;
 use crate::database::{FileDatabase, found_database, opened_database};
-use reg_jobs::{Job, Opened};
+use avro_nodes::{MAX_TEXT, OutOfMemory};
+use reg_jobs::{Opened, Opener};
 use std::io::Read;
 use std::rt::Files;
 use std::{fs, io};
 
 /// How much of a file is read: one byte more than a schema's text may have.
-const READ_AT_MOST: u64 = 1_048_577;
+const READ_AT_MOST: u64 = MAX_TEXT as u64 + 1;
+
+/// The files of the host.
+#[derive(Clone, Copy)]
+pub struct HostFiles<'a> {
+    pub rt: &'a HostRuntime,
+}
+
+impl Opener<FileDatabase> for HostFiles<'_> {
+    fn open_to_run(&self, file: &str) -> Result<Opened<FileDatabase>, OutOfMemory> {
+        opened_database(self.rt, file)
+    }
+
+    fn open_to_list(&self, file: &str) -> Result<Opened<FileDatabase>, OutOfMemory> {
+        found_database(self.rt, file)
+    }
+
+    /// The bytes of a file, if it can be read. More than a schema may have are cut behind the byte by
+    /// which they are too many.
+    fn read(&self, file: &str) -> Result<Option<Vec<u8>>, OutOfMemory> {
+        match read_front(self.rt, file) {
+            Ok(bytes) => Ok(Some(bytes)),
+            Err(error) if error.kind() == io::ErrorKind::OutOfMemory => Err(OutOfMemory),
+            Err(_) => Ok(None),
+        }
+    }
+}
 
 /// What is read of a file.
 fn read_front(rt: &HostRuntime, file: &str) -> io::Result<Vec<u8>> {
@@ -17,41 +43,4 @@ fn read_front(rt: &HostRuntime, file: &str) -> io::Result<Vec<u8>> {
         .take(READ_AT_MOST)
         .read_to_end(&mut bytes)?;
     Ok(bytes)
-}
-
-/// The text in a file, if it can be read. A longer one than a schema may have is cut behind the byte
-/// by which it is too long.
-fn text_in(rt: &HostRuntime, file: &str) -> Result<Option<Vec<u8>>, Unbegun> {
-    match read_front(rt, file) {
-        Ok(bytes) => Ok(Some(bytes)),
-        Err(error) if error.kind() == io::ErrorKind::OutOfMemory => Err(Unbegun::OutOfMemory),
-        Err(_) => Ok(None),
-    }
-}
-
-/// Opens what a job names.
-///
-/// # Errors
-///
-/// `OutOfMemory` where memory is refused. A file that can't be read is no error: what was opened
-/// says so.
-pub fn opened(rt: &HostRuntime, job: &Job) -> Result<Opened<FileDatabase>, Unbegun> {
-    match job {
-        Job::Run { database: None } => Ok(Opened::Nothing),
-        Job::Run {
-            database: Some(file),
-        } => opened_database(rt, file.as_str()),
-        Job::List { database, .. } => found_database(rt, database.as_str()),
-        Job::Text { file } => {
-            let mut texts = Vec::new(rt.alloc());
-            texts.push(text_in(rt, file.as_str())?)?;
-            Ok(Opened::Texts(texts))
-        }
-        Job::Check { reader, writer } => {
-            let mut texts = Vec::new(rt.alloc());
-            texts.push(text_in(rt, reader.as_str())?)?;
-            texts.push(text_in(rt, writer.as_str())?)?;
-            Ok(Opened::Texts(texts))
-        }
-    }
 }
