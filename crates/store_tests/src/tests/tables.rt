@@ -96,7 +96,8 @@ fn shows_texts<S: Alter + Drop>(
     let text = text_of(connection, 2)?;
     assert_eq!(rt; text.ok_or("no text")?.as_str(), "\"long\"");
     assert!(rt; text_of(connection, 3)?.is_none());
-    assert_eq!(rt; text_ids(alloc, connection)?.as_slice(), &[1u32, 2]);
+    let ids = text_ids(alloc, connection)?;
+    assert_eq!(rt; ids.as_slice(), [1u32, 2].as_slice());
     let lines = texts_between(alloc, connection, 1, 1)?;
     assert_eq!(rt; lines.len(), 1);
     assert_eq!(rt; lines[0].id, 1);
