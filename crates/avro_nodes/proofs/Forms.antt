@@ -11,7 +11,7 @@ use Rattle.avro_nodes.specs.declared.node.Order.TheVariants.{Ascending, Descendi
 use Rattle.avro_nodes.specs.Names.{has_dot}
 use Rattle.avro_nodes.specs.Nodes.{NamedView, FieldView}
 use Rattle.avro_nodes.specs.Identity.{texts, with_text, with_aliases, with_default, with_order, with_namespace, enum_value, fixed_value, record_value, field_value}
-use Rattle.avro_nodes.specs.Objects.{Part, Ends, merged, AreOrdered, put_part, put_parts, some_texts, order_text, null_namespace, record_end}
+use Rattle.avro_nodes.specs.Inside.Objects.{Part, Ends, merged, AreOrdered, put_part, put_parts, some_texts, order_text, null_namespace, record_end}
 use Rattle.avro_nodes.proofs.Merged.{ascending}
 use Rattle.avro_nodes.proofs.Written.{object_merged}
 

@@ -11,7 +11,7 @@ use Rattle.avro_nodes.specs.declared.node.Kind.{Kind}
 use Rattle.avro_nodes.specs.declared.node.Field.{Field}
 use Rattle.avro_nodes.specs.Nodes.{field_view}
 use Rattle.avro_nodes.specs.Identity.{with_text, kind_text, primitive_value, field_value, Spelt, Speller, then_items, branch_items, field_items}
-use Rattle.avro_nodes.specs.Objects.{WritesSpelt}
+use Rattle.avro_nodes.specs.Inside.Objects.{WritesSpelt}
 use Rattle.avro_nodes.proofs.Written.{items_on}
 
 pub drop_item : {A : Type 0} (xs : List A) (i : ℕ) (x : A) → i < length xs → drop i xs ≡ get_or xs i x ∷ drop (i + 1) xs

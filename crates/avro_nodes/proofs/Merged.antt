@@ -7,7 +7,7 @@ use Rattle.std.proofs.lemmas.Bool.{false≢true, and_parts}
 use Rattle.std.proofs.lemmas.Map.Text.{is_eq-slice_cmp}
 use Rattle.std.proofs.lemmas.Slice.Eq.{bytes_eq-Decides}
 use Rattle.serde_json.specs.Data.{Data, Members, no_members, member, put}
-use Rattle.avro_nodes.specs.Objects.{Part, put_parts, before_then, behind, merged}
+use Rattle.avro_nodes.specs.Inside.Objects.{Part, put_parts, before_then, behind, merged}
 
 abbrev pub order : List ℕ → List ℕ → Ordering
 order k l = slice_cmp nat_cmp k l

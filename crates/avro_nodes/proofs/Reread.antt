@@ -18,7 +18,7 @@ use Rattle.serde_json.specs.Written.{number_text, outline, items_outline, member
 use Rattle.serde_json.proofs.Numbers.{number_of-decimal, number_of-negative}
 use Rattle.serde_json.proofs.Texts.{print-outline}
 use Rattle.avro_nodes.specs.Nodes.{NodeView}
-use Rattle.avro_nodes.specs.Objects.{AreOrdered}
+use Rattle.avro_nodes.specs.Inside.Objects.{AreOrdered}
 use Rattle.avro_nodes.specs.Whole.{is_whole_number}
 use Rattle.avro_nodes.specs.Identity.{identity, identity_value}
 use Rattle.avro_nodes.proofs.Shallow.{ShallowNodes, identity_nests}

@@ -9,7 +9,7 @@ use Rattle.serde_json.specs.Data.{Data, null, string}
 use Rattle.avro_nodes.specs.Nodes.{NodeView, node_view, nodes_view}
 use Rattle.avro_nodes.specs.declared.node.Node.{Node}
 use Rattle.avro_nodes.specs.Identity.{Spelt, spelt_at, spelt_node, name_of}
-use Rattle.avro_nodes.specs.Objects.{WritesSpelt}
+use Rattle.avro_nodes.specs.Inside.Objects.{WritesSpelt}
 
 pub shape_found : (nodes : List Node) (place : ℕ) (o : Option Node) → slice_get nodes place ≡ o → slice_get (nodes_view nodes) place ≡ option_map node_view o
 shape_found nodes place o e = slice_get-map node_view nodes place ∙ ap (option_map node_view) e

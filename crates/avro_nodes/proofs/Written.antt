@@ -14,7 +14,7 @@ use Rattle.serde_json.specs.Read.{number_of, of_items, of_members}
 use Rattle.serde_json.specs.View.{members_view}
 use Rattle.serde_json.specs.Written.{number_text, unless_float, outline, members_outline, blank_members, WritesValue, WritesItems}
 use Rattle.serde_json.proofs.Views.{Entry}
-use Rattle.avro_nodes.specs.Objects.{Part, AreJsonOf, Ends, merged, put_parts, behind, WritesBefore, WritesName, WritesPart, AllBehind, AreOrdered, some_texts, null_namespace}
+use Rattle.avro_nodes.specs.Inside.Objects.{Part, AreJsonOf, Ends, merged, put_parts, behind, WritesBefore, WritesName, WritesPart, AllBehind, AreOrdered, some_texts, null_namespace}
 use Rattle.avro_nodes.specs.Nodes.{texts_view}
 use Rattle.avro_nodes.specs.Identity.{texts}
 use Rattle.avro_nodes.specs.Names.{has_dot}

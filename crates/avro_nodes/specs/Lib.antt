@@ -2,6 +2,6 @@ pub mod Names
 pub mod Nodes
 pub mod Limits
 pub mod Identity
-pub mod Objects
+pub mod Inside
 pub mod Plain
 pub mod Whole

@@ -8,7 +8,7 @@ ghost use Rattle.serde_json.specs.View.{view, members_view};
 ghost use Rattle.serde_json.specs.Written.{WritesValue};
 ghost use Rattle.avro_nodes.specs.Nodes.{texts_view};
 ghost use Rattle.avro_nodes.specs.Identity.{texts};
-ghost use Rattle.avro_nodes.specs.Objects.{WritesBefore, WritesName, WritesPart, some_texts, order_text, null_namespace};
+ghost use Rattle.avro_nodes.specs.Inside.Objects.{WritesBefore, WritesName, WritesPart, some_texts, order_text, null_namespace};
 
 use crate::compact::Compact;
 use crate::names::has_dot;

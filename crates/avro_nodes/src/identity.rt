@@ -6,7 +6,7 @@ ghost use Rattle.std.specs.Prelude.{IsTrue, ◌≡◌, ◌<◌, ◌≤◌, lengt
 ghost use Rattle.avro_nodes.specs.Whole.{has_whole_numbers};
 ghost use Rattle.avro_nodes.specs.Nodes.{field_view, node_view, nodes_view};
 ghost use Rattle.avro_nodes.specs.Identity.{name_of, spelt_at, branch_items, field_items, identity, nodes_pass};
-ghost use Rattle.avro_nodes.specs.Objects.{WritesSpelt, spelt_array};
+ghost use Rattle.avro_nodes.specs.Inside.Objects.{WritesSpelt, spelt_array};
 
 use crate::compact::Compact;
 use crate::error::OutOfMemory;

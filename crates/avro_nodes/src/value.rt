@@ -4,7 +4,7 @@ ghost use Rattle.std.specs.Prelude.{◌≡◌, OnOk};
 ghost use Rattle.serde_json.specs.Data.{array, object};
 ghost use Rattle.serde_json.specs.View.{view, items_view, members_view};
 ghost use Rattle.serde_json.specs.Written.{WritesValue};
-ghost use Rattle.avro_nodes.specs.Objects.{Ends, WritesMember, AreOrdered};
+ghost use Rattle.avro_nodes.specs.Inside.Objects.{Ends, WritesMember, AreOrdered};
 
 use crate::compact::Compact;
 use crate::node::Extra;

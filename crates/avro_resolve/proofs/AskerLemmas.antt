@@ -6,8 +6,8 @@ use Rattle.std.specs.declared.alloc.Global.{Global}
 use Rattle.std.proofs.lemmas.List.{length-set}
 use Rattle.std.proofs.lemmas.Bool.Decides.{nat_tests}
 use Rattle.avro_nodes.specs.Nodes.{NodeView, primitive, array, mapping, union, enumeration, fixed, rec}
-use Rattle.avro_resolve.specs.Places.{NamesAll}
-use Rattle.avro_resolve.specs.Askers.{list_at, IsAsker, Adds}
+use Rattle.avro_resolve.specs.Inside.Places.{NamesAll}
+use Rattle.avro_resolve.specs.Inside.Askers.{list_at, IsAsker, Adds}
 
 pub nothing_asks : (i : ℕ) → Contains [] i → ⊥
 nothing_asks i h = let l = h.1 in absurd (omega arith)

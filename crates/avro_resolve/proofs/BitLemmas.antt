@@ -8,7 +8,7 @@ use Rattle.std.proofs.lemmas.Nat.{same_from_place, div-add-mod'}
 use Rattle.std.proofs.lemmas.Nat.Bits.{bit_at-zero}
 use Rattle.std.proofs.lemmas.Bool.{cases_lt}
 use Rattle.std.proofs.lemmas.Bool.Decides.{nat_tests}
-use Rattle.avro_resolve.specs.PairSets.{bit}
+use Rattle.avro_resolve.specs.Inside.PairSets.{bit}
 
 pub bit_none : (k : ℕ) → bit [] k ≡ false
 unfolding bit

@@ -2,7 +2,7 @@
 use Rattle.std.proofs.Common.{◌≡◌, ℕ, ◌+◌, ◌≤◌, List, [], ◌∷◌, Bool, true, false, cond, ◌&&◌, ◌||◌, length, refl, sym, subst, ◌∙◌, arith, true≢false, inl, inr}
 use Rattle.std.specs.Prelude.{◌==◌}
 use Rattle.avro_resolve.specs.Witnesses.{Pair, member, Differ}
-use Rattle.avro_resolve.proofs.Members.{test_same, at_pair, false_unless, member-cons, member-nil, member_head, member_tail, member_cases}
+use Rattle.avro_resolve.proofs.PairLists.{test_same, at_pair, false_unless, member-cons, member-nil, member_head, member_tail, member_cases}
 
 -- the list without the first place of a pair
 cut : Pair → List Pair → List Pair

@@ -14,7 +14,7 @@ use Rattle.avro_schema.specs.Denotes.{Denotes, a_primitive, a_reference, primiti
 use Rattle.avro_schema.specs.Denotes.{Branches, no_branch, branch, Fields, no_field, field, Lacks, AllDiffer}
 use Rattle.avro_schema.specs.Texts.{IsSchema}
 use Rattle.avro_resolve.specs.Resolution.{first_named, source}
-use Rattle.avro_resolve.specs.Places.{Names, IsWhole}
+use Rattle.avro_resolve.specs.Inside.Places.{Names, IsWhole}
 
 abbrev pub IsNoUnion : NodeView → Type 0
 IsNoUnion (union places) = ⊥

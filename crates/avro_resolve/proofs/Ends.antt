@@ -4,14 +4,14 @@ use Rattle.std.specs.Prelude.{IsTrue, ◌↔◌}
 use Rattle.avro_nodes.specs.Nodes.{NodeView}
 use Rattle.avro_resolve.specs.declared.table.Table.{Table}
 use Rattle.avro_resolve.specs.Resolution.{Pairs, Supports, Closed, Resolves}
-use Rattle.avro_resolve.specs.Places.{IsWhole}
+use Rattle.avro_resolve.specs.Inside.Places.{IsWhole}
 use Rattle.avro_resolve.specs.Witnesses.{Pair, member, without, RefutesAfter, Differ, HasClosedSet, HasRefutation}
-use Rattle.avro_resolve.specs.Left.{left, IsLeft}
+use Rattle.avro_resolve.specs.Inside.Left.{left, IsLeft}
 use Rattle.avro_resolve.specs.Verdicts.{pairs_below}
 use Rattle.avro_schema.specs.Texts.{IsSchema}
 use Rattle.avro_resolve.proofs.Denoted.{some_node}
 use Rattle.avro_resolve.proofs.Monotone.{supports_below, supported_in}
-use Rattle.avro_resolve.proofs.Members.{member-nil, member_head, member_tail, member_cases, refuted}
+use Rattle.avro_resolve.proofs.PairLists.{member-nil, member_head, member_tail, member_cases, refuted}
 use Rattle.avro_resolve.proofs.PairLemmas.{those, those_hold, in_those_below, few_those}
 
 -- ---- a yes

@@ -7,7 +7,7 @@ use Rattle.std.specs.Str.{bytes_eq}
 use Rattle.std.proofs.lemmas.List.{drop_all}
 use Rattle.avro_nodes.specs.declared.node.Field.{Field}
 use Rattle.avro_nodes.specs.Nodes.{FieldView, field_view, texts_view}
-use Rattle.avro_resolve.specs.Lookups.{place_in}
+use Rattle.avro_resolve.specs.Inside.Lookups.{place_in}
 use Rattle.avro_resolve.specs.Resolution.{first_named}
 
 find_step : (f : Field) (x : Option Field) (y : Option FieldView) (b : Bool) → option_map (λ g. g.place) x ≡ option_map (λ g. g.place) y

@@ -8,7 +8,7 @@ use Rattle.std.proofs.lemmas.List.{get_or-replicate, get_or_past}
 use Rattle.std.proofs.lemmas.Nat.{same_from_place, mul-add-lt}
 use Rattle.std.proofs.lemmas.Bool.{cases_lt}
 use Rattle.std.proofs.lemmas.Bool.Decides.{nat_tests}
-use Rattle.avro_resolve.specs.Left.{flag, up, ups}
+use Rattle.avro_resolve.specs.Inside.Left.{flag, up, ups}
 
 pub flag_at : (fs : List Bool) (m i j : ℕ) → j < m → flag fs m i j ≡ get_or fs (i * m + j) false
 unfolding flag

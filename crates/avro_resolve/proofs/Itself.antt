@@ -13,7 +13,7 @@ use Rattle.avro_nodes.specs.declared.node.Kind.TheVariants.{Null, Boolean, Int, 
 use Rattle.avro_nodes.specs.Nodes.{FieldView, NodeView, primitive, array, mapping, union, enumeration, fixed, rec}
 use Rattle.avro_schema.specs.Texts.{IsSchema}
 use Rattle.avro_resolve.specs.Resolution.{Pairs, Promotes, source, Fits, Supports, Resolves}
-use Rattle.avro_resolve.specs.Places.{Names, IsWhole}
+use Rattle.avro_resolve.specs.Inside.Places.{Names, IsWhole}
 use Rattle.avro_resolve.proofs.Denoted.{IsNoUnion, NoUnionAt, IsPlain, some_node, is_whole, is_plain}
 use Rattle.avro_resolve.proofs.Monotone.{supports_at, at_place}
 

@@ -5,7 +5,7 @@ pub mod Flags
 pub mod BitLemmas
 pub mod Agreement
 pub mod Monotone
-pub mod Members
+pub mod PairLists
 pub mod PairLemmas
 pub mod SupportLemmas
 pub mod AskerLemmas

@@ -9,7 +9,7 @@ use Rattle.std.proofs.lemmas.Option.{same_Some}
 use Rattle.avro_nodes.proofs.Lists.{drop_item}
 use Rattle.avro_nodes.specs.declared.node.Node.{Node}
 use Rattle.avro_resolve.specs.declared.lookups.Lookup.{Lookup}
-use Rattle.avro_resolve.specs.Lookups.{first_of, IsLookupOf, AreLookups}
+use Rattle.avro_resolve.specs.Inside.Lookups.{first_of, IsLookupOf, AreLookups}
 
 module _ {X : Type 0} (title : X → List ℕ) (given : X → ℕ) where
   first_at : (x : X) (b : Bool) (o o2 : Option ℕ) (y : Option X) → (b ≡ true → o2 ≡ Some (given x)) → (b ≡ false → o2 ≡ o) → o ≡ option_map given y → o2 ≡ option_map given (cond b (Some x) y)

@@ -5,9 +5,9 @@ use Rattle.std.proofs.lemmas.Bool.Decides.{nat_tests}
 use Rattle.std.proofs.lemmas.List.Folds.{list_any-append}
 use Rattle.avro_resolve.specs.declared.pair_set.PairSet.{PairSet}
 use Rattle.avro_resolve.specs.Witnesses.{Pair, member, Differ}
-use Rattle.avro_resolve.specs.PairSets.{has}
-use Rattle.avro_resolve.specs.Walking.{Marks}
-use Rattle.avro_resolve.proofs.Members.{member-nil, member_front, member_last, push_cases, member_cases}
+use Rattle.avro_resolve.specs.Inside.PairSets.{has}
+use Rattle.avro_resolve.specs.Inside.Walking.{Marks}
+use Rattle.avro_resolve.proofs.PairLists.{member-nil, member_front, member_last, push_cases, member_cases}
 use Rattle.avro_resolve.proofs.Strikes.{push_one}
 use Rattle.avro_resolve.proofs.Settling.{same_pair}
 

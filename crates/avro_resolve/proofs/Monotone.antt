@@ -7,7 +7,7 @@ use Rattle.std.proofs.lemmas.List.Elements.{All-head, All-tail}
 use Rattle.std.proofs.lemmas.Option.{slice_get_within, get_or_from_slice_get}
 use Rattle.avro_nodes.specs.Nodes.{FieldView, NodeView, primitive, array, mapping, union, enumeration, fixed, rec}
 use Rattle.avro_resolve.specs.Resolution.{Pairs, first_named, source, Fits, Supports}
-use Rattle.avro_resolve.specs.Places.{Names, NamesAll, IsWhole}
+use Rattle.avro_resolve.specs.Inside.Places.{Names, NamesAll, IsWhole}
 
 -- each pair of the one set is one of the other
 abbrev pub Within : Pairs → Pairs → Type 0

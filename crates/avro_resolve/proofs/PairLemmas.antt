@@ -8,7 +8,7 @@ use Rattle.std.proofs.lemmas.List.Sums.{length-filter, count_by-le-length}
 use Rattle.avro_resolve.specs.Resolution.{Pairs}
 use Rattle.avro_resolve.specs.Witnesses.{Pair, member}
 use Rattle.avro_resolve.specs.Verdicts.{row_below, pairs_below}
-use Rattle.avro_resolve.proofs.Members.{test_same, member_head, member_tail, member_cases, member_front}
+use Rattle.avro_resolve.proofs.PairLists.{test_same, member_head, member_tail, member_cases, member_front}
 
 -- the pairs of a list that a set has
 abbrev pub those : Pairs → List Pair → List Pair

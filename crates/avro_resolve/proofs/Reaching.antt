@@ -4,9 +4,10 @@ use Rattle.std.specs.Prelude.{All, Any, Contains, IfSome, MatchOption, slice_get
 use Rattle.std.proofs.lemmas.Option.{slice_get_within}
 use Rattle.avro_nodes.specs.Nodes.{FieldView, NodeView, primitive, array, mapping, union, enumeration, fixed, rec}
 use Rattle.avro_resolve.specs.Resolution.{source}
-use Rattle.avro_resolve.specs.Places.{Names, IsWhole}
+use Rattle.avro_resolve.specs.Inside.Places.{Names, IsWhole}
 use Rattle.avro_resolve.specs.Verdicts.{pairs_below}
-use Rattle.avro_resolve.specs.Asking.{source_place, AsksFor, Asks, HoldsAsked, IsSmall}
+use Rattle.avro_resolve.specs.Asking.{source_place, AsksFor, Asks, HoldsAsked}
+use Rattle.avro_resolve.specs.Inside.Asked.{IsSmall}
 use Rattle.avro_resolve.proofs.Monotone.{named_in, at_place}
 use Rattle.avro_resolve.proofs.PairLemmas.{in_pairs, length-pairs_below}
 

@@ -9,13 +9,13 @@ use Rattle.std.proofs.lemmas.Bool.Decides.{nat_tests}
 use Rattle.avro_nodes.specs.Nodes.{NodeView}
 use Rattle.avro_resolve.specs.declared.table.Table.{Table}
 use Rattle.avro_resolve.specs.Resolution.{Supports}
-use Rattle.avro_resolve.specs.Places.{IsWhole}
+use Rattle.avro_resolve.specs.Inside.Places.{IsWhole}
 use Rattle.avro_resolve.specs.Witnesses.{Pair, member}
-use Rattle.avro_resolve.specs.Askers.{list_at, IsAsker, HasAskers}
-use Rattle.avro_resolve.specs.Left.{left, count_left, held, Settled, AllSettled, Lists, Ignores}
+use Rattle.avro_resolve.specs.Inside.Askers.{list_at, IsAsker, HasAskers}
+use Rattle.avro_resolve.specs.Inside.Left.{left, count_left, held, Settled, AllSettled, Lists, Ignores}
 use Rattle.avro_resolve.proofs.Monotone.{supports_within, supports_near}
 use Rattle.avro_resolve.proofs.PairLemmas.{member_back, member_after}
-use Rattle.avro_resolve.proofs.Members.{member-nil, member_front, member_last, push_cases}
+use Rattle.avro_resolve.proofs.PairLists.{member-nil, member_front, member_last, push_cases}
 
 -- ---- how the list and the table go on
 

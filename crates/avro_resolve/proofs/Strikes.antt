@@ -7,11 +7,11 @@ use Rattle.std.proofs.lemmas.List.Folds.{list_any-append}
 use Rattle.avro_nodes.specs.Nodes.{NodeView}
 use Rattle.avro_resolve.specs.declared.table.Table.{Table}
 use Rattle.avro_resolve.specs.Resolution.{Supports}
-use Rattle.avro_resolve.specs.Places.{IsWhole}
+use Rattle.avro_resolve.specs.Inside.Places.{IsWhole}
 use Rattle.avro_resolve.specs.Witnesses.{Pair, member, without, RefutesAfter, Differ}
-use Rattle.avro_resolve.specs.Left.{left, count_left, SameShape, IsLeft}
+use Rattle.avro_resolve.specs.Inside.Left.{left, count_left, SameShape, IsLeft}
 use Rattle.avro_resolve.proofs.Monotone.{supports_below}
-use Rattle.avro_resolve.proofs.Members.{differ_push, refutes_push, member-nil}
+use Rattle.avro_resolve.proofs.PairLists.{differ_push, refutes_push, member-nil}
 
 push_bools : (y z x : Bool) → (if y && z then false else not x) ≡ not (x || ((y && z) || false))
 push_bools true true true = refl

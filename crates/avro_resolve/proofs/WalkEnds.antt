@@ -8,9 +8,9 @@ use Rattle.avro_resolve.specs.Asking.{HoldsAsked, at_roots, asked_by, AreReached
 use Rattle.avro_resolve.specs.declared.walk.Walk.{Walk}
 use Rattle.avro_resolve.specs.declared.walk.Answer.{Answer}
 use Rattle.avro_resolve.specs.declared.walk.Answer.TheVariants.{Yes, No, Unfinished}
-use Rattle.avro_resolve.specs.Walking.{Good, Grown, HasGrown, Tells, Shows}
+use Rattle.avro_resolve.specs.Inside.Walking.{Good, Grown, HasGrown, Tells, Shows}
 use Rattle.avro_resolve.proofs.WalkSteps.{bounded}
-use Rattle.avro_resolve.proofs.Members.{member-nil, refuted}
+use Rattle.avro_resolve.proofs.PairLists.{member-nil, refuted}
 use Rattle.avro_resolve.proofs.Ends.{up_to}
 
 pub good_start : (w r : List NodeView) → Good w r [] [] 0

@@ -10,12 +10,13 @@ use Rattle.avro_resolve.specs.declared.walk.Answer.{Answer}
 use Rattle.avro_resolve.specs.declared.walk.Answer.TheVariants.{Yes, No, Unfinished}
 use Rattle.avro_resolve.specs.Resolution.{Pairs, Supports, Readable, source}
 use Rattle.avro_resolve.specs.Witnesses.{Pair, member, without}
-use Rattle.avro_resolve.specs.Asking.{source_place, Asked, Asks, AsksFor, AreAsked, IsSourceAsked}
-use Rattle.avro_resolve.specs.Walking.{Marks, Good, Grown, HasGrown, Ready, Tells}
+use Rattle.avro_resolve.specs.Asking.{source_place, Asks, AsksFor}
+use Rattle.avro_resolve.specs.Inside.Asked.{Asked, AreAsked, IsSourceAsked}
+use Rattle.avro_resolve.specs.Inside.Walking.{Marks, Good, Grown, HasGrown, Ready, Tells}
 use Rattle.avro_resolve.proofs.Monotone.{Within}
 use Rattle.avro_resolve.proofs.SupportLemmas.{all_of}
 use Rattle.avro_resolve.proofs.WalkSteps.{grown_same, grown_then, more, opened_yes, opened_no, grown_no, bounded}
-use Rattle.avro_resolve.proofs.Members.{member_last, false_unless}
+use Rattle.avro_resolve.proofs.PairLists.{member_last, false_unless}
 
 -- what holds of each element of a list
 pub all_of_contained : (P : ℕ → Type 0) (xs : List ℕ) → ((x : ℕ) → Contains xs x → P x) → All P xs

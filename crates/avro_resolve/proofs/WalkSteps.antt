@@ -4,10 +4,11 @@ use Rattle.std.proofs.lemmas.List.{length_push}
 use Rattle.avro_nodes.specs.Nodes.{NodeView}
 use Rattle.avro_resolve.specs.Resolution.{Supports}
 use Rattle.avro_resolve.specs.Witnesses.{Pair, member, without}
-use Rattle.avro_resolve.specs.Asking.{Asked, HoldsAsked}
-use Rattle.avro_resolve.specs.Walking.{Good, Grown}
+use Rattle.avro_resolve.specs.Asking.{HoldsAsked}
+use Rattle.avro_resolve.specs.Inside.Asked.{Asked}
+use Rattle.avro_resolve.specs.Inside.Walking.{Good, Grown}
 use Rattle.avro_resolve.proofs.Monotone.{Within, supports_within}
-use Rattle.avro_resolve.proofs.Members.{false_unless, member_take, member_front, member_last, push_cases, differ_push, refutes_push, member-nil}
+use Rattle.avro_resolve.proofs.PairLists.{false_unless, member_take, member_front, member_last, push_cases, differ_push, refutes_push, member-nil}
 use Rattle.avro_resolve.proofs.Counting.{fewer, fewer_both}
 
 some_member : (ps : List Pair) (i j : ℕ) → member ps i j ≡ true → 1 ≤ length ps

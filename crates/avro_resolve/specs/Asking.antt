@@ -1,5 +1,5 @@
 -- The pairs that a pair asks for, and those that the pair of the roots reaches by asking (this project's choice).
-use Rattle.std.specs.Prelude.{◌≡◌, ℕ, ◌<◌, ◌^◌, ◌↔◌, Option, Some, option_map, MatchOption, List, Any, Contains, slice_get, length, IsTrue}
+use Rattle.std.specs.Prelude.{◌≡◌, ℕ, ◌↔◌, Option, Some, option_map, MatchOption, List, Any, Contains, slice_get, IsTrue}
 use Rattle.avro_nodes.specs.Nodes.{FieldView, NodeView, array, mapping, union, rec}
 use Rattle.avro_resolve.specs.Resolution.{source}
 use Rattle.avro_resolve.specs.Witnesses.{Pair, member, Differ}
@@ -36,19 +36,3 @@ pub record AreReached (w r : List NodeView) (ps : List Pair) : Type 0 where
 pub record HoldsAsked (w r : List NodeView) (ps : List Pair) : Type 0 where
   pub roots : IsTrue (member ps 0 0)
   pub on : (i j p q : ℕ) → IsTrue (member ps i j) → Asks w r i j p q → IsTrue (member ps p q)
-
--- the pair is reached: each list that holds what is asked has it
-unfoldable pub Asked : List NodeView → List NodeView → ℕ → ℕ → Type 0
-Asked w r i j = (ps : List Pair) → HoldsAsked w r ps → IsTrue (member ps i j)
-
--- some list of less than 2^32 pairs holds what is asked
-abbrev pub IsSmall : List NodeView → List NodeView → Type 0
-IsSmall w r = (ps : List Pair) × HoldsAsked w r ps × (length ps < 2 ^ 32)
-
--- the pair of a reader's field and its source is reached
-abbrev pub IsSourceAsked : List NodeView → List NodeView → List FieldView → FieldView → Type 0
-IsSourceAsked w r fields f = (p : ℕ) → source_place fields f ≡ Some p → Asked w r p f.place
-
--- what the nodes at (i, j) ask for is reached
-abbrev pub AreAsked : List NodeView → List NodeView → ℕ → ℕ → NodeView → NodeView → Type 0
-AreAsked w r i j a b = (p q : ℕ) → AsksFor i j a b p q → Asked w r p q

@@ -1,12 +1,5 @@
 pub mod Resolution
-pub mod Places
-pub mod Agreeing
-pub mod Lookups
-pub mod Sides
-pub mod Askers
 pub mod Witnesses
-pub mod Left
-pub mod PairSets
 pub mod Verdicts
 pub mod Asking
-pub mod Walking
+pub mod Inside

@@ -5,8 +5,8 @@ ghost use Rattle.std.specs.List.{list_any, list_all};
 ghost use Rattle.std.specs.Str.{bytes_eq};
 ghost use Rattle.avro_nodes.specs.Nodes.{named_view, node_view, texts_view};
 ghost use Rattle.avro_resolve.specs.Resolution.{NameMatch};
-ghost use Rattle.avro_resolve.specs.Agreeing.{Agree};
-ghost use Rattle.avro_resolve.specs.Lookups.{FindsTexts, IsLookupOf};
+ghost use Rattle.avro_resolve.specs.Inside.Agreeing.{Agree};
+ghost use Rattle.avro_resolve.specs.Inside.Lookups.{FindsTexts, IsLookupOf};
 
 use crate::kinds::promotes;
 use crate::lookups::Lookup;

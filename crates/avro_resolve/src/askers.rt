@@ -2,9 +2,9 @@
 
 ghost use Rattle.std.specs.Prelude.{◌≡◌, ◌⊎◌, ◌<◌, ℕ, All, Contains, IfOk, OnOk, length, map};
 ghost use Rattle.avro_nodes.specs.Nodes.{field_view, node_view};
-ghost use Rattle.avro_resolve.specs.Places.{NamesAll, Names, IsWhole};
-ghost use Rattle.avro_resolve.specs.Sides.{nodes_of};
-ghost use Rattle.avro_resolve.specs.Askers.{list_at, IsAsker, Adds, HasAskers};
+ghost use Rattle.avro_resolve.specs.Inside.Places.{NamesAll, Names, IsWhole};
+ghost use Rattle.avro_resolve.specs.Inside.Sides.{nodes_of};
+ghost use Rattle.avro_resolve.specs.Inside.Askers.{list_at, IsAsker, Adds, HasAskers};
 
 use crate::sides::Side;
 use avro_nodes::{Field, Node};

@@ -2,7 +2,7 @@
 
 ghost use Rattle.std.specs.Prelude.{◌≡◌, IfSome, map, option_map};
 ghost use Rattle.avro_nodes.specs.Nodes.{field_view, texts_view};
-ghost use Rattle.avro_resolve.specs.Lookups.{place_in, FindsFields};
+ghost use Rattle.avro_resolve.specs.Inside.Lookups.{place_in, FindsFields};
 ghost use Rattle.avro_resolve.specs.Resolution.{first_named, source};
 
 use crate::lookups::Lookup;

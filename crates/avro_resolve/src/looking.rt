@@ -1,8 +1,8 @@
 //! Looks at pairs of places: one that the rest doesn't support is struck out and listed.
 
 ghost use Rattle.std.specs.Prelude.{ℕ, ◌<◌, length, OnOk, All, [], ◌∷◌, ◌++◌};
-ghost use Rattle.avro_resolve.specs.Sides.{nodes_of, IsSide};
-ghost use Rattle.avro_resolve.specs.Left.{IsRest, Lists, Settled, AllSettled};
+ghost use Rattle.avro_resolve.specs.Inside.Sides.{nodes_of, IsSide};
+ghost use Rattle.avro_resolve.specs.Inside.Left.{IsRest, Lists, Settled, AllSettled};
 
 use crate::sides::Side;
 use crate::support::{pair_asks, supports};

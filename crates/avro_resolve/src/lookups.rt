@@ -1,7 +1,7 @@
 //! Tables of a record's fields, and of an enum's symbols, by name. They are made once a schema.
 
 ghost use Rattle.std.specs.Prelude.{◌≡◌, ◌<◌, ℕ, List, IfOk, IfSome, slice_get, length, Some};
-ghost use Rattle.avro_resolve.specs.Lookups.{named_in, first_of, IsLookupOf, AreLookups};
+ghost use Rattle.avro_resolve.specs.Inside.Lookups.{named_in, first_of, IsLookupOf, AreLookups};
 
 use avro_nodes::{Field, Node};
 use avro_schema::Schema;
@@ -132,7 +132,7 @@ pub fn lookups_of(
 }
 
 /// The table of the node at a place, where it has one.
-#[tactic(auto, unfolding(crate::specs::Lookups::AreLookups))]
+#[tactic(auto, unfolding(crate::specs::Inside::Lookups::AreLookups))]
 pub fn lookup_at<'a, 'b>(
     lookups: &'a [Option<Lookup<'b>>],
     place: u32,

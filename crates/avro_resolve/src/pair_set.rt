@@ -1,7 +1,7 @@
 //! Sets of pairs of places.
 
 ghost use Rattle.std.specs.Prelude.{◌≡◌, ℕ, ◌<◌, ◌/◌, OnOk, length};
-ghost use Rattle.avro_resolve.specs.PairSets.{bit};
+ghost use Rattle.avro_resolve.specs.Inside.PairSets.{bit};
 
 use std::alloc::{AllocError, Global};
 
@@ -26,7 +26,7 @@ fn make_room(words: &mut Vec<u64>, at: usize) -> Result<(), AllocError>
 
 impl PairSet {
     ghost use Rattle.std.specs.Prelude.{◌≡◌, ℕ, ◌+◌, ◌*◌, ◌<◌, OnOk, ◌==◌, ◌&&◌, if◌then◌else◌, true, false};
-    ghost use Rattle.avro_resolve.specs.PairSets.{has};
+    ghost use Rattle.avro_resolve.specs.Inside.PairSets.{has};
 
     /// No pairs, of a reader with so many places.
     pub fn none(alloc: Global, readers: u32) -> PairSet

@@ -4,12 +4,13 @@
 ghost use Rattle.std.specs.Prelude.{◌≡◌, ℕ, ◌<◌, false, true, map, Some, IfSome, IfNone, None, slice_get, length, All, Any, IsTrue, IfOk};
 ghost use Rattle.avro_nodes.specs.Nodes.{field_view, node_view};
 ghost use Rattle.avro_resolve.specs.Resolution.{source, Readable, Fits};
-ghost use Rattle.avro_resolve.specs.Places.{Names};
-ghost use Rattle.avro_resolve.specs.Lookups.{FindsFields};
-ghost use Rattle.avro_resolve.specs.Sides.{nodes_of, IsSide};
+ghost use Rattle.avro_resolve.specs.Inside.Places.{Names};
+ghost use Rattle.avro_resolve.specs.Inside.Lookups.{FindsFields};
+ghost use Rattle.avro_resolve.specs.Inside.Sides.{nodes_of, IsSide};
 ghost use Rattle.avro_resolve.specs.Witnesses.{member, without};
-ghost use Rattle.avro_resolve.specs.Asking.{source_place, Asked, AreAsked, IsSourceAsked};
-ghost use Rattle.avro_resolve.specs.Walking.{Ready, Tells};
+ghost use Rattle.avro_resolve.specs.Asking.{source_place};
+ghost use Rattle.avro_resolve.specs.Inside.Asked.{Asked, AreAsked, IsSourceAsked};
+ghost use Rattle.avro_resolve.specs.Inside.Walking.{Ready, Tells};
 
 use crate::agreeing::agree;
 use crate::fields::source_of;

@@ -4,7 +4,7 @@ ghost use Rattle.std.specs.Prelude.{◌≤◌, ◌*◌, length, IfOk, List};
 ghost use Rattle.avro_nodes.specs.Nodes.{nodes_view};
 ghost use Rattle.avro_resolve.specs.Witnesses.{Pair};
 ghost use Rattle.avro_resolve.specs.Asking.{HoldsAsked};
-ghost use Rattle.avro_resolve.specs.Walking.{Shows};
+ghost use Rattle.avro_resolve.specs.Inside.Walking.{Shows};
 
 use crate::lookups::{Sought, lookups_of};
 use crate::pair_set::PairSet;

@@ -2,8 +2,8 @@
 
 ghost use Rattle.std.specs.Prelude.{◌≡◌, ◌<◌, IfSome, slice_get, length, Some};
 ghost use Rattle.avro_nodes.specs.Nodes.{node_view};
-ghost use Rattle.avro_resolve.specs.Lookups.{IsLookupOf};
-ghost use Rattle.avro_resolve.specs.Sides.{nodes_of, IsSide};
+ghost use Rattle.avro_resolve.specs.Inside.Lookups.{IsLookupOf};
+ghost use Rattle.avro_resolve.specs.Inside.Sides.{nodes_of, IsSide};
 
 use crate::lookups::{Lookup, lookup_at};
 use avro_nodes::Node;

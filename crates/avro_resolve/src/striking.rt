@@ -4,9 +4,9 @@ ghost use Rattle.std.specs.Prelude.{IfOk, OnOk, []};
 ghost use Rattle.avro_nodes.specs.Nodes.{nodes_view};
 ghost use Rattle.avro_schema.specs.Texts.{IsSchema};
 ghost use Rattle.avro_resolve.specs.Resolution.{Closed};
-ghost use Rattle.avro_resolve.specs.Sides.{nodes_of, IsSide};
-ghost use Rattle.avro_resolve.specs.Left.{left, IsLeft, IsRest, AllSettled};
-ghost use Rattle.avro_resolve.specs.Askers.{HasAskers};
+ghost use Rattle.avro_resolve.specs.Inside.Sides.{nodes_of, IsSide};
+ghost use Rattle.avro_resolve.specs.Inside.Left.{left, IsLeft, IsRest, AllSettled};
+ghost use Rattle.avro_resolve.specs.Inside.Askers.{HasAskers};
 
 use crate::askers::{askers, askers_of};
 use crate::looking::{look_across, look_everywhere};

@@ -3,11 +3,11 @@
 ghost use Rattle.std.specs.Prelude.{◌≡◌, ◌≤◌, IfSome, None, get_or, ◌<◌, ◌↔◌, ℕ, false, map, length, All, Any, IsTrue};
 ghost use Rattle.avro_nodes.specs.Nodes.{field_view, node_view};
 ghost use Rattle.avro_resolve.specs.Resolution.{Pairs, Readable, Fits, Supports};
-ghost use Rattle.avro_resolve.specs.Agreeing.{Agree};
-ghost use Rattle.avro_resolve.specs.Lookups.{FindsFields, IsLookupOf};
-ghost use Rattle.avro_resolve.specs.Places.{Names};
-ghost use Rattle.avro_resolve.specs.Sides.{nodes_of, IsSide};
-ghost use Rattle.avro_resolve.specs.Left.{left, Agreed, WithinBut, Ignores};
+ghost use Rattle.avro_resolve.specs.Inside.Agreeing.{Agree};
+ghost use Rattle.avro_resolve.specs.Inside.Lookups.{FindsFields, IsLookupOf};
+ghost use Rattle.avro_resolve.specs.Inside.Places.{Names};
+ghost use Rattle.avro_resolve.specs.Inside.Sides.{nodes_of, IsSide};
+ghost use Rattle.avro_resolve.specs.Inside.Left.{left, Agreed, WithinBut, Ignores};
 
 use crate::agreeing::agree;
 use crate::fields::source_of;

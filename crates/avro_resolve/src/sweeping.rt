@@ -1,8 +1,8 @@
 //! A first sweep over all pairs of places, which strikes out those whose nodes don't agree.
 
 ghost use Rattle.std.specs.Prelude.{ℕ, ◌<◌, IsTrue, length};
-ghost use Rattle.avro_resolve.specs.Sides.{nodes_of, IsSide};
-ghost use Rattle.avro_resolve.specs.Left.{left, Agreed, IsLeft, IsRest};
+ghost use Rattle.avro_resolve.specs.Inside.Sides.{nodes_of, IsSide};
+ghost use Rattle.avro_resolve.specs.Inside.Left.{left, Agreed, IsLeft, IsRest};
 
 use crate::sides::Side;
 use crate::support::agree_at;

@@ -18,7 +18,7 @@ pub struct Table {
 
 impl Table {
     ghost use Rattle.std.specs.Prelude.{ℕ, ◌+◌, ◌^◌, ◌<◌, IfOk, IsTrue, ◌==◌, ◌&&◌, if◌then◌else◌, false};
-    ghost use Rattle.avro_resolve.specs.Left.{left, count_left, SameShape};
+    ghost use Rattle.avro_resolve.specs.Inside.Left.{left, count_left, SameShape};
 
     /// All pairs of so many places of the writer and of the reader, with hints or without.
     pub fn all(

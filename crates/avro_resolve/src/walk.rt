@@ -2,9 +2,9 @@
 
 ghost use Rattle.std.specs.Prelude.{◌≡◌, ◌+◌, ◌<◌, ◌≤◌, ◌++◌, ◌∷◌, [], false, take, length, OnOk};
 ghost use Rattle.avro_resolve.specs.Witnesses.{member, Differ};
-ghost use Rattle.avro_resolve.specs.Asking.{Asked};
-ghost use Rattle.avro_resolve.specs.Sides.{nodes_of};
-ghost use Rattle.avro_resolve.specs.Walking.{Marks, Ready};
+ghost use Rattle.avro_resolve.specs.Inside.Asked.{Asked};
+ghost use Rattle.avro_resolve.specs.Inside.Sides.{nodes_of};
+ghost use Rattle.avro_resolve.specs.Inside.Walking.{Marks, Ready};
 
 use crate::pair_set::PairSet;
 use crate::sides::Side;

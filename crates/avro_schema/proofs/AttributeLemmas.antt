@@ -8,7 +8,7 @@ use Rattle.serde_json.specs.Data.{Data, Items, no_items, item, Members, member}
 use Rattle.serde_json.specs.Find.{as_str}
 use Rattle.serde_json.specs.View.{view, members_view}
 use Rattle.serde_json.specs.declared.value.Value.{Value}
-use Rattle.avro_schema.specs.Members.{without, texts_in, fallback_in}
+use Rattle.avro_schema.specs.Attributes.{without, texts_in, fallback_in}
 use Rattle.std.specs.List.{list_any}
 use Rattle.avro_nodes.specs.Nodes.{texts_view}
 use Rattle.avro_schema.proofs.DistinctLemmas.{any-map}

@@ -1,16 +1,16 @@
 -- The reading by computation gives what the rules say.
 use Rattle.std.proofs.Common.{◌≡◌, ℕ, ◌<◌, ◌≤◌, List, [], ◌∷◌, map, Option, Some, None, codes, refl, arith}
 use Rattle.avro_nodes.specs.Limits.{max_nesting, max_places}
-use Rattle.avro_schema.proofs.Steps.{made}
+use Rattle.avro_schema.proofs.ReaderCases.{made}
 use Rattle.std.proofs.lemmas.Bool.{le-leb}
 use Rattle.serde_json.specs.Data.{Data, Items, Members, no_members, depth, members_depth}
 use Rattle.serde_json.specs.Find.{get_member}
 use Rattle.avro_nodes.specs.Nodes.{NamedView, FieldView, NodeView, enumeration, fixed}
 use Rattle.avro_schema.specs.Names.{Known, defined}
-use Rattle.avro_schema.specs.Members.{without_all, size_of}
-use Rattle.avro_schema.specs.Definitions.{naming, new_name, named_in, symbols_in, enum_at, fixed_at, LabelView, label_in, labelling, bounded, bounded_value}
-use Rattle.avro_schema.specs.Parts.{parts_of}
-use Rattle.avro_schema.specs.Reading.{reference_to, primitive_at, name_at, container_at, branch_of, union_at, field_of, record_at, object_at, type_at}
+use Rattle.avro_schema.specs.Attributes.{without_all, size_of}
+use Rattle.avro_schema.specs.Inside.Declarations.{naming, new_name, named_in, symbols_in, enum_at, fixed_at, LabelView, label_in, labelling, bounded, bounded_value}
+use Rattle.avro_schema.specs.Inside.ValueReaders.{parts_of}
+use Rattle.avro_schema.specs.Inside.Types.{reference_to, primitive_at, name_at, container_at, branch_of, union_at, field_of, record_at, object_at, type_at}
 use Rattle.avro_schema.specs.Denotes.{Others, IsNamed, IsEnum, IsField, Denotes, a_primitive, a_reference, primitive_type, reference_type, array_type, map_type, fixed_type, enum_type, record_type, union_type}
 use Rattle.avro_schema.specs.Denotes.{Branches, no_branch, branch, Fields, no_field, field}
 use Rattle.avro_schema.proofs.Inversion.{room_there, get_past, text_past, items_past, text_if_any_past, texts_apart, numbers_apart}

@@ -19,8 +19,8 @@ use Rattle.avro_nodes.specs.declared.node.Field.{Field}
 use Rattle.avro_nodes.specs.declared.node.Node.{Node}
 use Rattle.avro_nodes.specs.Nodes.{NamedView, FieldView, NodeView, primitive, array, mapping, union, enumeration, fixed, rec, field_view, node_view, nodes_view}
 use Rattle.avro_schema.specs.declared.tables.FieldTable.{FieldTable}
-use Rattle.avro_schema.specs.Fitting.{Fitting, field_fits_by, fields_fit}
-use Rattle.avro_schema.specs.Tables.{is_always, IsFound, named_in, CoversFirst, IsTable, IsTableOf, AreTables, fits_if_any, index_fits, named_fit}
+use Rattle.avro_schema.specs.Inside.Fitting.{Fitting, field_fits_by, fields_fit}
+use Rattle.avro_schema.specs.Inside.FieldTables.{is_always, IsFound, named_in, CoversFirst, IsTable, IsTableOf, AreTables, fits_if_any, index_fits, named_fit}
 use Rattle.avro_schema.proofs.Inversion.{same_bytes}
 
 or_more : (a b c : Bool) → (b ≡ true → c ≡ true) → (a || b) ≡ true → (a || c) ≡ true

@@ -11,7 +11,7 @@ use Rattle.std.specs.List.{list_any}
 use Rattle.std.proofs.lemmas.Bool.Decides.{nat_tests}
 use Rattle.avro_nodes.specs.declared.node.Field.{Field}
 use Rattle.avro_nodes.specs.Nodes.{field_view}
-use Rattle.avro_schema.specs.Distinct.{all_new}
+use Rattle.avro_schema.specs.Inside.Distinct.{all_new}
 
 -- the next of a list is new, or it is not
 pub new_here : {X : Type 0} (same : X → X → Bool) (seen : X → Bool) (x : X) (xs : List X) → seen x ≡ false → all_new same seen (x ∷ xs) ≡ all_new same (λ y. cond (same x y) true (seen y)) xs

@@ -7,14 +7,14 @@ use Rattle.std.specs.Cmp.Lexicographic.{slice_cmp}
 use Rattle.std.specs.Ordering.{match_ordering}
 use Rattle.avro_nodes.specs.Limits.{max_places}
 use Rattle.avro_schema.specs.Denotes.{Lacks, AllDiffer}
-use Rattle.avro_schema.specs.Distinct.{all_new, all_differ}
+use Rattle.avro_schema.specs.Inside.Distinct.{all_new, all_differ}
 use Rattle.std.proofs.lemmas.Option.{same_Some}
 use Rattle.serde_json.specs.Data.{Data, Members, no_members, member}
 use Rattle.serde_json.specs.Find.{get_member}
 use Rattle.std.proofs.lemmas.Slice.Eq.{bytes_eq-Decides}
 use Rattle.std.proofs.lemmas.Bool.{ltb-true, lt-ltb, and_parts, not-true}
-use Rattle.avro_schema.specs.Members.{◌>>=◌, without, without_all, text_in, array_in, text_if_any}
-use Rattle.avro_schema.specs.Parts.{room_at}
+use Rattle.avro_schema.specs.Attributes.{◌>>=◌, without, without_all, text_in, array_in, text_if_any}
+use Rattle.avro_schema.specs.Inside.ValueReaders.{room_at}
 
 pub bind_some : {A B : Type 0} (o : Option A) (f : A → Option B) (y : B) → (o >>= f) ≡ Some y → (x : A) × (o ≡ Some x) × (f x ≡ Some y)
 bind_some None f y e = absurd cc

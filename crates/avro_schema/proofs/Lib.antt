@@ -3,14 +3,14 @@ pub mod NameLemmas
 pub mod AttributeLemmas
 pub mod DistinctLemmas
 pub mod NestingLemmas
-pub mod Exits
+pub mod ReaderErrors
 pub mod Sequence
-pub mod Steps
+pub mod ReaderCases
 pub mod Inversion
 pub mod Computes
 pub mod Sound
 pub mod Passing
-pub mod Fitting
+pub mod FittingLemmas
 pub mod Covering
 pub mod TextLemmas
 pub mod RoundMembers

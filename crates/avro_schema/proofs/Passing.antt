@@ -11,12 +11,12 @@ use Rattle.serde_json.specs.Data as json
 use Rattle.serde_json.specs.Find.{get_member, as_array, as_number, as_u64}
 use Rattle.avro_nodes.specs.Limits.{max_nesting}
 use Rattle.avro_nodes.specs.Nodes.{FieldView, NodeView}
-use Rattle.avro_nodes.specs.Objects.{AllBehind}
+use Rattle.avro_nodes.specs.Inside.Objects.{AllBehind}
 use Rattle.avro_nodes.proofs.Carried.{AllItems, OfField, OfNode}
 use Rattle.avro_nodes.proofs.Shallow.{IsShallow, AreShallow, ShallowNodes}
 use Rattle.avro_nodes.proofs.Tidy.{IsTidy, TidyItems, TidyMembers, TidyNodes}
 use Rattle.avro_schema.specs.Names.{Known}
-use Rattle.avro_schema.specs.Members.{◌>>=◌, without, without_all, array_in, size_of}
+use Rattle.avro_schema.specs.Attributes.{◌>>=◌, without, without_all, array_in, size_of}
 use Rattle.avro_schema.specs.Denotes.{Others, IsField, Denotes, a_primitive, a_reference, primitive_type, reference_type, array_type, map_type, fixed_type, enum_type, record_type, union_type}
 use Rattle.avro_schema.specs.Denotes.{Branches, no_branch, branch, Fields, no_field, field}
 use Rattle.avro_schema.proofs.Inversion.{bind_some, guard_some}

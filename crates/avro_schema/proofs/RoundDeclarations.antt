@@ -17,7 +17,7 @@ use Rattle.avro_schema.specs.declared.words.Word.{Word}
 use Rattle.avro_schema.specs.declared.words.Word.TheVariants as word
 use Rattle.avro_schema.specs.Names.{Known, is_simple, is_dotted, is_space, allowed, full_name, alias_in}
 use Rattle.avro_schema.specs.Words.{kind_of, word_of, order_of}
-use Rattle.avro_schema.specs.Members.{◌>>=◌, without_all, text_in, array_in, text_if_any, texts_in, texts_if_any, size_of, symbol_in, fallback_in, order_in}
+use Rattle.avro_schema.specs.Attributes.{◌>>=◌, without_all, text_in, array_in, text_if_any, texts_in, texts_if_any, size_of, symbol_in, fallback_in, order_in}
 use Rattle.avro_schema.specs.Denotes.{Others, IsNamed, IsEnum, IsField, Says, array_keys, map_keys, fixed_keys, enum_keys, record_keys}
 use Rattle.avro_schema.proofs.Inversion.{bind_some, bind3, guard_some, not_same}
 use Rattle.avro_schema.proofs.RoundMembers.{is_among, without-put, without_twice, none_without}

@@ -6,7 +6,7 @@ use Rattle.std.specs.Ordering.{match_ordering}
 use Rattle.std.proofs.lemmas.Map.Text.{is_eq-slice_cmp}
 use Rattle.serde_json.specs.Data.{Data, Members, no_members, member, put}
 use Rattle.serde_json.specs.Find.{get_member}
-use Rattle.avro_schema.specs.Members.{without, without_all}
+use Rattle.avro_schema.specs.Attributes.{without, without_all}
 use Rattle.avro_schema.proofs.Inversion.{differ, same_bytes}
 
 -- whether a key is one of these

@@ -16,9 +16,9 @@ use Rattle.avro_nodes.proofs.Spelling.{at_suc, again_suc}
 use Rattle.avro_schema.specs.declared.words.Word.TheVariants as word
 use Rattle.avro_schema.specs.Names.{Known, none_known, is_space, defined, resolved}
 use Rattle.avro_schema.specs.Words.{kind_of, word_of, kind_or_other}
-use Rattle.avro_schema.specs.Members.{size_of}
-use Rattle.avro_schema.specs.Weight.{names_size}
-use Rattle.avro_schema.specs.Mentions.{mention, places_mentions, fields_mentions, mentions}
+use Rattle.avro_schema.specs.Attributes.{size_of}
+use Rattle.avro_schema.specs.Inside.Weight.{names_size}
+use Rattle.avro_schema.specs.Inside.Mentions.{mention, places_mentions, fields_mentions, mentions}
 use Rattle.avro_schema.specs.Kinds.{branch_kind}
 use Rattle.avro_schema.specs.Denotes.{Others, IsNamed, IsEnum, IsField, Denotes, a_primitive, a_reference, primitive_type, reference_type, array_type, map_type, fixed_type, enum_type, record_type, union_type}
 use Rattle.avro_schema.specs.Denotes.{Branches, no_branch, branch, Fields, no_field, field, array_keys, map_keys, fixed_keys, enum_keys, record_keys, AllDiffer}

@@ -5,11 +5,11 @@ use Rattle.serde_json.specs.Data.{Data, Items, no_items, item}
 use Rattle.avro_nodes.specs.declared.node.Node.{Node}
 use Rattle.avro_nodes.specs.Nodes.{NodeView, node_view, nodes_view}
 use Rattle.avro_schema.specs.Names.{Known}
-use Rattle.avro_schema.specs.Members.{◌>>=◌}
-use Rattle.avro_schema.specs.Parts.{Part, Reader, parts_of}
-use Rattle.avro_schema.specs.Outcome.{Fails, Adds}
+use Rattle.avro_schema.specs.Attributes.{◌>>=◌}
+use Rattle.avro_schema.specs.Inside.ValueReaders.{Part, Reader, parts_of}
+use Rattle.avro_schema.specs.Inside.ReaderAnswers.{Fails, Adds}
 use Rattle.avro_schema.specs.declared.error.SchemaError.{SchemaError}
-use Rattle.avro_schema.proofs.Exits.{fails_from}
+use Rattle.avro_schema.proofs.ReaderErrors.{fails_from}
 
 -- what was read before, in front of what is still read
 abbrev pub onto : {A : Type 0} → List A → List NodeView → Option (Part (List A)) → Option (Part (List A))

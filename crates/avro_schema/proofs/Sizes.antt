@@ -8,9 +8,9 @@ use Rattle.serde_json.specs.Find.{get_member}
 use Rattle.avro_nodes.specs.Nodes.{NamedView, NodeView}
 use Rattle.avro_nodes.specs.Identity.{texts}
 use Rattle.avro_nodes.proofs.Lengths.{data_size, items_size, members_size}
-use Rattle.avro_schema.specs.Members.{without}
-use Rattle.avro_schema.specs.Weight.{texts_size, named_size, names_size}
-use Rattle.avro_schema.specs.Mentions.{mentions}
+use Rattle.avro_schema.specs.Attributes.{without}
+use Rattle.avro_schema.specs.Inside.Weight.{texts_size, named_size, names_size}
+use Rattle.avro_schema.specs.Inside.Mentions.{mentions}
 use Rattle.avro_schema.proofs.Inversion.{get-without}
 use Rattle.avro_schema.proofs.RoundDeclarations.{aliases_due}
 

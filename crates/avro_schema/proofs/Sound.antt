@@ -15,12 +15,12 @@ use Rattle.avro_schema.specs.declared.words.Container.TheVariants as container
 use Rattle.avro_schema.specs.Names.{Known, is_simple, allowed, full_name, alias_in, defined, resolved}
 use Rattle.avro_nodes.specs.Names.{namespace_of, last_part}
 use Rattle.avro_schema.specs.Words.{kind_of, word_of}
-use Rattle.avro_schema.specs.Members.{◌>>=◌, without_all, text_in, array_in, text_if_any, texts_in, texts_if_any, size_of, fallback_in, order_in}
-use Rattle.avro_schema.specs.Distinct.{all_differ}
-use Rattle.avro_schema.specs.Definitions.{naming, if_new, new_name, named_in, symbols_in, enum_at, fixed_at, LabelView, label_in, labelling, bounded, bounded_value}
-use Rattle.avro_schema.specs.Parts.{Part, parts_of, room_at}
+use Rattle.avro_schema.specs.Attributes.{◌>>=◌, without_all, text_in, array_in, text_if_any, texts_in, texts_if_any, size_of, fallback_in, order_in}
+use Rattle.avro_schema.specs.Inside.Distinct.{all_differ}
+use Rattle.avro_schema.specs.Inside.Declarations.{naming, if_new, new_name, named_in, symbols_in, enum_at, fixed_at, LabelView, label_in, labelling, bounded, bounded_value}
+use Rattle.avro_schema.specs.Inside.ValueReaders.{Part, parts_of, room_at}
 use Rattle.avro_schema.specs.Kinds.{branch_kind}
-use Rattle.avro_schema.specs.Reading.{reference_to, primitive_at, kind_or_reference, name_at, container_at, branch_of, union_at, field_at, field_of, record_at, by_word, object_at, type_at}
+use Rattle.avro_schema.specs.Inside.Types.{reference_to, primitive_at, kind_or_reference, name_at, container_at, branch_of, union_at, field_at, field_of, record_at, by_word, object_at, type_at}
 use Rattle.avro_schema.specs.Denotes.{Others, IsNamed, IsEnum, IsField, Says, Denotes, a_primitive, a_reference, primitive_type, reference_type, array_type, map_type, fixed_type, enum_type, record_type, union_type}
 use Rattle.avro_schema.specs.Denotes.{array_keys, map_keys, fixed_keys, enum_keys, record_keys, Branches, no_branch, branch, Fields, no_field, field}
 use Rattle.avro_schema.proofs.Inversion.{bind_some, bind2, bind3, bind4, bind5, guard_some, guard_none, map_some, room_is, get_past, text_past, items_past, text_if_any_past, texts_differ, numbers_differ}

@@ -14,21 +14,22 @@ use Rattle.avro_nodes.specs.Whole.{has_whole_numbers}
 use Rattle.avro_nodes.proofs.Tidy.{tidy_nodes_whole}
 use Rattle.avro_nodes.proofs.TidyRead.{tidy_read}
 use Rattle.avro_schema.specs.Names.{Known, none_known, or_else, resolved}
-use Rattle.avro_schema.specs.Members.{◌>>=◌}
-use Rattle.avro_schema.specs.Reading.{type_at}
-use Rattle.avro_schema.specs.Fitting.{node_defaults_fit}
+use Rattle.avro_schema.specs.Attributes.{◌>>=◌}
+use Rattle.avro_schema.specs.Inside.Types.{type_at}
+use Rattle.avro_schema.specs.Inside.Fitting.{node_defaults_fit}
 use Rattle.avro_schema.specs.Denotes.{Denotes, a_primitive, a_reference, primitive_type, reference_type, array_type, map_type, fixed_type, enum_type, record_type, union_type, Branches, no_branch, branch, Fields, no_field, field}
-use Rattle.avro_schema.specs.Texts.{TextDenotes, IsSchema, value_in, root_in, typed, checked, denoted}
-use Rattle.avro_schema.specs.Weight.{weight}
-use Rattle.avro_schema.specs.Mentions.{mentions}
-use Rattle.avro_schema.specs.Outcome.{Fails, Adds}
+use Rattle.avro_schema.specs.Texts.{TextDenotes, IsSchema}
+use Rattle.avro_schema.specs.Inside.DenotedNodes.{value_in, root_in, declared_nodes, nodes_that_fit, denoted_nodes}
+use Rattle.avro_schema.specs.Inside.Weight.{weight}
+use Rattle.avro_schema.specs.Inside.Mentions.{mentions}
+use Rattle.avro_schema.specs.Inside.ReaderAnswers.{Fails, Adds}
 use Rattle.avro_schema.specs.declared.error.SchemaError.{SchemaError}
 use Rattle.avro_schema.specs.declared.error.SchemaError.TheVariants.{OutOfMemory}
 use Rattle.avro_schema.proofs.Inversion.{bind_some, bind2, guard_some}
 use Rattle.avro_schema.proofs.Computes.{computes}
 use Rattle.avro_schema.proofs.Sound.{says}
 use Rattle.avro_schema.proofs.Passing.{denoted_nest, denoted_tidy}
-use Rattle.avro_schema.proofs.Fitting.{defaults_say, defaults_compute}
+use Rattle.avro_schema.proofs.FittingLemmas.{defaults_say, defaults_compute}
 use Rattle.avro_schema.proofs.RoundTrip.{names_bounded, mentions_bounded}
 use Rattle.avro_schema.proofs.WeightLemmas.{weighs}
 
@@ -38,8 +39,8 @@ refused OutOfMemory o other f = absurd (other refl)
 refused _ o other f = f
 
 pub typed_is : (text : List ℕ) (d : Data) (p : ℕ) (after : List NodeView) (known2 : Known) → length text ≤ max_text → value_in text ≡ Some d → nat_le (weight max_nesting [] d) max_text ≡ true
-    → Adds (type_at max_nesting [] d none_known 0) p [] after known2 → typed text ≡ Some after
-unfolding typed root_in
+    → Adds (type_at max_nesting [] d none_known 0) p [] after known2 → declared_nodes text ≡ Some after
+unfolding declared_nodes root_in
 typed_is text d p after known2 short e light root = rw (le-leb (length text) max_text short, e, light, root.is, ← root.after_is) refl
 
 value_says : (text : List ℕ) (d : Data) → value_in text ≡ Some d → (respelt : List ℕ) × (plain text ≡ Some respelt) × (read respelt ≡ Some d)
@@ -111,8 +112,8 @@ pub record Types (text : List ℕ) (nodes : List NodeView) : Type 0 where
   pub value_is : read respelt ≡ Some value
   pub type_is : Denotes max_nesting [] value none_known 0 0 nodes known
 
-pub typed_says : (text : List ℕ) (nodes : List NodeView) → typed text ≡ Some nodes → Types text nodes
-unfolding typed root_in
+pub typed_says : (text : List ℕ) (nodes : List NodeView) → declared_nodes text ≡ Some nodes → Types text nodes
+unfolding declared_nodes root_in
 typed_says text nodes e =
     let g = guard_some (nat_le (length text) max_text) (value_in text >>= λ value. root_in value >>= λ p. Some p.nodes) nodes e in
     let q = bind2 (value_in text) (λ value. root_in value) (λ _ p. Some p.nodes) nodes g.1 in
@@ -131,14 +132,14 @@ typed_says text nodes e =
     }
 
 typed_computes : (text respelt : List ℕ) (value : Data) (known : Known) (nodes : List NodeView) → length text ≤ max_text → plain text ≡ Some respelt → read respelt ≡ Some value
-    → Denotes max_nesting [] value none_known 0 0 nodes known → length (identity nodes) ≤ max_text → typed text ≡ Some nodes
-unfolding typed root_in
+    → Denotes max_nesting [] value none_known 0 0 nodes known → length (identity nodes) ≤ max_text → declared_nodes text ≡ Some nodes
+unfolding declared_nodes root_in
 typed_computes text respelt value known nodes short p v t bounded =
     let light : weight max_nesting [] value ≤ max_text = omega (arith, weighs t, names_bounded value 0 nodes known t, bounded) in
     rw (le-leb (length text) max_text short, value_computes text respelt value p v, le-leb (weight max_nesting [] value) max_text light, computes t) refl
 
 -- the condition of the identity text
-pub typed_whole : (text : List ℕ) (nodes : List NodeView) → typed text ≡ Some nodes → IsTrue (nodes_pass has_whole_numbers nodes)
+pub typed_whole : (text : List ℕ) (nodes : List NodeView) → declared_nodes text ≡ Some nodes → IsTrue (nodes_pass has_whole_numbers nodes)
 typed_whole text nodes e =
     let t = typed_says text nodes e in
     tidy_nodes_whole nodes (denoted_tidy t.type_is (tidy_read text t.respelt t.value t.plain_is t.value_is))
@@ -146,7 +147,7 @@ typed_whole text nodes e =
 -- ---- texts
 
 -- what is computed is denoted
-pub denoted_says : (text : List ℕ) (nodes : List NodeView) → typed text ≡ Some nodes → node_defaults_fit nodes nodes ≡ true → length (identity nodes) ≤ max_text → TextDenotes text nodes
+pub denoted_says : (text : List ℕ) (nodes : List NodeView) → declared_nodes text ≡ Some nodes → node_defaults_fit nodes nodes ≡ true → length (identity nodes) ≤ max_text → TextDenotes text nodes
 denoted_says text nodes e fit short =
     let t = typed_says text nodes e in
     record {
@@ -162,21 +163,21 @@ denoted_says text nodes e fit short =
     }
 
 -- what is denoted is computed
-pub denotes_typed : (text : List ℕ) (nodes : List NodeView) → TextDenotes text nodes → typed text ≡ Some nodes
+pub denotes_typed : (text : List ℕ) (nodes : List NodeView) → TextDenotes text nodes → declared_nodes text ≡ Some nodes
 denotes_typed text nodes t = typed_computes text t.respelt t.value t.known nodes t.short t.plain_is t.value_is t.type_is t.bounded
 
 pub denotes_fitting : (text : List ℕ) (nodes : List NodeView) → TextDenotes text nodes → node_defaults_fit nodes nodes ≡ true
 denotes_fitting text nodes t = defaults_compute nodes nodes t.defaults (denoted_nest t.type_is)
 
-pub denotes_computes : (text : List ℕ) (nodes : List NodeView) → TextDenotes text nodes → denoted text ≡ Some nodes
-unfolding denoted checked
+pub denotes_computes : (text : List ℕ) (nodes : List NodeView) → TextDenotes text nodes → denoted_nodes text ≡ Some nodes
+unfolding denoted_nodes nodes_that_fit
 denotes_computes text nodes t = rw (denotes_typed text nodes t, denotes_fitting text nodes t, le-leb (length (identity nodes)) max_text t.bounded) refl
 
 -- what is computed of a whole text is denoted
-pub computed_denotes : (text : List ℕ) (nodes : List NodeView) → denoted text ≡ Some nodes → TextDenotes text nodes
-unfolding denoted checked
+pub computed_denotes : (text : List ℕ) (nodes : List NodeView) → denoted_nodes text ≡ Some nodes → TextDenotes text nodes
+unfolding denoted_nodes nodes_that_fit
 computed_denotes text nodes e =
-    let b = bind_some (typed text) checked nodes e in
+    let b = bind_some (declared_nodes text) nodes_that_fit nodes e in
     let g = guard_some (node_defaults_fit b.0 b.0 && nat_le (length (identity b.0)) max_text) (Some b.0) nodes b.2 in
     let passed = and_parts (node_defaults_fit b.0 b.0) (nat_le (length (identity b.0)) max_text) g.0 in
     subst (λ (x : List NodeView). TextDenotes text x) (same_Some _ _ g.1) (denoted_says text b.0 b.1 passed.0 (leb-true (length (identity b.0)) max_text passed.1))
@@ -186,24 +187,24 @@ pub one_schema : (text : List ℕ) (xs ys : List NodeView) → TextDenotes text 
 one_schema text xs ys t u = same_Some _ _ (sym (denotes_typed text xs t) ∙ denotes_typed text ys u)
 
 -- where no types are computed, nothing is denoted
-pub none_typed : (text : List ℕ) → typed text ≡ None → (nodes : List NodeView) → ¬ TextDenotes text nodes
+pub none_typed : (text : List ℕ) → declared_nodes text ≡ None → (nodes : List NodeView) → ¬ TextDenotes text nodes
 none_typed text none nodes t = let e = denotes_typed text nodes t in absurd cc
 
 -- where a default does not fit, nothing is denoted
-pub none_fitting : (text : List ℕ) (nodes : List NodeView) → typed text ≡ Some nodes → node_defaults_fit nodes nodes ≡ false → (others : List NodeView) → ¬ TextDenotes text others
+pub none_fitting : (text : List ℕ) (nodes : List NodeView) → declared_nodes text ≡ Some nodes → node_defaults_fit nodes nodes ≡ false → (others : List NodeView) → ¬ TextDenotes text others
 none_fitting text nodes e misfit others t =
     let same : nodes ≡ others = same_Some _ _ (sym e ∙ denotes_typed text others t) in
     true≢false (sym (denotes_fitting text others t) ∙ ap (λ (x : List NodeView). node_defaults_fit x x) (sym same) ∙ misfit)
 
 -- where the names of the types that nodes are made of are too long, nothing is denoted
-pub none_mentioned : (text : List ℕ) (nodes : List NodeView) → typed text ≡ Some nodes → nat_le (mentions nodes nodes) max_text ≡ false → (others : List NodeView) → ¬ TextDenotes text others
+pub none_mentioned : (text : List ℕ) (nodes : List NodeView) → declared_nodes text ≡ Some nodes → nat_le (mentions nodes nodes) max_text ≡ false → (others : List NodeView) → ¬ TextDenotes text others
 none_mentioned text nodes e long others t =
     let same : nodes ≡ others = same_Some _ _ (sym e ∙ denotes_typed text others t) in
     let fit : mentions others others ≤ max_text = omega (arith, mentions_bounded t.value 0 others t.known t.type_is, t.bounded) in
     true≢false (sym (le-leb (mentions others others) max_text fit) ∙ ap (λ (x : List NodeView). nat_le (mentions x x) max_text) (sym same) ∙ long)
 
 -- where the identity text is too long, nothing is denoted
-pub none_bounded : (text : List ℕ) (nodes : List NodeView) → typed text ≡ Some nodes → max_text < length (identity nodes) → (others : List NodeView) → ¬ TextDenotes text others
+pub none_bounded : (text : List ℕ) (nodes : List NodeView) → declared_nodes text ≡ Some nodes → max_text < length (identity nodes) → (others : List NodeView) → ¬ TextDenotes text others
 none_bounded text nodes e long others t =
     let same : nodes ≡ others = same_Some _ _ (sym e ∙ denotes_typed text others t) in
     let same_length : length (identity nodes) ≡ length (identity others) = ap (λ (x : List NodeView). length (identity x)) same in

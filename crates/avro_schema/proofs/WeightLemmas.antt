@@ -10,9 +10,9 @@ use Rattle.serde_json.specs.Find.{get_member, as_str, as_array}
 use Rattle.avro_nodes.specs.Names.{is_dot, has_dot, namespace_of}
 use Rattle.avro_nodes.specs.Nodes.{NamedView, FieldView, NodeView}
 use Rattle.avro_schema.specs.Names.{Known, is_dotted, is_space, joined, name_in, full_name, alias_in}
-use Rattle.avro_schema.specs.Members.{text_in, array_in, text_of_any, text_if_any, texts_in, texts_if_any}
+use Rattle.avro_schema.specs.Attributes.{text_in, array_in, text_of_any, text_if_any, texts_in, texts_if_any}
 use Rattle.avro_schema.specs.Denotes.{IsNamed, Denotes, a_primitive, a_reference, primitive_type, reference_type, array_type, map_type, fixed_type, enum_type, record_type, union_type, Branches, no_branch, branch, Fields, no_field, field}
-use Rattle.avro_schema.specs.Weight.{texts_size, named_size, names_size, if_any, items_weight, full_in, alias_weight, space_in, names_weight, definition_weight, field_weight, record_weight, object_weight, weight}
+use Rattle.avro_schema.specs.Inside.Weight.{texts_size, named_size, names_size, if_any, items_weight, full_in, alias_weight, space_in, names_weight, definition_weight, field_weight, record_weight, object_weight, weight}
 use Rattle.avro_schema.proofs.Inversion.{bind_some, bind3, guard_some, map_some}
 use Rattle.avro_schema.proofs.RoundNames.{no_namespace}
 use Rattle.avro_schema.proofs.Sizes.{names_append}

@@ -1,5 +1,5 @@
 -- What a text denotes.
-use Rattle.std.specs.Prelude.{◌≡◌, ℕ, ◌≤◌, List, [], length, nat_le, ◌&&◌, if◌then◌else◌, Option, Some, None}
+use Rattle.std.specs.Prelude.{◌≡◌, ℕ, ◌≤◌, List, [], length, Some}
 use Rattle.serde_json.specs.Data.{Data}
 use Rattle.serde_json.specs.Read.{read}
 use Rattle.avro_nodes.specs.Limits.{max_nesting, max_text}
@@ -7,11 +7,6 @@ use Rattle.avro_nodes.specs.Nodes.{NodeView}
 use Rattle.avro_nodes.specs.Plain.{plain}
 use Rattle.avro_nodes.specs.Identity.{identity}
 use Rattle.avro_schema.specs.Names.{Known, none_known}
-use Rattle.avro_schema.specs.Members.{◌>>=◌}
-use Rattle.avro_schema.specs.Parts.{Part}
-use Rattle.avro_schema.specs.Weight.{weight}
-use Rattle.avro_schema.specs.Reading.{type_at}
-use Rattle.avro_schema.specs.Fitting.{node_defaults_fit}
 use Rattle.avro_schema.specs.Defaults.{DefaultsFit}
 use Rattle.avro_schema.specs.Denotes.{Denotes}
 
@@ -36,28 +31,3 @@ IsSchema nodes = (text : List ℕ) × TextDenotes text nodes
 pub record Keeps (nodes : List NodeView) (text : List ℕ) : Type 0 where
   pub schema : IsSchema nodes
   pub text_is : text ≡ identity nodes
-
--- ---- the same, computed
-
--- the JSON value of a text
-unfoldable pub value_in : List ℕ → Option Data
-value_in text = do
-  respelt ← plain text
-  read respelt
-
--- The root of a value. The names of its definitions stand in the identity text, so that they are no longer than it may be.
-unfoldable pub root_in : Data → Option (Part ℕ)
-root_in value = if nat_le (weight max_nesting [] value) max_text then type_at max_nesting [] value none_known 0 else None
-
--- the nodes of a text, before their defaults and their identity text are looked at
-unfoldable pub typed : List ℕ → Option (List NodeView)
-typed text = if nat_le (length text) max_text then (do
-  value ← value_in text
-  p ← root_in value
-  Some p.nodes) else None
-
-unfoldable pub checked : List NodeView → Option (List NodeView)
-checked nodes = if node_defaults_fit nodes nodes && nat_le (length (identity nodes)) max_text then Some nodes else None
-
-unfoldable pub denoted : List ℕ → Option (List NodeView)
-denoted text = typed text >>= checked

@@ -4,9 +4,9 @@ ghost use Rattle.std.specs.Prelude.{◌≡◌, Some, None, option_map, option_an
 ghost use Rattle.serde_json.specs.Find.{get_member, as_str, as_array, as_object};
 ghost use Rattle.serde_json.specs.View.{view, items_view, members_view};
 ghost use Rattle.avro_nodes.specs.Nodes.{texts_view};
-ghost use Rattle.avro_schema.specs.Definitions.{rule_by};
-ghost use Rattle.avro_schema.specs.Members.{without, text_in, array_in, text_if_any, texts_in, texts_if_any, size_of};
-ghost use Rattle.avro_schema.specs.Outcome.{Gives};
+ghost use Rattle.avro_schema.specs.Inside.Declarations.{rule_by};
+ghost use Rattle.avro_schema.specs.Attributes.{without, text_in, array_in, text_if_any, texts_in, texts_if_any, size_of};
+ghost use Rattle.avro_schema.specs.Inside.ReaderAnswers.{Gives};
 
 use crate::error::SchemaError;
 use crate::names;
@@ -64,7 +64,7 @@ pub fn take(attributes: &mut Extra, key: &str) -> Option<Value>
 }
 
 /// Takes an attribute out that is a string.
-#[tactic(auto, unfolding(crate::specs::Members::text_in))]
+#[tactic(auto, unfolding(crate::specs::Attributes::text_in))]
 pub fn take_text(attributes: &mut Extra, key: &str) -> Option<String>
     ensures text { option_map string_bytes result
         ≡ text_in key.now (members_view attributes.old.entries) }
@@ -78,7 +78,7 @@ pub fn take_text(attributes: &mut Extra, key: &str) -> Option<String>
 }
 
 /// Takes an attribute out that is an array.
-#[tactic(auto, unfolding(crate::specs::Members::array_in))]
+#[tactic(auto, unfolding(crate::specs::Attributes::array_in))]
 pub fn take_items(attributes: &mut Extra, key: &str) -> Option<Vec<Value>>
     ensures items { option_map (λ v. items_view v.items) result
         ≡ array_in key.now (members_view attributes.old.entries) }
@@ -96,7 +96,7 @@ pub fn take_items(attributes: &mut Extra, key: &str) -> Option<Vec<Value>>
 /// # Errors
 ///
 /// `BadShape` where it is no string. It is taken out then too.
-#[tactic(auto, unfolding(crate::specs::Members::text_if_any))]
+#[tactic(auto, unfolding(crate::specs::Attributes::text_if_any))]
 pub fn take_text_if_any(attributes: &mut Extra, key: &str) -> Result<Option<String>, SchemaError>
     ensures text { Gives (option_map string_bytes) result
         (text_if_any key.now (members_view attributes.old.entries)) }
@@ -113,7 +113,7 @@ pub fn take_text_if_any(attributes: &mut Extra, key: &str) -> Result<Option<Stri
 }
 
 /// The name as the rule gives it: an alias of a type in the namespace, or else a simple name.
-#[tactic(auto, unfolding(crate::specs::Definitions::rule_by))]
+#[tactic(auto, unfolding(crate::specs::Inside::Declarations::rule_by))]
 fn name_by(alloc: Global, text: String, space: Option<&str>) -> Result<String, SchemaError>
     ensures { Gives string_bytes result
         (rule_by (option_map (λ s. s.now) space.entry) (string_bytes text)) }
@@ -178,7 +178,7 @@ pub fn names_if_any(
 }
 
 /// A fixed's size in bytes, below 2^31.
-#[tactic(auto, unfolding(crate::specs::Members::size_of))]
+#[tactic(auto, unfolding(crate::specs::Attributes::size_of))]
 pub fn size_of(attribute: Option<Value>) -> Option<u32>
     ensures { result ≡ size_of (option_map view attribute) }
 {

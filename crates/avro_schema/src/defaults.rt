@@ -5,8 +5,8 @@ ghost use Rattle.std.specs.List.{list_all};
 ghost use Rattle.serde_json.specs.Find.{get_member};
 ghost use Rattle.serde_json.specs.View.{view, items_view, members_view};
 ghost use Rattle.avro_nodes.specs.Nodes.{field_view, node_view, nodes_view};
-ghost use Rattle.avro_schema.specs.Fitting.{items_fit, members_fit, field_fits_by, fields_fit, node_fits, fits, node_defaults_fit};
-ghost use Rattle.avro_schema.specs.Tables.{IsTable, IsTableOf, AreTables, fits_if_any, index_fits, named_fit, named_in};
+ghost use Rattle.avro_schema.specs.Inside.Fitting.{items_fit, members_fit, field_fits_by, fields_fit, node_fits, fits, node_defaults_fit};
+ghost use Rattle.avro_schema.specs.Inside.FieldTables.{IsTable, IsTableOf, AreTables, fits_if_any, index_fits, named_fit, named_in};
 
 use crate::attributes::find;
 use crate::defaults::fields::node_default_fits;
@@ -23,7 +23,7 @@ mod primitives;
 
 /// Whether the value, which nests less deep than the number, fits the type at the place.
 #[cycle(fit)]
-#[tactic(auto, unfolding(crate::specs::Fitting::fits))]
+#[tactic(auto, unfolding(crate::specs::Inside::Fitting::fits))]
 pub fn fits(
     value: &Value,
     place: u32,

@@ -6,10 +6,10 @@ ghost use Rattle.std.specs.List.{list_any};
 ghost use Rattle.serde_json.specs.Find.{get_member};
 ghost use Rattle.serde_json.specs.View.{view, members_view};
 ghost use Rattle.avro_nodes.specs.Nodes.{texts_view, named_view, nodes_view};
-ghost use Rattle.avro_schema.specs.Members.{without_all, fallback_in, order_in};
-ghost use Rattle.avro_schema.specs.Definitions.{naming, labelling, if_new, new_name, named_in, symbols_in, enum_at, fixed_at, label_in, label_view, bounded, bounded_value};
-ghost use Rattle.avro_schema.specs.Parts.{room_at};
-ghost use Rattle.avro_schema.specs.Outcome.{Gives, Reads, known_in};
+ghost use Rattle.avro_schema.specs.Attributes.{without_all, fallback_in, order_in};
+ghost use Rattle.avro_schema.specs.Inside.Declarations.{naming, labelling, if_new, new_name, named_in, symbols_in, enum_at, fixed_at, label_in, label_view, bounded, bounded_value};
+ghost use Rattle.avro_schema.specs.Inside.ValueReaders.{room_at};
+ghost use Rattle.avro_schema.specs.Inside.ReaderAnswers.{Gives, Reads, known_in};
 
 use crate::attributes::{
     names_if_any, names_of, size_of, take, take_items, take_text, take_text_if_any, text_of,
@@ -28,7 +28,7 @@ use std::alloc::Global;
 /// # Errors
 ///
 /// `TooLarge` where there are as many nodes as a schema may have.
-#[tactic(auto, unfolding(crate::specs::Parts::room_at))]
+#[tactic(auto, unfolding(crate::specs::Inside::ValueReaders::room_at))]
 pub fn room(nodes: &Vec<Node>) -> Result<u32, SchemaError>
     ensures room { Gives (λ p. p) result (room_at (length nodes.now.items)) }
     ensures place { IfOk result (λ p. p ≡ length nodes.now.items) }
@@ -45,7 +45,7 @@ pub fn room(nodes: &Vec<Node>) -> Result<u32, SchemaError>
 /// # Errors
 ///
 /// `TooLarge` where one of them nests deeper.
-#[tactic(auto, unfolding(crate::specs::Definitions::bounded))]
+#[tactic(auto, unfolding(crate::specs::Inside::Declarations::bounded))]
 pub fn bound(attributes: &Extra) -> Result<(), SchemaError>
     ensures { Gives (λ _. members_view attributes.now.entries) result
         (bounded (members_view attributes.now.entries)) }
@@ -89,7 +89,7 @@ fn if_free(full: String, known: &Places) -> Result<String, SchemaError>
 }
 
 /// The full name of a new definition.
-#[tactic(auto, unfolding(crate::specs::Definitions::new_name))]
+#[tactic(auto, unfolding(crate::specs::Inside::Declarations::new_name))]
 fn new_name(
     alloc: Global,
     attributes: &mut Extra,
@@ -118,7 +118,7 @@ fn new_name(
 /// `BadShape` where the name is missing, or an attribute of the three has another JSON type,
 /// `BadName` where a name isn't well formed or is a primitive's, `Redefined` where the full name is
 /// known, and `OutOfMemory` where memory is refused. Some of the attributes may be taken out then.
-#[tactic(auto, unfolding(crate::specs::Definitions::named_in))]
+#[tactic(auto, unfolding(crate::specs::Inside::Declarations::named_in))]
 pub fn named_of(
     alloc: Global,
     attributes: &mut Extra,
@@ -137,7 +137,7 @@ pub fn named_of(
 }
 
 /// An enum's symbols.
-#[tactic(auto, unfolding(crate::specs::Definitions::symbols_in))]
+#[tactic(auto, unfolding(crate::specs::Inside::Declarations::symbols_in))]
 fn symbols_of(alloc: Global, attributes: &mut Extra) -> Result<Vec<String>, SchemaError>
     ensures symbols { Gives (λ v. texts_view v.items) result
         (symbols_in (members_view attributes.old.entries)) }
@@ -187,7 +187,7 @@ fn fallback_of(attribute: Option<Value>, symbols: &[String]) -> Result<Option<St
 /// `named_of`, `BadShape` where the symbols are missing or no array of strings, or the default is
 /// none of them, `BadName` for a symbol that isn't well formed, `Redefined` for one that stands
 /// twice, and `OutOfMemory` where memory is refused. The name may be known then.
-#[tactic(auto, unfolding(crate::specs::Definitions::enum_at))]
+#[tactic(auto, unfolding(crate::specs::Inside::Declarations::enum_at))]
 pub fn enum_at(
     alloc: Global,
     attributes: Extra,
@@ -222,7 +222,7 @@ pub fn enum_at(
 /// `TooLarge` where there is no place left or an attribute nests too deep, the errors of
 /// `named_of`, `BadShape` where the size is missing or no size, and `OutOfMemory` where memory is
 /// refused. The name may be known then.
-#[tactic(auto, unfolding(crate::specs::Definitions::fixed_at))]
+#[tactic(auto, unfolding(crate::specs::Inside::Declarations::fixed_at))]
 pub fn fixed_at(
     alloc: Global,
     attributes: Extra,
@@ -292,7 +292,7 @@ pub struct Label {
 /// `BadShape` where the name is missing, the order is none, or an attribute of these has another
 /// JSON type, `BadName` where a name isn't well formed, `TooLarge` where the default nests too
 /// deep, and `OutOfMemory` where memory is refused. Some of the attributes may be taken out then.
-#[tactic(auto, unfolding(crate::specs::Definitions::label_in))]
+#[tactic(auto, unfolding(crate::specs::Inside::Declarations::label_in))]
 pub fn label_of(alloc: Global, attributes: &mut Extra) -> Result<Label, SchemaError>
     ensures label { Gives label_view result (label_in (members_view attributes.old.entries)) }
     ensures rest { OnOk result (members_view attributes.new.entries

@@ -2,7 +2,7 @@
 
 ghost use Rattle.std.specs.Prelude.{◌≡◌, ◌==◌, List, ℕ, IfOk, map, string_bytes};
 ghost use Rattle.std.specs.Str.{bytes_eq};
-ghost use Rattle.avro_schema.specs.Distinct.{all_differ};
+ghost use Rattle.avro_schema.specs.Inside.Distinct.{all_differ};
 
 use avro_nodes::Field;
 use std::alloc::{AllocError, Global};

@@ -4,12 +4,12 @@
 ghost use Rattle.std.specs.Prelude.{◌≡◌, ◌-◌, length, map, nat_le};
 ghost use Rattle.avro_nodes.specs.Nodes.{field_view, node_view, nodes_view};
 ghost use Rattle.avro_nodes.specs.Limits.{max_text};
-ghost use Rattle.avro_schema.specs.Mentions.{mention, places_mentions, fields_mentions, node_mentions, mentions};
+ghost use Rattle.avro_schema.specs.Inside.Mentions.{mention, places_mentions, fields_mentions, node_mentions, mentions};
 
 use avro_nodes::{Field, MAX_TEXT, Node};
 
 /// How long the full name of the type at the place is.
-#[tactic(auto, unfolding(crate::specs::Mentions::mention))]
+#[tactic(auto, unfolding(crate::specs::Inside::Mentions::mention))]
 fn name_length(nodes: &[Node], place: u32) -> usize
     ensures { result ≡ mention (nodes_view nodes.now) place }
 {

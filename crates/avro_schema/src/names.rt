@@ -3,7 +3,7 @@
 ghost use Rattle.std.specs.Prelude.{◌≡◌, ◌<◌, length, Some, None, IfOk, OnOk, option_map, string_bytes, true};
 ghost use Rattle.avro_schema.specs.Names.{is_start, is_part, is_dotted, is_simple, joined, resolved, is_space, full_name, alias_in, defined};
 ghost use Rattle.avro_nodes.specs.Names.{namespace_of};
-ghost use Rattle.avro_schema.specs.Outcome.{known_in};
+ghost use Rattle.avro_schema.specs.Inside.ReaderAnswers.{known_in};
 
 use avro_nodes::has_dot;
 use std::alloc::{AllocError, Global};

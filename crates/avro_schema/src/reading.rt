@@ -3,9 +3,9 @@
 ghost use Rattle.std.specs.Prelude.{length, map};
 ghost use Rattle.serde_json.specs.View.{view, items_view, members_view};
 ghost use Rattle.avro_nodes.specs.Nodes.{field_view, nodes_view};
-ghost use Rattle.avro_schema.specs.Parts.{parts_of};
-ghost use Rattle.avro_schema.specs.Reading.{container_at, branch_of, union_at, field_of, record_at, object_at, type_at};
-ghost use Rattle.avro_schema.specs.Outcome.{Reads, known_in};
+ghost use Rattle.avro_schema.specs.Inside.ValueReaders.{parts_of};
+ghost use Rattle.avro_schema.specs.Inside.Types.{container_at, branch_of, union_at, field_of, record_at, object_at, type_at};
+ghost use Rattle.avro_schema.specs.Inside.ReaderAnswers.{Reads, known_in};
 
 use crate::attributes::{members_of, take, take_items, take_text};
 use crate::definitions::{bound, enum_at, fixed_at, label_of, named_of, others, room};

@@ -5,8 +5,9 @@ ghost use Rattle.serde_json.specs.View.{view};
 ghost use Rattle.avro_nodes.specs.Identity.{identity};
 ghost use Rattle.avro_nodes.specs.Limits.{max_places};
 ghost use Rattle.avro_nodes.specs.Nodes.{NodeView, nodes_view};
-ghost use Rattle.avro_schema.specs.Texts.{TextDenotes, IsSchema, value_in, typed, denoted};
-ghost use Rattle.avro_schema.specs.Outcome.{Gives};
+ghost use Rattle.avro_schema.specs.Texts.{TextDenotes, IsSchema};
+ghost use Rattle.avro_schema.specs.Inside.DenotedNodes.{value_in, declared_nodes, denoted_nodes};
+ghost use Rattle.avro_schema.specs.Inside.ReaderAnswers.{Gives};
 
 use crate::defaults::defaults_fit;
 use crate::error::SchemaError;
@@ -46,7 +47,7 @@ impl Model for Schema {
 }
 
 /// The JSON value of a text whose numbers are whole.
-#[tactic(auto, unfolding(crate::specs::Texts::value_in))]
+#[tactic(auto, unfolding(crate::specs::Inside::DenotedNodes::value_in))]
 fn value_of(alloc: Global, text: &str) -> Result<Value, SchemaError>
     ensures { Gives view result (value_in text.now) }
 {
@@ -66,9 +67,9 @@ fn value_of(alloc: Global, text: &str) -> Result<Value, SchemaError>
 }
 
 /// The nodes of a text, before their defaults and their identity text are looked at.
-#[tactic(auto, unfolding(crate::specs::Texts::typed, crate::specs::Texts::root_in))]
+#[tactic(auto, unfolding(crate::specs::Inside::DenotedNodes::declared_nodes, crate::specs::Inside::DenotedNodes::root_in))]
 fn nodes_of(alloc: Global, text: &str) -> Result<Vec<Node>, SchemaError>
-    ensures { Gives (λ v. nodes_view v.items) result (typed text.now) }
+    ensures { Gives (λ v. nodes_view v.items) result (declared_nodes text.now) }
 {
     if text.len() > MAX_TEXT {
         return Err(SchemaError::TooLarge);
@@ -165,5 +166,5 @@ pub fn identity_denotes()
 /// A law: what a text denotes can be computed.
 pub fn denoting_is_decided()
     ensures { (text : List ℕ) (nodes : List NodeView)
-        → (denoted text ≡ Some nodes) ↔ TextDenotes text nodes }
+        → (denoted_nodes text ≡ Some nodes) ↔ TextDenotes text nodes }
 {}

@@ -3,7 +3,7 @@
 
 ghost use Rattle.std.specs.Prelude.{IfOk, IfSome, map};
 ghost use Rattle.avro_nodes.specs.Nodes.{field_view, node_view, nodes_view};
-ghost use Rattle.avro_schema.specs.Tables.{IsTable, IsTableOf, AreTables};
+ghost use Rattle.avro_schema.specs.Inside.FieldTables.{IsTable, IsTableOf, AreTables};
 
 use avro_nodes::{Field, Node};
 use serde_json::Value;

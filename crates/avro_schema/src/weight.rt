@@ -5,8 +5,8 @@ ghost use Rattle.std.specs.Prelude.{◌≡◌, ◌-◌, length, option_map, nat_
 ghost use Rattle.serde_json.specs.Find.{get_member};
 ghost use Rattle.serde_json.specs.View.{view, items_view, members_view};
 ghost use Rattle.avro_nodes.specs.Limits.{max_nesting, max_text};
-ghost use Rattle.avro_schema.specs.Members.{text_in, array_in};
-ghost use Rattle.avro_schema.specs.Weight.{if_any, items_weight, full_in, alias_weight, space_in, names_weight, definition_weight, field_weight, record_weight, object_weight, weight};
+ghost use Rattle.avro_schema.specs.Attributes.{text_in, array_in};
+ghost use Rattle.avro_schema.specs.Inside.Weight.{if_any, items_weight, full_in, alias_weight, space_in, names_weight, definition_weight, field_weight, record_weight, object_weight, weight};
 
 use crate::attributes::find;
 use crate::words::{Word, word_of};
@@ -14,7 +14,7 @@ use avro_nodes::{Extra, MAX_NESTING, MAX_TEXT, has_dot, namespace_of};
 use serde_json::Value;
 
 /// The attribute of this name, if it is a string.
-#[tactic(auto, unfolding(crate::specs::Members::text_in))]
+#[tactic(auto, unfolding(crate::specs::Attributes::text_in))]
 fn text_at<'a>(members: &'a Extra, key: &str) -> Option<&'a str>
     ensures { option_map (λ s. s.now) result ≡ text_in key.now (members_view members.now.entries) }
 {
@@ -25,7 +25,7 @@ fn text_at<'a>(members: &'a Extra, key: &str) -> Option<&'a str>
 }
 
 /// The attribute of this name, if it is an array.
-#[tactic(auto, unfolding(crate::specs::Members::array_in))]
+#[tactic(auto, unfolding(crate::specs::Attributes::array_in))]
 fn items_at<'a>(members: &'a Extra, key: &str) -> Option<&'a Vec<Value>>
     ensures { option_map (λ v. items_view v.now.items) result
         ≡ array_in key.now (members_view members.now.entries) }
@@ -38,7 +38,7 @@ fn items_at<'a>(members: &'a Extra, key: &str) -> Option<&'a Vec<Value>>
 
 /// What is left of a number of bytes after the full name that the name has in the namespace. As
 /// everywhere here, nothing is left where the bytes do not suffice.
-#[tactic(auto, unfolding(crate::specs::Weight::full_in, crate::specs::Names::joined))]
+#[tactic(auto, unfolding(crate::specs::Inside::Weight::full_in, crate::specs::Names::joined))]
 fn after_name(left: usize, name: &str, space: &str) -> usize
     ensures { result ≡ left - length (full_in space.now name.now) }
 {
@@ -71,7 +71,7 @@ fn after_aliases(left: usize, aliases: &Vec<Value>, space: &str) -> usize
 }
 
 /// The namespace of a definition of this name, inside an enclosing one.
-#[tactic(auto, unfolding(crate::specs::Weight::space_in))]
+#[tactic(auto, unfolding(crate::specs::Inside::Weight::space_in))]
 fn space_of<'a>(members: &'a Extra, name: &'a str, enclosing: &'a str) -> &'a str
     ensures { result.now ≡ space_in enclosing.now name.now (members_view members.now.entries) }
 {
@@ -85,7 +85,7 @@ fn space_of<'a>(members: &'a Extra, name: &'a str, enclosing: &'a str) -> &'a st
 }
 
 /// What is left after the name and the aliases of a definition in the namespace.
-#[tactic(auto, unfolding(crate::specs::Weight::names_weight))]
+#[tactic(auto, unfolding(crate::specs::Inside::Weight::names_weight))]
 fn after_names(left: usize, members: &Extra, name: &str, space: &str) -> usize
     ensures { result ≡ left - names_weight space.now name.now (members_view members.now.entries) }
 {
@@ -97,7 +97,7 @@ fn after_names(left: usize, members: &Extra, name: &str, space: &str) -> usize
 }
 
 /// What is left after a definition that has no types inside.
-#[tactic(auto, unfolding(crate::specs::Weight::definition_weight))]
+#[tactic(auto, unfolding(crate::specs::Inside::Weight::definition_weight))]
 fn after_definition(left: usize, members: &Extra, enclosing: &str) -> usize
     ensures { result ≡ left - definition_weight enclosing.now (members_view members.now.entries) }
 {
@@ -109,7 +109,7 @@ fn after_definition(left: usize, members: &Extra, enclosing: &str) -> usize
 
 /// What is left after the definitions of a type, nested no deeper than the number.
 #[cycle(weigh)]
-#[tactic(auto, unfolding(crate::specs::Weight::weight))]
+#[tactic(auto, unfolding(crate::specs::Inside::Weight::weight))]
 fn after_type(left: usize, value: &Value, space: &str, depth: u32) -> usize
     ensures { result ≡ left - weight depth space.now (view value.now) }
 {
@@ -145,7 +145,7 @@ fn after_branches(left: usize, items: &Vec<Value>, space: &str, depth: u32) -> u
 }
 
 #[cycle(weigh)]
-#[tactic(auto, unfolding(crate::specs::Weight::object_weight))]
+#[tactic(auto, unfolding(crate::specs::Inside::Weight::object_weight))]
 fn after_object(left: usize, members: &Extra, space: &str, depth: u32) -> usize
     ensures { result ≡ left - object_weight (weight depth) space.now (members_view members.now.entries) }
 {
@@ -162,7 +162,7 @@ fn after_object(left: usize, members: &Extra, space: &str, depth: u32) -> usize
 }
 
 #[cycle(weigh)]
-#[tactic(auto, unfolding(crate::specs::Weight::record_weight))]
+#[tactic(auto, unfolding(crate::specs::Inside::Weight::record_weight))]
 fn after_record(left: usize, members: &Extra, enclosing: &str, depth: u32) -> usize
     ensures { result ≡ left - record_weight (weight depth) enclosing.now (members_view members.now.entries) }
 {

@@ -10,7 +10,7 @@ use Rattle.reg_core.specs.declared.decision.View.{View}
 use Rattle.reg_core.specs.declared.number.Choice.{Choice}
 use Rattle.reg_core.specs.Bodies.{verdict_body}
 use Rattle.reg_core.specs.Compatibility.{named_versions}
-use Rattle.reg_core.specs.Comparisons.{is_read_admitted}
+use Rattle.reg_core.specs.Inside.Comparisons.{is_read_admitted}
 use Rattle.reg_core.specs.Machine.{step}
 use Rattle.reg_core.specs.Numbers.{choice_in}
 use Rattle.reg_core.specs.ReadCommands.{found_row}

@@ -7,7 +7,7 @@ use Rattle.std.proofs.lemmas.List.Elements.{All-nil, All-cons, All-contains}
 use Rattle.std.proofs.lemmas.Slice.Eq.{bytes_eq-Decides}
 use Rattle.reg_core.specs.declared.decision.Change.{Change}
 use Rattle.reg_core.specs.declared.decision.Change.TheVariants.{DropLevel}
-use Rattle.reg_core.specs.Deleting.{version_change}
+use Rattle.reg_core.specs.Inside.Deleting.{version_change}
 use Rattle.reg_core.specs.DeletionCommands.{as_deleted, with_deleted, without_row, deleted_of, with_subject_deleted, without_subject}
 use Rattle.reg_core.specs.Registry.{Registry, Row, RowKey, Rows, Version, own_without}
 use Rattle.reg_core.specs.Rows.{rows_of, live_rows}

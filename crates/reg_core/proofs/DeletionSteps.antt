@@ -8,7 +8,7 @@ use Rattle.reg_core.specs.declared.code.Code.TheVariants.{SubjectNotFound, Subje
 use Rattle.reg_core.specs.declared.command.Command.TheVariants.{DeleteVersion, DeleteSubject}
 use Rattle.reg_core.specs.declared.decision.View.{View}
 use Rattle.reg_core.specs.declared.decision.Change.TheVariants.{DropLevel}
-use Rattle.reg_core.specs.Deleting.{version_change, row_to_delete, subject_refusal}
+use Rattle.reg_core.specs.Inside.Deleting.{version_change, row_to_delete, subject_refusal}
 use Rattle.reg_core.specs.DeletionCommands.{with_deleted, without_row, version_deleted, delete_version, with_subject_deleted, without_subject, numbers_reply, soft_delete, remove_subject, delete_subject}
 use Rattle.reg_core.specs.Bodies.{number_body}
 use Rattle.reg_core.specs.Machine.{step}

@@ -22,7 +22,7 @@ use Rattle.reg_core.specs.Rows.{rows_of, shown_rows, live_rows, chosen_row, text
 use Rattle.reg_core.specs.LevelCommands.{set_level, level_shown, shown_reply}
 use Rattle.reg_core.specs.ReadCommands.{Texts, versions_reply, found_row, looked_up, rows_with_id, text_reply, version_reply, version_text_reply, id_reply, id_versions_reply, lookup_reply}
 use Rattle.reg_core.specs.declared.number.Choice.TheVariants.{Latest, Numbered}
-use Rattle.reg_core.specs.Deleting.{row_to_delete, subject_refusal}
+use Rattle.reg_core.specs.Inside.Deleting.{row_to_delete, subject_refusal}
 use Rattle.reg_core.specs.DeletionCommands.{if_live, if_deleted, found_and, row_to_mark, row_to_remove, with_deleted, without_row, version_deleted, delete_version, soft_delete, remove_subject, delete_subject}
 use Rattle.reg_core.specs.RegisterCommands.{schema_in, register, registered, check_reply, check_all_reply, verdict_reply}
 use Rattle.reg_core.specs.Machine.{step}

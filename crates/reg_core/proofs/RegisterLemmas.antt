@@ -9,7 +9,8 @@ use Rattle.std.proofs.lemmas.List.Elements.{All-nil, All-head, All-tail, All-fil
 use Rattle.std.proofs.lemmas.Option.{none-some, same_Some, slice_get_within, get_or_from_slice_get}
 use Rattle.avro_nodes.specs.Nodes.{NodeView}
 use Rattle.avro_nodes.specs.Identity.{identity}
-use Rattle.avro_schema.specs.Texts.{IsSchema, denoted}
+use Rattle.avro_schema.specs.Texts.{IsSchema}
+use Rattle.avro_schema.specs.Inside.DenotedNodes.{denoted_nodes}
 use Rattle.avro_schema.proofs.TextLemmas.{denotes_computes, computed_denotes}
 use Rattle.avro_schema.proofs.RoundText.{identity_text_denotes}
 use Rattle.reg_core.specs.declared.level.Level.{Level}
@@ -19,9 +20,9 @@ use Rattle.reg_core.specs.declared.command.Command.TheVariants.{Register}
 use Rattle.reg_core.specs.declared.decision.View.{View}
 use Rattle.reg_core.specs.Bodies.{id_body}
 use Rattle.reg_core.specs.Compatibility.{named_versions}
-use Rattle.reg_core.specs.Comparisons.{is_read_compatible, is_read_admitted}
+use Rattle.reg_core.specs.Inside.Comparisons.{is_read_compatible, is_read_admitted}
 use Rattle.reg_core.specs.Machine.{step}
-use Rattle.reg_core.specs.Registering.{id_among, id_shown, has_numbers_shown, row_shown, version_added}
+use Rattle.reg_core.specs.Inside.Registering.{id_among, id_shown, has_numbers_shown, row_shown, version_added}
 use Rattle.reg_core.specs.RegisterCommands.{schema_in, register, registered, is_among, is_admitted_after, id_for, with_version}
 use Rattle.reg_core.specs.Registry.{Registry, IsRegistry, Row, Schemas, max_number, schema_at}
 use Rattle.reg_core.specs.Replies.{answer, fault}
@@ -36,7 +37,7 @@ use Rattle.reg_core.proofs.Versions.{named-map}
 -- ---- verdicts on the versions that a level names
 
 -- the verdict on a version whose text the view has
-pub read_compatible : (view : View) (level : Level) (new : List NodeView) (row : Row) (text : List ℕ) (earlier : List NodeView) → text_in view row.1.id ≡ Some text → denoted text ≡ Some earlier
+pub read_compatible : (view : View) (level : Level) (new : List NodeView) (row : Row) (text : List ℕ) (earlier : List NodeView) → text_in view row.1.id ≡ Some text → denoted_nodes text ≡ Some earlier
     → is_read_compatible view level new row ≡ is_compatible level earlier new
 read_compatible view level new row text earlier there is = rw (there, is) refl
 
@@ -96,7 +97,7 @@ at_schema : (schemas : Schemas) → All IsSchema schemas → (id : ℕ) (nodes :
 at_schema schemas h zero nodes e = absurd (none-some nodes e)
 at_schema schemas h (suc n) nodes e = subst IsSchema (get_or_from_slice_get schemas n nodes nodes e) (h n nodes (slice_get_within schemas n nodes e))
 
-identity_denoted : (nodes : List NodeView) → IsSchema nodes → denoted (identity nodes) ≡ Some nodes
+identity_denoted : (nodes : List NodeView) → IsSchema nodes → denoted_nodes (identity nodes) ≡ Some nodes
 identity_denoted nodes s = denotes_computes (identity nodes) nodes (identity_text_denotes nodes s)
 
 row_compatible : (view : View) (schemas : Schemas) → All IsSchema schemas → (level : Level) (new : List NodeView) (row : Row) → HasSchema schemas row → ShowsText view schemas row
@@ -179,7 +180,7 @@ changes_fit : (g : Registry) (subject : List ℕ) (new : List NodeView) → IsSc
     → ChangesFit (version_added known ((subject, next_number (rows_of g subject)), record { id = id_for g.schemas new; deleted = false }) new) g
 changes_fit g subject new s None e number within =
     let id : id_for g.schemas new ≡ length g.schemas + 1 = ap (λ (o : Option ℕ). unwrap_or o (length g.schemas + 1)) e in
-    let more : length (g.schemas ++ option_to_list (denoted (identity new))) ≡ length g.schemas + 1 =
+    let more : length (g.schemas ++ option_to_list (denoted_nodes (identity new))) ≡ length g.schemas + 1 =
     ap (λ (o : Option (List NodeView)). length (g.schemas ++ option_to_list o)) (identity_denoted new s) ∙ length-append g.schemas (new ∷ []) in (
       record { nodes = new; schema = s; is = refl; next = id; within = within; unknown = e },
       (record { absent = next_number-absent g subject; fits = record { within = (omega arith, number); has_schema = (omega arith, omega arith) } }, tt),

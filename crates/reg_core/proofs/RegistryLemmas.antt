@@ -8,7 +8,8 @@ use Rattle.std.proofs.lemmas.List.Elements.{All-nil, All-push}
 use Rattle.std.proofs.lemmas.Option.{none-some}
 use Rattle.avro_nodes.specs.Nodes.{NodeView}
 use Rattle.avro_nodes.specs.Identity.{identity}
-use Rattle.avro_schema.specs.Texts.{TextDenotes, IsSchema, denoted}
+use Rattle.avro_schema.specs.Texts.{TextDenotes, IsSchema}
+use Rattle.avro_schema.specs.Inside.DenotedNodes.{denoted_nodes}
 use Rattle.avro_schema.proofs.RoundText.{identity_text_denotes}
 use Rattle.avro_schema.proofs.TextLemmas.{computed_denotes, denotes_computes}
 use Rattle.reg_core.specs.declared.level.Level.{Level}
@@ -85,7 +86,7 @@ fewer-IsRegistry g rows own ok were = record {
 -- ---- changes
 
 -- the text of a new schema denotes it
-pub identity_denoted : (nodes : List NodeView) → IsSchema nodes → denoted (identity nodes) ≡ Some nodes
+pub identity_denoted : (nodes : List NodeView) → IsSchema nodes → denoted_nodes (identity nodes) ≡ Some nodes
 identity_denoted nodes schema = denotes_computes (identity nodes) nodes (identity_text_denotes nodes schema)
 
 -- a change that a registry can have leaves a registry
@@ -95,7 +96,7 @@ change_fits-IsRegistry (change.SetLevel subject level) g ok fits = levels-IsRegi
 change_fits-IsRegistry (change.AddText id text) g ok fits =
     let few : length g.schemas + 1 ≤ max_number = omega (arith, fits.next, fits.within) in
     let unknown : id_of g.schemas (identity fits.nodes) ≡ None = subst (λ (t : List ℕ). id_of g.schemas t ≡ None) fits.is fits.unknown in
-    let denotes : denoted text ≡ Some fits.nodes = ap denoted fits.is ∙ identity_denoted fits.nodes fits.schema in
+    let denotes : denoted_nodes text ≡ Some fits.nodes = ap denoted_nodes fits.is ∙ identity_denoted fits.nodes fits.schema in
     subst (λ (o : Option (List NodeView)). IsRegistry (record g { schemas = g.schemas ++ option_to_list o })) (sym denotes) (grown-IsRegistry g fits.nodes ok fits.schema few unknown)
 change_fits-IsRegistry (change.MarkDeleted subject version) g ok fits = fewer-IsRegistry g (altered g.rows (subject, version) as_deleted) g.own ok (altered_was g.rows (subject, version))
 change_fits-IsRegistry (change.Remove subject version) g ok fits = fewer-IsRegistry g (remove g.rows (subject, version)) g.own ok (removed_was g.rows (subject, version))

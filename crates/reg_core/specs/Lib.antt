@@ -19,6 +19,4 @@ pub mod Views
 pub mod Compatibility
 pub mod Verdicts
 pub mod Additions
-pub mod Comparisons
-pub mod Registering
-pub mod Deleting
+pub mod Inside

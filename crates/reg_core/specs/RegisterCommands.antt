@@ -3,7 +3,7 @@ use Rattle.std.specs.Prelude.{ℕ, ◌+◌, ◌++◌, nat_lt, nat_le, ◌&&◌, 
 use Rattle.std.specs.FinMap.{insert}
 use Rattle.avro_nodes.specs.Nodes.{NodeView}
 use Rattle.avro_nodes.specs.Identity.{identity}
-use Rattle.avro_schema.specs.Texts.{denoted}
+use Rattle.avro_schema.specs.Inside.DenotedNodes.{denoted_nodes}
 use Rattle.reg_core.specs.declared.level.Level.{Level}
 use Rattle.reg_core.specs.declared.code.Code.{Code}
 use Rattle.reg_core.specs.declared.code.Code.TheVariants.{InvalidSchema, InvalidVersion, Incompatible, NoNumberLeft}
@@ -17,7 +17,7 @@ use Rattle.reg_core.specs.Verdicts.{is_admitted}
 
 -- Schema Registry API reference, Subjects: the schema of a body, if its type is supported and its text denotes one
 unfoldable pub schema_in : List ℕ → Bool → Option (List NodeView)
-schema_in text supported = if supported then denoted text else None
+schema_in text supported = if supported then denoted_nodes text else None
 
 -- Schema Registry API reference, Compatibility: the subject's own level, else the global one
 abbrev pub level_in : Registry → List ℕ → Level

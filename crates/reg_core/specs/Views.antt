@@ -5,7 +5,8 @@ use Rattle.std.specs.Ordering.{nat_cmp}
 use Rattle.std.specs.FinMap.{get, insert, remove, entries}
 use Rattle.avro_nodes.specs.Nodes.{NodeView}
 use Rattle.avro_nodes.specs.Identity.{identity}
-use Rattle.avro_schema.specs.Texts.{IsSchema, denoted}
+use Rattle.avro_schema.specs.Texts.{IsSchema}
+use Rattle.avro_schema.specs.Inside.DenotedNodes.{denoted_nodes}
 use Rattle.reg_core.specs.declared.level.Level.{Level}
 use Rattle.reg_core.specs.declared.command.Command.{Command}
 use Rattle.reg_core.specs.declared.command.Command.TheVariants.{Register, DeleteVersion, DeleteSubject, Global, LevelOf, Lookup, Subjects, Versions, Version, Text, ById, VersionsOfId, Check, CheckAll}
@@ -114,7 +115,7 @@ altered rows key change = unwrap_or (option_map (λ version. insert rows key (ch
 abbrev pub after_change : Change → Registry → Registry
 after_change (change.SetGlobal level) g = record g { global = level }
 after_change (change.SetLevel subject level) g = record g { own = own_with g.own subject level }
-after_change (change.AddText id text) g = record g { schemas = g.schemas ++ option_to_list (denoted text) }
+after_change (change.AddText id text) g = record g { schemas = g.schemas ++ option_to_list (denoted_nodes text) }
 after_change (change.AddRow row) g = record g { rows = insert g.rows row.0 row.1 }
 after_change (change.MarkDeleted subject version) g = record g { rows = altered g.rows (subject, version) as_deleted }
 after_change (change.Remove subject version) g = record g { rows = remove g.rows (subject, version) }

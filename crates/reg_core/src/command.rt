@@ -1,7 +1,7 @@
 //! Commands, and the text by which a write is kept and compared.
 
 ghost use Rattle.std.specs.Prelude.{◌≡◌, true, IfOk, option_and_then, option_copied, string_bytes};
-ghost use Rattle.avro_schema.specs.Texts.{denoted};
+ghost use Rattle.avro_schema.specs.Inside.DenotedNodes.{denoted_nodes};
 ghost use Rattle.reg_core.specs.CommandTexts.{command_text};
 ghost use Rattle.reg_core.specs.Machine.{is_write, schema_sent, subject_of};
 ghost use Rattle.reg_core.specs.Views.{needs_count, needs_levels};
@@ -155,7 +155,7 @@ impl Command {
     /// The text of the schema that the command sends, if it sends one that is supported.
     #[tactic(auto, unfolding(crate::specs::RegisterCommands::schema_in))]
     pub fn schema_text(&self) -> Option<&Text>
-        ensures { option_and_then denoted (option_copied result) ≡ schema_sent self.now }
+        ensures { option_and_then denoted_nodes (option_copied result) ≡ schema_sent self.now }
     {
         match self {
             Command::Register {

@@ -12,9 +12,9 @@ use Rattle.reg_http.specs.declared.serving.Ended.TheVariants.{Closed, ReadFailed
 use Rattle.reg_http.specs.Output.{answers}
 use Rattle.reg_http.specs.declared.answering.Stop.{Stop}
 use Rattle.reg_http.specs.declared.answering.Stop.TheVariants.{Waiting}
-use Rattle.reg_http.specs.Readings.{end_of}
+use Rattle.reg_http.specs.Inside.Readings.{end_of}
 use Rattle.reg_http.specs.Sessions.{Carries, EndsAs, Session}
-use Rattle.reg_http.specs.SessionSteps.{AnswersAs, Waits, Served}
+use Rattle.reg_http.specs.Inside.SessionSteps.{AnswersAs, Waits, Served}
 use Rattle.reg_http.proofs.SessionLemmas.{Carries-nil, Served-more, AnswersAs-after}
 
 -- what is held, where less than a whole message is

@@ -14,22 +14,22 @@ use Rattle.reg_core.specs.KeptReplies.{Kept}
 use Rattle.reg_service.specs.Deliveries.{Serves, served}
 use Rattle.reg_service.proofs.JoinedExchanges.{serves_none}
 use Rattle.reg_service.proofs.SingleDeliveries.{serves_refused}
-use Rattle.reg_http.specs.Output.{Replies}
+use Rattle.reg_http.specs.Inside.Replying.{ReplyLeads}
 
 -- a delivery that was answered
-pub Replies-delivered : (what : Result Delivery Refusal) (d : Delivery) (reply : Told) (g : Registry) (k : Kept) (g' : Registry) (k' : Kept)
-    → what ≡ Ok d → Serves g k (served ((d, reply) ∷ [])) g' k' → Replies what reply g k g' k'
-Replies-delivered what d reply g k g' k' e s =
-    let P : Result Delivery Refusal → Type 0 = λ w. Replies w reply g k g' k' in
+pub ReplyLeads-delivered : (what : Result Delivery Refusal) (d : Delivery) (reply : Told) (g : Registry) (k : Kept) (g' : Registry) (k' : Kept)
+    → what ≡ Ok d → Serves g k (served ((d, reply) ∷ [])) g' k' → ReplyLeads what reply g k g' k'
+ReplyLeads-delivered what d reply g k g' k' e s =
+    let P : Result Delivery Refusal → Type 0 = λ w. ReplyLeads w reply g k g' k' in
     subst P (sym e) (record { refused = tt; serves = s })
 
 -- What was refused changes nothing, and so does want of memory.
-pub Replies-refused : (what : Result Delivery Refusal) (code : Code) (allow : Option (List ℕ)) (reply : Told) (g : Registry) (k : Kept)
-    → IsRefused what code allow → reply ≡ fault code → Replies what reply g k g k
-Replies-refused (Ok d) code allow reply g k (inl b) e = record { refused = tt; serves = serves_refused g g k k d reply (e ∙ ap fault b.0) refl refl }
-Replies-refused (Ok d) code allow reply g k (inr h) e = absurd (cc)
-Replies-refused (Err other) code allow reply g k (inl b) e = record { refused = inr (e ∙ ap fault b.0); serves = serves_none g g k k refl refl }
-Replies-refused (Err other) code allow reply g k (inr h) e =
+pub ReplyLeads-refused : (what : Result Delivery Refusal) (code : Code) (allow : Option (List ℕ)) (reply : Told) (g : Registry) (k : Kept)
+    → IsRefused what code allow → reply ≡ fault code → ReplyLeads what reply g k g k
+ReplyLeads-refused (Ok d) code allow reply g k (inl b) e = record { refused = tt; serves = serves_refused g g k k d reply (e ∙ ap fault b.0) refl refl }
+ReplyLeads-refused (Ok d) code allow reply g k (inr h) e = absurd (cc)
+ReplyLeads-refused (Err other) code allow reply g k (inl b) e = record { refused = inr (e ∙ ap fault b.0); serves = serves_none g g k k refl refl }
+ReplyLeads-refused (Err other) code allow reply g k (inr h) e =
     let same : (code, allow) ≡ other = cc in
     record { refused = inl (e ∙ ap (λ (refusal : Refusal). fault refusal.0) same); serves = serves_none g g k k refl refl }
 

@@ -21,9 +21,10 @@ use Rattle.reg_messages.specs.Closing.{closes}
 use Rattle.reg_messages.specs.Answers.{fault_answer}
 use Rattle.reg_messages.proofs.Fronts.{IsMessage-more}
 use Rattle.reg_routes.specs.Deliveries.{delivery_of}
-use Rattle.reg_http.specs.Output.{Answered, Replies, answer_to, exchange_of, exchanges, AreRefused, StayOpen, LastCloses, answers, IsFront, IsCutShort}
+use Rattle.reg_http.specs.Output.{Answered, answer_to, exchange_of, exchanges, AreRefused, StayOpen, LastCloses, answers, IsFront, IsCutShort}
+use Rattle.reg_http.specs.Inside.Replying.{ReplyLeads}
 use Rattle.reg_http.specs.Sessions.{Carries}
-use Rattle.reg_http.specs.SessionSteps.{StopsAs, AnswersAs, AnswersOne, FaultAs, NextAs, Served, next_after}
+use Rattle.reg_http.specs.Inside.SessionSteps.{StopsAs, AnswersAs, AnswersOne, FaultAs, NextAs, Served, next_after}
 
 -- the message of an answered one
 abbrev message_of : Answered → Message
@@ -49,7 +50,7 @@ Carries-nil w g k bytes = record { leads = refl; refused = tt; serves = serves_n
 
 -- one message
 Carries-one : (w w' : Option (List ℕ)) (g : Registry) (k : Kept) (g' : Registry) (k' : Kept) (bytes rest out : List ℕ) (m : Message) (reply : Told)
-    → IsMessage bytes m rest → Replies (delivery_of m) reply g k g' k' → Appends w w' out → Carries w w' g k g' k' bytes ((m, reply) ∷ []) rest out
+    → IsMessage bytes m rest → ReplyLeads (delivery_of m) reply g k g' k' → Appends w w' out → Carries w w' g k g' k' bytes ((m, reply) ∷ []) rest out
 Carries-one w w' g k g' k' bytes rest out m reply p r a = record {
   leads = (rest, p, refl);
   refused = (r.refused, tt);
@@ -164,7 +165,7 @@ AnswersAs-fault w w' g k bytes code (Waiting needs) f a = absurd a
 
 -- a whole message was answered, or a beginning of its answer was written
 pub Next-message : (w w' : Option (List ℕ)) (g : Registry) (k : Kept) (g' : Registry) (k' : Kept) (bytes : List ℕ) (size : ℕ) (m : Message) (reply : Told)
-    (sent : Sent) (close : Bool) → IsMessage bytes m (drop size bytes) → Replies (delivery_of m) reply g k g' k' → closes m ≡ close
+    (sent : Sent) (close : Bool) → IsMessage bytes m (drop size bytes) → ReplyLeads (delivery_of m) reply g k g' k' → closes m ≡ close
     → (part : List ℕ) → IsFront part (answer_to m reply) → Appends w w' part → (sent ≡ Whole → Appends w w' (answer_to m reply))
     → NextAs w w' g k g' k' bytes (next_after sent close size)
 Next-message w w' g k g' k' bytes size m reply Whole true is r c part front a whole = record {

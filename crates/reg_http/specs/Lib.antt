@@ -1,5 +1,4 @@
 pub mod OverTables
 pub mod Output
 pub mod Sessions
-pub mod SessionSteps
-pub mod Readings
+pub mod Inside

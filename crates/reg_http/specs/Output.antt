@@ -5,10 +5,8 @@ use Rattle.std.specs.Io.KnownBytes.{Appends}
 use Rattle.reg_core.specs.declared.code.Code.{Code}
 use Rattle.reg_core.specs.declared.code.Code.TheVariants.{BackendFault}
 use Rattle.reg_core.specs.Replies.{Told, fault}
-use Rattle.reg_core.specs.Registry.{Registry}
 use Rattle.reg_core.specs.declared.delivery.Delivery.{Delivery}
-use Rattle.reg_core.specs.KeptReplies.{Kept}
-use Rattle.reg_service.specs.Deliveries.{Exchange, Serves, served}
+use Rattle.reg_service.specs.Deliveries.{Exchange}
 use Rattle.reg_messages.specs.Messages.{Message, Follows, Tail, End, Part, Faulty}
 use Rattle.reg_messages.specs.Closing.{closes}
 use Rattle.reg_messages.specs.Answers.{answer_bytes, fault_answer}
@@ -31,11 +29,6 @@ exchange_of (Err refusal) reply = []
 abbrev pub IsRefusedBy : Result Delivery Refusal → Told → Type 0
 IsRefusedBy (Ok delivery) reply = Unit {0}
 IsRefusedBy (Err refusal) reply = (reply ≡ fault refusal.0) ⊎ (reply ≡ fault BackendFault)
-
--- From a registry and what is kept, the reply to what was asked leads to a registry and what is kept then.
-pub record Replies (what : Result Delivery Refusal) (reply : Told) (g : Registry) (k : Kept) (g' : Registry) (k' : Kept) : Type 0 where
-  pub refused : IsRefusedBy what reply
-  pub serves : Serves g k (served (exchange_of what reply)) g' k'
 
 -- the exchanges of the messages that have a delivery, in order
 abbrev pub exchanges : List Answered → List Exchange

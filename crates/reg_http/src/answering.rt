@@ -7,8 +7,8 @@ ghost use Rattle.reg_messages.specs.MessageLooks.{IsWhole};
 ghost use Rattle.reg_messages.specs.Messages.{Message};
 ghost use Rattle.reg_routes.specs.Deliveries.{allow_beside, asked_by};
 ghost use Rattle.reg_http.specs.OverTables.{Over};
-ghost use Rattle.reg_http.specs.Output.{Replies};
-ghost use Rattle.reg_http.specs.SessionSteps.{AnswersAs, FaultAs, IsWithin, NextAs, WaitsAt, next_after};
+ghost use Rattle.reg_http.specs.Inside.Replying.{ReplyLeads};
+ghost use Rattle.reg_http.specs.Inside.SessionSteps.{AnswersAs, FaultAs, IsWithin, NextAs, WaitsAt, next_after};
 
 use crate::buffer::Buffer;
 use crate::writing::{Sent, send};
@@ -54,7 +54,7 @@ fn reply_to<S: Alter>(
 ) -> (Reply, Option<&'static str>)
     ensures clean { HasCleanDisk (state_in service.new) → HasCleanDisk (state_in service.old) }
     ensures replies { HasCleanDisk (state_in service.new) → Over (state_in service.old) (state_in service.new)
-        (Replies (asked_by request.now) result.0) }
+        (ReplyLeads (asked_by request.now) result.0) }
     ensures allow { option_map (λ text. text.now) result.1 ≡ allow_beside (asked_by request.now) result.0 }
 {
     match command_of(alloc, routes, request) {

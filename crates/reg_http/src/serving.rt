@@ -5,8 +5,8 @@ ghost use Rattle.sqlite.specs.State.{HasCleanDisk};
 ghost use Rattle.reg_service.specs.Services.{state_in};
 ghost use Rattle.reg_http.specs.OverTables.{Over};
 ghost use Rattle.reg_http.specs.Sessions.{Session};
-ghost use Rattle.reg_http.specs.Readings.{ReadsAs, end_of};
-ghost use Rattle.reg_http.specs.SessionSteps.{AnswersAs, Waits, WaitsAt};
+ghost use Rattle.reg_http.specs.Inside.Readings.{ReadsAs, end_of};
+ghost use Rattle.reg_http.specs.Inside.SessionSteps.{AnswersAs, Waits, WaitsAt};
 
 use crate::answering::{Stop, answer_held};
 use crate::buffer::Buffer;

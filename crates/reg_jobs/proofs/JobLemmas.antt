@@ -17,8 +17,8 @@ use Rattle.reg_store.specs.declared.error.StoreError.TheVariants.{Memory, Disk, 
 use Rattle.reg_store.specs.Failures.{IsFaultBy, IsFaultOver, is_fault}
 use Rattle.reg_store.specs.Spells.{SpellsWhileOpen}
 use Rattle.reg_words.specs.declared.task.Listing.{Listing}
-use Rattle.reg_jobs.specs.declared.listings.Listed.{Listed}
-use Rattle.reg_jobs.specs.declared.listings.Listed.TheVariants.{Whole, Unread, NotWritten, OutOfMemory}
+use Rattle.reg_jobs.specs.declared.listings.ListOutcome.{ListOutcome}
+use Rattle.reg_jobs.specs.declared.listings.ListOutcome.TheVariants.{Whole, Unread, NotWritten, OutOfMemory}
 use Rattle.reg_jobs.specs.Listings.{IfUnread, ListsAs, table_of}
 use Rattle.reg_jobs.specs.Jobs.{HasRegistry, ListsOver, SessionOver}
 
@@ -43,7 +43,7 @@ is_fault-by old new (OldLayout number) by = absurd by
 is_fault-by old new (NewerLayout number) by = absurd by
 
 -- over tables that spell a registry, memory and the disk alone fail
-IfUnread-fault : (listed : Listed) (begun new : State) (b : Registry) (k : Kept)
+IfUnread-fault : (listed : ListOutcome) (begun new : State) (b : Registry) (k : Kept)
     → IfUnread listed (IsFaultOver begun new) → SpellsWhileOpen begun b k → IfUnread listed (λ error. IsTrue (is_fault error))
 IfUnread-fault Whole begun new b k fault spells = tt
 IfUnread-fault (Unread error) begun new b k fault spells = is_fault-by begun new error (fault b k spells)
@@ -51,7 +51,7 @@ IfUnread-fault NotWritten begun new b k fault spells = tt
 IfUnread-fault OutOfMemory begun new b k fault spells = tt
 
 -- a listing of the registry of what was opened
-pub ListsOver-has : {S : Type 0} (g : Ghosts S) (opened : Opened S) (kind : Listing) (begun new : State) (writer writer' : Option (List ℕ)) (listed : Listed)
+pub ListsOver-has : {S : Type 0} (g : Ghosts S) (opened : Opened S) (kind : Listing) (begun new : State) (writer writer' : Option (List ℕ)) (listed : ListOutcome)
     → HasRegistry g opened begun → ((b : Registry) (k : Kept) → SpellsWhileOpen begun b k → ListsAs (table_of kind) b writer writer' listed)
     → IfUnread listed (IsFaultOver begun new)
     → ((b : Registry) (k : Kept) → SpellsWhileOpen begun b k → SpellsWhileOpen new b k) → ListsOver g opened kind writer writer' listed new

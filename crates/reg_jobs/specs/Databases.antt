@@ -6,13 +6,13 @@ use Rattle.sqlite_trees.specs.declared.store.Store.{Ghosts}
 use Rattle.reg_core.specs.Registry.{new_registry}
 use Rattle.reg_core.specs.KeptReplies.{nothing_kept}
 use Rattle.reg_tables.specs.Layout.{no_schema}
-use Rattle.reg_tables.specs.Reading.{OnlyReads}
+use Rattle.reg_tables.specs.Reads.{OnlyReads}
 use Rattle.reg_store.specs.declared.error.StoreError.{StoreError}
 use Rattle.reg_store.specs.declared.error.StoreError.TheVariants.{Disk, NotARegistry}
 use Rattle.reg_store.specs.Failures.{IsFaultBy}
 use Rattle.reg_store.specs.Opening.{IsRefusedBy, TellsNewer}
 use Rattle.reg_store.specs.Spells.{SpellsWhileOpen}
-use Rattle.reg_store.specs.Testing.{IsFaultUnopened}
+use Rattle.reg_store.specs.UnopenedFaults.{IsFaultUnopened}
 
 -- a connection comes back, and this holds of what it shows
 pub record GivesBack {S : Type 0} (g : Ghosts S) (back : Option (Held S)) (P : State → Type 0) : Type 0 where

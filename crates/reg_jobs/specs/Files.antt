@@ -7,10 +7,10 @@ use Rattle.avro_nodes.specs.Identity.{identity}
 use Rattle.avro_schema.specs.Texts.{TextDenotes}
 use Rattle.reg_jobs.specs.declared.files.FileFault.{FileFault}
 use Rattle.reg_jobs.specs.declared.files.FileFault.TheVariants.{CannotRead, NotSchema, OutOfMemory}
-use Rattle.reg_jobs.specs.declared.files.Printed.{Printed}
-use Rattle.reg_jobs.specs.declared.files.Printed.TheVariants.{Whole, Nothing, NotWritten}
-use Rattle.reg_jobs.specs.declared.files.Checked.{Checked}
-use Rattle.reg_jobs.specs.declared.files.Checked.TheVariants.{Verdict, Reader, Writer, OutOfMemory as CheckOutOfMemory, NotWritten as VerdictNotWritten}
+use Rattle.reg_jobs.specs.declared.files.TextOutcome.{TextOutcome}
+use Rattle.reg_jobs.specs.declared.files.TextOutcome.TheVariants.{Whole, Nothing, NotWritten}
+use Rattle.reg_jobs.specs.declared.files.CheckOutcome.{CheckOutcome}
+use Rattle.reg_jobs.specs.declared.files.CheckOutcome.TheVariants.{Verdict, Reader, Writer, OutOfMemory as CheckOutOfMemory, NotWritten as VerdictNotWritten}
 use Rattle.avro_resolve.specs.Resolution.{Resolves}
 use Rattle.reg_http.specs.Output.{IsFront}
 
@@ -30,7 +30,7 @@ abbrev pub identity_line : List NodeView → List ℕ
 identity_line nodes = identity nodes ++ 10 ∷ []
 
 -- what was printed for a file
-abbrev pub PrintsAs : Option (List ℕ) → Option (List ℕ) → Option (List ℕ) → Printed → Type 0
+abbrev pub PrintsAs : Option (List ℕ) → Option (List ℕ) → Option (List ℕ) → TextOutcome → Type 0
 PrintsAs file old new Whole = (nodes : List NodeView) × Holds file nodes × Appends old new (identity_line nodes)
 PrintsAs file old new (Nothing fault) = FailsAs file fault × Appends old new []
 PrintsAs file old new NotWritten =
@@ -42,7 +42,7 @@ verdict_line true = codes "compatible\n"
 verdict_line false = codes "incompatible\n"
 
 -- what was printed for a verdict
-abbrev pub TellsVerdict : Bool → Option (List ℕ) → Option (List ℕ) → Checked → Type 0
+abbrev pub TellsVerdict : Bool → Option (List ℕ) → Option (List ℕ) → CheckOutcome → Type 0
 TellsVerdict good old new (Verdict told) = (told ≡ good) × Appends old new (verdict_line good)
 TellsVerdict good old new (Reader fault) = ⊥
 TellsVerdict good old new (Writer fault) = ⊥
@@ -58,7 +58,7 @@ pub record Judges (reader_file writer_file : Option (List ℕ)) (good : Bool) : 
   pub verdict : IsTrue good ↔ Resolves writer reader
 
 -- what a check of two files came to, and what was printed
-abbrev pub ChecksAs : Option (List ℕ) → Option (List ℕ) → Option (List ℕ) → Option (List ℕ) → Checked → Type 0
+abbrev pub ChecksAs : Option (List ℕ) → Option (List ℕ) → Option (List ℕ) → Option (List ℕ) → CheckOutcome → Type 0
 ChecksAs reader_file writer_file old new (Verdict good) = Judges reader_file writer_file good × Appends old new (verdict_line good)
 ChecksAs reader_file writer_file old new (Reader fault) = FailsAs reader_file fault × Appends old new []
 ChecksAs reader_file writer_file old new (Writer fault) = (nodes : List NodeView) × Holds reader_file nodes × FailsAs writer_file fault × Appends old new []

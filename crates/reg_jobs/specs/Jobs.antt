@@ -14,8 +14,8 @@ use Rattle.reg_store.specs.Opening.{OpensOver}
 use Rattle.reg_store.specs.Spells.{SpellsUnopened, SpellsWhileOpen}
 use Rattle.reg_http.specs.OverTables.{Reaches}
 use Rattle.reg_http.specs.declared.serving.Ended.{Ended}
-use Rattle.reg_jobs.specs.declared.files.Printed.{Printed}
-use Rattle.reg_jobs.specs.declared.files.Checked.{Checked}
+use Rattle.reg_jobs.specs.declared.files.TextOutcome.{TextOutcome}
+use Rattle.reg_jobs.specs.declared.files.CheckOutcome.{CheckOutcome}
 use Rattle.reg_words.specs.declared.task.Job.{Job}
 use Rattle.reg_words.specs.declared.task.Job.TheVariants.{Run, Text as TextJob, Check as CheckJob, List as ListJob}
 use Rattle.reg_words.specs.declared.task.Listing.{Listing}
@@ -27,7 +27,7 @@ use Rattle.reg_jobs.specs.declared.outcome.Outcome.TheVariants.{Session as Sessi
 use Rattle.reg_jobs.specs.Databases.{GivesBack, IsMadeIn, LacksMade, LacksFound}
 use Rattle.reg_jobs.specs.Files.{PrintsAs, ChecksAs}
 use Rattle.reg_jobs.specs.Listings.{IfUnread, ListsAs, table_of}
-use Rattle.reg_jobs.specs.declared.listings.Listed.{Listed}
+use Rattle.reg_jobs.specs.declared.listings.ListOutcome.{ListOutcome}
 use Rattle.reg_jobs.specs.Outcomes.{answer_of, status_of, TellsFault}
 use Rattle.reg_http.specs.Sessions.{Session}
 
@@ -137,7 +137,7 @@ RunsAsked g opened false back reader reader' writer writer' outcome = (back ≡ 
 RunsAsked g opened true back reader reader' writer writer' outcome = RunsOn g opened back reader reader' writer writer' outcome
 
 -- a listing of the registry of what was opened, which the tables still spell
-pub record ListsOver {S : Type 0} (g : Ghosts S) (opened : Opened S) (kind : Listing) (writer writer' : Option (List ℕ)) (listed : Listed) (new : State) : Type 0 where
+pub record ListsOver {S : Type 0} (g : Ghosts S) (opened : Opened S) (kind : Listing) (writer writer' : Option (List ℕ)) (listed : ListOutcome) (new : State) : Type 0 where
   pub registry : Registry
   pub kept : Kept
   pub begins : BeginsWith g opened registry kept
@@ -161,13 +161,13 @@ ListsOn g opened kind back writer writer' (ListEnded listed) = GivesBack g back 
 
 -- a schema's text was to be printed
 pub record TextsAs (file writer writer' : Option (List ℕ)) (outcome : Outcome) : Type 0 where
-  pub printed : Printed
+  pub printed : TextOutcome
   pub prints : PrintsAs file writer writer' printed
   pub outcome_is : outcome ≡ TextEnded printed
 
 -- two schemas were to be checked
 pub record CheckedAs (reader_file writer_file writer writer' : Option (List ℕ)) (outcome : Outcome) : Type 0 where
-  pub checked : Checked
+  pub checked : CheckOutcome
   pub checks : ChecksAs reader_file writer_file writer writer' checked
   pub outcome_is : outcome ≡ CheckEnded checked
 

@@ -11,8 +11,8 @@ use Rattle.reg_report.specs.declared.error.ReportError.{ReportError}
 use Rattle.reg_report.specs.declared.error.ReportError.TheVariants.{Store, Write, OutOfMemory as ReportOutOfMemory}
 use Rattle.reg_words.specs.declared.task.Listing.{Listing as Word}
 use Rattle.reg_words.specs.declared.task.Listing.TheVariants.{Subjects as WordSubjects, Versions as WordVersions, Schemas as WordSchemas}
-use Rattle.reg_jobs.specs.declared.listings.Listed.{Listed}
-use Rattle.reg_jobs.specs.declared.listings.Listed.TheVariants.{Whole, Unread, NotWritten, OutOfMemory}
+use Rattle.reg_jobs.specs.declared.listings.ListOutcome.{ListOutcome}
+use Rattle.reg_jobs.specs.declared.listings.ListOutcome.TheVariants.{Whole, Unread, NotWritten, OutOfMemory}
 
 -- what a word of the command line lists
 abbrev pub table_of : Word → Listing
@@ -21,7 +21,7 @@ table_of WordVersions = Versions
 table_of WordSchemas = Schemas
 
 -- how a listing ended, by what its printing answered
-abbrev pub listed_as : Result (Unit {0}) ReportError → Listed
+abbrev pub listed_as : Result (Unit {0}) ReportError → ListOutcome
 listed_as (Ok done) = Whole
 listed_as (Err (Store error)) = Unread error
 listed_as (Err Write) = NotWritten
@@ -29,14 +29,14 @@ listed_as (Err ReportOutOfMemory) = OutOfMemory
 
 -- A listing of the registry, by how it ended: so many whole lines, from the header on, where the registry couldn't be read to the end. What was
 -- written before a failed write, or before memory was refused, isn't said.
-abbrev pub ListsAs : Listing → Registry → Option (List ℕ) → Option (List ℕ) → Listed → Type 0
+abbrev pub ListsAs : Listing → Registry → Option (List ℕ) → Option (List ℕ) → ListOutcome → Type 0
 ListsAs kind g writer writer' Whole = Appends writer writer' (listing kind g)
 ListsAs kind g writer writer' (Unread error) = IsBegun (header kind ∷ listing_lines kind g) writer writer'
 ListsAs kind g writer writer' NotWritten = Unit {0}
 ListsAs kind g writer writer' OutOfMemory = Unit {0}
 
 -- what holds of the store's error, where the registry couldn't be read
-abbrev pub IfUnread : Listed → (StoreError → Type 0) → Type 0
+abbrev pub IfUnread : ListOutcome → (StoreError → Type 0) → Type 0
 IfUnread Whole P = Unit {0}
 IfUnread (Unread error) P = P error
 IfUnread NotWritten P = Unit {0}

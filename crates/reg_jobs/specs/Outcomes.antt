@@ -9,11 +9,11 @@ use Rattle.reg_store.specs.declared.error.StoreError.TheVariants.{Memory as NoMe
 use Rattle.reg_http.specs.declared.serving.Ended.TheVariants.{Closed, ReadFailed, WriteFailed, Malformed, Memory}
 use Rattle.reg_jobs.specs.declared.files.FileFault.{FileFault}
 use Rattle.reg_jobs.specs.declared.files.FileFault.TheVariants.{CannotRead, NotSchema, OutOfMemory}
-use Rattle.reg_jobs.specs.declared.files.Printed.TheVariants.{Whole, Nothing as NothingPrinted, NotWritten}
-use Rattle.reg_jobs.specs.declared.files.Checked.TheVariants.{Verdict, Reader, Writer, OutOfMemory as CheckOutOfMemory, NotWritten as VerdictNotWritten}
+use Rattle.reg_jobs.specs.declared.files.TextOutcome.TheVariants.{Whole, Nothing as NothingPrinted, NotWritten}
+use Rattle.reg_jobs.specs.declared.files.CheckOutcome.TheVariants.{Verdict, Reader, Writer, OutOfMemory as CheckOutOfMemory, NotWritten as VerdictNotWritten}
 use Rattle.reg_jobs.specs.declared.outcome.Outcome.{Outcome}
 use Rattle.reg_jobs.specs.declared.outcome.Outcome.TheVariants.{Session as SessionEnded, Unopened, NotListening, Text as TextEnded, Check as CheckEnded, List as ListEnded}
-use Rattle.reg_jobs.specs.declared.listings.Listed.TheVariants.{Whole as ListedWhole, Unread, NotWritten as ListNotWritten, OutOfMemory as ListOutOfMemory}
+use Rattle.reg_jobs.specs.declared.listings.ListOutcome.TheVariants.{Whole as ListedWhole, Unread, NotWritten as ListNotWritten, OutOfMemory as ListOutOfMemory}
 use Rattle.reg_jobs.specs.declared.outcome.Trouble.{Trouble}
 use Rattle.reg_jobs.specs.declared.outcome.Fault.{Fault}
 use Rattle.reg_jobs.specs.declared.outcome.Fault.TheVariants.{ReadFailed as FaultReadFailed, WriteFailed as FaultWriteFailed, MalformedInput as FaultMalformedInput, OutOfMemory as FaultOutOfMemory, CannotRead as FaultCannotRead, NotSchema as FaultNotSchema, CannotOpen as FaultCannotOpen, NotRegistry as FaultNotRegistry, OldLayout as FaultOldLayout, NewerLayout as FaultNewerLayout, CannotListen}

@@ -24,7 +24,7 @@ pub enum FileFault {
 
 /// How the printing of a schema ended.
 #[derive(Clone, Copy, Debug, PartialEq, Eq)]
-pub enum Printed {
+pub enum TextOutcome {
     /// The identity text was printed, with a line end.
     Whole,
     /// The file gives no schema, and nothing was printed.
@@ -55,30 +55,30 @@ fn schema_in(alloc: Global, file: Option<&[u8]>) -> Result<Schema, FileFault>
 }
 
 /// Prints the identity text of the schema in a file, with a line end.
-pub fn print_text<W: Write>(alloc: Global, file: Option<&[u8]>, writer: &mut W) -> Printed
+pub fn print_text<W: Write>(alloc: Global, file: Option<&[u8]>, writer: &mut W) -> TextOutcome
     ensures { PrintsAs (option_map (λ bytes. bytes.now) file.entry)
         (W.contents writer.old) (W.contents writer.new) result }
 {
     let schema = match schema_in(alloc, file) {
         Ok(schema) => schema,
-        Err(fault) => return Printed::Nothing(fault),
+        Err(fault) => return TextOutcome::Nothing(fault),
     };
     let Ok(mut text) = schema.text(alloc) else {
-        return Printed::Nothing(FileFault::OutOfMemory);
+        return TextOutcome::Nothing(FileFault::OutOfMemory);
     };
     if text.push('\n').is_err() {
-        return Printed::Nothing(FileFault::OutOfMemory);
+        return TextOutcome::Nothing(FileFault::OutOfMemory);
     }
     if write_whole(writer, text.as_bytes()) {
-        Printed::Whole
+        TextOutcome::Whole
     } else {
-        Printed::NotWritten
+        TextOutcome::NotWritten
     }
 }
 
 /// How a check of two files ended.
 #[derive(Clone, Copy, Debug, PartialEq, Eq)]
-pub enum Checked {
+pub enum CheckOutcome {
     /// The reader's schema reads what the writer's writes, or not; the verdict was printed.
     Verdict(bool),
     /// The reader's file gives no schema, and nothing was printed.
@@ -103,13 +103,13 @@ fn verdict_line(yes: bool) -> &'static str
 }
 
 /// Prints a verdict's line.
-fn print_verdict<W: Write>(yes: bool, writer: &mut W) -> Checked
+fn print_verdict<W: Write>(yes: bool, writer: &mut W) -> CheckOutcome
     ensures { TellsVerdict yes (W.contents writer.old) (W.contents writer.new) result }
 {
     if write_whole(writer, verdict_line(yes).as_bytes()) {
-        Checked::Verdict(yes)
+        CheckOutcome::Verdict(yes)
     } else {
-        Checked::NotWritten
+        CheckOutcome::NotWritten
     }
 }
 
@@ -120,20 +120,20 @@ pub fn check<W: Write>(
     reader_file: Option<&[u8]>,
     writer_file: Option<&[u8]>,
     output: &mut W,
-) -> Checked
+) -> CheckOutcome
     ensures { ChecksAs (option_map (λ bytes. bytes.now) reader_file.entry) (option_map (λ bytes. bytes.now) writer_file.entry)
         (W.contents output.old) (W.contents output.new) result }
 {
     let reader = match schema_in(alloc, reader_file) {
         Ok(schema) => schema,
-        Err(fault) => return Checked::Reader(fault),
+        Err(fault) => return CheckOutcome::Reader(fault),
     };
     let writer = match schema_in(alloc, writer_file) {
         Ok(schema) => schema,
-        Err(fault) => return Checked::Writer(fault),
+        Err(fault) => return CheckOutcome::Writer(fault),
     };
     match resolves(alloc, &writer, &reader) {
         Ok(verdict) => print_verdict(verdict.yes, output),
-        Err(_) => Checked::OutOfMemory,
+        Err(_) => CheckOutcome::OutOfMemory,
     }
 }

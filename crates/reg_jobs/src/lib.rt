@@ -16,7 +16,7 @@ mod outcome;
 pub use job::{Opened, do_job, store_in};
 pub use line::report;
 pub use listening::serve_on;
-pub use listings::Listed;
+pub use listings::ListOutcome;
 pub use opening::{Opener, open_for};
 pub use outcome::Outcome;
 pub use reg_words::{Job, LineFault, Listing, Server, Task, task_of};

@@ -18,7 +18,7 @@ use std::io::Write;
 
 /// How a listing ended.
 #[derive(Clone, Copy, Debug, PartialEq, Eq)]
-pub enum Listed {
+pub enum ListOutcome {
     /// All of it was printed.
     Whole,
     /// The registry couldn't be read to its end. So many whole lines were printed, from the header on.
@@ -41,14 +41,14 @@ pub fn table_of(kind: reg_words::Listing) -> Listing
 }
 
 /// How a listing ended, by what the printing of it answered.
-fn listed_as(printed: Result<(), ReportError>) -> Listed
+fn listed_as(printed: Result<(), ReportError>) -> ListOutcome
     ensures { result ≡ listed_as printed }
 {
     match printed {
-        Ok(()) => Listed::Whole,
-        Err(ReportError::Store(error)) => Listed::Unread(error),
-        Err(ReportError::Write) => Listed::NotWritten,
-        Err(ReportError::OutOfMemory) => Listed::OutOfMemory,
+        Ok(()) => ListOutcome::Whole,
+        Err(ReportError::Store(error)) => ListOutcome::Unread(error),
+        Err(ReportError::Write) => ListOutcome::NotWritten,
+        Err(ReportError::OutOfMemory) => ListOutcome::OutOfMemory,
     }
 }
 
@@ -58,7 +58,7 @@ pub fn list_store<W: Write, S: Alter>(
     mut store: Store<S>,
     kind: Listing,
     writer: &mut W,
-) -> (Listed, Connection<S>)
+) -> (ListOutcome, Connection<S>)
     ensures clean { HasCleanDisk (state S.Store result.1) → HasCleanDisk (state_of store) }
     ensures lists { HasCleanDisk (state S.Store result.1) → (g : Registry) (k : Kept)
         → SpellsWhileOpen (state_of store) g k

@@ -3,8 +3,8 @@
 ghost use Rattle.std.specs.Prelude.{◌≡◌};
 ghost use Rattle.reg_jobs.specs.Outcomes.{answer_of, fault_of_database, fault_of_file, named, status_of};
 
-use crate::files::{Checked, FileFault, Printed};
-use crate::listings::Listed;
+use crate::files::{CheckOutcome, FileFault, TextOutcome};
+use crate::listings::ListOutcome;
 use reg_http::Ended;
 use reg_store::StoreError;
 
@@ -18,11 +18,11 @@ pub enum Outcome {
     /// No connection can come to the port, which is its number.
     NotListening(u16),
     /// A schema was to be printed.
-    Text(Printed),
+    Text(TextOutcome),
     /// Two schemas were to be checked.
-    Check(Checked),
+    Check(CheckOutcome),
     /// A registry was to be listed.
-    List(Listed),
+    List(ListOutcome),
 }
 
 /// A fault that has a line on standard error.
@@ -96,19 +96,19 @@ pub fn answer_of<'a>(outcome: Outcome, file: &'a str, writer: &'a str) -> Result
         Outcome::Session(Ended::Memory) => Err(Fault::OutOfMemory.on(file)),
         Outcome::Unopened(error) => Err(fault_of_database(error).on(file)),
         Outcome::NotListening(port) => Err(Fault::CannotListen(port).on(file)),
-        Outcome::Text(Printed::Whole) => Ok(0),
-        Outcome::Text(Printed::Nothing(fault)) => Err(fault_of_file(fault).on(file)),
-        Outcome::Text(Printed::NotWritten) => Err(Fault::WriteFailed.on(file)),
-        Outcome::Check(Checked::Verdict(true)) => Ok(0),
-        Outcome::Check(Checked::Verdict(false)) => Ok(1),
-        Outcome::Check(Checked::Reader(fault)) => Err(fault_of_file(fault).on(file)),
-        Outcome::Check(Checked::Writer(fault)) => Err(fault_of_file(fault).on(writer)),
-        Outcome::Check(Checked::OutOfMemory) => Err(Fault::OutOfMemory.on(file)),
-        Outcome::Check(Checked::NotWritten) => Err(Fault::WriteFailed.on(file)),
-        Outcome::List(Listed::Whole) => Ok(0),
-        Outcome::List(Listed::Unread(error)) => Err(fault_of_database(error).on(file)),
-        Outcome::List(Listed::NotWritten) => Err(Fault::WriteFailed.on(file)),
-        Outcome::List(Listed::OutOfMemory) => Err(Fault::OutOfMemory.on(file)),
+        Outcome::Text(TextOutcome::Whole) => Ok(0),
+        Outcome::Text(TextOutcome::Nothing(fault)) => Err(fault_of_file(fault).on(file)),
+        Outcome::Text(TextOutcome::NotWritten) => Err(Fault::WriteFailed.on(file)),
+        Outcome::Check(CheckOutcome::Verdict(true)) => Ok(0),
+        Outcome::Check(CheckOutcome::Verdict(false)) => Ok(1),
+        Outcome::Check(CheckOutcome::Reader(fault)) => Err(fault_of_file(fault).on(file)),
+        Outcome::Check(CheckOutcome::Writer(fault)) => Err(fault_of_file(fault).on(writer)),
+        Outcome::Check(CheckOutcome::OutOfMemory) => Err(Fault::OutOfMemory.on(file)),
+        Outcome::Check(CheckOutcome::NotWritten) => Err(Fault::WriteFailed.on(file)),
+        Outcome::List(ListOutcome::Whole) => Ok(0),
+        Outcome::List(ListOutcome::Unread(error)) => Err(fault_of_database(error).on(file)),
+        Outcome::List(ListOutcome::NotWritten) => Err(Fault::WriteFailed.on(file)),
+        Outcome::List(ListOutcome::OutOfMemory) => Err(Fault::OutOfMemory.on(file)),
     }
 }
 

@@ -7,7 +7,7 @@ use Rattle.std.proofs.lemmas.Option.{none-some}
 use Rattle.sqlite.specs.State.{State}
 use Rattle.avro_nodes.specs.Nodes.{NodeView}
 use Rattle.avro_nodes.specs.Identity.{identity}
-use Rattle.avro_schema.specs.Texts.{denoted}
+use Rattle.avro_schema.specs.Inside.DenotedNodes.{denoted_nodes}
 use Rattle.reg_core.specs.declared.decision.Change.TheVariants.{AddText, AddRow}
 use Rattle.reg_core.specs.Registry.{Schemas, Rows, RowKey, Row, Version, Registry, schema_at, row_cmp}
 use Rattle.reg_core.specs.Rows.{id_of}
@@ -22,7 +22,7 @@ use Rattle.reg_tables.specs.Changes.{with_text, with_version}
 use Rattle.reg_tables.proofs.MapLemmas.{get-insert-same, get-insert-other, same_or_not}
 use Rattle.reg_tables.proofs.KeyedTables.{number_order, version_order}
 use Rattle.reg_store.specs.Spells.{IsSpelled, version_row}
-use Rattle.reg_store.specs.Changes.{Makes}
+use Rattle.reg_store.specs.Inside.Making.{Makes}
 
 -- each id but the next keeps its schema, or has none still
 schema_other : (schemas : Schemas) (new : List NodeView) (id : ℕ) → id ≢ length schemas + 1 → schema_at (schemas ++ new ∷ []) id ≡ schema_at schemas id
@@ -67,7 +67,7 @@ module _ (contents : Contents) (g : Registry) (k : Kept) (s : IsSpelled contents
 
   pub spelled_text : (id : ℕ) (text : List ℕ) → IsUtf8 text → IsNewText g.schemas id text → IsSpelled (with_text id text contents) (after_change (AddText id text) g) k
   spelled_text id text utf8 new =
-      let denotes : denoted text ≡ Some new.nodes = ap denoted new.is ∙ identity_denoted new.nodes new.schema in
+      let denotes : denoted_nodes text ≡ Some new.nodes = ap denoted_nodes new.is ∙ identity_denoted new.nodes new.schema in
       subst (λ (o : Option (List NodeView)). IsSpelled (with_text id text contents) (record g { schemas = g.schemas ++ option_to_list o }) k) (sym denotes) (spelled_schema id text utf8 new)
 
   -- a new id has no text, and no id has a new text

@@ -21,8 +21,9 @@ use Rattle.reg_tables.specs.declared.lines.KeptLine.{KeptLine}
 use Rattle.reg_tables.specs.declared.lines.MetaLine.{MetaLine}
 use Rattle.reg_tables.specs.Contents.{text_cmp, TextMap, VersionRow, KeptRow, Contents}
 use Rattle.reg_tables.specs.Changes.{meta_of}
-use Rattle.reg_tables.specs.Listings.{Lines, HasNoTwins, HaveNoTwins, contents_of, without_rowid, level_entry, kept_entry, meta_entry}
-use Rattle.reg_tables.proofs.Members.{has_mapped, maps_had}
+use Rattle.reg_tables.specs.Listings.{HasNoTwins, without_rowid, level_entry, kept_entry, meta_entry}
+use Rattle.reg_tables.specs.Inside.AllLines.{Lines, HaveNoTwins, contents_of}
+use Rattle.reg_tables.proofs.ListMembers.{has_mapped, maps_had}
 use Rattle.reg_tables.proofs.MapLemmas.{tied_key, other_key, same_or_not, get-insert-same, get-insert-other}
 use Rattle.reg_tables.proofs.KeyedTables.{text_order}
 use Rattle.reg_tables.proofs.ListingLemmas.{found_first, find_had}

@@ -16,7 +16,7 @@ use Rattle.reg_tables.specs.declared.versions.VersionEntry.{VersionEntry}
 use Rattle.reg_tables.specs.Contents.{Contents, VersionRow}
 use Rattle.reg_tables.specs.Entries.{NumberedVersion, numbered, subject_versions, version_row as entry_row}
 use Rattle.reg_store.specs.Spells.{version_row}
-use Rattle.reg_store.specs.Viewing.{row_numbered}
+use Rattle.reg_store.specs.Inside.Viewing.{row_numbered}
 use Rattle.reg_store.proofs.RowLemmas.{subject_spelled}
 use Rattle.reg_store.proofs.Texts.{was_written}
 

@@ -18,7 +18,7 @@ use Rattle.reg_tables.specs.Changes.{Changes, without_level, without_version, wi
 use Rattle.reg_tables.specs.Changes as tables
 use Rattle.reg_tables.proofs.MapLemmas.{get-altered-same, get-altered-other, get-remove-same, get-remove-other, same_or_not}
 use Rattle.reg_tables.proofs.KeyedTables.{version_order}
-use Rattle.reg_store.specs.Changes.{Makes}
+use Rattle.reg_store.specs.Inside.Making.{Makes}
 use Rattle.reg_store.specs.Spells.{IsSpelled, version_row}
 use Rattle.reg_store.proofs.Maps.{remove_both}
 

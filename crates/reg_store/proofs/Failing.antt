@@ -12,7 +12,8 @@ use Rattle.sqlite_trees.specs.declared.error.StoreError.TheVariants as stored
 use Rattle.reg_core.specs.Registry.{Registry}
 use Rattle.reg_tables.specs.Layout.{layout}
 use Rattle.sqlite_disk.specs.Disk.{MoreFaults}
-use Rattle.reg_tables.specs.Reading.{CanBeRead, HasDiskFault, HasReason, IsFault}
+use Rattle.reg_tables.specs.Reads.{CanBeRead}
+use Rattle.reg_tables.specs.FailedCalls.{HasDiskFault, HasReason, IsFault}
 use Rattle.reg_tables.proofs.Reasons.{fault_until, fault_since}
 use Rattle.reg_store.specs.declared.error.StoreError.{StoreError}
 use Rattle.reg_store.specs.declared.error.StoreError.TheVariants.{Memory, Disk, NotARegistry, OldLayout, NewerLayout}

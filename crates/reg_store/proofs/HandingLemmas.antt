@@ -35,7 +35,7 @@ use Rattle.reg_store.specs.declared.store.cursor.Cursor.TheVariants.{Version, Sc
 use Rattle.reg_store.specs.Handing.{is_behind, subject_in, key_in, IsAt, LeadsOn, HasHanded, HandsOn}
 use Rattle.reg_store.specs.Listings.{Fields, fields_of, listing_lines, schema_line, schema_lines, subject_listed, subjects_of, version_line}
 use Rattle.reg_store.specs.Spells.{IsSpelled, version_row}
-use Rattle.reg_store.specs.Viewing.{row_spelled, row_numbered}
+use Rattle.reg_store.specs.Inside.Viewing.{row_spelled, row_numbered}
 use Rattle.reg_store.proofs.Behind.{next_of, none_same, some_same, find-dedup, dedup_rises}
 use Rattle.reg_store.proofs.ListingLemmas.{length-schema_lines, taken_more}
 use Rattle.reg_store.proofs.RowLemmas.{all_spelled, subject_spelled}

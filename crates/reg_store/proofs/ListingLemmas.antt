@@ -15,7 +15,7 @@ use Rattle.reg_core.specs.Rows.{text_at}
 use Rattle.reg_core.proofs.IdLemmas.{text_there}
 use Rattle.reg_store.specs.declared.error.StoreError.{StoreError}
 use Rattle.reg_store.specs.Failures.{IsFaultBy}
-use Rattle.reg_store.specs.Viewing.{KeepsIdle}
+use Rattle.reg_store.specs.Inside.Viewing.{KeepsIdle}
 use Rattle.reg_store.specs.Listings.{Fields, schema_line, schema_lines}
 use Rattle.reg_store.proofs.Failing.{by_since}
 use Rattle.reg_store.proofs.ViewLemmas.{clean_before}

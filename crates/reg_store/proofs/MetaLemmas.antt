@@ -15,7 +15,8 @@ use Rattle.reg_tables.specs.Layout.{IsLayout, meta}
 use Rattle.reg_tables.specs.Contents.{pair_form, text_cmp, Contents, HoldsIn}
 use Rattle.reg_tables.specs.Frames.{StaysIdle}
 use Rattle.reg_tables.specs.Listings.{meta_entry, ListsMeta}
-use Rattle.reg_tables.specs.Reading.{CanBeRead, IsFault}
+use Rattle.reg_tables.specs.Reads.{CanBeRead}
+use Rattle.reg_tables.specs.FailedCalls.{IsFault}
 use Rattle.reg_tables.proofs.KeyedTables.{text_order, distinct_texts}
 use Rattle.reg_tables.proofs.ListingLemmas.{listed_if_shown}
 use Rattle.reg_rows.specs.Spelling.{Pair, value_at, has_value, has_level, names_known, is_meta, number_in, layout_in}
@@ -25,7 +26,7 @@ use Rattle.reg_store.specs.Failures.{failure_of}
 use Rattle.reg_store.specs.Opening.{NamesLayout, Outdates, IsRefusedBy, TellsNewer}
 use Rattle.reg_core.specs.KeptReplies.{Kept}
 use Rattle.reg_store.specs.Spells.{SpellsUnopened}
-use Rattle.reg_store.specs.Testing.{pairs_of, PassesMeta, Allows, JudgesMeta, MetaPass, Tests}
+use Rattle.reg_store.specs.Inside.Testing.{pairs_of, PassesMeta, Allows, JudgesMeta, MetaPass, Tests}
 use Rattle.reg_store.proofs.Bridge.{meta_found, value_is}
 use Rattle.reg_store.proofs.Failing.{fault_if_by, fault_by, passed}
 use Rattle.reg_store.proofs.Maps.{same_bytes}

@@ -8,11 +8,11 @@ use Rattle.sqlite.proofs.StateLemmas.{survives_then}
 use Rattle.reg_core.specs.Registry.{Registry}
 use Rattle.reg_tables.specs.Layout.{layout, unindexed, IsLayout}
 use Rattle.reg_tables.specs.Contents.{Contents, HoldsIn, Holds}
-use Rattle.reg_tables.specs.Reading.{OnlyReads}
+use Rattle.reg_tables.specs.Reads.{OnlyReads}
 use Rattle.reg_store.specs.Opening.{OpensOver, IsIndexed}
 use Rattle.reg_core.specs.KeptReplies.{Kept}
 use Rattle.reg_store.specs.Spells.{SpellsIn, Spells, SpellsUnopened}
-use Rattle.reg_store.specs.Testing.{TablesPass}
+use Rattle.reg_store.specs.Inside.Testing.{TablesPass}
 use Rattle.reg_store.proofs.Rereading.{same_now}
 use Rattle.reg_store.proofs.TestLemmas.{spelled_if_passed}
 

@@ -8,7 +8,7 @@ use Rattle.reg_core.specs.declared.level.Level.TheVariants.{Backward, BackwardTr
 use Rattle.reg_core.specs.Levels.{level_text, level_of}
 use Rattle.reg_core.specs.Registry.{Registry}
 use Rattle.reg_tables.specs.Contents.{text_cmp, KeptRow, Contents}
-use Rattle.reg_tables.specs.Reading.{OnlyReads}
+use Rattle.reg_tables.specs.Reads.{OnlyReads}
 use Rattle.reg_tables.proofs.MapLemmas.{get-insert-same}
 use Rattle.reg_tables.proofs.KeyedTables.{text_order}
 use Rattle.reg_core.specs.KeptReplies.{Entry, Kept}

@@ -1,7 +1,7 @@
 -- Several reads, one after the other.
 use Rattle.std.proofs.Common.{◌≡◌, IsTrue, sym, ◌∙◌}
 use Rattle.sqlite.specs.State.{State}
-use Rattle.reg_tables.specs.Reading.{OnlyReads}
+use Rattle.reg_tables.specs.Reads.{OnlyReads}
 use Rattle.reg_tables.proofs.Transactions.{keeps_then}
 
 pub reads_then : (a b c : State) → OnlyReads a b → OnlyReads b c → OnlyReads a c

@@ -22,7 +22,7 @@ use Rattle.reg_tables.proofs.OrderedQueries.{entry_got}
 use Rattle.reg_store.specs.Spells.{IsSpelled, version_row}
 use Rattle.reg_store.proofs.Schemas.{find-mapped}
 use Rattle.reg_store.proofs.Texts.{was_written}
-use Rattle.reg_store.specs.Viewing.{HasSubject, version_spelled, row_spelled, row_numbered}
+use Rattle.reg_store.specs.Inside.Viewing.{HasSubject, version_spelled, row_spelled, row_numbered}
 
 -- ---- entries
 

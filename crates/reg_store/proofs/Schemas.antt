@@ -18,7 +18,7 @@ use Rattle.reg_tables.specs.declared.lines.TextLine.{TextLine}
 use Rattle.reg_tables.specs.declared.lines.VersionLine.{VersionLine}
 use Rattle.reg_tables.specs.Contents.{version_cmp, VersionRow}
 use Rattle.reg_tables.specs.Listings.{HasNoTwins, without_rowid, text_entry, version_entry}
-use Rattle.reg_tables.proofs.Members.{has_mapped, maps_had}
+use Rattle.reg_tables.proofs.ListMembers.{has_mapped, maps_had}
 use Rattle.reg_tables.proofs.MapLemmas.{tied_key, other_key}
 use Rattle.reg_tables.proofs.KeyedTables.{number_order, version_order}
 use Rattle.reg_tables.proofs.ListingLemmas.{found_first, find_had}

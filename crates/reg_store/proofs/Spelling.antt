@@ -19,7 +19,7 @@ use Rattle.reg_tables.specs.Contents.{Contents, Holds}
 use Rattle.reg_tables.specs.Changes.{Changes, with_global, with_level, with_kept}
 use Rattle.reg_core.specs.KeptReplies.{Entry, Kept, kept_with}
 use Rattle.reg_store.specs.Spells.{CanBeKept, IsSpelled, Spells, row_of}
-use Rattle.reg_store.specs.Changes.{Makes}
+use Rattle.reg_store.specs.Inside.Making.{Makes}
 use Rattle.reg_store.proofs.Maps.{insert_both, insert-insert}
 
 -- what holds of each entry holds with one more

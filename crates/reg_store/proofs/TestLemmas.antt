@@ -20,8 +20,10 @@ use Rattle.reg_tables.specs.declared.lines.MetaLine.{MetaLine}
 use Rattle.reg_tables.specs.Layout.{IsLayout, texts, versions, levels, kept, meta}
 use Rattle.reg_tables.specs.Contents.{text_form, version_form, pair_form, kept_form, text_cmp, version_cmp}
 use Rattle.reg_tables.specs.Frames.{StaysIdle}
-use Rattle.reg_tables.specs.Listings.{entry_parts, text_entry, version_entry, level_entry, kept_entry, meta_entry, ListsTexts, ListsVersions, ListsLevels, ListsKept, ListsMeta, ListsAll, HaveNoTwins, Lines, contents_of}
-use Rattle.reg_tables.specs.Reading.{CanBeRead, IsFault}
+use Rattle.reg_tables.specs.Listings.{entry_parts, text_entry, version_entry, level_entry, kept_entry, meta_entry, ListsTexts, ListsVersions, ListsLevels, ListsKept, ListsMeta}
+use Rattle.reg_tables.specs.Inside.AllLines.{ListsAll, HaveNoTwins, Lines, contents_of}
+use Rattle.reg_tables.specs.Reads.{CanBeRead}
+use Rattle.reg_tables.specs.FailedCalls.{IsFault}
 use Rattle.reg_tables.proofs.KeyedTables.{text_order, distinct_texts, number_order, distinct_numbers, version_order, distinct_versions}
 use Rattle.reg_tables.proofs.ListingLemmas.{listed_if_shown}
 use Rattle.reg_tables.proofs.Opening.{holds_if_listed, distinct_version_rows, distinct_kept_rows}
@@ -33,7 +35,8 @@ use Rattle.reg_store.specs.Failures.{failure_of, IsFaultBy}
 use Rattle.reg_store.specs.Opening.{text_row, version_row, level_row, kept_row, meta_row, rows_of}
 use Rattle.reg_core.specs.KeptReplies.{Kept}
 use Rattle.reg_store.specs.Spells.{SpellsIn, SpellsUnopened}
-use Rattle.reg_store.specs.Testing.{AreApart, version_fits, level_fits, kept_fits, Tests, TablesPass, IsFaultUnopened}
+use Rattle.reg_store.specs.Inside.Testing.{AreApart, version_fits, level_fits, kept_fits, Tests, TablesPass}
+use Rattle.reg_store.specs.UnopenedFaults.{IsFaultUnopened}
 use Rattle.reg_store.proofs.Bridge.{levels_fit, kept_fit, meta_fit, spelled_if_rows}
 use Rattle.reg_store.proofs.Numbering.{Rises, ids_apart}
 use Rattle.reg_store.proofs.Schemas.{texts_fit, versions_fit}

@@ -17,7 +17,7 @@ use Rattle.reg_tables.specs.Layout.{texts}
 use Rattle.reg_tables.specs.Listings.{ListsIds}
 use Rattle.reg_tables.proofs.KeyedTables.{int_order}
 use Rattle.reg_tables.proofs.ListingLemmas.{same_id, same_id_swaps, distinct_if_apart, ints_distinct}
-use Rattle.reg_tables.proofs.Members.{has_mapped, maps_had, has_permuted}
+use Rattle.reg_tables.proofs.ListMembers.{has_mapped, maps_had, has_permuted}
 use Rattle.std.specs.List.Sorted.{IsPermutation}
 use Rattle.std.proofs.lemmas.List.Sorted.{IsPermutation-sym, IsPermutation-trans, IsPermutation-map}
 use Rattle.std.proofs.lemmas.Simd.{map-map}

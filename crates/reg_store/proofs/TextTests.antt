@@ -19,15 +19,15 @@ use Rattle.reg_tables.specs.declared.lines.TextLine.{TextLine}
 use Rattle.reg_tables.specs.Frames.{StaysIdle}
 use Rattle.reg_tables.specs.Layout.{IsLayout}
 use Rattle.reg_tables.specs.Listings.{ListsTexts}
-use Rattle.reg_tables.specs.Reading.{CanBeRead}
-use Rattle.reg_tables.proofs.Members.{has_permuted}
+use Rattle.reg_tables.specs.Reads.{CanBeRead}
+use Rattle.reg_tables.proofs.ListMembers.{has_permuted}
 use Rattle.reg_store.specs.declared.error.StoreError.{StoreError}
 use Rattle.reg_store.specs.declared.error.StoreError.TheVariants.{NotARegistry}
 use Rattle.reg_store.specs.Failures.{IsFaultBy}
 use Rattle.reg_store.specs.Opening.{text_row}
 use Rattle.reg_store.specs.Spells.{SpellsUnopened}
-use Rattle.reg_store.specs.Testing.{text_fits, Tests, TextsPass, NumbersTexts, Judges}
-use Rattle.reg_store.specs.Viewing.{KeepsIdle}
+use Rattle.reg_store.specs.Inside.Testing.{text_fits, Tests, TextsPass, NumbersTexts, Judges}
+use Rattle.reg_store.specs.Inside.Viewing.{KeepsIdle}
 use Rattle.reg_store.proofs.ListingLemmas.{fault_on}
 use Rattle.reg_store.proofs.Numbering.{Rises}
 use Rattle.reg_store.proofs.TestLemmas.{each_row, lists_sorted, texts_pass, unopened_can_be_read}

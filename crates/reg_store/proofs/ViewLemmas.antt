@@ -7,12 +7,12 @@ use Rattle.sqlite_trees.specs.declared.store.Store.{Ghosts}
 use Rattle.reg_core.specs.Registry.{Registry}
 use Rattle.reg_core.specs.KeptReplies.{Kept}
 use Rattle.reg_tables.specs.Frames.{StaysIdle}
-use Rattle.reg_tables.specs.Reading.{HoldsReadable, CanBeRead}
+use Rattle.reg_tables.specs.Reads.{HoldsReadable, CanBeRead}
 use Rattle.reg_tables.proofs.Transactions.{keeps_then, survives_both}
 use Rattle.reg_store.specs.declared.error.StoreError.{StoreError}
 use Rattle.reg_store.specs.Spells.{SpellsWhileOpen}
 use Rattle.reg_store.specs.Failures.{IsFaultOver}
-use Rattle.reg_store.specs.Viewing.{KeepsIdle}
+use Rattle.reg_store.specs.Inside.Viewing.{KeepsIdle}
 use Rattle.reg_store.proofs.Failing.{by_since}
 use Rattle.reg_store.proofs.Committing.{still_spells}
 

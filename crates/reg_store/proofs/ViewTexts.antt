@@ -18,7 +18,7 @@ use Rattle.reg_tables.specs.Contents.{Contents}
 use Rattle.reg_tables.proofs.MapLemmas.{same_or_not, other_key}
 use Rattle.reg_tables.proofs.KeyedTables.{number_order}
 use Rattle.reg_core.proofs.RowLemmas.{All-mapped}
-use Rattle.reg_store.specs.Viewing.{HasText, AreTrueTexts, AddsText, PutsText, IsViewButTexts}
+use Rattle.reg_store.specs.Inside.Viewing.{HasText, AreTrueTexts, AddsText, PutsText, IsViewButTexts}
 
 -- ---- texts that are there
 

@@ -13,12 +13,13 @@ use Rattle.reg_core.specs.Registry.{Registry}
 use Rattle.reg_core.specs.declared.decision.Change.{Change}
 use Rattle.reg_core.specs.Views.{ChangeFits}
 use Rattle.reg_tables.specs.Contents.{Contents, Holds}
-use Rattle.reg_tables.specs.Reading.{IsWriteFault, IsInsertFault}
+use Rattle.reg_tables.specs.FailedCalls.{IsWriteFault, IsInsertFault}
 use Rattle.reg_store.specs.declared.error.StoreError.{StoreError}
 use Rattle.reg_store.specs.declared.keep.Keep.{Keep}
 use Rattle.reg_core.specs.KeptReplies.{Kept}
 use Rattle.reg_store.specs.Spells.{row_of, Spells, SpellsWhileOpen}
-use Rattle.reg_store.specs.Changes.{IsFaultOfChange, IsFaultOfReply, SpellsInside, GoesOn}
+use Rattle.reg_store.specs.Changes.{SpellsInside, GoesOn}
+use Rattle.reg_store.specs.Inside.Making.{IsFaultOfChange, IsFaultOfReply}
 use Rattle.reg_store.specs.Failures.{failure_of, is_fault, IsFaultBy}
 use Rattle.reg_store.proofs.Failing.{fault_by, fault_if_by, by_until}
 use Rattle.reg_tables.proofs.Reasons.{reason_of, reason_by, fault_since}

@@ -1,11 +1,9 @@
 -- What a call makes of a registry and of the kept replies.
 use Rattle.std.specs.Prelude.{◌≡◌, ◌≢◌, ◌⊎◌, ◌+◌, length, codes, ℕ, true, ◌∷◌, ◌++◌, List, [], Option, None, Some, IsSome, IsTrue, false, ⊤}
 use Rattle.sqlite.specs.State.{State}
-use Rattle.sqlite.specs.declared.error.Error.{Error}
 use Rattle.reg_core.specs.declared.decision.Change.{Change}
 use Rattle.reg_core.specs.Replies.{IsKeptStatus}
 use Rattle.reg_core.specs.Registry.{Registry}
-use Rattle.reg_core.specs.Views.{ChangeFits, ChangesFit, after_change, after_changes}
 use Rattle.std.specs.List.{AllByRecursion}
 use Rattle.sqlite.specs.declared.types.Value.TheVariants.{Text}
 use Rattle.reg_core.specs.declared.decision.Change.TheVariants.{SetGlobal, SetLevel, AddText, AddRow, MarkDeleted, Remove, DropLevel}
@@ -13,7 +11,6 @@ use Rattle.reg_core.specs.Levels.{level_text}
 use Rattle.reg_tables.specs.Layout.{texts, versions, levels, kept, meta}
 use Rattle.reg_tables.specs.Contents.{text_row_cells, kept_cells, version_key_cells, version_cells}
 use Rattle.reg_tables.specs.Rooms.{HasRooms, CanBeStored}
-use Rattle.reg_tables.specs.Reading.{IsInsertFault}
 use Rattle.reg_store.specs.declared.keep.Keep.{Keep}
 use Rattle.reg_core.specs.KeptReplies.{Entry, Kept, kept_with}
 use Rattle.reg_store.specs.Spells.{row_of, version_row, Spells}
@@ -36,14 +33,6 @@ IsNewTo k (Some keep) = k keep.key.now ≡ None
 abbrev pub IsKeepable : Keep → Type 0
 IsKeepable keep = IsKeptStatus keep.reply.now.status
 
--- the tables spelled a registry that can have the change, and now spell it after the change
-abbrev pub Makes : State → State → Change → Type 0
-Makes old new change = (g : Registry) (k : Kept) → Spells old.now g k → ChangeFits change g → Spells new.now (after_change change g) k
-
--- the same of several changes, each of which it can have at its turn
-abbrev pub MakesAll : State → State → List Change → Type 0
-MakesAll old new changes = (g : Registry) (k : Kept) → Spells old.now g k → ChangesFit changes g → Spells new.now (after_changes changes g) k
-
 -- this project's choice: there is a change to make, or a reply to keep
 abbrev pub ActsOn : List Change → Option Keep → Type 0
 ActsOn changes keep = (changes ≢ []) ⊎ IsSome keep
@@ -51,18 +40,6 @@ ActsOn changes keep = (changes ≢ []) ⊎ IsSome keep
 -- inside a transaction: as long as the connection is open, its tables spell them
 abbrev pub SpellsInside : State → Registry → Kept → Type 0
 SpellsInside s g k = IsTrue s.is_open → Spells s.now g k
-
--- a change that a registry can have fails for a reason that each write has
-abbrev pub IsFaultOfChange : State → State → Change → Error → Type 0
-IsFaultOfChange old new change e = (g : Registry) (k : Kept) → SpellsInside old g k → ChangeFits change g → IsInsertFault old new e
-
--- so do several
-abbrev pub IsFaultOfChanges : State → State → List Change → Error → Type 0
-IsFaultOfChanges old new changes e = (g : Registry) (k : Kept) → SpellsInside old g k → ChangesFit changes g → IsInsertFault old new e
-
--- so does a reply, where nothing is kept under its key yet
-abbrev pub IsFaultOfReply : State → State → Option Keep → Error → Type 0
-IsFaultOfReply old new keep e = (g : Registry) (k : Kept) → SpellsInside old g k → IsNewTo k keep → IsInsertFault old new e
 
 -- this project's choice: the row of a change, and the one of a reply, isn't too large
 abbrev pub CanStoreChange : Change → Type 0

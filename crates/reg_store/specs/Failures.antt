@@ -5,7 +5,7 @@ use Rattle.sqlite.specs.declared.error.Error.{Error}
 use Rattle.sqlite.specs.declared.error.Error.TheVariants.{SqliteFailure}
 use Rattle.sqlite.specs.declared.error.ErrorCode.TheVariants as code
 use Rattle.sqlite_schema.specs.declared.schema.Constraint.TheVariants.{PrimaryKey}
-use Rattle.reg_tables.specs.Reading.{HasDiskFault}
+use Rattle.reg_tables.specs.FailedCalls.{HasDiskFault}
 use Rattle.reg_store.specs.declared.error.StoreError.{StoreError}
 use Rattle.reg_store.specs.declared.error.StoreError.TheVariants.{Memory, Disk, NotARegistry, OldLayout, NewerLayout}
 use Rattle.reg_core.specs.Registry.{Registry}

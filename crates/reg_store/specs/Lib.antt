@@ -1,10 +1,10 @@
 pub mod Spells
-pub mod Opening
 pub mod Changes
+pub mod Opening
 pub mod Failures
+pub mod UnopenedFaults
 pub mod Stores
-pub mod Testing
-pub mod Viewing
+pub mod Inside
 pub mod Listings
 pub mod Handing
 pub mod Lending

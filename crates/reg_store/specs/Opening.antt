@@ -12,7 +12,7 @@ use Rattle.reg_tables.specs.declared.lines.KeptLine.{KeptLine}
 use Rattle.reg_tables.specs.declared.lines.MetaLine.{MetaLine}
 use Rattle.reg_tables.specs.Layout.{layout, unindexed, IsLayout}
 use Rattle.reg_tables.specs.Contents.{Contents, HoldsIn, Holds, AreReadable}
-use Rattle.reg_tables.specs.Listings.{Lines}
+use Rattle.reg_tables.specs.Inside.AllLines.{Lines}
 use Rattle.reg_rows.specs.Spelling.{Text, Rows, number_in}
 use Rattle.reg_core.specs.Registry.{Registry}
 use Rattle.reg_store.specs.declared.error.StoreError.{StoreError}

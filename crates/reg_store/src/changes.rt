@@ -4,10 +4,11 @@ ghost use Rattle.std.specs.Prelude.{◌≢◌, ◌+◌, ℕ, length, [], OnOk, I
 ghost use Rattle.sqlite.specs.State.{HasCleanDisk};
 ghost use Rattle.reg_core.specs.Views.{ChangeFits, ChangesFit};
 ghost use Rattle.reg_tables.specs.Frames.{state_in, StaysInside, KeepsInside};
-ghost use Rattle.reg_store.specs.Changes.{with_reply, IsNewTo, IsKeepable, Makes, MakesAll, SpellsInside, IsFaultOfChange, IsFaultOfChanges, IsFaultOfReply, CanStoreChange, CanStoreReply, GoesOn};
+ghost use Rattle.reg_store.specs.Changes.{with_reply, IsNewTo, IsKeepable, SpellsInside, CanStoreChange, CanStoreReply, GoesOn};
+ghost use Rattle.reg_store.specs.Inside.Making.{Makes, MakesAll, IsFaultOfChange, IsFaultOfChanges, IsFaultOfReply};
 ghost use Rattle.std.specs.List.{AllByRecursion};
 ghost use Rattle.reg_tables.specs.Rooms.{HasRooms};
-ghost use Rattle.reg_tables.specs.Reading.{IsWriteFault};
+ghost use Rattle.reg_tables.specs.FailedCalls.{IsWriteFault};
 ghost use Rattle.reg_core.specs.KeptReplies.{Kept};
 ghost use Rattle.reg_store.specs.Spells.{Spells};
 ghost use Rattle.reg_core.specs.Registry.{Registry};

@@ -1,7 +1,7 @@
 //! Rowids, none of which may come twice.
 
 ghost use Rattle.std.specs.Prelude.{◌↔◌, IsTrue};
-ghost use Rattle.reg_store.specs.Testing.{AreApart};
+ghost use Rattle.reg_store.specs.Inside.Testing.{AreApart};
 
 /// Whether no number comes twice. It sorts them.
 pub(crate) fn are_apart(numbers: &mut [i64]) -> bool

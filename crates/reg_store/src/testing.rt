@@ -9,7 +9,7 @@ ghost use Rattle.reg_tables.specs.Layout.{IsLayout};
 ghost use Rattle.reg_store.specs.Failures.{IsNumberless};
 ghost use Rattle.reg_store.specs.Opening.{meta_row, IsRefusedBy, TellsNewer};
 ghost use Rattle.reg_rows.specs.Spelling.{pair_of, is_meta};
-ghost use Rattle.reg_store.specs.Testing.{Allows, AreApart, version_fits, level_fits, kept_fits, JudgesMeta, Tests, VersionsPass, LevelsPass, KeptPass, RestPasses, MetaPass, TablesPass};
+ghost use Rattle.reg_store.specs.Inside.Testing.{Allows, AreApart, version_fits, level_fits, kept_fits, JudgesMeta, Tests, VersionsPass, LevelsPass, KeptPass, RestPasses, MetaPass, TablesPass};
 
 mod texts;
 

@@ -10,7 +10,7 @@ use Rattle.sqlite_schema.specs.Code.{op_term, term_to, term_in, terms_in}
 use Rattle.sqlite_schema.specs.declared.code.Op.{Op}
 use Rattle.sqlite_schema.specs.declared.code.Op.TheVariants.{Literal, Column, Unary, Binary, Case}
 use Rattle.reg_tables.specs.Layout.{is_number, versions}
-use Rattle.reg_tables.specs.Checks.{node_at, IsTestAt, IsCheckAt}
+use Rattle.reg_tables.specs.Inside.Checks.{node_at, IsTestAt, IsCheckAt}
 
 abbrev check : Term
 check = op2 Or (is_number 4 0) (is_number 4 1)

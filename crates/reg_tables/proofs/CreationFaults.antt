@@ -37,7 +37,7 @@ use Rattle.sqlite_rules.proofs.RuleLemmas.{keeps_at, keeps_from}
 use Rattle.sqlite_trees.specs.Sound.{same_name as same_word, begins, is_free_name, fits_kind}
 use Rattle.sqlite_tied.specs.Compute.{everything}
 use Rattle.reg_tables.specs.Layout.{no_schema, begun, layout, texts, versions, levels, kept, meta, versions_of_id}
-use Rattle.reg_tables.specs.Reading.{IsFault}
+use Rattle.reg_tables.specs.FailedCalls.{IsFault}
 use Rattle.reg_tables.proofs.Statements.{MakesTable, make_texts, make_versions, make_levels, make_kept, make_meta, make_versions_of_id, makes_versions_of_id}
 use Rattle.reg_tables.proofs.WriteFaults.{IsWhole, refused_by}
 use Rattle.reg_tables.proofs.StoredRows.{storable}

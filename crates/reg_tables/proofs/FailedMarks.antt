@@ -41,9 +41,9 @@ use Rattle.reg_tables.specs.TableMaps.{IsEntry}
 use Rattle.reg_tables.specs.Contents.{version_cmp, VersionRow, version_key_cells, version_cells, Contents, version_form, Holds}
 use Rattle.reg_tables.specs.Changes.{as_deleted}
 use Rattle.reg_tables.specs.Rooms.{HasRoom, CanBeStored}
-use Rattle.reg_tables.specs.Reading.{IsFault, IsInsertFault}
+use Rattle.reg_tables.specs.FailedCalls.{IsFault, IsInsertFault}
 use Rattle.reg_tables.proofs.Rooms.{above}
-use Rattle.reg_tables.proofs.Members.{has_mapped}
+use Rattle.reg_tables.proofs.ListMembers.{has_mapped}
 use Rattle.reg_tables.proofs.MapLemmas.{equal_of, tied_key}
 use Rattle.reg_tables.proofs.RowLemmas.{left_fails, same_if_tied}
 use Rattle.reg_tables.proofs.Queries.{plain_query, passes}

@@ -33,7 +33,7 @@ use Rattle.sqlite_value.specs.Keys.{plain, first_key}
 use Rattle.sqlite_tied.specs.Compute.{everything}
 use Rattle.reg_tables.specs.Layout.{layout, texts, versions}
 use Rattle.reg_tables.specs.Contents.{text_cmp, version_cmp, version_key_cells, number_cells, flag_cell, version_cells, text_row_cells, VersionRow, Contents, version_form, Holds}
-use Rattle.reg_tables.specs.Reading.{IsFault, IsPutFault, IsInsertFault}
+use Rattle.reg_tables.specs.FailedCalls.{IsFault, IsPutFault, IsInsertFault}
 use Rattle.reg_tables.specs.Rooms.{HasRoom, CanBeStored}
 use Rattle.reg_tables.proofs.MapLemmas.{IsKeyOrder, same_key, tied_key}
 use Rattle.reg_tables.proofs.KeyedTables.{text_order, number_order, version_order, by_id_test, by_version_test, cast-Null, cast-Int, cast-flag}

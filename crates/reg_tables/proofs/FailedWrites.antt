@@ -12,7 +12,7 @@ use Rattle.sqlite_value.specs.Keys.{first_key}
 use Rattle.sqlite_tied.specs.Compute.{everything}
 use Rattle.reg_tables.specs.Layout.{levels, kept, meta}
 use Rattle.reg_tables.specs.Contents.{text_cmp, text_cells, KeptRow, kept_cells, Contents, pair_form, kept_form, Holds}
-use Rattle.reg_tables.specs.Reading.{IsFault, IsInsertFault}
+use Rattle.reg_tables.specs.FailedCalls.{IsFault, IsInsertFault}
 use Rattle.reg_tables.specs.Rooms.{HasRoom, CanBeStored}
 use Rattle.reg_tables.proofs.MapLemmas.{same_key}
 use Rattle.reg_tables.proofs.KeyedTables.{text_order, by_key_test, cast-Null, cast-Int}

@@ -24,7 +24,8 @@ use Rattle.sqlite_typing.specs.Types.{accepts_program}
 use Rattle.sqlite_rules.proofs.ListLemmas.{any_has}
 use Rattle.sqlite_tied.specs.Compute.{everything}
 use Rattle.reg_tables.specs.Layout.{IsLayout}
-use Rattle.reg_tables.specs.Reading.{CanBeRead, IsFault}
+use Rattle.reg_tables.specs.Reads.{CanBeRead}
+use Rattle.reg_tables.specs.FailedCalls.{IsFault}
 use Rattle.sqlite.specs.Schema.{Schema}
 use Rattle.reg_tables.proofs.Reasons.{reason_of, reason_if_shut, reason_by, fault_until}
 use Rattle.reg_tables.proofs.Statements.{TableQuery, body_of, program_of, IsQuery, laid_out, in_layouts, find_text, find_id, find_version, find_versions, find_last_version, find_last_live, find_last, find_behind, find_next, find_of_id, find_one_of_id, list_versions, find_level, find_meta, find_kept, all_ids, texts_between, all_versions, all_levels, all_kept, all_meta}

@@ -26,7 +26,7 @@ use Rattle.reg_tables.specs.declared.listed.ListedVersion.{ListedVersion}
 use Rattle.reg_tables.proofs.KeyedLists.{distinct_keyed, whole as keyed_shown, can_be_held}
 use Rattle.reg_tables.proofs.KeyedTables.{int_order, version_order, with_nothing, answered}
 use Rattle.reg_tables.proofs.LastVersions.{first_taken, map_twice, same_shown, entry_version, line_columns}
-use Rattle.reg_tables.proofs.Members.{has_mapped, has_taken}
+use Rattle.reg_tables.proofs.ListMembers.{has_mapped, has_taken}
 use Rattle.reg_tables.proofs.OrderedQueries.{entries_rise, entry_got, got_entry, in_order_as}
 use Rattle.reg_tables.proofs.Queries.{ordered_query, passes}
 use Rattle.reg_tables.proofs.Statements.{TableQuery, body_of, IsQuery, in_order, first_row, laid_out, by_later_subject, find_behind, find_behind_is, by_later_number, find_next, find_next_is}

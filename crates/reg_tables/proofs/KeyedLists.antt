@@ -23,7 +23,7 @@ use Rattle.reg_tables.specs.Entries.{KeyedVersion, keyed, keyed_cells, id_versio
 use Rattle.reg_tables.specs.declared.listed.ListedVersion.{ListedVersion}
 use Rattle.reg_tables.proofs.KeyedTables.{number_order, same_pos, with_nothing, answered}
 use Rattle.reg_tables.proofs.MapLemmas.{same_key, tied_key}
-use Rattle.reg_tables.proofs.Members.{has_mapped, maps_had, has_taken, takes_one}
+use Rattle.reg_tables.proofs.ListMembers.{has_mapped, maps_had, has_taken, takes_one}
 use Rattle.reg_tables.proofs.Opening.{distinct_version_rows}
 use Rattle.reg_tables.proofs.Queries.{passes, ordered_has, has_ordered}
 use Rattle.reg_tables.proofs.Statements.{IsQuery, body_of, first_row, by_its_id, laid_out, find_of_id, find_of_id_is, find_one_of_id, find_one_of_id_is, list_versions, list_versions_is}

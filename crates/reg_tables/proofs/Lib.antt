@@ -1,4 +1,4 @@
-pub mod Members
+pub mod ListMembers
 pub mod Queries
 pub mod MapLemmas
 pub mod RowLemmas

@@ -5,7 +5,8 @@ use Rattle.sqlite.specs.Schema.{Schema}
 use Rattle.sqlite.specs.Effect.{Database, IsDatabase}
 use Rattle.reg_tables.specs.Layout.{texts, versions, levels, kept, meta}
 use Rattle.reg_tables.specs.Contents.{text_cmp, version_cmp, Contents, VersionRow, KeptRow, flag_cell, version_cells, kept_cells, text_form, version_form, pair_form, kept_form, HoldsIn}
-use Rattle.reg_tables.specs.Listings.{text_entry, version_entry, level_entry, kept_entry, meta_entry, Lines, ListsAll, HaveNoTwins, contents_of}
+use Rattle.reg_tables.specs.Listings.{text_entry, version_entry, level_entry, kept_entry, meta_entry}
+use Rattle.reg_tables.specs.Inside.AllLines.{Lines, ListsAll, HaveNoTwins, contents_of}
 use Rattle.reg_tables.proofs.KeyedTables.{text_order, distinct_texts, number_order, distinct_numbers, version_order, distinct_versions}
 use Rattle.reg_tables.proofs.ListingLemmas.{shows_if_listed, listed_if_shown}
 

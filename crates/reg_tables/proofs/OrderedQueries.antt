@@ -21,7 +21,7 @@ use Rattle.sqlite_value.specs.declared.keys.Key.{Key}
 use Rattle.sqlite_value.proofs.KeyLemmas.{by_key_total}
 use Rattle.sqlite_value.proofs.OrderLemmas.{value_cmp_total}
 use Rattle.reg_tables.specs.TableMaps.{Form, IsEntry, HaveOwnRowids, ShowsMap}
-use Rattle.reg_tables.proofs.Members.{has_mapped, maps_had}
+use Rattle.reg_tables.proofs.ListMembers.{has_mapped, maps_had}
 use Rattle.reg_tables.proofs.MapLemmas.{IsKeyOrder, equal_of, same_key, tied_key, other_key}
 use Rattle.reg_tables.proofs.Queries.{ordered_query, passes, passing, passing_has, ordered_outputs, ordered_has, has_ordered}
 

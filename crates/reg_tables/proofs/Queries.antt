@@ -17,7 +17,7 @@ use Rattle.sqlite.specs.Tree.{Trees, IsAscending, rowid}
 use Rattle.sqlite.specs.Term.{Term, Env, lit, eval_all, holds}
 use Rattle.sqlite.specs.Query.{Query, Output, inner, end, IsAnswer, output}
 use Rattle.sqlite_rules.specs.Lists.{Has}
-use Rattle.reg_tables.proofs.Members.{has_mapped, maps_had, has_permuted}
+use Rattle.reg_tables.proofs.ListMembers.{has_mapped, maps_had, has_permuted}
 
 -- no LIMIT
 abbrev pub all_rows : Term

@@ -10,10 +10,10 @@ use Rattle.sqlite_rules.specs.Lists.{Has}
 use Rattle.sqlite_rules.proofs.ListLemmas.{all_has}
 use Rattle.sqlite_rules.proofs.TableLemmas.{int_is}
 use Rattle.reg_tables.specs.Layout.{texts, versions, levels, kept, meta}
-use Rattle.reg_tables.specs.Reading.{HoldsReadable}
+use Rattle.reg_tables.specs.Reads.{HoldsReadable}
 use Rattle.reg_tables.specs.TableMaps.{Form, IsEntry, ShowsMap}
 use Rattle.reg_tables.specs.Contents.{version_cells, text_form, version_form, pair_form, kept_form}
-use Rattle.reg_tables.specs.Listings.{IsReadableText, IsReadableVersion, IsReadablePair, IsReadableKept}
+use Rattle.reg_tables.specs.Inside.ReadableRows.{IsReadableText, IsReadableVersion, IsReadablePair, IsReadableKept}
 
 -- what follows of a row's entry
 by_entry : {K V : Type 0} (form : Form K V) (rows : List Row) (value_at : K → Option V) → ShowsMap form rows value_at → (row : Row) → Has rows row → (P : Type 0)

@@ -6,7 +6,7 @@ use Rattle.sqlite_disk.specs.Disk.{MoreFaults}
 use Rattle.sqlite_trees.specs.declared.error.StoreError.{StoreError}
 use Rattle.sqlite_trees.specs.declared.error.StoreError.TheVariants.{OutOfMemory, Io, Corrupt, Full, Broken, Unstorable}
 use Rattle.sqlite.specs.State.{State, HasCause}
-use Rattle.reg_tables.specs.Reading.{HasDiskFault, HasReason}
+use Rattle.reg_tables.specs.FailedCalls.{HasDiskFault, HasReason}
 
 -- the store's own cause, or what was too large
 pub reason_or_large : (old new : State) {Large : Type 0} (cause : StoreError) → HasCause old new Large cause → HasReason old new cause ⊎ ((cause ≡ Unstorable) × Large)

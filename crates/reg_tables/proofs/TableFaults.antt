@@ -51,7 +51,7 @@ use Rattle.reg_tables.specs.Layout.{layout, texts, versions, levels, kept, meta}
 use Rattle.reg_tables.specs.TableMaps.{Form, ShowsMap}
 use Rattle.reg_tables.specs.Rooms.{HasRoom}
 use Rattle.reg_tables.proofs.Rooms.{above, less}
-use Rattle.reg_tables.specs.Reading.{IsFault, IsInsertFault}
+use Rattle.reg_tables.specs.FailedCalls.{IsFault, IsInsertFault}
 use Rattle.reg_tables.proofs.Queries.{plain_query}
 use Rattle.reg_tables.proofs.Statements.{IsCommand}
 use Rattle.reg_tables.proofs.UniqueLemmas.{with_tree_there, with_tree_elsewhere, stays_unique}

@@ -15,10 +15,12 @@ use Rattle.sqlite.specs.Program.{overlay}
 use Rattle.sqlite.specs.State.{State, Shown, FailsToQuery, IsTooLate}
 use Rattle.sqlite_rules.specs.Lists.{Has}
 use Rattle.reg_tables.specs.Layout.{IsLayout}
-use Rattle.reg_tables.specs.Reading.{HoldsReadable, CanBeRead, IsFault}
+use Rattle.reg_tables.specs.Reads.{HoldsReadable, CanBeRead}
+use Rattle.reg_tables.specs.FailedCalls.{IsFault}
 use Rattle.reg_tables.specs.TableMaps.{Form}
 use Rattle.reg_tables.specs.Contents.{version_form, pair_form, kept_form}
-use Rattle.reg_tables.specs.Listings.{parts_of, entry_parts, Lists, IsReadableVersion, IsReadablePair, IsReadableKept}
+use Rattle.reg_tables.specs.Listings.{parts_of, entry_parts, Lists}
+use Rattle.reg_tables.specs.Inside.ReadableRows.{IsReadableVersion, IsReadablePair, IsReadableKept}
 use Rattle.reg_tables.proofs.Queries.{plain_query, answer_has, answer_all}
 use Rattle.reg_tables.proofs.KeyedTables.{with_nothing, answered}
 use Rattle.reg_tables.proofs.Statements.{TableQuery, body_of, IsQuery, laid_out, all_versions, all_versions_is, all_levels, all_levels_is, all_kept, all_kept_is, all_meta, all_meta_is}

@@ -17,9 +17,10 @@ use Rattle.sqlite_sql.specs.Ops.{binary, is_true, from_truth}
 use Rattle.sqlite_value.proofs.OrderLemmas.{value_cmp-Int}
 use Rattle.reg_tables.specs.declared.lines.TextLine.{TextLine}
 use Rattle.reg_tables.specs.Layout.{IsLayout, texts}
-use Rattle.reg_tables.specs.Reading.{HoldsReadable}
+use Rattle.reg_tables.specs.Reads.{HoldsReadable}
 use Rattle.reg_tables.specs.Contents.{text_form}
-use Rattle.reg_tables.specs.Listings.{Parts, parts_of, entry_parts, text_entry, ListsIds, ListsTextsBetween, is_between, IsReadableId, IsReadableText}
+use Rattle.reg_tables.specs.Listings.{Parts, parts_of, entry_parts, text_entry, ListsIds, ListsTextsBetween, is_between}
+use Rattle.reg_tables.specs.Inside.ReadableRows.{IsReadableId, IsReadableText}
 use Rattle.reg_tables.proofs.Queries.{plain_query, passes, answer_has, answer_all, answer_passing}
 use Rattle.reg_tables.proofs.KeyedTables.{int_order, with_nothing, answered}
 use Rattle.reg_tables.proofs.Statements.{laid_out, all_ids, all_ids_is, by_range, texts_between, texts_between_is}

@@ -32,7 +32,7 @@ use Rattle.reg_tables.specs.declared.lines.MetaLine.{MetaLine}
 use Rattle.reg_tables.proofs.KeyedTables.{text_order, version_order, number_order, distinct_texts, distinct_versions}
 use Rattle.reg_tables.proofs.ListingLemmas.{stored, keys_distinct}
 use Rattle.reg_tables.proofs.MapLemmas.{IsKeyOrder, tied_key}
-use Rattle.reg_tables.proofs.Members.{has_mapped}
+use Rattle.reg_tables.proofs.ListMembers.{has_mapped}
 
 -- rowids that don't differ are the same
 pub same_number : (i j : ℤ) → differ (Int i) (Int j) ≡ false → i ≡ j

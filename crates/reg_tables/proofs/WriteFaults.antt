@@ -39,7 +39,7 @@ use Rattle.sqlite_rules.specs.Calls.{ids_of}
 use Rattle.sqlite_sql.specs.Program.{ProgramOverflows}
 use Rattle.sqlite_typing.specs.Types.{accepts_program, accepts_terms}
 use Rattle.reg_tables.specs.Layout.{layout}
-use Rattle.reg_tables.specs.Reading.{IsFault, IsWriteFault, IsPutFault, IsInsertFault}
+use Rattle.reg_tables.specs.FailedCalls.{IsFault, IsWriteFault, IsPutFault, IsInsertFault}
 use Rattle.reg_tables.proofs.Reasons.{reason_or_large, reason_of, reason_if_shut, reason_by, fault_since}
 use Rattle.sqlite_trees.specs.declared.error.StoreError.{StoreError}
 use Rattle.reg_tables.proofs.Statements.{IsCommand}

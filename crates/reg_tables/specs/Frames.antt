@@ -5,7 +5,8 @@ use Rattle.sqlite.specs.Held.{Held, state}
 use Rattle.sqlite.specs.State.{State, HasCleanDisk, Survives, KeepsCommit}
 use Rattle.sqlite_trees.specs.declared.store.Store.{Ghosts}
 use Rattle.sqlite.specs.declared.error.Error.{Error}
-use Rattle.reg_tables.specs.Reading.{OnlyReads, IsWriteFault}
+use Rattle.reg_tables.specs.Reads.{OnlyReads}
+use Rattle.reg_tables.specs.FailedCalls.{IsWriteFault}
 
 -- what a connection shows once it has begun a transaction
 abbrev pub once_begun : {S : Type 0} → Ghosts S → Held S → State

@@ -2,11 +2,11 @@ pub mod Layout
 pub mod TableMaps
 pub mod Contents
 pub mod Changes
-pub mod Reading
-pub mod Replies
+pub mod Reads
+pub mod FailedCalls
+pub mod KeptRows
 pub mod Entries
 pub mod Listings
-pub mod Checks
 pub mod Frames
 pub mod Rooms
-pub mod Forms
+pub mod Inside

@@ -1,11 +1,10 @@
 -- When a list has each row of a table once, in any order.
-use Rattle.std.specs.Prelude.{◌≡◌, ℕ, ◌<◌, ◌^◌, ℤ, pos, Bool, not, ◌&&◌, List, [], ◌∷◌, map, filter, string_bytes, IsUtf8, IsPermutation}
+use Rattle.std.specs.Prelude.{ℕ, ℤ, pos, Bool, not, ◌&&◌, List, map, filter, string_bytes, IsPermutation}
 use Rattle.std.specs.declared.cmp.Ordering.{Ordering}
-use Rattle.std.specs.Ordering.{is_lt, is_gt, nat_cmp, int_cmp, eq_by_cmp}
+use Rattle.std.specs.Ordering.{is_lt, is_gt, int_cmp, eq_by_cmp}
 use Rattle.std.specs.List.{IsDistinct}
-use Rattle.std.specs.FinMap.{from_entries}
 use Rattle.sqlite.specs.declared.types.Value.{Value}
-use Rattle.sqlite.specs.declared.types.Value.TheVariants.{Int, Text}
+use Rattle.sqlite.specs.declared.types.Value.TheVariants.{Int}
 use Rattle.sqlite.specs.Order.{Row, value_cmp}
 use Rattle.sqlite.specs.Tree.{rowid}
 use Rattle.sqlite.specs.Effect.{Database}
@@ -16,8 +15,8 @@ use Rattle.reg_tables.specs.declared.lines.KeptLine.{KeptLine}
 use Rattle.reg_tables.specs.declared.lines.MetaLine.{MetaLine}
 use Rattle.reg_tables.specs.Layout.{texts, versions, levels, kept, meta}
 use Rattle.reg_tables.specs.TableMaps.{Form}
-use Rattle.reg_tables.specs.Contents.{text_cmp, version_cmp, VersionRow, KeptRow, version_cells, kept_cells, IsReadableReply, Contents, text_form, version_form, pair_form, kept_form}
-use Rattle.reg_tables.specs.Replies.{kept_row}
+use Rattle.reg_tables.specs.Contents.{VersionRow, KeptRow, text_form, version_form, pair_form, kept_form}
+use Rattle.reg_tables.specs.KeptRows.{kept_row}
 
 -- a rowid, and the columns of a key and of a value
 abbrev pub Parts : Type 0
@@ -40,46 +39,6 @@ pub record HasNoTwins {K V : Type 0} (R : K → K → Ordering) (entries : List 
 
 abbrev pub without_rowid : {K V : Type 0} → ℤ × K × V → K × V
 without_rowid entry = (entry.1, entry.2)
-
--- ---- rows that a line holds, as a query shows them
-
-pub record IsReadableId (row : Row) : Type 0 where
-  pub id : ℕ
-  pub is : row ≡ Int (pos id) ∷ []
-  pub low : id < 2 ^ 32
-
-pub record IsReadableText (row : Row) : Type 0 where
-  pub id : ℕ
-  pub text : List ℕ
-  pub is : row ≡ Int (pos id) ∷ Int (pos id) ∷ Text text ∷ []
-  pub low : id < 2 ^ 32
-  pub utf8 : IsUtf8 text
-
-pub record IsReadableVersion (row : Row) : Type 0 where
-  pub rowid : ℤ
-  pub subject : List ℕ
-  pub number : ℕ
-  pub version : VersionRow
-  pub is : row ≡ Int rowid ∷ Text subject ∷ Int (pos number) ∷ version_cells version
-  pub utf8 : IsUtf8 subject
-  pub low : number < 2 ^ 32
-  pub low_id : version.id < 2 ^ 32
-
-pub record IsReadablePair (row : Row) : Type 0 where
-  pub rowid : ℤ
-  pub key : List ℕ
-  pub value : List ℕ
-  pub is : row ≡ Int rowid ∷ Text key ∷ Text value ∷ []
-  pub key_utf8 : IsUtf8 key
-  pub value_utf8 : IsUtf8 value
-
-pub record IsReadableKept (row : Row) : Type 0 where
-  pub rowid : ℤ
-  pub key : List ℕ
-  pub reply : KeptRow
-  pub is : row ≡ Int rowid ∷ Text key ∷ kept_cells reply
-  pub utf8 : IsUtf8 key
-  pub readable : IsReadableReply reply
 
 -- ---- the lines of the five tables
 
@@ -126,36 +85,3 @@ is_between low high row = not (is_lt (value_cmp (rowid row) (Int (pos low)))) &&
 -- the rows whose ids lie between two, both counted
 abbrev pub ListsTextsBetween : ℕ → ℕ → Database → List TextLine → Type 0
 ListsTextsBetween low high db lines = Lists text_form (filter (is_between low high) (db.trees texts.tree)) (map text_entry lines)
-
--- ---- all five
-
-pub record Lines : Type 0 where
-  pub texts : List TextLine
-  pub versions : List VersionLine
-  pub levels : List LevelLine
-  pub kept : List KeptLine
-  pub meta : List MetaLine
-
-pub record ListsAll (db : Database) (lines : Lines) : Type 0 where
-  pub texts : ListsTexts db lines.texts
-  pub versions : ListsVersions db lines.versions
-  pub levels : ListsLevels db lines.levels
-  pub kept : ListsKept db lines.kept
-  pub meta : ListsMeta db lines.meta
-
-pub record HaveNoTwins (lines : Lines) : Type 0 where
-  pub texts : HasNoTwins nat_cmp (map text_entry lines.texts)
-  pub versions : HasNoTwins version_cmp (map version_entry lines.versions)
-  pub levels : HasNoTwins text_cmp (map level_entry lines.levels)
-  pub kept : HasNoTwins text_cmp (map kept_entry lines.kept)
-  pub meta : HasNoTwins text_cmp (map meta_entry lines.meta)
-
--- what tables of these lines hold
-abbrev pub contents_of : Lines → Contents
-contents_of lines = record {
-  texts = from_entries (map without_rowid (map text_entry lines.texts));
-  versions = from_entries (map without_rowid (map version_entry lines.versions));
-  levels = from_entries (map without_rowid (map level_entry lines.levels));
-  kept = from_entries (map without_rowid (map kept_entry lines.kept));
-  meta = from_entries (map without_rowid (map meta_entry lines.meta));
-}

@@ -10,8 +10,9 @@ ghost use Rattle.reg_tables.specs.Layout.{kept};
 ghost use Rattle.reg_tables.specs.Rooms.{HasRooms, CanBeStored};
 ghost use Rattle.reg_tables.specs.Contents.{KeptRow, Contents, kept_cells, IsReadableReply, Holds};
 ghost use Rattle.reg_tables.specs.Changes.{with_kept};
-ghost use Rattle.reg_tables.specs.Reading.{CanBeRead, IsFault, IsInsertFault, IsWriteFault};
-ghost use Rattle.reg_tables.specs.Replies.{kept_row};
+ghost use Rattle.reg_tables.specs.Reads.{CanBeRead};
+ghost use Rattle.reg_tables.specs.FailedCalls.{IsFault, IsInsertFault, IsWriteFault};
+ghost use Rattle.reg_tables.specs.KeptRows.{kept_row};
 
 use crate::statement::{ask, run};
 use sqlite::{Alter, Connection, Error, ErrorCode, Row, Transaction, params};

@@ -5,7 +5,7 @@ ghost use Rattle.reg_tables.specs.Frames.{state_in, StaysInside};
 ghost use Rattle.sqlite.specs.State.{HasCleanDisk};
 ghost use Rattle.reg_tables.specs.Layout.{no_schema, begun, unindexed, IsBare};
 ghost use Rattle.reg_tables.specs.Contents.{Contents, HoldsIn, Holds};
-ghost use Rattle.reg_tables.specs.Reading.{IsWriteFault};
+ghost use Rattle.reg_tables.specs.FailedCalls.{IsWriteFault};
 ghost use Rattle.reg_tables.specs.Changes.{no_contents, new_contents};
 
 use crate::meta::put_meta;

@@ -9,8 +9,10 @@ ghost use Rattle.reg_tables.specs.Frames.{StaysIdle};
 ghost use Rattle.sqlite.specs.State.{HasCleanDisk};
 ghost use Rattle.reg_tables.specs.Layout.{IsLayout};
 ghost use Rattle.reg_tables.specs.Contents.{flag_cell, text_form, version_form, pair_form, kept_form};
-ghost use Rattle.reg_tables.specs.Listings.{Parts, parts_of, entry_parts, text_entry, version_entry, level_entry, kept_entry, meta_entry, ListsIds, ListsTextsBetween, ListsVersions, ListsLevels, ListsKept, ListsMeta, IsReadableId, IsReadableText, IsReadableVersion, IsReadablePair, IsReadableKept};
-ghost use Rattle.reg_tables.specs.Reading.{CanBeRead, IsFault};
+ghost use Rattle.reg_tables.specs.Listings.{Parts, parts_of, entry_parts, text_entry, version_entry, level_entry, kept_entry, meta_entry, ListsIds, ListsTextsBetween, ListsVersions, ListsLevels, ListsKept, ListsMeta};
+ghost use Rattle.reg_tables.specs.Inside.ReadableRows.{IsReadableId, IsReadableText, IsReadableVersion, IsReadablePair, IsReadableKept};
+ghost use Rattle.reg_tables.specs.Reads.{CanBeRead};
+ghost use Rattle.reg_tables.specs.FailedCalls.{IsFault};
 
 use crate::kept::KeptReply;
 use crate::statement::{Line, list};

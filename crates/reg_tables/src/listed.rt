@@ -10,7 +10,8 @@ ghost use Rattle.sqlite.specs.State.{HasCleanDisk};
 ghost use Rattle.reg_tables.specs.Frames.{StaysIdle};
 ghost use Rattle.reg_tables.specs.Contents.{VersionRow, Contents, Holds, text_cmp};
 ghost use Rattle.reg_tables.specs.Entries.{numbered, numbered_cells, subject_versions, IsReadableNumbered, keyed, keyed_cells, id_versions, IsReadableKeyed};
-ghost use Rattle.reg_tables.specs.Reading.{CanBeRead, IsFault};
+ghost use Rattle.reg_tables.specs.Reads.{CanBeRead};
+ghost use Rattle.reg_tables.specs.FailedCalls.{IsFault};
 
 use crate::lines::flag_in;
 use crate::statement::{Line, first, list};

@@ -10,7 +10,8 @@ ghost use Rattle.reg_tables.specs.Layout.{meta};
 ghost use Rattle.reg_tables.specs.Rooms.{HasRooms, CanBeStored};
 ghost use Rattle.reg_tables.specs.Contents.{Contents, Holds};
 ghost use Rattle.reg_tables.specs.Changes.{Changes, with_meta, without_meta, with_global};
-ghost use Rattle.reg_tables.specs.Reading.{CanBeRead, IsFault, IsWriteFault, IsInsertFault};
+ghost use Rattle.reg_tables.specs.Reads.{CanBeRead};
+ghost use Rattle.reg_tables.specs.FailedCalls.{IsFault, IsWriteFault, IsInsertFault};
 
 use crate::statement::{ask, run};
 use sqlite::{Alter, Connection, Error, Transaction, params};

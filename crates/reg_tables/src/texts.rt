@@ -9,7 +9,8 @@ ghost use Rattle.reg_tables.specs.Contents.{Contents, number_cells, text_row_cel
 ghost use Rattle.reg_tables.specs.Layout.{texts};
 ghost use Rattle.reg_tables.specs.Rooms.{HasRooms, CanBeStored};
 ghost use Rattle.reg_tables.specs.Changes.{with_text};
-ghost use Rattle.reg_tables.specs.Reading.{CanBeRead, IsFault, IsWriteFault, IsPutFault};
+ghost use Rattle.reg_tables.specs.Reads.{CanBeRead};
+ghost use Rattle.reg_tables.specs.FailedCalls.{IsFault, IsWriteFault, IsPutFault};
 
 use crate::statement::{ask, run};
 use sqlite::{Alter, Connection, Error, ErrorCode, Row, Transaction, params};

@@ -9,7 +9,8 @@ ghost use Rattle.reg_tables.specs.Contents.{VersionRow, Contents, version_key_ce
 ghost use Rattle.reg_tables.specs.Layout.{versions};
 ghost use Rattle.reg_tables.specs.Rooms.{HasRooms, CanBeStored};
 ghost use Rattle.reg_tables.specs.Changes.{Changes, with_version, without_version, as_deleted, with_deleted};
-ghost use Rattle.reg_tables.specs.Reading.{CanBeRead, IsFault, IsWriteFault, IsInsertFault};
+ghost use Rattle.reg_tables.specs.Reads.{CanBeRead};
+ghost use Rattle.reg_tables.specs.FailedCalls.{IsFault, IsWriteFault, IsInsertFault};
 ghost use Rattle.reg_tables.specs.Entries.{version_row};
 
 use crate::lines::flag_in;

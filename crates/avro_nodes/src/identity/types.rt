@@ -7,7 +7,7 @@ ghost use Rattle.serde_json.specs.View.{members_view};
 ghost use Rattle.serde_json.specs.Written.{WritesValue};
 ghost use Rattle.avro_nodes.specs.Nodes.{texts_view, named_view, field_view};
 ghost use Rattle.avro_nodes.specs.Identity.{kind_text, primitive_value, array_value, map_value, enum_value, fixed_value, record_value, field_value};
-ghost use Rattle.avro_nodes.specs.Objects.{merged, Ends, Awaits, array_end, record_end};
+ghost use Rattle.avro_nodes.specs.Inside.Objects.{merged, Ends, Awaits, array_end, record_end};
 
 use crate::attributes::{
     write_aliases, write_default, write_fallback, write_name, write_namespace, write_order,

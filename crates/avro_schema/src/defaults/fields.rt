@@ -2,8 +2,8 @@
 
 ghost use Rattle.std.specs.Prelude.{◌≡◌, map};
 ghost use Rattle.avro_nodes.specs.Nodes.{field_view, node_view, nodes_view};
-ghost use Rattle.avro_schema.specs.Fitting.{field_defaults_fit, node_default_fits};
-ghost use Rattle.avro_schema.specs.Tables.{AreTables};
+ghost use Rattle.avro_schema.specs.Inside.Fitting.{field_defaults_fit, node_default_fits};
+ghost use Rattle.avro_schema.specs.Inside.FieldTables.{AreTables};
 
 use crate::defaults::fits;
 use crate::tables::FieldTable;

@@ -2,8 +2,8 @@
 
 ghost use Rattle.std.specs.Prelude.{◌≡◌, option_map, Some, IfSome, slice_get};
 ghost use Rattle.avro_nodes.specs.Nodes.{node_view, nodes_view};
-ghost use Rattle.avro_schema.specs.Fitting.{entered};
-ghost use Rattle.avro_schema.specs.Tables.{IsTableOf, AreTables};
+ghost use Rattle.avro_schema.specs.Inside.Fitting.{entered};
+ghost use Rattle.avro_schema.specs.Inside.FieldTables.{IsTableOf, AreTables};
 
 use crate::tables::FieldTable;
 use avro_nodes::Node;
@@ -25,7 +25,7 @@ pub fn entered(nodes: &[Node], place: u32) -> Option<(u32, &Node)>
 }
 
 /// The table of the node at the place, where it has one.
-#[tactic(auto, unfolding(crate::specs::Tables::AreTables))]
+#[tactic(auto, unfolding(crate::specs::Inside::FieldTables::AreTables))]
 pub fn table_at<'a, 'b>(
     tables: &'a [Option<FieldTable<'b>>],
     place: u32,

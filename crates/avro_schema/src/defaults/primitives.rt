@@ -3,7 +3,7 @@
 ghost use Rattle.std.specs.Prelude.{◌≡◌, ◌&&◌, ◌==◌, length};
 ghost use Rattle.std.specs.Str.{chars};
 ghost use Rattle.serde_json.specs.View.{view};
-ghost use Rattle.avro_schema.specs.Fitting.{primitive_fits};
+ghost use Rattle.avro_schema.specs.Inside.Fitting.{primitive_fits};
 ghost use Rattle.avro_schema.specs.Defaults.{is_bytes};
 
 use avro_nodes::Kind;

@@ -3,7 +3,7 @@
 ghost use Rattle.std.specs.Prelude.{◌≡◌};
 ghost use Rattle.avro_nodes.specs.Nodes.{nodes_view};
 ghost use Rattle.avro_schema.specs.Kinds.{kind_number, branch_kind};
-ghost use Rattle.avro_schema.specs.Reading.{key_of};
+ghost use Rattle.avro_schema.specs.Inside.Types.{key_of};
 
 use crate::words::Container;
 use avro_nodes::{Kind, Node};

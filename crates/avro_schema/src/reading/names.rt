@@ -3,8 +3,8 @@
 ghost use Rattle.std.specs.Prelude.{length};
 ghost use Rattle.serde_json.specs.View.{members_view};
 ghost use Rattle.avro_nodes.specs.Nodes.{nodes_view};
-ghost use Rattle.avro_schema.specs.Reading.{reference_to, primitive_at, name_at};
-ghost use Rattle.avro_schema.specs.Outcome.{Reads, known_in};
+ghost use Rattle.avro_schema.specs.Inside.Types.{reference_to, primitive_at, name_at};
+ghost use Rattle.avro_schema.specs.Inside.ReaderAnswers.{Reads, known_in};
 
 use crate::definitions::{others, room};
 use crate::error::SchemaError;
@@ -19,7 +19,7 @@ use std::alloc::Global;
 ///
 /// `TooLarge` where there is no place left or an attribute nests too deep, and `OutOfMemory` where
 /// memory is refused.
-#[tactic(auto, unfolding(crate::specs::Reading::primitive_at))]
+#[tactic(auto, unfolding(crate::specs::Inside::Types::primitive_at))]
 pub fn primitive_at(
     alloc: Global,
     kind: Kind,
@@ -43,7 +43,7 @@ pub fn primitive_at(
 ///
 /// `Undefined` where nothing known has the name, and `OutOfMemory` where memory for a full name is
 /// refused.
-#[tactic(auto, unfolding(crate::specs::Reading::reference_to))]
+#[tactic(auto, unfolding(crate::specs::Inside::Types::reference_to))]
 pub fn reference_to(
     alloc: Global,
     name: &str,
@@ -65,7 +65,7 @@ pub fn reference_to(
 /// # Errors
 ///
 /// The errors of `primitive_at` and of `reference_to`.
-#[tactic(auto, unfolding(crate::specs::Reading::name_at))]
+#[tactic(auto, unfolding(crate::specs::Inside::Types::name_at))]
 pub fn name_at(
     alloc: Global,
     name: &str,

@@ -3,8 +3,8 @@
 ghost use Rattle.std.specs.Prelude.{◌≡◌, ◌<◌, length, slice_set};
 ghost use Rattle.serde_json.specs.View.{members_view};
 ghost use Rattle.avro_nodes.specs.Nodes.{field_view, node_view, nodes_view};
-ghost use Rattle.avro_schema.specs.Reading.{container_node, field_at};
-ghost use Rattle.avro_schema.specs.Definitions.{label_view};
+ghost use Rattle.avro_schema.specs.Inside.Types.{container_node, field_at};
+ghost use Rattle.avro_schema.specs.Inside.Declarations.{label_view};
 
 use crate::definitions::Label;
 use crate::words::Container;

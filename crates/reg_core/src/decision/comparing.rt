@@ -2,8 +2,8 @@
 
 ghost use Rattle.std.specs.Prelude.{◌≡◌, IfOk, map, option_map};
 ghost use Rattle.avro_nodes.specs.Nodes.{nodes_view};
-ghost use Rattle.avro_schema.specs.Texts.{denoted};
-ghost use Rattle.reg_core.specs.Comparisons.{is_read_admitted, is_read_compatible};
+ghost use Rattle.avro_schema.specs.Inside.DenotedNodes.{denoted_nodes};
+ghost use Rattle.reg_core.specs.Inside.Comparisons.{is_read_admitted, is_read_compatible};
 
 use crate::compatibility::{is_compatible, named};
 use crate::decision::View;
@@ -15,7 +15,7 @@ use std::alloc::Global;
 
 /// The schema that the text denotes, if it denotes one.
 pub fn schema_of(alloc: Global, text: &str) -> Result<Option<Schema>, OutOfMemory>
-    ensures { IfOk result (λ found. option_map nodes_view found ≡ denoted text.now) }
+    ensures { IfOk result (λ found. option_map nodes_view found ≡ denoted_nodes text.now) }
 {
     match Schema::read(alloc, text) {
         Ok(schema) => Ok(Some(schema)),

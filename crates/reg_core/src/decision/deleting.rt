@@ -6,7 +6,7 @@ ghost use Rattle.avro_nodes.specs.Nodes.{NodeView};
 ghost use Rattle.reg_core.specs.declared.command.Command.TheVariants.{DeleteSubject, DeleteVersion};
 ghost use Rattle.reg_core.specs.Bodies.{number_body};
 ghost use Rattle.reg_core.specs.DeletionCommands.{numbers_reply, row_to_mark, row_to_remove};
-ghost use Rattle.reg_core.specs.Deleting.{row_to_delete, subject_refusal, version_change};
+ghost use Rattle.reg_core.specs.Inside.Deleting.{row_to_delete, subject_refusal, version_change};
 ghost use Rattle.reg_core.specs.Machine.{step};
 ghost use Rattle.reg_core.specs.Registry.{Registry};
 ghost use Rattle.reg_core.specs.Replies.{IsOwnReply, answer};

@@ -5,7 +5,7 @@ ghost use Rattle.avro_nodes.specs.Nodes.{nodes_view};
 ghost use Rattle.reg_core.specs.declared.command.Command.TheVariants.{Check, CheckAll, Register};
 ghost use Rattle.reg_core.specs.Bodies.{id_body, verdict_body};
 ghost use Rattle.reg_core.specs.Machine.{step};
-ghost use Rattle.reg_core.specs.Registering.{has_numbers_shown, id_among, id_shown, row_shown, version_added};
+ghost use Rattle.reg_core.specs.Inside.Registering.{has_numbers_shown, id_among, id_shown, row_shown, version_added};
 ghost use Rattle.reg_core.specs.Registry.{Registry};
 ghost use Rattle.reg_core.specs.Replies.{IsOwnReply, answer};
 ghost use Rattle.reg_core.specs.Rows.{next_number};

@@ -6,7 +6,7 @@ ghost use Rattle.sqlite.specs.Held.{state};
 ghost use Rattle.sqlite.specs.State.{HasCleanDisk, Survives, KeepsCommit};
 ghost use Rattle.reg_core.specs.Registry.{Registry};
 ghost use Rattle.reg_core.specs.Views.{ChangesFit, after_changes};
-ghost use Rattle.reg_tables.specs.Reading.{OnlyReads};
+ghost use Rattle.reg_tables.specs.Reads.{OnlyReads};
 ghost use Rattle.reg_core.specs.KeptReplies.{Kept};
 ghost use Rattle.reg_store.specs.Spells.{Leaves, IsOpenOver, SpellsWhileOpen};
 ghost use Rattle.reg_store.specs.Changes.{with_reply, IsNewTo, IsKeepable, ActsOn, HasRoomFor};

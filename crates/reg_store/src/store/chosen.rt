@@ -17,7 +17,7 @@ ghost use Rattle.reg_tables.specs.Frames.{StaysIdle};
 ghost use Rattle.reg_store.specs.declared.error.StoreError.TheVariants.{Memory};
 ghost use Rattle.reg_store.specs.Spells.{SpellsWhileOpen};
 ghost use Rattle.reg_store.specs.Failures.{IsFaultOver};
-ghost use Rattle.reg_store.specs.Viewing.{HasSubject, KeepsIdle, row_numbered, row_spelled};
+ghost use Rattle.reg_store.specs.Inside.Viewing.{HasSubject, KeepsIdle, row_numbered, row_spelled};
 
 use crate::error::StoreError;
 use crate::store::rows::{push_row, row_in};

@@ -11,7 +11,7 @@ ghost use Rattle.reg_core.specs.Views.{needs_levels};
 ghost use Rattle.reg_tables.specs.Frames.{StaysIdle};
 ghost use Rattle.reg_store.specs.Spells.{SpellsWhileOpen};
 ghost use Rattle.reg_store.specs.Failures.{IsFaultOver};
-ghost use Rattle.reg_store.specs.Viewing.{KeepsIdle};
+ghost use Rattle.reg_store.specs.Inside.Viewing.{KeepsIdle};
 
 use crate::error::StoreError;
 use reg_core::{Command, Level, Subject};

@@ -6,11 +6,11 @@ ghost use Rattle.sqlite.specs.Held.{state};
 ghost use Rattle.sqlite.specs.State.{HasCleanDisk, Survives, KeepsCommit};
 ghost use Rattle.reg_tables.specs.Layout.{unindexed};
 ghost use Rattle.reg_tables.specs.Contents.{Contents, HoldsIn, Holds};
-ghost use Rattle.reg_tables.specs.Reading.{OnlyReads};
+ghost use Rattle.reg_tables.specs.Reads.{OnlyReads};
 ghost use Rattle.reg_store.specs.Failures.{failure_of, IsFaultBy};
 ghost use Rattle.reg_store.specs.Opening.{IsRefusedBy, TellsNewer, OpensOver, IsIndexed};
 ghost use Rattle.reg_store.specs.Stores.{state_of, has_failed};
-ghost use Rattle.reg_store.specs.Testing.{IsFaultUnopened};
+ghost use Rattle.reg_store.specs.UnopenedFaults.{IsFaultUnopened};
 
 use crate::error::StoreError;
 use crate::store::Store;

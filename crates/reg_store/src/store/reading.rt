@@ -8,7 +8,7 @@ ghost use Rattle.reg_core.specs.Registry.{Registry};
 ghost use Rattle.reg_core.specs.Replies.{IsKeptStatus};
 ghost use Rattle.reg_core.specs.Rows.{text_at};
 ghost use Rattle.reg_tables.specs.Frames.{StaysIdle};
-ghost use Rattle.reg_tables.specs.Replies.{kept_row};
+ghost use Rattle.reg_tables.specs.KeptRows.{kept_row};
 ghost use Rattle.reg_core.specs.KeptReplies.{Kept, entry_told};
 ghost use Rattle.reg_store.specs.Spells.{SpellsWhileOpen, row_of};
 ghost use Rattle.reg_store.specs.Failures.{IsFaultOver};

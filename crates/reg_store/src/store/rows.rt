@@ -15,7 +15,7 @@ ghost use Rattle.reg_tables.specs.Frames.{StaysIdle};
 ghost use Rattle.reg_store.specs.declared.error.StoreError.TheVariants.{Memory};
 ghost use Rattle.reg_store.specs.Spells.{SpellsWhileOpen};
 ghost use Rattle.reg_store.specs.Failures.{IsFaultOver};
-ghost use Rattle.reg_store.specs.Viewing.{KeepsIdle, row_spelled, row_numbered, HasSubject};
+ghost use Rattle.reg_store.specs.Inside.Viewing.{KeepsIdle, row_spelled, row_numbered, HasSubject};
 
 use crate::error::StoreError;
 use crate::store::chosen::{chosen_rows, spelt_row};

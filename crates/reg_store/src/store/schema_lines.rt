@@ -9,7 +9,7 @@ ghost use Rattle.reg_core.specs.KeptReplies.{Kept};
 ghost use Rattle.reg_tables.specs.Frames.{StaysIdle};
 ghost use Rattle.reg_store.specs.Spells.{SpellsWhileOpen};
 ghost use Rattle.reg_store.specs.Failures.{IsFaultBy, IsFaultOver};
-ghost use Rattle.reg_store.specs.Viewing.{KeepsIdle};
+ghost use Rattle.reg_store.specs.Inside.Viewing.{KeepsIdle};
 ghost use Rattle.reg_store.specs.Listings.{fields_of, lines_of, schema_line, schema_lines};
 
 use crate::error::StoreError;

@@ -10,7 +10,7 @@ ghost use Rattle.reg_core.specs.Views.{needs_count};
 ghost use Rattle.reg_tables.specs.Frames.{StaysIdle};
 ghost use Rattle.reg_store.specs.Spells.{SpellsWhileOpen};
 ghost use Rattle.reg_store.specs.Failures.{IsFaultOver};
-ghost use Rattle.reg_store.specs.Viewing.{KeepsIdle, HasText, AreTrueTexts, AddsText, PutsText};
+ghost use Rattle.reg_store.specs.Inside.Viewing.{KeepsIdle, HasText, AreTrueTexts, AddsText, PutsText};
 
 use crate::error::StoreError;
 use reg_core::{Command, OutOfMemory};

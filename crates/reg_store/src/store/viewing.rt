@@ -14,7 +14,7 @@ ghost use Rattle.reg_tables.specs.Frames.{StaysIdle};
 ghost use Rattle.reg_store.specs.Spells.{SpellsWhileOpen};
 ghost use Rattle.reg_store.specs.Failures.{IsFaultOver};
 ghost use Rattle.reg_store.specs.Stores.{state_of, has_failed, KeepsStore};
-ghost use Rattle.reg_store.specs.Viewing.{KeepsIdle, IsViewButTexts};
+ghost use Rattle.reg_store.specs.Inside.Viewing.{KeepsIdle, IsViewButTexts};
 
 use crate::error::StoreError;
 use crate::store::Store;

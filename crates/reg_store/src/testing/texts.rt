@@ -7,11 +7,12 @@ ghost use Rattle.sqlite.specs.State.{HasCleanDisk};
 ghost use Rattle.reg_tables.specs.Frames.{StaysIdle};
 ghost use Rattle.reg_tables.specs.Layout.{IsLayout};
 ghost use Rattle.reg_tables.specs.Listings.{ListsTexts, ListsTextsBetween};
-ghost use Rattle.reg_tables.specs.Reading.{CanBeRead};
+ghost use Rattle.reg_tables.specs.Reads.{CanBeRead};
 ghost use Rattle.reg_core.specs.Registry.{max_number};
 ghost use Rattle.reg_store.specs.Failures.{IsFaultBy, IsNumberless};
-ghost use Rattle.reg_store.specs.Testing.{text_fits, IsFaultUnopened, Judges, NumbersTexts, Tests, TextsPass};
-ghost use Rattle.reg_store.specs.Viewing.{KeepsIdle};
+ghost use Rattle.reg_store.specs.Inside.Testing.{text_fits, Judges, NumbersTexts, Tests, TextsPass};
+ghost use Rattle.reg_store.specs.UnopenedFaults.{IsFaultUnopened};
+ghost use Rattle.reg_store.specs.Inside.Viewing.{KeepsIdle};
 
 use crate::error::StoreError;
 use crate::testing::allow;

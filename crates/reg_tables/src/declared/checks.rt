@@ -4,7 +4,7 @@ ghost use Rattle.std.specs.Prelude.{◌≡◌, ◌↔◌, IsTrue};
 ghost use Rattle.sqlite.specs.declared.types.Value.TheVariants.{Int};
 ghost use Rattle.sqlite_schema.specs.declared.code.Op.TheVariants.{Column as ColumnNode, Literal as LiteralNode};
 ghost use Rattle.reg_tables.specs.Layout.{versions};
-ghost use Rattle.reg_tables.specs.Checks.{node_at, IsTestAt, IsCheckAt};
+ghost use Rattle.reg_tables.specs.Inside.Checks.{node_at, IsTestAt, IsCheckAt};
 
 use sqlite_schema::code::{Op, Terms};
 use sqlite_schema::schema::Column;

@@ -2,7 +2,7 @@
 
 ghost use Rattle.std.specs.Prelude.{◌≡◌, ◌↔◌, ◌<◌, ◌^◌, [], ◌∷◌, IsTrue};
 ghost use Rattle.reg_tables.specs.Layout.{versions_of_id, layout, unindexed};
-ghost use Rattle.reg_tables.specs.Forms.{index_of};
+ghost use Rattle.reg_tables.specs.Inside.Forms.{index_of};
 
 use crate::declared::forms::{KEPT, LEVELS, META, TEXTS, TableForm, VERSIONS};
 use crate::declared::keys::are_numbers;

@@ -4,7 +4,7 @@ ghost use Rattle.std.specs.Prelude.{◌≡◌, ◌↔◌, map, [], ◌∷◌, Is
 ghost use Rattle.sqlite.specs.declared.types.Value.TheVariants.{Null};
 ghost use Rattle.sqlite.specs.Collation.TheVariants.{Binary};
 ghost use Rattle.reg_tables.specs.Layout.{layout, versions};
-ghost use Rattle.reg_tables.specs.Forms.{column_of, table_of};
+ghost use Rattle.reg_tables.specs.Inside.Forms.{column_of, table_of};
 
 use crate::declared::checks::are_version_checks;
 use crate::declared::forms::{ColumnForm, KEPT, LEVELS, META, TEXTS, TableForm, VERSIONS};

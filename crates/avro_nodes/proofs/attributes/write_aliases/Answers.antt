@@ -6,7 +6,7 @@ use Rattle.serde_json.specs.View.{members_view}
 use Rattle.serde_json.specs.Data.{array}
 use Rattle.avro_nodes.specs.Nodes.{texts_view}
 use Rattle.avro_nodes.specs.Identity.{texts as json_texts}
-use Rattle.avro_nodes.specs.Objects.{some_texts}
+use Rattle.avro_nodes.specs.Inside.Objects.{some_texts}
 use Rattle.avro_nodes.proofs.Written.{part_written, some_texts_are}
 use Rattle.avro_nodes.proofs.attributes.write_aliases.Goals as goal
 

@@ -2,7 +2,7 @@ use Rattle.std.proofs.Common.{◌≡◌, ◌∷◌, List, string_bytes, Greater,
 use Rattle.serde_json.specs.View.{view, members_view}
 use Rattle.serde_json.specs.Data.{Members}
 use Rattle.serde_json.proofs.Views.{Entry}
-use Rattle.avro_nodes.specs.Objects.{Ends, behind, before_then}
+use Rattle.avro_nodes.specs.Inside.Objects.{Ends, behind, before_then}
 use Rattle.avro_nodes.proofs.Merged.{order, behind_next, before_next}
 use Rattle.avro_nodes.proofs.Written.{next_left}
 use Rattle.avro_nodes.proofs.attributes.write_before.Goals as goal

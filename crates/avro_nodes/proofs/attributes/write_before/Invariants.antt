@@ -2,7 +2,7 @@ use Rattle.std.proofs.Common.{◌≡◌, List}
 use Rattle.json.specs.Token.{Token}
 use Rattle.serde_json.specs.Data.{Members}
 use Rattle.serde_json.specs.View.{members_view}
-use Rattle.avro_nodes.specs.Objects.{Ends, behind, before_then}
+use Rattle.avro_nodes.specs.Inside.Objects.{Ends, behind, before_then}
 use Rattle.avro_nodes.proofs.attributes.write_before.Given as goal
 
 -- what is left has the same part behind the name, and whatever ends the object from here ends it from the start

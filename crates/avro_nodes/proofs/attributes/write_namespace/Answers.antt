@@ -4,7 +4,7 @@ use Rattle.std.specs.Prelude.{codes}
 use Rattle.std.proofs.lemmas.Result.{on_ok_weaker}
 use Rattle.serde_json.specs.Data.{string}
 use Rattle.serde_json.specs.View.{members_view}
-use Rattle.avro_nodes.specs.Objects.{null_namespace}
+use Rattle.avro_nodes.specs.Inside.Objects.{null_namespace}
 use Rattle.avro_nodes.proofs.Written.{part_is, null_namespace_is}
 use Rattle.avro_nodes.proofs.attributes.write_namespace.Goals as goal
 

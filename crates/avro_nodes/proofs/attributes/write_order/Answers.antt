@@ -3,7 +3,7 @@ use Rattle.std.specs.Prelude.{codes}
 use Rattle.std.proofs.lemmas.Result.{on_ok_weaker}
 use Rattle.serde_json.specs.Data.{string}
 use Rattle.serde_json.specs.View.{members_view}
-use Rattle.avro_nodes.specs.Objects.{order_text}
+use Rattle.avro_nodes.specs.Inside.Objects.{order_text}
 use Rattle.avro_nodes.proofs.Written.{part_is}
 use Rattle.avro_nodes.proofs.attributes.write_order.Goals as goal
 

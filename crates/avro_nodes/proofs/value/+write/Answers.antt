@@ -6,7 +6,7 @@ use Rattle.serde_json.specs.View.{view, number_view, items_view, members_view}
 use Rattle.serde_json.specs.Written.{WritesValue, WritesItems}
 use Rattle.serde_json.specs.declared.value.Value.{Value, the_lemmas}
 use Rattle.serde_json.proofs.Views.{Entry, view-Array, view-Object}
-use Rattle.avro_nodes.specs.Objects.{Ends}
+use Rattle.avro_nodes.specs.Inside.Objects.{Ends}
 use Rattle.avro_nodes.proofs.Written.{items_ended, items_on, array_ended, members_ended, members_on, object_ended, ordered_entries, null_written, boolean_written, number_written, string_written}
 use Rattle.avro_nodes.proofs.value.+write.Goals as goal
 

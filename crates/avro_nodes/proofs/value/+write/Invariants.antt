@@ -2,7 +2,7 @@ use Rattle.std.proofs.Common.{List, drop}
 use Rattle.json.specs.Token.{Token}
 use Rattle.serde_json.specs.View.{items_view, members_view}
 use Rattle.serde_json.specs.Written.{WritesItems}
-use Rattle.avro_nodes.specs.Objects.{Ends}
+use Rattle.avro_nodes.specs.Inside.Objects.{Ends}
 use Rattle.avro_nodes.proofs.value.+write.Given as goal
 
 -- whatever ends the array or the object from here ends it from its start

@@ -2,7 +2,7 @@ use Rattle.std.proofs.Common.{List, sym, subst}
 use Rattle.std.proofs.lemmas.Result.{on_ok_weaker}
 use Rattle.serde_json.specs.View.{members_view}
 use Rattle.serde_json.proofs.Views.{Entry}
-use Rattle.avro_nodes.specs.Objects.{Ends}
+use Rattle.avro_nodes.specs.Inside.Objects.{Ends}
 use Rattle.avro_nodes.proofs.Written.{members_ended}
 use Rattle.avro_nodes.proofs.value.write_rest.Goals as goal
 

@@ -1,7 +1,7 @@
 use Rattle.std.proofs.Common.{List}
 use Rattle.json.specs.Token.{Token}
 use Rattle.serde_json.specs.View.{members_view}
-use Rattle.avro_nodes.specs.Objects.{Ends}
+use Rattle.avro_nodes.specs.Inside.Objects.{Ends}
 use Rattle.avro_nodes.proofs.value.write_rest.Given as goal
 
 -- whatever ends the object well from here ends it well from the start

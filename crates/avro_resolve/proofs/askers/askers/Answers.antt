@@ -4,8 +4,8 @@ use Rattle.std.proofs.lemmas.Bool.{cases_lt}
 use Rattle.std.proofs.lemmas.List.{length-map}
 use Rattle.std.proofs.lemmas.Option.{slice_get_within}
 use Rattle.avro_nodes.specs.Nodes.{NodeView, node_view, nodes_view}
-use Rattle.avro_resolve.specs.Places.{NamesAll, Names}
-use Rattle.avro_resolve.specs.Askers.{IsAsker, Adds}
+use Rattle.avro_resolve.specs.Inside.Places.{NamesAll, Names}
+use Rattle.avro_resolve.specs.Inside.Askers.{IsAsker, Adds}
 use Rattle.avro_resolve.proofs.Monotone.{at_place}
 use Rattle.avro_resolve.proofs.AskerLemmas.{adds_then, named_on}
 use Rattle.avro_resolve.proofs.askers.askers.Goals as goal

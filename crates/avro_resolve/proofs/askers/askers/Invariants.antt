@@ -1,8 +1,8 @@
 use Rattle.std.proofs.Common.{◌≡◌, ℕ, ◌<◌, Some, length}
 use Rattle.std.specs.Prelude.{slice_get}
 use Rattle.avro_nodes.specs.Nodes.{NodeView, nodes_view}
-use Rattle.avro_resolve.specs.Places.{NamesAll}
-use Rattle.avro_resolve.specs.Askers.{IsAsker}
+use Rattle.avro_resolve.specs.Inside.Places.{NamesAll}
+use Rattle.avro_resolve.specs.Inside.Askers.{IsAsker}
 use Rattle.avro_resolve.proofs.askers.askers.Given as goal
 
 abbrev pub invariant-loop-i : goal.invariant-loop-i

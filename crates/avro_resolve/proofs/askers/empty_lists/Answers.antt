@@ -1,7 +1,7 @@
 use Rattle.std.proofs.Common.{◌≡◌, ◌+◌, ◌++◌, ◌∷◌, ℕ, List, [], length, sym, subst, ap, ◌∙◌, arith, length-append}
 use Rattle.std.specs.Prelude.{Vec}
 use Rattle.std.specs.declared.alloc.Global.{Global}
-use Rattle.avro_resolve.specs.Askers.{list_at}
+use Rattle.avro_resolve.specs.Inside.Askers.{list_at}
 use Rattle.avro_resolve.proofs.AskerLemmas.{list_past, empty_push}
 use Rattle.avro_resolve.proofs.askers.empty_lists.Goals as goal
 

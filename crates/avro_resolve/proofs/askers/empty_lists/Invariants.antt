@@ -1,5 +1,5 @@
 use Rattle.std.proofs.Common.{◌≡◌, ℕ, [], length}
-use Rattle.avro_resolve.specs.Askers.{list_at}
+use Rattle.avro_resolve.specs.Inside.Askers.{list_at}
 use Rattle.avro_resolve.proofs.askers.empty_lists.Given as goal
 
 abbrev pub invariant-loop-i : goal.invariant-loop-i

@@ -1,7 +1,7 @@
 use Rattle.std.proofs.Common.{◌≡◌, ℕ, List, sym, subst, ap, ◌∙◌, inl, inr}
 use Rattle.std.specs.Prelude.{Contains, Vec}
 use Rattle.std.specs.declared.alloc.Global.{Global}
-use Rattle.avro_resolve.specs.Askers.{list_at}
+use Rattle.avro_resolve.specs.Inside.Askers.{list_at}
 use Rattle.avro_resolve.proofs.AskerLemmas.{adds_one, list_set, list_in}
 use Rattle.avro_resolve.proofs.askers.note.Goals as goal
 

@@ -3,7 +3,7 @@ use Rattle.std.proofs.lemmas.Bool.{cases_lt}
 use Rattle.std.proofs.lemmas.List.Elements.{All-map}
 use Rattle.avro_nodes.specs.declared.node.Field.{Field}
 use Rattle.avro_nodes.specs.Nodes.{FieldView, field_view}
-use Rattle.avro_resolve.specs.Askers.{IsAsker}
+use Rattle.avro_resolve.specs.Inside.Askers.{IsAsker}
 use Rattle.avro_resolve.proofs.SupportLemmas.{all_of}
 use Rattle.avro_resolve.proofs.AskerLemmas.{adds_then, get_or_any}
 use Rattle.avro_resolve.proofs.askers.note_fields.Goals as goal

@@ -1,6 +1,6 @@
 use Rattle.std.proofs.Common.{ℕ, ◌<◌, get_or}
 use Rattle.avro_nodes.specs.declared.node.Field.{Field}
-use Rattle.avro_resolve.specs.Askers.{IsAsker, Adds}
+use Rattle.avro_resolve.specs.Inside.Askers.{IsAsker, Adds}
 use Rattle.avro_resolve.proofs.askers.note_fields.Given as goal
 
 abbrev pub invariant-loop-field : goal.invariant-loop-field

@@ -2,7 +2,7 @@ use Rattle.std.proofs.Common.{◌<◌, ℕ, List, length, map, sym, subst}
 use Rattle.std.specs.Prelude.{All, OnOk}
 use Rattle.avro_nodes.specs.declared.node.Field.{Field}
 use Rattle.avro_nodes.specs.Nodes.{field_view}
-use Rattle.avro_resolve.specs.Askers.{IsAsker}
+use Rattle.avro_resolve.specs.Inside.Askers.{IsAsker}
 use Rattle.avro_resolve.proofs.askers.note_node.Goals as goal
 
 pub note_fields-requires : goal.note_fields-requires

@@ -1,6 +1,6 @@
 use Rattle.std.proofs.Common.{◌≡◌, ◌<◌, ℕ, get_or, length, subst, inl, inr, arith}
 use Rattle.std.proofs.lemmas.Bool.{cases_lt}
-use Rattle.avro_resolve.specs.Askers.{IsAsker}
+use Rattle.avro_resolve.specs.Inside.Askers.{IsAsker}
 use Rattle.avro_resolve.proofs.AskerLemmas.{adds_then, get_or_any}
 use Rattle.avro_resolve.proofs.askers.note_places.Goals as goal
 

@@ -1,5 +1,5 @@
 use Rattle.std.proofs.Common.{ℕ, ◌<◌, get_or}
-use Rattle.avro_resolve.specs.Askers.{IsAsker, Adds}
+use Rattle.avro_resolve.specs.Inside.Askers.{IsAsker, Adds}
 use Rattle.avro_resolve.proofs.askers.note_places.Given as goal
 
 abbrev pub invariant-loop-place : goal.invariant-loop-place

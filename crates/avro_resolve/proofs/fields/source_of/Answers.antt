@@ -1,7 +1,7 @@
 use Rattle.std.proofs.Common.{◌≡◌, Some, None, string_bytes, sym, ap, ◌∙◌}
 use Rattle.std.specs.Option.{option_or}
 use Rattle.avro_nodes.specs.Nodes.{texts_view}
-use Rattle.avro_resolve.specs.Lookups.{place_in}
+use Rattle.avro_resolve.specs.Inside.Lookups.{place_in}
 use Rattle.avro_resolve.proofs.FieldLemmas.{place_by, place_by-cons}
 use Rattle.avro_resolve.proofs.fields.source_of.Goals as goal
 

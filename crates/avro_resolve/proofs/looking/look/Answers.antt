@@ -4,7 +4,7 @@ use Rattle.avro_nodes.specs.Nodes.{nodes_view}
 use Rattle.avro_resolve.proofs.Strikes.{struck_pair}
 use Rattle.avro_resolve.proofs.Settling.{fewer_struck, lists_struck, settled_supported, settled_gone}
 use Rattle.avro_resolve.specs.Witnesses.{Pair}
-use Rattle.avro_resolve.specs.Left.{Lists}
+use Rattle.avro_resolve.specs.Inside.Left.{Lists}
 use Rattle.avro_resolve.proofs.looking.look.Goals.{else-has-via-then-has+else-not-supports, else-has-via-else-has}
 use Rattle.avro_resolve.proofs.looking.look.Goals as goal
 

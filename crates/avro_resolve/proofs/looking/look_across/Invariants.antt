@@ -1,7 +1,7 @@
 use Rattle.std.proofs.Common.{ℕ, ◌<◌, get_or}
 use Rattle.std.specs.Prelude.{All}
 use Rattle.avro_nodes.specs.Nodes.{nodes_view}
-use Rattle.avro_resolve.specs.Left.{IsRest, Lists, Settled}
+use Rattle.avro_resolve.specs.Inside.Left.{IsRest, Lists, Settled}
 use Rattle.avro_resolve.proofs.looking.look_across.Given as goal
 
 abbrev pub invariant-loop-i : goal.invariant-loop-i

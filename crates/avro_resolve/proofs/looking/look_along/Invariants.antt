@@ -1,6 +1,6 @@
 use Rattle.std.proofs.Common.{ℕ, ◌<◌, get_or}
 use Rattle.avro_nodes.specs.Nodes.{nodes_view}
-use Rattle.avro_resolve.specs.Left.{IsRest, Lists, Settled}
+use Rattle.avro_resolve.specs.Inside.Left.{IsRest, Lists, Settled}
 use Rattle.avro_resolve.proofs.looking.look_along.Given as goal
 
 abbrev pub invariant-loop-j : goal.invariant-loop-j

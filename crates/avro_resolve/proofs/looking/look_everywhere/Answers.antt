@@ -1,7 +1,7 @@
 use Rattle.std.proofs.Common.{◌≡◌, ◌-◌, ℕ, subst, inl, inr, arith}
 use Rattle.std.proofs.lemmas.Bool.{cases_lt}
 use Rattle.avro_nodes.specs.Nodes.{nodes_view}
-use Rattle.avro_resolve.specs.Left.{Settled}
+use Rattle.avro_resolve.specs.Inside.Left.{Settled}
 use Rattle.avro_resolve.proofs.Settling.{settled_on}
 use Rattle.avro_resolve.proofs.looking.look_everywhere.Goals as goal
 

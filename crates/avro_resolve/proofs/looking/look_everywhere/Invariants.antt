@@ -1,6 +1,6 @@
 use Rattle.std.proofs.Common.{ℕ, ◌<◌, ◌≤◌, length}
 use Rattle.avro_nodes.specs.Nodes.{nodes_view}
-use Rattle.avro_resolve.specs.Left.{IsRest, Settled}
+use Rattle.avro_resolve.specs.Inside.Left.{IsRest, Settled}
 use Rattle.avro_resolve.proofs.looking.look_everywhere.Given as goal
 
 abbrev pub invariant-loop-i : goal.invariant-loop-i

@@ -2,7 +2,7 @@ use Rattle.std.proofs.Common.{List, ap, subst, ◌∙◌, String, Global, string
 use Rattle.std.specs.Prelude.{is_some}
 use Rattle.std.specs.Str.{bytes_eq}
 use Rattle.avro_resolve.proofs.LookupLemmas.{some_found}
-use Rattle.avro_resolve.specs.Lookups.{FindsTexts}
+use Rattle.avro_resolve.specs.Inside.Lookups.{FindsTexts}
 use Rattle.avro_resolve.proofs.lookups.lookup_if_any.Goals as goal
 
 pub returns-in_ok-lookup_of-in-Symbols-Enum : goal.returns-in_ok-lookup_of-in-Symbols-Enum

@@ -2,7 +2,7 @@ use Rattle.std.proofs.Common.{◌≡◌, ◌∙◌, ◌-◌, ℕ, List, Some, dr
 use Rattle.std.specs.HashMap.{get_by}
 use Rattle.std.specs.Map.{update}
 use Rattle.std.specs.Str.{bytes_eq}
-use Rattle.avro_resolve.specs.Lookups.{first_of}
+use Rattle.avro_resolve.specs.Inside.Lookups.{first_of}
 use Rattle.std.proofs.lemmas.Map.Text.{hash_map_updates_str}
 use Rattle.avro_resolve.proofs.LookupLemmas.{gives_before, gives_none}
 use Rattle.avro_resolve.proofs.lookups.lookup_of.Goals as goal

@@ -1,7 +1,7 @@
 use Rattle.std.proofs.Common.{◌≡◌, ℕ, List, drop}
 use Rattle.std.specs.HashMap.{get_by}
 use Rattle.std.specs.Str.{bytes_eq}
-use Rattle.avro_resolve.specs.Lookups.{first_of}
+use Rattle.avro_resolve.specs.Inside.Lookups.{first_of}
 use Rattle.avro_resolve.proofs.lookups.lookup_of.Given as goal
 
 abbrev pub invariant-loop-index : goal.invariant-loop-index

@@ -1,5 +1,5 @@
 use Rattle.std.proofs.Common.{◌≡◌, length}
-use Rattle.avro_resolve.specs.Lookups.{AreLookups}
+use Rattle.avro_resolve.specs.Inside.Lookups.{AreLookups}
 use Rattle.avro_resolve.proofs.lookups.lookups_of.Given as goal
 
 abbrev pub invariant-loop-place : goal.invariant-loop-place

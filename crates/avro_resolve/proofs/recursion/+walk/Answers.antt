@@ -6,8 +6,8 @@ use Rattle.serde_json.specs.View.{view}
 use Rattle.avro_nodes.specs.declared.node.Field.{Field}
 use Rattle.avro_nodes.specs.Nodes.{FieldView, node_view, nodes_view, field_view}
 use Rattle.avro_resolve.specs.Resolution.{Readable}
-use Rattle.avro_resolve.specs.Lookups.{FindsFields}
-use Rattle.avro_resolve.specs.Asking.{IsSourceAsked}
+use Rattle.avro_resolve.specs.Inside.Lookups.{FindsFields}
+use Rattle.avro_resolve.specs.Inside.Asked.{IsSourceAsked}
 use Rattle.avro_resolve.specs.Witnesses.{Pair, member, without}
 use Rattle.avro_resolve.proofs.Agreement.{fits_agree}
 use Rattle.avro_resolve.proofs.MarkLemmas.{marks_at}

@@ -2,7 +2,7 @@ use Rattle.std.proofs.Common.{◌*◌, ◌+◌, ◌-◌, take, All, IsTrue, map}
 use Rattle.avro_nodes.specs.Nodes.{field_view, nodes_view}
 use Rattle.avro_resolve.specs.Resolution.{Readable}
 use Rattle.avro_resolve.specs.Witnesses.{member}
-use Rattle.avro_resolve.specs.Walking.{Ready, HasGrown}
+use Rattle.avro_resolve.specs.Inside.Walking.{Ready, HasGrown}
 use Rattle.avro_resolve.proofs.recursion.+walk.Given as goal
 
 abbrev pub decreases-ask : goal.decreases-ask

@@ -2,7 +2,7 @@ use Rattle.std.proofs.Common.{◌≡◌, ◌<◌, [], List, length, sym, subst, 
 use Rattle.std.proofs.lemmas.List.{length-map}
 use Rattle.avro_nodes.specs.Nodes.{node_view, nodes_view}
 use Rattle.avro_resolve.specs.Witnesses.{Pair}
-use Rattle.avro_resolve.specs.Walking.{Good, Marks}
+use Rattle.avro_resolve.specs.Inside.Walking.{Good, Marks}
 use Rattle.avro_resolve.proofs.Denoted.{some_node, is_whole}
 use Rattle.avro_resolve.proofs.MarkLemmas.{marks_none}
 use Rattle.avro_resolve.proofs.Reaching.{is_small}

@@ -4,8 +4,8 @@ use Rattle.std.proofs.lemmas.List.{length-map}
 use Rattle.std.proofs.lemmas.List.Elements.{Contains-get_or}
 use Rattle.avro_nodes.specs.Nodes.{node_view, nodes_view}
 use Rattle.avro_resolve.specs.Witnesses.{Pair}
-use Rattle.avro_resolve.specs.Askers.{list_at}
-use Rattle.avro_resolve.specs.Left.{Settled, AllSettled}
+use Rattle.avro_resolve.specs.Inside.Askers.{list_at}
+use Rattle.avro_resolve.specs.Inside.Left.{Settled, AllSettled}
 use Rattle.avro_resolve.proofs.Settling.{told}
 use Rattle.avro_resolve.proofs.striking.settle.Goals as goal
 

@@ -1,6 +1,6 @@
 use Rattle.std.proofs.Common.{◌+◌, length}
 use Rattle.avro_nodes.specs.Nodes.{nodes_view}
-use Rattle.avro_resolve.specs.Left.{IsRest, AllSettled, count_left}
+use Rattle.avro_resolve.specs.Inside.Left.{IsRest, AllSettled, count_left}
 use Rattle.avro_resolve.proofs.striking.settle.Given as goal
 
 abbrev pub invariant-loop-i : goal.invariant-loop-i

@@ -1,5 +1,5 @@
 use Rattle.std.proofs.Common.{refl}
-use Rattle.avro_resolve.specs.Left.{left}
+use Rattle.avro_resolve.specs.Inside.Left.{left}
 use Rattle.avro_resolve.proofs.SupportLemmas.{found_at, found_any}
 use Rattle.avro_resolve.proofs.support.any_left.Goals as goal
 

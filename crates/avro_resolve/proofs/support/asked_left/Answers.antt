@@ -4,7 +4,7 @@ use Rattle.std.proofs.lemmas.List.Elements.{All-map}
 use Rattle.avro_nodes.specs.declared.node.Field.{Field}
 use Rattle.avro_nodes.specs.Nodes.{FieldView, field_view}
 use Rattle.avro_resolve.specs.Resolution.{Readable}
-use Rattle.avro_resolve.specs.Left.{left}
+use Rattle.avro_resolve.specs.Inside.Left.{left}
 use Rattle.avro_resolve.proofs.SupportLemmas.{all_of}
 use Rattle.avro_resolve.proofs.support.asked_left.Goals as goal
 

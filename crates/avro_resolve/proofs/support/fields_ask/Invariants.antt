@@ -2,7 +2,7 @@ use Rattle.std.proofs.Common.{ℕ, ◌<◌, get_or, map}
 use Rattle.avro_nodes.specs.declared.node.Field.{Field}
 use Rattle.avro_nodes.specs.Nodes.{field_view}
 use Rattle.avro_resolve.specs.Resolution.{Pairs, Readable}
-use Rattle.avro_resolve.specs.Left.{WithinBut}
+use Rattle.avro_resolve.specs.Inside.Left.{WithinBut}
 use Rattle.avro_resolve.proofs.support.fields_ask.Given as goal
 
 abbrev pub invariant-loop-f : goal.invariant-loop-f

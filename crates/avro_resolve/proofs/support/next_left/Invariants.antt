@@ -1,5 +1,5 @@
 use Rattle.std.proofs.Common.{◌≡◌, ◌≤◌, ◌<◌, ℕ, false, get_or}
-use Rattle.avro_resolve.specs.Left.{left}
+use Rattle.avro_resolve.specs.Inside.Left.{left}
 use Rattle.avro_resolve.proofs.support.next_left.Given as goal
 
 abbrev pub invariant-loop-at : goal.invariant-loop-at

@@ -1,5 +1,5 @@
 use Rattle.avro_nodes.specs.Nodes.{node_view, nodes_view}
-use Rattle.avro_resolve.specs.Left.{left}
+use Rattle.avro_resolve.specs.Inside.Left.{left}
 use Rattle.avro_resolve.proofs.Agreement.{agreed_at}
 use Rattle.avro_resolve.proofs.Monotone.{supports_at}
 use Rattle.avro_resolve.proofs.support.supports.Goals as goal

@@ -1,7 +1,7 @@
 use Rattle.std.proofs.Common.{true≢false, sym, ◌∙◌}
 use Rattle.std.proofs.lemmas.List.{length-map}
 use Rattle.avro_nodes.specs.Nodes.{nodes_view}
-use Rattle.avro_resolve.specs.Left.{left}
+use Rattle.avro_resolve.specs.Inside.Left.{left}
 use Rattle.avro_resolve.proofs.Agreement.{supports_agreed}
 use Rattle.avro_resolve.proofs.Settling.{fewer_struck, gone_struck}
 use Rattle.avro_resolve.proofs.Strikes.{struck_pair}

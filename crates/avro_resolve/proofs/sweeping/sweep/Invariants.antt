@@ -1,6 +1,6 @@
 use Rattle.std.proofs.Common.{ℕ, ◌<◌, IsTrue, length}
 use Rattle.avro_nodes.specs.Nodes.{nodes_view}
-use Rattle.avro_resolve.specs.Left.{left, Agreed, IsLeft}
+use Rattle.avro_resolve.specs.Inside.Left.{left, Agreed, IsLeft}
 use Rattle.avro_resolve.proofs.sweeping.sweep.Given as goal
 
 abbrev pub invariant-loop-i : goal.invariant-loop-i

@@ -1,6 +1,6 @@
 use Rattle.std.proofs.Common.{List, subst, sym}
 use Rattle.avro_resolve.specs.Witnesses.{Pair}
-use Rattle.avro_resolve.specs.Walking.{Marks}
+use Rattle.avro_resolve.specs.Inside.Walking.{Marks}
 use Rattle.avro_resolve.proofs.MarkLemmas.{marks_push}
 use Rattle.avro_resolve.proofs.walk.fail_pair.Goals as goal
 

@@ -2,7 +2,7 @@ use Rattle.std.proofs.Common.{◌≡◌, ◌+◌, ◌∷◌, [], ◌++◌, lengt
 use Rattle.std.proofs.lemmas.List.{length_push}
 use Rattle.avro_nodes.specs.Nodes.{nodes_view}
 use Rattle.avro_resolve.specs.Witnesses.{Pair}
-use Rattle.avro_resolve.specs.Walking.{Good, Marks}
+use Rattle.avro_resolve.specs.Inside.Walking.{Good, Marks}
 use Rattle.avro_resolve.proofs.WalkSteps.{opened}
 use Rattle.avro_resolve.proofs.MarkLemmas.{marks_push}
 use Rattle.avro_resolve.proofs.walk.open_pair.Goals as goal

@@ -1,8 +1,8 @@
 use Rattle.std.proofs.Common.{◌≡◌, ◌+◌, ◌<◌, ◌≤◌, ◌∷◌, [], ◌++◌, ℕ, List, true, take, take-take, take_at, refl, length, subst, sym, ap, ◌∙◌, arith}
 use Rattle.std.proofs.lemmas.List.{length_push}
 use Rattle.avro_resolve.specs.Witnesses.{Pair, member, Differ}
-use Rattle.avro_resolve.specs.Walking.{Marks}
-use Rattle.avro_resolve.proofs.Members.{member_last}
+use Rattle.avro_resolve.specs.Inside.Walking.{Marks}
+use Rattle.avro_resolve.proofs.PairLists.{member_last}
 use Rattle.avro_resolve.proofs.MarkLemmas.{marks_pop, differ_front}
 use Rattle.avro_resolve.proofs.walk.take_back.Goals as goal
 

@@ -1,6 +1,6 @@
 use Rattle.std.proofs.Common.{◌≡◌, ◌<◌, take, length}
 use Rattle.avro_resolve.specs.Witnesses.{Differ}
-use Rattle.avro_resolve.specs.Walking.{Marks}
+use Rattle.avro_resolve.specs.Inside.Walking.{Marks}
 use Rattle.avro_resolve.proofs.walk.take_back.Given as goal
 
 abbrev pub invariant-loop-assumed : goal.invariant-loop-assumed

@@ -1,7 +1,7 @@
 use Rattle.std.proofs.Common.{length, string_bytes, sym, ap, ◌∙◌, arith}
 use Rattle.std.proofs.lemmas.List.{map_push}
 use Rattle.avro_schema.proofs.AttributeLemmas.{no_text, no_name, name_more, names_over, nothing_left}
-use Rattle.avro_schema.proofs.Exits.{fails_from, gives_exit}
+use Rattle.avro_schema.proofs.ReaderErrors.{fails_from, gives_exit}
 use Rattle.avro_schema.proofs.attributes.names_of.Goals as goal
 
 pub returns-in_default : goal.returns-in_default

@@ -2,8 +2,8 @@ use Rattle.std.proofs.Common.{◌≡◌, length, option_map}
 use Rattle.std.specs.Vec.Iter.{into_iter_items, into_iter_len}
 use Rattle.serde_json.specs.View.{items_view}
 use Rattle.avro_nodes.specs.Nodes.{texts_view}
-use Rattle.avro_schema.specs.Definitions.{rule_by}
-use Rattle.avro_schema.specs.Members.{texts_in}
+use Rattle.avro_schema.specs.Inside.Declarations.{rule_by}
+use Rattle.avro_schema.specs.Attributes.{texts_in}
 use Rattle.avro_schema.proofs.AttributeLemmas.{after_these}
 use Rattle.avro_schema.proofs.attributes.names_of.Given as goal
 

@@ -3,8 +3,8 @@ use Rattle.std.specs.Prelude.{slice_get}
 use Rattle.std.specs.List.{list_all}
 use Rattle.serde_json.specs.View.{items_view, members_view}
 use Rattle.avro_nodes.specs.Nodes.{field_view, nodes_view}
-use Rattle.avro_schema.specs.Fitting.{items_fit, members_fit, fields_fit, fits}
-use Rattle.avro_schema.specs.Tables.{fits_if_any, named_fit}
+use Rattle.avro_schema.specs.Inside.Fitting.{items_fit, members_fit, fields_fit, fits}
+use Rattle.avro_schema.specs.Inside.FieldTables.{fits_if_any, named_fit}
 use Rattle.avro_schema.proofs.defaults.+fit.Given as goal
 
 abbrev pub decreases-fits : goal.decreases-fits

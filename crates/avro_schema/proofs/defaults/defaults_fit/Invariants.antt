@@ -1,6 +1,6 @@
 use Rattle.std.proofs.Common.{◌≡◌, drop}
 use Rattle.avro_nodes.specs.Nodes.{nodes_view}
-use Rattle.avro_schema.specs.Fitting.{node_defaults_fit}
+use Rattle.avro_schema.specs.Inside.Fitting.{node_defaults_fit}
 use Rattle.avro_schema.proofs.defaults.defaults_fit.Given as goal
 
 abbrev pub invariant-loop-node : goal.invariant-loop-node

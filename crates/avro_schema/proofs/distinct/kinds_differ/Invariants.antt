@@ -1,6 +1,6 @@
 use Rattle.std.proofs.Common.{◌≡◌, map, drop}
 use Rattle.std.specs.Prelude.{◌==◌}
-use Rattle.avro_schema.specs.Distinct.{all_new, all_differ}
+use Rattle.avro_schema.specs.Inside.Distinct.{all_new, all_differ}
 use Rattle.avro_schema.proofs.DistinctLemmas.{numbers_seen}
 use Rattle.avro_schema.proofs.distinct.kinds_differ.Given as goal
 

@@ -1,6 +1,6 @@
 use Rattle.std.proofs.Common.{◌≡◌, map, drop}
 use Rattle.std.specs.Str.{bytes_eq}
-use Rattle.avro_schema.specs.Distinct.{all_new, all_differ}
+use Rattle.avro_schema.specs.Inside.Distinct.{all_new, all_differ}
 use Rattle.avro_schema.proofs.DistinctLemmas.{texts_seen}
 use Rattle.avro_schema.proofs.distinct.texts_differ.Given as goal
 

@@ -1,6 +1,6 @@
 use Rattle.std.proofs.Common.{◌≡◌, ◌-◌, drop, map}
 use Rattle.avro_nodes.specs.Nodes.{field_view, nodes_view}
-use Rattle.avro_schema.specs.Mentions.{fields_mentions}
+use Rattle.avro_schema.specs.Inside.Mentions.{fields_mentions}
 use Rattle.avro_schema.proofs.mentions.after_fields.Given as goal
 
 abbrev pub invariant-loop-field : goal.invariant-loop-field

@@ -1,6 +1,6 @@
 use Rattle.std.proofs.Common.{◌≡◌, ◌-◌, drop}
 use Rattle.avro_nodes.specs.Nodes.{nodes_view}
-use Rattle.avro_schema.specs.Mentions.{mentions}
+use Rattle.avro_schema.specs.Inside.Mentions.{mentions}
 use Rattle.avro_schema.proofs.mentions.after_nodes.Given as goal
 
 abbrev pub invariant-loop-node : goal.invariant-loop-node

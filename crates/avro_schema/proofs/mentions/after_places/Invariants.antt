@@ -1,6 +1,6 @@
 use Rattle.std.proofs.Common.{◌≡◌, ◌-◌, drop}
 use Rattle.avro_nodes.specs.Nodes.{nodes_view}
-use Rattle.avro_schema.specs.Mentions.{places_mentions}
+use Rattle.avro_schema.specs.Inside.Mentions.{places_mentions}
 use Rattle.avro_schema.proofs.mentions.after_places.Given as goal
 
 abbrev pub invariant-loop-place : goal.invariant-loop-place

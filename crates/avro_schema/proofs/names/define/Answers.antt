@@ -3,7 +3,7 @@ use Rattle.std.proofs.Math.Path.{fun_ext}
 use Rattle.std.proofs.lemmas.Map.Text.{btree_map_updates_text}
 use Rattle.std.specs.Map.{update}
 use Rattle.std.specs.Str.{bytes_eq}
-use Rattle.avro_schema.specs.Outcome.{known_in}
+use Rattle.avro_schema.specs.Inside.ReaderAnswers.{known_in}
 use Rattle.avro_schema.proofs.names.define.Goals as goal
 
 pub returns : goal.returns

@@ -6,14 +6,14 @@ use Rattle.serde_json.specs.declared.value.Value.{the_lemmas}
 use Rattle.avro_nodes.specs.Nodes.{field_view}
 use Rattle.avro_nodes.specs.Names.{namespace_of}
 use Rattle.avro_schema.specs.Kinds.{branch_kind}
-use Rattle.avro_schema.specs.Distinct.{all_differ}
+use Rattle.avro_schema.specs.Inside.Distinct.{all_differ}
 use Rattle.avro_schema.proofs.AttributeLemmas.{nothing_left}
 use Rattle.avro_schema.proofs.DistinctLemmas.{field_names}
-use Rattle.avro_schema.proofs.Exits.{fails_from, reads_exit, same_reads}
+use Rattle.avro_schema.proofs.ReaderErrors.{fails_from, reads_exit, same_reads}
 use Rattle.avro_schema.proofs.Sequence.{one_more, nodes_push, length-nodes, new_nodes, still_there, goes_on, fails_at, is_over}
-use Rattle.avro_schema.proofs.Steps.{too_deep, type_string, type_array, type_object, type_null, type_boolean, type_number, no_word, object_is, reference_unbound, reference_is}
-use Rattle.avro_schema.proofs.Steps.{container_past, nothing_held, container_unbound, held_fails, container_done, union_past, branches_fail, branches_alike, union_done, branch_fails, is_no_branch, is_branch}
-use Rattle.avro_schema.proofs.Steps.{no_object, no_label, no_type, field_unbound, field_fails, field_is, record_past, no_named, no_fields, record_unbound, fields_fail, fields_alike, record_done}
+use Rattle.avro_schema.proofs.ReaderCases.{too_deep, type_string, type_array, type_object, type_null, type_boolean, type_number, no_word, object_is, reference_unbound, reference_is}
+use Rattle.avro_schema.proofs.ReaderCases.{container_past, nothing_held, container_unbound, held_fails, container_done, union_past, branches_fail, branches_alike, union_done, branch_fails, is_no_branch, is_branch}
+use Rattle.avro_schema.proofs.ReaderCases.{no_object, no_label, no_type, field_unbound, field_fails, field_is, record_past, no_named, no_fields, record_unbound, fields_fail, fields_alike, record_done}
 use Rattle.avro_schema.proofs.reading.+read.Goals as goal
 
 -- ---- a type

@@ -2,8 +2,8 @@ use Rattle.std.proofs.Common.{◌≡◌, ◌+◌, ◌*◌, length, map}
 use Rattle.std.specs.Vec.Iter.{into_iter_items, into_iter_len}
 use Rattle.serde_json.specs.View.{items_view}
 use Rattle.avro_nodes.specs.Nodes.{field_view, nodes_view}
-use Rattle.avro_schema.specs.Reading.{branch_of, field_of, type_at}
-use Rattle.avro_schema.specs.Outcome.{known_in}
+use Rattle.avro_schema.specs.Inside.Types.{branch_of, field_of, type_at}
+use Rattle.avro_schema.specs.Inside.ReaderAnswers.{known_in}
 use Rattle.avro_schema.proofs.Sequence.{Going}
 use Rattle.avro_schema.proofs.reading.+read.Given as goal
 

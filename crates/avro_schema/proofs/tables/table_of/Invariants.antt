@@ -2,7 +2,7 @@ use Rattle.std.proofs.Common.{map, nat_cmp}
 use Rattle.std.specs.BTreeMap.{get_by}
 use Rattle.std.specs.Cmp.Lexicographic.{slice_cmp}
 use Rattle.avro_nodes.specs.Nodes.{field_view}
-use Rattle.avro_schema.specs.Tables.{CoversFirst}
+use Rattle.avro_schema.specs.Inside.FieldTables.{CoversFirst}
 use Rattle.avro_schema.proofs.tables.table_of.Given as goal
 
 abbrev pub invariant-loop-at : goal.invariant-loop-at

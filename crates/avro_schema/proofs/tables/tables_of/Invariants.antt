@@ -1,6 +1,6 @@
 use Rattle.std.proofs.Common.{◌≡◌, length}
 use Rattle.avro_nodes.specs.Nodes.{nodes_view}
-use Rattle.avro_schema.specs.Tables.{AreTables}
+use Rattle.avro_schema.specs.Inside.FieldTables.{AreTables}
 use Rattle.avro_schema.proofs.tables.tables_of.Given as goal
 
 abbrev pub invariant-loop-node : goal.invariant-loop-node

@@ -1,6 +1,6 @@
 use Rattle.std.proofs.Common.{◌≡◌, ◌+◌, ◌*◌, ◌-◌, drop}
 use Rattle.serde_json.specs.View.{items_view}
-use Rattle.avro_schema.specs.Weight.{items_weight, field_weight, weight}
+use Rattle.avro_schema.specs.Inside.Weight.{items_weight, field_weight, weight}
 use Rattle.avro_schema.proofs.weight.+weigh.Given as goal
 
 abbrev pub decreases-after_type : goal.decreases-after_type

@@ -1,6 +1,6 @@
 use Rattle.std.proofs.Common.{◌≡◌, ◌-◌, drop}
 use Rattle.serde_json.specs.View.{items_view}
-use Rattle.avro_schema.specs.Weight.{items_weight, alias_weight}
+use Rattle.avro_schema.specs.Inside.Weight.{items_weight, alias_weight}
 use Rattle.avro_schema.proofs.weight.after_aliases.Given as goal
 
 abbrev pub invariant-loop-alias : goal.invariant-loop-alias

@@ -1,5 +1,5 @@
 use Rattle.std.proofs.Common.{ℕ, List, subst}
-use Rattle.reg_http.specs.SessionSteps.{AnswersOne, AnswersAs}
+use Rattle.reg_http.specs.Inside.SessionSteps.{AnswersOne, AnswersAs}
 use Rattle.reg_http.proofs.SessionLemmas.{Served-none, Served-one, AnswersAs-after}
 use Rattle.reg_http.proofs.answering.answer_held.Goals as goal
 

@@ -2,7 +2,7 @@ use Rattle.std.proofs.Common.{length}
 use Rattle.sqlite.specs.State.{HasCleanDisk}
 use Rattle.reg_service.specs.Services.{state_in}
 use Rattle.reg_http.specs.OverTables.{Over}
-use Rattle.reg_http.specs.SessionSteps.{Served}
+use Rattle.reg_http.specs.Inside.SessionSteps.{Served}
 use Rattle.reg_http.proofs.answering.answer_held.Given as goal
 
 abbrev pub invariant-loop-size : goal.invariant-loop-size

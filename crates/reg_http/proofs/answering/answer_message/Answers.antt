@@ -6,7 +6,8 @@ use Rattle.reg_core.specs.declared.delivery.Delivery.{Delivery}
 use Rattle.reg_messages.specs.Answers.{answer_bytes}
 use Rattle.reg_messages.specs.Closing.{closes}
 use Rattle.reg_routes.specs.Deliveries.{Refusal, allow_beside}
-use Rattle.reg_http.specs.Output.{Replies, answer_to}
+use Rattle.reg_http.specs.Output.{answer_to}
+use Rattle.reg_http.specs.Inside.Replying.{ReplyLeads}
 use Rattle.reg_http.proofs.ReplyLemmas.{asked_of_borrowed, closes_of_borrowed}
 use Rattle.reg_http.proofs.SessionLemmas.{Next-message}
 use Rattle.reg_http.proofs.answering.answer_message.Goals as goal
@@ -21,7 +22,7 @@ returns-clause-next g c clean registry k over =
     let reply = c.reply_to-reply.result.0 in
     let what = asked_of_borrowed request m borrowed in
     let closing : closes m ≡ c.closes-close.result = sym (c.closes-close.ensures ∙ closes_of_borrowed request m borrowed) in
-    let P : Result Delivery Refusal → Type 0 = λ asked. Replies asked reply registry k r.registry r.kept in
+    let P : Result Delivery Refusal → Type 0 = λ asked. ReplyLeads asked reply registry k r.registry r.kept in
     let replies = subst P what r.holds in
     let bytes : answer_bytes reply (option_map (λ (text : Bor (List ℕ)). text.now) c.reply_to-reply.result.1) c.closes-close.result ≡ answer_to m reply =
     (λ i. answer_bytes reply (c.reply_to-reply.ensures.allow i) (sym closing i)) ∙ ap (λ asked. answer_bytes reply (allow_beside asked reply) (closes m)) what in

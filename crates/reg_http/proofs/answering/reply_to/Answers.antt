@@ -2,20 +2,20 @@ use Rattle.std.proofs.Common.{sym, ap}
 use Rattle.reg_messages.specs.BorrowedRequests.{fields_in}
 use Rattle.reg_routes.specs.Deliveries.{allow_beside}
 use Rattle.reg_routes.proofs.Refusals.{allow_due}
-use Rattle.reg_http.proofs.ReplyLemmas.{Replies-delivered, Replies-refused}
+use Rattle.reg_http.proofs.ReplyLemmas.{ReplyLeads-delivered, ReplyLeads-refused}
 use Rattle.reg_http.proofs.answering.reply_to.Goals as goal
 
 pub returns-in-Ok-clause-replies : goal.returns-in-Ok-clause-replies
 returns-in-Ok-clause-replies g c clean registry k over =
     let s = c.answer.ensures.served clean registry k over in
-    record { registry = s.registry; kept = s.kept; spells = s.spells; holds = Replies-delivered _ _ c.answer.result _ _ _ _ c.in-Ok.ensures s.serves }
+    record { registry = s.registry; kept = s.kept; spells = s.spells; holds = ReplyLeads-delivered _ _ c.answer.result _ _ _ _ c.in-Ok.ensures s.serves }
 
 pub returns-in-Ok-clause-allow : goal.returns-in-Ok-clause-allow
 returns-in-Ok-clause-allow g c = ap (λ what. allow_beside what c.answer.result) (sym c.in-Ok.ensures)
 
 pub returns-in-Err-clause-replies : goal.returns-in-Err-clause-replies
 returns-in-Err-clause-replies g c clean registry k over =
-    record { registry = registry; kept = k; spells = over; holds = Replies-refused _ _ _ c.fault.result _ _ c.in-Err.ensures c.fault.ensures }
+    record { registry = registry; kept = k; spells = over; holds = ReplyLeads-refused _ _ _ c.fault.result _ _ c.in-Err.ensures c.fault.ensures }
 
 pub returns-in-Err-clause-allow : goal.returns-in-Err-clause-allow
 returns-in-Err-clause-allow g c =

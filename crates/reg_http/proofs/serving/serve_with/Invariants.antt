@@ -3,7 +3,7 @@ use Rattle.std.specs.Io.KnownBytes.{Consumes}
 use Rattle.sqlite.specs.State.{HasCleanDisk}
 use Rattle.reg_service.specs.Services.{state_in}
 use Rattle.reg_http.specs.OverTables.{Over}
-use Rattle.reg_http.specs.SessionSteps.{Served, Waits}
+use Rattle.reg_http.specs.Inside.SessionSteps.{Served, Waits}
 use Rattle.reg_http.proofs.serving.serve_with.Given as goal
 
 abbrev pub invariant-loop : goal.invariant-loop

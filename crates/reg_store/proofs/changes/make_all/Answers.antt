@@ -2,7 +2,7 @@ use Rattle.std.proofs.Common.{◌≡◌, ◌∙◌, ◌+◌, ◌-◌, ℕ, lengt
 use Rattle.std.specs.List.{AllByRecursion}
 use Rattle.reg_core.specs.Registry.{Registry}
 use Rattle.reg_tables.specs.Rooms.{HasRooms}
-use Rattle.reg_tables.specs.Reading.{IsWriteFault}
+use Rattle.reg_tables.specs.FailedCalls.{IsWriteFault}
 use Rattle.reg_core.specs.KeptReplies.{Kept}
 use Rattle.std.proofs.lemmas.List.{take_all}
 use Rattle.std.proofs.lemmas.Bool.{both_ways}
@@ -12,7 +12,8 @@ use Rattle.reg_core.specs.Views.{ChangesFit, after_changes, after_change}
 use Rattle.reg_store.specs.Spells.{Spells}
 use Rattle.reg_tables.proofs.Transactions.{keeps_then, survives_both}
 use Rattle.reg_tables.proofs.WriteFaults.{erred_with}
-use Rattle.reg_store.specs.Changes.{SpellsInside, IsFaultOfChanges, CanStoreChange}
+use Rattle.reg_store.specs.Changes.{SpellsInside, CanStoreChange}
+use Rattle.reg_store.specs.Inside.Making.{IsFaultOfChanges}
 use Rattle.reg_store.proofs.Spelling.{after_changes-more, fits_at}
 use Rattle.reg_store.proofs.Writing.{fault_later, write_later, all_got, nonempty}
 use Rattle.reg_store.proofs.changes.make_all.Goals as goal

@@ -1,6 +1,6 @@
 use Rattle.std.proofs.Common.{List, map, IsTrue, sym, ap, subst, ◌∙◌}
 use Rattle.reg_rows.specs.Spelling.{Text, pair_of, is_meta, layout_in}
-use Rattle.reg_store.specs.Testing.{AreApart}
+use Rattle.reg_store.specs.Inside.Testing.{AreApart}
 use Rattle.reg_store.proofs.MetaLemmas.{judged}
 use Rattle.reg_store.proofs.testing.judge_meta.Goals as goal
 

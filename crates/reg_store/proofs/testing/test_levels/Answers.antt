@@ -3,7 +3,7 @@ use Rattle.std.specs.List.{AllByRecursion}
 use Rattle.std.proofs.lemmas.Bool.{both_ways}
 use Rattle.sqlite.specs.Held.{state}
 use Rattle.reg_tables.specs.declared.lines.LevelLine.{LevelLine}
-use Rattle.reg_store.specs.Testing.{AreApart, level_fits}
+use Rattle.reg_store.specs.Inside.Testing.{AreApart, level_fits}
 use Rattle.reg_store.specs.Failures.{IsNumberless}
 use Rattle.reg_store.proofs.Failing.{numberless, passed}
 use Rattle.reg_store.proofs.TestLemmas.{test_unread, test_judged, is_known, levels_pass}

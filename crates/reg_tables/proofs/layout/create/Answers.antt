@@ -7,7 +7,7 @@ use Rattle.sqlite.specs.declared.types.Value.TheVariants.{Text}
 use Rattle.reg_tables.specs.Contents.{text_cmp, TextMap, Contents}
 use Rattle.reg_tables.specs.Changes.{no_contents}
 use Rattle.reg_tables.specs.Layout.{no_schema, meta}
-use Rattle.reg_tables.specs.Reading.{IsWriteFault}
+use Rattle.reg_tables.specs.FailedCalls.{IsWriteFault}
 use Rattle.reg_tables.specs.Rooms.{CanBeStored}
 use Rattle.reg_tables.proofs.Transactions.{on_ok, if_err, survives_both}
 use Rattle.reg_tables.proofs.Rooms.{rooms_if_new}

@@ -5,7 +5,7 @@ use Rattle.reg_tables.specs.Layout.{begun, IsBare, levels, kept, meta}
 use Rattle.reg_tables.proofs.Creation.{makes_bare, makes_sound, holds_nothing}
 use Rattle.reg_tables.proofs.Statements.{make_levels, makes_levels, make_kept, makes_kept, make_meta, makes_meta}
 use Rattle.reg_tables.proofs.Transactions.{on_ok, if_err, survives_both}
-use Rattle.reg_tables.specs.Reading.{IsWriteFault}
+use Rattle.reg_tables.specs.FailedCalls.{IsWriteFault}
 use Rattle.reg_tables.proofs.CreationFaults.{levels_can_be, kept_can_be, meta_can_be, make_fails}
 use Rattle.reg_tables.proofs.WriteFaults.{as_write_fault, write_fault_later, erred_with}
 use Rattle.reg_tables.proofs.layout.make_other_tables.Goals as goal

@@ -5,7 +5,7 @@ use Rattle.reg_tables.specs.Layout.{no_schema, begun, texts, versions}
 use Rattle.reg_tables.proofs.Creation.{makes_bare}
 use Rattle.reg_tables.proofs.Statements.{make_texts, makes_texts, make_versions, makes_versions}
 use Rattle.reg_tables.proofs.Transactions.{on_ok, if_err}
-use Rattle.reg_tables.specs.Reading.{IsWriteFault}
+use Rattle.reg_tables.specs.FailedCalls.{IsWriteFault}
 use Rattle.reg_tables.proofs.CreationFaults.{texts_can_be, versions_can_be, make_fails}
 use Rattle.reg_tables.proofs.WriteFaults.{as_write_fault, write_fault_later, erred_with}
 use Rattle.reg_tables.proofs.layout.make_schema_tables.Goals as goal

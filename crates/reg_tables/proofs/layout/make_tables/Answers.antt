@@ -4,7 +4,7 @@ use Rattle.sqlite.specs.State.{HasCleanDisk}
 use Rattle.reg_tables.specs.Changes.{no_contents}
 use Rattle.reg_tables.proofs.Transactions.{on_ok, if_err, survives_both}
 use Rattle.reg_tables.specs.Layout.{no_schema}
-use Rattle.reg_tables.specs.Reading.{IsWriteFault}
+use Rattle.reg_tables.specs.FailedCalls.{IsWriteFault}
 use Rattle.reg_tables.proofs.WriteFaults.{write_fault_later, erred_with}
 use Rattle.reg_tables.proofs.layout.make_tables.Goals as goal
 

@@ -2,7 +2,7 @@ use Rattle.std.proofs.Common.{inl, ℕ, ◌+◌, [], ◌∷◌, arith, subst}
 use Rattle.sqlite.specs.Held.{state}
 use Rattle.sqlite.specs.State.{HasCleanDisk}
 use Rattle.reg_tables.specs.Contents.{text_cmp, Contents, Holds}
-use Rattle.reg_tables.specs.Reading.{IsWriteFault, IsInsertFault}
+use Rattle.reg_tables.specs.FailedCalls.{IsWriteFault, IsInsertFault}
 use Rattle.reg_tables.specs.Rooms.{HasRooms, CanBeStored}
 use Rattle.reg_tables.specs.Layout.{levels}
 use Rattle.sqlite.specs.declared.types.Value.TheVariants.{Text}

@@ -1,7 +1,7 @@
 use Rattle.std.proofs.Common.{[], ◌∷◌, pos}
 use Rattle.sqlite.specs.Held.{state}
 use Rattle.sqlite.specs.declared.types.Value.TheVariants.{Int}
-use Rattle.reg_tables.specs.Listings.{IsReadableText}
+use Rattle.reg_tables.specs.Inside.ReadableRows.{IsReadableText}
 use Rattle.reg_tables.proofs.Faults.{takes_between}
 use Rattle.reg_tables.proofs.Statements.{texts_between, texts_between_is}
 use Rattle.reg_tables.proofs.TableLines.{list_fault}

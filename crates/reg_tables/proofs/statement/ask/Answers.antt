@@ -1,7 +1,7 @@
 use Rattle.std.proofs.Common.{◌≡◌, ◌≤◌, ◌∙◌, sym, ap, subst, arith, rules}
 use Rattle.sqlite.specs.Held.{Held, state}
 use Rattle.sqlite.specs.State.{HasCleanDisk, KeepsCommit}
-use Rattle.reg_tables.specs.Reading.{OnlyReads}
+use Rattle.reg_tables.specs.Reads.{OnlyReads}
 use Rattle.reg_tables.proofs.Transactions.{keeps_then, keeps_if_undone, asked_keeps, shown_open, if_ok, if_err, on_if_ok}
 use Rattle.reg_tables.proofs.statement.ask.Goals as goal
 

@@ -4,7 +4,7 @@ use Rattle.sqlite.specs.Held.{state}
 use Rattle.sqlite.specs.State.{ExecutesInside}
 use Rattle.sqlite.specs.Values.{bound}
 use Rattle.reg_tables.proofs.WriteFaults.{OrTooLate, erred_with, open_or_failed}
-use Rattle.reg_tables.specs.Reading.{IsWriteFault}
+use Rattle.reg_tables.specs.FailedCalls.{IsWriteFault}
 use Rattle.reg_tables.proofs.statement.run.Goals as goal
 
 pub returns-in_err-execute-clause-failed : goal.returns-in_err-execute-clause-failed

@@ -2,7 +2,7 @@ use Rattle.std.proofs.Common.{◌∷◌, Some, refl}
 use Rattle.std.specs.Prelude.{codes}
 use Rattle.serde_json.specs.View.{members_view}
 use Rattle.avro_nodes.specs.Identity.{array_value}
-use Rattle.avro_nodes.specs.Objects.{array_end}
+use Rattle.avro_nodes.specs.Inside.Objects.{array_end}
 use Rattle.avro_nodes.proofs.Forms.{made}
 use Rattle.avro_nodes.proofs.identity.types.begin_array.Goals as goal
 

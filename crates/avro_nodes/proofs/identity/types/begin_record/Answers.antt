@@ -3,7 +3,7 @@ use Rattle.serde_json.specs.Data.{array}
 use Rattle.serde_json.specs.View.{members_view}
 use Rattle.avro_nodes.specs.Nodes.{named_view}
 use Rattle.avro_nodes.specs.Identity.{record_value}
-use Rattle.avro_nodes.specs.Objects.{record_end}
+use Rattle.avro_nodes.specs.Inside.Objects.{record_end}
 use Rattle.avro_nodes.proofs.Forms.{made, record_parts, record_put}
 use Rattle.avro_nodes.proofs.identity.types.begin_record.Goals as goal
 

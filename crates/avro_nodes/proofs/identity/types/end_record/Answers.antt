@@ -1,6 +1,6 @@
 use Rattle.std.proofs.Common.{[], drop}
 use Rattle.std.proofs.lemmas.Result.{on_ok_weaker}
-use Rattle.avro_nodes.specs.Objects.{record_end}
+use Rattle.avro_nodes.specs.Inside.Objects.{record_end}
 use Rattle.avro_nodes.proofs.identity.types.end_record.Goals as goal
 
 pub returns : goal.returns

@@ -1,5 +1,5 @@
 use Rattle.std.proofs.Common.{◌∙◌, ap, List, ℕ, ◌+◌, ◌*◌}
-use Rattle.avro_resolve.specs.PairSets.{bit}
+use Rattle.avro_resolve.specs.Inside.PairSets.{bit}
 use Rattle.avro_resolve.proofs.BitLemmas.{bit_none}
 use Rattle.avro_resolve.proofs.pair_set.PairSet.none.Goals as goal
 

@@ -3,7 +3,7 @@ use Rattle.std.specs.Prelude.{◌==◌, if◌then◌else◌}
 use Rattle.std.specs.Int.{bit_at}
 use Rattle.std.proofs.lemmas.List.{get_or_default}
 use Rattle.std.proofs.lemmas.Nat.Bits.{bit_at_clear_same, bit_at_clear_other}
-use Rattle.avro_resolve.specs.PairSets.{bit}
+use Rattle.avro_resolve.specs.Inside.PairSets.{bit}
 use Rattle.avro_resolve.proofs.BitLemmas.{bit_set, past_place, place_test}
 use Rattle.avro_resolve.proofs.pair_set.PairSet.remove.Goals as goal
 

@@ -1,5 +1,5 @@
 use Rattle.std.proofs.Common.{◌∙◌, ◌*◌, ap}
-use Rattle.avro_resolve.specs.Left.{ups}
+use Rattle.avro_resolve.specs.Inside.Left.{ups}
 use Rattle.avro_resolve.proofs.Flags.{flag_all, ups_all}
 use Rattle.avro_resolve.proofs.table.Table.all.Goals as goal
 

@@ -1,6 +1,6 @@
 use Rattle.std.proofs.Common.{◌≡◌, drop, map}
 use Rattle.avro_nodes.specs.Nodes.{field_view, nodes_view}
-use Rattle.avro_schema.specs.Fitting.{field_defaults_fit}
+use Rattle.avro_schema.specs.Inside.Fitting.{field_defaults_fit}
 use Rattle.avro_schema.proofs.defaults.fields.field_defaults_fit.Given as goal
 
 abbrev pub invariant-loop-field : goal.invariant-loop-field

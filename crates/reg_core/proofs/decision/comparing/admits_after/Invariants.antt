@@ -1,7 +1,7 @@
 use Rattle.std.proofs.Common.{◌≡◌, true, take}
 use Rattle.std.specs.List.{list_all}
 use Rattle.avro_nodes.specs.Nodes.{nodes_view}
-use Rattle.reg_core.specs.Comparisons.{is_read_compatible}
+use Rattle.reg_core.specs.Inside.Comparisons.{is_read_compatible}
 use Rattle.reg_core.proofs.decision.comparing.admits_after.Given as goal
 
 abbrev pub invariant-loop-row : goal.invariant-loop-row

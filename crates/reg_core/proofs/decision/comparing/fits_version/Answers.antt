@@ -3,7 +3,7 @@ use Rattle.std.specs.Prelude.{option_map, string_bytes}
 use Rattle.std.proofs.lemmas.Result.{IfOk-weaker}
 use Rattle.std.proofs.lemmas.Bool.Decides.{same_from_decides}
 use Rattle.avro_nodes.specs.Nodes.{nodes_view}
-use Rattle.avro_schema.specs.Texts.{denoted}
+use Rattle.avro_schema.specs.Inside.DenotedNodes.{denoted_nodes}
 use Rattle.reg_core.specs.Views.{text_in}
 use Rattle.reg_core.specs.Verdicts.{is_compatible}
 use Rattle.reg_core.proofs.VerdictLemmas.{compatible_decides}
@@ -14,7 +14,7 @@ pub returns-in-Some-2 : goal.returns-in-Some-2
 returns-in-Some-2 c =
     let earlier = nodes_view c.in-Some-2.earlier in
     let new = nodes_view c.args.new.now in
-    let read : denoted c.as_str.result.now ≡ Some earlier = sym c.in_ok-earlier.ensures ∙ ap (option_map nodes_view) c.in-Some-2.is in
+    let read : denoted_nodes c.as_str.result.now ≡ Some earlier = sym c.in_ok-earlier.ensures ∙ ap (option_map nodes_view) c.in-Some-2.is in
     let there : text_in c.args.view.now c.args.row.now.1.id ≡ Some c.as_str.result.now =
     ap (text_in c.args.view.now) (sym c.id.ensures) ∙ (ap (option_map string_bytes) (sym c.in-Some.ensures.value) ∙ ap Some (sym c.as_str.ensures.value)) in
     let same = read_compatible c.args.view.now c.args.level new c.args.row.now c.as_str.result.now earlier there read in

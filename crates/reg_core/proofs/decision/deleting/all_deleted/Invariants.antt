@@ -1,5 +1,5 @@
 use Rattle.std.proofs.Common.{◌≡◌, map, take}
-use Rattle.reg_core.specs.Deleting.{version_change}
+use Rattle.reg_core.specs.Inside.Deleting.{version_change}
 use Rattle.reg_core.proofs.decision.deleting.all_deleted.Given as goal
 
 abbrev pub invariant-loop-row : goal.invariant-loop-row

@@ -5,7 +5,7 @@ use Rattle.std.proofs.lemmas.Result.{IfOk-weaker}
 use Rattle.std.proofs.lemmas.Simd.{map-map}
 use Rattle.reg_core.specs.declared.decision.Change.{Change}
 use Rattle.reg_core.specs.declared.decision.Change.TheVariants.{DropLevel}
-use Rattle.reg_core.specs.Deleting.{subject_refusal, version_change}
+use Rattle.reg_core.specs.Inside.Deleting.{subject_refusal, version_change}
 use Rattle.reg_core.specs.DeletionCommands.{numbers_reply}
 use Rattle.reg_core.specs.Registry.{Registry, Row}
 use Rattle.reg_core.specs.Replies.{Told, IsOwnReply}

@@ -6,7 +6,7 @@ use Rattle.reg_core.specs.Registry.{Row}
 use Rattle.reg_core.specs.Rows.{live_rows}
 use Rattle.reg_core.specs.Views.{level_of_view}
 use Rattle.reg_core.specs.Compatibility.{named_versions}
-use Rattle.reg_core.specs.Registering.{id_among}
+use Rattle.reg_core.specs.Inside.Registering.{id_among}
 use Rattle.reg_core.proofs.RegisterLemmas.{named_ids, not_told}
 use Rattle.std.specs.Prelude.{is_some}
 use Rattle.reg_core.specs.RegisterCommands.{is_among}

@@ -5,7 +5,7 @@ use Rattle.std.proofs.lemmas.Bool.{lt-ltb}
 use Rattle.std.proofs.lemmas.Iterator.{YieldsList-from_slice}
 use Rattle.std.proofs.lemmas.Iterator.Search.{any_from_yields_List}
 use Rattle.reg_core.specs.Registry.{Row}
-use Rattle.reg_core.specs.Registering.{id_among}
+use Rattle.reg_core.specs.Inside.Registering.{id_among}
 use Rattle.reg_core.proofs.decision.registering.id_among.Goals as goal
 
 ltb_more : (n : ℕ) → nat_lt 0 (suc n) ≡ true

@@ -6,7 +6,7 @@ use Rattle.reg_core.specs.Bodies.{id_body}
 use Rattle.reg_core.specs.Registry.{Registry, Row}
 use Rattle.reg_core.specs.Rows.{live_rows}
 use Rattle.std.specs.Borrow.{Bor}
-use Rattle.reg_core.specs.Registering.{id_among, id_shown, has_numbers_shown, row_shown, version_added}
+use Rattle.reg_core.specs.Inside.Registering.{id_among, id_shown, has_numbers_shown, row_shown, version_added}
 use Rattle.reg_core.specs.Views.{after_changes, ChangesFit}
 use Rattle.reg_core.specs.declared.decision.Change.{Change}
 use Rattle.reg_core.proofs.OwnReplies.{invalid_schema-IsOwnReply, no_number_left-IsOwnReply}

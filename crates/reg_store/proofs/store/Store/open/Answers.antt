@@ -1,7 +1,7 @@
 use Rattle.std.proofs.Common.{◌⊎◌, subst}
 use Rattle.sqlite.specs.Held.{state}
 use Rattle.reg_store.specs.Opening.{IsIndexed, OpensOver, TellsNewer}
-use Rattle.reg_store.specs.Testing.{IsFaultUnopened}
+use Rattle.reg_store.specs.UnopenedFaults.{IsFaultUnopened}
 use Rattle.reg_store.proofs.store.Store.open.Goals as goal
 
 pub returns-in-Ok-clause-done : goal.returns-in-Ok-clause-done

@@ -2,7 +2,7 @@ use Rattle.std.proofs.Common.{◌∙◌, None, Some, ap}
 use Rattle.sqlite.specs.Held.{state}
 use Rattle.reg_tables.specs.Entries.{numbered}
 use Rattle.reg_store.specs.Failures.{IsFaultOver}
-use Rattle.reg_store.specs.Viewing.{row_numbered}
+use Rattle.reg_store.specs.Inside.Viewing.{row_numbered}
 use Rattle.reg_store.proofs.Failing.{fault_over, passed}
 use Rattle.reg_store.proofs.HandingLemmas.{next_told}
 use Rattle.reg_store.proofs.store.behind.number_behind.Goals as goal

@@ -5,7 +5,7 @@ use Rattle.reg_core.specs.Rows.{rows_of, shown_rows}
 use Rattle.reg_core.proofs.ChosenRows.{absent_told, number_told}
 use Rattle.reg_tables.specs.Entries.{numbered}
 use Rattle.reg_tables.proofs.Transactions.{if_ok, if_err}
-use Rattle.reg_store.specs.Viewing.{row_numbered}
+use Rattle.reg_store.specs.Inside.Viewing.{row_numbered}
 use Rattle.reg_store.proofs.ViewLemmas.{idle_read, clean_before, spells_on, fault_then}
 use Rattle.reg_store.proofs.store.chosen.numbered_rows.Goals as goal
 

@@ -13,7 +13,7 @@ use Rattle.reg_tables.proofs.WriteFaults.{erred_with}
 use Rattle.reg_store.specs.Opening.{IsIndexed}
 use Rattle.reg_store.specs.Failures.{failure_of, IsFaultBy}
 use Rattle.reg_store.proofs.Committing.{left_if_held}
-use Rattle.reg_tables.specs.Reading.{IsWriteFault}
+use Rattle.reg_tables.specs.FailedCalls.{IsWriteFault}
 use Rattle.reg_store.proofs.Writing.{fault_of_write, fault_of_commit}
 use Rattle.reg_store.proofs.Failing.{by_since, by_until}
 use Rattle.reg_store.proofs.store.opening.make_index.Goals as goal

@@ -7,7 +7,7 @@ use Rattle.reg_tables.specs.Layout.{unindexed}
 use Rattle.reg_tables.specs.Contents.{HoldsIn}
 use Rattle.reg_store.specs.Failures.{failure_of}
 use Rattle.reg_store.specs.Opening.{TellsNewer}
-use Rattle.reg_store.specs.Testing.{IsFaultUnopened}
+use Rattle.reg_store.specs.UnopenedFaults.{IsFaultUnopened}
 use Rattle.reg_store.proofs.Failing.{passed, by_since}
 use Rattle.reg_store.proofs.MetaLemmas.{not_outdated}
 use Rattle.reg_store.proofs.OpenLemmas.{opens_as_it_is, opens_with_index, index_survives, spells_under, only_reads}

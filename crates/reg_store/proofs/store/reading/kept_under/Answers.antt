@@ -2,7 +2,7 @@ use Rattle.std.proofs.Common.{◌∙◌, sym, ap, subst}
 use Rattle.sqlite.specs.Held.{state}
 use Rattle.reg_core.specs.Replies.{IsKeptStatus}
 use Rattle.reg_tables.specs.Contents.{KeptRow}
-use Rattle.reg_tables.specs.Replies.{kept_row}
+use Rattle.reg_tables.specs.KeptRows.{kept_row}
 use Rattle.reg_store.specs.Spells.{row_of}
 use Rattle.reg_store.specs.Failures.{IsFaultOver}
 use Rattle.reg_store.proofs.Texts.{was_written}

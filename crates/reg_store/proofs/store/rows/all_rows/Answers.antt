@@ -5,7 +5,7 @@ use Rattle.sqlite.specs.Held.{state}
 use Rattle.reg_tables.specs.Entries.{keyed}
 use Rattle.reg_tables.proofs.Transactions.{if_ok, if_err}
 use Rattle.reg_store.specs.Failures.{IsFaultBy, IsFaultOver}
-use Rattle.reg_store.specs.Viewing.{row_spelled}
+use Rattle.reg_store.specs.Inside.Viewing.{row_spelled}
 use Rattle.reg_store.proofs.Failing.{fault_over, passed}
 use Rattle.reg_store.proofs.RowLemmas.{all_spelled, all_lines}
 use Rattle.reg_store.proofs.store.rows.all_rows.Goals as goal

@@ -2,7 +2,7 @@ use Rattle.std.proofs.Common.{◌≡◌, List, [], ◌∷◌, ◌++◌, map, sym
 use Rattle.std.proofs.lemmas.List.Elements.{All-rest}
 use Rattle.reg_tables.specs.declared.listed.ListedVersion.{ListedVersion}
 use Rattle.reg_tables.specs.Entries.{keyed}
-use Rattle.reg_store.specs.Viewing.{row_spelled, HasSubject}
+use Rattle.reg_store.specs.Inside.Viewing.{row_spelled, HasSubject}
 use Rattle.reg_store.proofs.store.rows.rows_in.Goals as goal
 
 -- one more line is read

@@ -2,7 +2,7 @@ use Rattle.std.proofs.Common.{◌≡◌, ◌++◌, map}
 use Rattle.std.specs.Prelude.{All}
 use Rattle.reg_tables.specs.declared.listed.ListedVersion.{ListedVersion}
 use Rattle.reg_tables.specs.Entries.{keyed}
-use Rattle.reg_store.specs.Viewing.{row_spelled, HasSubject}
+use Rattle.reg_store.specs.Inside.Viewing.{row_spelled, HasSubject}
 use Rattle.reg_store.proofs.store.rows.rows_in.Given as goal
 
 abbrev pub invariant-loop-line : goal.invariant-loop-line

@@ -1,7 +1,7 @@
 use Rattle.std.proofs.Common.{◌≡◌, ◌++◌, map}
 use Rattle.reg_tables.specs.declared.listed.SubjectVersion.{SubjectVersion}
 use Rattle.reg_tables.specs.Entries.{numbered}
-use Rattle.reg_store.specs.Viewing.{row_numbered}
+use Rattle.reg_store.specs.Inside.Viewing.{row_numbered}
 use Rattle.reg_store.proofs.store.rows.rows_under.Given as goal
 
 abbrev pub invariant-loop-line : goal.invariant-loop-line

@@ -4,7 +4,7 @@ use Rattle.std.proofs.lemmas.Simd.{map-map}
 use Rattle.sqlite.specs.Held.{state}
 use Rattle.reg_tables.specs.Entries.{numbered}
 use Rattle.reg_store.specs.Failures.{IsFaultOver}
-use Rattle.reg_store.specs.Viewing.{row_numbered}
+use Rattle.reg_store.specs.Inside.Viewing.{row_numbered}
 use Rattle.reg_store.proofs.Failing.{fault_over, passed}
 use Rattle.reg_store.proofs.RowLemmas.{subject_spelled}
 use Rattle.reg_store.proofs.store.rows.subject_rows.Goals as goal

@@ -4,7 +4,7 @@ use Rattle.sqlite.specs.State.{HasCleanDisk}
 use Rattle.reg_core.specs.Registry.{Registry}
 use Rattle.reg_core.specs.KeptReplies.{Kept}
 use Rattle.reg_store.specs.Spells.{SpellsWhileOpen}
-use Rattle.reg_store.specs.Viewing.{KeepsIdle}
+use Rattle.reg_store.specs.Inside.Viewing.{KeepsIdle}
 use Rattle.reg_store.specs.Listings.{lines_of, subject_listed}
 use Rattle.reg_store.proofs.store.subject_lines.each_subject.Given as goal
 

@@ -5,7 +5,7 @@ use Rattle.std.proofs.lemmas.List.Elements.{All-more, All-weaker}
 use Rattle.std.proofs.Common.{take}
 use Rattle.sqlite.specs.Held.{state}
 use Rattle.reg_store.specs.Failures.{IsFaultOver}
-use Rattle.reg_store.specs.Viewing.{HasText}
+use Rattle.reg_store.specs.Inside.Viewing.{HasText}
 use Rattle.reg_store.proofs.Failing.{passed}
 use Rattle.reg_store.proofs.ViewLemmas.{clean_before, idle_then, spells_on, fault_then}
 use Rattle.reg_store.proofs.store.texts.texts_of.Goals as goal

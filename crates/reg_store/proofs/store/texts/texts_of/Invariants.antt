@@ -5,7 +5,7 @@ use Rattle.sqlite.specs.State.{HasCleanDisk}
 use Rattle.reg_core.specs.Registry.{Registry}
 use Rattle.reg_core.specs.KeptReplies.{Kept}
 use Rattle.reg_store.specs.Spells.{SpellsWhileOpen}
-use Rattle.reg_store.specs.Viewing.{KeepsIdle, HasText, AreTrueTexts}
+use Rattle.reg_store.specs.Inside.Viewing.{KeepsIdle, HasText, AreTrueTexts}
 use Rattle.reg_store.proofs.store.texts.texts_of.Given as goal
 
 abbrev pub invariant-loop-id : goal.invariant-loop-id

@@ -2,7 +2,7 @@ use Rattle.std.proofs.Common.{Ok, subst}
 use Rattle.std.specs.Prelude.{All}
 use Rattle.sqlite.specs.Held.{state}
 use Rattle.reg_store.specs.Failures.{IsFaultOver}
-use Rattle.reg_store.specs.Viewing.{HasText}
+use Rattle.reg_store.specs.Inside.Viewing.{HasText}
 use Rattle.reg_store.proofs.Failing.{passed}
 use Rattle.reg_store.proofs.ViewTexts.{whole_view}
 use Rattle.reg_store.proofs.ViewLemmas.{idle_read, clean_before, spells_on, fault_then}

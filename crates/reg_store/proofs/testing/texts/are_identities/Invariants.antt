@@ -1,5 +1,5 @@
 use Rattle.reg_rows.proofs.EachRow.{Left}
-use Rattle.reg_store.specs.Testing.{text_fits}
+use Rattle.reg_store.specs.Inside.Testing.{text_fits}
 use Rattle.reg_store.proofs.testing.texts.are_identities.Given as goal
 
 abbrev pub invariant-loop-line : goal.invariant-loop-line

@@ -7,7 +7,7 @@ use Rattle.sqlite.specs.Held.{state}
 use Rattle.reg_core.specs.Registry.{max_number}
 use Rattle.reg_rows.specs.Spelling.{AreNumbered}
 use Rattle.reg_tables.specs.Listings.{ListsIds}
-use Rattle.reg_store.specs.Testing.{IsFaultUnopened}
+use Rattle.reg_store.specs.UnopenedFaults.{IsFaultUnopened}
 use Rattle.reg_store.proofs.Failing.{fault_by, passed}
 use Rattle.reg_store.proofs.Numbering.{Rises, rises}
 use Rattle.reg_store.proofs.TestLemmas.{is_known, unopened_can_be_read}

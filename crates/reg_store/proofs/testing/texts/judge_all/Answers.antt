@@ -3,9 +3,9 @@ use Rattle.sqlite.specs.Held.{state}
 use Rattle.sqlite.specs.Effect.{Database}
 use Rattle.reg_tables.specs.Layout.{IsLayout}
 use Rattle.reg_tables.specs.Listings.{ListsTextsBetween}
-use Rattle.reg_tables.specs.Reading.{CanBeRead}
+use Rattle.reg_tables.specs.Reads.{CanBeRead}
 use Rattle.reg_store.specs.Failures.{IsFaultBy}
-use Rattle.reg_store.specs.Testing.{Judges}
+use Rattle.reg_store.specs.Inside.Testing.{Judges}
 use Rattle.reg_store.proofs.Failing.{passed}
 use Rattle.reg_store.proofs.ListingLemmas.{fault_on}
 use Rattle.reg_store.proofs.TextParts.{have_ids, judges_none, judges_more, judges_all}

@@ -3,8 +3,8 @@ use Rattle.sqlite.specs.Held.{state}
 use Rattle.sqlite.specs.State.{HasCleanDisk}
 use Rattle.reg_tables.specs.Layout.{IsLayout, texts}
 use Rattle.reg_tables.specs.Listings.{ListsTextsBetween}
-use Rattle.reg_store.specs.Testing.{Judges}
-use Rattle.reg_store.specs.Viewing.{KeepsIdle}
+use Rattle.reg_store.specs.Inside.Testing.{Judges}
+use Rattle.reg_store.specs.Inside.Viewing.{KeepsIdle}
 use Rattle.reg_store.proofs.TextParts.{HaveIds}
 use Rattle.reg_store.proofs.testing.texts.judge_all.Given as goal
 

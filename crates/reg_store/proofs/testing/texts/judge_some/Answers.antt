@@ -1,5 +1,5 @@
 use Rattle.sqlite.specs.Held.{state}
-use Rattle.reg_tables.specs.Reading.{CanBeRead}
+use Rattle.reg_tables.specs.Reads.{CanBeRead}
 use Rattle.reg_store.specs.Failures.{IsFaultBy}
 use Rattle.reg_store.proofs.Failing.{fault_by, passed}
 use Rattle.reg_store.proofs.testing.texts.judge_some.Goals as goal

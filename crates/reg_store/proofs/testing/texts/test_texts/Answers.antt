@@ -4,7 +4,7 @@ use Rattle.sqlite.specs.Held.{state}
 use Rattle.sqlite.specs.State.{HasCleanDisk}
 use Rattle.reg_tables.specs.Layout.{IsLayout}
 use Rattle.reg_tables.specs.Listings.{ListsTexts}
-use Rattle.reg_store.specs.Testing.{NumbersTexts, Judges}
+use Rattle.reg_store.specs.Inside.Testing.{NumbersTexts, Judges}
 use Rattle.reg_store.proofs.TestLemmas.{is_known}
 use Rattle.reg_store.proofs.TextTests.{reading_failed, texts_judged, texts_passed, texts_allowed}
 use Rattle.reg_store.proofs.ViewLemmas.{idle_read, clean_before, same_db}

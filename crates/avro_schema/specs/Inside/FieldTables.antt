@@ -8,7 +8,7 @@ use Rattle.serde_json.specs.Data.{Members, no_members, member}
 use Rattle.serde_json.specs.Find.{get_member}
 use Rattle.avro_nodes.specs.Nodes.{NamedView, FieldView, NodeView, rec}
 use Rattle.avro_schema.specs.declared.tables.FieldTable.{FieldTable}
-use Rattle.avro_schema.specs.Fitting.{Fitting, field_fits_by}
+use Rattle.avro_schema.specs.Inside.Fitting.{Fitting, field_fits_by}
 
 -- the index that the table has at a name
 abbrev pub named_in : FieldTable → List ℕ → Option ℕ

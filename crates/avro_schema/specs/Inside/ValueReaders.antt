@@ -4,7 +4,7 @@ use Rattle.serde_json.specs.Data.{Data, Items, no_items, item}
 use Rattle.avro_nodes.specs.Limits.{max_places}
 use Rattle.avro_nodes.specs.Nodes.{NodeView}
 use Rattle.avro_schema.specs.Names.{Known}
-use Rattle.avro_schema.specs.Members.{◌>>=◌}
+use Rattle.avro_schema.specs.Attributes.{◌>>=◌}
 
 -- something read from a value, with the nodes that it adds and the names known after it
 pub record Part (A : Type 0) : Type 0 where

@@ -15,10 +15,10 @@ use Rattle.avro_schema.specs.Kinds.{branch_kind}
 use Rattle.avro_schema.specs.Names.{Known, resolved, defined}
 use Rattle.avro_nodes.specs.Names.{namespace_of}
 use Rattle.avro_schema.specs.Words.{kind_of, word_of}
-use Rattle.avro_schema.specs.Members.{◌>>=◌, without_all, text_in, array_in}
-use Rattle.avro_schema.specs.Distinct.{all_differ}
-use Rattle.avro_schema.specs.Definitions.{naming, named_in, enum_at, fixed_at, LabelView, label_in, labelling, bounded}
-use Rattle.avro_schema.specs.Parts.{Part, Reader, Types, parts_of, room_at}
+use Rattle.avro_schema.specs.Attributes.{◌>>=◌, without_all, text_in, array_in}
+use Rattle.avro_schema.specs.Inside.Distinct.{all_differ}
+use Rattle.avro_schema.specs.Inside.Declarations.{naming, named_in, enum_at, fixed_at, LabelView, label_in, labelling, bounded}
+use Rattle.avro_schema.specs.Inside.ValueReaders.{Part, Reader, Types, parts_of, room_at}
 
 -- a reference makes no node
 unfoldable pub reference_to : List ℕ → List ℕ → Known → Option (Part ℕ)

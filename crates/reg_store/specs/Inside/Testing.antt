@@ -4,7 +4,7 @@ use Rattle.std.specs.List.{IsDistinct, AllByRecursion}
 use Rattle.std.specs.Ordering.{int_cmp, eq_by_cmp}
 use Rattle.sqlite.specs.Effect.{Database}
 use Rattle.sqlite.specs.Held.{Held, state}
-use Rattle.sqlite.specs.State.{State, HasCleanDisk}
+use Rattle.sqlite.specs.State.{HasCleanDisk}
 use Rattle.sqlite_trees.specs.declared.store.Store.{Ghosts}
 use Rattle.reg_tables.specs.declared.lines.TextLine.{TextLine}
 use Rattle.reg_tables.specs.declared.lines.VersionLine.{VersionLine}
@@ -15,13 +15,11 @@ use Rattle.reg_tables.specs.Layout.{IsLayout}
 use Rattle.reg_tables.specs.Listings.{ListsIds, ListsTexts, ListsVersions, ListsLevels, ListsKept, ListsMeta}
 use Rattle.reg_tables.specs.Frames.{StaysIdle}
 use Rattle.reg_rows.specs.Spelling.{Pair, pair_of, is_meta, layout_in, IsIdentity, AreNumbered, AreTexts, FitsVersions, FitsLevels, FitsKept}
-use Rattle.reg_core.specs.Registry.{Registry, max_number}
+use Rattle.reg_core.specs.Registry.{max_number}
 use Rattle.reg_store.specs.declared.error.StoreError.{StoreError}
 use Rattle.reg_store.specs.declared.error.StoreError.TheVariants.{Memory, Disk, NotARegistry, OldLayout, NewerLayout}
-use Rattle.reg_store.specs.Failures.{IsFaultBy}
 use Rattle.reg_store.specs.Opening.{text_row, meta_row}
-use Rattle.reg_core.specs.KeptReplies.{Kept}
-use Rattle.reg_store.specs.Spells.{SpellsUnopened}
+use Rattle.reg_store.specs.UnopenedFaults.{IsFaultUnopened}
 
 -- no number comes twice
 abbrev pub AreApart : List ℤ → Type 0
@@ -124,10 +122,6 @@ JudgesMeta lines (Err (OldLayout number)) = ⊥
 JudgesMeta lines (Err (NewerLayout number)) = (layout_in (pairs_of lines) ≡ Some number) × (1 < number)
 
 -- ---- a test
-
--- the error comes of memory or of a fault of the disk alone where the tables spell a registry
-abbrev pub IsFaultUnopened : State → State → StoreError → Type 0
-IsFaultUnopened old new e = (g : Registry) (k : Kept) → (IsTrue old.is_open → SpellsUnopened old.now g k) → IsFaultBy old new e
 
 -- a call that changes nothing, succeeds only where the tables of a layout pass, and fails by itself only where they spell no registry
 pub record Tests {S X : Type 0} (g : Ghosts S) (old new : Held S) (result : Result X StoreError) (Passes : Database → Type 0) : Type 0 where

@@ -11,9 +11,9 @@ use Rattle.avro_schema.specs.declared.definitions.Label.{Label}
 use Rattle.avro_schema.specs.Names.{Known, is_simple, allowed, full_name, alias_in, defined}
 use Rattle.avro_nodes.specs.Names.{namespace_of, last_part}
 use Rattle.avro_schema.specs.Words.{kind_of}
-use Rattle.avro_schema.specs.Members.{◌>>=◌, without_all, text_in, array_in, text_if_any, texts_in, texts_if_any, size_of, fallback_in, order_in}
-use Rattle.avro_schema.specs.Distinct.{all_differ}
-use Rattle.avro_schema.specs.Parts.{Part, room_at}
+use Rattle.avro_schema.specs.Attributes.{◌>>=◌, without_all, text_in, array_in, text_if_any, texts_in, texts_if_any, size_of, fallback_in, order_in}
+use Rattle.avro_schema.specs.Inside.Distinct.{all_differ}
+use Rattle.avro_schema.specs.Inside.ValueReaders.{Part, room_at}
 
 -- other attributes, none of which nests too deep
 unfoldable pub bounded : Members → Option Members

@@ -2,7 +2,7 @@
 use Rattle.std.specs.Prelude.{◌≡◌, ◌⊎◌, ℕ, ◌<◌, List, [], Contains, Some, length, map, slice_get, slice_index_or, Vec}
 use Rattle.std.specs.declared.alloc.Global.{Global}
 use Rattle.avro_nodes.specs.Nodes.{NodeView}
-use Rattle.avro_resolve.specs.Places.{NamesAll}
+use Rattle.avro_resolve.specs.Inside.Places.{NamesAll}
 
 -- the list that stands at a place, and none past the last
 unfoldable pub list_at : List (Vec ℕ Global) → ℕ → List ℕ

@@ -3,7 +3,7 @@ use Rattle.std.specs.Prelude.{◌≡◌, ◌⊎◌, ℕ, ◌+◌, ◌*◌, List,
 use Rattle.avro_nodes.specs.Nodes.{NodeView}
 use Rattle.avro_resolve.specs.declared.table.Table.{Table}
 use Rattle.avro_resolve.specs.Resolution.{Pairs, Supports}
-use Rattle.avro_resolve.specs.Agreeing.{Agree}
+use Rattle.avro_resolve.specs.Inside.Agreeing.{Agree}
 use Rattle.avro_resolve.specs.Witnesses.{Pair, member, without, RefutesAfter, Differ}
 
 -- the flag of a pair, where the flags stand row by row

@@ -16,7 +16,7 @@ use Rattle.avro_nodes.specs.declared.node.Kind.TheVariants.{Null, Boolean, Int, 
 use Rattle.avro_nodes.specs.Nodes.{FieldView, NodeView, primitive, array, mapping, union, enumeration, fixed, rec}
 use Rattle.avro_nodes.proofs.Carried.{OfField}
 use Rattle.avro_nodes.proofs.Shallow.{IsShallow, AreShallow, ShallowNodes}
-use Rattle.avro_schema.specs.Fitting.{whole_fits, primitive_fits, items_fit, members_fit, field_fits_by, fields_fit, node_fits, entered, fits, value_fits, field_defaults_fit, node_defaults_fit}
+use Rattle.avro_schema.specs.Inside.Fitting.{whole_fits, primitive_fits, items_fit, members_fit, field_fits_by, fields_fit, node_fits, entered, fits, value_fits, field_defaults_fit, node_defaults_fit}
 use Rattle.avro_schema.specs.Defaults.{is_int, is_bytes, FitsDefault, fits_type, fits_union, FitsNode, fits_null, fits_boolean, fits_int, fits_long, fits_float, fits_double, fits_bytes, fits_string, fits_enum, fits_fixed, fits_array, fits_map, fits_record}
 use Rattle.avro_schema.specs.Defaults.{ItemsFit, no_item_left, item_fits, MembersFit, no_member_left, member_fits, FieldsFit, no_field_left, field_fits, field_missing, ValueFits, FieldDefaultsFit, NodeDefaultsFit}
 

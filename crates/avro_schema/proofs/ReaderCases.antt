@@ -11,13 +11,13 @@ use Rattle.avro_schema.specs.declared.words.Word.TheVariants.{Reference}
 use Rattle.avro_schema.specs.Names.{Known, defined}
 use Rattle.avro_nodes.specs.Names.{namespace_of}
 use Rattle.avro_schema.specs.Words.{word_of}
-use Rattle.avro_schema.specs.Members.{without_all, text_in, array_in}
-use Rattle.avro_schema.specs.Distinct.{all_differ}
-use Rattle.avro_schema.specs.Definitions.{naming, named_in, LabelView, label_in, labelling, bounded}
-use Rattle.avro_schema.specs.Parts.{Part, Reader, Types, parts_of, room_at}
+use Rattle.avro_schema.specs.Attributes.{without_all, text_in, array_in}
+use Rattle.avro_schema.specs.Inside.Distinct.{all_differ}
+use Rattle.avro_schema.specs.Inside.Declarations.{naming, named_in, LabelView, label_in, labelling, bounded}
+use Rattle.avro_schema.specs.Inside.ValueReaders.{Part, Reader, Types, parts_of, room_at}
 use Rattle.avro_schema.specs.Kinds.{branch_kind}
-use Rattle.avro_schema.specs.Reading.{name_at, reference_to, key_of, container_node, container_at, branch_of, union_at, field_at, field_of, record_at, by_word, object_at, form_at, type_at}
-use Rattle.avro_schema.specs.Outcome.{Adds}
+use Rattle.avro_schema.specs.Inside.Types.{name_at, reference_to, key_of, container_node, container_at, branch_of, union_at, field_at, field_of, record_at, by_word, object_at, form_at, type_at}
+use Rattle.avro_schema.specs.Inside.ReaderAnswers.{Adds}
 use Rattle.avro_schema.proofs.Sequence.{settled}
 
 abbrev pub made : {A : Type 0} → A → List NodeView → Known → Option (Part A)

@@ -10,7 +10,7 @@ use Rattle.avro_schema.specs.declared.words.Word.{Word}
 use Rattle.avro_schema.specs.declared.words.Word.TheVariants as word
 use Rattle.avro_schema.specs.Names.{joined}
 use Rattle.avro_schema.specs.Words.{word_of}
-use Rattle.avro_schema.specs.Members.{text_in, array_in}
+use Rattle.avro_schema.specs.Attributes.{text_in, array_in}
 
 abbrev pub texts_size : List (List ℕ) → ℕ
 texts_size [] = 0

@@ -4,8 +4,8 @@ use Rattle.std.specs.Result.{IsErrAnd}
 use Rattle.std.proofs.lemmas.Result.{err_from_is_err_and}
 use Rattle.avro_nodes.specs.Nodes.{NodeView}
 use Rattle.avro_schema.specs.Names.{Known}
-use Rattle.avro_schema.specs.Parts.{Part}
-use Rattle.avro_schema.specs.Outcome.{Fails, Gives, Reads}
+use Rattle.avro_schema.specs.Inside.ValueReaders.{Part}
+use Rattle.avro_schema.specs.Inside.ReaderAnswers.{Fails, Gives, Reads}
 use Rattle.avro_schema.specs.declared.error.SchemaError.{SchemaError}
 use Rattle.avro_schema.specs.declared.error.SchemaError.TheVariants.{OutOfMemory}
 

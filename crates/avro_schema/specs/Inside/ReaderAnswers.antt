@@ -4,7 +4,7 @@ use Rattle.std.specs.BTreeMap.{BTreeMap, get_by_text}
 use Rattle.std.specs.declared.alloc.Global.{Global}
 use Rattle.avro_nodes.specs.Nodes.{NodeView}
 use Rattle.avro_schema.specs.Names.{Known}
-use Rattle.avro_schema.specs.Parts.{Part}
+use Rattle.avro_schema.specs.Inside.ValueReaders.{Part}
 use Rattle.avro_schema.specs.declared.error.SchemaError.{SchemaError}
 use Rattle.avro_schema.specs.declared.error.SchemaError.TheVariants.{OutOfMemory}
 

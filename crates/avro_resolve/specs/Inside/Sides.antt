@@ -2,8 +2,8 @@
 use Rattle.std.specs.Prelude.{List, length, ◌<◌}
 use Rattle.avro_nodes.specs.Nodes.{NodeView, nodes_view}
 use Rattle.avro_resolve.specs.declared.sides.Side.{Side}
-use Rattle.avro_resolve.specs.Places.{IsWhole}
-use Rattle.avro_resolve.specs.Lookups.{AreLookups}
+use Rattle.avro_resolve.specs.Inside.Places.{IsWhole}
+use Rattle.avro_resolve.specs.Inside.Lookups.{AreLookups}
 
 -- the nodes of the schema
 abbrev pub nodes_of : Side → List NodeView

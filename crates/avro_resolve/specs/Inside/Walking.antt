@@ -6,10 +6,11 @@ use Rattle.avro_resolve.specs.declared.walk.Walk.{Walk}
 use Rattle.avro_resolve.specs.declared.walk.Answer.{Answer}
 use Rattle.avro_resolve.specs.declared.walk.Answer.TheVariants.{Yes, No, Unfinished}
 use Rattle.avro_resolve.specs.Resolution.{Supports, Resolves}
-use Rattle.avro_resolve.specs.Places.{IsWhole}
+use Rattle.avro_resolve.specs.Inside.Places.{IsWhole}
 use Rattle.avro_resolve.specs.Witnesses.{Pair, member, RefutesAfter, Differ, HasClosedSet, HasRefutation}
-use Rattle.avro_resolve.specs.PairSets.{has}
-use Rattle.avro_resolve.specs.Asking.{HoldsAsked, Asked, IsSmall}
+use Rattle.avro_resolve.specs.Inside.PairSets.{has}
+use Rattle.avro_resolve.specs.Asking.{HoldsAsked}
+use Rattle.avro_resolve.specs.Inside.Asked.{Asked, IsSmall}
 
 -- the set has the pairs of the list, which are of a reader with so many places
 pub record Marks (m : ℕ) (s : PairSet) (ps : List Pair) : Type 0 where

@@ -3,7 +3,7 @@ use Rattle.std.specs.Prelude.{Bool, false, List, Option, option_and_then}
 use Rattle.std.specs.List.{list_all}
 use Rattle.std.specs.Option.{option_map_or}
 use Rattle.avro_nodes.specs.Nodes.{NodeView}
-use Rattle.avro_schema.specs.Texts.{denoted}
+use Rattle.avro_schema.specs.Inside.DenotedNodes.{denoted_nodes}
 use Rattle.reg_core.specs.declared.level.Level.{Level}
 use Rattle.reg_core.specs.declared.decision.View.{View}
 use Rattle.reg_core.specs.Registry.{Row}
@@ -13,7 +13,7 @@ use Rattle.reg_core.specs.Views.{text_in}
 
 -- this project's choice: the schema that the view's text of a version denotes, if it has a text, and that denotes one
 abbrev pub schema_read : View → Row → Option (List NodeView)
-schema_read view row = option_and_then denoted (text_in view row.1.id)
+schema_read view row = option_and_then denoted_nodes (text_in view row.1.id)
 
 -- this project's choice: whether the version's schema is there and compatible with the new one, as the level asks
 abbrev pub is_read_compatible : View → Level → List NodeView → Row → Bool

@@ -1,0 +1,9 @@
+pub mod Asked
+pub mod Agreeing
+pub mod Askers
+pub mod Left
+pub mod Lookups
+pub mod PairSets
+pub mod Places
+pub mod Sides
+pub mod Walking

@@ -1,0 +1,10 @@
+pub mod DenotedNodes
+pub mod Types
+pub mod Declarations
+pub mod ValueReaders
+pub mod Distinct
+pub mod Fitting
+pub mod FieldTables
+pub mod Weight
+pub mod Mentions
+pub mod ReaderAnswers

@@ -1,0 +1,3 @@
+pub mod Replying
+pub mod SessionSteps
+pub mod Readings

@@ -1,0 +1,3 @@
+pub mod Viewing
+pub mod Testing
+pub mod Making

@@ -1,0 +1,4 @@
+pub mod ReadableRows
+pub mod AllLines
+pub mod Forms
+pub mod Checks

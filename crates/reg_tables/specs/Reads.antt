@@ -1,0 +1,25 @@
+-- What a call that only reads leaves of a connection, and why a read or a write fails.
+use Rattle.std.specs.Prelude.{◌≡◌, IsTrue}
+use Rattle.sqlite.specs.State.{State, KeepsCommit}
+use Rattle.sqlite.specs.declared.error.ErrorCode.TheVariants as code
+use Rattle.sqlite.specs.Schema.{Schema}
+use Rattle.sqlite.specs.Effect.{Database}
+use Rattle.reg_tables.specs.Layout.{IsLayout}
+use Rattle.reg_tables.specs.Contents.{Contents, AreReadable, HoldsIn}
+
+-- nothing is committed, and while the connection is open it shows the last commit
+pub record OnlyReads (old new : State) : Type 0 where
+  pub commit_stays : KeepsCommit old new
+  pub settled : IsTrue new.is_open → new.now ≡ new.committed
+
+-- the five tables are there, with or without the index, and hold what can be read
+pub record HoldsReadable (db : Database) : Type 0 where
+  pub schema : Schema
+  pub is_layout : IsLayout schema
+  pub contents : Contents
+  pub holds : HoldsIn schema db contents
+  pub readable : AreReadable contents
+
+-- while the connection is open, its tables hold what can be read
+abbrev pub CanBeRead : State → Type 0
+CanBeRead s = IsTrue s.is_open → HoldsReadable s.now
