@@ -9,7 +9,7 @@ use Rattle.serde_json.specs.Data.{Data, Items}
 use Rattle.avro_nodes.specs.Names.{has_dot}
 use Rattle.avro_nodes.specs.Nodes.{FieldView, NodeView, primitive, array, mapping, union, enumeration, fixed, rec}
 use Rattle.avro_schema.specs.Names.{Known, none_known, defined, resolved, joined, or_else}
-use Rattle.avro_schema.specs.Kinds.{branch_kind}
+use Rattle.avro_schema.specs.Kinds.{BranchKind, branch_kind}
 use Rattle.avro_schema.specs.Denotes.{Denotes, a_primitive, a_reference, primitive_type, reference_type, array_type, map_type, fixed_type, enum_type, record_type, union_type}
 use Rattle.avro_schema.specs.Denotes.{Branches, no_branch, branch, Fields, no_field, field, Lacks, AllDiffer}
 use Rattle.avro_schema.specs.Texts.{IsSchema}
@@ -115,7 +115,7 @@ stand_after before (a ∷ nodes) = (
 no_union_here : (all : List NodeView) (place : ℕ) (a : NodeView) → slice_get all place ≡ Some a → IsNoUnion a → NoUnionAt all place
 no_union_here all place a e h b f = let same : a ≡ b = cc in subst IsNoUnion same h
 
-kind_no_union : (place kind : ℕ) (a : NodeView) (more : List NodeView) → branch_kind place (a ∷ more) ≡ Some kind → IsNoUnion a
+kind_no_union : (place : ℕ) (kind : BranchKind) (a : NodeView) (more : List NodeView) → branch_kind place (a ∷ more) ≡ Some kind → IsNoUnion a
 unfolding branch_kind
 kind_no_union place kind (union places) more e = absurd cc
 kind_no_union place kind _ more e = tt
@@ -162,7 +162,7 @@ record Good (all : List NodeView) (place : ℕ) (nodes : List NodeView) (known :
   knows : Knows all known
   names : All (Names (length all)) nodes
   plain : All (IsPlain all) nodes
-  no_union : (kind : ℕ) → branch_kind place nodes ≡ Some kind → NoUnionAt all place
+  no_union : (kind : BranchKind) → branch_kind place nodes ≡ Some kind → NoUnionAt all place
 
 record GoodParts (all : List NodeView) (nodes : List NodeView) (known : Known) : Type 0 where
   knows : Knows all known
@@ -197,7 +197,7 @@ reference all known space name place k e =
     let here = refers all known space name place k e in
     record { within = here.0; knows = k; names = All-nil (Names (length all)); plain = All-nil (IsPlain all); no_union = λ kind f. here.1 }
 
-record GoodBranches (all : List NodeView) (branches : List (ℕ × ℕ)) (nodes : List NodeView) (known : Known) : Type 0 where
+record GoodBranches (all : List NodeView) (branches : List (ℕ × BranchKind)) (nodes : List NodeView) (known : Known) : Type 0 where
   places : All (λ p. p < length all) (map (λ b. b.0) branches)
   no_unions : All (NoUnionAt all) (map (λ b. b.0) branches)
   parts : GoodParts all nodes known
@@ -229,7 +229,7 @@ mutual
   good (union_type {known2 = known2} {first = first} {nodes = nodes} room bs differ) all k s =
       let g = good_branches bs all k s.1 in made all first _ nodes known2 s.0 g.places g.no_unions g.parts
 
-  good_branches : {n : ℕ} {space : List ℕ} {ds : Items} {known known2 : Known} {first : ℕ} {branches : List (ℕ × ℕ)} {nodes : List NodeView} → Branches n space ds known first branches nodes known2
+  good_branches : {n : ℕ} {space : List ℕ} {ds : Items} {known known2 : Known} {first : ℕ} {branches : List (ℕ × BranchKind)} {nodes : List NodeView} → Branches n space ds known first branches nodes known2
       → (all : List NodeView) → Knows all known → Stands all first nodes → GoodBranches all branches nodes known2
   good_branches (no_branch {known = known}) all k s = record { places = All-nil (λ p. p < length all); no_unions = All-nil (NoUnionAt all); parts = no_parts all known k }
   good_branches (branch {known2 = known2} {known3 = known3} {first = first} {place = place} {kind = kind} {branches = branches} {nodes = nodes} {more = more} d e others) all k s =

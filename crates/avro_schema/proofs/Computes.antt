@@ -11,8 +11,11 @@ use Rattle.avro_schema.specs.Attributes.{without_all, size_of}
 use Rattle.avro_schema.specs.Inside.Declarations.{naming, new_name, named_in, symbols_in, enum_at, fixed_at, LabelView, label_in, labelling, bounded, bounded_value}
 use Rattle.avro_schema.specs.Inside.ValueReaders.{parts_of}
 use Rattle.avro_schema.specs.Inside.Types.{reference_to, primitive_at, name_at, container_at, branch_of, union_at, field_of, record_at, object_at, type_at}
+use Rattle.avro_schema.specs.Kinds.{BranchKind}
 use Rattle.avro_schema.specs.Denotes.{Others, IsNamed, IsEnum, IsField, Denotes, a_primitive, a_reference, primitive_type, reference_type, array_type, map_type, fixed_type, enum_type, record_type, union_type}
 use Rattle.avro_schema.specs.Denotes.{Branches, no_branch, branch, Fields, no_field, field}
+use Rattle.avro_schema.proofs.KindLemmas.{numbered, same_places, number_of_kind}
+use Rattle.avro_schema.proofs.KindLemmas as kinds
 use Rattle.avro_schema.proofs.Inversion.{room_there, get_past, text_past, items_past, text_if_any_past, texts_apart, numbers_apart}
 
 pub bound_there : (ms : Members) → members_depth ms ≤ max_nesting → bounded ms ≡ Some ms
@@ -118,12 +121,12 @@ mutual
         fields_compute fs,
         texts_apart (map (λ f. f.name) fields) d,
       ) refl
-  computes (union_type {first = first} {branches = branches} h bs d) = rw (room_there first h, branches_compute bs, numbers_apart (map (λ b. b.1) branches) d) refl
+  computes (union_type {first = first} {branches = branches} h bs d) = rw (room_there first h, branches_compute bs, numbers_apart (map (λ b. b.1) (numbered branches)) (kinds.numbers_apart branches d), same_places branches) refl
 
-  branches_compute : {n : ℕ} {space : List ℕ} {ds : Items} {known known2 : Known} {first : ℕ} {branches : List (ℕ × ℕ)} {nodes : List NodeView} → Branches n space ds known first branches nodes known2
-      → parts_of (branch_of (type_at n space)) ds known first ≡ made branches nodes known2
+  branches_compute : {n : ℕ} {space : List ℕ} {ds : Items} {known known2 : Known} {first : ℕ} {branches : List (ℕ × BranchKind)} {nodes : List NodeView} → Branches n space ds known first branches nodes known2
+      → parts_of (branch_of (type_at n space)) ds known first ≡ made (numbered branches) nodes known2
   branches_compute no_branch = refl
-  branches_compute (branch d k more) = rw (computes d, k, branches_compute more) refl
+  branches_compute (branch {place = place} {kind = kind} {nodes = nodes} d k more) = rw (computes d, number_of_kind place kind nodes k, branches_compute more) refl
 
   fields_compute : {n : ℕ} {space : List ℕ} {ds : Items} {known known2 : Known} {first : ℕ} {fields : List FieldView} {nodes : List NodeView} → Fields n space ds known first fields nodes known2
       → parts_of (field_of (type_at n space)) ds known first ≡ made fields nodes known2

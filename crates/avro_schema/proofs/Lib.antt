@@ -6,6 +6,7 @@ pub mod NestingLemmas
 pub mod ReaderErrors
 pub mod Sequence
 pub mod ReaderCases
+pub mod KindLemmas
 pub mod Inversion
 pub mod Computes
 pub mod Sound

@@ -17,6 +17,7 @@ use Rattle.avro_nodes.proofs.Shallow.{IsShallow, AreShallow, ShallowNodes}
 use Rattle.avro_nodes.proofs.Tidy.{IsTidy, TidyItems, TidyMembers, TidyNodes}
 use Rattle.avro_schema.specs.Names.{Known}
 use Rattle.avro_schema.specs.Attributes.{◌>>=◌, without, without_all, array_in, size_of}
+use Rattle.avro_schema.specs.Kinds.{BranchKind}
 use Rattle.avro_schema.specs.Denotes.{Others, IsField, Denotes, a_primitive, a_reference, primitive_type, reference_type, array_type, map_type, fixed_type, enum_type, record_type, union_type}
 use Rattle.avro_schema.specs.Denotes.{Branches, no_branch, branch, Fields, no_field, field}
 use Rattle.avro_schema.proofs.Inversion.{bind_some, guard_some}
@@ -77,7 +78,7 @@ module _ (P : Data → Type 0) (E : Data → Type 0) (F : Members → Type 0) (o
         ((inner.0, of_others _ ms extra p o), inner.1)
     nodes_are (union_type {items = items} h bs d) p = (tt, branches_are bs (of_items items p))
 
-    branches_are : {n : ℕ} {space : List ℕ} {ds : Items} {known known2 : Known} {first : ℕ} {branches : List (ℕ × ℕ)} {nodes : List NodeView} → Branches n space ds known first branches nodes known2 → AllItems P ds
+    branches_are : {n : ℕ} {space : List ℕ} {ds : Items} {known known2 : Known} {first : ℕ} {branches : List (ℕ × BranchKind)} {nodes : List NodeView} → Branches n space ds known first branches nodes known2 → AllItems P ds
         → AllByRecursion (OfNode E F) nodes
     branches_are no_branch p = tt
     branches_are (branch {nodes = nodes} {more = more} d k rest) p = all_append (OfNode E F) nodes more (nodes_are d p.0) (branches_are rest p.1)

@@ -15,7 +15,7 @@ use Rattle.avro_schema.specs.Attributes.{without_all, text_in, array_in}
 use Rattle.avro_schema.specs.Inside.Distinct.{all_differ}
 use Rattle.avro_schema.specs.Inside.Declarations.{naming, named_in, LabelView, label_in, labelling, bounded}
 use Rattle.avro_schema.specs.Inside.ValueReaders.{Part, Reader, Types, parts_of, room_at}
-use Rattle.avro_schema.specs.Kinds.{branch_kind}
+use Rattle.avro_schema.specs.Inside.KindNumbers.{branch_number}
 use Rattle.avro_schema.specs.Inside.Types.{name_at, reference_to, key_of, container_node, container_at, branch_of, union_at, field_at, field_of, record_at, by_word, object_at, form_at, type_at}
 use Rattle.avro_schema.specs.Inside.ReaderAnswers.{Adds}
 use Rattle.avro_schema.proofs.Sequence.{settled}
@@ -142,11 +142,11 @@ module _ (one : Reader ℕ) (d : Data) (known : Known) (first : ℕ) where
   unfolding branch_of
   branch_fails none = rw none refl
 
-  pub is_no_branch : (p : ℕ) (before after : List NodeView) (known2 : Known) (t : Adds (one d known first) p before after known2) → branch_kind p t.added ≡ None → branch_of one d known first ≡ None
+  pub is_no_branch : (p : ℕ) (before after : List NodeView) (known2 : Known) (t : Adds (one d known first) p before after known2) → branch_number p t.added ≡ None → branch_of one d known first ≡ None
   unfolding branch_of
   is_no_branch p before after known2 t none = rw (t.is, none) refl
 
-  pub is_branch : (p k : ℕ) (before after : List NodeView) (known2 : Known) (t : Adds (one d known first) p before after known2) → branch_kind p t.added ≡ Some k → Adds (branch_of one d known first) (p, k) before after known2
+  pub is_branch : (p k : ℕ) (before after : List NodeView) (known2 : Known) (t : Adds (one d known first) p before after known2) → branch_number p t.added ≡ Some k → Adds (branch_of one d known first) (p, k) before after known2
   unfolding branch_of
   is_branch p k before after known2 t some = record { added = t.added; is = rw (t.is, some) refl; after_is = t.after_is }
 

@@ -19,7 +19,7 @@ use Rattle.avro_schema.specs.Words.{kind_of, word_of, kind_or_other}
 use Rattle.avro_schema.specs.Attributes.{size_of}
 use Rattle.avro_schema.specs.Inside.Weight.{names_size}
 use Rattle.avro_schema.specs.Inside.Mentions.{mention, places_mentions, fields_mentions, mentions}
-use Rattle.avro_schema.specs.Kinds.{branch_kind}
+use Rattle.avro_schema.specs.Kinds.{BranchKind, branch_kind}
 use Rattle.avro_schema.specs.Denotes.{Others, IsNamed, IsEnum, IsField, Denotes, a_primitive, a_reference, primitive_type, reference_type, array_type, map_type, fixed_type, enum_type, record_type, union_type}
 use Rattle.avro_schema.specs.Denotes.{Branches, no_branch, branch, Fields, no_field, field, array_keys, map_keys, fixed_keys, enum_keys, record_keys, AllDiffer}
 use Rattle.avro_schema.proofs.Inversion.{same_bytes}
@@ -42,7 +42,7 @@ pub record Trip (n : ℕ) (all : List NodeView) (space : List ℕ) (known : Know
   pub bound : names_size nodes ≤ data_size value
   pub mentioned : mention all place + mentions all nodes ≤ data_size value
 
-pub record BranchesTrip (n : ℕ) (all : List NodeView) (space : List ℕ) (known : Known) (first : ℕ) (branches : List (ℕ × ℕ)) (nodes : List NodeView) (known2 : Known) : Type 0 where
+pub record BranchesTrip (n : ℕ) (all : List NodeView) (space : List ℕ) (known : Known) (first : ℕ) (branches : List (ℕ × BranchKind)) (nodes : List NodeView) (known2 : Known) : Type 0 where
   pub value : Items
   pub spelt : branch_items (spelt_at n all space) (map (λ b. b.0) branches) first ≡ (value, first + length nodes)
   pub again : Branches n space value known first branches nodes known2
@@ -171,7 +171,7 @@ module _ (m : ℕ) (all before after : List NodeView) (space : List ℕ) (known 
         mentioned = omega (arith, t.mentioned, named_at (mapping place extra) (nodes ++ after) all_is, one_found (codes "values") t.value (map_members t.value extra) (map_values t.value extra));
       }
 
-  union_trip : (branches : List (ℕ × ℕ)) (nodes : List NodeView) (known2 : Known) → first < max_places → AllDiffer (map (λ b. b.1) branches) → BranchesTrip m all space known (first + 1) branches nodes known2
+  union_trip : (branches : List (ℕ × BranchKind)) (nodes : List NodeView) (known2 : Known) → first < max_places → AllDiffer (map (λ b. b.1) branches) → BranchesTrip m all space known (first + 1) branches nodes known2
       → all ≡ before ++ union (map (λ b. b.0) branches) ∷ (nodes ++ after) → Trip (suc m) all space known first first (union (map (λ b. b.0) branches) ∷ nodes) known2
   union_trip branches nodes known2 room d t all_is =
       let sum : first + 1 + length nodes ≡ first + suc (length nodes) = omega arith in
@@ -257,7 +257,7 @@ module _ (m : ℕ) (all : List NodeView) (space : List ℕ) where
     mentioned = omega arith;
   }
 
-  branch_more : (known known2 known3 : Known) (first place kind : ℕ) (branches : List (ℕ × ℕ)) (nodes more : List NodeView) → branch_kind place nodes ≡ Some kind → Trip m all space known first place nodes known2
+  branch_more : (known known2 known3 : Known) (first place : ℕ) (kind : BranchKind) (branches : List (ℕ × BranchKind)) (nodes more : List NodeView) → branch_kind place nodes ≡ Some kind → Trip m all space known first place nodes known2
       → BranchesTrip m all space known2 (first + length nodes) branches more known3 → BranchesTrip m all space known first ((place, kind) ∷ branches) (nodes ++ more) known3
   unfolding branch_items
   branch_more known known2 known3 first place kind branches nodes more is t rest =
@@ -331,7 +331,7 @@ mutual
       let t = branches_trip bs all (before ++ node ∷ []) after (one_on before (nodes ++ after) node all all_is) (longer before node first first_is) (later all first 1 known k) good in
       union_trip n all before after space known first first_is k branches nodes known2 room d t all_is
 
-  branches_trip : {n : ℕ} {space : List ℕ} {ds : Items} {known known2 : Known} {first : ℕ} {branches : List (ℕ × ℕ)} {nodes : List NodeView} → Branches n space ds known first branches nodes known2
+  branches_trip : {n : ℕ} {space : List ℕ} {ds : Items} {known known2 : Known} {first : ℕ} {branches : List (ℕ × BranchKind)} {nodes : List NodeView} → Branches n space ds known first branches nodes known2
       → (all before after : List NodeView) → all ≡ before ++ (nodes ++ after) → first ≡ length before → Knows all first known → is_space space ≡ true → BranchesTrip n all space known first branches nodes known2
   branches_trip (no_branch {n = n} {space = space} {known = known} {first = first}) all before after all_is first_is k good = no_branches n all space known first k
   branches_trip (branch {n = n} {space = space} {known = known} {known2 = known2} {known3 = known3} {first = first} {place = place} {kind = kind} {branches = branches} {nodes = nodes} {more = more} d is others) all before after all_is first_is k good =

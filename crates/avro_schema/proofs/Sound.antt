@@ -19,10 +19,12 @@ use Rattle.avro_schema.specs.Attributes.{◌>>=◌, without_all, text_in, array_
 use Rattle.avro_schema.specs.Inside.Distinct.{all_differ}
 use Rattle.avro_schema.specs.Inside.Declarations.{naming, if_new, new_name, named_in, symbols_in, enum_at, fixed_at, LabelView, label_in, labelling, bounded, bounded_value}
 use Rattle.avro_schema.specs.Inside.ValueReaders.{Part, parts_of, room_at}
-use Rattle.avro_schema.specs.Kinds.{branch_kind}
+use Rattle.avro_schema.specs.Kinds.{BranchKind}
+use Rattle.avro_schema.specs.Inside.KindNumbers.{branch_number}
+use Rattle.avro_schema.proofs.KindLemmas.{numbered, same_places, kinds_differ, kind_of_number}
 use Rattle.avro_schema.specs.Inside.Types.{reference_to, primitive_at, kind_or_reference, name_at, container_at, branch_of, union_at, field_at, field_of, record_at, by_word, object_at, type_at}
 use Rattle.avro_schema.specs.Denotes.{Others, IsNamed, IsEnum, IsField, Says, Denotes, a_primitive, a_reference, primitive_type, reference_type, array_type, map_type, fixed_type, enum_type, record_type, union_type}
-use Rattle.avro_schema.specs.Denotes.{array_keys, map_keys, fixed_keys, enum_keys, record_keys, Branches, no_branch, branch, Fields, no_field, field}
+use Rattle.avro_schema.specs.Denotes.{array_keys, map_keys, fixed_keys, enum_keys, record_keys, Branches, no_branch, branch, Fields, no_field, field, AllDiffer}
 use Rattle.avro_schema.proofs.Inversion.{bind_some, bind2, bind3, bind4, bind5, guard_some, guard_none, map_some, room_is, get_past, text_past, items_past, text_if_any_past, texts_differ, numbers_differ}
 
 bound_is : (ms extra : Members) → bounded ms ≡ Some extra → (extra ≡ ms) × (members_depth extra ≤ max_nesting)
@@ -201,22 +203,28 @@ object_members (json.array ds) ms2 e = absurd cc
 
 -- ---- types inside types, by the rules one level below
 
+-- the rules give branches of these numbers
+abbrev BranchesSay : ℕ → List ℕ → Items → Known → ℕ → Part (List (ℕ × ℕ)) → Type 0
+BranchesSay n space ds known first ps = (bs : List (ℕ × BranchKind)) × (numbered bs ≡ ps.it) × Branches n space ds known first bs ps.nodes ps.known
+
 abbrev AllSay : ℕ → Type 0
 AllSay n = (space : List ℕ) (d : Data) (known : Known) (first : ℕ) (p : Part ℕ) → type_at n space d known first ≡ Some p → Says_ n space d known first p
 
 module _ (n : ℕ) (says : AllSay n) where
-  branches_say : (space : List ℕ) (ds : Items) (known : Known) (first : ℕ) (ps : Part (List (ℕ × ℕ))) → parts_of (branch_of (type_at n space)) ds known first ≡ Some ps → Branches n space ds known first ps.it ps.nodes ps.known
+  branches_say : (space : List ℕ) (ds : Items) (known : Known) (first : ℕ) (ps : Part (List (ℕ × ℕ))) → parts_of (branch_of (type_at n space)) ds known first ≡ Some ps → BranchesSay n space ds known first ps
   unfolding parts_of branch_of
-  branches_say space no_items known first ps e = subst (λ (x : Part (List (ℕ × ℕ))). Branches n space no_items known first x.it x.nodes x.known) (same_Some _ _ e) no_branch
+  branches_say space no_items known first ps e = subst (λ (x : Part (List (ℕ × ℕ))). BranchesSay n space no_items known first x) (same_Some _ _ e) ([], refl, no_branch)
   branches_say space (item d ds) known first ps e =
       let q = bind2 (branch_of (type_at n space) d known first) (λ p. parts_of (branch_of (type_at n space)) ds p.known (first + length p.nodes))
       (λ p more. Some (record { it = p.it ∷ more.it; nodes = p.nodes ++ more.nodes; known = more.known })) ps e in
-      let b = bind2 (type_at n space d known first) (λ p. branch_kind p.it p.nodes) (λ p kind. Some (record { it = (p.it, kind); nodes = p.nodes; known = p.known })) q.0 q.2 in
+      let b = bind2 (type_at n space d known first) (λ p. branch_number p.it p.nodes) (λ p number. Some (record { it = (p.it, number); nodes = p.nodes; known = p.known })) q.0 q.2 in
       let is : record { it = (b.0.it, b.1); nodes = b.0.nodes; known = b.0.known } ≡ q.0 = same_Some _ _ b.4 in
       let others = subst (λ (x : Part (ℕ × ℕ)). parts_of (branch_of (type_at n space)) ds x.known (first + length x.nodes) ≡ Some q.1) (sym is) q.3 in
       let whole = subst (λ (x : Part (ℕ × ℕ)). Some (record { it = x.it ∷ q.1.it; nodes = x.nodes ++ q.1.nodes; known = q.1.known }) ≡ Some ps) (sym is) q.4 in
-      subst (λ (x : Part (List (ℕ × ℕ))). Branches n space (item d ds) known first x.it x.nodes x.known) (same_Some _ _ whole)
-      (branch (says space d known first b.0 b.2) b.3 (branches_say space ds b.0.known (first + length b.0.nodes) q.1 others))
+      let kind = kind_of_number b.0.it b.1 b.0.nodes b.3 in
+      let rest = branches_say space ds b.0.known (first + length b.0.nodes) q.1 others in
+      subst (λ (x : Part (List (ℕ × ℕ))). BranchesSay n space (item d ds) known first x) (same_Some _ _ whole)
+      ((b.0.it, kind.0) ∷ rest.0, rw (kind.2, rest.1) refl, branch (says space d known first b.0 b.2) kind.1 rest.2)
 
   fields_say : (space : List ℕ) (ds : Items) (known : Known) (first : ℕ) (ps : Part (List FieldView)) → parts_of (field_of (type_at n space)) ds known first ≡ Some ps → Fields n space ds known first ps.it ps.nodes ps.known
   unfolding parts_of field_of
@@ -260,9 +268,13 @@ module _ (n : ℕ) (says : AllSay n) where
       (λ place ps. cond (all_differ (λ a b. a == b) (map (λ b. b.1) ps.it)) (Some (record { it = place; nodes = union (map (λ b. b.0) ps.it) ∷ ps.nodes; known = ps.known })) None) p e in
       let g = guard_some (all_differ (λ a b. a == b) (map (λ b. b.1) q.1.it)) (Some (record { it = q.0; nodes = union (map (λ b. b.0) q.1.it) ∷ q.1.nodes; known = q.1.known })) p q.4 in
       let room = room_is first q.0 q.2 in
+      let said = branches_say space ds known (first + 1) q.1 q.3 in
+      let differ = subst (λ (bs : List (ℕ × ℕ)). AllDiffer (map (λ b. b.1) bs)) (sym said.1) (numbers_differ (map (λ b. b.1) q.1.it) g.0) in
+      let places : map (λ b. b.0) said.0 ≡ map (λ b. b.0) q.1.it = sym (same_places said.0) ∙ ap (λ (bs : List (ℕ × ℕ)). map (λ b. b.0) bs) said.1 in
       subst (λ (x : Part ℕ). Says_ (suc n) space (json.array ds) known first x)
-      (ap (λ (place : ℕ). record { it = place; nodes = union (map (λ b. b.0) q.1.it) ∷ q.1.nodes; known = q.1.known }) room.1 ∙ same_Some _ _ g.1)
-      (union_type room.0 (branches_say space ds known (first + 1) q.1 q.3) (numbers_differ (map (λ b. b.1) q.1.it) g.0))
+      (ap (λ (ps : List ℕ). record { it = first; nodes = union ps ∷ q.1.nodes; known = q.1.known }) places
+          ∙ ap (λ (place : ℕ). record { it = place; nodes = union (map (λ b. b.0) q.1.it) ∷ q.1.nodes; known = q.1.known }) room.1 ∙ same_Some _ _ g.1)
+      (union_type room.0 said.2 (kinds_differ said.0 differ))
 
   record_says : (space : List ℕ) (ms : Members) (known : Known) (first : ℕ) (p : Part ℕ) → Says ms word.Record → record_at (type_at n) space (inside ms) known first ≡ Some p → Says_ (suc n) space (json.object ms) known first p
   unfolding record_at

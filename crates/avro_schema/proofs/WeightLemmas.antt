@@ -11,6 +11,7 @@ use Rattle.avro_nodes.specs.Names.{is_dot, has_dot, namespace_of}
 use Rattle.avro_nodes.specs.Nodes.{NamedView, FieldView, NodeView}
 use Rattle.avro_schema.specs.Names.{Known, is_dotted, is_space, joined, name_in, full_name, alias_in}
 use Rattle.avro_schema.specs.Attributes.{text_in, array_in, text_of_any, text_if_any, texts_in, texts_if_any}
+use Rattle.avro_schema.specs.Kinds.{BranchKind}
 use Rattle.avro_schema.specs.Denotes.{IsNamed, Denotes, a_primitive, a_reference, primitive_type, reference_type, array_type, map_type, fixed_type, enum_type, record_type, union_type, Branches, no_branch, branch, Fields, no_field, field}
 use Rattle.avro_schema.specs.Inside.Weight.{texts_size, named_size, names_size, if_any, items_weight, full_in, alias_weight, space_in, names_weight, definition_weight, field_weight, record_weight, object_weight, weight}
 use Rattle.avro_schema.proofs.Inversion.{bind_some, bind3, guard_some, map_some}
@@ -122,7 +123,7 @@ mutual
       rw (s.1, s.2, n.text_is, i) (omega (arith, names_same space ms known named n, within, fields_weigh fs))
   weighs (union_type h bs d) = omega (arith, branches_weigh bs)
 
-  branches_weigh : {n : ℕ} {space : List ℕ} {ds : Items} {known known2 : Known} {first : ℕ} {branches : List (ℕ × ℕ)} {nodes : List NodeView} → Branches n space ds known first branches nodes known2
+  branches_weigh : {n : ℕ} {space : List ℕ} {ds : Items} {known known2 : Known} {first : ℕ} {branches : List (ℕ × BranchKind)} {nodes : List NodeView} → Branches n space ds known first branches nodes known2
       → items_weight (weight n space) ds ≡ names_size nodes
   branches_weigh no_branch = refl
   branches_weigh (branch {nodes = nodes} {more = more} d k rest) = omega (arith, weighs d, branches_weigh rest, names_append nodes more)

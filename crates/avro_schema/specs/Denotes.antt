@@ -12,7 +12,7 @@ use Rattle.avro_schema.specs.Names.{Known, is_simple, allowed, full_name, alias_
 use Rattle.avro_nodes.specs.Names.{namespace_of, last_part}
 use Rattle.avro_schema.specs.Words.{kind_of, word_of}
 use Rattle.avro_schema.specs.Attributes.{without_all, text_in, array_in, text_if_any, texts_in, texts_if_any, size_of, fallback_in, order_in}
-use Rattle.avro_schema.specs.Kinds.{branch_kind}
+use Rattle.avro_schema.specs.Kinds.{BranchKind, branch_kind}
 
 -- none of the list is this one
 abbrev pub Lacks : {X : Type 0} → List X → X → Type 0
@@ -117,14 +117,14 @@ mutual
         → Fields n (namespace_of named.name) items (defined known named.name first) (first + 1) fields nodes known2 → AllDiffer (map (λ f. f.name) fields)
         → Denotes (suc n) space (json.object ms) known first first (rec named fields extra ∷ nodes) known2
     -- a JSON array is a union of its members, no two of one kind (Complex Types, Unions); it may be empty (this project's choice)
-    union_type : {n : ℕ} {space : List ℕ} {items : Items} {known known2 : Known} {first : ℕ} {branches : List (ℕ × ℕ)} {nodes : List NodeView} → first < max_places
+    union_type : {n : ℕ} {space : List ℕ} {items : Items} {known known2 : Known} {first : ℕ} {branches : List (ℕ × BranchKind)} {nodes : List NodeView} → first < max_places
         → Branches n space items known (first + 1) branches nodes known2 → AllDiffer (map (λ b. b.1) branches)
         → Denotes (suc n) space (json.array items) known first first (union (map (λ b. b.0) branches) ∷ nodes) known2
 
   -- the branches of a union, each with its place and its kind
-  pub data Branches : ℕ → List ℕ → Items → Known → ℕ → List (ℕ × ℕ) → List NodeView → Known → Type 0 where
+  pub data Branches : ℕ → List ℕ → Items → Known → ℕ → List (ℕ × BranchKind) → List NodeView → Known → Type 0 where
     no_branch : {n : ℕ} {space : List ℕ} {known : Known} {first : ℕ} → Branches n space no_items known first [] [] known
-    branch : {n : ℕ} {space : List ℕ} {d : Data} {ds : Items} {known known2 known3 : Known} {first place kind : ℕ} {branches : List (ℕ × ℕ)} {nodes more : List NodeView}
+    branch : {n : ℕ} {space : List ℕ} {d : Data} {ds : Items} {known known2 known3 : Known} {first place : ℕ} {kind : BranchKind} {branches : List (ℕ × BranchKind)} {nodes more : List NodeView}
         → Denotes n space d known first place nodes known2 → branch_kind place nodes ≡ Some kind → Branches n space ds known2 (first + length nodes) branches more known3
         → Branches n space (item d ds) known first ((place, kind) ∷ branches) (nodes ++ more) known3
 

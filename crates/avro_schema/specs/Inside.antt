@@ -1,4 +1,5 @@
 pub mod DenotedNodes
+pub mod KindNumbers
 pub mod Types
 pub mod Declarations
 pub mod ValueReaders

@@ -12,7 +12,7 @@ use crate::definitions::{bound, enum_at, fixed_at, label_of, named_of, others, r
 use crate::distinct::{kinds_differ, texts_differ};
 use crate::error::SchemaError;
 use crate::names::{Places, define};
-use crate::reading::kinds::{branch_kind, key_of};
+use crate::reading::kinds::{branch_number, key_of};
 use crate::reading::names::{name_at, primitive_at, reference_to};
 use crate::reading::nodes::{blank, container_node, field_from, settle};
 use crate::words::{Container, Word, word_of};
@@ -188,10 +188,10 @@ fn branch_at(
 {
     let before = nodes.len();
     let place = type_at(alloc, value, space, depth, nodes, known)?;
-    let Some(kind) = branch_kind(place, &nodes[before..]) else {
+    let Some(number) = branch_number(place, &nodes[before..]) else {
         return Err(SchemaError::BadUnion);
     };
-    Ok((place, kind))
+    Ok((place, number))
 }
 
 #[cycle(read)]

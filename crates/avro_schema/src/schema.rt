@@ -99,6 +99,8 @@ impl Schema {
             → nodes ≡ nodes_view s) }
         ensures err { IfErr result (λ e. e ≢ SchemaError.OutOfMemory
             → (nodes : List NodeView) → ¬ TextDenotes text.now nodes) }
+        // the same by the function that computes what a text denotes: but where memory is refused
+        ensures computed { Gives nodes_view result (denoted_nodes text.now) }
     {
         let nodes = nodes_of(alloc, text)?;
         if !mentions_fit(&nodes) {

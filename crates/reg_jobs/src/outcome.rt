@@ -85,6 +85,10 @@ fn fault_of_database(error: StoreError) -> Fault
 
 /// What a job answers, by how it came out: the program's status, which is 1 for a verdict of
 /// incompatible, or its trouble. That is on the writer's file where that one gives no schema.
+///
+/// # Errors
+///
+/// The trouble of each outcome that isn't an end in order: what failed, and on which file.
 pub fn answer_of<'a>(outcome: Outcome, file: &'a str, writer: &'a str) -> Result<u8, Trouble<'a>>
     ensures { named result ≡ answer_of outcome file.entry.now writer.entry.now }
 {

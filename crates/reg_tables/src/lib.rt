@@ -19,6 +19,7 @@ mod lines;
 mod listed;
 mod meta;
 mod statement;
+mod text_lines;
 mod texts;
 mod versions;
 
@@ -28,12 +29,13 @@ pub use layout::{create, index_versions};
 pub use levels::{drop_level, own_level, set_level};
 pub use lines::{
     KeptLine, LevelLine, MetaLine, TextLine, VersionLine, kept_lines, level_lines, meta_lines,
-    text_ids, texts_between, version_lines,
+    version_lines,
 };
 pub use listed::{
     ListedVersion, SubjectVersion, a_version_of_id, all_versions, first_version_behind,
     last_live_version_of, last_version_of, next_version_of, versions_of, versions_of_id,
 };
 pub use meta::{global_level, set_global};
+pub use text_lines::{text_ids, texts_between};
 pub use texts::{id_of, last_id, put_text, text_of};
 pub use versions::{VersionEntry, drop_version, mark_deleted, put_version, version_of};

@@ -1,22 +1,20 @@
 //! All rows of each table, with their rowids, as the test of a database needs them.
 
-ghost use Rattle.std.specs.Prelude.{◌≡◌, ◌<◌, ◌^◌, ℕ, pos, Bool, length, IfOk, IfErr, false};
-ghost use Rattle.sqlite.specs.declared.types.Value.{Value};
-ghost use Rattle.sqlite.specs.declared.types.Value.TheVariants.{Int};
+ghost use Rattle.std.specs.Prelude.{◌≡◌, ◌<◌, Bool, length, IfOk, IfErr, false};
 ghost use Rattle.sqlite.specs.Order.{column};
 ghost use Rattle.sqlite.specs.Held.{state};
 ghost use Rattle.reg_tables.specs.Frames.{StaysIdle};
 ghost use Rattle.sqlite.specs.State.{HasCleanDisk};
 ghost use Rattle.reg_tables.specs.Layout.{IsLayout};
 ghost use Rattle.reg_tables.specs.Contents.{flag_cell, text_form, version_form, pair_form, kept_form};
-ghost use Rattle.reg_tables.specs.Listings.{Parts, parts_of, entry_parts, text_entry, version_entry, level_entry, kept_entry, meta_entry, ListsIds, ListsTextsBetween, ListsVersions, ListsLevels, ListsKept, ListsMeta};
-ghost use Rattle.reg_tables.specs.Inside.ReadableRows.{IsReadableId, IsReadableText, IsReadableVersion, IsReadablePair, IsReadableKept};
+ghost use Rattle.reg_tables.specs.Listings.{Parts, parts_of, entry_parts, text_entry, version_entry, level_entry, kept_entry, meta_entry, ListsVersions, ListsLevels, ListsKept, ListsMeta};
+ghost use Rattle.reg_tables.specs.Inside.ReadableRows.{IsReadableText, IsReadableVersion, IsReadablePair, IsReadableKept};
 ghost use Rattle.reg_tables.specs.Reads.{CanBeRead};
 ghost use Rattle.reg_tables.specs.FailedCalls.{IsFault};
 
 use crate::kept::KeptReply;
 use crate::statement::{Line, list};
-use sqlite::{Alter, Connection, Error, ErrorCode, Row, params};
+use sqlite::{Alter, Connection, Error, ErrorCode, Row};
 use std::alloc::Global;
 
 /// A row of `texts`.
@@ -72,21 +70,6 @@ pub(crate) fn flag_in(row: &Row, at: usize) -> Result<bool, Error>
         0 => Ok(false),
         1 => Ok(true),
         _ => Err(Error::IntegralValueOutOfRange(at)),
-    }
-}
-
-/// The id of a row of `texts`.
-impl Line for u32 {
-    ghost Cells = { Value };
-
-    ghost shown = { λ row. column row 0 };
-
-    ghost cells = { λ id. Int (pos id) };
-
-    ghost is_readable = { IsReadableId };
-
-    fn read(row: &Row) -> Result<u32, Error> {
-        row.get(0)
     }
 }
 
@@ -185,46 +168,12 @@ impl Line for MetaLine {
     }
 }
 
-/// The ids of all rows of `texts`, in any order. It fails too where a rowid is no `u32`.
-pub fn text_ids<S: Alter>(alloc: Global, conn: &mut Connection<S>) -> Result<Vec<u32>, Error>
-    requires idle { conn.old.in_transaction ≡ false }
-    ensures frame { StaysIdle S.Store conn.old conn.new result }
-    ensures listed { HasCleanDisk (state S.Store conn.new) → IfOk result (λ ids.
-        IsLayout (state S.Store conn.old).now.schema
-        → ListsIds (state S.Store conn.old).now ids.items) }
-    ensures fault { HasCleanDisk (state S.Store conn.new) → IfErr result (λ e.
-        CanBeRead (state S.Store conn.old)
-        → IsFault (state S.Store conn.old) (state S.Store conn.new) e) }
-{
-    list(alloc, conn, "SELECT id FROM texts", &[])
-}
-
-/// The rows of `texts` whose ids lie between these two, both counted, in any order. It fails too
-/// where a row holds what the line can't.
-pub fn texts_between<S: Alter>(
-    alloc: Global,
-    conn: &mut Connection<S>,
-    low: u32,
-    high: u32,
-) -> Result<Vec<TextLine>, Error>
-    requires idle { conn.old.in_transaction ≡ false }
-    ensures frame { StaysIdle S.Store conn.old conn.new result }
-    ensures listed { HasCleanDisk (state S.Store conn.new) → IfOk result (λ lines.
-        IsLayout (state S.Store conn.old).now.schema
-        → ListsTextsBetween low high (state S.Store conn.old).now lines.items) }
-    ensures fault { HasCleanDisk (state S.Store conn.new) → IfErr result (λ e.
-        CanBeRead (state S.Store conn.old)
-        → IsFault (state S.Store conn.old) (state S.Store conn.new) e) }
-{
-    list(
-        alloc,
-        conn,
-        "SELECT rowid, id, text FROM texts WHERE id >= ?1 AND id <= ?2",
-        params![low, high],
-    )
-}
-
-/// All rows of `versions`, in any order. It fails too where a row holds what the line can't.
+/// All rows of `versions`, in any order.
+///
+/// # Errors
+///
+/// `OutOfMemory`, a fault of the disk, or `OperationInterrupted` at the limit on steps; another
+/// where a row holds what the line can't. Nothing is changed.
 pub fn version_lines<S: Alter>(
     alloc: Global,
     conn: &mut Connection<S>,
@@ -246,7 +195,12 @@ pub fn version_lines<S: Alter>(
     )
 }
 
-/// All rows of `levels`, in any order. It fails too where a row holds what the line can't.
+/// All rows of `levels`, in any order.
+///
+/// # Errors
+///
+/// `OutOfMemory`, a fault of the disk, or `OperationInterrupted` at the limit on steps; another
+/// where a row holds what the line can't. Nothing is changed.
 pub fn level_lines<S: Alter>(
     alloc: Global,
     conn: &mut Connection<S>,
@@ -263,7 +217,12 @@ pub fn level_lines<S: Alter>(
     list(alloc, conn, "SELECT rowid, subject, level FROM levels", &[])
 }
 
-/// All rows of `kept`, in any order. It fails too where a row holds what the line can't.
+/// All rows of `kept`, in any order.
+///
+/// # Errors
+///
+/// `OutOfMemory`, a fault of the disk, or `OperationInterrupted` at the limit on steps; another
+/// where a row holds what the line can't. Nothing is changed.
 pub fn kept_lines<S: Alter>(alloc: Global, conn: &mut Connection<S>) -> Result<Vec<KeptLine>, Error>
     requires idle { conn.old.in_transaction ≡ false }
     ensures frame { StaysIdle S.Store conn.old conn.new result }
@@ -282,7 +241,12 @@ pub fn kept_lines<S: Alter>(alloc: Global, conn: &mut Connection<S>) -> Result<V
     )
 }
 
-/// All rows of `meta`, in any order. It fails too where a row holds what the line can't.
+/// All rows of `meta`, in any order.
+///
+/// # Errors
+///
+/// `OutOfMemory`, a fault of the disk, or `OperationInterrupted` at the limit on steps; another
+/// where a row holds what the line can't. Nothing is changed.
 pub fn meta_lines<S: Alter>(alloc: Global, conn: &mut Connection<S>) -> Result<Vec<MetaLine>, Error>
     requires idle { conn.old.in_transaction ≡ false }
     ensures frame { StaysIdle S.Store conn.old conn.new result }

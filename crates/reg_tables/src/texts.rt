@@ -16,6 +16,13 @@ use crate::statement::{ask, run};
 use sqlite::{Alter, Connection, Error, ErrorCode, Row, Transaction, params};
 
 /// Puts a text under an id, which the caller has seen to have none.
+///
+/// # Errors
+///
+/// `OutOfMemory`, a fault of the disk, `OperationInterrupted` at the limit on steps,
+/// `TransactionState` where a failure has ended the transaction, or `TooBig` for a row that is too
+/// large; another where the id or the text is taken, or the tables aren't the layout's. Nothing is
+/// committed, and the transaction is to be rolled back.
 pub fn put_text<S: Alter>(tx: &mut Transaction<'_, S>, id: u32, text: &str) -> Result<(), Error>
     ensures frame { StaysInside S.Store tx.old tx.new result }
     ensures put { HasCleanDisk (state_in S.Store tx.new) → OnOk result ((contents : Contents)
@@ -43,6 +50,11 @@ pub fn put_text<S: Alter>(tx: &mut Transaction<'_, S>, id: u32, text: &str) -> R
 }
 
 /// The text of an id, if it has one.
+///
+/// # Errors
+///
+/// `OutOfMemory`, a fault of the disk, or `OperationInterrupted` at the limit on steps; where the
+/// tables can't be read, another error too. Nothing is changed.
 pub fn text_of<S: Alter>(conn: &mut Connection<S>, id: u32) -> Result<Option<String>, Error>
     requires idle { conn.old.in_transaction ≡ false }
     ensures frame { StaysIdle S.Store conn.old conn.new result }
@@ -71,6 +83,11 @@ fn number_in(row: &Row) -> Result<u32, Error>
 }
 
 /// The id of a text, if it has one.
+///
+/// # Errors
+///
+/// `OutOfMemory`, a fault of the disk, or `OperationInterrupted` at the limit on steps; where the
+/// tables can't be read, another error too. Nothing is changed.
 pub fn id_of<S: Alter>(conn: &mut Connection<S>, text: &str) -> Result<Option<u32>, Error>
     requires idle { conn.old.in_transaction ≡ false }
     ensures frame { StaysIdle S.Store conn.old conn.new result }
@@ -90,6 +107,11 @@ pub fn id_of<S: Alter>(conn: &mut Connection<S>, text: &str) -> Result<Option<u3
 }
 
 /// The greatest id that has a text, if one has.
+///
+/// # Errors
+///
+/// `OutOfMemory`, a fault of the disk, or `OperationInterrupted` at the limit on steps; where the
+/// tables can't be read, another error too. Nothing is changed.
 pub fn last_id<S: Alter>(conn: &mut Connection<S>) -> Result<Option<u32>, Error>
     requires idle { conn.old.in_transaction ≡ false }
     ensures frame { StaysIdle S.Store conn.old conn.new result }

@@ -13,7 +13,11 @@ pub fn empty_disk(alloc: Global) -> Files<Memory> {
     }
 }
 
-/// A connection over the files, or the files again where they can't be opened.
+/// A connection over the files.
+///
+/// # Errors
+///
+/// The files, where they can't be used or opened.
 pub fn connect<D: Disk + Drop>(
     alloc: Global,
     files: Files<D>,
@@ -27,7 +31,11 @@ pub fn connect<D: Disk + Drop>(
     }
 }
 
-/// A connection over files that can be opened.
+/// A connection over the files.
+///
+/// # Errors
+///
+/// A failed test, where they can't be opened.
 pub fn over<D: Disk + Drop>(
     alloc: Global,
     files: Files<D>,
@@ -39,6 +47,10 @@ pub fn over<D: Disk + Drop>(
 }
 
 /// The files of a connection, whose log is copied into the database.
+///
+/// # Errors
+///
+/// A failed test, where the log can't be copied.
 pub fn close<D: Disk + Drop>(connection: Connection<FileStore<D>>) -> Result<Files<D>, Fail> {
     match connection.close_files() {
         Ok(files) => Ok(files),

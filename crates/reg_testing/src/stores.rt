@@ -9,6 +9,10 @@ use std::alloc::Global;
 use std::test::Fail;
 
 /// A store over a new registry in an empty database.
+///
+/// # Errors
+///
+/// A failed test, where a transaction is open, or no registry can be made.
 pub fn created<S: Alter + Drop>(
     alloc: Global,
     connection: Connection<S>,
@@ -23,6 +27,10 @@ pub fn created<S: Alter + Drop>(
 }
 
 /// A store over the registry that a database has.
+///
+/// # Errors
+///
+/// A failed test, where a transaction is open, or the database is no registry.
 pub fn opened<S: Alter + Drop>(alloc: Global, connection: Connection<S>) -> Result<Store<S>, Fail> {
     if !connection.is_autocommit() {
         return Err("a transaction is open".into());
@@ -34,12 +42,20 @@ pub fn opened<S: Alter + Drop>(alloc: Global, connection: Connection<S>) -> Resu
 }
 
 /// The files of a new registry.
+///
+/// # Errors
+///
+/// A failed test, where no registry can be made.
 pub fn registry(alloc: Global) -> Result<Files<Memory>, Fail> {
     let store = created(alloc, over(alloc, empty_disk(alloc))?)?;
     close(store.into_connection())
 }
 
 /// A service over a new registry in memory. At most one request for memory is refused.
+///
+/// # Errors
+///
+/// A failed test, where memory is refused twice.
 pub fn new_service(alloc: Global) -> Result<Service<MemStore>, Fail> {
     for _ in 0..2 {
         if let Ok(connection) = Connection::open_in_memory(alloc)

@@ -11,7 +11,7 @@ use Rattle.avro_schema.specs.declared.words.Word.{Word}
 use Rattle.avro_schema.specs.declared.words.Word.TheVariants as word
 use Rattle.avro_schema.specs.declared.words.Container.{Container}
 use Rattle.avro_schema.specs.declared.words.Container.TheVariants.{Items as of_items, Values as of_values}
-use Rattle.avro_schema.specs.Kinds.{branch_kind}
+use Rattle.avro_schema.specs.Inside.KindNumbers.{branch_number}
 use Rattle.avro_schema.specs.Names.{Known, resolved, defined}
 use Rattle.avro_nodes.specs.Names.{namespace_of}
 use Rattle.avro_schema.specs.Words.{kind_of, word_of}
@@ -58,12 +58,12 @@ container_at container one ms known first = do
 
 -- ---- unions
 
--- a branch: its place and its kind
+-- a branch: its place and the number of its kind
 unfoldable pub branch_of : Reader ℕ → Reader (ℕ × ℕ)
 branch_of one d known first = do
   p ← one d known first
-  kind ← branch_kind p.it p.nodes
-  Some (record { it = (p.it, kind); nodes = p.nodes; known = p.known })
+  number ← branch_number p.it p.nodes
+  Some (record { it = (p.it, number); nodes = p.nodes; known = p.known })
 
 unfoldable pub union_at : Reader ℕ → Items → Known → ℕ → Option (Part ℕ)
 union_at one ds known first = do

@@ -2,15 +2,15 @@
 
 ghost use Rattle.std.specs.Prelude.{◌≡◌};
 ghost use Rattle.avro_nodes.specs.Nodes.{nodes_view};
-ghost use Rattle.avro_schema.specs.Kinds.{kind_number, branch_kind};
+ghost use Rattle.avro_schema.specs.Inside.KindNumbers.{primitive_number, branch_number};
 ghost use Rattle.avro_schema.specs.Inside.Types.{key_of};
 
 use crate::words::Container;
 use avro_nodes::{Kind, Node};
 
 /// A number for each primitive type.
-fn kind_number(kind: Kind) -> u32
-    ensures { result ≡ kind_number kind }
+fn primitive_number(kind: Kind) -> u32
+    ensures { result ≡ primitive_number kind }
 {
     match kind {
         Kind::Null => 0,
@@ -24,16 +24,19 @@ fn kind_number(kind: Kind) -> u32
     }
 }
 
-/// The kind of a branch at the place that added these nodes: a number that two branches share
-/// where a union may not hold both.
-#[tactic(auto, unfolding(crate::specs::Kinds::branch_kind))]
-pub fn branch_kind(place: u32, added: &[Node]) -> Option<u64>
-    ensures { result ≡ branch_kind place (nodes_view added.now) }
+/// The number of the kind of a branch at the place that added these nodes: two branches share it
+/// where a union may not hold both. A union is no branch.
+#[tactic(auto, unfolding(
+    crate::specs::Inside::KindNumbers::branch_number,
+    crate::specs::Kinds::branch_kind,
+))]
+pub fn branch_number(place: u32, added: &[Node]) -> Option<u64>
+    ensures { result ≡ branch_number place (nodes_view added.now) }
 {
     match added.first() {
         None => Some(10 + u64::from(place)),
         Some(node) => match node {
-            Node::Primitive { kind, .. } => Some(u64::from(kind_number(*kind))),
+            Node::Primitive { kind, .. } => Some(u64::from(primitive_number(*kind))),
             Node::Array { .. } => Some(8),
             Node::Map { .. } => Some(9),
             Node::Union { .. } => None,

@@ -5,7 +5,7 @@ use Rattle.serde_json.specs.View.{view, number_view, items_view, members_view}
 use Rattle.serde_json.specs.declared.value.Value.{the_lemmas}
 use Rattle.avro_nodes.specs.Nodes.{field_view}
 use Rattle.avro_nodes.specs.Names.{namespace_of}
-use Rattle.avro_schema.specs.Kinds.{branch_kind}
+use Rattle.avro_schema.specs.Inside.KindNumbers.{branch_number}
 use Rattle.avro_schema.specs.Inside.Distinct.{all_differ}
 use Rattle.avro_schema.proofs.AttributeLemmas.{nothing_left}
 use Rattle.avro_schema.proofs.DistinctLemmas.{field_names}
@@ -130,13 +130,13 @@ pub branch_at-returns-in_default : goal.branch_at-returns-in_default
 branch_at-returns-in_default t c =
     let found = c.in_ok-place.ensures in
     let added = new_nodes c.args.nodes.now.items c.type_at.new.nodes.items found.added c.len-before.result found.after_is (c.len-before.ensures ∙ c.args.nodes.now.ok.0) in
-    is_no_branch _ _ _ _ _ _ _ _ found (ap (branch_kind c.in_ok-place.place) (sym added) ∙ (rw c.deref.ensures.value at (sym c.in_default.ensures)))
+    is_no_branch _ _ _ _ _ _ _ _ found (ap (branch_number c.in_ok-place.place) (sym added) ∙ (rw c.deref.ensures.value at (sym c.in_default.ensures)))
 
 pub branch_at-returns : goal.branch_at-returns
 branch_at-returns t c =
     let found = c.in_ok-place.ensures in
     let added = new_nodes c.args.nodes.now.items c.type_at.new.nodes.items found.added c.len-before.result found.after_is (c.len-before.ensures ∙ c.args.nodes.now.ok.0) in
-    is_branch _ _ _ _ _ _ _ _ _ found (ap (branch_kind c.in_ok-place.place) (sym added) ∙ (rw c.deref.ensures.value at (sym c.in-Some.ensures)))
+    is_branch _ _ _ _ _ _ _ _ _ found (ap (branch_number c.in_ok-place.place) (sym added) ∙ (rw c.deref.ensures.value at (sym c.in-Some.ensures)))
 
 pub branches_at-returns-in_err-branch_at : goal.branches_at-returns-in_err-branch_at
 branches_at-returns-in_err-branch_at t c =

@@ -7,7 +7,7 @@ use Rattle.reg_tables.proofs.Statements.{texts_between, texts_between_is}
 use Rattle.reg_tables.proofs.TableLines.{list_fault}
 use Rattle.reg_tables.proofs.TextLines.{lists_between, readable_between}
 use Rattle.reg_tables.proofs.Transactions.{if_ok, if_err}
-use Rattle.reg_tables.proofs.lines.texts_between.Goals as goal
+use Rattle.reg_tables.proofs.text_lines.texts_between.Goals as goal
 
 pub returns-clause-listed : goal.returns-clause-listed
 returns-clause-listed g c clean =

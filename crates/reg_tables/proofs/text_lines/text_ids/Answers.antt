@@ -6,7 +6,7 @@ use Rattle.reg_tables.proofs.Statements.{all_ids, all_ids_is, laid_out}
 use Rattle.reg_tables.proofs.TableLines.{list_fault}
 use Rattle.reg_tables.proofs.TextLines.{lists_ids, readable_ids}
 use Rattle.reg_tables.proofs.Transactions.{if_ok, if_err}
-use Rattle.reg_tables.proofs.lines.text_ids.Goals as goal
+use Rattle.reg_tables.proofs.text_lines.text_ids.Goals as goal
 
 pub returns-clause-listed : goal.returns-clause-listed
 returns-clause-listed g c clean = if_ok c.list.result (λ ids read. lists_ids _ _ read.1 read.2 ids.items read.3) (c.list.ensures.read clean)

@@ -1,0 +1,26 @@
+-- The numbers by which kinds of branches are told apart.
+use Rattle.std.specs.Prelude.{ℕ, ◌+◌, List, Option, option_map}
+use Rattle.avro_nodes.specs.declared.node.Kind.{Kind}
+use Rattle.avro_nodes.specs.declared.node.Kind.TheVariants.{Null, Boolean, Int, Long, Float, Double, Bytes, Text}
+use Rattle.avro_nodes.specs.Nodes.{NodeView}
+use Rattle.avro_schema.specs.Kinds.{BranchKind, primitive_kind, array_kind, map_kind, named_kind, branch_kind}
+
+abbrev pub primitive_number : Kind → ℕ
+primitive_number Null = 0
+primitive_number Boolean = 1
+primitive_number Int = 2
+primitive_number Long = 3
+primitive_number Float = 4
+primitive_number Double = 5
+primitive_number Bytes = 6
+primitive_number Text = 7
+
+abbrev pub kind_number : BranchKind → ℕ
+kind_number (primitive_kind kind) = primitive_number kind
+kind_number array_kind = 8
+kind_number map_kind = 9
+kind_number (named_kind place) = 10 + place
+
+-- the number of the kind of a branch at this place that adds these nodes
+unfoldable pub branch_number : ℕ → List NodeView → Option ℕ
+branch_number place nodes = option_map kind_number (branch_kind place nodes)
