@@ -18,7 +18,7 @@ use serde_json::Value;
 use std::alloc::AllocError;
 use std::cmp::Ordering;
 
-// An attribute among the others that has the key itself is left out.
+/// An attribute among the others that has the key itself is left out.
 fn write_before(out: &mut Compact, others: &mut Others<'_>, key: &str) -> Result<(), AllocError>
     ensures { OnOk result (WritesBefore key.now (members_view others.old)
         (members_view others.new) out.old out.new) }
@@ -37,7 +37,7 @@ fn write_before(out: &mut Compact, others: &mut Others<'_>, key: &str) -> Result
     Ok(())
 }
 
-// The name of an attribute, of which the value is to be written next.
+/// The name of an attribute, of which the value is to be written next.
 pub(crate) fn write_name(
     out: &mut Compact,
     others: &mut Others<'_>,

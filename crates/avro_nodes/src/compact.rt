@@ -13,7 +13,7 @@ use serde_json::Number;
 use std::alloc::{AllocError, Global};
 use std::marker::Model;
 
-// The text so far. Clauses see its tokens.
+/// The text so far. Clauses see its tokens.
 #[derive(Drop)]
 pub(crate) struct Compact {
     out: Writer,

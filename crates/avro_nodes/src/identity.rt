@@ -46,7 +46,7 @@ fn node_at(nodes: &[Node], place: usize) -> Option<&Node>
     nodes.get(place)
 }
 
-// The type at a place, where so many places have been written before it.
+/// The type at a place, where so many places have been written before it.
 #[cycle(spell)]
 fn write_at(
     out: &mut Compact,

@@ -12,7 +12,7 @@ use serde_json::Value;
 use std::alloc::AllocError;
 use std::collections::btree_map::Iter;
 
-// The members of an object that are still to be written, in byte order of their names.
+/// The members of an object that are still to be written, in byte order of their names.
 pub(crate) type Others<'a> = Iter<'a, String, Value>;
 
 pub(crate) fn others_of(members: &Extra) -> Others<'_>
@@ -66,7 +66,7 @@ pub(crate) fn write_member(out: &mut Compact, name: &str, value: &Value) -> Resu
     write_value(out, value)
 }
 
-// All that is left, with the closing bracket.
+/// All that is left, with the closing bracket.
 pub(crate) fn write_rest(out: &mut Compact, others: Others<'_>) -> Result<(), AllocError>
     ensures { OnOk result (Ends (members_view others.entry) out.old out.new) }
 {

@@ -103,8 +103,8 @@ fn number_of(kind: VersionKind, size: Size, at: usize) -> usize {
 
 /// The command of a delivery about the version with this number.
 fn command_of(alloc: Global, kind: VersionKind, size: Size, number: usize) -> Result<Command> {
-    let place = number.checked_rem(size.subjects).unwrap_or(0);
-    let name = format!(in alloc; "subject-{place}")?;
+    let index = number.checked_rem(size.subjects).unwrap_or(0);
+    let name = format!(in alloc; "subject-{index}")?;
     let subject = Subject::new(name).context("no subject")?;
     let supported = true;
     Ok(match kind {
@@ -147,7 +147,7 @@ fn command_of(alloc: Global, kind: VersionKind, size: Size, number: usize) -> Re
     })
 }
 
-/// So many deliveries of a kind over a registry of this size, from the one at this place on.
+/// So many deliveries of a kind over a registry of this size, from this one on.
 pub fn version_deliveries(
     alloc: Global,
     kind: VersionKind,

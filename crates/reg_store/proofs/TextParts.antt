@@ -18,7 +18,7 @@ use Rattle.sqlite_rules.proofs.ListLemmas.{all_has, all_from, has_left, has_righ
 use Rattle.reg_tables.specs.declared.lines.TextLine.{TextLine}
 use Rattle.reg_tables.specs.Layout.{texts}
 use Rattle.reg_tables.specs.Contents.{text_form}
-use Rattle.reg_tables.specs.Listings.{Parts, parts_of, entry_parts, text_entry, is_between, ListsIds, ListsTexts, ListsTextsBetween}
+use Rattle.reg_tables.specs.Listings.{RowParts, parts_of, entry_parts, text_entry, is_between, ListsIds, ListsTexts, ListsTextsBetween}
 use Rattle.reg_tables.proofs.ListMembers.{has_mapped, maps_had, has_permuted}
 use Rattle.reg_tables.proofs.TextLines.{between_tests}
 use Rattle.reg_rows.specs.Spelling.{AreNumbered}
@@ -107,10 +107,10 @@ fits-append (x ∷ xs) ys = let rest = fits-append xs ys in (λ h. (h.0.0, rest.
 
 -- ---- ranges
 
-abbrev parts : Row → Parts
+abbrev parts : Row → RowParts
 parts = parts_of text_form
 
-abbrev shown : List TextLine → List Parts
+abbrev shown : List TextLine → List RowParts
 shown lines = map (entry_parts text_form) (map text_entry lines)
 
 shown-append : (xs ys : List TextLine) → shown (xs ++ ys) ≡ shown xs ++ shown ys
@@ -238,7 +238,7 @@ pub in_order : (db : Database) (count : ℕ) (numbers : NumbersTexts db count) (
 in_order db count numbers lines lists =
     let rows = db.trees texts.tree in
     let id_of = λ (line : TextLine). line.id in
-    let first = λ (p : Parts). p.0 in
+    let first = λ (p : RowParts). p.0 in
     let ids : IsPermutation (map rowid rows) (map (λ (line : TextLine). int_of line.id) lines) =
     subst (IsPermutation (map rowid rows)) (ap (map first) (map-map (entry_parts text_form) text_entry lines) ∙ map-map first (λ (line : TextLine). entry_parts text_form (text_entry line)) lines)
     (subst (λ l. IsPermutation l (map first (shown lines))) (map-map first parts rows) (IsPermutation-map first (map parts rows) (shown lines) lists)) in

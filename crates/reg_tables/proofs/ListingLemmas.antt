@@ -18,7 +18,7 @@ use Rattle.sqlite_value.proofs.OrderLemmas.{value_cmp_total, value_cmp-Int}
 use Rattle.sqlite_rules.specs.Lists.{Has}
 use Rattle.sqlite_rules.proofs.ListLemmas.{all_from, all_has}
 use Rattle.reg_tables.specs.TableMaps.{Form, HaveOwnRowids, HaveRowids, ShowsMap}
-use Rattle.reg_tables.specs.Listings.{Parts, parts_of, entry_parts, Lists, HasNoTwins, without_rowid}
+use Rattle.reg_tables.specs.Listings.{RowParts, parts_of, entry_parts, Lists, HasNoTwins, without_rowid}
 use Rattle.reg_tables.proofs.ListMembers.{has_mapped, maps_had, has_permuted}
 use Rattle.reg_tables.proofs.MapLemmas.{IsKeyOrder, same_key, tied_key, other_key}
 use Rattle.reg_tables.proofs.RowLemmas.{same_if_tied}
@@ -116,33 +116,33 @@ module _ {K V : Type 0} (form : Form K V) (R : K → K → Ordering) (order : Is
 
   ids_moved : IsPermutation (map rowid rows) (map Int (map (λ e. e.0) es))
   ids_moved =
-      subst (λ l. IsPermutation l (map Int (map (λ e. e.0) es))) (map-map (λ (p : Parts). p.0) (parts_of form) rows)
-      (subst (IsPermutation (map (λ (p : Parts). p.0) (map (parts_of form) rows))) (map-map (λ (p : Parts). p.0) (entry_parts form) es ∙ sym (map-map Int (λ (e : ℤ × K × V). e.0) es))
-      (IsPermutation-map (λ (p : Parts). p.0) (map (parts_of form) rows) (map (entry_parts form) es) lists))
+      subst (λ l. IsPermutation l (map Int (map (λ e. e.0) es))) (map-map (λ (p : RowParts). p.0) (parts_of form) rows)
+      (subst (IsPermutation (map (λ (p : RowParts). p.0) (map (parts_of form) rows))) (map-map (λ (p : RowParts). p.0) (entry_parts form) es ∙ sym (map-map Int (λ (e : ℤ × K × V). e.0) es))
+      (IsPermutation-map (λ (p : RowParts). p.0) (map (parts_of form) rows) (map (entry_parts form) es) lists))
 
   pub shows_if_listed : HasNoTwins R es → ShowsMap form rows (get {R = R} (from_entries (map without_rowid es)))
   shows_if_listed apart = record {
     rowids = have;
     sound = λ row h.
         let e = listed row h in
-        (e.0.1, e.0.2, get-from_entries order.total (map without_rowid es) e.0.1 ∙ found_first R order es e.0 apart.keys e.1, (ap (λ (p : Parts). p.1) e.2, ap (λ (p : Parts). p.2) e.2));
+        (e.0.1, e.0.2, get-from_entries order.total (map without_rowid es) e.0.1 ∙ found_first R order es e.0 apart.keys e.1, (ap (λ (p : RowParts). p.1) e.2, ap (λ (p : RowParts). p.2) e.2));
     complete = λ k v h.
         let e = find_had R order es k v (sym (get-from_entries order.total (map without_rowid es) k) ∙ h) in
         let r = stored e.0 e.1 in
-        (r.0, r.1, (sym (ap (λ (p : Parts). p.1) r.2) ∙ ap form.key_cells e.2, sym (ap (λ (p : Parts). p.2) r.2) ∙ ap form.value_cells e.3));
+        (r.0, r.1, (sym (ap (λ (p : RowParts). p.1) r.2) ∙ ap form.key_cells e.2, sym (ap (λ (p : RowParts). p.2) r.2) ∙ ap form.value_cells e.3));
     once = λ a b x y same.
         let one = listed a x in
         let two = listed b y in
-        let key : one.0.1 ≡ two.0.1 = distinct one.0.1 two.0.1 (sym (ap (λ (p : Parts). p.1) one.2) ∙ same ∙ ap (λ (p : Parts). p.1) two.2) in
+        let key : one.0.1 ≡ two.0.1 = distinct one.0.1 two.0.1 (sym (ap (λ (p : RowParts). p.1) one.2) ∙ same ∙ ap (λ (p : RowParts). p.1) two.2) in
         let entries = same_by_key R order es one.0 two.0 apart.keys one.1 two.1 key in
-        let ids_same : rowid a ≡ rowid b = ap (λ (p : Parts). p.0) one.2 ∙ ap (λ (z : ℤ × K × V). Int z.0) entries ∙ sym (ap (λ (p : Parts). p.0) two.2) in
+        let ids_same : rowid a ≡ rowid b = ap (λ (p : RowParts). p.0) one.2 ∙ ap (λ (z : ℤ × K × V). Int z.0) entries ∙ sym (ap (λ (p : RowParts). p.0) two.2) in
         same_if_tied rows a b have x y (ap (value_cmp (rowid a)) (sym ids_same) ∙ tied_itself value_cmp_total (rowid a));
   }
     where
       have : HaveRowids rows
       have = (
         apart_if_distinct rows (IsDistinct-IsPermutation same_id same_id_swaps _ _ (IsPermutation-sym (map rowid rows) _ ids_moved) (distinct_ints (map (λ e. e.0) es) apart.rowids)),
-        all_from _ rows (λ row h. let e = listed row h in ap is_int (ap (λ (p : Parts). p.0) e.2)),
+        all_from _ rows (λ row h. let e = listed row h in ap is_int (ap (λ (p : RowParts). p.0) e.2)),
       )
 
   -- what a list of a map has
@@ -160,8 +160,8 @@ module _ {K V : Type 0} (form : Form K V) (R : K → K → Ordering) (order : Is
       one_id e f a b key =
           let r = stored e a in
           let s = stored f b in
-          let row = shows.once r.0 s.0 r.1 s.1 (sym (ap (λ (p : Parts). p.1) r.2) ∙ ap form.key_cells key ∙ ap (λ (p : Parts). p.1) s.2) in
-          let same : Int e.0 ≡ Int f.0 = ap (λ (p : Parts). p.0) r.2 ∙ ap rowid row ∙ sym (ap (λ (p : Parts). p.0) s.2) in
+          let row = shows.once r.0 s.0 r.1 s.1 (sym (ap (λ (p : RowParts). p.1) r.2) ∙ ap form.key_cells key ∙ ap (λ (p : RowParts). p.1) s.2) in
+          let same : Int e.0 ≡ Int f.0 = ap (λ (p : RowParts). p.0) r.2 ∙ ap rowid row ∙ sym (ap (λ (p : RowParts). p.0) s.2) in
           cc
 
       keys : IsDistinct (eq_by_cmp R) (map (λ e. e.1) es)
@@ -171,15 +171,15 @@ module _ {K V : Type 0} (form : Form K V) (R : K → K → Ordering) (order : Is
       held e h =
           let r = stored e h in
           let it = shows.sound r.0 r.1 in
-          let key : it.0 ≡ e.1 = distinct it.0 e.1 (sym it.3.0 ∙ sym (ap (λ (p : Parts). p.1) r.2)) in
-          let value : it.1 ≡ e.2 = distinct_values it.1 e.2 (sym it.3.1 ∙ sym (ap (λ (p : Parts). p.2) r.2)) in
+          let key : it.0 ≡ e.1 = distinct it.0 e.1 (sym it.3.0 ∙ sym (ap (λ (p : RowParts). p.1) r.2)) in
+          let value : it.1 ≡ e.2 = distinct_values it.1 e.2 (sym it.3.1 ∙ sym (ap (λ (p : RowParts). p.2) r.2)) in
           ap (get m) (sym key) ∙ it.2 ∙ ap Some value
 
       same : (q : K) (o : Option V) → get m q ≡ o → get m q ≡ get (from_entries {R = R} (map without_rowid es)) q
       same q (Some v) is =
           let row = shows.complete q v is in
           let e = listed row.0 row.1 in
-          let key : e.0.1 ≡ q = distinct e.0.1 q (sym (ap (λ (p : Parts). p.1) e.2) ∙ row.2.0) in
+          let key : e.0.1 ≡ q = distinct e.0.1 q (sym (ap (λ (p : RowParts). p.1) e.2) ∙ row.2.0) in
           ap (get m) (sym key) ∙ held e.0 e.1 ∙ sym (found_first R order es e.0 keys e.1) ∙ sym (get-from_entries order.total (map without_rowid es) e.0.1) ∙ ap (get (from_entries {R = R} (map without_rowid es))) key
       same q None is = is ∙ none (find R q (map without_rowid es)) refl ∙ sym (get-from_entries order.total (map without_rowid es) q)
         where

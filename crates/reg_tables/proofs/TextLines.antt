@@ -19,7 +19,7 @@ use Rattle.reg_tables.specs.declared.lines.TextLine.{TextLine}
 use Rattle.reg_tables.specs.Layout.{IsLayout, texts}
 use Rattle.reg_tables.specs.Reads.{HoldsReadable}
 use Rattle.reg_tables.specs.Contents.{text_form}
-use Rattle.reg_tables.specs.Listings.{Parts, parts_of, entry_parts, text_entry, ListsIds, ListsTextsBetween, is_between}
+use Rattle.reg_tables.specs.Listings.{RowParts, parts_of, entry_parts, text_entry, ListsIds, ListsTextsBetween, is_between}
 use Rattle.reg_tables.specs.Inside.ReadableRows.{IsReadableId, IsReadableText}
 use Rattle.reg_tables.proofs.Queries.{plain_query, passes, answer_has, answer_all, answer_passing}
 use Rattle.reg_tables.proofs.KeyedTables.{int_order, with_nothing, answered}

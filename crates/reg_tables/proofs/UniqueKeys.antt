@@ -23,7 +23,7 @@ use Rattle.sqlite_rules.proofs.RuleLemmas.{keeps_at}
 use Rattle.reg_tables.specs.TableMaps.{Form}
 use Rattle.reg_tables.specs.Contents.{text_cells, version_key_cells, text_cmp, version_cmp, version_form, pair_form, kept_form}
 use Rattle.reg_tables.specs.Layout.{automatic_index, layout, unindexed, IsLayout, versions, levels, kept, meta}
-use Rattle.reg_tables.specs.Listings.{Parts, Lists, HasNoTwins, text_entry, version_entry, level_entry, kept_entry, meta_entry, ListsVersions, ListsLevels, ListsKept, ListsMeta}
+use Rattle.reg_tables.specs.Listings.{RowParts, Lists, HasNoTwins, text_entry, version_entry, level_entry, kept_entry, meta_entry, ListsVersions, ListsLevels, ListsKept, ListsMeta}
 use Rattle.reg_tables.specs.declared.lines.TextLine.{TextLine}
 use Rattle.reg_tables.specs.declared.lines.VersionLine.{VersionLine}
 use Rattle.reg_tables.specs.declared.lines.LevelLine.{LevelLine}
@@ -80,10 +80,10 @@ module _ {K V : Type 0} (form : Form K V) (R : K → K → Ordering) (order : Is
       one_id e f here there same =
           let a = stored form R order distinct (db table.tree) es lists e here in
           let b = stored form R order distinct (db table.tree) es lists f there in
-          let key_a = sym (ap (λ (p : Parts). p.1) a.2) in
-          let key_b = sym (ap (λ (p : Parts). p.1) b.2) ∙ ap form.key_cells (sym same) in
+          let key_a = sym (ap (λ (p : RowParts). p.1) a.2) in
+          let key_b = sym (ap (λ (p : RowParts). p.1) b.2) ∙ ap form.key_cells (sym same) in
           let one = one_rowid schema db obeys table index listed indexed guarded a.0 b.0 a.1 b.1 (agrees a.0 b.0 e.1 key_a key_b) in
-          same_number e.0 f.0 (ap (λ v. differ v (Int f.0)) (ap (λ (p : Parts). p.0) a.2) ∙ ap (differ (rowid a.0)) (ap (λ (p : Parts). p.0) b.2) ∙ one)
+          same_number e.0 f.0 (ap (λ v. differ v (Int f.0)) (ap (λ (p : RowParts). p.0) a.2) ∙ ap (differ (rowid a.0)) (ap (λ (p : RowParts). p.0) b.2) ∙ one)
 
 -- an id is its row's rowid
 pub apart_by_id : (lines : List TextLine) → IsDistinct (eq_by_cmp int_cmp) (map (λ (line : TextLine). pos line.id) lines) → HasNoTwins nat_cmp (map text_entry lines)

@@ -19,14 +19,14 @@ use Rattle.reg_tables.specs.Contents.{VersionRow, KeptRow, text_form, version_fo
 use Rattle.reg_tables.specs.KeptRows.{kept_row}
 
 -- a rowid, and the columns of a key and of a value
-abbrev pub Parts : Type 0
-Parts = Value × Row × Row
+abbrev pub RowParts : Type 0
+RowParts = Value × Row × Row
 
-abbrev pub parts_of : {K V : Type 0} → Form K V → Row → Parts
+abbrev pub parts_of : {K V : Type 0} → Form K V → Row → RowParts
 parts_of form row = (rowid row, form.key_of row, form.value_of row)
 
 -- what a row has for a rowid, a key and a value
-abbrev pub entry_parts : {K V : Type 0} → Form K V → ℤ × K × V → Parts
+abbrev pub entry_parts : {K V : Type 0} → Form K V → ℤ × K × V → RowParts
 entry_parts form entry = (Int entry.0, form.key_cells entry.1, form.value_cells entry.2)
 
 abbrev pub Lists : {K V : Type 0} → Form K V → List Row → List (ℤ × K × V) → Type 0

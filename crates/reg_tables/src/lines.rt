@@ -7,7 +7,7 @@ ghost use Rattle.reg_tables.specs.Frames.{StaysIdle};
 ghost use Rattle.sqlite.specs.State.{HasCleanDisk};
 ghost use Rattle.reg_tables.specs.Layout.{IsLayout};
 ghost use Rattle.reg_tables.specs.Contents.{flag_cell, text_form, version_form, pair_form, kept_form};
-ghost use Rattle.reg_tables.specs.Listings.{Parts, parts_of, entry_parts, text_entry, version_entry, level_entry, kept_entry, meta_entry, ListsVersions, ListsLevels, ListsKept, ListsMeta};
+ghost use Rattle.reg_tables.specs.Listings.{RowParts, parts_of, entry_parts, text_entry, version_entry, level_entry, kept_entry, meta_entry, ListsVersions, ListsLevels, ListsKept, ListsMeta};
 ghost use Rattle.reg_tables.specs.Inside.ReadableRows.{IsReadableText, IsReadableVersion, IsReadablePair, IsReadableKept};
 ghost use Rattle.reg_tables.specs.Reads.{CanBeRead};
 ghost use Rattle.reg_tables.specs.FailedCalls.{IsFault};
@@ -74,7 +74,7 @@ pub(crate) fn flag_in(row: &Row, at: usize) -> Result<bool, Error>
 }
 
 impl Line for TextLine {
-    ghost Cells = { Parts };
+    ghost Cells = { RowParts };
 
     ghost shown = { parts_of text_form };
 
@@ -91,7 +91,7 @@ impl Line for TextLine {
 }
 
 impl Line for VersionLine {
-    ghost Cells = { Parts };
+    ghost Cells = { RowParts };
 
     ghost shown = { parts_of version_form };
 
@@ -111,7 +111,7 @@ impl Line for VersionLine {
 }
 
 impl Line for LevelLine {
-    ghost Cells = { Parts };
+    ghost Cells = { RowParts };
 
     ghost shown = { parts_of pair_form };
 
@@ -129,7 +129,7 @@ impl Line for LevelLine {
 }
 
 impl Line for KeptLine {
-    ghost Cells = { Parts };
+    ghost Cells = { RowParts };
 
     ghost shown = { parts_of kept_form };
 
@@ -151,7 +151,7 @@ impl Line for KeptLine {
 }
 
 impl Line for MetaLine {
-    ghost Cells = { Parts };
+    ghost Cells = { RowParts };
 
     ghost shown = { parts_of pair_form };
 

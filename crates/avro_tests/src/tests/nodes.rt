@@ -233,7 +233,7 @@ fn records(rt: HostRuntime) -> Result<(), Fail> {
     Ok(())
 }
 
-// What no clause says: a float stands as `serde_json` writes it.
+/// What no clause says: a float stands as `serde_json` writes it.
 #[test]
 fn floats(rt: HostRuntime) -> Result<(), Fail> {
     let alloc = rt.alloc();
@@ -250,7 +250,7 @@ fn floats(rt: HostRuntime) -> Result<(), Fail> {
     Ok(())
 }
 
-// An attribute without a meaning of its own that has the name of one that is written gives way.
+/// An attribute without a meaning of its own that has the name of one that is written gives way.
 #[test]
 fn other_attributes(rt: HostRuntime) -> Result<(), Fail> {
     let alloc = rt.alloc();
@@ -298,7 +298,7 @@ fn every_field(alloc: Global) -> Result<Vec<Field>, Fail> {
     Ok(fields)
 }
 
-// The types of the first two fields.
+/// The types of the first two fields.
 fn push_parts(alloc: Global, nodes: &mut Vec<Node>) -> Result<(), Fail> {
     nodes.push(Node::Primitive {
         kind: Kind::Int,
@@ -319,7 +319,7 @@ fn push_parts(alloc: Global, nodes: &mut Vec<Node>) -> Result<(), Fail> {
     Ok(())
 }
 
-// A schema with every form of a node, an order of each kind, and references to each kind of name.
+/// A schema with every form of a node, an order of each kind, and references to each kind of name.
 fn every_form(alloc: Global) -> Result<Vec<Node>, Fail> {
     let mut nodes = Vec::new(alloc);
     nodes.push(Node::Rec {

@@ -48,7 +48,7 @@ pub(super) fn request(
     format!(in alloc; "{line} HTTP/1.1\r\n{fields}Content-Length: {length}\r\n\r\n{body}")
 }
 
-// No contract refuses a `serve` that ends for want of memory before it reads. This does.
+/// No contract refuses a `serve` that ends for want of memory before it reads. This does.
 #[test]
 fn serve_gives_up_at_once(rt: HostRuntime) -> Result<(), Fail> {
     expect(

@@ -94,7 +94,7 @@ fn calls_each<S: Alter + Drop>(
     Ok(())
 }
 
-// No contract refuses a store that answers `Memory` to every call. This does.
+/// No contract refuses a store that answers `Memory` to every call. This does.
 #[test]
 fn store_gives_up(rt: HostRuntime) -> Result<(), Fail> {
     let alloc = rt.alloc();
