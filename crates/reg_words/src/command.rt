@@ -61,8 +61,8 @@ fn run_command<'a>(alloc: Global) -> Result<Command<'a>, AllocError>
         .about("Answers the HTTP/1.1 requests of standard input on standard output")
         .after_help(
             "The answers come from the registry in the database file, or else from a new one in
-memory. Status 0 where the input ended between messages, else 2, with a line on
-standard error.",
+memory. Status 0 where the input ended between messages, or a message ended the
+connection, else 2, with a line on standard error.",
         )
         .arg(option(
             alloc,
