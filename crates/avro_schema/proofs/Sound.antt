@@ -273,7 +273,7 @@ module _ (n : ℕ) (says : AllSay n) where
       let places : map (λ b. b.0) said.0 ≡ map (λ b. b.0) q.1.it = sym (same_places said.0) ∙ ap (λ (bs : List (ℕ × ℕ)). map (λ b. b.0) bs) said.1 in
       subst (λ (x : Part ℕ). Says_ (suc n) space (json.array ds) known first x)
       (ap (λ (ps : List ℕ). record { it = first; nodes = union ps ∷ q.1.nodes; known = q.1.known }) places
-          ∙ ap (λ (place : ℕ). record { it = place; nodes = union (map (λ b. b.0) q.1.it) ∷ q.1.nodes; known = q.1.known }) room.1 ∙ same_Some _ _ g.1)
+      ∙ ap (λ (place : ℕ). record { it = place; nodes = union (map (λ b. b.0) q.1.it) ∷ q.1.nodes; known = q.1.known }) room.1 ∙ same_Some _ _ g.1)
       (union_type room.0 said.2 (kinds_differ said.0 differ))
 
   record_says : (space : List ℕ) (ms : Members) (known : Known) (first : ℕ) (p : Part ℕ) → Says ms word.Record → record_at (type_at n) space (inside ms) known first ≡ Some p → Says_ (suc n) space (json.object ms) known first p

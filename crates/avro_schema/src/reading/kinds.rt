@@ -26,10 +26,7 @@ fn primitive_number(kind: Kind) -> u32
 
 /// The number of the kind of a branch at the place that added these nodes: two branches share it
 /// where a union may not hold both. A union is no branch.
-#[tactic(auto, unfolding(
-    crate::specs::Inside::KindNumbers::branch_number,
-    crate::specs::Kinds::branch_kind,
-))]
+#[tactic(auto, unfolding(crate::specs::Inside::KindNumbers::branch_number, crate::specs::Kinds::branch_kind,))]
 pub fn branch_number(place: u32, added: &[Node]) -> Option<u64>
     ensures { result ≡ branch_number place (nodes_view added.now) }
 {
