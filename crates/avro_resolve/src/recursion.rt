@@ -4,6 +4,7 @@
 ghost use Rattle.std.specs.Prelude.{◌≡◌, ℕ, ◌<◌, false, true, map, Some, IfSome, IfNone, None, slice_get, length, All, Any, IsTrue, IfOk};
 ghost use Rattle.avro_nodes.specs.Nodes.{field_view, node_view};
 ghost use Rattle.avro_resolve.specs.Resolution.{source, Readable, Fits};
+ghost use Rattle.avro_resolve.specs.Inside.Agreeing.{Agree};
 ghost use Rattle.avro_resolve.specs.Inside.Places.{Names};
 ghost use Rattle.avro_resolve.specs.Inside.Lookups.{FindsFields};
 ghost use Rattle.avro_resolve.specs.Inside.Sides.{nodes_of, IsSide};
@@ -12,11 +13,10 @@ ghost use Rattle.avro_resolve.specs.Asking.{source_place};
 ghost use Rattle.avro_resolve.specs.Inside.Asked.{Asked, AreAsked, IsSourceAsked};
 ghost use Rattle.avro_resolve.specs.Inside.Walking.{Ready, Tells};
 
-use crate::agreeing::agree;
 use crate::fields::source_of;
 use crate::lookups::Lookup;
 use crate::sides::Side;
-use crate::walk::{Answer, Walk, fail_pair, is_marked, open_pair};
+use crate::walk::{Answer, Walk, agree_once, fail_pair, is_marked, open_pair};
 use avro_nodes::{Field, Node};
 use std::alloc::AllocError;
 
@@ -119,6 +119,8 @@ fn fits(
     requires ready { Ready (nodes_of writer.now) (nodes_of reader.now) depth walk.old }
     requires a_at { slice_get writer.now.schema.now at.0 ≡ Some a.now }
     requires b_at { slice_get reader.now.schema.now at.1 ≡ Some b.now }
+    requires a_view { slice_get (nodes_of writer.now) at.0 ≡ Some (node_view a.now) }
+    requires b_view { slice_get (nodes_of reader.now) at.1 ≡ Some (node_view b.now) }
     requires a_in { Names (length (nodes_of writer.now)) (node_view a.now) }
     requires b_in { Names (length (nodes_of reader.now)) (node_view b.now) }
     requires i_in { at.0 < length (nodes_of writer.now) }
@@ -128,9 +130,38 @@ fn fits(
         (Fits (member walk.new.assumed.items) at.0 at.1 (node_view a.now) (node_view b.now))
         (Fits (without walk.new.failed.items) at.0 at.1 (node_view a.now) (node_view b.now) → ⊥) answer) }
 {
-    if !agree(a, b, reader.lookup(at.1, b)) {
+    if !agree_once(writer, reader, a, b, at, depth, walk)? {
         return Ok(Answer::No);
     }
+    parts_fit(writer, reader, a, b, at, depth, walk)
+}
+
+/// Whether the pair of these nodes, which agree, is supported by the pairs that it asks for.
+#[cycle(walk)]
+fn parts_fit(
+    writer: &Side,
+    reader: &Side,
+    a: &Node,
+    b: &Node,
+    at: (u32, u32),
+    depth: usize,
+    walk: &mut Walk,
+) -> Result<Answer, AllocError>
+    requires writer { IsSide writer.now }
+    requires reader { IsSide reader.now }
+    requires ready { Ready (nodes_of writer.now) (nodes_of reader.now) depth walk.old }
+    requires a_at { slice_get writer.now.schema.now at.0 ≡ Some a.now }
+    requires b_at { slice_get reader.now.schema.now at.1 ≡ Some b.now }
+    requires a_in { Names (length (nodes_of writer.now)) (node_view a.now) }
+    requires b_in { Names (length (nodes_of reader.now)) (node_view b.now) }
+    requires i_in { at.0 < length (nodes_of writer.now) }
+    requires j_in { at.1 < length (nodes_of reader.now) }
+    requires asked { AreAsked (nodes_of writer.now) (nodes_of reader.now) at.0 at.1 (node_view a.now) (node_view b.now) }
+    requires agreed { Agree (node_view a.now) (node_view b.now) }
+    ensures { IfOk result (λ answer. Tells (nodes_of writer.now) (nodes_of reader.now) depth walk.old walk.new
+        (Fits (member walk.new.assumed.items) at.0 at.1 (node_view a.now) (node_view b.now))
+        (Fits (without walk.new.failed.items) at.0 at.1 (node_view a.now) (node_view b.now) → ⊥) answer) }
+{
     match (a, b) {
         (Node::Union { branches }, _) => all_asked(writer, reader, branches, at.1, depth, walk),
         (_, Node::Union { branches }) => any_asked(writer, reader, at.0, branches, depth, walk),

@@ -30,6 +30,7 @@ pub fn walk_roots(
         failed: Vec::new(alloc),
         assumed_set: PairSet::none(alloc, columns),
         failed_set: PairSet::none(alloc, columns),
+        agreed_set: PairSet::none(alloc, columns),
         visits: 0,
     };
     let lookups = lookups_of(alloc, Sought::Fields, writer)?;
