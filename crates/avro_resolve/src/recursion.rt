@@ -16,15 +16,12 @@ ghost use Rattle.avro_resolve.specs.Inside.Walking.{Ready, Tells};
 use crate::fields::source_of;
 use crate::lookups::Lookup;
 use crate::sides::Side;
-use crate::walk::{Answer, Walk, agree_once, fail_pair, is_marked, open_pair};
+use crate::walk::{Answer, Walk, agree_once, fail_pair, is_long, is_marked, open_pair};
 use avro_nodes::{Field, Node};
 use std::alloc::AllocError;
 
 /// The most pairs that are open at once.
 const MAX_OPEN: usize = 1000;
-
-/// The most pairs that are opened, one after the other.
-const MAX_VISITS: u128 = 1_000_000;
 
 /// The node at a place, which names places of nodes.
 fn node_in<'a>(side: &'a Side, place: u32) -> &'a Node
@@ -66,6 +63,7 @@ pub fn ask(
     j: u32,
     depth: usize,
     walk: &mut Walk,
+    looks: &mut u64,
 ) -> Result<Answer, AllocError>
     requires writer { IsSide writer.now }
     requires reader { IsSide reader.now }
@@ -86,13 +84,13 @@ pub fn ask(
     if depth == MAX_OPEN {
         return Ok(Answer::Unfinished);
     }
-    if walk.visits >= MAX_VISITS {
+    if is_long(walk, *looks) {
         return Ok(Answer::Unfinished);
     }
     let mark = walk.assumed.len();
     open_pair(writer, reader, i, j, depth, walk)?;
     let (a, b) = (node_in(writer, i), node_in(reader, j));
-    match fits(writer, reader, a, b, (i, j), depth + 1, walk)? {
+    match fits(writer, reader, a, b, (i, j), depth + 1, walk, looks)? {
         Answer::Yes => Ok(Answer::Yes),
         Answer::No => {
             fail_pair(i, j, mark, walk)?;
@@ -113,6 +111,7 @@ fn fits(
     at: (u32, u32),
     depth: usize,
     walk: &mut Walk,
+    looks: &mut u64,
 ) -> Result<Answer, AllocError>
     requires writer { IsSide writer.now }
     requires reader { IsSide reader.now }
@@ -133,7 +132,7 @@ fn fits(
     if !agree_once(writer, reader, a, b, at, depth, walk)? {
         return Ok(Answer::No);
     }
-    parts_fit(writer, reader, a, b, at, depth, walk)
+    parts_fit(writer, reader, a, b, at, depth, walk, looks)
 }
 
 /// Whether the pair of these nodes, which agree, is supported by the pairs that it asks for.
@@ -146,6 +145,7 @@ fn parts_fit(
     at: (u32, u32),
     depth: usize,
     walk: &mut Walk,
+    looks: &mut u64,
 ) -> Result<Answer, AllocError>
     requires writer { IsSide writer.now }
     requires reader { IsSide reader.now }
@@ -163,17 +163,21 @@ fn parts_fit(
         (Fits (without walk.new.failed.items) at.0 at.1 (node_view a.now) (node_view b.now) → ⊥) answer) }
 {
     match (a, b) {
-        (Node::Union { branches }, _) => all_asked(writer, reader, branches, at.1, depth, walk),
-        (_, Node::Union { branches }) => any_asked(writer, reader, at.0, branches, depth, walk),
+        (Node::Union { branches }, _) => all_asked(
+            writer, reader, branches, at.1, depth, walk, looks,
+        ),
+        (_, Node::Union { branches }) => any_asked(
+            writer, reader, at.0, branches, depth, walk, looks,
+        ),
         (Node::Array { items: p, .. }, Node::Array { items: q, .. }) => {
-            ask(writer, reader, *p, *q, depth, walk)
+            ask(writer, reader, *p, *q, depth, walk, looks)
         }
         (Node::Map { values: p, .. }, Node::Map { values: q, .. }) => {
-            ask(writer, reader, *p, *q, depth, walk)
+            ask(writer, reader, *p, *q, depth, walk, looks)
         }
         (Node::Rec { fields, .. }, Node::Rec { fields: wanted, .. }) => {
             let sources = writer.lookup(at.0, a);
-            all_readable(writer, reader, fields, sources, wanted, depth, walk)
+            all_readable(writer, reader, fields, sources, wanted, depth, walk, looks)
         }
         _ => Ok(Answer::Yes),
     }
@@ -188,6 +192,7 @@ fn all_asked(
     j: u32,
     depth: usize,
     walk: &mut Walk,
+    looks: &mut u64,
 ) -> Result<Answer, AllocError>
     requires writer { IsSide writer.now }
     requires reader { IsSide reader.now }
@@ -200,7 +205,7 @@ fn all_asked(
         (Any (λ p. IsTrue (member walk.new.failed.items p j)) places.now) answer) }
 {
     for p in places {
-        match ask(writer, reader, *p, j, depth, walk)? {
+        match ask(writer, reader, *p, j, depth, walk, looks)? {
             Answer::Yes => {}
             Answer::No => return Ok(Answer::No),
             Answer::Unfinished => return Ok(Answer::Unfinished),
@@ -218,6 +223,7 @@ fn any_asked(
     places: &[u32],
     depth: usize,
     walk: &mut Walk,
+    looks: &mut u64,
 ) -> Result<Answer, AllocError>
     requires writer { IsSide writer.now }
     requires reader { IsSide reader.now }
@@ -230,7 +236,7 @@ fn any_asked(
         (All (λ p. IsTrue (member walk.new.failed.items i p)) places.now) answer) }
 {
     for p in places {
-        match ask(writer, reader, i, *p, depth, walk)? {
+        match ask(writer, reader, i, *p, depth, walk, looks)? {
             Answer::Yes => return Ok(Answer::Yes),
             Answer::No => {}
             Answer::Unfinished => return Ok(Answer::Unfinished),
@@ -249,6 +255,7 @@ fn all_readable(
     wanted: &[Field],
     depth: usize,
     walk: &mut Walk,
+    looks: &mut u64,
 ) -> Result<Answer, AllocError>
     requires writer { IsSide writer.now }
     requires reader { IsSide reader.now }
@@ -262,8 +269,11 @@ fn all_readable(
         (Any (λ f. Readable (without walk.new.failed.items) (map field_view fields.now) (field_view f) → ⊥) wanted.now) answer) }
 {
     for f in wanted {
+        *looks = looks
+            .saturating_add(f.aliases.len() as u64)
+            .saturating_add(1);
         match source_in(writer, reader, fields, sources, f) {
-            Some(p) => match ask(writer, reader, p, f.place, depth, walk)? {
+            Some(p) => match ask(writer, reader, p, f.place, depth, walk, looks)? {
                 Answer::Yes => {}
                 Answer::No => return Ok(Answer::No),
                 Answer::Unfinished => return Ok(Answer::Unfinished),

@@ -43,6 +43,7 @@ pub fn walk_roots(
         schema: reader,
         lookups,
     };
-    let answer = ask(&written, &read, 0, 0, 0, &mut walk)?;
+    let mut looks = 0;
+    let answer = ask(&written, &read, 0, 0, 0, &mut walk, &mut looks)?;
     Ok((answer, walk.visits))
 }

@@ -42,6 +42,20 @@ pub struct Walk {
     pub visits: u128,
 }
 
+/// The most pairs that are opened, one after the other.
+const MAX_VISITS: u128 = 1_000_000;
+
+/// The most names and symbols that are looked up, once a thousand pairs were opened.
+const MAX_LOOKS: u64 = 4_000_000;
+
+/// Whether so much was done that striking out takes less: each pair is looked at once there, and
+/// here as often as it is taken back.
+pub fn is_long(walk: &Walk, looks: u64) -> bool
+    ensures { IsTrue result → 1000 ≤ walk.now.visits }
+{
+    walk.visits >= MAX_VISITS || walk.visits >= 1000 && looks >= MAX_LOOKS
+}
+
 /// Whether the pair is one of a list, whose pairs this set has.
 pub fn is_marked(set: &PairSet, pairs: &[(u16, u16)], i: u32, j: u32) -> bool
     requires marks { Marks set.now.readers set.now pairs.now }
