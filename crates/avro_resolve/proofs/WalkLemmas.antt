@@ -12,7 +12,8 @@ use Rattle.avro_resolve.specs.Resolution.{Pairs, Supports, Readable, source}
 use Rattle.avro_resolve.specs.Witnesses.{Pair, member, without}
 use Rattle.avro_resolve.specs.Asking.{source_place, Asks, AsksFor}
 use Rattle.avro_resolve.specs.Inside.Asked.{Asked, AreAsked, IsSourceAsked}
-use Rattle.avro_resolve.specs.Inside.Walking.{Marks, Good, Grown, HasGrown, Ready, Tells}
+use Rattle.avro_resolve.specs.declared.pair_set.PairSet.{PairSet}
+use Rattle.avro_resolve.specs.Inside.Walking.{Marks, AreAgreed, Good, Grown, HasGrown, Ready, Tells}
 use Rattle.avro_resolve.proofs.Monotone.{Within}
 use Rattle.avro_resolve.proofs.SupportLemmas.{all_of}
 use Rattle.avro_resolve.proofs.WalkSteps.{grown_same, grown_then, more, opened_yes, opened_no, grown_no, bounded}
@@ -97,7 +98,7 @@ pub ask_yes : (w r : List NodeView) (d : ℕ) (s u v : Walk) (i j : ℕ) → Rea
     → Ready w r d v × HasGrown w r s v × IsTrue (member v.assumed.items i j)
 ask_yes w r d s u v i j ready e f after g h =
     let grown = from_opened w r s u v i j e f g in (
-      record { writer = ready.writer; reader = ready.reader; small = ready.small; low = ready.low; opened = (let o = after.opened in omega (arith, o)); good = after.good; assumed = after.assumed; failed = after.failed },
+      record { writer = ready.writer; reader = ready.reader; small = ready.small; low = ready.low; opened = (let o = after.opened in omega (arith, o)); good = after.good; assumed = after.assumed; failed = after.failed; agreed = after.agreed },
       opened_yes w r s.assumed.items s.failed.items v.assumed.items v.failed.items i j grown h,
       more w r (s.assumed.items ++ (i, j) ∷ []) s.failed.items v.assumed.items v.failed.items grown i j (member_last s.assumed.items i j),
     )
@@ -105,9 +106,9 @@ ask_yes w r d s u v i j ready e f after g h =
 -- one that isn't fails, and what was assumed since is taken back
 pub ask_no : (w r : List NodeView) (d : ℕ) (s u v x : Walk) (i j : ℕ) → Ready w r d s → Asked w r i j → member s.assumed.items i j ≡ false → u.assumed.items ≡ s.assumed.items ++ (i, j) ∷ [] → u.failed.items ≡ s.failed.items → Ready w r (d + 1) v → HasGrown w r u v → (Supports w r (without v.failed.items) i j → ⊥)
     → x.assumed.items ≡ take (length s.assumed.items) v.assumed.items → x.failed.items ≡ v.failed.items ++ (i, j) ∷ [] → x.visits ≡ v.visits
-    → Marks (length r) x.assumed_set x.assumed.items → Marks (length r) x.failed_set x.failed.items
+    → Marks (length r) x.assumed_set x.assumed.items → Marks (length r) x.failed_set x.failed.items → x.agreed_set ≡ v.agreed_set
     → Ready w r d x × HasGrown w r s x × ((x.assumed.items ≡ s.assumed.items) × IsTrue (member x.failed.items i j))
-ask_no w r d s u v x i j ready asked out e f after g never back fails visits marks marks2 =
+ask_no w r d s u v x i j ready asked out e f after g never back fails visits marks marks2 same_set =
     let grown = from_opened w r s u v i j e f g in
     let same : x.assumed.items ≡ s.assumed.items = back ∙ front_of s.assumed.items v.assumed.items i j grown.longer grown.front in
     let good = opened_no w r s.assumed.items s.failed.items v.assumed.items v.failed.items s.visits v.visits i j ready.good after.good grown asked out never in
@@ -121,6 +122,7 @@ ask_no w r d s u v x i j ready asked out e f after g never back fails visits mar
         good = subst (λ (y : List Pair). Good w r y x.failed.items x.visits) (sym same) (subst (λ (y : List Pair). Good w r s.assumed.items y x.visits) (sym fails) (subst (λ (n : ℕ). Good w r s.assumed.items (v.failed.items ++ (i, j) ∷ []) n) (sym visits) good));
         assumed = marks;
         failed = marks2;
+        agreed = subst (λ (set : PairSet). AreAgreed w r set) (sym same_set) after.agreed;
       },
       subst (λ (y : List Pair). Grown w r s.assumed.items s.failed.items y x.failed.items) (sym same) (subst (λ (y : List Pair). Grown w r s.assumed.items s.failed.items s.assumed.items y) (sym fails) next),
       (same, subst (λ (y : List Pair). member y i j ≡ true) (sym fails) (member_last v.failed.items i j)),
@@ -150,6 +152,16 @@ pub tells_on : (w r : List NodeView) (d : ℕ) (s t : Walk) (H L H2 L2 : Type 0)
 tells_on w r d s t H L H2 L2 f g Yes h = (h.0, h.1, f h.2)
 tells_on w r d s t H L H2 L2 f g No h = (h.0, h.1, g h.2)
 tells_on w r d s t H L H2 L2 f g Unfinished h = h
+
+-- what has grown from a state has grown from one with the same pairs
+pub grown_from : (w r : List NodeView) (s u t : Walk) → u.assumed.items ≡ s.assumed.items → u.failed.items ≡ s.failed.items → HasGrown w r u t → HasGrown w r s t
+grown_from w r s u t e f g =
+    subst (λ (x : List Pair). Grown w r x s.failed.items t.assumed.items t.failed.items) e (subst (λ (y : List Pair). Grown w r u.assumed.items y t.assumed.items t.failed.items) f g)
+
+pub tells_from : (w r : List NodeView) (d : ℕ) (s u t : Walk) (H L : Type 0) → u.assumed.items ≡ s.assumed.items → u.failed.items ≡ s.failed.items → (answer : Answer) → Tells w r d u t H L answer → Tells w r d s t H L answer
+tells_from w r d s u t H L e f Yes h = (h.0, grown_from w r s u t e f h.1, h.2)
+tells_from w r d s u t H L e f No h = (h.0, grown_from w r s u t e f h.1, h.2)
+tells_from w r d s u t H L e f Unfinished h = h
 
 pub told_ok : {E : Type 0} (x : Result Answer E) (P Q : Answer → Type 0) → ((answer : Answer) → P answer → Q answer) → IfOk x P → IfOk x Q
 told_ok (Ok answer) P Q f h = f answer h

@@ -4,6 +4,7 @@
 ghost use Rattle.std.specs.Prelude.{◌≡◌, ℕ, ◌<◌, false, true, map, Some, IfSome, IfNone, None, slice_get, length, All, Any, IsTrue, IfOk};
 ghost use Rattle.avro_nodes.specs.Nodes.{field_view, node_view};
 ghost use Rattle.avro_resolve.specs.Resolution.{source, Readable, Fits};
+ghost use Rattle.avro_resolve.specs.Inside.Agreeing.{Agree};
 ghost use Rattle.avro_resolve.specs.Inside.Places.{Names};
 ghost use Rattle.avro_resolve.specs.Inside.Lookups.{FindsFields};
 ghost use Rattle.avro_resolve.specs.Inside.Sides.{nodes_of, IsSide};
@@ -12,19 +13,15 @@ ghost use Rattle.avro_resolve.specs.Asking.{source_place};
 ghost use Rattle.avro_resolve.specs.Inside.Asked.{Asked, AreAsked, IsSourceAsked};
 ghost use Rattle.avro_resolve.specs.Inside.Walking.{Ready, Tells};
 
-use crate::agreeing::agree;
 use crate::fields::source_of;
 use crate::lookups::Lookup;
 use crate::sides::Side;
-use crate::walk::{Answer, Walk, fail_pair, is_marked, open_pair};
+use crate::walk::{Answer, Walk, agree_once, fail_pair, is_long, is_marked, open_pair};
 use avro_nodes::{Field, Node};
 use std::alloc::AllocError;
 
 /// The most pairs that are open at once.
 const MAX_OPEN: usize = 1000;
-
-/// The most pairs that are opened, one after the other.
-const MAX_VISITS: u128 = 1_000_000;
 
 /// The node at a place, which names places of nodes.
 fn node_in<'a>(side: &'a Side, place: u32) -> &'a Node
@@ -66,6 +63,7 @@ pub fn ask(
     j: u32,
     depth: usize,
     walk: &mut Walk,
+    looks: &mut u64,
 ) -> Result<Answer, AllocError>
     requires writer { IsSide writer.now }
     requires reader { IsSide reader.now }
@@ -86,13 +84,13 @@ pub fn ask(
     if depth == MAX_OPEN {
         return Ok(Answer::Unfinished);
     }
-    if walk.visits >= MAX_VISITS {
+    if is_long(walk, *looks) {
         return Ok(Answer::Unfinished);
     }
     let mark = walk.assumed.len();
     open_pair(writer, reader, i, j, depth, walk)?;
     let (a, b) = (node_in(writer, i), node_in(reader, j));
-    match fits(writer, reader, a, b, (i, j), depth + 1, walk)? {
+    match fits(writer, reader, a, b, (i, j), depth + 1, walk, looks)? {
         Answer::Yes => Ok(Answer::Yes),
         Answer::No => {
             fail_pair(i, j, mark, walk)?;
@@ -113,6 +111,41 @@ fn fits(
     at: (u32, u32),
     depth: usize,
     walk: &mut Walk,
+    looks: &mut u64,
+) -> Result<Answer, AllocError>
+    requires writer { IsSide writer.now }
+    requires reader { IsSide reader.now }
+    requires ready { Ready (nodes_of writer.now) (nodes_of reader.now) depth walk.old }
+    requires a_at { slice_get writer.now.schema.now at.0 ≡ Some a.now }
+    requires b_at { slice_get reader.now.schema.now at.1 ≡ Some b.now }
+    requires a_view { slice_get (nodes_of writer.now) at.0 ≡ Some (node_view a.now) }
+    requires b_view { slice_get (nodes_of reader.now) at.1 ≡ Some (node_view b.now) }
+    requires a_in { Names (length (nodes_of writer.now)) (node_view a.now) }
+    requires b_in { Names (length (nodes_of reader.now)) (node_view b.now) }
+    requires i_in { at.0 < length (nodes_of writer.now) }
+    requires j_in { at.1 < length (nodes_of reader.now) }
+    requires asked { AreAsked (nodes_of writer.now) (nodes_of reader.now) at.0 at.1 (node_view a.now) (node_view b.now) }
+    ensures { IfOk result (λ answer. Tells (nodes_of writer.now) (nodes_of reader.now) depth walk.old walk.new
+        (Fits (member walk.new.assumed.items) at.0 at.1 (node_view a.now) (node_view b.now))
+        (Fits (without walk.new.failed.items) at.0 at.1 (node_view a.now) (node_view b.now) → ⊥) answer) }
+{
+    if !agree_once(writer, reader, a, b, at, depth, walk)? {
+        return Ok(Answer::No);
+    }
+    parts_fit(writer, reader, a, b, at, depth, walk, looks)
+}
+
+/// Whether the pair of these nodes, which agree, is supported by the pairs that it asks for.
+#[cycle(walk)]
+fn parts_fit(
+    writer: &Side,
+    reader: &Side,
+    a: &Node,
+    b: &Node,
+    at: (u32, u32),
+    depth: usize,
+    walk: &mut Walk,
+    looks: &mut u64,
 ) -> Result<Answer, AllocError>
     requires writer { IsSide writer.now }
     requires reader { IsSide reader.now }
@@ -124,25 +157,27 @@ fn fits(
     requires i_in { at.0 < length (nodes_of writer.now) }
     requires j_in { at.1 < length (nodes_of reader.now) }
     requires asked { AreAsked (nodes_of writer.now) (nodes_of reader.now) at.0 at.1 (node_view a.now) (node_view b.now) }
+    requires agreed { Agree (node_view a.now) (node_view b.now) }
     ensures { IfOk result (λ answer. Tells (nodes_of writer.now) (nodes_of reader.now) depth walk.old walk.new
         (Fits (member walk.new.assumed.items) at.0 at.1 (node_view a.now) (node_view b.now))
         (Fits (without walk.new.failed.items) at.0 at.1 (node_view a.now) (node_view b.now) → ⊥) answer) }
 {
-    if !agree(a, b, reader.lookup(at.1, b)) {
-        return Ok(Answer::No);
-    }
     match (a, b) {
-        (Node::Union { branches }, _) => all_asked(writer, reader, branches, at.1, depth, walk),
-        (_, Node::Union { branches }) => any_asked(writer, reader, at.0, branches, depth, walk),
+        (Node::Union { branches }, _) => all_asked(
+            writer, reader, branches, at.1, depth, walk, looks,
+        ),
+        (_, Node::Union { branches }) => any_asked(
+            writer, reader, at.0, branches, depth, walk, looks,
+        ),
         (Node::Array { items: p, .. }, Node::Array { items: q, .. }) => {
-            ask(writer, reader, *p, *q, depth, walk)
+            ask(writer, reader, *p, *q, depth, walk, looks)
         }
         (Node::Map { values: p, .. }, Node::Map { values: q, .. }) => {
-            ask(writer, reader, *p, *q, depth, walk)
+            ask(writer, reader, *p, *q, depth, walk, looks)
         }
         (Node::Rec { fields, .. }, Node::Rec { fields: wanted, .. }) => {
             let sources = writer.lookup(at.0, a);
-            all_readable(writer, reader, fields, sources, wanted, depth, walk)
+            all_readable(writer, reader, fields, sources, wanted, depth, walk, looks)
         }
         _ => Ok(Answer::Yes),
     }
@@ -157,6 +192,7 @@ fn all_asked(
     j: u32,
     depth: usize,
     walk: &mut Walk,
+    looks: &mut u64,
 ) -> Result<Answer, AllocError>
     requires writer { IsSide writer.now }
     requires reader { IsSide reader.now }
@@ -169,7 +205,7 @@ fn all_asked(
         (Any (λ p. IsTrue (member walk.new.failed.items p j)) places.now) answer) }
 {
     for p in places {
-        match ask(writer, reader, *p, j, depth, walk)? {
+        match ask(writer, reader, *p, j, depth, walk, looks)? {
             Answer::Yes => {}
             Answer::No => return Ok(Answer::No),
             Answer::Unfinished => return Ok(Answer::Unfinished),
@@ -187,6 +223,7 @@ fn any_asked(
     places: &[u32],
     depth: usize,
     walk: &mut Walk,
+    looks: &mut u64,
 ) -> Result<Answer, AllocError>
     requires writer { IsSide writer.now }
     requires reader { IsSide reader.now }
@@ -199,7 +236,7 @@ fn any_asked(
         (All (λ p. IsTrue (member walk.new.failed.items i p)) places.now) answer) }
 {
     for p in places {
-        match ask(writer, reader, i, *p, depth, walk)? {
+        match ask(writer, reader, i, *p, depth, walk, looks)? {
             Answer::Yes => return Ok(Answer::Yes),
             Answer::No => {}
             Answer::Unfinished => return Ok(Answer::Unfinished),
@@ -218,6 +255,7 @@ fn all_readable(
     wanted: &[Field],
     depth: usize,
     walk: &mut Walk,
+    looks: &mut u64,
 ) -> Result<Answer, AllocError>
     requires writer { IsSide writer.now }
     requires reader { IsSide reader.now }
@@ -231,8 +269,11 @@ fn all_readable(
         (Any (λ f. Readable (without walk.new.failed.items) (map field_view fields.now) (field_view f) → ⊥) wanted.now) answer) }
 {
     for f in wanted {
+        *looks = looks
+            .saturating_add(f.aliases.len() as u64)
+            .saturating_add(1);
         match source_in(writer, reader, fields, sources, f) {
-            Some(p) => match ask(writer, reader, p, f.place, depth, walk)? {
+            Some(p) => match ask(writer, reader, p, f.place, depth, walk, looks)? {
                 Answer::Yes => {}
                 Answer::No => return Ok(Answer::No),
                 Answer::Unfinished => return Ok(Answer::Unfinished),

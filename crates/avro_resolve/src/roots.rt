@@ -30,6 +30,7 @@ pub fn walk_roots(
         failed: Vec::new(alloc),
         assumed_set: PairSet::none(alloc, columns),
         failed_set: PairSet::none(alloc, columns),
+        agreed_set: PairSet::none(alloc, columns),
         visits: 0,
     };
     let lookups = lookups_of(alloc, Sought::Fields, writer)?;
@@ -42,6 +43,7 @@ pub fn walk_roots(
         schema: reader,
         lookups,
     };
-    let answer = ask(&written, &read, 0, 0, 0, &mut walk)?;
+    let mut looks = 0;
+    let answer = ask(&written, &read, 0, 0, 0, &mut walk, &mut looks)?;
     Ok((answer, walk.visits))
 }

@@ -1,13 +1,17 @@
 //! What the recursion keeps: the pairs that are assumed, and those that have failed.
 
-ghost use Rattle.std.specs.Prelude.{◌≡◌, ◌+◌, ◌<◌, ◌≤◌, ◌++◌, ◌∷◌, [], false, take, length, OnOk};
+ghost use Rattle.std.specs.Prelude.{◌≡◌, ◌↔◌, ◌+◌, ◌<◌, ◌≤◌, ◌++◌, ◌∷◌, [], false, take, length, slice_get, Some, IsTrue, IfOk, OnOk};
+ghost use Rattle.avro_nodes.specs.Nodes.{node_view};
+ghost use Rattle.avro_resolve.specs.Inside.Agreeing.{Agree};
 ghost use Rattle.avro_resolve.specs.Witnesses.{member, Differ};
 ghost use Rattle.avro_resolve.specs.Inside.Asked.{Asked};
-ghost use Rattle.avro_resolve.specs.Inside.Sides.{nodes_of};
+ghost use Rattle.avro_resolve.specs.Inside.Sides.{nodes_of, IsSide};
 ghost use Rattle.avro_resolve.specs.Inside.Walking.{Marks, Ready};
 
+use crate::agreeing::agree;
 use crate::pair_set::PairSet;
 use crate::sides::Side;
+use avro_nodes::Node;
 use std::alloc::AllocError;
 
 /// Whether a pair is supported, as far as the recursion goes.
@@ -32,8 +36,24 @@ pub struct Walk {
     pub assumed_set: PairSet,
     /// the failed ones, as a set
     pub failed_set: PairSet,
+    /// those whose nodes were seen to agree, whatever became of them
+    pub agreed_set: PairSet,
     /// how many pairs were opened
     pub visits: u128,
+}
+
+/// The most pairs that are opened, one after the other.
+const MAX_VISITS: u128 = 1_000_000;
+
+/// The most names and symbols that are looked up, once a thousand pairs were opened.
+const MAX_LOOKS: u64 = 4_000_000;
+
+/// Whether so much was done that striking out takes less: each pair is looked at once there, and
+/// here as often as it is taken back.
+pub fn is_long(walk: &Walk, looks: u64) -> bool
+    ensures { IsTrue result → 1000 ≤ walk.now.visits }
+{
+    walk.visits >= MAX_VISITS || walk.visits >= 1000 && looks >= MAX_LOOKS
 }
 
 /// Whether the pair is one of a list, whose pairs this set has.
@@ -75,6 +95,39 @@ pub fn open_pair(
     Ok(())
 }
 
+/// Whether the nodes of a pair agree. Those that do are remembered, so that a pair that is opened
+/// again after it was taken back isn't compared again: it may have many symbols.
+pub fn agree_once(
+    writer: &Side,
+    reader: &Side,
+    a: &Node,
+    b: &Node,
+    at: (u32, u32),
+    depth: usize,
+    walk: &mut Walk,
+) -> Result<bool, AllocError>
+    requires reader { IsSide reader.now }
+    requires ready { Ready (nodes_of writer.now) (nodes_of reader.now) depth walk.old }
+    requires a_at { slice_get (nodes_of writer.now) at.0 ≡ Some (node_view a.now) }
+    requires b_at { slice_get (nodes_of reader.now) at.1 ≡ Some (node_view b.now) }
+    requires b_is { slice_get reader.now.schema.now at.1 ≡ Some b.now }
+    requires j_in { at.1 < length (nodes_of reader.now) }
+    ensures agree { IfOk result (λ yes. IsTrue yes ↔ Agree (node_view a.now) (node_view b.now)) }
+    ensures ready { OnOk result (Ready (nodes_of writer.now) (nodes_of reader.now) depth walk.new) }
+    ensures assumed { OnOk result (walk.new.assumed.items ≡ walk.old.assumed.items) }
+    ensures failed { OnOk result (walk.new.failed.items ≡ walk.old.failed.items) }
+{
+    let _writer = writer;
+    if walk.agreed_set.has(at.0, at.1) {
+        return Ok(true);
+    }
+    if !agree(a, b, reader.lookup(at.1, b)) {
+        return Ok(false);
+    }
+    walk.agreed_set.insert(at.0, at.1)?;
+    Ok(true)
+}
+
 /// Takes back what was assumed after so many pairs.
 fn take_back(mark: usize, assumed: &mut Vec<(u16, u16)>, set: &mut PairSet)
     requires marks { Marks set.old.readers set.old assumed.old.items }
@@ -101,6 +154,7 @@ pub fn fail_pair(i: u32, j: u32, mark: usize, walk: &mut Walk) -> Result<(), All
     ensures assumed { OnOk result (walk.new.assumed.items ≡ take mark walk.old.assumed.items) }
     ensures failed { OnOk result (walk.new.failed.items ≡ walk.old.failed.items ++ (i, j) ∷ []) }
     ensures visits { OnOk result (walk.new.visits ≡ walk.old.visits) }
+    ensures agreed { OnOk result (walk.new.agreed_set ≡ walk.old.agreed_set) }
     ensures assumed_marks { OnOk result (Marks walk.old.assumed_set.readers walk.new.assumed_set walk.new.assumed.items) }
     ensures failed_marks { OnOk result (Marks walk.old.failed_set.readers walk.new.failed_set walk.new.failed.items) }
 {

@@ -13,7 +13,7 @@ use Rattle.avro_resolve.proofs.Agreement.{fits_agree}
 use Rattle.avro_resolve.proofs.MarkLemmas.{marks_at}
 use Rattle.avro_resolve.proofs.Monotone.{supports_at}
 use Rattle.avro_resolve.proofs.SupportLemmas.{all_of}
-use Rattle.avro_resolve.proofs.WalkLemmas.{asked_on, grown0, grown2, within2, readable_source, readable_default, held_more, ask_yes, ask_no, not_failed, not_without, tells_on, told_ok, any_never, fields_asked, some_mapped}
+use Rattle.avro_resolve.proofs.WalkLemmas.{asked_on, grown0, grown2, within2, readable_source, readable_default, held_more, ask_yes, ask_no, not_failed, not_without, tells_on, tells_from, grown_from, told_ok, any_never, fields_asked, some_mapped}
 use Rattle.avro_resolve.proofs.recursion.+walk.Goals as goal
 use Rattle.avro_resolve.proofs.recursion.+walk.Goals.{all_readable-in-Some+in_ok-ask-in-Some+in-Yes, all_readable-in-None+else-is_none}
 
@@ -46,10 +46,10 @@ ask-returns-in_ok-fail_pair-in-No t c =
     (λ h. told.2 ((supports_at w r (without v.failed.items) c.args.i c.args.j (node_view c.node_in-a.result.now) (node_view c.node_in-b.result.now) c.node_in-a.ensures.at c.node_in-b.ensures.at).0 h))
     (subst (λ (n : ℕ). x.assumed.items ≡ take n v.assumed.items) mark after.assumed) after.failed after.visits
     (marks_at _ (length r) x.assumed_set x.assumed.items after.assumed_marks told.0.assumed.readers)
-    (marks_at _ (length r) x.failed_set x.failed.items after.failed_marks told.0.failed.readers)
+    (marks_at _ (length r) x.failed_set x.failed.items after.failed_marks told.0.failed.readers) after.agreed
 
-pub fits-all_readable-requires : goal.fits-all_readable-requires
-fits-all_readable-requires t c =
+pub parts_fit-all_readable-requires : goal.parts_fit-all_readable-requires
+parts_fit-all_readable-requires t c =
     let w = nodes_view c.args.writer.now.schema.now in let r = nodes_view c.args.reader.now.schema.now in let fs = c.in-Rec-Rec.fields.items in let gs = c.in-Rec-Rec.wanted.items in
     let e = sym c.deref-in-Rec-Rec.ensures.value in let e2 = sym c.deref-in-Rec-Rec-2.ensures.value in
     let sources : IfSome c.lookup-sources.result (λ t. FindsFields t.now c.deref-in-Rec-Rec.result.now) = subst (λ (xs : List Field). IfSome c.lookup-sources.result (λ t. FindsFields t.now xs)) e (rw c.in-Rec-Rec.is-0 at c.lookup-sources.ensures) in
@@ -60,16 +60,23 @@ fits-all_readable-requires t c =
     subst (λ (xs : List Field). All (λ (f : Field). IsSourceAsked w r (map field_view xs) (field_view f)) c.deref-in-Rec-Rec-2.result.now) e (subst (λ (ys : List Field). All (λ (f : Field). IsSourceAsked w r (map field_view fs) (field_view f)) ys) e2 asked0) in
     search rules
 
-pub fits-returns-then-not-agree : goal.fits-returns-then-not-agree
-fits-returns-then-not-agree t c =
-    let w = nodes_view c.args.writer.now.schema.now in let r = nodes_view c.args.reader.now.schema.now in let s = c.args.walk.now in
-    (c.requires.ready, grown0 w r s, (λ h. true≢false (sym (c.agree.ensures.1 (fits_agree (without s.failed.items) c.args.at.0 c.args.at.1 (node_view c.args.a.now) (node_view c.args.b.now) h)) ∙ c.if-not-agree.true)))
+pub fits-returns-then-not-branch : goal.fits-returns-then-not-branch
+fits-returns-then-not-branch t c =
+    let w = nodes_view c.args.writer.now.schema.now in let r = nodes_view c.args.reader.now.schema.now in let s = c.args.walk.now in let u = c.agree_once.new.walk in
+    let told = c.in_ok-agree_once.ensures in
+    (told.ready, grown_from w r s u u told.assumed told.failed (grown0 w r u), (λ h. true≢false (sym (told.agree.1 (fits_agree (without u.failed.items) c.args.at.0 c.args.at.1 (node_view c.args.a.now) (node_view c.args.b.now) h)) ∙ c.if-not-branch.true)))
 
-pub fits-returns-in-Rec-Rec : goal.fits-returns-in-Rec-Rec
-fits-returns-in-Rec-Rec t c =
+pub fits-returns : goal.fits-returns
+fits-returns t c =
+    let w = nodes_view c.args.writer.now.schema.now in let r = nodes_view c.args.reader.now.schema.now in let s = c.args.walk.now in let u = c.agree_once.new.walk in let v = c.parts_fit.new.walk in
+    let told = c.in_ok-agree_once.ensures in
+    told_ok c.parts_fit.result _ _ (λ answer. tells_from w r c.args.depth s u v _ _ told.assumed told.failed answer) c.parts_fit.ensures
+
+pub parts_fit-returns-in-Rec-Rec : goal.parts_fit-returns-in-Rec-Rec
+parts_fit-returns-in-Rec-Rec t c =
     let w = nodes_view c.args.writer.now.schema.now in let r = nodes_view c.args.reader.now.schema.now in let s = c.args.walk.now in let v = c.all_readable.new.walk in
     let fs = map field_view c.in-Rec-Rec.fields.items in let gs = c.in-Rec-Rec.wanted.items in
-    let names = rw (c.in-Rec-Rec.is-0, c.in-Rec-Rec.is-1) at (c.agree.ensures.0 c.if-not-agree.false) in
+    let names = rw (c.in-Rec-Rec.is-0, c.in-Rec-Rec.is-1) at c.requires.agreed in
     let told = rw (c.deref-in-Rec-Rec.ensures.value, c.deref-in-Rec-Rec-2.ensures.value) at c.all_readable.ensures in
     rw (c.in-Rec-Rec.is-0, c.in-Rec-Rec.is-1) (told_ok c.all_readable.result _ _ (λ answer. tells_on w r c.args.depth s v _ _ _ _ (λ h. (names, All-map (Readable (member v.assumed.items) fs) field_view gs h)) (λ l h. any_never (Readable (without v.failed.items) fs) gs l h.1) answer) told)
 

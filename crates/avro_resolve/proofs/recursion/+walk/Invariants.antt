@@ -6,19 +6,22 @@ use Rattle.avro_resolve.specs.Inside.Walking.{Ready, HasGrown}
 use Rattle.avro_resolve.proofs.recursion.+walk.Given as goal
 
 abbrev pub decreases-ask : goal.decreases-ask
-decreases-ask l = 3 * (1000 - l.depth)
+decreases-ask l = 4 * (1000 - l.depth)
 
 abbrev pub decreases-fits : goal.decreases-fits
-decreases-fits l = 3 * (1000 - l.depth) + 2
+decreases-fits l = 4 * (1000 - l.depth) + 3
+
+abbrev pub decreases-parts_fit : goal.decreases-parts_fit
+decreases-parts_fit l = 4 * (1000 - l.depth) + 2
 
 abbrev pub decreases-all_asked : goal.decreases-all_asked
-decreases-all_asked l = 3 * (1000 - l.depth) + 1
+decreases-all_asked l = 4 * (1000 - l.depth) + 1
 
 abbrev pub decreases-any_asked : goal.decreases-any_asked
-decreases-any_asked l = 3 * (1000 - l.depth) + 1
+decreases-any_asked l = 4 * (1000 - l.depth) + 1
 
 abbrev pub decreases-all_readable : goal.decreases-all_readable
-decreases-all_readable l = 3 * (1000 - l.depth) + 1
+decreases-all_readable l = 4 * (1000 - l.depth) + 1
 
 abbrev pub invariant-all_asked-loop-p : goal.invariant-all_asked-loop-p
 invariant-all_asked-loop-p l = record {

@@ -1,4 +1,4 @@
-use Rattle.std.proofs.Common.{◌≡◌, ◌<◌, [], List, length, sym, subst, ◌∙◌, arith}
+use Rattle.std.proofs.Common.{◌≡◌, ◌<◌, [], List, length, sym, subst, ◌∙◌, true≢false, arith}
 use Rattle.std.proofs.lemmas.List.{length-map}
 use Rattle.avro_nodes.specs.Nodes.{node_view, nodes_view}
 use Rattle.avro_resolve.specs.Witnesses.{Pair}
@@ -42,6 +42,7 @@ ask-requires-clause-ready c =
       good = subst (λ (x : List Pair). Good w r x c.new-2.result.items 0) (sym c.new.ensures.items) (subst (λ (x : List Pair). Good w r [] x 0) (sym c.new-2.ensures.items) (good_start w r));
       assumed = subst (λ (x : List Pair). Marks (length r) c.none.result x) (sym c.new.ensures.items) (marks_none (length r) c.none.result (c.none.ensures.readers ∙ m) c.none.ensures.empty);
       failed = subst (λ (x : List Pair). Marks (length r) c.none-2.result x) (sym c.new-2.ensures.items) (marks_none (length r) c.none-2.result (c.none-2.ensures.readers ∙ m) c.none-2.ensures.empty);
+      agreed = record { readers = c.none-3.ensures.readers ∙ m; agree = λ i j a b l h at at2. absurd (true≢false (sym h ∙ c.none-3.ensures.empty i j)) };
     }
 
 pub ask-requires-clause-i_in : goal.ask-requires-clause-i_in
@@ -54,10 +55,10 @@ pub ask-requires-clause-asked : goal.ask-requires-clause-asked
 ask-requires-clause-asked c = roots_asked (nodes_view c.args.writer.now) (nodes_view c.args.reader.now)
 
 pub returns-clause-shows : goal.returns-clause-shows
-returns-clause-shows c = shown (nodes_view c.args.writer.now) (nodes_view c.args.reader.now) (record { assumed = c.new.result; failed = c.new-2.result; assumed_set = c.none.result; failed_set = c.none-2.result; visits = 0 }) c.ask.new.walk c.new.ensures.items c.new-2.ensures.items c.in_ok-answer.answer c.in_ok-answer.ensures
+returns-clause-shows c = shown (nodes_view c.args.writer.now) (nodes_view c.args.reader.now) (record { assumed = c.new.result; failed = c.new-2.result; assumed_set = c.none.result; failed_set = c.none-2.result; agreed_set = c.none-3.result; visits = 0 }) c.ask.new.walk c.new.ensures.items c.new-2.ensures.items c.in_ok-answer.answer c.in_ok-answer.ensures
 
 pub returns-clause-at_most : goal.returns-clause-at_most
-returns-clause-at_most c = at_most (nodes_view c.args.writer.now) (nodes_view c.args.reader.now) (record { assumed = c.new.result; failed = c.new-2.result; assumed_set = c.none.result; failed_set = c.none-2.result; visits = 0 }) c.ask.new.walk c.new.ensures.items c.new-2.ensures.items c.in_ok-answer.answer c.in_ok-answer.ensures
+returns-clause-at_most c = at_most (nodes_view c.args.writer.now) (nodes_view c.args.reader.now) (record { assumed = c.new.result; failed = c.new-2.result; assumed_set = c.none.result; failed_set = c.none-2.result; agreed_set = c.none-3.result; visits = 0 }) c.ask.new.walk c.new.ensures.items c.new-2.ensures.items c.in_ok-answer.answer c.in_ok-answer.ensures
 
 pub returns-clause-at_least : goal.returns-clause-at_least
-returns-clause-at_least c = at_least (nodes_view c.args.writer.now) (nodes_view c.args.reader.now) (record { assumed = c.new.result; failed = c.new-2.result; assumed_set = c.none.result; failed_set = c.none-2.result; visits = 0 }) c.ask.new.walk c.new.ensures.items c.new-2.ensures.items c.in_ok-answer.answer c.in_ok-answer.ensures
+returns-clause-at_least c = at_least (nodes_view c.args.writer.now) (nodes_view c.args.reader.now) (record { assumed = c.new.result; failed = c.new-2.result; assumed_set = c.none.result; failed_set = c.none-2.result; agreed_set = c.none-3.result; visits = 0 }) c.ask.new.walk c.new.ensures.items c.new-2.ensures.items c.in_ok-answer.answer c.in_ok-answer.ensures

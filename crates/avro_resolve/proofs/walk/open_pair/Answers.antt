@@ -22,4 +22,5 @@ returns-clause-ready c =
       good = subst (λ (x : List Pair). Good w r x s.failed.items (s.visits + 1)) (sym is) (opened w r s.assumed.items s.failed.items s.visits i j ready.good c.requires.asked c.requires.not_assumed c.requires.not_failed);
       assumed = subst (λ (x : List Pair). Marks (length r) c.insert.new.self x) (sym is) (marks_push (length r) s.assumed_set c.insert.new.self s.assumed.items i j ready.assumed c.requires.j_in c.in_ok-insert.ensures.readers c.in_ok-insert.ensures.others);
       failed = ready.failed;
+      agreed = ready.agreed;
     }
