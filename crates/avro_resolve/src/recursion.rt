@@ -15,6 +15,7 @@ ghost use Rattle.avro_resolve.specs.Inside.Walking.{Ready, Tells};
 use crate::agreeing::agree;
 use crate::fields::source_of;
 use crate::lookups::Lookup;
+use crate::names::same_last;
 use crate::sides::Side;
 use crate::walk::{Answer, Walk, fail_pair, is_marked, open_pair};
 use avro_nodes::{Field, Node};
@@ -128,7 +129,7 @@ fn fits(
         (Fits (member walk.new.assumed.items) at.0 at.1 (node_view a.now) (node_view b.now))
         (Fits (without walk.new.failed.items) at.0 at.1 (node_view a.now) (node_view b.now) → ⊥) answer) }
 {
-    if !agree(a, b, reader.lookup(at.1, b)) {
+    if !agree(a, b, reader.lookup(at.1, b), same_last(a, b)) {
         return Ok(Answer::No);
     }
     match (a, b) {

@@ -36,11 +36,13 @@ pub fn walk_roots(
     let written = Side {
         schema: writer,
         lookups,
+        lasts: Vec::new(alloc),
     };
     let lookups = lookups_of(alloc, Sought::Symbols, reader)?;
     let read = Side {
         schema: reader,
         lookups,
+        lasts: Vec::new(alloc),
     };
     let answer = ask(&written, &read, 0, 0, 0, &mut walk)?;
     Ok((answer, walk.visits))
