@@ -1,5 +1,6 @@
 pub mod NameLemmas
 pub mod LookupLemmas
+pub mod NumberLemmas
 pub mod FieldLemmas
 pub mod Flags
 pub mod BitLemmas

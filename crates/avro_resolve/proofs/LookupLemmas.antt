@@ -49,7 +49,7 @@ one_further : {A : Type 0} (x : A) (xs : List A) (y z : A) (i : ℕ) → (slice_
 one_further x xs y z i (inl e) = inl e
 one_further x xs y z i (inr e) = inr (ap suc e.0, e.1)
 
-got_before : {A : Type 0} (xs : List A) (y z : A) (i : ℕ) → slice_get (xs ++ y ∷ []) i ≡ Some z → (slice_get xs i ≡ Some z) ⊎ ((i ≡ length xs) × (y ≡ z))
+pub got_before : {A : Type 0} (xs : List A) (y z : A) (i : ℕ) → slice_get (xs ++ y ∷ []) i ≡ Some z → (slice_get xs i ≡ Some z) ⊎ ((i ≡ length xs) × (y ≡ z))
 got_before [] y z zero e = inr (refl, same_Some _ _ e)
 got_before [] y z (suc i) e = absurd cc
 got_before (x ∷ xs) y z zero e = inl e

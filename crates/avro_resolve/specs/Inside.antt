@@ -3,6 +3,7 @@ pub mod Agreeing
 pub mod Askers
 pub mod Left
 pub mod Lookups
+pub mod Numbers
 pub mod PairSets
 pub mod Places
 pub mod Sides

@@ -3,9 +3,10 @@
 ghost use Rattle.std.specs.Prelude.{◌≡◌, ◌↔◌, ◌⊎◌, IfSome, option_map, string_bytes, All, Contains, IsSome, IsTrue};
 ghost use Rattle.std.specs.List.{list_any, list_all};
 ghost use Rattle.std.specs.Str.{bytes_eq};
+ghost use Rattle.avro_nodes.specs.Names.{last_part};
 ghost use Rattle.avro_nodes.specs.Nodes.{named_view, node_view, texts_view};
 ghost use Rattle.avro_resolve.specs.Resolution.{NameMatch};
-ghost use Rattle.avro_resolve.specs.Inside.Agreeing.{Agree};
+ghost use Rattle.avro_resolve.specs.Inside.Agreeing.{Agree, TellsSameLast};
 ghost use Rattle.avro_resolve.specs.Inside.Lookups.{FindsTexts, IsLookupOf};
 
 use crate::kinds::promotes;
@@ -53,28 +54,32 @@ fn enums_fit(
     wanted: &Named,
     known: &[String],
     lookup: Option<&Lookup>,
+    same: bool,
     fallback: &Option<String>,
 ) -> bool
-    requires { IfSome lookup (λ t. FindsTexts t.now known.now) }
+    requires known { IfSome lookup (λ t. FindsTexts t.now known.now) }
+    requires last { IsTrue same ↔ (last_part (string_bytes named.now.name) ≡ last_part (string_bytes wanted.now.name)) }
     ensures { IsTrue result ↔ (NameMatch (named_view named.now) (named_view wanted.now)
         × (IsSome (option_map string_bytes fallback.now)
         ⊎ All (Contains (texts_view known.now)) (texts_view symbols.now))) }
 {
-    names_match(named, wanted) && symbols_fit(symbols, known, lookup, fallback)
+    names_match(named, wanted, same) && symbols_fit(symbols, known, lookup, fallback)
 }
 
 /// Whether a writer's fixed is read as the reader's: their names match, and their sizes are the
 /// same.
-fn fixed_fit(named: &Named, size: u32, wanted: &Named, wanted_size: u32) -> bool
+fn fixed_fit(named: &Named, size: u32, wanted: &Named, wanted_size: u32, same: bool) -> bool
+    requires { IsTrue same ↔ (last_part (string_bytes named.now.name) ≡ last_part (string_bytes wanted.now.name)) }
     ensures { IsTrue result ↔ (NameMatch (named_view named.now) (named_view wanted.now) × (size ≡ wanted_size)) }
 {
-    names_match(named, wanted) && size == wanted_size
+    names_match(named, wanted, same) && size == wanted_size
 }
 
-/// Whether the nodes agree as far as they say by themselves. What they ask of other pairs isn't
-/// looked at.
-pub fn agree(a: &Node, b: &Node, symbols_known: Option<&Lookup>) -> bool
-    requires { IfSome symbols_known (λ t. IsLookupOf t.now b.now) }
+/// Whether the nodes agree as far as they say by themselves. Whether their names have one last part
+/// is told. What they ask of other pairs isn't looked at.
+pub fn agree(a: &Node, b: &Node, symbols_known: Option<&Lookup>, same: bool) -> bool
+    requires known { IfSome symbols_known (λ t. IsLookupOf t.now b.now) }
+    requires last { TellsSameLast same (node_view a.now) (node_view b.now) }
     ensures { IsTrue result ↔ Agree (node_view a.now) (node_view b.now) }
 {
     match (a, b) {
@@ -93,7 +98,7 @@ pub fn agree(a: &Node, b: &Node, symbols_known: Option<&Lookup>) -> bool
                 fallback,
                 ..
             },
-        ) => enums_fit(named, symbols, wanted, known, symbols_known, fallback),
+        ) => enums_fit(named, symbols, wanted, known, symbols_known, same, fallback),
         (
             Node::Fixed { named, size, .. },
             Node::Fixed {
@@ -101,8 +106,10 @@ pub fn agree(a: &Node, b: &Node, symbols_known: Option<&Lookup>) -> bool
                 size: wanted_size,
                 ..
             },
-        ) => fixed_fit(named, *size, wanted, *wanted_size),
-        (Node::Rec { named, .. }, Node::Rec { named: wanted, .. }) => names_match(named, wanted),
+        ) => fixed_fit(named, *size, wanted, *wanted_size, same),
+        (Node::Rec { named, .. }, Node::Rec { named: wanted, .. }) => {
+            names_match(named, wanted, same)
+        }
         _ => false,
     }
 }

@@ -10,6 +10,7 @@ mod kinds;
 mod looking;
 mod lookups;
 mod names;
+mod numbers;
 mod pair_set;
 mod recursion;
 mod resolving;

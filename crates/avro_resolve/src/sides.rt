@@ -1,6 +1,6 @@
 //! The two sides of a resolution: a writer's schema and a reader's.
 
-ghost use Rattle.std.specs.Prelude.{◌≡◌, ◌<◌, IfSome, slice_get, length, Some};
+ghost use Rattle.std.specs.Prelude.{◌≡◌, ◌<◌, IfSome, slice_get, length, vec_len, Some};
 ghost use Rattle.avro_nodes.specs.Nodes.{node_view};
 ghost use Rattle.avro_resolve.specs.Inside.Lookups.{IsLookupOf};
 ghost use Rattle.avro_resolve.specs.Inside.Sides.{nodes_of, IsSide};
@@ -14,6 +14,8 @@ use avro_schema::Schema;
 pub struct Side<'a> {
     pub schema: &'a Schema,
     pub lookups: Vec<Option<Lookup<'a>>>,
+    /// the numbers of the last parts of the names at the places, where they are made
+    pub lasts: Vec<usize>,
 }
 
 impl<'a> Side<'a> {
@@ -31,6 +33,14 @@ impl<'a> Side<'a> {
         ensures node { slice_get (nodes_of self.now) place ≡ Some (node_view result.now) }
     {
         self.schema.node(place)
+    }
+
+    /// The number of the last part of the name at a place.
+    pub fn last(&self, place: u32) -> usize
+        requires { place < vec_len self.now.lasts }
+        ensures { slice_get self.now.lasts.items place ≡ Some result }
+    {
+        self.lasts[place as usize]
     }
 
     /// The table of the node at a place, where it has one.

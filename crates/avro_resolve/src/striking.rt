@@ -7,10 +7,12 @@ ghost use Rattle.avro_resolve.specs.Resolution.{Closed};
 ghost use Rattle.avro_resolve.specs.Inside.Sides.{nodes_of, IsSide};
 ghost use Rattle.avro_resolve.specs.Inside.Left.{left, IsLeft, IsRest, AllSettled};
 ghost use Rattle.avro_resolve.specs.Inside.Askers.{HasAskers};
+ghost use Rattle.avro_resolve.specs.Inside.Numbers.{AreNumbered};
 
 use crate::askers::{askers, askers_of};
 use crate::looking::{look_across, look_everywhere};
 use crate::lookups::{Sought, lookups_of};
+use crate::numbers::{Numbers, last_numbers};
 use crate::sides::Side;
 use crate::sweeping::sweep;
 use crate::table::Table;
@@ -56,6 +58,7 @@ fn strike_out(
 ) -> Result<(), AllocError>
     requires writer { IsSide writer.now }
     requires reader { IsSide reader.now }
+    requires numbers { AreNumbered writer.now reader.now }
     requires rest { IsLeft (nodes_of writer.now) (nodes_of reader.now) table.old }
     ensures rest { OnOk result (IsLeft (nodes_of writer.now) (nodes_of reader.now) table.new) }
     ensures closed { OnOk result (Closed (nodes_of writer.now) (nodes_of reader.now) (left table.new)) }
@@ -83,15 +86,20 @@ pub fn largest_closed(alloc: Global, writer: &Schema, reader: &Schema) -> Result
 {
     let (rows, columns) = (writer.places() as usize, reader.places() as usize);
     let mut table = Table::all(alloc, rows, columns, has_union(reader))?;
+    let mut numbers = Numbers::none(alloc);
+    let rows_lasts = last_numbers(alloc, &mut numbers, writer)?;
+    let columns_lasts = last_numbers(alloc, &mut numbers, reader)?;
     let lookups = lookups_of(alloc, Sought::Fields, writer)?;
     let written = Side {
         schema: writer,
         lookups,
+        lasts: rows_lasts,
     };
     let lookups = lookups_of(alloc, Sought::Symbols, reader)?;
     let read = Side {
         schema: reader,
         lookups,
+        lasts: columns_lasts,
     };
     strike_out(alloc, &written, &read, &mut table)?;
     Ok(table)

@@ -5,6 +5,7 @@ ghost use Rattle.avro_nodes.specs.Nodes.{field_view, node_view};
 ghost use Rattle.avro_resolve.specs.Resolution.{Pairs, Readable, Fits, Supports};
 ghost use Rattle.avro_resolve.specs.Inside.Agreeing.{Agree};
 ghost use Rattle.avro_resolve.specs.Inside.Lookups.{FindsFields, IsLookupOf};
+ghost use Rattle.avro_resolve.specs.Inside.Numbers.{AreNumbered};
 ghost use Rattle.avro_resolve.specs.Inside.Places.{Names};
 ghost use Rattle.avro_resolve.specs.Inside.Sides.{nodes_of, IsSide};
 ghost use Rattle.avro_resolve.specs.Inside.Left.{left, Agreed, WithinBut, Ignores};
@@ -110,12 +111,14 @@ fn asked_left(a: &Node, sources: Option<&Lookup>, b: &Node, i: u32, j: u32, tabl
 pub fn agree_at(writer: &Side, reader: &Side, i: u32, j: u32) -> bool
     requires writer { IsSide writer.now }
     requires reader { IsSide reader.now }
+    requires numbers { AreNumbered writer.now reader.now }
     requires i_in { i < length writer.now.schema.now }
     requires j_in { j < length reader.now.schema.now }
     ensures { IsTrue result ↔ Agreed (nodes_of writer.now) (nodes_of reader.now) i j }
 {
     let (a, b) = (writer.node(i), reader.node(j));
-    agree(a, b, reader.lookup(j, b))
+    let same_last = writer.last(i) == reader.last(j);
+    agree(a, b, reader.lookup(j, b), same_last)
 }
 
 /// Whether what is left supports the pair of these places, whose nodes agree.

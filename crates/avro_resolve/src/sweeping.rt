@@ -2,6 +2,7 @@
 
 ghost use Rattle.std.specs.Prelude.{ℕ, ◌<◌, IsTrue, length};
 ghost use Rattle.avro_resolve.specs.Inside.Sides.{nodes_of, IsSide};
+ghost use Rattle.avro_resolve.specs.Inside.Numbers.{AreNumbered};
 ghost use Rattle.avro_resolve.specs.Inside.Left.{left, Agreed, IsLeft, IsRest};
 
 use crate::sides::Side;
@@ -12,6 +13,7 @@ use crate::table::Table;
 fn strike_pair(writer: &Side, reader: &Side, i: u32, j: u32, table: &mut Table)
     requires writer { IsSide writer.now }
     requires reader { IsSide reader.now }
+    requires numbers { AreNumbered writer.now reader.now }
     requires rest { IsLeft (nodes_of writer.now) (nodes_of reader.now) table.old }
     requires i_in { i < length writer.now.schema.now }
     requires j_in { j < length reader.now.schema.now }
@@ -28,6 +30,7 @@ fn strike_pair(writer: &Side, reader: &Side, i: u32, j: u32, table: &mut Table)
 fn strike_row(writer: &Side, reader: &Side, i: u32, table: &mut Table)
     requires writer { IsSide writer.now }
     requires reader { IsSide reader.now }
+    requires numbers { AreNumbered writer.now reader.now }
     requires rest { IsLeft (nodes_of writer.now) (nodes_of reader.now) table.old }
     requires i_in { i < length writer.now.schema.now }
     ensures rest { IsLeft (nodes_of writer.now) (nodes_of reader.now) table.new }
@@ -44,6 +47,7 @@ fn strike_row(writer: &Side, reader: &Side, i: u32, table: &mut Table)
 pub fn sweep(writer: &Side, reader: &Side, table: &mut Table)
     requires writer { IsSide writer.now }
     requires reader { IsSide reader.now }
+    requires numbers { AreNumbered writer.now reader.now }
     requires rest { IsLeft (nodes_of writer.now) (nodes_of reader.now) table.old }
     ensures { IsRest (nodes_of writer.now) (nodes_of reader.now) table.new }
 {

@@ -9,6 +9,7 @@ ghost use Rattle.avro_resolve.specs.Inside.Sides.{nodes_of, IsSide};
 ghost use Rattle.avro_resolve.specs.Inside.Walking.{Marks, Ready};
 
 use crate::agreeing::agree;
+use crate::names::same_last;
 use crate::pair_set::PairSet;
 use crate::sides::Side;
 use avro_nodes::Node;
@@ -121,7 +122,7 @@ pub fn agree_once(
     if walk.agreed_set.has(at.0, at.1) {
         return Ok(true);
     }
-    if !agree(a, b, reader.lookup(at.1, b)) {
+    if !agree(a, b, reader.lookup(at.1, b), same_last(a, b)) {
         return Ok(false);
     }
     walk.agreed_set.insert(at.0, at.1)?;

@@ -131,21 +131,27 @@ pub fn push_fan(
     Ok(())
 }
 
-/// A record from which a cycle of so many records goes, of one last name.
-pub fn push_cycle(alloc: Global, text: &mut String, count: u32) -> Result<(), AllocError> {
+/// A record from which so many records of one last name go, the last of which has a field of the
+/// type: a cycle if that is the first record.
+pub fn push_cycle(
+    alloc: Global,
+    text: &mut String,
+    count: u32,
+    last: &str,
+) -> Result<(), AllocError> {
     text.push_str(r#"{"type":"record","name":"c.A","fields":[{"name":"d","type":["null""#)?;
-    push_later(alloc, text, count)?;
+    push_later(alloc, text, count, last)?;
     text.push_str(r#"],"default":null},{"name":"f","type":"n0.A"}]}"#)
 }
 
-/// The records of a cycle, the last of which has a field of the root's record.
-fn push_later(alloc: Global, text: &mut String, count: u32) -> Result<(), AllocError> {
+/// The records behind the first one of a cycle, the last of which has a field of the type.
+fn push_later(alloc: Global, text: &mut String, count: u32, last: &str) -> Result<(), AllocError> {
     for down in 0..count {
         let index = count - 1 - down;
         text.push_str(",")?;
         let name = name_of(alloc, true, index)?;
         if down == 0 {
-            push_record(text, name.as_str(), r#""c.A""#)?;
+            push_record(text, name.as_str(), last)?;
         } else {
             let next = name_of(alloc, true, index + 1)?;
             let kind = format!(in alloc; r#""{next}""#)?;
@@ -153,6 +159,25 @@ fn push_later(alloc: Global, text: &mut String, count: u32) -> Result<(), AllocE
         }
     }
     Ok(())
+}
+
+/// A record with a field for each of so many records of one last name, which have a field of a name
+/// of their own.
+pub fn push_references(alloc: Global, text: &mut String, count: u32) -> Result<(), AllocError> {
+    text.push_str(r#"{"type":"record","name":"R","fields":[{"name":"d","type":["null""#)?;
+    for index in 0..count {
+        let name = name_of(alloc, true, index)?;
+        write!(
+            text,
+            r#",{{"type":"record","name":"{name}","fields":[{{"name":"f{index}","type":"int"}}]}}"#
+        )?;
+    }
+    text.push_str(r#"],"default":null}"#)?;
+    for index in 0..count {
+        let name = name_of(alloc, true, index)?;
+        write!(text, r#",{{"name":"g{index}","type":"{name}"}}"#)?;
+    }
+    text.push_str("]}")
 }
 
 /// The rungs of a ladder, the last one first, each of records named by these letters. A record has

@@ -29,6 +29,12 @@ pub enum Shape {
     Fan,
     /// a cycle of records of one last name, with a cycle of one more
     Cycles,
+    /// a record from which records of one last name go, the last of which has an int, and the
+    /// reader's a string
+    OpenCycles,
+    /// a record with a field for each of so many records of one last name and different fields, with
+    /// itself
+    References,
     /// a ladder of two records a rung on the reader's side, of which the last ones differ
     Ladder,
     /// a broken chain beside an enum of 5000 symbols
@@ -36,7 +42,7 @@ pub enum Shape {
 }
 
 /// All shapes, with the counts of `all`.
-pub static SHAPES: [(&str, Shape, &[u32]); 15] = [
+pub static SHAPES: [(&str, Shape, &[u32]); 17] = [
     ("fields", Shape::Fields, &[10, 100, 1000, 4095]),
     ("reversed", Shape::Reversed, &[10, 100, 1000, 4095]),
     ("other-types", Shape::OtherTypes, &[10, 100, 1000, 4095]),
@@ -50,6 +56,8 @@ pub static SHAPES: [(&str, Shape, &[u32]); 15] = [
     ("one-name", Shape::OneName, &[100, 1000, 4000]),
     ("fan", Shape::Fan, &[100, 1000, 4000]),
     ("cycles", Shape::Cycles, &[40, 400, 4000]),
+    ("open-cycles", Shape::OpenCycles, &[400, 4000]),
+    ("references", Shape::References, &[200, 2000]),
     ("ladder", Shape::Ladder, &[30, 300]),
     ("beside", Shape::Beside, &[200]),
 ];

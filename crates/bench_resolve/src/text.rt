@@ -2,7 +2,7 @@
 
 use crate::parts::{
     push_chain, push_cycle, push_enum, push_enums, push_fan, push_fields, push_ladder, push_nested,
-    push_record, push_tree,
+    push_record, push_references, push_tree,
 };
 use crate::shape::Shape;
 use std::alloc::{AllocError, Global};
@@ -77,8 +77,12 @@ pub fn text_of(alloc: Global, shape: Shape, count: u32, role: Role) -> Result<St
         Shape::Nested => push_nested(&mut text, count)?,
         Shape::Tree => push_tree(&mut text, count)?,
         Shape::Enum => push_enum(&mut text, "E", count)?,
-        Shape::Cycles if is_reader => push_cycle(alloc, &mut text, count.saturating_add(1))?,
-        Shape::Cycles => push_cycle(alloc, &mut text, count)?,
+        Shape::Cycles => {
+            let more = if is_reader { 1 } else { 0 };
+            push_cycle(alloc, &mut text, count.saturating_add(more), r#""c.A""#)?
+        }
+        Shape::OpenCycles => push_cycle(alloc, &mut text, count, broken(role))?,
+        Shape::References => push_references(alloc, &mut text, count)?,
         Shape::Ladder if is_reader => push_ladder(&mut text, count, &["x", "y"], r#""string""#)?,
         Shape::Ladder => push_ladder(&mut text, count, &["w"], r#""int""#)?,
         _ => {

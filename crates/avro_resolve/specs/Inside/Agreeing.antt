@@ -1,6 +1,7 @@
 -- What two nodes say of a pair by themselves.
-use Rattle.std.specs.Prelude.{◌≡◌, ◌⊎◌, IsSome, All, Contains}
-use Rattle.avro_nodes.specs.Nodes.{NodeView, primitive, array, mapping, union, enumeration, fixed, rec}
+use Rattle.std.specs.Prelude.{◌≡◌, ◌⊎◌, ◌↔◌, Bool, Option, Some, None, IsSome, IsTrue, MatchOption, All, Contains}
+use Rattle.avro_nodes.specs.Names.{last_part}
+use Rattle.avro_nodes.specs.Nodes.{NamedView, NodeView, primitive, array, mapping, union, enumeration, fixed, rec}
 use Rattle.avro_resolve.specs.Resolution.{NameMatch, Promotes}
 
 -- The nodes agree in their kinds, names, sizes and symbols, as far as a pair of them asks for that (Avro 1.11 specification, Schema Resolution).
@@ -15,3 +16,17 @@ Agree (enumeration n symbols _ _) (enumeration m known fallback _) = NameMatch n
 Agree (fixed n size _) (fixed m wanted _) = NameMatch n m × (size ≡ wanted)
 Agree (rec n _ _) (rec m _ _) = NameMatch n m
 Agree _ _ = ⊥
+
+-- the names of a node that has such
+abbrev pub named_of : NodeView → Option NamedView
+named_of (primitive kind _) = None
+named_of (array place _) = None
+named_of (mapping place _) = None
+named_of (union places) = None
+named_of (enumeration named symbols fallback _) = Some named
+named_of (fixed named size _) = Some named
+named_of (rec named fields _) = Some named
+
+-- the test says whether the names of two nodes, where both have names, have one last part
+abbrev pub TellsSameLast : Bool → NodeView → NodeView → Type 0
+TellsSameLast same a b = MatchOption (named_of a) (Unit {0}) (λ n. MatchOption (named_of b) (Unit {0}) (λ m. IsTrue same ↔ (last_part n.name ≡ last_part m.name)))

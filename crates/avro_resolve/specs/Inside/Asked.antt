@@ -1,7 +1,6 @@
 -- A pair is reached, told by all lists that hold what is asked.
 use Rattle.std.specs.Prelude.{◌≡◌, ℕ, ◌<◌, ◌^◌, Some, List, length, IsTrue}
 use Rattle.avro_nodes.specs.Nodes.{FieldView, NodeView}
-use Rattle.avro_resolve.specs.Resolution.{source}
 use Rattle.avro_resolve.specs.Witnesses.{Pair, member}
 use Rattle.avro_resolve.specs.Asking.{AsksFor, HoldsAsked, source_place}
 

@@ -2,6 +2,7 @@ use Rattle.std.proofs.Common.{◌≡◌, ◌<◌, length, sym, subst, ◌∙◌,
 use Rattle.std.proofs.lemmas.List.{length-map}
 use Rattle.avro_nodes.specs.Nodes.{node_view, nodes_view}
 use Rattle.avro_resolve.proofs.Denoted.{is_whole}
+use Rattle.avro_resolve.proofs.NumberLemmas.{kept_lasts}
 use Rattle.avro_resolve.proofs.Strikes.{all_left}
 use Rattle.avro_resolve.proofs.striking.largest_closed.Goals as goal
 
@@ -25,4 +26,12 @@ strike_out-requires-clause-reader c = record {
   whole = is_whole (nodes_view c.args.reader.now) c.places-2.ensures.schema;
   lookups = c.in_ok-lookups-2.ensures;
   few = omega (arith, c.places-2.ensures.places, c.places-2.ensures.few);
+}
+
+pub strike_out-requires-clause-numbers : goal.strike_out-requires-clause-numbers
+strike_out-requires-clause-numbers c = record {
+  numbers = c.last_numbers-2.new.numbers;
+  numbering = c.in_ok-columns_lasts.ensures.numbering;
+  rows = kept_lasts c.last_numbers.new.numbers c.last_numbers-2.new.numbers (nodes_view c.args.writer.now) c.in_ok-rows_lasts.rows_lasts.items c.in_ok-columns_lasts.ensures.kept c.in_ok-rows_lasts.ensures.there;
+  columns = c.in_ok-columns_lasts.ensures.there;
 }

@@ -1,0 +1,39 @@
+-- Numbers for names, by which names are compared (this project's choice).
+use Rattle.std.specs.Prelude.{◌≡◌, ℕ, ◌<◌, List, Option, Some, MatchOption, length, slice_get}
+use Rattle.std.specs.HashMap.{get_by, hash_map_len}
+use Rattle.std.specs.Str.{bytes_eq}
+use Rattle.avro_nodes.specs.Names.{last_part}
+use Rattle.avro_nodes.specs.Nodes.{NodeView}
+use Rattle.avro_resolve.specs.declared.numbers.Numbers.{Numbers}
+use Rattle.avro_resolve.specs.declared.sides.Side.{Side}
+use Rattle.avro_resolve.specs.Inside.Agreeing.{named_of}
+use Rattle.avro_resolve.specs.Inside.Sides.{nodes_of}
+
+-- the number of a name
+abbrev pub number_in : Numbers → List ℕ → Option ℕ
+number_in t name = get_by (λ k. bytes_eq name k.now) t.by_name
+
+-- each name has its own number
+pub record IsNumbering (t : Numbers) : Type 0 where
+  pub below : (name : List ℕ) (n : ℕ) → number_in t name ≡ Some n → n < hash_map_len t.by_name
+  pub differ : (name other : List ℕ) (n : ℕ) → number_in t name ≡ Some n → number_in t other ≡ Some n → name ≡ other
+
+-- each name has the number that it had
+unfoldable pub Keeps : Numbers → Numbers → Type 0
+Keeps t u = (name : List ℕ) (n : ℕ) → number_in t name ≡ Some n → number_in u name ≡ Some n
+
+-- the number of the last part of a node's name, where it has a name
+abbrev pub IsLastNumber : Numbers → ℕ → NodeView → Type 0
+IsLastNumber t n a = MatchOption (named_of a) (Unit {0}) (λ m. number_in t (last_part m.name) ≡ Some n)
+
+-- the same at each place
+pub record AreLastNumbers (t : Numbers) (nodes : List NodeView) (numbers : List ℕ) : Type 0 where
+  pub long : length numbers ≡ length nodes
+  pub each : (place n : ℕ) (a : NodeView) → slice_get numbers place ≡ Some n → slice_get nodes place ≡ Some a → IsLastNumber t n a
+
+-- both sides have their numbers from one numbering
+pub record AreNumbered (writer reader : Side) : Type 0 where
+  pub numbers : Numbers
+  pub numbering : IsNumbering numbers
+  pub rows : AreLastNumbers numbers (nodes_of writer) writer.lasts.items
+  pub columns : AreLastNumbers numbers (nodes_of reader) reader.lasts.items
