@@ -3,6 +3,7 @@ pub mod LookupLemmas
 pub mod NumberLemmas
 pub mod FieldLemmas
 pub mod Flags
+pub mod FieldListLemmas
 pub mod BitLemmas
 pub mod Agreement
 pub mod Monotone

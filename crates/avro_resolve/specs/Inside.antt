@@ -7,4 +7,5 @@ pub mod Numbers
 pub mod PairSets
 pub mod Places
 pub mod Sides
+pub mod FieldLists
 pub mod Walking

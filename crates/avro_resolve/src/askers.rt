@@ -23,7 +23,7 @@ fn add(list: &mut Vec<u32>, asker: u32) -> Result<(), AllocError>
 }
 
 /// Notes that one place asks for another.
-fn note(lists: &mut Vec<Vec<u32>>, place: u32, asker: u32) -> Result<(), AllocError>
+pub fn note(lists: &mut Vec<Vec<u32>>, place: u32, asker: u32) -> Result<(), AllocError>
     requires { place < length lists.old.items }
     ensures adds { OnOk result (Adds lists.old.items lists.new.items asker) }
     ensures there { OnOk result (IsAsker lists.new.items asker place) }
@@ -73,7 +73,7 @@ fn note_node(lists: &mut Vec<Vec<u32>>, node: &Node, asker: u32) -> Result<(), A
 }
 
 /// So many empty lists.
-fn empty_lists(alloc: Global, count: u32) -> Result<Vec<Vec<u32>>, AllocError>
+pub fn empty_lists(alloc: Global, count: u32) -> Result<Vec<Vec<u32>>, AllocError>
     ensures long { IfOk result (λ v. length v.items ≡ count) }
     ensures empty { IfOk result (λ v. (i place : ℕ) → IsAsker v.items i place → ⊥) }
 {

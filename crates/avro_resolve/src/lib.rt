@@ -5,6 +5,7 @@
 
 mod agreeing;
 mod askers;
+mod field_lists;
 mod fields;
 mod kinds;
 mod looking;

@@ -38,12 +38,14 @@ pub fn walk_roots(
         schema: writer,
         lookups,
         lasts: Vec::new(alloc),
+        field_lists: Vec::new(alloc),
     };
     let lookups = lookups_of(alloc, Sought::Symbols, reader)?;
     let read = Side {
         schema: reader,
         lookups,
         lasts: Vec::new(alloc),
+        field_lists: Vec::new(alloc),
     };
     let mut looks = 0;
     let answer = ask(&written, &read, 0, 0, 0, &mut walk, &mut looks)?;

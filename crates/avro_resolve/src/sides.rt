@@ -2,9 +2,11 @@
 
 ghost use Rattle.std.specs.Prelude.{◌≡◌, ◌<◌, IfSome, slice_get, length, vec_len, Some};
 ghost use Rattle.avro_nodes.specs.Nodes.{node_view};
+ghost use Rattle.avro_resolve.specs.Inside.FieldLists.{AreListsOf};
 ghost use Rattle.avro_resolve.specs.Inside.Lookups.{IsLookupOf};
 ghost use Rattle.avro_resolve.specs.Inside.Sides.{nodes_of, IsSide};
 
+use crate::field_lists::lists_at;
 use crate::lookups::{Lookup, lookup_at};
 use avro_nodes::Node;
 use avro_schema::Schema;
@@ -16,6 +18,8 @@ pub struct Side<'a> {
     pub lookups: Vec<Option<Lookup<'a>>>,
     /// the numbers of the last parts of the names at the places, where they are made
     pub lasts: Vec<usize>,
+    /// the fields of wide records by the places of their types, where they are listed
+    pub field_lists: Vec<Option<Vec<Vec<u32>>>>,
 }
 
 impl<'a> Side<'a> {
@@ -50,5 +54,14 @@ impl<'a> Side<'a> {
         ensures { IfSome result (λ t. IsLookupOf t.now node.now) }
     {
         lookup_at(&self.lookups, place, self.schema, node)
+    }
+
+    /// The fields of the node at a place by the places of their types, where they are listed.
+    pub fn lists(&self, place: u32, node: &Node) -> Option<&[Vec<u32>]>
+        requires side { IsSide self.now }
+        requires node { slice_get self.now.schema.now place ≡ Some node.now }
+        ensures { IfSome result (λ v. AreListsOf v.now node.now) }
+    {
+        lists_at(&self.field_lists, place, self.schema, node)
     }
 }

@@ -10,6 +10,7 @@ ghost use Rattle.avro_resolve.specs.Inside.Askers.{HasAskers};
 ghost use Rattle.avro_resolve.specs.Inside.Numbers.{AreNumbered};
 
 use crate::askers::{askers, askers_of};
+use crate::field_lists::field_lists;
 use crate::looking::{look_across, look_everywhere};
 use crate::lookups::{Sought, lookups_of};
 use crate::numbers::{Numbers, last_numbers};
@@ -94,12 +95,15 @@ pub fn largest_closed(alloc: Global, writer: &Schema, reader: &Schema) -> Result
         schema: writer,
         lookups,
         lasts: rows_lasts,
+        field_lists: Vec::new(alloc),
     };
     let lookups = lookups_of(alloc, Sought::Symbols, reader)?;
+    let lists = field_lists(alloc, reader)?;
     let read = Side {
         schema: reader,
         lookups,
         lasts: columns_lasts,
+        field_lists: lists,
     };
     strike_out(alloc, &written, &read, &mut table)?;
     Ok(table)

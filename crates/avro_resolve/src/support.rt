@@ -1,9 +1,10 @@
 //! Whether the pairs that are left support a pair.
 
-ghost use Rattle.std.specs.Prelude.{◌≡◌, ◌≤◌, IfSome, None, get_or, ◌<◌, ◌↔◌, ℕ, false, map, length, All, Any, IsTrue};
+ghost use Rattle.std.specs.Prelude.{◌≡◌, ◌≤◌, IfSome, None, Some, slice_get, get_or, ◌<◌, ◌↔◌, ℕ, false, map, length, All, Any, IsTrue};
 ghost use Rattle.avro_nodes.specs.Nodes.{field_view, node_view};
 ghost use Rattle.avro_resolve.specs.Resolution.{Pairs, Readable, Fits, Supports};
 ghost use Rattle.avro_resolve.specs.Inside.Agreeing.{Agree};
+ghost use Rattle.avro_resolve.specs.Inside.FieldLists.{ListsFields, AreListsOf, Spares};
 ghost use Rattle.avro_resolve.specs.Inside.Lookups.{FindsFields, IsLookupOf};
 ghost use Rattle.avro_resolve.specs.Inside.Numbers.{AreNumbered};
 ghost use Rattle.avro_resolve.specs.Inside.Places.{Names};
@@ -11,6 +12,7 @@ ghost use Rattle.avro_resolve.specs.Inside.Sides.{nodes_of, IsSide};
 ghost use Rattle.avro_resolve.specs.Inside.Left.{left, Agreed, WithinBut, Ignores};
 
 use crate::agreeing::agree;
+use crate::askers::askers_of;
 use crate::fields::source_of;
 use crate::lookups::Lookup;
 use crate::sides::Side;
@@ -147,7 +149,7 @@ fn field_asks(fields: &[Field], sources: Option<&Lookup>, f: &Field, p: u32, q: 
 }
 
 /// Whether one of the reader's fields asks for the pair of these places.
-fn fields_ask(fields: &[Field], sources: Option<&Lookup>, wanted: &[Field], p: u32, q: u32) -> bool
+fn one_asks(fields: &[Field], sources: Option<&Lookup>, wanted: &[Field], p: u32, q: u32) -> bool
     requires { IfSome sources (λ t. FindsFields t.now fields.now) }
     ensures { result ≡ false → (R S : Pairs) → WithinBut p q R S
         → All (Readable R (map field_view fields.now)) (map field_view wanted.now)
@@ -161,19 +163,73 @@ fn fields_ask(fields: &[Field], sources: Option<&Lookup>, wanted: &[Field], p: u
     false
 }
 
-/// Whether the pair of these nodes, at the places i and j, may ask for the pair (p, q). Two records
+/// Whether one of the reader's fields with these indices asks for the pair of these places.
+fn listed_asks(
+    fields: &[Field],
+    sources: Option<&Lookup>,
+    wanted: &[Field],
+    indices: &[u32],
+    p: u32,
+    q: u32,
+) -> bool
+    requires { IfSome sources (λ t. FindsFields t.now fields.now) }
+    ensures { result ≡ false → All (λ k. (f : Field) → slice_get wanted.now k ≡ Some f
+        → Spares p q fields.now f) indices.now }
+{
+    for index in indices {
+        if let Some(f) = wanted.get(*index as usize) {
+            if field_asks(fields, sources, f, p, q) {
+                return true;
+            }
+        }
+    }
+    false
+}
+
+/// Whether one of the reader's fields asks for the pair of these places. Where the fields are
+/// listed, those of the second place are looked at, and no others.
+fn fields_ask(
+    fields: &[Field],
+    sources: Option<&Lookup>,
+    wanted: &[Field],
+    lists: Option<&[Vec<u32>]>,
+    p: u32,
+    q: u32,
+) -> bool
+    requires sources { IfSome sources (λ t. FindsFields t.now fields.now) }
+    requires lists { IfSome lists (λ v. ListsFields v.now wanted.now) }
+    ensures { result ≡ false → (R S : Pairs) → WithinBut p q R S
+        → All (Readable R (map field_view fields.now)) (map field_view wanted.now)
+        → All (Readable S (map field_view fields.now)) (map field_view wanted.now) }
+{
+    match lists {
+        Some(lists) => listed_asks(fields, sources, wanted, askers_of(lists, q), p, q),
+        None => one_asks(fields, sources, wanted, p, q),
+    }
+}
+
+/// Whether the pair of these nodes, at the places `at`, may ask for the pair `told`. Two records
 /// ask for those of their fields, a union for those of its branches, and of other pairs it is not
 /// looked into.
-fn asks(a: &Node, sources: Option<&Lookup>, b: &Node, i: u32, j: u32, p: u32, q: u32) -> bool
-    requires { IfSome sources (λ t. IsLookupOf t.now a.now) }
-    ensures { result ≡ false → (R S : Pairs) → WithinBut p q R S
-        → Fits R i j (node_view a.now) (node_view b.now) → Fits S i j (node_view a.now) (node_view b.now) }
+fn asks(
+    a: &Node,
+    sources: Option<&Lookup>,
+    b: &Node,
+    lists: Option<&[Vec<u32>]>,
+    at: (u32, u32),
+    told: (u32, u32),
+) -> bool
+    requires sources { IfSome sources (λ t. IsLookupOf t.now a.now) }
+    requires lists { IfSome lists (λ v. AreListsOf v.now b.now) }
+    ensures { result ≡ false → (R S : Pairs) → WithinBut told.0 told.1 R S
+        → Fits R at.0 at.1 (node_view a.now) (node_view b.now)
+        → Fits S at.0 at.1 (node_view a.now) (node_view b.now) }
 {
     match (a, b) {
-        (Node::Union { .. }, _) => j == q,
-        (_, Node::Union { .. }) => i == p,
+        (Node::Union { .. }, _) => at.1 == told.1,
+        (_, Node::Union { .. }) => at.0 == told.0,
         (Node::Rec { fields, .. }, Node::Rec { fields: wanted, .. }) => fields_ask(
-            fields, sources, wanted, p, q,
+            fields, sources, wanted, lists, told.0, told.1,
         ),
         _ => true,
     }
@@ -182,10 +238,18 @@ fn asks(a: &Node, sources: Option<&Lookup>, b: &Node, i: u32, j: u32, p: u32, q:
 /// Whether the pair (i, j) may ask for the pair (p, q).
 pub fn pair_asks(writer: &Side, reader: &Side, i: u32, j: u32, p: u32, q: u32) -> bool
     requires writer { IsSide writer.now }
+    requires reader { IsSide reader.now }
     requires i_in { i < length writer.now.schema.now }
     requires j_in { j < length reader.now.schema.now }
     ensures { result ≡ false → Ignores (nodes_of writer.now) (nodes_of reader.now) i j p q }
 {
     let (a, b) = (writer.node(i), reader.node(j));
-    asks(a, writer.lookup(i, a), b, i, j, p, q)
+    asks(
+        a,
+        writer.lookup(i, a),
+        b,
+        reader.lists(j, b),
+        (i, j),
+        (p, q),
+    )
 }

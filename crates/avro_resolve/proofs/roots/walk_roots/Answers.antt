@@ -3,6 +3,7 @@ use Rattle.std.proofs.lemmas.List.{length-map}
 use Rattle.avro_nodes.specs.Nodes.{node_view, nodes_view}
 use Rattle.avro_resolve.specs.Witnesses.{Pair}
 use Rattle.avro_resolve.specs.Inside.Walking.{Good, Marks}
+use Rattle.avro_resolve.proofs.FieldListLemmas.{no_lists}
 use Rattle.avro_resolve.proofs.Denoted.{some_node, is_whole}
 use Rattle.avro_resolve.proofs.MarkLemmas.{marks_none}
 use Rattle.avro_resolve.proofs.Reaching.{is_small}
@@ -14,6 +15,7 @@ pub ask-requires-clause-writer : goal.ask-requires-clause-writer
 ask-requires-clause-writer c = record {
   whole = is_whole (nodes_view c.args.writer.now) c.places-rows.ensures.schema;
   lookups = c.in_ok-lookups.ensures;
+  field_lists = rw c.new-4.ensures.items (no_lists _);
   few = omega (arith, c.places-rows.ensures.places, c.places-rows.ensures.few);
 }
 
@@ -21,6 +23,7 @@ pub ask-requires-clause-reader : goal.ask-requires-clause-reader
 ask-requires-clause-reader c = record {
   whole = is_whole (nodes_view c.args.reader.now) c.places-columns.ensures.schema;
   lookups = c.in_ok-lookups-2.ensures;
+  field_lists = rw c.new-6.ensures.items (no_lists _);
   few = omega (arith, c.places-columns.ensures.places, c.places-columns.ensures.few);
 }
 

@@ -1,6 +1,7 @@
 use Rattle.std.proofs.Common.{◌≡◌, ◌<◌, length, sym, subst, ◌∙◌, arith}
 use Rattle.std.proofs.lemmas.List.{length-map}
 use Rattle.avro_nodes.specs.Nodes.{node_view, nodes_view}
+use Rattle.avro_resolve.proofs.FieldListLemmas.{no_lists}
 use Rattle.avro_resolve.proofs.Denoted.{is_whole}
 use Rattle.avro_resolve.proofs.NumberLemmas.{kept_lasts}
 use Rattle.avro_resolve.proofs.Strikes.{all_left}
@@ -18,6 +19,7 @@ pub strike_out-requires-clause-writer : goal.strike_out-requires-clause-writer
 strike_out-requires-clause-writer c = record {
   whole = is_whole (nodes_view c.args.writer.now) c.places.ensures.schema;
   lookups = c.in_ok-lookups.ensures;
+  field_lists = rw c.new.ensures.items (no_lists _);
   few = omega (arith, c.places.ensures.places, c.places.ensures.few);
 }
 
@@ -25,6 +27,7 @@ pub strike_out-requires-clause-reader : goal.strike_out-requires-clause-reader
 strike_out-requires-clause-reader c = record {
   whole = is_whole (nodes_view c.args.reader.now) c.places-2.ensures.schema;
   lookups = c.in_ok-lookups-2.ensures;
+  field_lists = c.in_ok-lists.ensures;
   few = omega (arith, c.places-2.ensures.places, c.places-2.ensures.few);
 }
 
@@ -35,3 +38,6 @@ strike_out-requires-clause-numbers c = record {
   rows = kept_lasts c.last_numbers.new.numbers c.last_numbers-2.new.numbers (nodes_view c.args.writer.now) c.in_ok-rows_lasts.rows_lasts.items c.in_ok-columns_lasts.ensures.kept c.in_ok-rows_lasts.ensures.there;
   columns = c.in_ok-columns_lasts.ensures.there;
 }
+
+pub field_lists-requires : goal.field_lists-requires
+field_lists-requires c = is_whole (nodes_view c.args.reader.now) c.places-2.ensures.schema

@@ -3,7 +3,7 @@ use Rattle.avro_nodes.specs.declared.node.Field.{Field}
 use Rattle.avro_nodes.specs.Nodes.{field_view}
 use Rattle.avro_resolve.specs.Resolution.{Pairs, Readable}
 use Rattle.avro_resolve.specs.Inside.Left.{WithinBut}
-use Rattle.avro_resolve.proofs.support.fields_ask.Given as goal
+use Rattle.avro_resolve.proofs.support.one_asks.Given as goal
 
 abbrev pub invariant-loop-f : goal.invariant-loop-f
 invariant-loop-f l = (k : ℕ) (d : Field) → k < l.f-index → (R S : Pairs) → WithinBut l.p l.q R S
