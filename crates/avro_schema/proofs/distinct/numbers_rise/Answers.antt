@@ -1,4 +1,4 @@
-use Rattle.std.proofs.Common.{◌≡◌, ◌∙◌, ℕ, nat_cmp, is_lt, arith}
+use Rattle.std.proofs.Common.{nat_cmp, is_lt}
 use Rattle.std.proofs.lemmas.List.Sorted.{answers_always}
 use Rattle.avro_schema.proofs.distinct.numbers_rise.Goals as goal
 

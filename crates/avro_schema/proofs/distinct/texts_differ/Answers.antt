@@ -1,4 +1,4 @@
-use Rattle.std.proofs.Common.{◌≡◌, ◌∙◌, ℕ, List, [], nat_cmp, bytes_eq, Bor, ap}
+use Rattle.std.proofs.Common.{◌∙◌, ℕ, List, [], nat_cmp, bytes_eq, Bor, ap}
 use Rattle.std.specs.Cmp.Lexicographic.{slice_cmp, nat_list_cmp_total}
 use Rattle.avro_schema.specs.Inside.Distinct.{all_differ}
 use Rattle.avro_schema.proofs.DistinctLemmas.{rise_differ, texts_level}
