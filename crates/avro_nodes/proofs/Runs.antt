@@ -5,8 +5,8 @@ use Rattle.std.specs.List.{prefix_len}
 use Rattle.std.specs.Str.{IsCharBoundary, IsUtf8}
 use Rattle.std.proofs.lemmas.List.Sums.{prefix_len-le-length, prefix_len_passes}
 use Rattle.std.proofs.lemmas.Str.{IsCharBoundary-before_ascii, IsCharBoundary-after_ascii, IsCharBoundary-end}
-use Rattle.std.specs.Prelude.{slice_range, option_and_then, unwrap_or, is_some}
-use Rattle.std.proofs.Math.Seq.{take-suc}
+use Rattle.std.specs.Prelude.{◌==◌, slice_range, option_and_then, unwrap_or, is_some}
+use Rattle.std.proofs.Math.Seq.{take-suc, take-add}
 use Rattle.std.proofs.lemmas.Bool.{false≢true, cases_lt}
 use Rattle.std.proofs.lemmas.List.{drop_all, get_or-drop, drop-drop}
 use Rattle.avro_nodes.specs.declared.plain.Quoting.{Quoting}
@@ -40,10 +40,60 @@ other_more bs from at q a b e =
     rw (range_more bs from at a b, drop_item bs at 0 b, other_next q (get_or bs at 0) (drop (at + 1) bs) e)
     (sym (before_before (slice_range bs from at) (get_or bs at 0 ∷ []) (joined (pieces (after q (get_or bs at 0)) (drop (at + 1) bs)))))
 
-pub from_outside : (q : Quoting) (c : ℕ) → (is_outside q && is_number_char c) ≡ true → (q ≡ Outside) × (is_number_char c ≡ true)
-from_outside Outside c e = (refl, e)
-from_outside Inside c e = absurd (false≢true e)
-from_outside Escaped c e = absurd (false≢true e)
+range_join : (xs : List ℕ) (i j k : ℕ) → i ≤ j → j ≤ k → slice_range xs i j ++ slice_range xs j k ≡ slice_range xs i k
+range_join xs i j k a b =
+    let total : k - i ≡ (j - i) + (k - j) = omega arith in
+    let there : i + (j - i) ≡ j = omega arith in
+    let parts : take (k - i) (drop i xs) ≡ take (j - i) (drop i xs) ++ take (k - j) (drop (j - i) (drop i xs)) = rw total (take-add (j - i) (k - j) (drop i xs)) in
+    sym (parts ∙ ap (λ (ys : List ℕ). take (j - i) (drop i xs) ++ take (k - j) ys) (drop-drop (j - i) i xs ∙ ap (λ n. drop n xs) there))
+
+pub joined_more : (bs : List ℕ) (from at end : ℕ) → from ≤ at → at ≤ end → joined (pieces Outside (drop at bs)) ≡ before (slice_range bs at end) (joined (pieces Outside (drop end bs)))
+    → before (slice_range bs from at) (joined (pieces Outside (drop at bs))) ≡ before (slice_range bs from end) (joined (pieces Outside (drop end bs)))
+joined_more bs from at end a b e =
+    ap (before (slice_range bs from at)) e
+    ∙ before_before (slice_range bs from at) (slice_range bs at end) (joined (pieces Outside (drop end bs)))
+    ∙ ap (λ (s : List ℕ). before s (joined (pieces Outside (drop end bs)))) (range_join bs from at end a b)
+
+pub nothing_skipped : (bs : List ℕ) (at : ℕ) (q : Quoting) → joined (pieces q (drop at bs)) ≡ before (slice_range bs at at) (joined (pieces q (drop at bs)))
+nothing_skipped bs at q = let none : at - at ≡ 0 = omega arith in rw none (sym (before_nothing (joined (pieces q (drop at bs)))))
+
+pub outside_is : (q : Quoting) → is_outside q ≡ true → q ≡ Outside
+outside_is Outside e = refl
+outside_is Inside e = absurd (false≢true e)
+outside_is Escaped e = absurd (false≢true e)
+
+pub inside_more : (bs : List ℕ) (from at : ℕ) (q : Quoting) → from ≤ at → at < length bs → is_outside q ≡ false
+    → before (slice_range bs from (at + 1)) (joined (pieces (after q (get_or bs at 0)) (drop (at + 1) bs))) ≡ before (slice_range bs from at) (joined (pieces q (drop at bs)))
+inside_more bs from at q a b e = other_more bs from at q a b (rw e refl)
+
+other_skipped : (bs : List ℕ) (at : ℕ) → at < length bs → is_number_char (get_or bs at 0) ≡ false → joined (pieces Outside (drop at bs)) ≡ before (slice_range bs at (at + 1)) (joined (pieces (after Outside (get_or bs at 0)) (drop (at + 1) bs)))
+other_skipped bs at h e = nothing_skipped bs at Outside ∙ sym (other_more bs at at Outside (omega arith) h e)
+
+pub byte_skipped : (bs : List ℕ) (at : ℕ) → at < length bs → is_number_char (get_or bs at 0) ≡ false → (get_or bs at 0 == 34) ≡ false → joined (pieces Outside (drop at bs)) ≡ before (slice_range bs at (at + 1)) (joined (pieces Outside (drop (at + 1) bs)))
+byte_skipped bs at h e differs =
+    let stays : after Outside (get_or bs at 0) ≡ Outside = rw differs refl in
+    other_skipped bs at h e ∙ ap (λ (q : Quoting). before (slice_range bs at (at + 1)) (joined (pieces q (drop (at + 1) bs)))) stays
+
+pub string_skipped : (bs : List ℕ) (at end : ℕ) → at < length bs → is_number_char (get_or bs at 0) ≡ false → (get_or bs at 0 == 34) ≡ true → at + 1 ≤ end
+    → joined (pieces Inside (drop (at + 1) bs)) ≡ before (slice_range bs (at + 1) end) (joined (pieces Outside (drop end bs)))
+    → joined (pieces Outside (drop at bs)) ≡ before (slice_range bs at end) (joined (pieces Outside (drop end bs)))
+string_skipped bs at end h e quote in_range ends =
+    let enters : after Outside (get_or bs at 0) ≡ Inside = rw quote refl in
+    other_skipped bs at h e
+    ∙ ap (λ (q : Quoting). before (slice_range bs at (at + 1)) (joined (pieces q (drop (at + 1) bs)))) enters
+    ∙ ap (before (slice_range bs at (at + 1))) ends
+    ∙ before_before (slice_range bs at (at + 1)) (slice_range bs (at + 1) end) (joined (pieces Outside (drop end bs)))
+    ∙ ap (λ (s : List ℕ). before s (joined (pieces Outside (drop end bs)))) (range_join bs at (at + 1) end (omega arith) in_range)
+
+pub front_range : (xs : List ℕ) (k : ℕ) → slice_range xs 0 k ≡ take k xs
+front_range xs k = let all : k - 0 ≡ k = omega arith in ap (λ n. take n xs) all
+
+taken : (xs : List ℕ) (i j : ℕ) → i ≤ j → take i xs ++ slice_range xs i j ≡ take j xs
+taken xs i j a = let there : i + (j - i) ≡ j = omega arith in sym (take-add i (j - i) xs) ∙ ap (λ n. take n xs) there
+
+-- what is taken grows by what stands before a run, and then by the run
+pub taken_more : (xs : List ℕ) (i j k : ℕ) → i ≤ j → j ≤ k → (take i xs ++ slice_range xs i j) ++ slice_range xs j k ≡ take k xs
+taken_more xs i j k a b = ap (λ (s : List ℕ). s ++ slice_range xs j k) (taken xs i j a) ∙ taken xs j k b
 
 pub nothing_left : (q : Quoting) (bs : List ℕ) (at : ℕ) → length bs ≤ at → joined (pieces q (drop at bs)) ≡ Some []
 unfolding pieces joined

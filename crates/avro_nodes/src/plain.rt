@@ -2,12 +2,13 @@
 //! unsigned, and is respelt in plain decimal digits (this project's choice, over RFC 8259,
 //! section 6).
 
-ghost use Rattle.std.specs.Prelude.{◌≡◌, ◌+◌, ◌^◌, ◌==◌, ◌<◌, ◌≤◌, ◌&&◌, ◌⊎◌, length, drop, slice_range, slice_index, nat_lt, true, if◌then◌else◌, Some, None, IfOk, option_map, string_bytes};
-ghost use Rattle.avro_nodes.specs.declared.plain.Quoting.TheVariants.{Outside};
+ghost use Rattle.std.specs.Prelude.{◌≡◌, ◌+◌, ◌^◌, ◌==◌, ◌<◌, ◌≤◌, ◌&&◌, ◌⊎◌, length, drop, slice_range, slice_index, nat_lt, take, IsTrue, true, false, if◌then◌else◌, Some, None, IfOk, option_map, string_bytes};
+ghost use Rattle.avro_nodes.specs.declared.plain.Quoting.TheVariants.{Outside, Inside};
 ghost use Rattle.std.specs.Char.{is_ascii_digit};
 ghost use Rattle.std.specs.List.{prefix_len, list_all};
+ghost use Rattle.std.specs.Str.{IsCharBoundary};
 ghost use Rattle.std.specs.Str.Parse.{digits_value};
-ghost use Rattle.avro_nodes.specs.Plain.{after as after_of, is_number_char as is_number_char_of, is_outside, pieces, joined, before, is_whole, whole_part as whole_part_of, are_digits as are_digits_of, are_zeros as are_zeros_of, respelt_whole, begins_number as begins_number_of, piece_text, run as run_of, plain};
+ghost use Rattle.avro_nodes.specs.Plain.{after as after_of, is_number_char as is_number_char_of, is_outside as is_outside_of, pieces, joined, before, is_whole, whole_part as whole_part_of, are_digits as are_digits_of, are_zeros as are_zeros_of, respelt_whole, begins_number as begins_number_of, piece_text, run as run_of, plain};
 
 use crate::error::OutOfMemory;
 use std::alloc::Global;
@@ -48,14 +49,44 @@ fn is_number_char(c: u8) -> bool
     c.is_ascii_digit() || b"+-.eE".contains(&c)
 }
 
-// Whether the byte is a number character outside the strings.
-fn is_in_run(quoting: Quoting, c: u8) -> bool
-    ensures { result ≡ (is_outside quoting && is_number_char_of c) }
+fn is_outside(quoting: Quoting) -> bool
+    ensures { result ≡ is_outside_of quoting }
 {
     match quoting {
-        Quoting::Outside => is_number_char(c),
+        Quoting::Outside => true,
         Quoting::Inside => false,
         Quoting::Escaped => false,
+    }
+}
+
+// Where what follows a string begins, from a byte on that is inside it.
+fn string_end(bytes: &[u8], from: usize) -> usize
+    requires { from ≤ length bytes.now }
+    ensures place { (from ≤ result) × (result ≤ length bytes.now) }
+    ensures pieces { joined (pieces Inside (drop from bytes.now))
+        ≡ before (slice_range bytes.now from result) (joined (pieces Outside (drop result bytes.now))) }
+{
+    let mut quoting = Quoting::Inside;
+    for at in from..bytes.len() {
+        quoting = after(quoting, bytes[at]);
+        if is_outside(quoting) {
+            return at + 1;
+        }
+    }
+    bytes.len()
+}
+
+// Where what follows a string, or the byte that begins none, begins outside the strings.
+fn next_outside(bytes: &[u8], at: usize) -> usize
+    requires { (at < length bytes.now) × (is_number_char_of (slice_index bytes.now at) ≡ false) }
+    ensures place { (at < result) × (result ≤ length bytes.now) }
+    ensures pieces { joined (pieces Outside (drop at bytes.now))
+        ≡ before (slice_range bytes.now at result) (joined (pieces Outside (drop result bytes.now))) }
+{
+    if bytes[at] == b'"' {
+        string_end(bytes, at + 1)
+    } else {
+        at + 1
     }
 }
 
@@ -67,14 +98,14 @@ fn run_start(bytes: &[u8], from: usize) -> usize
     ensures pieces { joined (pieces Outside (drop from bytes.now))
         ≡ before (slice_range bytes.now from result) (joined (pieces Outside (drop result bytes.now))) }
 {
-    let mut quoting = Quoting::Outside;
-    for at in from..bytes.len() {
-        if is_in_run(quoting, bytes[at]) {
+    let mut at = from;
+    while at < bytes.len() {
+        if is_number_char(bytes[at]) {
             return at;
         }
-        quoting = after(quoting, bytes[at]);
+        at = next_outside(bytes, at);
     }
-    bytes.len()
+    at
 }
 
 // Where the run of number characters ends that begins at `start`.
@@ -174,6 +205,36 @@ fn spelling(run: &str) -> Option<&str>
     }
 }
 
+// Whether a run is spelt as it stands.
+fn is_kept(run: &str) -> bool
+    ensures { IsTrue result → piece_text (run_of run.now) ≡ Some run.now }
+{
+    match spelling(run) {
+        Some(number) => number == run,
+        None => false,
+    }
+}
+
+// Where the text is respelt first, or breaks the rule, or ends.
+fn kept_up_to(text: &str) -> usize
+    ensures place { result ≤ length text.now }
+    ensures cut { IsCharBoundary text.now result }
+    ensures kept { before (take result text.now) (joined (pieces Outside (drop result text.now)))
+        ≡ plain text.now }
+{
+    let bytes = text.as_bytes();
+    let mut at = 0;
+    while at < bytes.len() {
+        let start = run_start(bytes, at);
+        let end = run_end(bytes, start);
+        if !is_kept(&text[start..end]) {
+            return at;
+        }
+        at = end;
+    }
+    at
+}
+
 /// The text with each of its numbers respelt in plain decimal digits, or `None` where one of them
 /// isn't a whole number from -2^63 to 2^64 - 1 (this project's choice). A number is a maximal run
 /// of the characters `0` to `9`, `+`, `-`, `.`, `e`, `E` outside the strings that begins with a
@@ -187,7 +248,8 @@ pub fn plain_of(alloc: Global, text: &str) -> Result<Option<String>, OutOfMemory
 {
     let bytes = text.as_bytes();
     let mut out = String::with_capacity(alloc, text.len())?;
-    let mut at = 0;
+    let mut at = kept_up_to(text);
+    out.push_str(&text[..at])?;
     while at < bytes.len() {
         let start = run_start(bytes, at);
         let end = run_end(bytes, start);

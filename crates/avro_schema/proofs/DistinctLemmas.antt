@@ -1,81 +1,132 @@
--- A set of what a loop has seen, beside `all_new`.
-use Rattle.std.proofs.Common.{◌≡◌, ℕ, ◌+◌, ◌<◌, ◌≤◌, List, [], ◌∷◌, length, map, drop, get_or, Bool, true, false, not, cond, ◌||◌, nat_cmp, is_eq, bytes_eq, Bor, string_bytes, refl, sym, ap, ◌∙◌, arith}
-use Rattle.avro_nodes.proofs.Lists.{drop_item}
+-- That none of a list stands twice, as the list in order tells it.
+use Rattle.std.proofs.Common.{◌≡◌, ℕ, ◌+◌, ◌<◌, List, [], ◌∷◌, length, map, get_or, Bool, true, false, not, cond, ◌||◌, nat_cmp, is_eq, is_lt, bytes_eq, string_bytes, refl, sym, ap, ◌∙◌, arith}
 use Rattle.std.proofs.Math.Path.{fun_ext}
-use Rattle.std.proofs.lemmas.List.{drop_all}
-use Rattle.std.proofs.lemmas.Map.Text.{is_eq-slice_cmp}
-use Rattle.std.specs.BTreeSet.{BTreeSet, contains_by, Updates}
-use Rattle.std.specs.Cmp.Lexicographic.{slice_cmp}
-use Rattle.std.specs.Prelude.{◌==◌}
-use Rattle.std.specs.List.{list_any}
+use Rattle.std.proofs.lemmas.Bool.{false≢true, and_parts}
 use Rattle.std.proofs.lemmas.Bool.Decides.{nat_tests}
+use Rattle.std.proofs.lemmas.List.{get_or-map, length-map}
+use Rattle.std.proofs.lemmas.List.Sorted.{IsPermutation-map, IsPermutation-sym}
+use Rattle.std.proofs.lemmas.Map.Keys.{IsDistinct-from_sorted, IsDistinct-IsPermutation, apart_from_distinct, sorted_from_all_adjacent, IsDistinct-head, IsDistinct-tail}
+use Rattle.std.proofs.lemmas.Map.Text.{is_eq-slice_cmp}
+use Rattle.std.specs.Cmp.{IsTotalOrder}
+use Rattle.std.specs.Cmp.Lexicographic.{slice_cmp}
+use Rattle.std.specs.Ordering.{eq_by_cmp, ordering_reverse}
+use Rattle.std.specs.List.{list_any, AllByRecursion, IsDistinct, IsAllAdjacentAnswer}
+use Rattle.std.specs.List.Sorted.{IsPermutation, IsSorted}
+use Rattle.std.specs.Prelude.{◌==◌}
+use Rattle.std.specs.declared.cmp.Ordering.{Ordering}
+use Rattle.std.specs.declared.cmp.Ordering.TheVariants.{Less, Equal, Greater}
 use Rattle.avro_nodes.specs.declared.node.Field.{Field}
 use Rattle.avro_nodes.specs.Nodes.{field_view}
-use Rattle.avro_schema.specs.Inside.Distinct.{all_new}
+use Rattle.avro_schema.specs.Inside.Distinct.{all_new, all_differ}
 
--- the next of a list is new, or it is not
-pub new_here : {X : Type 0} (same : X → X → Bool) (seen : X → Bool) (x : X) (xs : List X) → seen x ≡ false → all_new same seen (x ∷ xs) ≡ all_new same (λ y. cond (same x y) true (seen y)) xs
-unfolding all_new
-new_here same seen x xs e = rw e refl
+-- ---- one by one, and each pair
 
-pub old_here : {X : Type 0} (same : X → X → Bool) (seen : X → Bool) (x : X) (xs : List X) → seen x ≡ true → all_new same seen (x ∷ xs) ≡ false
-unfolding all_new
-old_here same seen x xs e = rw e refl
+module _ {X : Type 0} (same : X → X → Bool) where
+  -- neither seen before nor the same as x
+  seen_more : (seen : X → Bool) (x : X) (xs : List X) → AllByRecursion (λ y. same x y ≡ false) xs → AllByRecursion (λ y. seen y ≡ false) xs → AllByRecursion (λ y. cond (same x y) true (seen y) ≡ false) xs
+  seen_more seen x [] apart new = tt
+  seen_more seen x (y ∷ ys) apart new = (rw (apart.0) (new.0), seen_more seen x ys apart.1 new.1)
 
-pub over_here : {X : Type 0} (same : X → X → Bool) (seen : X → Bool) → all_new same seen [] ≡ true
-unfolding all_new
-over_here same seen = refl
+  not_same : (a b : Bool) → cond a true b ≡ false → (a ≡ false) × (b ≡ false)
+  not_same true b e = absurd (false≢true (sym e))
+  not_same false b e = (refl, e)
 
--- ---- texts
+  seen_less : (seen : X → Bool) (x : X) (xs : List X) → AllByRecursion (λ y. cond (same x y) true (seen y) ≡ false) xs → AllByRecursion (λ y. same x y ≡ false) xs × AllByRecursion (λ y. seen y ≡ false) xs
+  seen_less seen x [] h = (tt, tt)
+  seen_less seen x (y ∷ ys) h =
+      let here = not_same (same x y) (seen y) h.0 in
+      let rest = seen_less seen x ys h.1 in
+      ((here.0, rest.0), (here.1, rest.1))
 
-abbrev pub texts_seen : BTreeSet (Bor (List ℕ)) → List ℕ → Bool
-texts_seen s = λ q. contains_by (λ k. slice_cmp nat_cmp q k.now) s
+  new_if_distinct : (seen : X → Bool) (xs : List X) → IsDistinct same xs → AllByRecursion (λ y. seen y ≡ false) xs → all_new same seen xs ≡ true
+  unfolding all_new
+  new_if_distinct seen [] d new = refl
+  new_if_distinct seen (x ∷ xs) d new = rw (new.0) (new_if_distinct (λ y. cond (same x y) true (seen y)) xs (IsDistinct-tail same x xs d) (seen_more seen x xs (IsDistinct-head same x xs d) new.1))
 
-pub no_texts_seen : (s : BTreeSet (Bor (List ℕ))) → s.keys ≡ [] → texts_seen s ≡ (λ _. false)
-no_texts_seen s e = fun_ext (λ q. rw e refl)
+  not_true : (b : Bool) → not b ≡ true → b ≡ false
+  not_true true e = absurd (false≢true e)
+  not_true false e = refl
 
-pub one_text_more : (s n : BTreeSet (Bor (List ℕ))) (k : Bor (List ℕ)) → Updates (λ x y. slice_cmp nat_cmp x.now y.now) s n k true → texts_seen n ≡ (λ y. cond (bytes_eq k.now y) true (texts_seen s y))
-one_text_more s n k h = fun_ext (λ q. h.0 (record { ref_ptr = (0, 0); now = q }) ∙ ap (λ (b : Bool). cond b true (texts_seen s q)) (is_eq-slice_cmp k.now q))
+  distinct_if_new : (seen : X → Bool) (xs : List X) → all_new same seen xs ≡ true → IsDistinct same xs × AllByRecursion (λ y. seen y ≡ false) xs
+  unfolding all_new IsDistinct
+  distinct_if_new seen [] e = (tt, tt)
+  distinct_if_new seen (x ∷ xs) e =
+      let h = and_parts (not (seen x)) (all_new same (λ y. cond (same x y) true (seen y)) xs) e in
+      let rest = distinct_if_new (λ y. cond (same x y) true (seen y)) xs h.1 in
+      let apart = seen_less seen x xs rest.1 in
+      ((apart.0, rest.0), (not_true (seen x) h.0, apart.1))
 
--- ---- numbers
+  none_seen : (xs : List X) → AllByRecursion (λ _. false ≡ false) xs
+  none_seen [] = tt
+  none_seen (x ∷ xs) = (refl, none_seen xs)
 
-abbrev pub numbers_seen : BTreeSet ℕ → ℕ → Bool
-numbers_seen s = λ q. contains_by (nat_cmp q) s
+  differ_if_distinct : (xs : List X) → IsDistinct same xs → all_differ same xs ≡ true
+  differ_if_distinct xs d = new_if_distinct (λ _. false) xs d (none_seen xs)
 
-pub no_numbers_seen : (s : BTreeSet ℕ) → s.keys ≡ [] → numbers_seen s ≡ (λ _. false)
-no_numbers_seen s e = fun_ext (λ q. rw e refl)
+  distinct_if_differ : (xs : List X) → all_differ same xs ≡ true → IsDistinct same xs
+  distinct_if_differ xs e = (distinct_if_new (λ _. false) xs e).0
+
+-- ---- in order
+
+-- neither is below the other
+level : (a b : Ordering) → a ≡ ordering_reverse b → is_lt a ≡ false → is_lt b ≡ false → is_eq a ≡ true
+level a Less e f g = absurd (false≢true (sym g))
+level a Equal e f g = rw e refl
+level a Greater e f g = absurd (false≢true (sym f ∙ ap is_lt e))
+
+is_less : (a : Ordering) → true ≡ is_lt a → a ≡ Less
+is_less Less e = refl
+is_less Equal e = absurd (false≢true (sym e))
+is_less Greater e = absurd (false≢true (sym e))
+
+-- items by f, in the order R, in which only the same are level
+module _ {A K : Type 0} (R : K → K → Ordering) (o : IsTotalOrder R) (same : K → K → Bool) (level_is : eq_by_cmp R ≡ same) (f : A → K) (d : A) where
+  at_place : (ys : List A) (k : ℕ) → k < length ys → get_or (map f ys) k (f d) ≡ f (get_or ys k d)
+  at_place ys k h = get_or-map f ys k d (f d) h
+
+  flips : (x y : K) → is_eq (R x y) ≡ is_eq (R y x)
+  flips x y = reversed (R y x) (R x y) (o.antisymm x y)
+    where
+      reversed : (b a : Ordering) → a ≡ ordering_reverse b → is_eq a ≡ is_eq b
+      reversed Less a e = rw e refl
+      reversed Equal a e = rw e refl
+      reversed Greater a e = rw e refl
+
+  sorted_distinct : (xs ys : List A) → IsPermutation xs ys → ((k : ℕ) (e : A) → k + 1 < length ys → true ≡ is_lt (R (f (get_or ys k e)) (f (get_or ys (k + 1) e)))) → IsDistinct (eq_by_cmp R) (map f xs)
+  sorted_distinct xs ys moved rise =
+      IsDistinct-IsPermutation (eq_by_cmp R) flips (map f ys) (map f xs) (IsPermutation-sym (map f xs) (map f ys) (IsPermutation-map f xs ys moved))
+      (IsDistinct-from_sorted R (map f ys)
+      (sorted_from_all_adjacent o (map f ys) (f d)
+      (λ k h. let within : k + 1 < length ys = omega (arith, length-map ys f) in
+      let before : k < length ys = omega arith in
+      rw (at_place ys k before, at_place ys (k + 1) within) (is_less (R (f (get_or ys k d)) (f (get_or ys (k + 1) d))) (rise k d within)))))
+
+  twice : (xs ys : List A) (k : ℕ) → IsPermutation xs ys → IsSorted (λ x y. R (f x) (f y)) ys → k + 1 < length ys → false ≡ is_lt (R (f (get_or ys k d)) (f (get_or ys (k + 1) d))) → IsDistinct (eq_by_cmp R) (map f xs) → ⊥
+  twice xs ys k moved sorted within falls distinct =
+      let before : k < length ys = omega arith in
+      let there : k + 1 < length (map f ys) = omega (arith, length-map ys f) in
+      let next : k < k + 1 = omega arith in
+      let apart = apart_from_distinct (eq_by_cmp R) (map f ys) k (k + 1) (f d) (IsDistinct-IsPermutation (eq_by_cmp R) flips (map f xs) (map f ys) (IsPermutation-map f xs ys moved) distinct) next there in
+      let alike = level (R (f (get_or ys k d)) (f (get_or ys (k + 1) d))) (R (f (get_or ys (k + 1) d)) (f (get_or ys k d))) (o.antisymm (f (get_or ys k d)) (f (get_or ys (k + 1) d))) (sym falls) (sorted k d (omega arith) within) in
+      false≢true (sym (rw (at_place ys k before, at_place ys (k + 1) within) at apart) ∙ alike)
+
+  no_differ : (xs : List A) (b : Bool) → all_differ same (map f xs) ≡ b → (IsDistinct (eq_by_cmp R) (map f xs) → ⊥) → false ≡ b
+  no_differ xs true e refuted = absurd (refuted (rw level_is (distinct_if_differ same (map f xs) e)))
+  no_differ xs false e refuted = refl
+
+  -- what the list in order says of its neighbours
+  pub rise_differ : (xs ys : List A) (b : Bool) → IsPermutation xs ys → IsSorted (λ x y. R (f x) (f y)) ys → IsAllAdjacentAnswer (λ x y r. r ≡ is_lt (R (f x) (f y))) ys b → b ≡ all_differ same (map f xs)
+  rise_differ xs ys true moved sorted rise = sym (differ_if_distinct same (map f xs) (rw level_is at (sorted_distinct xs ys moved rise)))
+  rise_differ xs ys false moved sorted falls = no_differ xs (all_differ same (map f xs)) refl (λ distinct. twice xs ys falls.0 moved sorted falls.1 (falls.2 d) distinct)
+
+pub texts_level : eq_by_cmp (slice_cmp nat_cmp) ≡ bytes_eq
+texts_level = fun_ext (λ x. fun_ext (λ y. is_eq-slice_cmp x y))
 
 is_eq-nat_cmp : (x y : ℕ) → is_eq (nat_cmp x y) ≡ (x == y)
 is_eq-nat_cmp x y = grind (arith, nat_tests)
 
-pub one_number_more : (s n : BTreeSet ℕ) (k : ℕ) → Updates nat_cmp s n k true → numbers_seen n ≡ (λ y. cond (k == y) true (numbers_seen s y))
-one_number_more s n k h = fun_ext (λ q. h.0 q ∙ ap (λ (b : Bool). cond b true (numbers_seen s q)) (is_eq-nat_cmp k q))
-
--- ---- a loop over a list, whose items are seen by f
-
-not_new : (b a : Bool) → a ≡ not b → a ≡ false → b ≡ true
-not_new true a e f = refl
-not_new false a e f = absurd cc
-
-is_new : (b a : Bool) → a ≡ not b → a ≡ true → b ≡ false
-is_new true a e f = absurd cc
-is_new false a e f = refl
-
-module _ {A B : Type 0} (f : A → B) (same : B → B → Bool) (xs : List A) (i : ℕ) (d x : A) (x_is : x ≡ get_or xs i d) (seen : B → Bool) (all : Bool) (so_far : all_new same seen (map f (drop i xs)) ≡ all) where
-  from_here : i < length xs → all_new same seen (f x ∷ map f (drop (i + 1) xs)) ≡ all
-  from_here h = rw (drop_item xs i d h, ← x_is) at so_far
-
-  pub stands_twice : (added : Bool) → i < length xs → added ≡ not (seen (f x)) → added ≡ false → false ≡ all
-  stands_twice added h e was = sym (old_here same seen (f x) (map f (drop (i + 1) xs)) (not_new (seen (f x)) added e was)) ∙ from_here h
-
-  pub goes_on : (seen2 : B → Bool) (added : Bool) → i < length xs → added ≡ not (seen (f x)) → added ≡ true → seen2 ≡ (λ y. cond (same (f x) y) true (seen y))
-      → all_new same seen2 (map f (drop (i + 1) xs)) ≡ all
-  goes_on seen2 added h e was more =
-      ap (λ (s : B → Bool). all_new same s (map f (drop (i + 1) xs))) more
-      ∙ sym (new_here same seen (f x) (map f (drop (i + 1) xs)) (is_new (seen (f x)) added e was)) ∙ from_here h
-
-pub over : {A B : Type 0} (f : A → B) (same : B → B → Bool) (xs : List A) (i : ℕ) (seen : B → Bool) (all : Bool) → all_new same seen (map f (drop i xs)) ≡ all → length xs ≤ i → true ≡ all
-over f same xs i seen all so_far h = sym (over_here same seen) ∙ rw (drop_all i xs h) at so_far
+pub numbers_level : eq_by_cmp nat_cmp ≡ (λ a b. a == b)
+numbers_level = fun_ext (λ x. fun_ext (λ y. is_eq-nat_cmp x y))
 
 -- some of what f shows passes where some item's does
 pub any-map : {A B : Type 0} (p : B → Bool) (f : A → B) (xs : List A) → list_any p (map f xs) ≡ list_any (λ x. p (f x)) xs

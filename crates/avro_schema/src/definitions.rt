@@ -1,4 +1,4 @@
-//! What a declaration says beside the types inside it: names, symbols, sizes, orders, defaults.
+//! What a declaration says beside the types inside it: names, symbols, sizes, other attributes.
 
 ghost use Rattle.std.specs.Prelude.{◌≡◌, length, Some, None, IfOk, OnOk, option_map, string_bytes, codes, ◌∷◌, []};
 ghost use Rattle.std.specs.Str.{bytes_eq};
@@ -6,8 +6,8 @@ ghost use Rattle.std.specs.List.{list_any};
 ghost use Rattle.serde_json.specs.Find.{get_member};
 ghost use Rattle.serde_json.specs.View.{view, members_view};
 ghost use Rattle.avro_nodes.specs.Nodes.{texts_view, named_view, nodes_view};
-ghost use Rattle.avro_schema.specs.Attributes.{without_all, fallback_in, order_in};
-ghost use Rattle.avro_schema.specs.Inside.Declarations.{naming, labelling, if_new, new_name, named_in, symbols_in, enum_at, fixed_at, label_in, label_view, bounded, bounded_value};
+ghost use Rattle.avro_schema.specs.Attributes.{without_all, fallback_in};
+ghost use Rattle.avro_schema.specs.Inside.Declarations.{naming, if_new, new_name, named_in, symbols_in, enum_at, fixed_at, bounded};
 ghost use Rattle.avro_schema.specs.Inside.ValueReaders.{room_at};
 ghost use Rattle.avro_schema.specs.Inside.ReaderAnswers.{Gives, Reads, known_in};
 
@@ -16,10 +16,10 @@ use crate::attributes::{
 };
 use crate::distinct::texts_differ;
 use crate::error::SchemaError;
-use crate::names::{Places, define, full_name, is_simple, place_of};
-use crate::nesting::{members_within, nests_within};
-use crate::words::{kind_of, order_of};
-use avro_nodes::{Extra, MAX_NESTING, MAX_PLACES, Named, Node, Order, last_part, namespace_of};
+use crate::names::{Places, define, full_name, place_of};
+use crate::nesting::members_within;
+use crate::words::kind_of;
+use avro_nodes::{Extra, MAX_NESTING, MAX_PLACES, Named, Node, last_part, namespace_of};
 use serde_json::Value;
 use std::alloc::Global;
 
@@ -29,7 +29,7 @@ use std::alloc::Global;
 ///
 /// `TooLarge` where there are as many nodes as a schema may have.
 #[tactic(auto, unfolding(crate::specs::Inside::ValueReaders::room_at))]
-pub fn room(nodes: &Vec<Node>) -> Result<u32, SchemaError>
+pub fn next_place(nodes: &Vec<Node>) -> Result<u32, SchemaError>
     ensures room { Gives (λ p. p) result (room_at (length nodes.now.items)) }
     ensures place { IfOk result (λ p. p ≡ length nodes.now.items) }
 {
@@ -46,7 +46,7 @@ pub fn room(nodes: &Vec<Node>) -> Result<u32, SchemaError>
 ///
 /// `TooLarge` where one of them nests deeper.
 #[tactic(auto, unfolding(crate::specs::Inside::Declarations::bounded))]
-pub fn bound(attributes: &Extra) -> Result<(), SchemaError>
+pub fn nest_within_limit(attributes: &Extra) -> Result<(), SchemaError>
     ensures { Gives (λ _. members_view attributes.now.entries) result
         (bounded (members_view attributes.now.entries)) }
 {
@@ -63,11 +63,11 @@ pub fn bound(attributes: &Extra) -> Result<(), SchemaError>
 /// # Errors
 ///
 /// `TooLarge` where one of them nests deeper.
-pub fn others(alloc: Global, attributes: Extra) -> Result<Extra, SchemaError>
+pub fn other_attributes(alloc: Global, attributes: Extra) -> Result<Extra, SchemaError>
     ensures { Gives (λ m. members_view m.entries) result
         (bounded (members_view attributes.entries)) }
 {
-    bound(&attributes)?;
+    nest_within_limit(&attributes)?;
     if attributes.is_empty() {
         Ok(Extra::new(alloc))
     } else {
@@ -200,11 +200,11 @@ pub fn enum_at(
         (nodes_view nodes.old.items) (nodes_view nodes.new.items) (known_in known.new) }
 {
     let mut rest = attributes;
-    let place = room(nodes)?;
+    let place = next_place(nodes)?;
     let named = named_of(alloc, &mut rest, space, known)?;
     let symbols = symbols_of(alloc, &mut rest)?;
     let fallback = fallback_of(take(&mut rest, "default"), &symbols)?;
-    let extra = others(alloc, rest)?;
+    let extra = other_attributes(alloc, rest)?;
     define(alloc, known, named.name.as_str(), place)?;
     nodes.push(Node::Enum {
         named,
@@ -235,82 +235,13 @@ pub fn fixed_at(
         (nodes_view nodes.old.items) (nodes_view nodes.new.items) (known_in known.new) }
 {
     let mut rest = attributes;
-    let place = room(nodes)?;
+    let place = next_place(nodes)?;
     let named = named_of(alloc, &mut rest, space, known)?;
     let Some(size) = size_of(take(&mut rest, "size")) else {
         return Err(SchemaError::BadShape);
     };
-    let extra = others(alloc, rest)?;
+    let extra = other_attributes(alloc, rest)?;
     define(alloc, known, named.name.as_str(), place)?;
     nodes.push(Node::Fixed { named, size, extra })?;
     Ok(place)
-}
-
-/// A field's order, ascending where it is missing.
-fn order_if_any(attribute: Option<Value>) -> Result<Order, SchemaError>
-    ensures { Gives (λ o. o) result (order_in (option_map view attribute)) }
-{
-    let Some(value) = attribute else {
-        return Ok(Order::Ascending);
-    };
-    let Some(name) = text_of(value) else {
-        return Err(SchemaError::BadShape);
-    };
-    match order_of(name.as_str()) {
-        Some(order) => Ok(order),
-        None => Err(SchemaError::BadShape),
-    }
-}
-
-/// A default that nests within the limit, and may be missing.
-fn value_if_any(attribute: Option<Value>) -> Result<Option<Value>, SchemaError>
-    ensures { Gives (option_map view) result (bounded_value (option_map view attribute)) }
-{
-    let Some(value) = attribute else {
-        return Ok(None);
-    };
-    if nests_within(&value, MAX_NESTING) {
-        Ok(Some(value))
-    } else {
-        Err(SchemaError::TooLarge)
-    }
-}
-
-/// What a field says beside its type.
-#[derive(Debug, Drop)]
-pub struct Label {
-    pub name: String,
-    pub aliases: Vec<String>,
-    pub order: Order,
-    pub value: Option<Value>,
-}
-
-/// What a field says beside its type and its other attributes, which are left.
-///
-/// # Errors
-///
-/// `BadShape` where the name is missing, the order is none, or an attribute of these has another
-/// JSON type, `BadName` where a name isn't well formed, `TooLarge` where the default nests too
-/// deep, and `OutOfMemory` where memory is refused. Some of the attributes may be taken out then.
-#[tactic(auto, unfolding(crate::specs::Inside::Declarations::label_in))]
-pub fn label_of(alloc: Global, attributes: &mut Extra) -> Result<Label, SchemaError>
-    ensures label { Gives label_view result (label_in (members_view attributes.old.entries)) }
-    ensures rest { OnOk result (members_view attributes.new.entries
-        ≡ without_all labelling (members_view attributes.old.entries)) }
-{
-    let Some(name) = take_text(attributes, "name") else {
-        return Err(SchemaError::BadShape);
-    };
-    if !is_simple(name.as_str()) {
-        return Err(SchemaError::BadName);
-    }
-    let aliases = names_if_any(alloc, take(attributes, "aliases"), None)?;
-    let order = order_if_any(take(attributes, "order"))?;
-    let value = value_if_any(take(attributes, "default"))?;
-    Ok(Label {
-        name,
-        aliases,
-        order,
-        value,
-    })
 }

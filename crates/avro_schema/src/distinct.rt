@@ -1,12 +1,14 @@
 //! Whether none stands twice.
 
 ghost use Rattle.std.specs.Prelude.{◌≡◌, ◌==◌, List, ℕ, IfOk, map, string_bytes};
+ghost use Rattle.std.specs.Cmp.Lexicographic.{slice_cmp};
+ghost use Rattle.std.specs.List.{IsAllAdjacentAnswer};
+ghost use Rattle.std.specs.Ordering.{is_lt, nat_cmp};
 ghost use Rattle.std.specs.Str.{bytes_eq};
 ghost use Rattle.avro_schema.specs.Inside.Distinct.{all_differ};
 
 use avro_nodes::Field;
 use std::alloc::{AllocError, Global};
-use std::collections::BTreeSet;
 
 /// What a text names in its list.
 pub trait Titled {
@@ -32,36 +34,61 @@ impl Titled for Field {
     }
 }
 
+/// What each item names.
+fn titles_of<T: Titled>(alloc: Global, items: &[T]) -> Result<Vec<&str>, AllocError>
+    ensures { IfOk result (λ v. map (λ t. t.now) v.items ≡ map T.title_of items.now) }
+{
+    let mut titles = Vec::with_capacity(alloc, items.len())?;
+    for item in items {
+        titles.push(item.title())?;
+    }
+    Ok(titles)
+}
+
+/// Whether each text is below the next.
+fn texts_rise(texts: &[&str]) -> bool
+    ensures { IsAllAdjacentAnswer (λ x y b. b ≡ is_lt (slice_cmp nat_cmp x.now y.now)) texts.now result }
+{
+    texts.is_sorted_by(
+        |first: &&str, second: &&str| -> bool
+            ensures { result ≡ is_lt (slice_cmp nat_cmp first.now.now second.now.now) }
+        { *first < *second },
+    )
+}
+
 /// Whether no text, or no field's name, stands twice.
 ///
 /// # Errors
 ///
-/// `AllocError` where memory for those seen so far is refused.
+/// `AllocError` where memory for a list of them is refused.
 pub fn texts_differ<T: Titled>(alloc: Global, items: &[T]) -> Result<bool, AllocError>
     ensures { IfOk result (λ b. b ≡ all_differ bytes_eq (map T.title_of items.now)) }
 {
-    let mut seen = BTreeSet::new(alloc);
-    for item in items {
-        if !seen.insert(item.title())? {
-            return Ok(false);
-        }
-    }
-    Ok(true)
+    let mut titles = titles_of(alloc, items)?;
+    titles.sort_unstable();
+    Ok(texts_rise(&titles))
+}
+
+/// Whether each number is below the next.
+fn numbers_rise(numbers: &[u64]) -> bool
+    ensures { IsAllAdjacentAnswer (λ x y b. b ≡ is_lt (nat_cmp x y)) numbers.now result }
+{
+    numbers.is_sorted_by(
+        |first: &u64, second: &u64| -> bool
+            ensures { result ≡ is_lt (nat_cmp first.now second.now) }
+        { *first < *second },
+    )
 }
 
 /// Whether no kind of a branch, its second part, stands twice.
 ///
 /// # Errors
 ///
-/// `AllocError` where memory for those seen so far is refused.
+/// `AllocError` where memory for a list of them is refused.
 pub fn kinds_differ(alloc: Global, branches: &[(u32, u64)]) -> Result<bool, AllocError>
     ensures { IfOk result (λ b. b ≡ all_differ (λ a c. a == c) (map (λ p. p.1) branches.now)) }
 {
-    let mut seen = BTreeSet::new(alloc);
-    for (_, kind) in branches {
-        if !seen.insert(*kind)? {
-            return Ok(false);
-        }
-    }
-    Ok(true)
+    let mut kinds: Vec<u64> = branches.iter().map(|branch| branch.1).collect(alloc)?;
+    kinds.sort_unstable();
+    Ok(numbers_rise(&kinds))
 }

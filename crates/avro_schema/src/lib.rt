@@ -7,6 +7,7 @@ mod defaults;
 mod definitions;
 mod distinct;
 mod error;
+mod labels;
 mod mentions;
 mod names;
 mod nesting;

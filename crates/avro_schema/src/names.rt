@@ -63,7 +63,8 @@ fn dotted(alloc: Global, space: &str, name: &str) -> Result<String, AllocError>
     requires { 0 < length space.now }
     ensures { IfOk result (λ s. string_bytes s ≡ joined space.now name.now) }
 {
-    let mut full = String::from_str(alloc, space)?;
+    let mut full = String::with_capacity(alloc, space.len() + 1 + name.len())?;
+    full.push_str(space)?;
     full.push_str(".")?;
     full.push_str(name)?;
     Ok(full)

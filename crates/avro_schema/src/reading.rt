@@ -8,9 +8,12 @@ ghost use Rattle.avro_schema.specs.Inside.Types.{container_at, branch_of, union_
 ghost use Rattle.avro_schema.specs.Inside.ReaderAnswers.{Reads, known_in};
 
 use crate::attributes::{members_of, take, take_items, take_text};
-use crate::definitions::{bound, enum_at, fixed_at, label_of, named_of, others, room};
+use crate::definitions::{
+    enum_at, fixed_at, named_of, nest_within_limit, next_place, other_attributes,
+};
 use crate::distinct::{kinds_differ, texts_differ};
 use crate::error::SchemaError;
+use crate::labels::label_of;
 use crate::names::{Places, define};
 use crate::reading::kinds::{branch_number, key_of};
 use crate::reading::names::{name_at, primitive_at, reference_to};
@@ -97,7 +100,7 @@ fn object_at(
         Word::Enum => enum_at(alloc, attributes, space, nodes, known),
         Word::Record => record_at(alloc, attributes, space, depth, nodes, known),
         Word::Reference => {
-            bound(&attributes)?;
+            nest_within_limit(&attributes)?;
             reference_to(alloc, name.as_str(), space, nodes, known)
         }
     }
@@ -118,11 +121,11 @@ fn container_at(
         (nodes_view nodes.old.items) (nodes_view nodes.new.items) (known_in known.new) }
 {
     let mut rest = attributes;
-    let place = room(nodes)?;
+    let place = next_place(nodes)?;
     let Some(inner) = take(&mut rest, key_of(container)) else {
         return Err(SchemaError::BadShape);
     };
-    let extra = others(alloc, rest)?;
+    let extra = other_attributes(alloc, rest)?;
     nodes.push(blank(alloc))?;
     let within = type_at(alloc, inner, space, depth, nodes, known)?;
     settle(nodes, place, container_node(container, within, extra));
@@ -142,7 +145,7 @@ fn union_at(
         (union_at (type_at depth space.now) (items_view items.items) (known_in known.old) (length nodes.old.items))
         (nodes_view nodes.old.items) (nodes_view nodes.new.items) (known_in known.new) }
 {
-    let place = room(nodes)?;
+    let place = next_place(nodes)?;
     nodes.push(blank(alloc))?;
     let read = branches_at(alloc, items, space, depth, nodes, known)?;
     if !kinds_differ(alloc, &read)? {
@@ -208,12 +211,12 @@ fn record_at(
         (nodes_view nodes.old.items) (nodes_view nodes.new.items) (known_in known.new) }
 {
     let mut rest = attributes;
-    let place = room(nodes)?;
+    let place = next_place(nodes)?;
     let named = named_of(alloc, &mut rest, space, known)?;
     let Some(items) = take_items(&mut rest, "fields") else {
         return Err(SchemaError::BadShape);
     };
-    let extra = others(alloc, rest)?;
+    let extra = other_attributes(alloc, rest)?;
     nodes.push(blank(alloc))?;
     define(alloc, known, named.name.as_str(), place)?;
     let inside = namespace_of(named.name.as_str());
@@ -273,7 +276,7 @@ fn field_at(
     let Some(inner) = take(&mut rest, "type") else {
         return Err(SchemaError::BadShape);
     };
-    let extra = others(alloc, rest)?;
+    let extra = other_attributes(alloc, rest)?;
     let place = type_at(alloc, inner, space, depth, nodes, known)?;
     Ok(field_from(label, place, extra))
 }

@@ -1,6 +1,6 @@
 //! The cases.
 
-/// What a text declares so many of, inside one record or union.
+/// What a text declares so many of.
 #[derive(Clone, Copy, Debug, PartialEq, Eq)]
 pub enum Shape {
     /// fields of type int, each third with a default
@@ -13,96 +13,84 @@ pub enum Shape {
     Union,
     /// fields with defaults of a record, and as many empty objects of it in an array's default
     Defaults,
+    /// symbols of an enum
+    Symbols,
+    /// parts of a name, between its dots
+    Parts,
+    /// fields of a type in the null namespace, in a record whose namespace fills the text
+    References,
+    /// branches of a union that name the record around it, whose namespace fills the text: it is
+    /// no schema, which shows once all of them are read
+    Branches,
+    /// objects in another attribute
+    Objects,
+    /// objects in objects, 20 deep, in another attribute
+    Chains,
 }
 
-/// A text to be measured.
+/// Texts to be measured: of one shape, from the least on, which shows how its time grows.
 #[derive(Clone, Copy, Debug)]
 pub struct Case {
     pub name: &'static str,
     pub shape: Shape,
-    pub count: u32,
+    pub counts: &'static [u32],
 }
 
-/// All cases, those of one shape from the least on, which shows how its time grows.
-pub static CASES: [Case; 16] = [
+/// All cases.
+pub static CASES: [Case; 11] = [
     Case {
-        name: "fields-10",
+        name: "fields",
         shape: Shape::Fields,
-        count: 10,
+        counts: &[1, 3, 9, 100, 1000, 4000],
     },
     Case {
-        name: "fields-100",
-        shape: Shape::Fields,
-        count: 100,
-    },
-    Case {
-        name: "fields-1000",
-        shape: Shape::Fields,
-        count: 1000,
-    },
-    Case {
-        name: "fields-4000",
-        shape: Shape::Fields,
-        count: 4000,
-    },
-    Case {
-        name: "nested-1",
+        name: "nested",
         shape: Shape::Nested,
-        count: 1,
+        counts: &[1, 10, 100],
     },
     Case {
-        name: "nested-10",
-        shape: Shape::Nested,
-        count: 10,
-    },
-    Case {
-        name: "nested-100",
-        shape: Shape::Nested,
-        count: 100,
-    },
-    Case {
-        name: "aliased-10",
+        name: "aliased",
         shape: Shape::Aliased,
-        count: 10,
+        counts: &[1, 10, 100, 1000],
     },
     Case {
-        name: "aliased-100",
-        shape: Shape::Aliased,
-        count: 100,
-    },
-    Case {
-        name: "aliased-1000",
-        shape: Shape::Aliased,
-        count: 1000,
-    },
-    Case {
-        name: "union-10",
+        name: "union",
         shape: Shape::Union,
-        count: 10,
+        counts: &[3, 10, 100, 1000],
     },
     Case {
-        name: "union-100",
-        shape: Shape::Union,
-        count: 100,
-    },
-    Case {
-        name: "union-1000",
-        shape: Shape::Union,
-        count: 1000,
-    },
-    Case {
-        name: "defaults-10",
+        name: "defaults",
         shape: Shape::Defaults,
-        count: 10,
+        counts: &[3, 10, 100, 1000],
     },
     Case {
-        name: "defaults-100",
-        shape: Shape::Defaults,
-        count: 100,
+        name: "symbols",
+        shape: Shape::Symbols,
+        counts: &[10, 1000, 60_000],
     },
     Case {
-        name: "defaults-1000",
-        shape: Shape::Defaults,
-        count: 1000,
+        name: "parts",
+        shape: Shape::Parts,
+        counts: &[10, 1000, 500_000],
+    },
+    Case {
+        name: "references",
+        shape: Shape::References,
+        counts: &[1000, 4000, 15_000],
+    },
+    Case {
+        name: "branches",
+        shape: Shape::Branches,
+        counts: &[100, 1000, 10_000],
+    },
+    Case {
+        name: "objects",
+        shape: Shape::Objects,
+        counts: &[10, 1000, 140_000],
+    },
+    Case {
+        name: "chains",
+        shape: Shape::Chains,
+        counts: &[1, 100, 9000],
     },
 ];

@@ -7,7 +7,7 @@ use Rattle.serde_json.specs.View.{view}
 use Rattle.avro_nodes.specs.declared.node.Order.{Order}
 use Rattle.avro_nodes.specs.Limits.{max_nesting}
 use Rattle.avro_nodes.specs.Nodes.{NamedView, texts_view, enumeration, fixed}
-use Rattle.avro_schema.specs.declared.definitions.Label.{Label}
+use Rattle.avro_schema.specs.declared.labels.Label.{Label}
 use Rattle.avro_schema.specs.Names.{Known, is_simple, allowed, full_name, alias_in, defined}
 use Rattle.avro_nodes.specs.Names.{namespace_of, last_part}
 use Rattle.avro_schema.specs.Words.{kind_of}

@@ -6,7 +6,7 @@ ghost use Rattle.avro_nodes.specs.Nodes.{nodes_view};
 ghost use Rattle.avro_schema.specs.Inside.Types.{reference_to, primitive_at, name_at};
 ghost use Rattle.avro_schema.specs.Inside.ReaderAnswers.{Reads, known_in};
 
-use crate::definitions::{others, room};
+use crate::definitions::{next_place, other_attributes};
 use crate::error::SchemaError;
 use crate::names::{Places, resolve};
 use crate::words::kind_of;
@@ -31,8 +31,8 @@ pub fn primitive_at(
         (primitive_at kind (members_view attributes.entries) (known_in known.now) (length nodes.old.items))
         (nodes_view nodes.old.items) (nodes_view nodes.new.items) (known_in known.now) }
 {
-    let place = room(nodes)?;
-    let extra = others(alloc, attributes)?;
+    let place = next_place(nodes)?;
+    let extra = other_attributes(alloc, attributes)?;
     nodes.push(Node::Primitive { kind, extra })?;
     Ok(place)
 }

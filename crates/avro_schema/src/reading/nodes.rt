@@ -6,7 +6,7 @@ ghost use Rattle.avro_nodes.specs.Nodes.{field_view, node_view, nodes_view};
 ghost use Rattle.avro_schema.specs.Inside.Types.{container_node, field_at};
 ghost use Rattle.avro_schema.specs.Inside.Declarations.{label_view};
 
-use crate::definitions::Label;
+use crate::labels::Label;
 use crate::words::Container;
 use avro_nodes::{Extra, Field, Node};
 use std::alloc::Global;

@@ -1,20 +1,19 @@
-use Rattle.std.proofs.Common.{◌∙◌, ℕ, List, Some, string_bytes, sym, ap, arith}
+use Rattle.std.proofs.Common.{◌∙◌, ℕ, List, Some, string_bytes, sym, ap}
 use Rattle.std.proofs.lemmas.List.{append-nil}
-use Rattle.std.proofs.lemmas.Str.{IsCharBoundary-start}
 use Rattle.avro_nodes.specs.declared.plain.Quoting.TheVariants.{Outside}
 use Rattle.avro_nodes.specs.Plain.{before, plain}
-use Rattle.avro_nodes.proofs.Runs.{before_nothing, nothing_left, turn_done, turn_fails, run_cut}
+use Rattle.avro_nodes.proofs.Runs.{front_range, nothing_left, turn_done, turn_fails, run_cut}
 use Rattle.avro_nodes.proofs.plain.plain_of.Goals as goal
 
 pub loop-at-init : goal.loop-at-init
 loop-at-init c = record {
-  text = rw c.in_ok-out.ensures.bytes (before_nothing (plain c.args.text.now));
-  place = omega arith;
-  cut = IsCharBoundary-start c.args.text.now c.utf8.text;
+  text = rw (c.in_ok-push_str.ensures.bytes, c.in_ok-out.ensures.bytes, c.range.ensures.value, front_range c.args.text.now c.kept_up_to-at.result) c.kept_up_to-at.ensures.kept;
+  place = c.kept_up_to-at.ensures.place;
+  cut = c.kept_up_to-at.ensures.cut;
 }
 
-pub range-requires-clause-end_boundary : goal.range-requires-clause-end_boundary
-range-requires-clause-end_boundary c =
+pub range-requires-in-loop-at-clause-end_boundary : goal.range-requires-in-loop-at-clause-end_boundary
+range-requires-in-loop-at-clause-end_boundary c =
     let same = c.as_bytes-bytes.ensures.value in
     run_cut c.args.text.now c.run_start-start.result c.run_end-end.result c.utf8.text (rw same at c.run_start-start.ensures.place.1) (rw same at c.run_start-start.ensures.found) (rw same at c.run_end-end.ensures)
 
@@ -23,7 +22,7 @@ returns-in_default c =
     let same = c.as_bytes-bytes.ensures.value in
     turn_fails c.args.text.now (string_bytes c.loop-at.out) (plain c.args.text.now) c.loop-at.at c.run_start-start.result c.run_end-end.result
     c.loop-at.invariant.text (rw same at c.run_start-start.ensures.pieces) (rw same at c.run_start-start.ensures.found) (rw same at c.run_end-end.ensures)
-    (rw c.range.ensures.value at c.in_default.ensures)
+    (rw c.range-in-loop-at.ensures.value at c.in_default.ensures)
 
 pub loop-at-preserved : goal.loop-at-preserved
 loop-at-preserved c =
@@ -31,10 +30,10 @@ loop-at-preserved c =
     let done =
     turn_done c.args.text.now (string_bytes c.loop-at.out) (plain c.args.text.now) c.loop-at.at c.run_start-start.result c.run_end-end.result
     c.loop-at.invariant.text (rw same at c.run_start-start.ensures.pieces) (rw same at c.run_start-start.ensures.found) (rw same at c.run_end-end.ensures)
-    c.in-Some.number.now (rw c.range.ensures.value at c.in-Some.ensures) in
+    c.in-Some.number.now (rw c.range-in-loop-at.ensures.value at c.in-Some.ensures) in
     let cut = run_cut c.args.text.now c.run_start-start.result c.run_end-end.result c.utf8.text (rw same at c.run_start-start.ensures.place.1) (rw same at c.run_start-start.ensures.found) (rw same at c.run_end-end.ensures) in
     record {
-      text = rw (c.in_ok-push_str-2.ensures.bytes, c.in_ok-push_str.ensures.bytes, c.range-in-loop-at.ensures.value) done;
+      text = rw (c.in_ok-push_str-3.ensures.bytes, c.in_ok-push_str-2.ensures.bytes, c.range-in-loop-at-2.ensures.value) done;
       place = cut.0;
       cut = cut;
     }

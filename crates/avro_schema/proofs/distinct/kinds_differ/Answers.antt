@@ -1,17 +1,14 @@
-use Rattle.std.proofs.Common.{ℕ, refl}
+use Rattle.std.proofs.Common.{◌≡◌, ◌∙◌, ℕ, nat_cmp, map, ap, rules}
+use Rattle.std.proofs.lemmas.List.{map-id}
+use Rattle.std.specs.Cmp.{nat_cmp_total}
 use Rattle.std.specs.Prelude.{◌==◌}
-use Rattle.avro_schema.proofs.DistinctLemmas.{numbers_seen, one_number_more, stands_twice, goes_on, over}
+use Rattle.avro_schema.specs.Inside.Distinct.{all_differ}
+use Rattle.avro_schema.proofs.DistinctLemmas.{rise_differ, numbers_level}
 use Rattle.avro_schema.proofs.distinct.kinds_differ.Goals as goal
 
-pub returns-then-not-branch : goal.returns-then-not-branch
-returns-then-not-branch c =
-    stands_twice (λ (p : ℕ × ℕ). p.1) (λ a b. a == b) c.args.branches.now c.loop-kind.kind-index (0, 0) _ refl (numbers_seen c.loop-kind.seen) _ c.loop-kind.invariant _ c.loop-kind-test.true
-    c.in_ok-insert.ensures.added c.if-not-branch.true
-
-pub loop-kind-preserved : goal.loop-kind-preserved
-loop-kind-preserved c =
-    goes_on (λ (p : ℕ × ℕ). p.1) (λ a b. a == b) c.args.branches.now c.loop-kind.kind-index (0, 0) _ refl (numbers_seen c.loop-kind.seen) _ c.loop-kind.invariant _ _ c.loop-kind-test.true
-    c.in_ok-insert.ensures.added c.if-not-branch.false (one_number_more _ _ _ c.in_ok-insert.ensures.updates)
-
 pub returns : goal.returns
-returns c = over (λ (p : ℕ × ℕ). p.1) (λ a b. a == b) c.args.branches.now c.loop-kind.kind-index (numbers_seen c.loop-kind.seen) _ c.loop-kind.invariant c.loop-kind-test.false
+returns c =
+    let kinds : c.in_ok-kinds.kinds.items ≡ map (λ (p : ℕ × ℕ). p.1) c.args.branches.now = search rules in
+    rise_differ nat_cmp nat_cmp_total (λ a b. a == b) numbers_level (λ x. x) 0 c.in_ok-kinds.kinds.items c.sort_unstable.new.self.items c.numbers_rise.result
+    c.sort_unstable.ensures.permutation c.sort_unstable.ensures.sorted (rw c.deref.ensures.value at c.numbers_rise.ensures)
+    ∙ ap (all_differ (λ a b. a == b)) (map-id c.in_ok-kinds.kinds.items ∙ kinds)

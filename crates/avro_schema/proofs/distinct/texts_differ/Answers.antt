@@ -1,16 +1,11 @@
-use Rattle.std.specs.Str.{bytes_eq}
-use Rattle.avro_schema.proofs.DistinctLemmas.{texts_seen, one_text_more, stands_twice, goes_on, over}
+use Rattle.std.proofs.Common.{◌∙◌, ℕ, List, [], nat_cmp, bytes_eq, Bor, ap}
+use Rattle.std.specs.Cmp.Lexicographic.{slice_cmp, nat_list_cmp_total}
+use Rattle.avro_schema.specs.Inside.Distinct.{all_differ}
+use Rattle.avro_schema.proofs.DistinctLemmas.{rise_differ, texts_level}
 use Rattle.avro_schema.proofs.distinct.texts_differ.Goals as goal
 
-pub returns-then-not-branch : goal.returns-then-not-branch
-returns-then-not-branch g c =
-    stands_twice g.T.Titled.title_of bytes_eq c.args.items.now c.loop-item.item-index c.item-item.result c.item-item.result c.item-item.is (texts_seen c.loop-item.seen) _ c.loop-item.invariant _ c.loop-item-test.true
-    (rw c.title.ensures at c.in_ok-insert.ensures.added) c.if-not-branch.true
-
-pub loop-item-preserved : goal.loop-item-preserved
-loop-item-preserved g c =
-    goes_on g.T.Titled.title_of bytes_eq c.args.items.now c.loop-item.item-index c.item-item.result c.item-item.result c.item-item.is (texts_seen c.loop-item.seen) _ c.loop-item.invariant _ _ c.loop-item-test.true
-    (rw c.title.ensures at c.in_ok-insert.ensures.added) c.if-not-branch.false (rw c.title.ensures at (one_text_more _ _ c.title.result c.in_ok-insert.ensures.updates))
-
 pub returns : goal.returns
-returns g c = over g.T.Titled.title_of bytes_eq c.args.items.now c.loop-item.item-index (texts_seen c.loop-item.seen) _ c.loop-item.invariant c.loop-item-test.false
+returns g c =
+    rise_differ (slice_cmp nat_cmp) nat_list_cmp_total bytes_eq texts_level (λ (t : Bor (List ℕ)). t.now) (record { ref_ptr = (0, 0); now = [] }) c.in_ok-titles.titles.items c.sort_unstable.new.self.items c.texts_rise.result
+    c.sort_unstable.ensures.permutation c.sort_unstable.ensures.sorted (rw c.deref.ensures.value at c.texts_rise.ensures)
+    ∙ ap (all_differ bytes_eq) c.in_ok-titles.ensures

@@ -80,14 +80,14 @@ pub object_at-returns-in-Record : goal.object_at-returns-in-Record
 object_at-returns-in-Record t c =
     same_reads _ _ _ _ _ _ _ (object_is _ _ _ _ _ _ _ (sym c.in-Some.ensures.text) c.in-Some.ensures.rest _ (rw c.as_str.ensures.value at c.in-Record.ensures)) c.record_at.ensures
 
-pub object_at-returns-in_err-bound-in-Reference : goal.object_at-returns-in_err-bound-in-Reference
-object_at-returns-in_err-bound-in-Reference t c =
+pub object_at-returns-in_err-nest_within_limit-in-Reference : goal.object_at-returns-in_err-nest_within_limit-in-Reference
+object_at-returns-in_err-nest_within_limit-in-Reference t c =
     reads_exit _ _ _ _ _ _ _ c.from_residual.ensures.1
-    (fails_from _ _ _ (reference_unbound _ _ _ _ _ _ _ (sym c.in-Some.ensures.text) c.in-Some.ensures.rest (rw c.as_str.ensures.value at c.in-Reference.ensures)) c.in_err-bound-in-Reference.ensures)
+    (fails_from _ _ _ (reference_unbound _ _ _ _ _ _ _ (sym c.in-Some.ensures.text) c.in-Some.ensures.rest (rw c.as_str.ensures.value at c.in-Reference.ensures)) c.in_err-nest_within_limit-in-Reference.ensures)
 
-pub object_at-returns-in_ok-bound-in-Reference : goal.object_at-returns-in_ok-bound-in-Reference
-object_at-returns-in_ok-bound-in-Reference t c =
-    same_reads _ _ _ _ _ _ _ (reference_is _ _ _ _ _ _ _ (sym c.in-Some.ensures.text) c.in-Some.ensures.rest _ (rw c.as_str.ensures.value at c.in-Reference.ensures) c.in_ok-bound-in-Reference.ensures)
+pub object_at-returns-in_ok-nest_within_limit-in-Reference : goal.object_at-returns-in_ok-nest_within_limit-in-Reference
+object_at-returns-in_ok-nest_within_limit-in-Reference t c =
+    same_reads _ _ _ _ _ _ _ (reference_is _ _ _ _ _ _ _ (sym c.in-Some.ensures.text) c.in-Some.ensures.rest _ (rw c.as_str.ensures.value at c.in-Reference.ensures) c.in_ok-nest_within_limit-in-Reference.ensures)
     (rw c.as_str-in-Reference.ensures.value at c.reference_to.ensures)
 
 -- ---- an array or a map

@@ -1,0 +1,16 @@
+use Rattle.std.proofs.Common.{◌≡◌, ◌-◌, ◌≤◌, take, drop, length}
+use Rattle.std.specs.Str.{IsCharBoundary}
+use Rattle.avro_nodes.specs.declared.plain.Quoting.TheVariants.{Outside}
+use Rattle.avro_nodes.specs.Plain.{before, joined, pieces, plain}
+use Rattle.avro_nodes.proofs.plain.kept_up_to.Given as goal
+
+abbrev pub invariant-loop-at : goal.invariant-loop-at
+invariant-loop-at l =
+    record {
+      kept : before (take l.at l.text) (joined (pieces Outside (drop l.at l.text))) ≡ plain l.text;
+      place : l.at ≤ length l.text;
+      cut : IsCharBoundary l.text l.at;
+    }
+
+abbrev pub decreases-loop-at : goal.decreases-loop-at
+decreases-loop-at l = length l.text - l.at

@@ -1,0 +1,7 @@
+use Rattle.std.proofs.Common.{nat_cmp, is_lt}
+use Rattle.std.proofs.lemmas.List.Sorted.{answers_always}
+use Rattle.std.specs.Cmp.Lexicographic.{slice_cmp}
+use Rattle.avro_schema.proofs.distinct.texts_rise.Goals as goal
+
+pub returns : goal.returns
+returns c = c.is_sorted_by.ensures.cases (λ x y. is_lt (slice_cmp nat_cmp x.now y.now)) (answers_always _ _ _ (λ f a r f' k. k.met))

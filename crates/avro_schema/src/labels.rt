@@ -1,0 +1,85 @@
+//! What a field says beside its type: its name, aliases, order and default.
+
+ghost use Rattle.std.specs.Prelude.{◌≡◌, OnOk, option_map};
+ghost use Rattle.serde_json.specs.View.{view, members_view};
+ghost use Rattle.avro_schema.specs.Attributes.{without_all, order_in};
+ghost use Rattle.avro_schema.specs.Inside.Declarations.{labelling, label_in, label_view, bounded_value};
+ghost use Rattle.avro_schema.specs.Inside.ReaderAnswers.{Gives};
+
+use crate::attributes::{names_if_any, take, take_text, text_of};
+use crate::error::SchemaError;
+use crate::names::is_simple;
+use crate::nesting::nests_within;
+use crate::words::order_of;
+use avro_nodes::{Extra, MAX_NESTING, Order};
+use serde_json::Value;
+use std::alloc::Global;
+
+/// A field's order, ascending where it is missing.
+fn order_if_any(attribute: Option<Value>) -> Result<Order, SchemaError>
+    ensures { Gives (λ o. o) result (order_in (option_map view attribute)) }
+{
+    let Some(value) = attribute else {
+        return Ok(Order::Ascending);
+    };
+    let Some(name) = text_of(value) else {
+        return Err(SchemaError::BadShape);
+    };
+    match order_of(name.as_str()) {
+        Some(order) => Ok(order),
+        None => Err(SchemaError::BadShape),
+    }
+}
+
+/// A default that nests within the limit, and may be missing.
+fn value_if_any(attribute: Option<Value>) -> Result<Option<Value>, SchemaError>
+    ensures { Gives (option_map view) result (bounded_value (option_map view attribute)) }
+{
+    let Some(value) = attribute else {
+        return Ok(None);
+    };
+    if nests_within(&value, MAX_NESTING) {
+        Ok(Some(value))
+    } else {
+        Err(SchemaError::TooLarge)
+    }
+}
+
+/// What a field says beside its type.
+#[derive(Debug, Drop)]
+pub struct Label {
+    pub name: String,
+    pub aliases: Vec<String>,
+    pub order: Order,
+    pub value: Option<Value>,
+}
+
+/// What a field says beside its type and its other attributes, which are left.
+///
+/// # Errors
+///
+/// `BadShape` where the name is missing, the order is none, or an attribute of these has another
+/// JSON type, `BadName` where a name isn't well formed, `TooLarge` where the default nests too
+/// deep, and `OutOfMemory` where memory is refused. Some of the attributes may be taken out then.
+#[tactic(auto, unfolding(crate::specs::Inside::Declarations::label_in))]
+pub fn label_of(alloc: Global, attributes: &mut Extra) -> Result<Label, SchemaError>
+    ensures label { Gives label_view result (label_in (members_view attributes.old.entries)) }
+    ensures rest { OnOk result (members_view attributes.new.entries
+        ≡ without_all labelling (members_view attributes.old.entries)) }
+{
+    let Some(name) = take_text(attributes, "name") else {
+        return Err(SchemaError::BadShape);
+    };
+    if !is_simple(name.as_str()) {
+        return Err(SchemaError::BadName);
+    }
+    let aliases = names_if_any(alloc, take(attributes, "aliases"), None)?;
+    let order = order_if_any(take(attributes, "order"))?;
+    let value = value_if_any(take(attributes, "default"))?;
+    Ok(Label {
+        name,
+        aliases,
+        order,
+        value,
+    })
+}
