@@ -180,6 +180,23 @@ pub fn push_references(alloc: Global, text: &mut String, count: u32) -> Result<(
     text.push_str("]}")
 }
 
+/// So many records of one last name, each with a field of the enum `E` and one of the type.
+pub fn push_retaken(
+    alloc: Global,
+    text: &mut String,
+    count: u32,
+    last: &str,
+) -> Result<(), AllocError> {
+    for index in 0..count {
+        let name = name_of(alloc, true, index)?;
+        write!(
+            text,
+            r#",{{"type":"record","name":"{name}","fields":[{{"name":"e","type":"E"}},{{"name":"f","type":{last}}}]}}"#
+        )?;
+    }
+    Ok(())
+}
+
 /// The rungs of a ladder, the last one first, each of records named by these letters. A record has
 /// a field of the next rung's records, and those of the last rung one of the type.
 pub fn push_ladder(

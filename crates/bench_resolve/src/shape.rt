@@ -35,6 +35,9 @@ pub enum Shape {
     /// a record with a field for each of so many records of one last name and different fields, with
     /// itself
     References,
+    /// an enum of 20,000 symbols and so many records of one last name with a field of it and another
+    /// one, which is an int, and the reader's a string
+    Retaken,
     /// a ladder of two records a rung on the reader's side, of which the last ones differ
     Ladder,
     /// a broken chain beside an enum of 5000 symbols
@@ -42,7 +45,7 @@ pub enum Shape {
 }
 
 /// All shapes, with the counts of `all`.
-pub static SHAPES: [(&str, Shape, &[u32]); 17] = [
+pub static SHAPES: [(&str, Shape, &[u32]); 18] = [
     ("fields", Shape::Fields, &[10, 100, 1000, 4095]),
     ("reversed", Shape::Reversed, &[10, 100, 1000, 4095]),
     ("other-types", Shape::OtherTypes, &[10, 100, 1000, 4095]),
@@ -58,6 +61,7 @@ pub static SHAPES: [(&str, Shape, &[u32]); 17] = [
     ("cycles", Shape::Cycles, &[40, 400, 4000]),
     ("open-cycles", Shape::OpenCycles, &[400, 4000]),
     ("references", Shape::References, &[200, 2000]),
+    ("retaken", Shape::Retaken, &[200, 2000]),
     ("ladder", Shape::Ladder, &[30, 300]),
     ("beside", Shape::Beside, &[200]),
 ];

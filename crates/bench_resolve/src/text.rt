@@ -2,7 +2,7 @@
 
 use crate::parts::{
     push_chain, push_cycle, push_enum, push_enums, push_fan, push_fields, push_ladder, push_nested,
-    push_record, push_references, push_tree,
+    push_record, push_references, push_retaken, push_tree,
 };
 use crate::shape::Shape;
 use std::alloc::{AllocError, Global};
@@ -12,6 +12,9 @@ const FEW_SYMBOLS: u32 = 35;
 
 /// How many symbols the enum of `Beside` has.
 const MANY_SYMBOLS: u32 = 5000;
+
+/// How many symbols the enum of `Retaken` has.
+const MOST_SYMBOLS: u32 = 20000;
 
 /// Whose text is made.
 #[derive(Clone, Copy, Debug, PartialEq, Eq)]
@@ -44,6 +47,10 @@ fn push_branches(
         Shape::BrokenChain => push_chain(alloc, text, count, broken(role), false),
         Shape::OneName => push_chain(alloc, text, count, broken(role), true),
         Shape::Fan => push_fan(alloc, text, count, broken(role)),
+        Shape::Retaken => {
+            push_enum(text, "E", MOST_SYMBOLS)?;
+            push_retaken(alloc, text, count, broken(role))
+        }
         Shape::Beside => {
             push_enum(text, "E", MANY_SYMBOLS)?;
             text.push_str(",")?;
