@@ -50,6 +50,7 @@ pub(crate) fn write_name(
     out.key(key)
 }
 
+/// An attribute that is a string.
 pub(crate) fn write_text(
     out: &mut Compact,
     others: &mut Others<'_>,
@@ -63,6 +64,7 @@ pub(crate) fn write_text(
     out.string(text)
 }
 
+/// An array of strings.
 pub(crate) fn write_texts(out: &mut Compact, list: &[String]) -> Result<(), AllocError>
     ensures { OnOk result (WritesValue (array (texts (texts_view list.now))) out.old out.new) }
 {
@@ -73,6 +75,7 @@ pub(crate) fn write_texts(out: &mut Compact, list: &[String]) -> Result<(), Allo
     out.end_array()
 }
 
+/// A type's or a field's aliases, unless there are none.
 pub(crate) fn write_aliases(
     out: &mut Compact,
     others: &mut Others<'_>,
@@ -88,6 +91,7 @@ pub(crate) fn write_aliases(
     write_texts(out, aliases)
 }
 
+/// A field's default, if it has one.
 pub(crate) fn write_default(
     out: &mut Compact,
     others: &mut Others<'_>,
@@ -103,6 +107,7 @@ pub(crate) fn write_default(
     write_value(out, value)
 }
 
+/// An enum's default, if it has one.
 pub(crate) fn write_fallback(
     out: &mut Compact,
     others: &mut Others<'_>,
@@ -117,6 +122,7 @@ pub(crate) fn write_fallback(
     }
 }
 
+/// A field's order, unless it is ascending.
 pub(crate) fn write_order(
     out: &mut Compact,
     others: &mut Others<'_>,
@@ -132,6 +138,7 @@ pub(crate) fn write_order(
     }
 }
 
+/// The null namespace, for a name without a namespace inside of one.
 pub(crate) fn write_namespace(
     out: &mut Compact,
     others: &mut Others<'_>,

@@ -33,6 +33,7 @@ impl Model for Compact {
 }
 
 impl Compact {
+    /// No text yet.
     pub(crate) fn new(alloc: Global) -> Result<Compact, AllocError>
         ensures { IfOk result (λ c. c ≡ []) }
     {
@@ -41,6 +42,7 @@ impl Compact {
         })
     }
 
+    /// The text.
     pub(crate) fn into_string(self) -> String
         ensures text { string_bytes result ≡ print self }
         ensures reads_back { tokens (print self) ≡ self }
@@ -49,60 +51,70 @@ impl Compact {
         String::from_utf8(out.into_inner()).unwrap()
     }
 
+    /// The bracket that begins an object.
     pub(crate) fn begin_object(&mut self) -> Result<(), AllocError>
         ensures { OnOk result (self.new ≡ self.old ++ begin_object ∷ []) }
     {
         self.out.begin_object()
     }
 
+    /// The bracket that ends one.
     pub(crate) fn end_object(&mut self) -> Result<(), AllocError>
         ensures { OnOk result (self.new ≡ self.old ++ end_object ∷ []) }
     {
         self.out.end_object()
     }
 
+    /// The bracket that begins an array.
     pub(crate) fn begin_array(&mut self) -> Result<(), AllocError>
         ensures { OnOk result (self.new ≡ self.old ++ begin_array ∷ []) }
     {
         self.out.begin_array()
     }
 
+    /// The bracket that ends one.
     pub(crate) fn end_array(&mut self) -> Result<(), AllocError>
         ensures { OnOk result (self.new ≡ self.old ++ end_array ∷ []) }
     {
         self.out.end_array()
     }
 
+    /// The name of a member, of which the value is to be written next.
     pub(crate) fn key(&mut self, name: &str) -> Result<(), AllocError>
         ensures { OnOk result (self.new ≡ self.old ++ key name.now ∷ []) }
     {
         self.out.key(name)
     }
 
+    /// A string.
     pub(crate) fn string(&mut self, text: &str) -> Result<(), AllocError>
         ensures { OnOk result (self.new ≡ self.old ++ string text.now ∷ []) }
     {
         self.out.string(text)
     }
 
+    /// `true` or `false`.
     pub(crate) fn boolean(&mut self, b: bool) -> Result<(), AllocError>
         ensures { OnOk result (self.new ≡ self.old ++ boolean b ∷ []) }
     {
         self.out.boolean(b)
     }
 
+    /// `null`.
     pub(crate) fn null(&mut self) -> Result<(), AllocError>
         ensures { OnOk result (self.new ≡ self.old ++ null ∷ []) }
     {
         self.out.null()
     }
 
+    /// A whole number that isn't negative.
     pub(crate) fn unsigned(&mut self, n: u64) -> Result<(), AllocError>
         ensures { OnOk result (self.new ≡ self.old ++ number (decimal n) ∷ []) }
     {
         self.out.u64(n)
     }
 
+    /// A number: a whole one in decimal digits.
     pub(crate) fn number(&mut self, n: &Number) -> Result<(), AllocError>
         ensures { OnOk result ((s : List ℕ)
             × (self.new ≡ self.old ++ number s ∷ [])

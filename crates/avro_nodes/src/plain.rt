@@ -13,7 +13,7 @@ ghost use Rattle.avro_nodes.specs.Plain.{after as after_of, is_number_char as is
 use crate::error::OutOfMemory;
 use std::alloc::Global;
 
-// Where a byte stands: outside the strings, inside one, or in one behind a backslash.
+/// Where a byte stands: outside the strings, inside one, or in one behind a backslash.
 #[derive(Clone, Copy, Debug)]
 enum Quoting {
     Outside,
@@ -59,7 +59,7 @@ fn is_outside(quoting: Quoting) -> bool
     }
 }
 
-// Where what follows a string begins, from a byte on that is inside it.
+/// Where what follows a string begins, from a byte on that is inside it.
 fn string_end(bytes: &[u8], from: usize) -> usize
     requires { from ≤ length bytes.now }
     ensures place { (from ≤ result) × (result ≤ length bytes.now) }
@@ -76,7 +76,7 @@ fn string_end(bytes: &[u8], from: usize) -> usize
     bytes.len()
 }
 
-// Where what follows a string, or the byte that begins none, begins outside the strings.
+/// Where what follows a string, or the byte that begins none, begins outside the strings.
 fn next_outside(bytes: &[u8], at: usize) -> usize
     requires { (at < length bytes.now) × (is_number_char_of (slice_index bytes.now at) ≡ false) }
     ensures place { (at < result) × (result ≤ length bytes.now) }
@@ -90,7 +90,7 @@ fn next_outside(bytes: &[u8], at: usize) -> usize
     }
 }
 
-// Where the first number character outside the strings stands, from a byte on that is outside.
+/// Where the first number character outside the strings stands, from a byte on that is outside.
 fn run_start(bytes: &[u8], from: usize) -> usize
     requires { from ≤ length bytes.now }
     ensures place { (from ≤ result) × (result ≤ length bytes.now) }
@@ -108,7 +108,7 @@ fn run_start(bytes: &[u8], from: usize) -> usize
     at
 }
 
-// Where the run of number characters ends that begins at `start`.
+/// Where the run of number characters ends that begins at `start`.
 fn run_end(bytes: &[u8], start: usize) -> usize
     requires { start ≤ length bytes.now }
     ensures { result ≡ start + prefix_len is_number_char_of (drop start bytes.now) }
@@ -139,7 +139,7 @@ fn are_zeros(text: &str) -> bool
     !text.is_empty() && all_zeros(text.as_bytes())
 }
 
-// What stands before the point of a whole number, if the run is one.
+/// What stands before the point of a whole number, if the run is one.
 fn whole_part(run: &str) -> Option<&str>
     ensures { option_map (λ s. s.now) result
         ≡ (if is_whole run.now then Some (whole_part_of run.now) else None) }
@@ -157,7 +157,7 @@ fn are_digits(text: &str) -> bool
     !bytes.is_empty() && all_digits(bytes) && (bytes[0] != b'0' || bytes.len() == 1)
 }
 
-// The number that the digits spell, if they are digits of a number below 2^64.
+/// The number that the digits spell, if they are digits of a number below 2^64.
 fn magnitude(digits: &str) -> Option<u64>
     ensures { result ≡ (if are_digits_of digits.now && nat_lt (digits_value 10 digits.now) (2 ^ 64)
         then Some (digits_value 10 digits.now) else None) }
@@ -194,7 +194,7 @@ fn begins_number(run: &str) -> bool
     }
 }
 
-// What a run is respelt as.
+/// What a run is respelt as.
 fn spelling(run: &str) -> Option<&str>
     ensures { option_map (λ s. s.now) result ≡ piece_text (run_of run.now) }
 {
@@ -205,7 +205,7 @@ fn spelling(run: &str) -> Option<&str>
     }
 }
 
-// Whether a run is spelt as it stands.
+/// Whether a run is spelt as it stands.
 fn is_kept(run: &str) -> bool
     ensures { IsTrue result → piece_text (run_of run.now) ≡ Some run.now }
 {
@@ -215,7 +215,7 @@ fn is_kept(run: &str) -> bool
     }
 }
 
-// Where the text is respelt first, or breaks the rule, or ends.
+/// Where the text is respelt first, or breaks the rule, or ends.
 fn kept_up_to(text: &str) -> usize
     ensures place { result ≤ length text.now }
     ensures cut { IsCharBoundary text.now result }

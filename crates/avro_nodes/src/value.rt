@@ -15,6 +15,7 @@ use std::collections::btree_map::Iter;
 /// The members of an object that are still to be written, in byte order of their names.
 pub(crate) type Others<'a> = Iter<'a, String, Value>;
 
+/// The members, none of which is written yet.
 pub(crate) fn others_of(members: &Extra) -> Others<'_>
     ensures all { result ≡ members.now.entries }
     ensures ordered { AreOrdered (members_view members.now.entries) }
@@ -22,6 +23,7 @@ pub(crate) fn others_of(members: &Extra) -> Others<'_>
     members.iter()
 }
 
+/// A JSON value.
 #[cycle(write)]
 pub(crate) fn write_value(out: &mut Compact, value: &Value) -> Result<(), AllocError>
     ensures { OnOk result (WritesValue (view value.now) out.old out.new) }
@@ -58,6 +60,7 @@ fn write_object(out: &mut Compact, members: &Extra) -> Result<(), AllocError>
     out.end_object()
 }
 
+/// A member of an object.
 #[cycle(write)]
 pub(crate) fn write_member(out: &mut Compact, name: &str, value: &Value) -> Result<(), AllocError>
     ensures { OnOk result (WritesMember name.now (view value.now) out.old out.new) }

@@ -22,7 +22,7 @@ use avro_schema::Schema;
 use std::alloc::{AllocError, Global};
 
 /// Looks again at the pairs that ask for a listed one, until none is listed.
-fn settle(
+fn tell_listed(
     writer: &Side,
     reader: &Side,
     rows: &[Vec<u32>],
@@ -69,7 +69,7 @@ fn strike_out(
     let columns = askers(alloc, reader)?;
     let mut struck: Vec<(u16, u16)> = Vec::new(alloc);
     look_everywhere(writer, reader, table, &mut struck)?;
-    settle(writer, reader, &rows, &columns, table, struck)?;
+    tell_listed(writer, reader, &rows, &columns, table, struck)?;
     Ok(())
 }
 

@@ -45,12 +45,14 @@ pub fn is_dotted(text: &str) -> bool
     !fresh
 }
 
+/// Whether this is a simple name: one without a dot.
 pub fn is_simple(text: &str) -> bool
     ensures { result ≡ is_simple text.now }
 {
     is_dotted(text) && !has_dot(text)
 }
 
+/// Whether this is a namespace: the null one, or simple names joined by dots.
 pub fn is_space(text: &str) -> bool
     ensures { result ≡ is_space text.now }
 {

@@ -17,7 +17,7 @@ use crate::labels::label_of;
 use crate::names::{Places, define};
 use crate::reading::kinds::{branch_number, key_of};
 use crate::reading::names::{name_at, primitive_at, reference_to};
-use crate::reading::nodes::{blank, container_node, field_from, settle};
+use crate::reading::nodes::{blank, container_node, field_from, fill_blank};
 use crate::words::{Container, Word, word_of};
 use avro_nodes::{Extra, Field, Node, namespace_of};
 use serde_json::Value;
@@ -128,7 +128,7 @@ fn container_at(
     let extra = other_attributes(alloc, rest)?;
     nodes.push(blank(alloc))?;
     let within = type_at(alloc, inner, space, depth, nodes, known)?;
-    settle(nodes, place, container_node(container, within, extra));
+    fill_blank(nodes, place, container_node(container, within, extra));
     Ok(place)
 }
 
@@ -152,7 +152,7 @@ fn union_at(
         return Err(SchemaError::BadUnion);
     }
     let branches = read.iter().map(|b| b.0).collect(alloc)?;
-    settle(nodes, place, Node::Union { branches });
+    fill_blank(nodes, place, Node::Union { branches });
     Ok(place)
 }
 
@@ -224,7 +224,7 @@ fn record_at(
     if !texts_differ(alloc, &fields)? {
         return Err(SchemaError::Redefined);
     }
-    settle(
+    fill_blank(
         nodes,
         place,
         Node::Rec {

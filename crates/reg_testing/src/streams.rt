@@ -23,6 +23,7 @@ impl<'a> Read for Pieces<'a> {
     }
 }
 
+/// The text, of which each read gives so many bytes.
 pub fn in_pieces(text: &[u8], size: usize) -> Pieces<'_> {
     Pieces {
         left: text,

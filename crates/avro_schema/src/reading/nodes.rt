@@ -34,8 +34,8 @@ pub fn blank(alloc: Global) -> Node {
     }
 }
 
-/// Puts a node in the place of the one that stands there.
-pub fn settle(nodes: &mut Vec<Node>, place: u32, node: Node)
+/// Puts a node in the place of the blank one that stands there.
+pub fn fill_blank(nodes: &mut Vec<Node>, place: u32, node: Node)
     requires { place < length nodes.old.items }
     ensures { nodes_view nodes.new.items
         ≡ slice_set (nodes_view nodes.old.items) place (node_view node) }

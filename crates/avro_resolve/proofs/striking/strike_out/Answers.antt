@@ -13,13 +13,13 @@ askers-requires-2 c = c.requires.reader.whole
 pub returns-clause-closed : goal.returns-clause-closed
 returns-clause-closed c = λ i j h.
     let w = nodes_view c.args.writer.now.schema.now in let r = nodes_view c.args.reader.now.schema.now in
-    let u = c.settle.new.table in let rest = c.in_ok-settle.ensures.rest.rest in
+    let u = c.tell_listed.new.table in let rest = c.in_ok-tell_listed.ensures.rest.rest in
     let size : length u.flags.items ≡ u.writers * u.readers = omega (arith, u.sized, u.flags.ok.0) in
     let below : i < u.writers = flag_row u.flags.items u.writers u.readers i j size h in
     let row : i < length w = omega (arith, rest.writers) in
     let before : j < u.readers = flag_column u.flags.items u.readers i j h in
     let column : j < length r = omega (arith, rest.readers) in
-    none_held w r u i j c.requires.writer.whole c.requires.reader.whole (c.in_ok-settle.ensures.closed i j row column) h
+    none_held w r u i j c.requires.writer.whole c.requires.reader.whole (c.in_ok-tell_listed.ensures.closed i j row column) h
 
 pub returns-clause-rest : goal.returns-clause-rest
-returns-clause-rest c = c.in_ok-settle.ensures.rest.rest
+returns-clause-rest c = c.in_ok-tell_listed.ensures.rest.rest

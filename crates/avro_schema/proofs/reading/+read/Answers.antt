@@ -118,7 +118,7 @@ container_at-returns t c =
     let holds = rw c.key_of.ensures at (sym c.in-Some.ensures.value) in
     let rest = rw c.key_of.ensures at c.in-Some.ensures.rest in
     let next = one_more _ _ _ c.in_ok-push.ensures.items in
-    rw (c.settle.ensures, c.container_node.ensures)
+    rw (c.fill_blank.ensures, c.container_node.ensures)
     (container_done _ _ _ _ _ _ c.in_ok-place.ensures.room _ holds _ (rw rest at c.in_ok-extra.ensures) _ _ _ _ _ _ (c.in_ok-place.ensures.place ∙ sym (length-nodes _)) (nodes_push _ _ _ c.in_ok-push.ensures.items) (rw next at c.in_ok-within.ensures))
 
 -- ---- a union
@@ -173,8 +173,8 @@ union_at-returns-then-not-branch t c =
     let alike = rw c.deref.ensures.value at (sym c.in_ok-kinds_differ.ensures ∙ c.if-not-branch.true) in
     branches_alike _ _ _ _ _ c.in_ok-place.ensures.room _ _ _ _ (rw next at c.in_ok-read.ensures) alike
 
-pub union_at-settle-requires : goal.union_at-settle-requires
-union_at-settle-requires t c =
+pub union_at-fill_blank-requires : goal.union_at-fill_blank-requires
+union_at-fill_blank-requires t c =
     let next = one_more _ _ _ c.in_ok-push.ensures.items in
     still_there _ _ _ _ _ c.in_ok-read.ensures.after_is next c.in_ok-place.ensures.place
 
@@ -183,7 +183,7 @@ union_at-returns t c =
     let next = one_more _ _ _ c.in_ok-push.ensures.items in
     let differ = rw c.deref.ensures.value at (sym c.in_ok-kinds_differ.ensures ∙ c.if-not-branch.false) in
     let places : c.in_ok-branches.branches.items ≡ map (λ b. b.0) c.in_ok-read.read.items = search rules in
-    rw (c.settle.ensures, places)
+    rw (c.fill_blank.ensures, places)
     (union_done _ _ _ _ _ c.in_ok-place.ensures.room _ _ _ _ _ _ (c.in_ok-place.ensures.place ∙ sym (length-nodes _)) (nodes_push _ _ _ c.in_ok-push.ensures.items) (rw next at c.in_ok-read.ensures) differ)
 
 -- ---- a field
@@ -282,8 +282,8 @@ record_at-returns-then-not-branch t c =
     let alike = rw c.deref.ensures.value at (sym c.in_ok-texts_differ.ensures ∙ c.if-not-branch.true) in
     fields_alike _ _ _ _ _ _ c.in_ok-place.ensures.room _ c.in_ok-named.ensures.named _ listed _ (rw rest at c.in_ok-extra.ensures) _ _ _ _ (rw (inside, known, next) at c.in_ok-fields.ensures) (ap (all_differ bytes_eq) (field_names c.in_ok-fields.fields.items) ∙ alike)
 
-pub record_at-settle-requires : goal.record_at-settle-requires
-record_at-settle-requires t c =
+pub record_at-fill_blank-requires : goal.record_at-fill_blank-requires
+record_at-fill_blank-requires t c =
     let next = one_more _ _ _ c.in_ok-push.ensures.items in
     still_there _ _ _ _ _ c.in_ok-fields.ensures.after_is next c.in_ok-place.ensures.place
 
@@ -295,5 +295,5 @@ record_at-returns t c =
     let inside : c.namespace_of-inside.result.now ≡ namespace_of (string_bytes c.in_ok-named.named.name) = c.namespace_of-inside.ensures ∙ ap namespace_of c.as_str-2.ensures.value in
     let known = rw c.as_str.ensures.value at c.in_ok-define.ensures in
     let differ = rw c.deref.ensures.value at (sym c.in_ok-texts_differ.ensures ∙ c.if-not-branch.false) in
-    rw c.settle.ensures
+    rw c.fill_blank.ensures
     (record_done _ _ _ _ _ _ c.in_ok-place.ensures.room _ c.in_ok-named.ensures.named _ listed _ (rw rest at c.in_ok-extra.ensures) _ _ _ _ _ _ (c.in_ok-place.ensures.place ∙ sym (length-nodes _)) (nodes_push _ _ _ c.in_ok-push.ensures.items) (rw (inside, known, next) at c.in_ok-fields.ensures) (ap (all_differ bytes_eq) (field_names c.in_ok-fields.fields.items) ∙ differ))

@@ -1,7 +1,7 @@
 use Rattle.std.proofs.Common.{◌+◌, length}
 use Rattle.avro_nodes.specs.Nodes.{nodes_view}
 use Rattle.avro_resolve.specs.Inside.Left.{IsRest, AllSettled, count_left}
-use Rattle.avro_resolve.proofs.striking.settle.Given as goal
+use Rattle.avro_resolve.proofs.striking.tell_listed.Given as goal
 
 abbrev pub invariant-loop-i : goal.invariant-loop-i
 invariant-loop-i l = record {

@@ -7,7 +7,7 @@ use Rattle.avro_resolve.specs.Witnesses.{Pair}
 use Rattle.avro_resolve.specs.Inside.Askers.{list_at}
 use Rattle.avro_resolve.specs.Inside.Left.{Settled, AllSettled}
 use Rattle.avro_resolve.proofs.Settling.{told}
-use Rattle.avro_resolve.proofs.striking.settle.Goals as goal
+use Rattle.avro_resolve.proofs.striking.tell_listed.Goals as goal
 
 pub look_across-requires-clause-rows_in : goal.look_across-requires-clause-rows_in
 look_across-requires-clause-rows_in c = λ k d l.
