@@ -11,7 +11,7 @@ use Rattle.avro_nodes.specs.declared.node.Node.{Node}
 use Rattle.avro_nodes.specs.Nodes.{FieldView, field_view}
 use Rattle.avro_resolve.specs.Resolution.{Pairs, source}
 use Rattle.avro_resolve.specs.Inside.Left.{WithinBut}
-use Rattle.avro_resolve.specs.Inside.Askers.{list_at, IsAsker, Adds}
+use Rattle.avro_resolve.specs.Inside.Lists.{list_at, StandsAt, Adds}
 use Rattle.avro_resolve.specs.Inside.FieldLists.{ListsFields, AreListsOf, AreFieldLists, Spares}
 use Rattle.avro_resolve.proofs.LookupLemmas.{got_before}
 
@@ -19,18 +19,18 @@ use Rattle.avro_resolve.proofs.LookupLemmas.{got_before}
 
 -- the fields before an index are listed
 abbrev pub ListedBefore : ℕ → List (Vec ℕ Global) → List Field → Type 0
-ListedBefore n lists fields = (k : ℕ) (f : Field) → k < n → slice_get fields k ≡ Some f → IsAsker lists k f.place
+ListedBefore n lists fields = (k : ℕ) (f : Field) → k < n → slice_get fields k ≡ Some f → StandsAt lists k f.place
 
 split_below : (k n : ℕ) → k < n + 1 → (b : Bool) → (k == n) ≡ b → (k < n) ⊎ (k ≡ n)
 split_below k n l true e = inr (grind (arith, nat_tests))
 split_below k n l false e = inl (grind (arith, nat_tests))
 
-pub listed_more : (n : ℕ) (old new : List (Vec ℕ Global)) (fields : List Field) (f : Field) → ListedBefore n old fields → Adds old new n → slice_get fields n ≡ Some f → IsAsker new n f.place → ListedBefore (n + 1) new fields
+pub listed_more : (n : ℕ) (old new : List (Vec ℕ Global)) (fields : List Field) (f : Field) → ListedBefore n old fields → Adds (λ (x : ℕ). x ≡ n) old new → slice_get fields n ≡ Some f → StandsAt new n f.place → ListedBefore (n + 1) new fields
 listed_more n old new fields f before adds here there k g l at = elim (split_below k n l (k == n) refl) [
   | inl less ↦ adds.kept k g.place (before k g less at)
   | inr same ↦ (
       let one : f ≡ g = same_Some f g (sym here ∙ ap (slice_get fields) (sym same) ∙ at) in
-      subst (λ (x : ℕ). IsAsker new x g.place) (sym same) (subst (λ (x : Field). IsAsker new n x.place) one there)
+      subst (λ (x : ℕ). StandsAt new x g.place) (sym same) (subst (λ (x : Field). StandsAt new n x.place) one there)
       )
 ]
 
@@ -71,4 +71,4 @@ pub all_spare : (p q : ℕ) (fields wanted : List Field) (lists : List (Vec ℕ 
     → (k : ℕ) (f : Field) → slice_get wanted k ≡ Some f → Spares p q fields f
 all_spare p q fields wanted lists listed told k f at =
     place_cases p q fields f (f.place == q) refl (λ same.
-    All-contains (λ k. (f : Field) → slice_get wanted k ≡ Some f → Spares p q fields f) (list_at lists q) k told (subst (λ (x : ℕ). IsAsker lists k x) same (listed k f at)) f at)
+    All-contains (λ k. (f : Field) → slice_get wanted k ≡ Some f → Spares p q fields f) (list_at lists q) k told (subst (λ (x : ℕ). StandsAt lists k x) same (listed k f at)) f at)

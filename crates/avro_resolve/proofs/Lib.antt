@@ -10,9 +10,11 @@ pub mod Monotone
 pub mod PairLists
 pub mod PairLemmas
 pub mod SupportLemmas
-pub mod AskerLemmas
+pub mod ListLemmas
+pub mod LinkLemmas
 pub mod Strikes
 pub mod Settling
+pub mod Telling
 pub mod Ends
 pub mod Denoted
 pub mod Itself

@@ -28,7 +28,7 @@ field_in n m p q fs gs h g (k, x, l, e, same) = (source_within n p fs x same.0 h
 either_in : (n m i p q : ℕ) (branches : List ℕ) → i < n → All (λ x. x < m) branches → (p ≡ i) × Contains branches q → (p < n) × (q < m)
 either_in n m i p q branches li nb h = (subst (λ (y : ℕ). y < n) (sym h.0) li, any_in m q branches nb h.1)
 
-asks_in : (n m i j p q : ℕ) (a b : NodeView) → Names n a → Names m b → i < n → j < m → AsksFor i j a b p q → (p < n) × (q < m)
+pub asks_in : (n m i j p q : ℕ) (a b : NodeView) → Names n a → Names m b → i < n → j < m → AsksFor i j a b p q → (p < n) × (q < m)
 asks_in n m i j p q (union bs) b na nb li lj h = (any_in n p bs na h.0, subst (λ (y : ℕ). y < m) (sym h.1) lj)
 asks_in n m i j p q (primitive k x) (union bs) na nb li lj h = either_in n m i p q bs li nb h
 asks_in n m i j p q (array k x) (union bs) na nb li lj h = either_in n m i p q bs li nb h

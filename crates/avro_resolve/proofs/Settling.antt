@@ -1,9 +1,6 @@
 -- Pairs that were struck out, told to those that ask for them.
-use Rattle.std.proofs.Common.{◌≡◌, ℕ, ◌+◌, ◌<◌, List, [], ◌∷◌, ◌++◌, Bool, true, false, ◌&&◌, length, refl, sym, subst, ◌∙◌, arith, true≢false, inl, inr, length-append}
-use Rattle.std.specs.Prelude.{◌==◌, ◌⊎◌, if◌then◌else◌, All, Contains, Vec}
-use Rattle.std.specs.declared.alloc.Global.{Global}
-use Rattle.std.proofs.lemmas.List.Elements.{Contains-append_right, All-contains}
-use Rattle.std.proofs.lemmas.Map.Made.{Contains-tail}
+use Rattle.std.proofs.Common.{◌≡◌, ℕ, ◌+◌, List, [], ◌∷◌, ◌++◌, Bool, true, false, ◌&&◌, length, refl, sym, subst, ◌∙◌, arith, true≢false, inl, inr, length-append}
+use Rattle.std.specs.Prelude.{◌==◌, ◌⊎◌, if◌then◌else◌}
 use Rattle.std.proofs.lemmas.Bool.{or_cases, or_left, or_right}
 use Rattle.std.proofs.lemmas.Bool.Decides.{nat_tests}
 use Rattle.avro_nodes.specs.Nodes.{NodeView}
@@ -11,9 +8,8 @@ use Rattle.avro_resolve.specs.declared.table.Table.{Table}
 use Rattle.avro_resolve.specs.Resolution.{Supports}
 use Rattle.avro_resolve.specs.Inside.Places.{IsWhole}
 use Rattle.avro_resolve.specs.Witnesses.{Pair, member}
-use Rattle.avro_resolve.specs.Inside.Askers.{list_at, IsAsker, HasAskers}
 use Rattle.avro_resolve.specs.Inside.Left.{left, count_left, held, Settled, AllSettled, Lists, Ignores}
-use Rattle.avro_resolve.proofs.Monotone.{supports_within, supports_near}
+use Rattle.avro_resolve.proofs.Monotone.{supports_within}
 use Rattle.avro_resolve.proofs.PairLemmas.{member_back, member_after}
 use Rattle.avro_resolve.proofs.PairLists.{member-nil, member_front, member_last, push_cases}
 
@@ -110,49 +106,6 @@ settled_ignoring w r t ps i j p q ignores s l = ignores (held t (ps ++ (p, q) �
   | inl g ↦ inl (or_left (left t a b) (member ps a b) g)
   | inr g ↦ elim (push_cases ps p q a b g) [ inl m ↦ inl (or_right (left t a b) (member ps a b) m) | inr e ↦ inr e ]
 ]) (s l)
-
--- ---- one listed pair is told
-
-same_place : (x i : ℕ) → (x ≡ i) ⊎ (x ≡ i → ⊥)
-same_place x i = by (x == i) refl
-  where
-    by : (b : Bool) → (x == i) ≡ b → (x ≡ i) ⊎ (x ≡ i → ⊥)
-    by true e = inl (grind (arith, nat_tests))
-    by false e = inr (λ (h : x ≡ i). grind (arith, nat_tests))
-
-stands : (xs : List ℕ) (i : ℕ) → Contains xs i ⊎ (Contains xs i → ⊥)
-stands [] i = inr (λ h. absurd (let l = h.1 in omega arith))
-stands (x ∷ xs) i = elim (same_place x i) [
-  | inl e ↦ inl (0, omega arith, e)
-  | inr n ↦ elim (stands xs i) [ inl h ↦ inl (Contains-append_right (x ∷ []) xs i h) | inr m ↦ inr (λ h. m (Contains-tail x xs i n h)) ]
-]
-
-module _ (w r : List NodeView) (rows columns : List (Vec ℕ Global)) (t v : Table) (ps qs : List Pair) (p : Pair) (ww : IsWhole w) (wr : IsWhole r)
-    (hw : HasAskers w rows) (hr : HasAskers r columns) (before : AllSettled w r t (ps ++ p ∷ [])) (lists : Lists t ps v qs)
-    (seen : All (λ i. All (Settled w r v qs i) (list_at columns p.1)) (list_at rows p.0)) where
-  -- a pair that does not ask for the one that was told holds none but what is still held
-  near : (i j : ℕ) → (IsAsker rows i p.0 → IsAsker columns j p.1 → ⊥) → (a b : ℕ) → IsAsker rows i a → IsAsker columns j b → held t (ps ++ p ∷ []) a b ≡ true → held v qs a b ≡ true
-  near i j apart a b ra cb h = elim (or_cases (left t a b) (member (ps ++ p ∷ []) a b) h) [
-    | inl g ↦ lists.held a b (or_left (left t a b) (member ps a b) g)
-    | inr g ↦ elim (push_cases ps p.0 p.1 a b g) [
-      | inl m ↦ lists.held a b (or_right (left t a b) (member ps a b) m)
-      | inr e ↦ absurd (apart (subst (λ (x : ℕ). IsAsker rows i x) e.0 ra) (subst (λ (y : ℕ). IsAsker columns j y) e.1 cb))
-    ]
-  ]
-
-  untouched : (i j : ℕ) → i < length w → j < length r → (IsAsker rows i p.0 → IsAsker columns j p.1 → ⊥) → Settled w r v qs i j
-  untouched i j li lj apart l =
-      supports_near w r (λ x. IsAsker rows i x) (λ y. IsAsker columns j y) (held t (ps ++ p ∷ [])) (held v qs) (near i j apart) i j (hw.own i li) (hr.own j lj)
-      (λ a e. hw.named i a e) (λ b e. hr.named j b e) (before i j li lj (lists.fewer i j l))
-
-  pub told : AllSettled w r v qs
-  told i j li lj = elim (stands (list_at rows p.0) i) [
-    | inr n ↦ untouched i j li lj (λ a b. n a)
-    | inl a ↦ elim (stands (list_at columns p.1) j) [
-      | inr n ↦ untouched i j li lj (λ a b. n b)
-      | inl b ↦ All-contains (Settled w r v qs i) (list_at columns p.1) j (All-contains (λ i. All (Settled w r v qs i) (list_at columns p.1)) (list_at rows p.0) i seen a) b
-    ]
-  ]
 
 -- ---- at the end
 

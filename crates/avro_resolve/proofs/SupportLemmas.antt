@@ -8,7 +8,7 @@ use Rattle.std.proofs.Math.ListN.{get_or-map}
 use Rattle.std.proofs.lemmas.List.{length-map}
 use Rattle.std.proofs.lemmas.List.Elements.{All-map}
 use Rattle.avro_nodes.specs.Nodes.{texts_view}
-use Rattle.avro_resolve.proofs.AskerLemmas.{get_or_any}
+use Rattle.avro_resolve.proofs.ListLemmas.{get_or_any}
 use Rattle.avro_resolve.proofs.NameLemmas.{has_texts}
 
 -- what holds of each element's view

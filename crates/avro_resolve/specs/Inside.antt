@@ -1,6 +1,7 @@
 pub mod Asked
 pub mod Agreeing
 pub mod Askers
+pub mod Lists
 pub mod Left
 pub mod Lookups
 pub mod Numbers

@@ -5,7 +5,7 @@ ghost use Rattle.avro_nodes.specs.Nodes.{field_view, node_view, nodes_view};
 ghost use Rattle.avro_resolve.specs.Inside.Places.{Names, IsWhole};
 ghost use Rattle.avro_resolve.specs.Inside.FieldLists.{ListsFields, AreListsOf, AreFieldLists};
 
-use crate::askers::{empty_lists, note};
+use crate::lists::{empty_lists, note};
 use avro_nodes::{Field, Node};
 use avro_schema::Schema;
 use std::alloc::{AllocError, Global};

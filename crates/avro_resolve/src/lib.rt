@@ -7,7 +7,10 @@ mod agreeing;
 mod askers;
 mod field_lists;
 mod fields;
+mod joining;
 mod kinds;
+mod links;
+mod lists;
 mod looking;
 mod lookups;
 mod names;
@@ -21,6 +24,7 @@ mod striking;
 mod support;
 mod sweeping;
 mod table;
+mod unions;
 mod walk;
 
 pub use avro_nodes::OutOfMemory;

@@ -36,7 +36,7 @@ fn look(
 }
 
 /// Looks again at a pair, if it may ask for the pair that is told.
-fn look_again(
+pub fn look_again(
     writer: &Side,
     reader: &Side,
     i: u32,
@@ -65,7 +65,7 @@ fn look_again(
 
 /// Looks again at those pairs of a writer's place with these of the reader that may ask for the
 /// pair that is told.
-fn look_along(
+pub fn look_along(
     writer: &Side,
     reader: &Side,
     i: u32,
@@ -92,13 +92,13 @@ fn look_along(
     Ok(())
 }
 
-/// Looks again at those pairs of these places of the writer with these of the reader that may ask
-/// for the pair that is told.
-pub fn look_across(
+/// Looks again at those pairs of these places of the writer with one of the reader that may ask for
+/// the pair that is told.
+pub fn look_down(
     writer: &Side,
     reader: &Side,
     rows: &[u32],
-    columns: &[u32],
+    j: u32,
     told: (u32, u32),
     table: &mut Table,
     struck: &mut Vec<(u16, u16)>,
@@ -109,14 +109,14 @@ pub fn look_across(
     requires before { AllSettled (nodes_of writer.now) (nodes_of reader.now) table.old
         (struck.old.items ++ told ∷ []) }
     requires rows_in { All (λ i. i < length writer.now.schema.now) rows.now }
-    requires columns_in { All (λ j. j < length reader.now.schema.now) columns.now }
+    requires j_in { j < length reader.now.schema.now }
     ensures rest { OnOk result (IsRest (nodes_of writer.now) (nodes_of reader.now) table.new) }
     ensures lists { OnOk result (Lists table.old struck.old.items table.new struck.new.items) }
-    ensures settled { OnOk result (All (λ i. All (Settled (nodes_of writer.now) (nodes_of reader.now)
-        table.new struck.new.items i) columns.now) rows.now) }
+    ensures settled { OnOk result (All (λ i. Settled (nodes_of writer.now) (nodes_of reader.now)
+        table.new struck.new.items i j) rows.now) }
 {
     for i in rows {
-        look_along(writer, reader, *i, columns, told, table, struck)?;
+        look_again(writer, reader, *i, j, told, table, struck)?;
     }
     Ok(())
 }

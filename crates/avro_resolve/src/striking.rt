@@ -1,17 +1,19 @@
 //! Striking out the pairs that the rest doesn't support, until none is left to strike.
 
-ghost use Rattle.std.specs.Prelude.{IfOk, OnOk, []};
+ghost use Rattle.std.specs.Prelude.{◌<◌, IfOk, OnOk, [], ◌∷◌, ◌++◌, length};
 ghost use Rattle.avro_nodes.specs.Nodes.{nodes_view};
 ghost use Rattle.avro_schema.specs.Texts.{IsSchema};
 ghost use Rattle.avro_resolve.specs.Resolution.{Closed};
 ghost use Rattle.avro_resolve.specs.Inside.Sides.{nodes_of, IsSide};
-ghost use Rattle.avro_resolve.specs.Inside.Left.{left, IsLeft, IsRest, AllSettled};
-ghost use Rattle.avro_resolve.specs.Inside.Askers.{HasAskers};
+ghost use Rattle.avro_resolve.specs.Inside.Left.{left, IsLeft, IsRest, Lists, AllSettled};
+ghost use Rattle.avro_resolve.specs.Inside.Askers.{AreAskers};
 ghost use Rattle.avro_resolve.specs.Inside.Numbers.{AreNumbered};
 
-use crate::askers::{askers, askers_of};
+use crate::askers::Askers;
 use crate::field_lists::field_lists;
-use crate::looking::{look_across, look_everywhere};
+use crate::joining::look_joined;
+use crate::lists::list_of;
+use crate::looking::{look_along, look_down, look_everywhere};
 use crate::lookups::{Sought, lookups_of};
 use crate::numbers::{Numbers, last_numbers};
 use crate::sides::Side;
@@ -21,29 +23,63 @@ use avro_nodes::Node;
 use avro_schema::Schema;
 use std::alloc::{AllocError, Global};
 
+/// Looks again at the pairs that ask for the pair that is told: writers' unions with its reader's
+/// place, its writer's place with readers' unions, and what refers to its two places by one label.
+/// What is no pair of places isn't asked for.
+fn tell(
+    writer: &Side,
+    reader: &Side,
+    rows: &Askers,
+    columns: &Askers,
+    told: (u32, u32),
+    table: &mut Table,
+    struck: &mut Vec<(u16, u16)>,
+) -> Result<(), AllocError>
+    requires writer { IsSide writer.now }
+    requires reader { IsSide reader.now }
+    requires askers { AreAskers (nodes_of writer.now) (nodes_of reader.now) rows.now columns.now }
+    requires rest { IsRest (nodes_of writer.now) (nodes_of reader.now) table.old }
+    requires before { AllSettled (nodes_of writer.now) (nodes_of reader.now) table.old
+        (struck.old.items ++ told ∷ []) }
+    ensures rest { OnOk result (IsRest (nodes_of writer.now) (nodes_of reader.now) table.new) }
+    ensures lists { OnOk result (Lists table.old struck.old.items table.new struck.new.items) }
+    ensures settled { OnOk result (AllSettled (nodes_of writer.now) (nodes_of reader.now) table.new
+        struck.new.items) }
+{
+    let (i, j) = told;
+    if i >= writer.places() || j >= reader.places() {
+        return Ok(());
+    }
+    let unions = list_of(&rows.unions, i);
+    look_down(writer, reader, unions, j, told, table, struck)?;
+    let readers_unions = list_of(&columns.unions, j);
+    look_along(writer, reader, i, readers_unions, told, table, struck)?;
+    let links = list_of(&rows.links, i);
+    let readers_links = list_of(&columns.links, j);
+    look_joined(writer, reader, links, readers_links, told, table, struck)?;
+    Ok(())
+}
+
 /// Looks again at the pairs that ask for a listed one, until none is listed.
 fn tell_listed(
     writer: &Side,
     reader: &Side,
-    rows: &[Vec<u32>],
-    columns: &[Vec<u32>],
+    rows: &Askers,
+    columns: &Askers,
     table: &mut Table,
     mut struck: Vec<(u16, u16)>,
 ) -> Result<(), AllocError>
     requires writer { IsSide writer.now }
     requires reader { IsSide reader.now }
-    requires rows { HasAskers (nodes_of writer.now) rows.now }
-    requires columns { HasAskers (nodes_of reader.now) columns.now }
+    requires askers { AreAskers (nodes_of writer.now) (nodes_of reader.now) rows.now columns.now }
     requires rest { IsRest (nodes_of writer.now) (nodes_of reader.now) table.old }
     requires settled { AllSettled (nodes_of writer.now) (nodes_of reader.now) table.old struck.items }
     ensures rest { OnOk result (IsRest (nodes_of writer.now) (nodes_of reader.now) table.new) }
     ensures closed { OnOk result (AllSettled (nodes_of writer.now) (nodes_of reader.now) table.new []) }
 {
     while let Some((i, j)) = struck.pop() {
-        let above = askers_of(rows, i as u32);
-        let beside = askers_of(columns, j as u32);
         let told = (i as u32, j as u32);
-        look_across(writer, reader, above, beside, told, table, &mut struck)?;
+        tell(writer, reader, rows, columns, told, table, &mut struck)?;
     }
     Ok(())
 }
@@ -51,10 +87,10 @@ fn tell_listed(
 /// Strikes out what the rest doesn't support, until each pair that is left is supported: after the
 /// pairs whose nodes don't agree, a pair is looked at once, and again only where one was struck out
 /// that it asks for.
-fn strike_out(
+fn strike_out<'a>(
     alloc: Global,
-    writer: &Side,
-    reader: &Side,
+    writer: &Side<'a>,
+    reader: &Side<'a>,
     table: &mut Table,
 ) -> Result<(), AllocError>
     requires writer { IsSide writer.now }
@@ -65,8 +101,9 @@ fn strike_out(
     ensures closed { OnOk result (Closed (nodes_of writer.now) (nodes_of reader.now) (left table.new)) }
 {
     sweep(writer, reader, table);
-    let rows = askers(alloc, writer)?;
-    let columns = askers(alloc, reader)?;
+    let mut numbers = Numbers::none(alloc);
+    let rows = Askers::of(alloc, &mut numbers, writer, false)?;
+    let columns = Askers::of(alloc, &mut numbers, reader, true)?;
     let mut struck: Vec<(u16, u16)> = Vec::new(alloc);
     look_everywhere(writer, reader, table, &mut struck)?;
     tell_listed(writer, reader, &rows, &columns, table, struck)?;

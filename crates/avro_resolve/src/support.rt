@@ -12,8 +12,8 @@ ghost use Rattle.avro_resolve.specs.Inside.Sides.{nodes_of, IsSide};
 ghost use Rattle.avro_resolve.specs.Inside.Left.{left, Agreed, WithinBut, Ignores};
 
 use crate::agreeing::agree;
-use crate::askers::askers_of;
 use crate::fields::source_of;
+use crate::lists::list_of;
 use crate::lookups::Lookup;
 use crate::sides::Side;
 use crate::table::Table;
@@ -203,7 +203,7 @@ fn fields_ask(
         → All (Readable S (map field_view fields.now)) (map field_view wanted.now) }
 {
     match lists {
-        Some(lists) => listed_asks(fields, sources, wanted, askers_of(lists, q), p, q),
+        Some(lists) => listed_asks(fields, sources, wanted, list_of(lists, q), p, q),
         None => one_asks(fields, sources, wanted, p, q),
     }
 }

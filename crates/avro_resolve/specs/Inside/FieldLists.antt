@@ -7,11 +7,11 @@ use Rattle.avro_nodes.specs.declared.node.Node.TheVariants.{Primitive, Array, Ma
 use Rattle.avro_nodes.specs.Nodes.{field_view}
 use Rattle.avro_resolve.specs.Resolution.{Pairs, Readable}
 use Rattle.avro_resolve.specs.Inside.Left.{WithinBut}
-use Rattle.avro_resolve.specs.Inside.Askers.{IsAsker}
+use Rattle.avro_resolve.specs.Inside.Lists.{StandsAt}
 
 -- the index of each field stands in the list of the place of its type
 abbrev pub ListsFields : List (Vec ℕ Global) → List Field → Type 0
-ListsFields lists fields = (k : ℕ) (f : Field) → slice_get fields k ≡ Some f → IsAsker lists k f.place
+ListsFields lists fields = (k : ℕ) (f : Field) → slice_get fields k ≡ Some f → StandsAt lists k f.place
 
 -- the lists are those of the node's fields, where it has such
 abbrev pub AreListsOf : List (Vec ℕ Global) → Node → Type 0

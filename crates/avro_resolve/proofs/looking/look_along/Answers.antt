@@ -2,7 +2,7 @@ use Rattle.std.proofs.Common.{◌≡◌, ◌<◌, ◌∷◌, [], ℕ, get_or, le
 use Rattle.std.proofs.lemmas.Bool.{cases_lt}
 use Rattle.avro_nodes.specs.Nodes.{nodes_view}
 use Rattle.avro_resolve.specs.Inside.Left.{Settled}
-use Rattle.avro_resolve.proofs.AskerLemmas.{get_or_any}
+use Rattle.avro_resolve.proofs.ListLemmas.{get_or_any}
 use Rattle.avro_resolve.proofs.Settling.{lists_then, settled_on, all_settled_on}
 use Rattle.avro_resolve.proofs.looking.look_along.Goals as goal
 

@@ -1,14 +1,9 @@
-use Rattle.std.proofs.Common.{◌≡◌, ◌<◌, ◌*◌, length, arith}
+use Rattle.std.proofs.Common.{◌≡◌, ◌<◌, ◌*◌, false, length, arith}
 use Rattle.avro_nodes.specs.Nodes.{nodes_view}
 use Rattle.avro_resolve.proofs.Flags.{flag_row, flag_column}
+use Rattle.avro_resolve.proofs.LinkLemmas.{askers_on}
 use Rattle.avro_resolve.proofs.Settling.{none_held}
 use Rattle.avro_resolve.proofs.striking.strike_out.Goals as goal
-
-pub askers-requires : goal.askers-requires
-askers-requires c = c.requires.writer.whole
-
-pub askers-requires-2 : goal.askers-requires-2
-askers-requires-2 c = c.requires.reader.whole
 
 pub returns-clause-closed : goal.returns-clause-closed
 returns-clause-closed c = λ i j h.
@@ -23,3 +18,10 @@ returns-clause-closed c = λ i j h.
 
 pub returns-clause-rest : goal.returns-clause-rest
 returns-clause-rest c = c.in_ok-tell_listed.ensures.rest.rest
+
+pub tell_listed-requires-clause-askers : goal.tell_listed-requires-clause-askers
+tell_listed-requires-clause-askers c = record {
+  numbers = c.of-2.new.numbers;
+  rows = askers_on c.of.new.numbers c.of-2.new.numbers false (nodes_view c.args.writer.now.schema.now) c.in_ok-rows.rows c.in_ok-columns.ensures.kept c.in_ok-rows.ensures.askers;
+  columns = c.in_ok-columns.ensures.askers;
+}

@@ -1,7 +1,7 @@
 use Rattle.std.proofs.Common.{◌≡◌, ◌<◌, ℕ, false, get_or, length, subst, sym, ◌∙◌, inl, inr, arith}
 use Rattle.std.proofs.lemmas.Bool.{cases_lt}
 use Rattle.avro_resolve.specs.Inside.Left.{left}
-use Rattle.avro_resolve.proofs.AskerLemmas.{get_or_any}
+use Rattle.avro_resolve.proofs.ListLemmas.{get_or_any}
 use Rattle.avro_resolve.proofs.support.next_left.Goals as goal
 
 pub loop-at-preserved : goal.loop-at-preserved

@@ -1,0 +1,26 @@
+use Rattle.std.proofs.Common.{◌≡◌, ◌<◌, ◌∷◌, [], ℕ, get_or, length, subst, inl, inr, arith}
+use Rattle.std.proofs.lemmas.Bool.{cases_lt}
+use Rattle.avro_nodes.specs.Nodes.{nodes_view}
+use Rattle.avro_resolve.specs.Inside.Left.{Settled}
+use Rattle.avro_resolve.proofs.ListLemmas.{get_or_any}
+use Rattle.avro_resolve.proofs.Settling.{lists_then, settled_on, all_settled_on}
+use Rattle.avro_resolve.proofs.looking.look_down.Goals as goal
+
+pub loop-i-preserved : goal.loop-i-preserved
+loop-i-preserved c =
+    let w = nodes_view c.args.writer.now.schema.now in let r = nodes_view c.args.reader.now.schema.now in let j = c.args.j in let is = c.args.rows.now in let at = c.loop-i.i-index in
+    let u = c.loop-i.table in let v = c.look_again.new.table in let qs = c.loop-i.struck.items in let rs = c.look_again.new.struck.items in
+    let within : at < length is = c.loop-i-test.true in
+    record {
+      rest = c.in_ok-look_again.ensures.rest;
+      lists = lists_then c.args.table.now u v c.args.struck.now.items qs rs c.loop-i.invariant.lists c.in_ok-look_again.ensures.lists;
+      settled = λ k d l. elim (cases_lt k at) [
+        | inl g ↦ settled_on w r u v qs rs (get_or is k d) j c.requires.writer.whole c.requires.reader.whole c.in_ok-look_again.ensures.lists (c.loop-i.invariant.settled k d g)
+        | inr g ↦ (let e : at ≡ k = omega arith in subst (λ (x : ℕ). Settled w r v rs (get_or is x d) j) e (subst (λ (x : ℕ). Settled w r v rs x j) (get_or_any is at 0 d within) c.in_ok-look_again.ensures.settled))
+      ];
+    }
+
+pub look_again-requires-clause-before : goal.look_again-requires-clause-before
+look_again-requires-clause-before c =
+    all_settled_on (nodes_view c.args.writer.now.schema.now) (nodes_view c.args.reader.now.schema.now) c.args.table.now c.loop-i.table c.args.struck.now.items c.loop-i.struck.items (c.args.told ∷ [])
+    c.requires.writer.whole c.requires.reader.whole c.loop-i.invariant.lists c.requires.before

@@ -1,0 +1,91 @@
+use Rattle.std.proofs.Common.{◌≡◌, ◌<◌, ◌∷◌, [], ℕ, List, get_or, length, ap, subst, ◌∙◌, arith}
+use Rattle.std.specs.Prelude.{All, Contains, Vec}
+use Rattle.std.specs.declared.alloc.Global.{Global}
+use Rattle.std.proofs.lemmas.List.{length-map}
+use Rattle.std.proofs.lemmas.List.Elements.{Contains-get_or}
+use Rattle.avro_nodes.specs.Nodes.{node_view, nodes_view}
+use Rattle.avro_resolve.specs.declared.links.Link.{Link}
+use Rattle.avro_resolve.specs.Inside.Askers.{Joins}
+use Rattle.avro_resolve.specs.Inside.Left.{Lists, Settled}
+use Rattle.avro_resolve.specs.Inside.Lists.{list_at}
+use Rattle.avro_resolve.proofs.Settling.{lists_then, settled_on, all_settled_on}
+use Rattle.avro_resolve.proofs.Telling.{told, none_told}
+use Rattle.avro_resolve.proofs.striking.tell.Goals.{then-i-places-via-then-i-places, then-i-places-via-else-i-places+then-j-places}
+use Rattle.avro_resolve.proofs.striking.tell.Goals as goal
+
+pub returns-then-i-places-clause-settled : goal.returns-then-i-places-clause-settled
+returns-then-i-places-clause-settled c =
+    let s = c.args.writer.now.schema.now in let z = c.args.reader.now.schema.now in let w = nodes_view s in let r = nodes_view z in
+    let lw : length w ≡ length s = length-map s node_view in let lr : length r ≡ length z = length-map z node_view in
+    none_told w r c.requires.writer.whole c.requires.reader.whole c.args.told.0 c.args.told.1
+    (λ h. elim c.then-i-places.branch [
+      | then-i-places-via-then-i-places b ↦ (let l = h.0 in absurd (omega (arith, l, lw, b.if-i-places.true, c.places.ensures.places)))
+      | then-i-places-via-else-i-places+then-j-places b ↦ (let l = h.1 in absurd (omega (arith, l, lr, b.if-j-places.true, b.places-else-i-places.ensures.places)))
+    ])
+    c.args.table.now c.args.struck.now.items c.requires.before
+
+pub look_down-requires-clause-rows_in : goal.look_down-requires-clause-rows_in
+look_down-requires-clause-rows_in c = λ k d l.
+    let xs = c.list_of-unions.result.now in
+    let there = c.list_of-unions.ensures ∙ ap (λ (ls : List (Vec ℕ Global)). list_at ls c.args.told.0) c.deref.ensures.value in
+    let m = c.requires.askers.rows.unions.within (get_or xs k d) c.args.told.0 (subst (λ (ys : List ℕ). Contains ys (get_or xs k d)) there (Contains-get_or xs k d l)) in
+    subst (λ (n : ℕ). get_or xs k d < n) (length-map c.args.writer.now.schema.now node_view) m
+
+pub look_along-requires-clause-before : goal.look_along-requires-clause-before
+look_along-requires-clause-before c =
+    all_settled_on (nodes_view c.args.writer.now.schema.now) (nodes_view c.args.reader.now.schema.now) c.args.table.now c.look_down.new.table c.args.struck.now.items c.look_down.new.struck.items (c.args.told ∷ [])
+    c.requires.writer.whole c.requires.reader.whole c.in_ok-look_down.ensures.lists c.requires.before
+
+pub look_along-requires-clause-columns_in : goal.look_along-requires-clause-columns_in
+look_along-requires-clause-columns_in c = λ k d l.
+    let xs = c.list_of-readers_unions.result.now in
+    let there = c.list_of-readers_unions.ensures ∙ ap (λ (ls : List (Vec ℕ Global)). list_at ls c.args.told.1) c.deref-2.ensures.value in
+    let m = c.requires.askers.columns.unions.within (get_or xs k d) c.args.told.1 (subst (λ (ys : List ℕ). Contains ys (get_or xs k d)) there (Contains-get_or xs k d l)) in
+    subst (λ (n : ℕ). get_or xs k d < n) (length-map c.args.reader.now.schema.now node_view) m
+
+pub look_joined-requires-clause-before : goal.look_joined-requires-clause-before
+look_joined-requires-clause-before c =
+    let t = c.args.table.now in let u = c.look_down.new.table in let v = c.look_along.new.table in
+    let ps = c.args.struck.now.items in let qs = c.look_down.new.struck.items in let rs = c.look_along.new.struck.items in
+    all_settled_on (nodes_view c.args.writer.now.schema.now) (nodes_view c.args.reader.now.schema.now) t v ps rs (c.args.told ∷ [])
+    c.requires.writer.whole c.requires.reader.whole (lists_then t u v ps qs rs c.in_ok-look_down.ensures.lists c.in_ok-look_along.ensures.lists) c.requires.before
+
+pub look_joined-requires-clause-rows_in : goal.look_joined-requires-clause-rows_in
+look_joined-requires-clause-rows_in c = λ k d l.
+    let xs = c.list_of-links.result.now in
+    let there = c.list_of-links.ensures ∙ ap (λ (ls : List (Vec Link Global)). list_at ls c.args.told.0) c.deref-3.ensures.value in
+    let m = c.requires.askers.rows.links.within (get_or xs k d) c.args.told.0 (subst (λ (ys : List Link). Contains ys (get_or xs k d)) there (Contains-get_or xs k d l)) in
+    subst (λ (n : ℕ). (get_or xs k d).asker < n) (length-map c.args.writer.now.schema.now node_view) m
+
+pub look_joined-requires-clause-columns_in : goal.look_joined-requires-clause-columns_in
+look_joined-requires-clause-columns_in c = λ k d l.
+    let xs = c.list_of-readers_links.result.now in
+    let there = c.list_of-readers_links.ensures ∙ ap (λ (ls : List (Vec Link Global)). list_at ls c.args.told.1) c.deref-4.ensures.value in
+    let m = c.requires.askers.columns.links.within (get_or xs k d) c.args.told.1 (subst (λ (ys : List Link). Contains ys (get_or xs k d)) there (Contains-get_or xs k d l)) in
+    subst (λ (n : ℕ). (get_or xs k d).asker < n) (length-map c.args.reader.now.schema.now node_view) m
+
+pub returns-clause-lists : goal.returns-clause-lists
+returns-clause-lists c =
+    let t = c.args.table.now in let u = c.look_down.new.table in let v = c.look_along.new.table in let x = c.look_joined.new.table in
+    let ps = c.args.struck.now.items in let qs = c.look_down.new.struck.items in let rs = c.look_along.new.struck.items in let ss = c.look_joined.new.struck.items in
+    lists_then t u x ps qs ss c.in_ok-look_down.ensures.lists (lists_then u v x qs rs ss c.in_ok-look_along.ensures.lists c.in_ok-look_joined.ensures.lists)
+
+pub returns-clause-settled : goal.returns-clause-settled
+returns-clause-settled c =
+    let w = nodes_view c.args.writer.now.schema.now in let r = nodes_view c.args.reader.now.schema.now in let p = c.args.told.0 in let q = c.args.told.1 in
+    let ww = c.requires.writer.whole in let wr = c.requires.reader.whole in
+    let t = c.args.table.now in let u = c.look_down.new.table in let v = c.look_along.new.table in let x = c.look_joined.new.table in
+    let ps = c.args.struck.now.items in let qs = c.look_down.new.struck.items in let rs = c.look_along.new.struck.items in let ss = c.look_joined.new.struck.items in
+    let last = c.in_ok-look_joined.ensures.lists in
+    let later : Lists u qs x ss = lists_then u v x qs rs ss c.in_ok-look_along.ensures.lists last in
+    let all : Lists t ps x ss = lists_then t u x ps qs ss c.in_ok-look_down.ensures.lists later in
+    let above = c.list_of-unions.result.now in let beside = c.list_of-readers_unions.result.now in
+    let down : All (λ i. Settled w r x ss i q) above = λ k d l. settled_on w r u x qs ss (get_or above k d) q ww wr later (c.in_ok-look_down.ensures.settled k d l) in
+    let along : All (Settled w r x ss p) beside = λ k d l. settled_on w r v x rs ss p (get_or beside k d) ww wr last (c.in_ok-look_along.ensures.settled k d l) in
+    let above_is = c.list_of-unions.ensures ∙ ap (λ (ls : List (Vec ℕ Global)). list_at ls p) c.deref.ensures.value in
+    let beside_is = c.list_of-readers_unions.ensures ∙ ap (λ (ls : List (Vec ℕ Global)). list_at ls q) c.deref-2.ensures.value in
+    let links_are = c.list_of-links.ensures ∙ ap (λ (ls : List (Vec Link Global)). list_at ls p) c.deref-3.ensures.value in
+    let readers_are = c.list_of-readers_links.ensures ∙ ap (λ (ls : List (Vec Link Global)). list_at ls q) c.deref-4.ensures.value in
+    let joins = subst (λ (ls : List Link). Joins (Settled w r x ss) ls (list_at c.args.columns.now.links.items q)) links_are (subst (λ (ls : List Link). Joins (Settled w r x ss) c.list_of-links.result.now ls) readers_are c.in_ok-look_joined.ensures.settled) in
+    told w r c.args.rows.now c.args.columns.now c.requires.askers p q x ss (all_settled_on w r t x ps ss (c.args.told ∷ []) ww wr all c.requires.before)
+    (subst (λ (is : List ℕ). All (λ i. Settled w r x ss i q) is) above_is down) (subst (λ (js : List ℕ). All (Settled w r x ss p) js) beside_is along) joins

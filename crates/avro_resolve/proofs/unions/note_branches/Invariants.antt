@@ -1,0 +1,9 @@
+use Rattle.std.proofs.Common.{◌≡◌, ℕ, ◌<◌, get_or}
+use Rattle.avro_resolve.specs.Inside.Lists.{StandsAt, Adds}
+use Rattle.avro_resolve.proofs.unions.note_branches.Given as goal
+
+abbrev pub invariant-loop-branch : goal.invariant-loop-branch
+invariant-loop-branch l = record {
+  adds : Adds (λ x. x ≡ l.union) l.initial.lists.items l.lists.items;
+  there : (k d : ℕ) → k < l.branch-index → StandsAt l.lists.items l.union (get_or l.branches k d);
+}

@@ -1,0 +1,17 @@
+-- Lists that stand at places (this project's choice).
+use Rattle.std.specs.Prelude.{◌≡◌, ◌⊎◌, ℕ, List, [], Contains, length, map, slice_index_or, Vec}
+use Rattle.std.specs.declared.alloc.Global.{Global}
+
+-- the list that stands at a place, and none past the last
+unfoldable pub list_at : {X : Type 0} → List (Vec X Global) → ℕ → List X
+list_at {X} lists place = slice_index_or (map (λ (v : Vec X Global). v.items) lists) place []
+
+-- whether it stands in the list of the place
+abbrev pub StandsAt : {X : Type 0} → List (Vec X Global) → X → ℕ → Type 0
+StandsAt lists x place = Contains (list_at lists place) x
+
+-- only such were added
+pub record Adds {X : Type 0} (Such : X → Type 0) (old new : List (Vec X Global)) : Type 0 where
+  pub long : length new ≡ length old
+  pub kept : (x : X) (place : ℕ) → StandsAt old x place → StandsAt new x place
+  pub only : (x : X) (place : ℕ) → StandsAt new x place → StandsAt old x place ⊎ Such x

@@ -1,0 +1,38 @@
+//! Lists that stand at places.
+
+ghost use Rattle.std.specs.Prelude.{◌≡◌, ◌<◌, ℕ, IfOk, OnOk, length};
+ghost use Rattle.avro_resolve.specs.Inside.Lists.{list_at, StandsAt, Adds};
+
+use std::alloc::{AllocError, Global};
+
+/// So many empty lists.
+pub fn empty_lists<T: Drop>(alloc: Global, count: u32) -> Result<Vec<Vec<T>>, AllocError>
+    ensures long { IfOk result (λ v. length v.items ≡ count) }
+    ensures empty { IfOk result (λ v. (x : T) (place : ℕ) → StandsAt v.items x place → ⊥) }
+{
+    let mut lists: Vec<Vec<T>> = Vec::new(alloc);
+    for _i in 0..count {
+        lists.push(Vec::new(alloc))?;
+    }
+    Ok(lists)
+}
+
+/// Adds one to the list of a place.
+pub fn note<T: Drop>(lists: &mut Vec<Vec<T>>, place: u32, item: T) -> Result<(), AllocError>
+    requires { place < length lists.old.items }
+    ensures adds { OnOk result (Adds (λ x. x ≡ item) lists.old.items lists.new.items) }
+    ensures there { OnOk result (StandsAt lists.new.items item place) }
+{
+    lists[place as usize].push(item)?;
+    Ok(())
+}
+
+/// The list of a place, and none for what is no place.
+pub fn list_of<T>(lists: &[Vec<T>], place: u32) -> &[T]
+    ensures { result.now ≡ list_at lists.now place }
+{
+    match lists.get(place as usize) {
+        Some(list) => list.as_slice(),
+        None => &[],
+    }
+}
