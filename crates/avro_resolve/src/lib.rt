@@ -10,7 +10,9 @@ mod fields;
 mod kinds;
 mod looking;
 mod lookups;
+mod merging;
 mod names;
+mod numbered;
 mod numbers;
 mod pair_set;
 mod recursion;
@@ -20,6 +22,7 @@ mod sides;
 mod striking;
 mod support;
 mod sweeping;
+mod symbols;
 mod table;
 mod walk;
 

@@ -28,7 +28,7 @@ impl<'a> Numbers<'a> {
     }
 
     /// The number of a name: the one that it has, or else a new one.
-    fn number(&mut self, name: &'a str) -> Result<usize, AllocError>
+    pub fn number(&mut self, name: &'a str) -> Result<usize, AllocError>
         requires { IsNumbering self.old }
         ensures numbering { OnOk result (IsNumbering self.new) }
         ensures kept { OnOk result (Keeps self.old self.new) }
