@@ -1,6 +1,8 @@
 pub mod NameLemmas
 pub mod LookupLemmas
 pub mod NumberLemmas
+pub mod Merges
+pub mod SymbolLemmas
 pub mod FieldLemmas
 pub mod Flags
 pub mod FieldListLemmas

@@ -129,7 +129,7 @@ fn fits(
         (Fits (member walk.new.assumed.items) at.0 at.1 (node_view a.now) (node_view b.now))
         (Fits (without walk.new.failed.items) at.0 at.1 (node_view a.now) (node_view b.now) → ⊥) answer) }
 {
-    if !agree_once(writer, reader, a, b, at, depth, walk)? {
+    if !agree_once(writer, reader, a, b, at, depth, walk, looks)? {
         return Ok(Answer::No);
     }
     parts_fit(writer, reader, a, b, at, depth, walk, looks)

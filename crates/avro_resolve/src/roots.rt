@@ -38,6 +38,7 @@ pub fn walk_roots(
         schema: writer,
         lookups,
         lasts: Vec::new(alloc),
+        symbols: Vec::new(alloc),
         field_lists: Vec::new(alloc),
     };
     let lookups = lookups_of(alloc, Sought::Symbols, reader)?;
@@ -45,6 +46,7 @@ pub fn walk_roots(
         schema: reader,
         lookups,
         lasts: Vec::new(alloc),
+        symbols: Vec::new(alloc),
         field_lists: Vec::new(alloc),
     };
     let mut looks = 0;

@@ -2,6 +2,7 @@
 
 ghost use Rattle.std.specs.Prelude.{◌≡◌, ◌<◌, IfSome, slice_get, length, vec_len, Some};
 ghost use Rattle.avro_nodes.specs.Nodes.{node_view};
+ghost use Rattle.avro_resolve.specs.Inside.Lists.{list_at};
 ghost use Rattle.avro_resolve.specs.Inside.FieldLists.{AreListsOf};
 ghost use Rattle.avro_resolve.specs.Inside.Lookups.{IsLookupOf};
 ghost use Rattle.avro_resolve.specs.Inside.Sides.{nodes_of, IsSide};
@@ -18,6 +19,8 @@ pub struct Side<'a> {
     pub lookups: Vec<Option<Lookup<'a>>>,
     /// the numbers of the last parts of the names at the places, where they are made
     pub lasts: Vec<usize>,
+    /// the numbers of the symbols at the places, each place's in order, where they are made
+    pub symbols: Vec<Vec<usize>>,
     /// the fields of wide records by the places of their types, where they are listed
     pub field_lists: Vec<Option<Vec<Vec<u32>>>>,
 }
@@ -45,6 +48,14 @@ impl<'a> Side<'a> {
         ensures { slice_get self.now.lasts.items place ≡ Some result }
     {
         self.lasts[place as usize]
+    }
+
+    /// The numbers of the symbols at a place, in order.
+    pub fn symbols(&self, place: u32) -> &[usize]
+        requires { place < vec_len self.now.symbols }
+        ensures { result.now ≡ list_at self.now.symbols.items place }
+    {
+        &self.symbols[place as usize]
     }
 
     /// The table of the node at a place, where it has one.

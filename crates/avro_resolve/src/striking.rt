@@ -18,6 +18,7 @@ use crate::lookups::{Sought, lookups_of};
 use crate::numbers::{Numbers, last_numbers};
 use crate::sides::Side;
 use crate::sweeping::sweep;
+use crate::symbols::symbol_numbers;
 use crate::table::Table;
 use avro_nodes::Node;
 use avro_schema::Schema;
@@ -127,19 +128,23 @@ pub fn largest_closed(alloc: Global, writer: &Schema, reader: &Schema) -> Result
     let mut numbers = Numbers::none(alloc);
     let rows_lasts = last_numbers(alloc, &mut numbers, writer)?;
     let columns_lasts = last_numbers(alloc, &mut numbers, reader)?;
+    let mut numbers = Numbers::none(alloc);
+    let rows_symbols = symbol_numbers(alloc, &mut numbers, writer)?;
+    let columns_symbols = symbol_numbers(alloc, &mut numbers, reader)?;
     let lookups = lookups_of(alloc, Sought::Fields, writer)?;
     let written = Side {
         schema: writer,
         lookups,
         lasts: rows_lasts,
+        symbols: rows_symbols,
         field_lists: Vec::new(alloc),
     };
-    let lookups = lookups_of(alloc, Sought::Symbols, reader)?;
     let lists = field_lists(alloc, reader)?;
     let read = Side {
         schema: reader,
-        lookups,
+        lookups: Vec::new(alloc),
         lasts: columns_lasts,
+        symbols: columns_symbols,
         field_lists: lists,
     };
     strike_out(alloc, &written, &read, &mut table)?;

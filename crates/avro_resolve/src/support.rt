@@ -11,10 +11,10 @@ ghost use Rattle.avro_resolve.specs.Inside.Places.{Names};
 ghost use Rattle.avro_resolve.specs.Inside.Sides.{nodes_of, IsSide};
 ghost use Rattle.avro_resolve.specs.Inside.Left.{left, Agreed, WithinBut, Ignores};
 
-use crate::agreeing::agree;
 use crate::fields::source_of;
 use crate::lists::list_of;
 use crate::lookups::Lookup;
+use crate::numbered::numbered_agree;
 use crate::sides::Side;
 use crate::table::Table;
 use avro_nodes::{Field, Node};
@@ -120,7 +120,7 @@ pub fn agree_at(writer: &Side, reader: &Side, i: u32, j: u32) -> bool
 {
     let (a, b) = (writer.node(i), reader.node(j));
     let same_last = writer.last(i) == reader.last(j);
-    agree(a, b, reader.lookup(j, b), same_last)
+    numbered_agree(a, b, writer.symbols(i), reader.symbols(j), same_last)
 }
 
 /// Whether what is left supports the pair of these places, whose nodes agree.

@@ -96,8 +96,25 @@ pub fn open_pair(
     Ok(())
 }
 
+/// How many symbols of a writer's enum are looked up at most: none where the names can't match, or
+/// where the reader's default excuses them.
+fn compared(a: &Node, b: &Node, same_last: bool) -> u64 {
+    match (a, b) {
+        (
+            Node::Enum { symbols, .. },
+            Node::Enum {
+                named,
+                fallback: None,
+                ..
+            },
+        ) if same_last || !named.aliases.is_empty() => symbols.len() as u64,
+        _ => 0,
+    }
+}
+
 /// Whether the nodes of a pair agree. Those that do are remembered, so that a pair that is opened
-/// again after it was taken back isn't compared again: it may have many symbols.
+/// again after it was taken back isn't compared again: it may have many symbols. Those that are
+/// looked up are counted.
 pub fn agree_once(
     writer: &Side,
     reader: &Side,
@@ -106,6 +123,7 @@ pub fn agree_once(
     at: (u32, u32),
     depth: usize,
     walk: &mut Walk,
+    looks: &mut u64,
 ) -> Result<bool, AllocError>
     requires reader { IsSide reader.now }
     requires ready { Ready (nodes_of writer.now) (nodes_of reader.now) depth walk.old }
@@ -122,7 +140,9 @@ pub fn agree_once(
     if walk.agreed_set.has(at.0, at.1) {
         return Ok(true);
     }
-    if !agree(a, b, reader.lookup(at.1, b), same_last(a, b)) {
+    let same = same_last(a, b);
+    *looks = looks.saturating_add(compared(a, b, same));
+    if !agree(a, b, reader.lookup(at.1, b), same) {
         return Ok(false);
     }
     walk.agreed_set.insert(at.0, at.1)?;

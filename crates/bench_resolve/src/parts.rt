@@ -23,13 +23,14 @@ fn push_symbol(text: &mut String, index: u32) -> Result<(), AllocError> {
     write!(text, r#""{first}{second}{third}{fourth}""#)
 }
 
-/// An enum of so many symbols.
-pub fn push_enum(text: &mut String, name: &str, count: u32) -> Result<(), AllocError> {
+/// An enum of so many symbols, of which this one is the last.
+pub fn push_enum(text: &mut String, name: &str, count: u32, last: u32) -> Result<(), AllocError> {
     write!(text, r#"{{"type":"enum","name":"{name}","symbols":["#)?;
-    for index in 0..count {
-        push_comma(text, index)?;
+    for index in 1..count {
         push_symbol(text, index)?;
+        text.push_str(",")?;
     }
+    push_symbol(text, last)?;
     text.push_str("]}")
 }
 
@@ -238,17 +239,18 @@ fn push_rung(text: &mut String, rung: u32, letters: &[&str]) -> Result<(), Alloc
     text.push_str("]")
 }
 
-/// So many enums of one last name, each of so many symbols.
+/// So many enums of one last name, each of so many symbols, of which this one is the last.
 pub fn push_enums(
     alloc: Global,
     text: &mut String,
     count: u32,
     symbols: u32,
+    last: u32,
 ) -> Result<(), AllocError> {
     for index in 0..count {
         push_comma(text, index)?;
         let name = name_of(alloc, true, index)?;
-        push_enum(text, name.as_str(), symbols)?;
+        push_enum(text, name.as_str(), symbols, last)?;
     }
     Ok(())
 }

@@ -17,8 +17,11 @@ pub enum Shape {
     Union,
     /// an enum of so many symbols, with itself
     Enum,
-    /// so many enums of 35 symbols and one last name, with themselves
+    /// so many enums of 60 symbols and one last name, with themselves
     Enums,
+    /// so many enums of 340 symbols and one last name, of which the writer's last symbol is another
+    /// than the reader's
+    LastSymbols,
     /// a union of records, each with a field of the one before it, with itself
     Chain,
     /// the same, where the first record has an int, and the reader's a string
@@ -45,7 +48,7 @@ pub enum Shape {
 }
 
 /// All shapes, with the counts of `all`.
-pub static SHAPES: [(&str, Shape, &[u32]); 18] = [
+pub static SHAPES: [(&str, Shape, &[u32]); 19] = [
     ("fields", Shape::Fields, &[10, 100, 1000, 4095]),
     ("reversed", Shape::Reversed, &[10, 100, 1000, 4095]),
     ("other-types", Shape::OtherTypes, &[10, 100, 1000, 4095]),
@@ -54,6 +57,7 @@ pub static SHAPES: [(&str, Shape, &[u32]); 18] = [
     ("union", Shape::Union, &[100, 680]),
     ("enum", Shape::Enum, &[100, 1000, 10000, 140000]),
     ("enums", Shape::Enums, &[100, 1000, 3500]),
+    ("last-symbols", Shape::LastSymbols, &[100, 500]),
     ("chain", Shape::Chain, &[100, 1000, 4000]),
     ("broken-chain", Shape::BrokenChain, &[100, 1000, 4000]),
     ("one-name", Shape::OneName, &[100, 1000, 4000]),

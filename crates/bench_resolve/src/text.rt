@@ -8,7 +8,10 @@ use crate::shape::Shape;
 use std::alloc::{AllocError, Global};
 
 /// How many symbols each enum of `Enums` has.
-const FEW_SYMBOLS: u32 = 35;
+const FEW_SYMBOLS: u32 = 60;
+
+/// How many symbols each enum of `LastSymbols` has.
+const SOME_SYMBOLS: u32 = 340;
 
 /// How many symbols the enum of `Beside` has.
 const MANY_SYMBOLS: u32 = 5000;
@@ -33,6 +36,14 @@ fn broken(role: Role) -> &'static str {
     }
 }
 
+/// A symbol that the other side doesn't have.
+fn own_symbol(role: Role) -> u32 {
+    match role {
+        Role::Writer => MOST_SYMBOLS,
+        Role::Reader => MOST_SYMBOLS + 1,
+    }
+}
+
 /// The branches of a union.
 fn push_branches(
     alloc: Global,
@@ -42,17 +53,18 @@ fn push_branches(
     role: Role,
 ) -> Result<(), AllocError> {
     match shape {
-        Shape::Enums => push_enums(alloc, text, count, FEW_SYMBOLS),
+        Shape::Enums => push_enums(alloc, text, count, FEW_SYMBOLS, 0),
+        Shape::LastSymbols => push_enums(alloc, text, count, SOME_SYMBOLS, own_symbol(role)),
         Shape::Chain => push_chain(alloc, text, count, r#""int""#, false),
         Shape::BrokenChain => push_chain(alloc, text, count, broken(role), false),
         Shape::OneName => push_chain(alloc, text, count, broken(role), true),
         Shape::Fan => push_fan(alloc, text, count, broken(role)),
         Shape::Retaken => {
-            push_enum(text, "E", MOST_SYMBOLS)?;
+            push_enum(text, "E", MOST_SYMBOLS, 0)?;
             push_retaken(alloc, text, count, broken(role))
         }
         Shape::Beside => {
-            push_enum(text, "E", MANY_SYMBOLS)?;
+            push_enum(text, "E", MANY_SYMBOLS, 0)?;
             text.push_str(",")?;
             push_chain(alloc, text, count, broken(role), false)
         }
@@ -83,7 +95,7 @@ pub fn text_of(alloc: Global, shape: Shape, count: u32, role: Role) -> Result<St
         Shape::OtherTypes => push_fields(&mut text, count, "int", false)?,
         Shape::Nested => push_nested(&mut text, count)?,
         Shape::Tree => push_tree(&mut text, count)?,
-        Shape::Enum => push_enum(&mut text, "E", count)?,
+        Shape::Enum => push_enum(&mut text, "E", count, 0)?,
         Shape::Cycles => {
             let more = if is_reader { 1 } else { 0 };
             push_cycle(alloc, &mut text, count.saturating_add(more), r#""c.A""#)?

@@ -1,5 +1,6 @@
 -- What two nodes say of a pair by themselves.
-use Rattle.std.specs.Prelude.{◌≡◌, ◌⊎◌, ◌↔◌, Bool, Option, Some, None, IsSome, IsTrue, MatchOption, All, Contains}
+use Rattle.std.specs.Prelude.{◌≡◌, ◌⊎◌, ◌↔◌, ℕ, List, [], Bool, Option, Some, None, IsSome, IsTrue, MatchOption, All, Contains}
+use Rattle.std.specs.List.Sorted.{IsNonDecreasing}
 use Rattle.avro_nodes.specs.Names.{last_part}
 use Rattle.avro_nodes.specs.Nodes.{NamedView, NodeView, primitive, array, mapping, union, enumeration, fixed, rec}
 use Rattle.avro_resolve.specs.Resolution.{NameMatch, Promotes}
@@ -30,3 +31,19 @@ named_of (rec named fields _) = Some named
 -- the test says whether the names of two nodes, where both have names, have one last part
 abbrev pub TellsSameLast : Bool → NodeView → NodeView → Type 0
 TellsSameLast same a b = MatchOption (named_of a) (Unit {0}) (λ n. MatchOption (named_of b) (Unit {0}) (λ m. IsTrue same ↔ (last_part n.name ≡ last_part m.name)))
+
+-- the symbols of an enum, and none of another node
+abbrev pub symbols_of : NodeView → List (List ℕ)
+symbols_of (primitive kind _) = []
+symbols_of (array place _) = []
+symbols_of (mapping place _) = []
+symbols_of (union places) = []
+symbols_of (enumeration named symbols fallback _) = symbols
+symbols_of (fixed named size _) = []
+symbols_of (rec named fields _) = []
+
+-- the lists of numbers, both in order, tell whether each symbol of the one node is one of the other's
+pub record TellSymbols (symbols known : List ℕ) (a b : NodeView) : Type 0 where
+  pub symbols_ordered : IsNonDecreasing symbols
+  pub known_ordered : IsNonDecreasing known
+  pub tell : All (Contains known) symbols ↔ All (Contains (symbols_of b)) (symbols_of a)

@@ -1,12 +1,15 @@
 -- Numbers for names, by which names are compared (this project's choice).
-use Rattle.std.specs.Prelude.{◌≡◌, ℕ, ◌<◌, List, Option, Some, MatchOption, length, slice_get}
+use Rattle.std.specs.Prelude.{◌≡◌, ℕ, ◌<◌, List, Option, Some, MatchOption, All, Contains, Vec, length, slice_get}
+use Rattle.std.specs.declared.alloc.Global.{Global}
 use Rattle.std.specs.HashMap.{get_by, hash_map_len}
+use Rattle.std.specs.List.Sorted.{IsNonDecreasing}
 use Rattle.std.specs.Str.{bytes_eq}
 use Rattle.avro_nodes.specs.Names.{last_part}
 use Rattle.avro_nodes.specs.Nodes.{NodeView}
 use Rattle.avro_resolve.specs.declared.numbers.Numbers.{Numbers}
 use Rattle.avro_resolve.specs.declared.sides.Side.{Side}
-use Rattle.avro_resolve.specs.Inside.Agreeing.{named_of}
+use Rattle.avro_resolve.specs.Inside.Agreeing.{named_of, symbols_of}
+use Rattle.avro_resolve.specs.Inside.Lists.{list_at}
 use Rattle.avro_resolve.specs.Inside.Sides.{nodes_of}
 
 -- the number of a name
@@ -31,9 +34,32 @@ pub record AreLastNumbers (t : Numbers) (nodes : List NodeView) (numbers : List 
   pub long : length numbers ≡ length nodes
   pub each : (place n : ℕ) (a : NodeView) → slice_get numbers place ≡ Some n → slice_get nodes place ≡ Some a → IsLastNumber t n a
 
--- both sides have their numbers from one numbering
+-- the list has the number of the name
+abbrev pub HasNumberOf : Numbers → List ℕ → List ℕ → Type 0
+HasNumberOf t numbers name = (n : ℕ) × Contains numbers n × (number_in t name ≡ Some n)
+
+-- one of the names has the number
+abbrev pub NumbersOne : Numbers → List (List ℕ) → ℕ → Type 0
+NumbersOne t names n = (name : List ℕ) × Contains names name × (number_in t name ≡ Some n)
+
+-- the numbers of the names, and no others, in order
+pub record AreNumbersOf (t : Numbers) (names : List (List ℕ)) (numbers : List ℕ) : Type 0 where
+  pub ordered : IsNonDecreasing numbers
+  pub all : All (HasNumberOf t numbers) names
+  pub only : All (NumbersOne t names) numbers
+
+-- at each place those of the symbols of the node there
+pub record AreSymbolNumbers (t : Numbers) (nodes : List NodeView) (lists : List (Vec ℕ Global)) : Type 0 where
+  pub long : length lists ≡ length nodes
+  pub each : (place : ℕ) (a : NodeView) → slice_get nodes place ≡ Some a → AreNumbersOf t (symbols_of a) (list_at lists place)
+
+-- both sides have their numbers from one numbering of the names' last parts, and from one of the symbols
 pub record AreNumbered (writer reader : Side) : Type 0 where
   pub numbers : Numbers
   pub numbering : IsNumbering numbers
   pub rows : AreLastNumbers numbers (nodes_of writer) writer.lasts.items
   pub columns : AreLastNumbers numbers (nodes_of reader) reader.lasts.items
+  pub symbols : Numbers
+  pub symbols_numbering : IsNumbering symbols
+  pub row_symbols : AreSymbolNumbers symbols (nodes_of writer) writer.symbols.items
+  pub column_symbols : AreSymbolNumbers symbols (nodes_of reader) reader.symbols.items

@@ -3,7 +3,9 @@ use Rattle.std.proofs.lemmas.List.{length-map}
 use Rattle.avro_nodes.specs.Nodes.{node_view, nodes_view}
 use Rattle.avro_resolve.proofs.FieldListLemmas.{no_lists}
 use Rattle.avro_resolve.proofs.Denoted.{is_whole}
+use Rattle.avro_resolve.proofs.LookupLemmas.{no_lookups}
 use Rattle.avro_resolve.proofs.NumberLemmas.{kept_lasts}
+use Rattle.avro_resolve.proofs.SymbolLemmas.{kept_symbols}
 use Rattle.avro_resolve.proofs.Strikes.{all_left}
 use Rattle.avro_resolve.proofs.striking.largest_closed.Goals as goal
 
@@ -26,7 +28,7 @@ strike_out-requires-clause-writer c = record {
 pub strike_out-requires-clause-reader : goal.strike_out-requires-clause-reader
 strike_out-requires-clause-reader c = record {
   whole = is_whole (nodes_view c.args.reader.now) c.places-2.ensures.schema;
-  lookups = c.in_ok-lookups-2.ensures;
+  lookups = rw c.new-2.ensures.items (no_lookups _);
   field_lists = c.in_ok-lists.ensures;
   few = omega (arith, c.places-2.ensures.places, c.places-2.ensures.few);
 }
@@ -37,6 +39,10 @@ strike_out-requires-clause-numbers c = record {
   numbering = c.in_ok-columns_lasts.ensures.numbering;
   rows = kept_lasts c.last_numbers.new.numbers c.last_numbers-2.new.numbers (nodes_view c.args.writer.now) c.in_ok-rows_lasts.rows_lasts.items c.in_ok-columns_lasts.ensures.kept c.in_ok-rows_lasts.ensures.there;
   columns = c.in_ok-columns_lasts.ensures.there;
+  symbols = c.symbol_numbers-2.new.numbers;
+  symbols_numbering = c.in_ok-columns_symbols.ensures.numbering;
+  row_symbols = kept_symbols c.symbol_numbers.new.numbers c.symbol_numbers-2.new.numbers c.in_ok-columns_symbols.ensures.kept (nodes_view c.args.writer.now) c.in_ok-rows_symbols.rows_symbols.items c.in_ok-rows_symbols.ensures.there;
+  column_symbols = c.in_ok-columns_symbols.ensures.there;
 }
 
 pub field_lists-requires : goal.field_lists-requires

@@ -1,0 +1,135 @@
+-- The symbols of enums by their numbers, and what the numbers say of them.
+use Rattle.std.proofs.Common.{◌≡◌, ◌⊎◌, inl, inr, ℕ, zero, suc, ◌+◌, ◌<◌, List, [], ◌∷◌, ◌++◌, length, take, take_all, get_or, Some, String, Global, string_bytes, refl, sym, ap, subst, ◌∙◌, arith, length-append}
+use Rattle.std.specs.Prelude.{slice_get, IsTrue, Bool, All, Contains, Vec, ◌↔◌, ◌≤◌}
+use Rattle.std.specs.List.Sorted.{IsNonDecreasing, IsPermutation}
+use Rattle.std.proofs.Math.ListN.{get_or-map}
+use Rattle.std.proofs.lemmas.Bool.{cases_lt}
+use Rattle.std.proofs.lemmas.List.{length-map}
+use Rattle.std.proofs.lemmas.Option.{same_Some, slice_get_within}
+use Rattle.std.proofs.lemmas.List.Elements.{All-more, All-push, All-weaker, All-map, All-contains, Contains-push, Contains-append_left}
+use Rattle.std.proofs.lemmas.List.Sorted.{All-permutation, Contains-permutation}
+use Rattle.avro_nodes.specs.Nodes.{NodeView, texts_view}
+use Rattle.avro_resolve.specs.declared.numbers.Numbers.{Numbers}
+use Rattle.avro_resolve.specs.Inside.Agreeing.{symbols_of, TellSymbols}
+use Rattle.avro_resolve.specs.Inside.Lists.{list_at}
+use Rattle.avro_resolve.specs.Inside.Numbers.{number_in, IsNumbering, Keeps, HasNumberOf, NumbersOne, AreNumbersOf, AreSymbolNumbers}
+
+-- ---- one more symbol has its number
+
+has_more : (t u : Numbers) → Keeps t u → (numbers : List ℕ) (n : ℕ) (name : List ℕ) → HasNumberOf t numbers name → HasNumberOf u (numbers ++ n ∷ []) name
+unfolding Keeps
+has_more t u keeps numbers n name h = (h.0, Contains-append_left numbers (n ∷ []) h.0 h.1, keeps name h.0 h.2)
+
+has_kept : (t u : Numbers) → Keeps t u → (numbers : List ℕ) (name : List ℕ) → HasNumberOf t numbers name → HasNumberOf u numbers name
+unfolding Keeps
+has_kept t u keeps numbers name h = (h.0, h.1, keeps name h.0 h.2)
+
+one_kept : (t u : Numbers) → Keeps t u → (names : List (List ℕ)) (n : ℕ) → NumbersOne t names n → NumbersOne u names n
+unfolding Keeps
+one_kept t u keeps names n h = (h.0, h.1, keeps h.0 n h.2)
+
+-- the first symbols have their numbers, and no other number is there
+abbrev pub AllNumbered : Numbers → List (String Global) → ℕ → List ℕ → Type 0
+AllNumbered t symbols i numbers = All (λ s. HasNumberOf t numbers (string_bytes s)) (take i symbols)
+
+pub numbered_more : (t u : Numbers) → Keeps t u → (symbols : List (String Global)) (i : ℕ) (s : String Global) → i < length symbols → s ≡ get_or symbols i s → (numbers : List ℕ) (n : ℕ) → number_in u (string_bytes s) ≡ Some n
+    → AllNumbered t symbols i numbers → AllNumbered u symbols (i + 1) (numbers ++ n ∷ [])
+numbered_more t u keeps symbols i s l is numbers n has before =
+    All-more (λ x. HasNumberOf u (numbers ++ n ∷ []) (string_bytes x)) symbols i s l
+    (All-weaker (λ x. HasNumberOf t numbers (string_bytes x)) (λ x. HasNumberOf u (numbers ++ n ∷ []) (string_bytes x)) (λ x. has_more t u keeps numbers n (string_bytes x)) (take i symbols) before)
+    (subst (λ (x : String Global). HasNumberOf u (numbers ++ n ∷ []) (string_bytes x)) is (n, Contains-push numbers n, has))
+
+pub only_more : (t u : Numbers) → Keeps t u → (symbols : List (String Global)) (i : ℕ) (s : String Global) → i < length symbols → s ≡ get_or symbols i s → (numbers : List ℕ) (n : ℕ) → number_in u (string_bytes s) ≡ Some n
+    → All (NumbersOne t (texts_view symbols)) numbers → All (NumbersOne u (texts_view symbols)) (numbers ++ n ∷ [])
+only_more t u keeps symbols i s l is numbers n has before =
+    All-push (NumbersOne u (texts_view symbols)) numbers n (All-weaker (NumbersOne t (texts_view symbols)) (NumbersOne u (texts_view symbols)) (one_kept t u keeps (texts_view symbols)) numbers before)
+    (string_bytes s, contained symbols i s l is, has)
+  where
+    contained : (xs : List (String Global)) (k : ℕ) (x : String Global) → k < length xs → x ≡ get_or xs k x → Contains (texts_view xs) (string_bytes x)
+    contained xs k x k_in e = (k, rw length-map k_in, get_or-map string_bytes xs k x ∙ ap string_bytes (sym e))
+
+pub all_numbered : (t : Numbers) (symbols : List (String Global)) (i : ℕ) (numbers ordered : List ℕ) → length symbols ≤ i → IsPermutation numbers ordered → IsNonDecreasing ordered → AllNumbered t symbols i numbers → All (NumbersOne t (texts_view symbols)) numbers
+    → AreNumbersOf t (texts_view symbols) ordered
+all_numbered t symbols i numbers ordered l moved rises all only = record {
+  ordered = rises;
+  all = All-map (HasNumberOf t ordered) string_bytes symbols (All-weaker (λ x. HasNumberOf t numbers (string_bytes x)) (λ x. HasNumberOf t ordered (string_bytes x))
+      (λ x h. (h.0, Contains-permutation numbers ordered h.0 moved h.1, h.2)) symbols (subst (λ (xs : List (String Global)). All (λ x. HasNumberOf t numbers (string_bytes x)) xs) (take_all i symbols l) all));
+  only = All-permutation (NumbersOne t (texts_view symbols)) numbers ordered moved only;
+}
+
+-- ---- the symbols of a schema's nodes
+
+pub kept_numbers : (t u : Numbers) → Keeps t u → (names : List (List ℕ)) (numbers : List ℕ) → AreNumbersOf t names numbers → AreNumbersOf u names numbers
+kept_numbers t u keeps names numbers h = record {
+  ordered = h.ordered;
+  all = All-weaker (HasNumberOf t numbers) (HasNumberOf u numbers) (has_kept t u keeps numbers) names h.all;
+  only = All-weaker (NumbersOne t names) (NumbersOne u names) (one_kept t u keeps names) numbers h.only;
+}
+
+pub kept_symbols : (t u : Numbers) → Keeps t u → (nodes : List NodeView) (lists : List (Vec ℕ Global)) → AreSymbolNumbers t nodes lists → AreSymbolNumbers u nodes lists
+kept_symbols t u keeps nodes lists h = record { long = h.long; each = λ place a e. kept_numbers t u keeps (symbols_of a) (list_at lists place) (h.each place a e) }
+
+list_before : (xs : List (Vec ℕ Global)) (v : Vec ℕ Global) (p : ℕ) → p < length xs → list_at (xs ++ v ∷ []) p ≡ list_at xs p
+unfolding list_at
+list_before [] v p l = absurd (omega arith)
+list_before (x ∷ xs) v zero l = refl
+list_before (x ∷ xs) v (suc p) l = list_before xs v p (omega arith)
+
+list_last : (xs : List (Vec ℕ Global)) (v : Vec ℕ Global) → list_at (xs ++ v ∷ []) (length xs) ≡ v.items
+unfolding list_at
+list_last [] v = refl
+list_last (x ∷ xs) v = list_last xs v
+
+-- the lists so far are those of the nodes before a place
+abbrev pub EachList : Numbers → List NodeView → List (Vec ℕ Global) → Type 0
+EachList t nodes lists = (place : ℕ) (a : NodeView) → place < length lists → slice_get nodes place ≡ Some a → AreNumbersOf t (symbols_of a) (list_at lists place)
+
+pub no_list : (t : Numbers) (nodes : List NodeView) → EachList t nodes []
+no_list t nodes place a l e = absurd (omega arith)
+
+pub list_more : (t u : Numbers) (nodes : List NodeView) (lists : List (Vec ℕ Global)) (v : Vec ℕ Global) (a : NodeView) → Keeps t u → EachList t nodes lists → slice_get nodes (length lists) ≡ Some a → AreNumbersOf u (symbols_of a) v.items
+    → EachList u nodes (lists ++ v ∷ [])
+list_more t u nodes lists v a keeps so_far here is place b l e = elim (cases_lt place (length lists)) [
+  | inl g ↦ subst (λ (xs : List ℕ). AreNumbersOf u (symbols_of b) xs) (sym (list_before lists v place g)) (kept_numbers t u keeps (symbols_of b) (list_at lists place) (so_far place b g e))
+  | inr g ↦ (
+      let same : place ≡ length lists = omega (arith, length-append lists (v ∷ [])) in
+      let one : a ≡ b = same_Some a b (sym here ∙ ap (slice_get nodes) (sym same) ∙ e) in
+      subst (λ (x : NodeView). AreNumbersOf u (symbols_of x) (list_at (lists ++ v ∷ []) place)) one (subst (λ (xs : List ℕ). AreNumbersOf u (symbols_of a) xs) (sym (ap (list_at (lists ++ v ∷ [])) same ∙ list_last lists v)) is))
+]
+
+pub all_listed : (t : Numbers) (nodes : List NodeView) (lists : List (Vec ℕ Global)) → length lists ≡ length nodes → EachList t nodes lists → AreSymbolNumbers t nodes lists
+all_listed t nodes lists long so_far = record { long = long; each = λ place a e. so_far place a (subst (λ (n : ℕ). place < n) (sym long) (slice_get_within nodes place a e)) e }
+
+-- ---- what the numbers say
+
+module _ (t : Numbers) (is : IsNumbering t) (symbols known : List (List ℕ)) (numbers others : List ℕ) (w : AreNumbersOf t symbols numbers) (r : AreNumbersOf t known others) where
+  known_if : All (Contains others) numbers → All (Contains known) symbols
+  known_if h k d l =
+      let name = get_or symbols k d in
+      let own = w.all k d l in
+      let back = All-contains (NumbersOne t known) others own.0 r.only (All-contains (Contains others) numbers own.0 h own.1) in
+      subst (λ (x : List ℕ). Contains known x) (is.differ back.0 name own.0 back.2 own.2) back.1
+
+  numbered_if : All (Contains known) symbols → All (Contains others) numbers
+  numbered_if h k d l =
+      let n = get_or numbers k d in
+      let own = w.only k d l in
+      let back = All-contains (HasNumberOf t others) known own.0 r.all (All-contains (Contains known) symbols own.0 h own.1) in
+      subst (λ (x : ℕ). Contains others x) (same_Some back.0 n (sym back.2 ∙ own.2)) back.1
+
+  pub told : All (Contains others) numbers ↔ All (Contains known) symbols
+  told = (known_if, numbered_if)
+
+pub tell_symbols : (t : Numbers) → IsNumbering t → (w r : List NodeView) (xs ys : List (Vec ℕ Global)) → AreSymbolNumbers t w xs → AreSymbolNumbers t r ys → (i j : ℕ) (a b : NodeView) → slice_get w i ≡ Some a → slice_get r j ≡ Some b
+    → (symbols known : List ℕ) → symbols ≡ list_at xs i → known ≡ list_at ys j → TellSymbols symbols known a b
+tell_symbols t is w r xs ys rows columns i j a b ea eb symbols known es ek =
+    let row = subst (λ (ns : List ℕ). AreNumbersOf t (symbols_of a) ns) (sym es) (rows.each i a ea) in
+    let column = subst (λ (ns : List ℕ). AreNumbersOf t (symbols_of b) ns) (sym ek) (columns.each j b eb) in
+    record { symbols_ordered = row.ordered; known_ordered = column.ordered; tell = told t is (symbols_of a) (symbols_of b) symbols known row column }
+
+-- a test that rests on one of two facts that say the same rests on the other
+pub told_by : (r : Bool) (N F X Y : Type 0) → IsTrue r ↔ (N × (F ⊎ X)) → X ↔ Y → IsTrue r ↔ (N × (F ⊎ Y))
+told_by r N F X Y h same = (
+  (λ yes. let (n, o) = h.0 yes in (n, elim o [ inl f ↦ inl f | inr x ↦ inr (same.0 x) ])),
+  (λ (n, o). h.1 (n, elim o [ inl f ↦ inl f | inr y ↦ inr (same.1 y) ])),
+)

@@ -1,0 +1,27 @@
+use Rattle.std.proofs.Common.{◌≡◌, ℕ, List, Some, string_bytes, subst, arith}
+use Rattle.avro_resolve.specs.Inside.Numbers.{number_in}
+use Rattle.avro_resolve.proofs.NumberLemmas.{keeps_same, keeps_then}
+use Rattle.avro_resolve.proofs.SymbolLemmas.{numbered_more, only_more, all_numbered}
+use Rattle.std.proofs.lemmas.List.Sorted.{IsNonDecreasingBy-from_sort}
+use Rattle.avro_resolve.proofs.symbols.numbers_of.Goals as goal
+
+pub loop-symbol-init : goal.loop-symbol-init
+loop-symbol-init c = rw c.in_ok-listed.ensures.items (record { numbering = c.requires; kept = keeps_same c.args.numbers.now; all = λ k d l. absurd (omega arith); only = λ k d l. absurd (omega arith) })
+
+pub loop-symbol-preserved : goal.loop-symbol-preserved
+loop-symbol-preserved c =
+    let inv = c.loop-symbol.invariant in let symbols = c.args.symbols.now in let i = c.loop-symbol.symbol-index in
+    let before = c.loop-symbol.numbers in let after = c.number.new.self in let kept = c.in_ok-number.ensures.kept in
+    let has : number_in after (string_bytes c.symbol-item.result) ≡ Some c.in_ok-number.number = subst (λ (name : List ℕ). number_in after name ≡ Some c.in_ok-number.number) c.as_str.ensures.value c.in_ok-number.ensures.there in
+    rw c.in_ok-push.ensures.items (record {
+      numbering = c.in_ok-number.ensures.numbering;
+      kept = keeps_then c.args.numbers.now before after inv.kept kept;
+      all = numbered_more before after kept symbols i c.symbol-item.result c.loop-symbol-test.true c.symbol-item.is c.loop-symbol.listed.items c.in_ok-number.number has inv.all;
+      only = only_more before after kept symbols i c.symbol-item.result c.loop-symbol-test.true c.symbol-item.is c.loop-symbol.listed.items c.in_ok-number.number has inv.only;
+    })
+
+pub returns-clause-there : goal.returns-clause-there
+returns-clause-there c =
+    let sorted = c.sort_unstable.new.self.items in
+    all_numbered c.loop-symbol.numbers c.args.symbols.now c.loop-symbol.symbol-index c.loop-symbol.listed.items sorted c.loop-symbol-test.false c.sort_unstable.ensures.permutation
+    (IsNonDecreasingBy-from_sort (λ x. x) sorted c.sort_unstable.ensures.sorted) c.loop-symbol.invariant.all c.loop-symbol.invariant.only

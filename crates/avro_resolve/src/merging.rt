@@ -1,0 +1,41 @@
+//! Whether one list of numbers has those of another, where both are in order.
+
+ghost use Rattle.std.specs.Prelude.{◌≡◌, ℕ, ◌↔◌, ◌<◌, ◌≤◌, All, Contains, IsTrue, length, slice_index};
+ghost use Rattle.std.specs.List.Sorted.{IsNonDecreasing};
+
+/// The first place from this one on at which the list has no less than the number, or else its
+/// length.
+fn first_from(list: &[usize], from: usize, number: usize) -> usize
+    ensures below { (k : ℕ) → from ≤ k → k < result → slice_index list.now k < number }
+    ensures at { result < length list.now → number ≤ slice_index list.now result }
+{
+    for at in from..list.len() {
+        if list[at] >= number {
+            return at;
+        }
+    }
+    list.len()
+}
+
+/// Whether the number stands at this place of the list.
+fn is_at(list: &[usize], at: usize, number: usize) -> bool
+    ensures { IsTrue result ↔ (at < length list.now) × (slice_index list.now at ≡ number) }
+{
+    at < list.len() && list[at] == number
+}
+
+/// Whether each of the numbers is one of the list's. Both are walked once, side by side.
+pub fn has_all(list: &[usize], numbers: &[usize]) -> bool
+    requires list { IsNonDecreasing list.now }
+    requires numbers { IsNonDecreasing numbers.now }
+    ensures { IsTrue result ↔ All (Contains list.now) numbers.now }
+{
+    let mut at = 0;
+    for number in numbers {
+        at = first_from(list, at, *number);
+        if !is_at(list, at, *number) {
+            return false;
+        }
+    }
+    true
+}
