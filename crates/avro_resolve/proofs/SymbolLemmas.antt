@@ -1,7 +1,11 @@
 -- The symbols of enums by their numbers, and what the numbers say of them.
-use Rattle.std.proofs.Common.{◌≡◌, ◌⊎◌, inl, inr, ℕ, zero, suc, ◌+◌, ◌<◌, List, [], ◌∷◌, ◌++◌, length, take, take_all, get_or, Some, String, Global, string_bytes, refl, sym, ap, subst, ◌∙◌, arith, length-append}
+use Rattle.std.proofs.Common.{eqb, nat_cmp, ◌≡◌, ◌⊎◌, inl, inr, ℕ, zero, suc, ◌+◌, ◌<◌, List, [], ◌∷◌, ◌++◌, length, take, take_all, get_or, Some, String, Global, string_bytes, refl, sym, ap, subst, ◌∙◌, arith, length-append}
 use Rattle.std.specs.Prelude.{slice_get, IsTrue, Bool, All, Contains, Vec, ◌↔◌, ◌≤◌}
-use Rattle.std.specs.List.Sorted.{IsNonDecreasing, IsPermutation}
+use Rattle.std.specs.List.{dedup}
+use Rattle.std.specs.List.Sorted.{IsPermutation, IsSorted}
+use Rattle.std.proofs.lemmas.List.Filters.{All-dedup}
+use Rattle.std.proofs.lemmas.List.Kept.{Contains-dedup_nat}
+use Rattle.std.proofs.lemmas.Map.Keys.{IsStrictlyIncreasing-dedup}
 use Rattle.std.proofs.Math.ListN.{get_or-map}
 use Rattle.std.proofs.lemmas.Bool.{cases_lt}
 use Rattle.std.proofs.lemmas.List.{length-map}
@@ -48,14 +52,16 @@ only_more t u keeps symbols i s l is numbers n has before =
     contained : (xs : List (String Global)) (k : ℕ) (x : String Global) → k < length xs → x ≡ get_or xs k x → Contains (texts_view xs) (string_bytes x)
     contained xs k x k_in e = (k, rw length-map k_in, get_or-map string_bytes xs k x ∙ ap string_bytes (sym e))
 
-pub all_numbered : (t : Numbers) (symbols : List (String Global)) (i : ℕ) (numbers ordered : List ℕ) → length symbols ≤ i → IsPermutation numbers ordered → IsNonDecreasing ordered → AllNumbered t symbols i numbers → All (NumbersOne t (texts_view symbols)) numbers
-    → AreNumbersOf t (texts_view symbols) ordered
-all_numbered t symbols i numbers ordered l moved rises all only = record {
-  ordered = rises;
-  all = All-map (HasNumberOf t ordered) string_bytes symbols (All-weaker (λ x. HasNumberOf t numbers (string_bytes x)) (λ x. HasNumberOf t ordered (string_bytes x))
-      (λ x h. (h.0, Contains-permutation numbers ordered h.0 moved h.1, h.2)) symbols (subst (λ (xs : List (String Global)). All (λ x. HasNumberOf t numbers (string_bytes x)) xs) (take_all i symbols l) all));
-  only = All-permutation (NumbersOne t (texts_view symbols)) numbers ordered moved only;
-}
+pub all_numbered : (t : Numbers) (symbols : List (String Global)) (i : ℕ) (numbers sorted kept : List ℕ) → length symbols ≤ i → IsPermutation numbers sorted → IsSorted nat_cmp sorted → kept ≡ dedup eqb sorted
+    → AllNumbered t symbols i numbers → All (NumbersOne t (texts_view symbols)) numbers → AreNumbersOf t (texts_view symbols) kept
+all_numbered t symbols i numbers sorted kept l moved rise once all only =
+    let own : (n : ℕ) → Contains numbers n → Contains (dedup eqb sorted) n = λ n h. Contains-dedup_nat sorted n (Contains-permutation numbers sorted n moved h) in
+    subst (λ (xs : List ℕ). AreNumbersOf t (texts_view symbols) xs) (sym once) (record {
+      ordered = IsStrictlyIncreasing-dedup sorted rise;
+      all = All-map (HasNumberOf t (dedup eqb sorted)) string_bytes symbols (All-weaker (λ x. HasNumberOf t numbers (string_bytes x)) (λ x. HasNumberOf t (dedup eqb sorted) (string_bytes x))
+          (λ x h. (h.0, own h.0 h.1, h.2)) symbols (subst (λ (xs : List (String Global)). All (λ x. HasNumberOf t numbers (string_bytes x)) xs) (take_all i symbols l) all));
+      only = All-dedup eqb (NumbersOne t (texts_view symbols)) sorted (All-permutation (NumbersOne t (texts_view symbols)) numbers sorted moved only);
+    })
 
 -- ---- the symbols of a schema's nodes
 

@@ -1,7 +1,7 @@
 //! Whether one list of numbers has those of another, where both are in order.
 
 ghost use Rattle.std.specs.Prelude.{◌≡◌, ℕ, ◌↔◌, ◌<◌, ◌≤◌, All, Contains, IsTrue, length, slice_index};
-ghost use Rattle.std.specs.List.Sorted.{IsNonDecreasing};
+ghost use Rattle.std.specs.List.Sorted.{IsStrictlyIncreasing};
 
 /// The first place from this one on at which the list has no less than the number, or else its
 /// length.
@@ -26,16 +26,17 @@ fn is_at(list: &[usize], at: usize, number: usize) -> bool
 
 /// Whether each of the numbers is one of the list's. Both are walked once, side by side.
 pub fn has_all(list: &[usize], numbers: &[usize]) -> bool
-    requires list { IsNonDecreasing list.now }
-    requires numbers { IsNonDecreasing numbers.now }
+    requires list { IsStrictlyIncreasing list.now }
+    requires numbers { IsStrictlyIncreasing numbers.now }
     ensures { IsTrue result ↔ All (Contains list.now) numbers.now }
 {
-    let mut at = 0;
+    let mut from = 0;
     for number in numbers {
-        at = first_from(list, at, *number);
+        let at = first_from(list, from, *number);
         if !is_at(list, at, *number) {
             return false;
         }
+        from = at + 1;
     }
     true
 }

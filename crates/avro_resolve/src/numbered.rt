@@ -1,7 +1,7 @@
 //! What two nodes say of a pair by themselves, where symbols are told by their numbers.
 
 ghost use Rattle.std.specs.Prelude.{◌≡◌, ◌↔◌, ◌⊎◌, option_map, string_bytes, All, Contains, IsSome, IsTrue};
-ghost use Rattle.std.specs.List.Sorted.{IsNonDecreasing};
+ghost use Rattle.std.specs.List.Sorted.{IsStrictlyIncreasing};
 ghost use Rattle.avro_nodes.specs.Names.{last_part};
 ghost use Rattle.avro_nodes.specs.Nodes.{named_view, node_view};
 ghost use Rattle.avro_resolve.specs.Resolution.{NameMatch};
@@ -15,8 +15,8 @@ use avro_nodes::{Named, Node};
 /// Whether each of a writer's symbols may come, where they and the reader's are told by their
 /// numbers.
 fn symbols_fit(symbols: &[usize], known: &[usize], fallback: &Option<String>) -> bool
-    requires symbols { IsNonDecreasing symbols.now }
-    requires known { IsNonDecreasing known.now }
+    requires symbols { IsStrictlyIncreasing symbols.now }
+    requires known { IsStrictlyIncreasing known.now }
     ensures { IsTrue result ↔ (IsSome (option_map string_bytes fallback.now)
         ⊎ All (Contains known.now) symbols.now) }
 {
@@ -32,8 +32,8 @@ fn enums_fit(
     same: bool,
     fallback: &Option<String>,
 ) -> bool
-    requires symbols { IsNonDecreasing symbols.now }
-    requires known { IsNonDecreasing known.now }
+    requires symbols { IsStrictlyIncreasing symbols.now }
+    requires known { IsStrictlyIncreasing known.now }
     requires last { IsTrue same ↔ (last_part (string_bytes named.now.name) ≡ last_part (string_bytes wanted.now.name)) }
     ensures { IsTrue result ↔ (NameMatch (named_view named.now) (named_view wanted.now)
         × (IsSome (option_map string_bytes fallback.now)

@@ -10,7 +10,7 @@ use avro_nodes::Node;
 use avro_schema::Schema;
 use std::alloc::{AllocError, Global};
 
-/// The numbers of these symbols, in order.
+/// The numbers of these symbols, in order and each once.
 fn numbers_of<'a>(
     alloc: Global,
     numbers: &mut Numbers<'a>,
@@ -27,6 +27,7 @@ fn numbers_of<'a>(
         listed.push(number)?;
     }
     listed.sort_unstable();
+    listed.dedup();
     Ok(listed)
 }
 

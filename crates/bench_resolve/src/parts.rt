@@ -5,6 +5,9 @@ use std::alloc::{AllocError, Global};
 /// How deep the records of a nested one go.
 const DEPTH: u32 = 20;
 
+/// The most letters of a symbol.
+const MOST_LETTERS: u32 = 4;
+
 /// A comma before each part but the first.
 fn push_comma(text: &mut String, index: u32) -> Result<(), AllocError> {
     if index > 0 {
@@ -14,13 +17,28 @@ fn push_comma(text: &mut String, index: u32) -> Result<(), AllocError> {
     }
 }
 
-/// A symbol of four letters.
+/// A letter, the small ones first.
+fn letter(index: u32) -> char {
+    let within = (index % 26) as u8;
+    char::from(if index < 26 {
+        b'a' + within
+    } else {
+        b'A' + within
+    })
+}
+
+/// A symbol: of one letter for the first 52, and of more for later ones.
 fn push_symbol(text: &mut String, index: u32) -> Result<(), AllocError> {
-    let first = char::from(b'a' + (index / 17576 % 26) as u8);
-    let second = char::from(b'a' + (index / 676 % 26) as u8);
-    let third = char::from(b'a' + (index / 26 % 26) as u8);
-    let fourth = char::from(b'a' + (index % 26) as u8);
-    write!(text, r#""{first}{second}{third}{fourth}""#)
+    text.push_str("\"")?;
+    let mut rest = index;
+    for _letter in 0..MOST_LETTERS {
+        text.push(letter(rest % 52))?;
+        rest /= 52;
+        if rest == 0 {
+            break;
+        }
+    }
+    text.push_str("\"")
 }
 
 /// An enum of so many symbols, of which this one is the last.

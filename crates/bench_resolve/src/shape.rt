@@ -19,8 +19,8 @@ pub enum Shape {
     Enum,
     /// so many enums of 60 symbols and one last name, with themselves
     Enums,
-    /// so many enums of 340 symbols and one last name, of which the writer's last symbol is another
-    /// than the reader's
+    /// so many enums of 340 symbols and one last name, with as many whose last symbol is another one
+    /// and, behind them, one that has a default
     LastSymbols,
     /// a union of records, each with a field of the one before it, with itself
     Chain,
@@ -57,7 +57,7 @@ pub static SHAPES: [(&str, Shape, &[u32]); 19] = [
     ("union", Shape::Union, &[100, 680]),
     ("enum", Shape::Enum, &[100, 1000, 10000, 140000]),
     ("enums", Shape::Enums, &[100, 1000, 3500]),
-    ("last-symbols", Shape::LastSymbols, &[100, 500]),
+    ("last-symbols", Shape::LastSymbols, &[100, 499]),
     ("chain", Shape::Chain, &[100, 1000, 4000]),
     ("broken-chain", Shape::BrokenChain, &[100, 1000, 4000]),
     ("one-name", Shape::OneName, &[100, 1000, 4000]),

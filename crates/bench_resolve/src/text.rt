@@ -44,6 +44,16 @@ fn own_symbol(role: Role) -> u32 {
     }
 }
 
+/// On the reader's side an enum that any of the last name is read as.
+fn push_excuse(text: &mut String, role: Role) -> Result<(), AllocError> {
+    match role {
+        Role::Writer => Ok(()),
+        Role::Reader => text.push_str(
+            r#",{"type":"enum","name":"z.A","symbols":["other"],"default":"other"}"#,
+        ),
+    }
+}
+
 /// The branches of a union.
 fn push_branches(
     alloc: Global,
@@ -54,7 +64,10 @@ fn push_branches(
 ) -> Result<(), AllocError> {
     match shape {
         Shape::Enums => push_enums(alloc, text, count, FEW_SYMBOLS, 0),
-        Shape::LastSymbols => push_enums(alloc, text, count, SOME_SYMBOLS, own_symbol(role)),
+        Shape::LastSymbols => {
+            push_enums(alloc, text, count, SOME_SYMBOLS, own_symbol(role))?;
+            push_excuse(text, role)
+        }
         Shape::Chain => push_chain(alloc, text, count, r#""int""#, false),
         Shape::BrokenChain => push_chain(alloc, text, count, broken(role), false),
         Shape::OneName => push_chain(alloc, text, count, broken(role), true),

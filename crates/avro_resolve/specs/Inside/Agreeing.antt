@@ -1,6 +1,6 @@
 -- What two nodes say of a pair by themselves.
 use Rattle.std.specs.Prelude.{◌≡◌, ◌⊎◌, ◌↔◌, ℕ, List, [], Bool, Option, Some, None, IsSome, IsTrue, MatchOption, All, Contains}
-use Rattle.std.specs.List.Sorted.{IsNonDecreasing}
+use Rattle.std.specs.List.Sorted.{IsStrictlyIncreasing}
 use Rattle.avro_nodes.specs.Names.{last_part}
 use Rattle.avro_nodes.specs.Nodes.{NamedView, NodeView, primitive, array, mapping, union, enumeration, fixed, rec}
 use Rattle.avro_resolve.specs.Resolution.{NameMatch, Promotes}
@@ -42,8 +42,8 @@ symbols_of (enumeration named symbols fallback _) = symbols
 symbols_of (fixed named size _) = []
 symbols_of (rec named fields _) = []
 
--- the lists of numbers, both in order, tell whether each symbol of the one node is one of the other's
+-- the lists of numbers, both in order and with each number once, tell whether each symbol of the one node is one of the other's
 pub record TellSymbols (symbols known : List ℕ) (a b : NodeView) : Type 0 where
-  pub symbols_ordered : IsNonDecreasing symbols
-  pub known_ordered : IsNonDecreasing known
+  pub symbols_ordered : IsStrictlyIncreasing symbols
+  pub known_ordered : IsStrictlyIncreasing known
   pub tell : All (Contains known) symbols ↔ All (Contains (symbols_of b)) (symbols_of a)

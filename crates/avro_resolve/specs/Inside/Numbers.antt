@@ -2,7 +2,7 @@
 use Rattle.std.specs.Prelude.{◌≡◌, ℕ, ◌<◌, List, Option, Some, MatchOption, All, Contains, Vec, length, slice_get}
 use Rattle.std.specs.declared.alloc.Global.{Global}
 use Rattle.std.specs.HashMap.{get_by, hash_map_len}
-use Rattle.std.specs.List.Sorted.{IsNonDecreasing}
+use Rattle.std.specs.List.Sorted.{IsStrictlyIncreasing}
 use Rattle.std.specs.Str.{bytes_eq}
 use Rattle.avro_nodes.specs.Names.{last_part}
 use Rattle.avro_nodes.specs.Nodes.{NodeView}
@@ -42,9 +42,9 @@ HasNumberOf t numbers name = (n : ℕ) × Contains numbers n × (number_in t nam
 abbrev pub NumbersOne : Numbers → List (List ℕ) → ℕ → Type 0
 NumbersOne t names n = (name : List ℕ) × Contains names name × (number_in t name ≡ Some n)
 
--- the numbers of the names, and no others, in order
+-- the numbers of the names, and no others, in order and each once
 pub record AreNumbersOf (t : Numbers) (names : List (List ℕ)) (numbers : List ℕ) : Type 0 where
-  pub ordered : IsNonDecreasing numbers
+  pub ordered : IsStrictlyIncreasing numbers
   pub all : All (HasNumberOf t numbers) names
   pub only : All (NumbersOne t names) numbers
 

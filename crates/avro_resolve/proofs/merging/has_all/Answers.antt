@@ -8,7 +8,7 @@ pub returns-then-not-is_at : goal.returns-then-not-is_at
 returns-then-not-is_at c =
     let list = c.args.list.now in let numbers = c.args.numbers.now in let i = c.loop-number.number-index in (
       (λ h. absurd (true≢false (sym h))),
-      (λ h. absurd (not_there list numbers i c.loop-number.at c.first_from-at.result c.loop-number-test.true c.loop-number.invariant.below c.first_from-at.ensures.below c.requires.list c.first_from-at.ensures.at
+      (λ h. absurd (not_there list numbers i c.loop-number.from c.first_from-at.result c.loop-number-test.true c.loop-number.invariant.below c.first_from-at.ensures.below c.requires.list c.first_from-at.ensures.at
           (λ e. true≢false (sym (c.is_at.ensures.1 e) ∙ c.if-not-is_at.true)) (h i 0 c.loop-number-test.true))),
     )
 
@@ -18,7 +18,7 @@ loop-number-preserved c =
     let there = c.is_at.ensures.0 c.if-not-is_at.false in
     record {
       seen = All-more (Contains list) numbers i 0 c.loop-number-test.true c.loop-number.invariant.seen (subst (λ (n : ℕ). Contains list n) there.1 (Contains-get_or list c.first_from-at.result 0 there.0));
-      below = below_later list numbers i c.loop-number.at c.first_from-at.result c.loop-number-test.true c.loop-number.invariant.below c.first_from-at.ensures.below c.requires.numbers;
+      below = below_later list numbers i c.loop-number.from c.first_from-at.result c.loop-number-test.true c.loop-number.invariant.below c.first_from-at.ensures.below c.requires.numbers there.1;
     }
 
 pub returns : goal.returns

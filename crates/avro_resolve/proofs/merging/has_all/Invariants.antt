@@ -5,5 +5,5 @@ use Rattle.avro_resolve.proofs.merging.has_all.Given as goal
 abbrev pub invariant-loop-number : goal.invariant-loop-number
 invariant-loop-number l = record {
   seen : All (Contains l.list) (take l.number-index l.numbers);
-  below : (k m : ℕ) → k < l.at → l.number-index ≤ m → m < length l.numbers → get_or l.list k 0 < get_or l.numbers m 0;
+  below : (k m : ℕ) → k < l.from → l.number-index ≤ m → m < length l.numbers → get_or l.list k 0 < get_or l.numbers m 0;
 }

@@ -1,8 +1,8 @@
-use Rattle.std.proofs.Common.{◌≡◌, ℕ, List, Some, string_bytes, subst, arith}
+use Rattle.std.proofs.Common.{eqb, ◌≡◌, ℕ, List, Some, string_bytes, subst, arith}
 use Rattle.avro_resolve.specs.Inside.Numbers.{number_in}
 use Rattle.avro_resolve.proofs.NumberLemmas.{keeps_same, keeps_then}
 use Rattle.avro_resolve.proofs.SymbolLemmas.{numbered_more, only_more, all_numbered}
-use Rattle.std.proofs.lemmas.List.Sorted.{IsNonDecreasingBy-from_sort}
+use Rattle.std.proofs.lemmas.List.Filters.{dedup_is}
 use Rattle.avro_resolve.proofs.symbols.numbers_of.Goals as goal
 
 pub loop-symbol-init : goal.loop-symbol-init
@@ -22,6 +22,6 @@ loop-symbol-preserved c =
 
 pub returns-clause-there : goal.returns-clause-there
 returns-clause-there c =
-    let sorted = c.sort_unstable.new.self.items in
-    all_numbered c.loop-symbol.numbers c.args.symbols.now c.loop-symbol.symbol-index c.loop-symbol.listed.items sorted c.loop-symbol-test.false c.sort_unstable.ensures.permutation
-    (IsNonDecreasingBy-from_sort (λ x. x) sorted c.sort_unstable.ensures.sorted) c.loop-symbol.invariant.all c.loop-symbol.invariant.only
+    let sorted = c.sort_unstable.new.self.items in let kept = c.dedup.new.self.items in
+    all_numbered c.loop-symbol.numbers c.args.symbols.now c.loop-symbol.symbol-index c.loop-symbol.listed.items sorted kept c.loop-symbol-test.false c.sort_unstable.ensures.permutation c.sort_unstable.ensures.sorted
+    (dedup_is eqb sorted kept c.dedup.ensures.filtered) c.loop-symbol.invariant.all c.loop-symbol.invariant.only
