@@ -6,6 +6,7 @@
 
 #![tactic(auto)]
 
+mod crowds;
 mod parts;
 mod random;
 mod shape;

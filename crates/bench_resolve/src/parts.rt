@@ -9,7 +9,7 @@ const DEPTH: u32 = 20;
 const MOST_LETTERS: u32 = 4;
 
 /// A comma before each part but the first.
-fn push_comma(text: &mut String, index: u32) -> Result<(), AllocError> {
+pub fn push_comma(text: &mut String, index: u32) -> Result<(), AllocError> {
     if index > 0 {
         text.push_str(",")
     } else {
@@ -28,7 +28,7 @@ fn letter(index: u32) -> char {
 }
 
 /// A symbol: of one letter for the first 52, and of more for later ones.
-fn push_symbol(text: &mut String, index: u32) -> Result<(), AllocError> {
+pub fn push_symbol(text: &mut String, index: u32) -> Result<(), AllocError> {
     text.push_str("\"")?;
     let mut rest = index;
     for _letter in 0..MOST_LETTERS {
@@ -104,7 +104,7 @@ pub fn push_record(text: &mut String, name: &str, kind: &str) -> Result<(), Allo
 }
 
 /// The full name of a record in a list of them: of a last name of its own, or of one for all.
-fn name_of(alloc: Global, one_name: bool, index: u32) -> Result<String, AllocError> {
+pub fn name_of(alloc: Global, one_name: bool, index: u32) -> Result<String, AllocError> {
     if one_name {
         format!(in alloc; "n{index}.A")
     } else {

@@ -45,10 +45,20 @@ pub enum Shape {
     Ladder,
     /// a broken chain beside an enum of 5000 symbols
     Beside,
+    /// eleven unions of the same records of one last name, which have an int, and the reader's a
+    /// string
+    Unions,
+    /// eleven records of one last name with a field for each of so many records of one last name and
+    /// different fields, with themselves
+    Wide,
+    /// so many records, with themselves behind a record of 100,000 aliases
+    Aliases,
+    /// so many records of one last name, with one whose field has 100,000 aliases
+    FieldAliases,
 }
 
 /// All shapes, with the counts of `all`.
-pub static SHAPES: [(&str, Shape, &[u32]); 19] = [
+pub static SHAPES: [(&str, Shape, &[u32]); 23] = [
     ("fields", Shape::Fields, &[10, 100, 1000, 4095]),
     ("reversed", Shape::Reversed, &[10, 100, 1000, 4095]),
     ("other-types", Shape::OtherTypes, &[10, 100, 1000, 4095]),
@@ -68,4 +78,8 @@ pub static SHAPES: [(&str, Shape, &[u32]); 19] = [
     ("retaken", Shape::Retaken, &[200, 2000]),
     ("ladder", Shape::Ladder, &[30, 300]),
     ("beside", Shape::Beside, &[200]),
+    ("unions", Shape::Unions, &[200, 2000]),
+    ("wide", Shape::Wide, &[200, 2000]),
+    ("aliases", Shape::Aliases, &[200, 2000]),
+    ("field-aliases", Shape::FieldAliases, &[200, 2000]),
 ];

@@ -1,5 +1,6 @@
 //! The texts of the schemas that are measured.
 
+use crate::crowds::{push_aliased, push_alike, push_field_aliased, push_unions, push_wide};
 use crate::parts::{
     push_chain, push_cycle, push_enum, push_enums, push_fan, push_fields, push_ladder, push_nested,
     push_record, push_references, push_retaken, push_tree,
@@ -81,6 +82,12 @@ fn push_branches(
             text.push_str(",")?;
             push_chain(alloc, text, count, broken(role), false)
         }
+        Shape::Wide => push_wide(alloc, text, count),
+        Shape::Aliases if role == Role::Reader => {
+            push_aliased(text)?;
+            push_union(alloc, text, count)
+        }
+        Shape::FieldAliases => push_alike(alloc, text, count, r#""int""#),
         _ => push_union(alloc, text, count),
     }
 }
@@ -115,6 +122,8 @@ pub fn text_of(alloc: Global, shape: Shape, count: u32, role: Role) -> Result<St
         }
         Shape::OpenCycles => push_cycle(alloc, &mut text, count, broken(role))?,
         Shape::References => push_references(alloc, &mut text, count)?,
+        Shape::Unions => push_unions(alloc, &mut text, count, broken(role))?,
+        Shape::FieldAliases if is_reader => push_field_aliased(&mut text)?,
         Shape::Ladder if is_reader => push_ladder(&mut text, count, &["x", "y"], r#""string""#)?,
         Shape::Ladder => push_ladder(&mut text, count, &["w"], r#""int""#)?,
         _ => {
