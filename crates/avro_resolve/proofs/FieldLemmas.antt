@@ -19,7 +19,7 @@ find_place : (fs : List Field) (name : List ℕ) → place_in fs name ≡ option
 find_place [] name = refl
 find_place (f ∷ fs) name = find_step f (find (λ g. bytes_eq (string_bytes g.name) name) fs) (find (λ g. bytes_eq g.name name) (map field_view fs)) (bytes_eq (string_bytes f.name) name) (find_place fs name)
 
-place-or : (o p : Option FieldView) → option_map (λ f. f.place) (option_or o p) ≡ option_or (option_map (λ f. f.place) o) (option_map (λ f. f.place) p)
+pub place-or : (o p : Option FieldView) → option_map (λ f. f.place) (option_or o p) ≡ option_or (option_map (λ f. f.place) o) (option_map (λ f. f.place) p)
 place-or None p = refl
 place-or (Some f) p = refl
 

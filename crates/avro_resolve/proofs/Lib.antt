@@ -3,6 +3,8 @@ pub mod LookupLemmas
 pub mod NumberLemmas
 pub mod Merges
 pub mod SymbolLemmas
+pub mod EachLemmas
+pub mod SourceLemmas
 pub mod FieldLemmas
 pub mod Flags
 pub mod FieldListLemmas

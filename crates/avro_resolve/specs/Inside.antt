@@ -8,5 +8,6 @@ pub mod Numbers
 pub mod PairSets
 pub mod Places
 pub mod Sides
+pub mod Sources
 pub mod FieldLists
 pub mod Walking

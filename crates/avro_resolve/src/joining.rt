@@ -4,6 +4,7 @@ ghost use Rattle.std.specs.Prelude.{◌≡◌, ◌≤◌, ◌<◌, ℕ, OnOk, Al
 ghost use Rattle.std.specs.List.Sorted.{IsNonDecreasingBy};
 ghost use Rattle.avro_resolve.specs.Inside.Askers.{Joins};
 ghost use Rattle.avro_resolve.specs.Inside.Sides.{nodes_of, IsSide};
+ghost use Rattle.avro_resolve.specs.Inside.Sources.{AreSourced};
 ghost use Rattle.avro_resolve.specs.Inside.Left.{IsRest, Lists, Settled, AllSettled};
 
 use crate::links::Link;
@@ -41,6 +42,7 @@ fn look_at_label(
 ) -> Result<(), AllocError>
     requires writer { IsSide writer.now }
     requires reader { IsSide reader.now }
+    requires sourced { AreSourced writer.now reader.now }
     requires rest { IsRest (nodes_of writer.now) (nodes_of reader.now) table.old }
     requires before { AllSettled (nodes_of writer.now) (nodes_of reader.now) table.old
         (struck.old.items ++ told ∷ []) }
@@ -77,6 +79,7 @@ pub fn look_joined(
 ) -> Result<(), AllocError>
     requires writer { IsSide writer.now }
     requires reader { IsSide reader.now }
+    requires sourced { AreSourced writer.now reader.now }
     requires rest { IsRest (nodes_of writer.now) (nodes_of reader.now) table.old }
     requires before { AllSettled (nodes_of writer.now) (nodes_of reader.now) table.old
         (struck.old.items ++ told ∷ []) }

@@ -6,6 +6,7 @@
 mod agreeing;
 mod askers;
 mod field_lists;
+mod field_names;
 mod fields;
 mod joining;
 mod kinds;
@@ -22,6 +23,7 @@ mod recursion;
 mod resolving;
 mod roots;
 mod sides;
+mod sources;
 mod striking;
 mod support;
 mod sweeping;

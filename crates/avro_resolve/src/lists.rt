@@ -28,10 +28,10 @@ pub fn note<T: Drop>(lists: &mut Vec<Vec<T>>, place: u32, item: T) -> Result<(),
 }
 
 /// The list of a place, and none for what is no place.
-pub fn list_of<T>(lists: &[Vec<T>], place: u32) -> &[T]
+pub fn list_of<T>(lists: &[Vec<T>], place: usize) -> &[T]
     ensures { result.now ≡ list_at lists.now place }
 {
-    match lists.get(place as usize) {
+    match lists.get(place) {
         Some(list) => list.as_slice(),
         None => &[],
     }

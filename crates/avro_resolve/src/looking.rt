@@ -2,6 +2,7 @@
 
 ghost use Rattle.std.specs.Prelude.{ℕ, ◌<◌, length, OnOk, All, [], ◌∷◌, ◌++◌};
 ghost use Rattle.avro_resolve.specs.Inside.Sides.{nodes_of, IsSide};
+ghost use Rattle.avro_resolve.specs.Inside.Sources.{AreSourced};
 ghost use Rattle.avro_resolve.specs.Inside.Left.{IsRest, Lists, Settled, AllSettled};
 
 use crate::sides::Side;
@@ -20,6 +21,7 @@ fn look(
 ) -> Result<(), AllocError>
     requires writer { IsSide writer.now }
     requires reader { IsSide reader.now }
+    requires sourced { AreSourced writer.now reader.now }
     requires rest { IsRest (nodes_of writer.now) (nodes_of reader.now) table.old }
     requires i_in { i < length writer.now.schema.now }
     requires j_in { j < length reader.now.schema.now }
@@ -47,6 +49,7 @@ pub fn look_again(
 ) -> Result<(), AllocError>
     requires writer { IsSide writer.now }
     requires reader { IsSide reader.now }
+    requires sourced { AreSourced writer.now reader.now }
     requires rest { IsRest (nodes_of writer.now) (nodes_of reader.now) table.old }
     requires before { AllSettled (nodes_of writer.now) (nodes_of reader.now) table.old
         (struck.old.items ++ told ∷ []) }
@@ -76,6 +79,7 @@ pub fn look_along(
 ) -> Result<(), AllocError>
     requires writer { IsSide writer.now }
     requires reader { IsSide reader.now }
+    requires sourced { AreSourced writer.now reader.now }
     requires rest { IsRest (nodes_of writer.now) (nodes_of reader.now) table.old }
     requires before { AllSettled (nodes_of writer.now) (nodes_of reader.now) table.old
         (struck.old.items ++ told ∷ []) }
@@ -105,6 +109,7 @@ pub fn look_down(
 ) -> Result<(), AllocError>
     requires writer { IsSide writer.now }
     requires reader { IsSide reader.now }
+    requires sourced { AreSourced writer.now reader.now }
     requires rest { IsRest (nodes_of writer.now) (nodes_of reader.now) table.old }
     requires before { AllSettled (nodes_of writer.now) (nodes_of reader.now) table.old
         (struck.old.items ++ told ∷ []) }
@@ -131,6 +136,7 @@ fn look_row(
 ) -> Result<(), AllocError>
     requires writer { IsSide writer.now }
     requires reader { IsSide reader.now }
+    requires sourced { AreSourced writer.now reader.now }
     requires rest { IsRest (nodes_of writer.now) (nodes_of reader.now) table.old }
     requires i_in { i < length writer.now.schema.now }
     ensures rest { OnOk result (IsRest (nodes_of writer.now) (nodes_of reader.now) table.new) }
@@ -153,6 +159,7 @@ pub fn look_everywhere(
 ) -> Result<(), AllocError>
     requires writer { IsSide writer.now }
     requires reader { IsSide reader.now }
+    requires sourced { AreSourced writer.now reader.now }
     requires rest { IsRest (nodes_of writer.now) (nodes_of reader.now) table.old }
     ensures rest { OnOk result (IsRest (nodes_of writer.now) (nodes_of reader.now) table.new) }
     ensures settled { OnOk result (AllSettled (nodes_of writer.now) (nodes_of reader.now) table.new

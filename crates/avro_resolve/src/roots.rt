@@ -39,6 +39,8 @@ pub fn walk_roots(
         lookups,
         lasts: Vec::new(alloc),
         symbols: Vec::new(alloc),
+        sources: Vec::new(alloc),
+        names: Vec::new(alloc),
         field_lists: Vec::new(alloc),
     };
     let lookups = lookups_of(alloc, Sought::Symbols, reader)?;
@@ -47,6 +49,8 @@ pub fn walk_roots(
         lookups,
         lasts: Vec::new(alloc),
         symbols: Vec::new(alloc),
+        sources: Vec::new(alloc),
+        names: Vec::new(alloc),
         field_lists: Vec::new(alloc),
     };
     let mut looks = 0;

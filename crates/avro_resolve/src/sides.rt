@@ -8,7 +8,9 @@ ghost use Rattle.avro_resolve.specs.Inside.Lookups.{IsLookupOf};
 ghost use Rattle.avro_resolve.specs.Inside.Sides.{nodes_of, IsSide};
 
 use crate::field_lists::lists_at;
+use crate::lists::list_of;
 use crate::lookups::{Lookup, lookup_at};
+use crate::sources::Source;
 use avro_nodes::Node;
 use avro_schema::Schema;
 
@@ -21,6 +23,10 @@ pub struct Side<'a> {
     pub lasts: Vec<usize>,
     /// the numbers of the symbols at the places, each place's in order, where they are made
     pub symbols: Vec<Vec<usize>>,
+    /// a writer's fields at the places by the numbers of their names, where they are made
+    pub sources: Vec<Vec<Source>>,
+    /// the numbers of the names of a reader's fields at the places, where they are made
+    pub names: Vec<Vec<Vec<usize>>>,
     /// the fields of wide records by the places of their types, where they are listed
     pub field_lists: Vec<Option<Vec<Vec<u32>>>>,
 }
@@ -56,6 +62,20 @@ impl<'a> Side<'a> {
         ensures { result.now ≡ list_at self.now.symbols.items place }
     {
         &self.symbols[place as usize]
+    }
+
+    /// The fields at a place by the numbers of their names.
+    pub fn sources(&self, place: u32) -> &[Source]
+        ensures { result.now ≡ list_at self.now.sources.items place }
+    {
+        list_of(&self.sources, place as usize)
+    }
+
+    /// The numbers of the names of each of the fields at a place.
+    pub fn names(&self, place: u32) -> &[Vec<usize>]
+        ensures { result.now ≡ list_at self.now.names.items place }
+    {
+        list_of(&self.names, place as usize)
     }
 
     /// The table of the node at a place, where it has one.

@@ -5,18 +5,20 @@ ghost use Rattle.avro_nodes.specs.Nodes.{nodes_view};
 ghost use Rattle.avro_schema.specs.Texts.{IsSchema};
 ghost use Rattle.avro_resolve.specs.Resolution.{Closed};
 ghost use Rattle.avro_resolve.specs.Inside.Sides.{nodes_of, IsSide};
+ghost use Rattle.avro_resolve.specs.Inside.Sources.{AreSourced};
 ghost use Rattle.avro_resolve.specs.Inside.Left.{left, IsLeft, IsRest, Lists, AllSettled};
 ghost use Rattle.avro_resolve.specs.Inside.Askers.{AreAskers};
 ghost use Rattle.avro_resolve.specs.Inside.Numbers.{AreNumbered};
 
 use crate::askers::Askers;
 use crate::field_lists::field_lists;
+use crate::field_names::field_names;
 use crate::joining::look_joined;
 use crate::lists::list_of;
 use crate::looking::{look_along, look_down, look_everywhere};
-use crate::lookups::{Sought, lookups_of};
 use crate::numbers::{Numbers, last_numbers};
 use crate::sides::Side;
+use crate::sources::all_sources;
 use crate::sweeping::sweep;
 use crate::symbols::symbol_numbers;
 use crate::table::Table;
@@ -38,6 +40,7 @@ fn tell(
 ) -> Result<(), AllocError>
     requires writer { IsSide writer.now }
     requires reader { IsSide reader.now }
+    requires sourced { AreSourced writer.now reader.now }
     requires askers { AreAskers (nodes_of writer.now) (nodes_of reader.now) rows.now columns.now }
     requires rest { IsRest (nodes_of writer.now) (nodes_of reader.now) table.old }
     requires before { AllSettled (nodes_of writer.now) (nodes_of reader.now) table.old
@@ -51,12 +54,12 @@ fn tell(
     if i >= writer.places() || j >= reader.places() {
         return Ok(());
     }
-    let unions = list_of(&rows.unions, i);
+    let unions = list_of(&rows.unions, i as usize);
     look_down(writer, reader, unions, j, told, table, struck)?;
-    let readers_unions = list_of(&columns.unions, j);
+    let readers_unions = list_of(&columns.unions, j as usize);
     look_along(writer, reader, i, readers_unions, told, table, struck)?;
-    let links = list_of(&rows.links, i);
-    let readers_links = list_of(&columns.links, j);
+    let links = list_of(&rows.links, i as usize);
+    let readers_links = list_of(&columns.links, j as usize);
     look_joined(writer, reader, links, readers_links, told, table, struck)?;
     Ok(())
 }
@@ -72,6 +75,7 @@ fn tell_listed(
 ) -> Result<(), AllocError>
     requires writer { IsSide writer.now }
     requires reader { IsSide reader.now }
+    requires sourced { AreSourced writer.now reader.now }
     requires askers { AreAskers (nodes_of writer.now) (nodes_of reader.now) rows.now columns.now }
     requires rest { IsRest (nodes_of writer.now) (nodes_of reader.now) table.old }
     requires settled { AllSettled (nodes_of writer.now) (nodes_of reader.now) table.old struck.items }
@@ -96,6 +100,7 @@ fn strike_out<'a>(
 ) -> Result<(), AllocError>
     requires writer { IsSide writer.now }
     requires reader { IsSide reader.now }
+    requires sourced { AreSourced writer.now reader.now }
     requires numbers { AreNumbered writer.now reader.now }
     requires rest { IsLeft (nodes_of writer.now) (nodes_of reader.now) table.old }
     ensures rest { OnOk result (IsLeft (nodes_of writer.now) (nodes_of reader.now) table.new) }
@@ -131,12 +136,16 @@ pub fn largest_closed(alloc: Global, writer: &Schema, reader: &Schema) -> Result
     let mut numbers = Numbers::none(alloc);
     let rows_symbols = symbol_numbers(alloc, &mut numbers, writer)?;
     let columns_symbols = symbol_numbers(alloc, &mut numbers, reader)?;
-    let lookups = lookups_of(alloc, Sought::Fields, writer)?;
+    let mut numbers = Numbers::none(alloc);
+    let sources = all_sources(alloc, &mut numbers, writer)?;
+    let names = field_names(alloc, &mut numbers, reader)?;
     let written = Side {
         schema: writer,
-        lookups,
+        lookups: Vec::new(alloc),
         lasts: rows_lasts,
         symbols: rows_symbols,
+        sources,
+        names: Vec::new(alloc),
         field_lists: Vec::new(alloc),
     };
     let lists = field_lists(alloc, reader)?;
@@ -145,6 +154,8 @@ pub fn largest_closed(alloc: Global, writer: &Schema, reader: &Schema) -> Result
         lookups: Vec::new(alloc),
         lasts: columns_lasts,
         symbols: columns_symbols,
+        sources: Vec::new(alloc),
+        names,
         field_lists: lists,
     };
     strike_out(alloc, &written, &read, &mut table)?;

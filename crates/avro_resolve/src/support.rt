@@ -2,20 +2,20 @@
 
 ghost use Rattle.std.specs.Prelude.{◌≡◌, ◌≤◌, IfSome, None, Some, slice_get, get_or, ◌<◌, ◌↔◌, ℕ, false, map, length, All, Any, IsTrue};
 ghost use Rattle.avro_nodes.specs.Nodes.{field_view, node_view};
+ghost use Rattle.avro_resolve.specs.Asking.{source_place};
 ghost use Rattle.avro_resolve.specs.Resolution.{Pairs, Readable, Fits, Supports};
 ghost use Rattle.avro_resolve.specs.Inside.Agreeing.{Agree};
 ghost use Rattle.avro_resolve.specs.Inside.FieldLists.{ListsFields, AreListsOf, Spares};
-ghost use Rattle.avro_resolve.specs.Inside.Lookups.{FindsFields, IsLookupOf};
 ghost use Rattle.avro_resolve.specs.Inside.Numbers.{AreNumbered};
 ghost use Rattle.avro_resolve.specs.Inside.Places.{Names};
 ghost use Rattle.avro_resolve.specs.Inside.Sides.{nodes_of, IsSide};
+ghost use Rattle.avro_resolve.specs.Inside.Sources.{first_by, fields_of, AreSorted, AreSourced, TellSources};
 ghost use Rattle.avro_resolve.specs.Inside.Left.{left, Agreed, WithinBut, Ignores};
 
-use crate::fields::source_of;
 use crate::lists::list_of;
-use crate::lookups::Lookup;
 use crate::numbered::numbered_agree;
 use crate::sides::Side;
+use crate::sources::{Source, source_by_numbers};
 use crate::table::Table;
 use avro_nodes::{Field, Node};
 
@@ -62,34 +62,60 @@ fn any_left(i: u32, j: u32, places: &[u32], table: &Table) -> bool
 }
 
 /// Whether a reader's field can be read: from its source, or by its default.
-fn is_readable(fields: &[Field], sources: Option<&Lookup>, f: &Field, table: &Table) -> bool
-    requires sources { IfSome sources (λ t. FindsFields t.now fields.now) }
+fn is_readable(
+    fields: &[Field],
+    sources: &[Source],
+    names: &[usize],
+    f: &Field,
+    table: &Table,
+) -> bool
+    requires sorted { AreSorted sources.now }
+    requires told { first_by sources.now names.now ≡ source_place (map field_view fields.now) (field_view f.now) }
     requires fields_in { All (λ g. g.place < table.now.writers) (map field_view fields.now) }
     requires f_in { f.now.place < table.now.readers }
     ensures { IsTrue result ↔ Readable (left table.now) (map field_view fields.now) (field_view f.now) }
 {
-    match source_of(fields, sources, f) {
+    let _fields = fields;
+    match source_by_numbers(sources, names) {
         Some(place) => table.has(place, f.place),
         None => f.value.is_some(),
     }
 }
 
 /// Whether each of the reader's fields can be read.
-fn all_readable(fields: &[Field], sources: Option<&Lookup>, wanted: &[Field], table: &Table) -> bool
-    requires sources { IfSome sources (λ t. FindsFields t.now fields.now) }
+fn all_readable(
+    fields: &[Field],
+    sources: &[Source],
+    wanted: &[Field],
+    names: &[Vec<usize>],
+    table: &Table,
+) -> bool
+    requires told { TellSources sources.now names.now (map field_view fields.now) (map field_view wanted.now) }
     requires fields_in { All (λ g. g.place < table.now.writers) (map field_view fields.now) }
     requires wanted_in { All (λ f. f.place < table.now.readers) wanted.now }
     ensures { IsTrue result ↔ All (λ f. Readable (left table.now) (map field_view fields.now) (field_view f)) wanted.now }
 {
-    wanted
-        .iter()
-        .all(|f| is_readable(fields, sources, f, table))
+    for index in 0..wanted.len() {
+        let f = &wanted[index];
+        if !is_readable(fields, sources, list_of(names, index), f, table) {
+            return false;
+        }
+    }
+    true
 }
 
 /// Whether what is left has the pairs that the pair of these nodes asks for, by the first case that
 /// fits (Avro 1.11 specification, Schema Resolution).
-fn asked_left(a: &Node, sources: Option<&Lookup>, b: &Node, i: u32, j: u32, table: &Table) -> bool
-    requires sources { IfSome sources (λ t. IsLookupOf t.now a.now) }
+fn asked_left(
+    a: &Node,
+    sources: &[Source],
+    b: &Node,
+    names: &[Vec<usize>],
+    i: u32,
+    j: u32,
+    table: &Table,
+) -> bool
+    requires told { TellSources sources.now names.now (fields_of (node_view a.now)) (fields_of (node_view b.now)) }
     requires a_in { Names table.now.writers (node_view a.now) }
     requires b_in { Names table.now.readers (node_view b.now) }
     requires i_in { i < table.now.writers }
@@ -103,7 +129,7 @@ fn asked_left(a: &Node, sources: Option<&Lookup>, b: &Node, i: u32, j: u32, tabl
         (Node::Array { items: p, .. }, Node::Array { items: q, .. }) => table.has(*p, *q),
         (Node::Map { values: p, .. }, Node::Map { values: q, .. }) => table.has(*p, *q),
         (Node::Rec { fields, .. }, Node::Rec { fields: wanted, .. }) => {
-            all_readable(fields, sources, wanted, table)
+            all_readable(fields, sources, wanted, names, table)
         }
         _ => true,
     }
@@ -127,6 +153,7 @@ pub fn agree_at(writer: &Side, reader: &Side, i: u32, j: u32) -> bool
 pub fn supports(writer: &Side, reader: &Side, i: u32, j: u32, table: &Table) -> bool
     requires writer { IsSide writer.now }
     requires reader { IsSide reader.now }
+    requires sourced { AreSourced writer.now reader.now }
     requires writers { table.now.writers ≡ length writer.now.schema.now }
     requires readers { table.now.readers ≡ length reader.now.schema.now }
     requires i_in { i < table.now.writers }
@@ -135,28 +162,45 @@ pub fn supports(writer: &Side, reader: &Side, i: u32, j: u32, table: &Table) -> 
     ensures { IsTrue result ↔ Supports (nodes_of writer.now) (nodes_of reader.now) (left table.now) i j }
 {
     let (a, b) = (writer.node(i), reader.node(j));
-    asked_left(a, writer.lookup(i, a), b, i, j, table)
+    asked_left(a, writer.sources(i), b, reader.names(j), i, j, table)
 }
 
 /// Whether a reader's field at the second place is read from a writer's field at the first.
-fn field_asks(fields: &[Field], sources: Option<&Lookup>, f: &Field, p: u32, q: u32) -> bool
-    requires { IfSome sources (λ t. FindsFields t.now fields.now) }
+fn field_asks(
+    fields: &[Field],
+    sources: &[Source],
+    names: &[usize],
+    f: &Field,
+    p: u32,
+    q: u32,
+) -> bool
+    requires sorted { AreSorted sources.now }
+    requires told { first_by sources.now names.now ≡ source_place (map field_view fields.now) (field_view f.now) }
     ensures { result ≡ false → (R S : Pairs) → WithinBut p q R S
         → Readable R (map field_view fields.now) (field_view f.now)
         → Readable S (map field_view fields.now) (field_view f.now) }
 {
-    f.place == q && source_of(fields, sources, f) == Some(p)
+    let _fields = fields;
+    f.place == q && source_by_numbers(sources, names) == Some(p)
 }
 
 /// Whether one of the reader's fields asks for the pair of these places.
-fn one_asks(fields: &[Field], sources: Option<&Lookup>, wanted: &[Field], p: u32, q: u32) -> bool
-    requires { IfSome sources (λ t. FindsFields t.now fields.now) }
+fn one_asks(
+    fields: &[Field],
+    sources: &[Source],
+    wanted: &[Field],
+    names: &[Vec<usize>],
+    p: u32,
+    q: u32,
+) -> bool
+    requires { TellSources sources.now names.now (map field_view fields.now) (map field_view wanted.now) }
     ensures { result ≡ false → (R S : Pairs) → WithinBut p q R S
         → All (Readable R (map field_view fields.now)) (map field_view wanted.now)
         → All (Readable S (map field_view fields.now)) (map field_view wanted.now) }
 {
-    for f in wanted {
-        if field_asks(fields, sources, f, p, q) {
+    for index in 0..wanted.len() {
+        let f = &wanted[index];
+        if field_asks(fields, sources, list_of(names, index), f, p, q) {
             return true;
         }
     }
@@ -166,19 +210,20 @@ fn one_asks(fields: &[Field], sources: Option<&Lookup>, wanted: &[Field], p: u32
 /// Whether one of the reader's fields with these indices asks for the pair of these places.
 fn listed_asks(
     fields: &[Field],
-    sources: Option<&Lookup>,
+    sources: &[Source],
     wanted: &[Field],
+    names: &[Vec<usize>],
     indices: &[u32],
     p: u32,
     q: u32,
 ) -> bool
-    requires { IfSome sources (λ t. FindsFields t.now fields.now) }
+    requires { TellSources sources.now names.now (map field_view fields.now) (map field_view wanted.now) }
     ensures { result ≡ false → All (λ k. (f : Field) → slice_get wanted.now k ≡ Some f
         → Spares p q fields.now f) indices.now }
 {
     for index in indices {
         if let Some(f) = wanted.get(*index as usize) {
-            if field_asks(fields, sources, f, p, q) {
+            if field_asks(fields, sources, list_of(names, *index as usize), f, p, q) {
                 return true;
             }
         }
@@ -190,21 +235,25 @@ fn listed_asks(
 /// listed, those of the second place are looked at, and no others.
 fn fields_ask(
     fields: &[Field],
-    sources: Option<&Lookup>,
+    sources: &[Source],
     wanted: &[Field],
+    names: &[Vec<usize>],
     lists: Option<&[Vec<u32>]>,
     p: u32,
     q: u32,
 ) -> bool
-    requires sources { IfSome sources (λ t. FindsFields t.now fields.now) }
+    requires told { TellSources sources.now names.now (map field_view fields.now) (map field_view wanted.now) }
     requires lists { IfSome lists (λ v. ListsFields v.now wanted.now) }
     ensures { result ≡ false → (R S : Pairs) → WithinBut p q R S
         → All (Readable R (map field_view fields.now)) (map field_view wanted.now)
         → All (Readable S (map field_view fields.now)) (map field_view wanted.now) }
 {
     match lists {
-        Some(lists) => listed_asks(fields, sources, wanted, list_of(lists, q), p, q),
-        None => one_asks(fields, sources, wanted, p, q),
+        Some(lists) => {
+            let listed = list_of(lists, q as usize);
+            listed_asks(fields, sources, wanted, names, listed, p, q)
+        }
+        None => one_asks(fields, sources, wanted, names, p, q),
     }
 }
 
@@ -213,13 +262,14 @@ fn fields_ask(
 /// looked into.
 fn asks(
     a: &Node,
-    sources: Option<&Lookup>,
+    sources: &[Source],
     b: &Node,
+    names: &[Vec<usize>],
     lists: Option<&[Vec<u32>]>,
     at: (u32, u32),
     told: (u32, u32),
 ) -> bool
-    requires sources { IfSome sources (λ t. IsLookupOf t.now a.now) }
+    requires told { TellSources sources.now names.now (fields_of (node_view a.now)) (fields_of (node_view b.now)) }
     requires lists { IfSome lists (λ v. AreListsOf v.now b.now) }
     ensures { result ≡ false → (R S : Pairs) → WithinBut told.0 told.1 R S
         → Fits R at.0 at.1 (node_view a.now) (node_view b.now)
@@ -229,7 +279,7 @@ fn asks(
         (Node::Union { .. }, _) => at.1 == told.1,
         (_, Node::Union { .. }) => at.0 == told.0,
         (Node::Rec { fields, .. }, Node::Rec { fields: wanted, .. }) => fields_ask(
-            fields, sources, wanted, lists, told.0, told.1,
+            fields, sources, wanted, names, lists, told.0, told.1,
         ),
         _ => true,
     }
@@ -239,6 +289,7 @@ fn asks(
 pub fn pair_asks(writer: &Side, reader: &Side, i: u32, j: u32, p: u32, q: u32) -> bool
     requires writer { IsSide writer.now }
     requires reader { IsSide reader.now }
+    requires sourced { AreSourced writer.now reader.now }
     requires i_in { i < length writer.now.schema.now }
     requires j_in { j < length reader.now.schema.now }
     ensures { result ≡ false → Ignores (nodes_of writer.now) (nodes_of reader.now) i j p q }
@@ -246,8 +297,9 @@ pub fn pair_asks(writer: &Side, reader: &Side, i: u32, j: u32, p: u32, q: u32) -
     let (a, b) = (writer.node(i), reader.node(j));
     asks(
         a,
-        writer.lookup(i, a),
+        writer.sources(i),
         b,
+        reader.names(j),
         reader.lists(j, b),
         (i, j),
         (p, q),

@@ -5,6 +5,8 @@ use Rattle.avro_resolve.proofs.FieldListLemmas.{no_lists}
 use Rattle.avro_resolve.proofs.Denoted.{is_whole}
 use Rattle.avro_resolve.proofs.LookupLemmas.{no_lookups}
 use Rattle.avro_resolve.proofs.NumberLemmas.{kept_lasts}
+use Rattle.avro_resolve.specs.Inside.Lists.{list_at}
+use Rattle.avro_resolve.proofs.SourceLemmas.{kept_sources}
 use Rattle.avro_resolve.proofs.SymbolLemmas.{kept_symbols}
 use Rattle.avro_resolve.proofs.Strikes.{all_left}
 use Rattle.avro_resolve.proofs.striking.largest_closed.Goals as goal
@@ -20,15 +22,15 @@ strike_out-requires-clause-rest c =
 pub strike_out-requires-clause-writer : goal.strike_out-requires-clause-writer
 strike_out-requires-clause-writer c = record {
   whole = is_whole (nodes_view c.args.writer.now) c.places.ensures.schema;
-  lookups = c.in_ok-lookups.ensures;
-  field_lists = rw c.new.ensures.items (no_lists _);
+  lookups = rw c.new.ensures.items (no_lookups _);
+  field_lists = rw c.new-3.ensures.items (no_lists _);
   few = omega (arith, c.places.ensures.places, c.places.ensures.few);
 }
 
 pub strike_out-requires-clause-reader : goal.strike_out-requires-clause-reader
 strike_out-requires-clause-reader c = record {
   whole = is_whole (nodes_view c.args.reader.now) c.places-2.ensures.schema;
-  lookups = rw c.new-2.ensures.items (no_lookups _);
+  lookups = rw c.new-4.ensures.items (no_lookups _);
   field_lists = c.in_ok-lists.ensures;
   few = omega (arith, c.places-2.ensures.places, c.places-2.ensures.few);
 }
@@ -43,6 +45,14 @@ strike_out-requires-clause-numbers c = record {
   symbols_numbering = c.in_ok-columns_symbols.ensures.numbering;
   row_symbols = kept_symbols c.symbol_numbers.new.numbers c.symbol_numbers-2.new.numbers c.in_ok-columns_symbols.ensures.kept (nodes_view c.args.writer.now) c.in_ok-rows_symbols.rows_symbols.items c.in_ok-rows_symbols.ensures.there;
   column_symbols = c.in_ok-columns_symbols.ensures.there;
+}
+
+pub strike_out-requires-clause-sourced : goal.strike_out-requires-clause-sourced
+strike_out-requires-clause-sourced c = record {
+  numbers = c.field_names.new.numbers;
+  numbering = c.in_ok-names.ensures.numbering;
+  rows = λ place a e. kept_sources c.all_sources.new.numbers c.field_names.new.numbers c.in_ok-names.ensures.kept a (list_at c.in_ok-sources.sources.items place) (c.in_ok-sources.ensures.there place a e);
+  columns = c.in_ok-names.ensures.there;
 }
 
 pub field_lists-requires : goal.field_lists-requires

@@ -13,7 +13,7 @@ use Rattle.avro_resolve.proofs.support.fields_ask.Goals as goal
 pub returns-in-Some : goal.returns-in-Some
 returns-in-Some c = λ e R S within all.
     let fields = c.args.fields.now in let fs = map field_view fields in let gs = c.args.wanted.now in let p = c.args.p in let q = c.args.q in
-    let told = subst (λ (xs : List ℕ). All (λ k. (f : Field) → slice_get gs k ≡ Some f → Spares p q fields f) xs) c.list_of.ensures (c.listed_asks.ensures e) in
+    let told = subst (λ (xs : List ℕ). All (λ k. (f : Field) → slice_get gs k ≡ Some f → Spares p q fields f) xs) c.list_of-listed.ensures (c.listed_asks.ensures e) in
     let listed : ListsFields c.in-Some.lists.now gs = rw c.in-Some.is at c.requires.lists in
     All-map (Readable S fs) field_view gs (λ k d l.
     all_spare p q fields gs c.in-Some.lists.now listed told k (get_or gs k d) (slice_get-get_or gs k d l) R S within (all_of (Readable R fs) field_view gs all k d l))

@@ -1,4 +1,4 @@
-use Rattle.std.proofs.Common.{◌≡◌, ℕ, ◌<◌, List, ◌∷◌, Option, Some, None, map, refl, subst}
+use Rattle.std.proofs.Common.{◌≡◌, ℕ, ◌<◌, List, ◌∷◌, Option, Some, None, map, refl, subst, ◌∙◌}
 use Rattle.std.specs.Prelude.{option_map, All}
 use Rattle.avro_nodes.specs.Nodes.{FieldView, field_view}
 use Rattle.avro_resolve.specs.Resolution.{source}
@@ -14,4 +14,4 @@ within n fields f (Some g) place h e s =
 pub has-requires-clause-i_in : goal.has-requires-clause-i_in
 has-requires-clause-i_in c =
     let fields = map field_view c.args.fields.now in let f = field_view c.args.f.now in
-    within c.args.table.now.writers fields f (source fields f) c.in-Some.place c.requires.fields_in refl c.in-Some.ensures
+    within c.args.table.now.writers fields f (source fields f) c.in-Some.place c.requires.fields_in refl (c.in-Some.ensures ∙ c.requires.told)

@@ -3,9 +3,19 @@ use Rattle.std.specs.Prelude.{slice_get}
 use Rattle.std.proofs.lemmas.List.Elements.{All-more}
 use Rattle.std.proofs.lemmas.Option.{same_Some, slice_get-get_or, slice_get_within}
 use Rattle.avro_nodes.specs.declared.node.Field.{Field}
+use Rattle.avro_nodes.specs.Nodes.{field_view}
 use Rattle.avro_resolve.specs.Inside.FieldLists.{Spares}
+use Rattle.avro_resolve.specs.Inside.Sources.{first_by}
+use Rattle.avro_resolve.proofs.EachLemmas.{view_got}
+use Rattle.avro_resolve.proofs.SourceLemmas.{below}
 use Rattle.avro_resolve.proofs.support.listed_asks.Goals as goal
 use Rattle.avro_resolve.proofs.support.listed_asks.Goals.{in-Some+else-field_asks, in_default}
+
+pub field_asks-requires-clause-told : goal.field_asks-requires-clause-told
+field_asks-requires-clause-told c =
+    let gs = c.args.wanted.now in let k = get_or c.args.indices.now c.loop-index.index-index 0 in let f = c.in-Some.f.now in let h = c.in-Some.ensures.lookup in
+    let here : slice_get gs k ≡ Some f = slice_get-get_or gs k f (below k (length gs) (sym h.0)) ∙ ap Some (sym h.1) in
+    ap (first_by c.args.sources.now) c.list_of.ensures ∙ c.requires.told k (field_view f) (view_got field_view gs k f here)
 
 pub loop-index-preserved : goal.loop-index-preserved
 loop-index-preserved c =
