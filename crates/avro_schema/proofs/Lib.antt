@@ -16,6 +16,8 @@ pub mod Covering
 pub mod TextLemmas
 pub mod RoundMembers
 pub mod RoundNames
+pub mod FullNames
+pub mod PlaceLemmas
 pub mod RoundDeclarations
 pub mod Sizes
 pub mod WeightLemmas

@@ -44,6 +44,11 @@ pub typed_is : (text : List ℕ) (d : Data) (p : ℕ) (after : List NodeView) (k
 unfolding declared_nodes root_in
 typed_is text d p after known2 short e light root = rw (le-leb (length text) max_text short, e, light, root.is, ← root.after_is) refl
 
+-- where its value is no type, it has no nodes
+pub not_typed : (text : List ℕ) (d : Data) → length text ≤ max_text → value_in text ≡ Some d → nat_le (weight max_nesting [] d) max_text ≡ true → type_at max_nesting [] d none_known 0 ≡ None → declared_nodes text ≡ None
+unfolding declared_nodes root_in
+not_typed text d short e light none = rw (le-leb (length text) max_text short, e, light, none) refl
+
 value_says : (text : List ℕ) (d : Data) → value_in text ≡ Some d → (respelt : List ℕ) × (plain text ≡ Some respelt) × (read respelt ≡ Some d)
 unfolding value_in
 value_says text d e = bind_some (plain text) (λ respelt. read respelt) d e

@@ -1,13 +1,10 @@
 -- A value's weight is the size of the names of the nodes that it denotes.
-use Rattle.std.proofs.Common.{◌≡◌, ℕ, List, [], ◌∷◌, ◌++◌, length, Bool, true, false, cond, Option, Some, None, codes, refl, sym, ap, ◌∙◌, arith}
-use Rattle.std.proofs.lemmas.Bool.{or_right}
+use Rattle.std.proofs.Common.{◌≡◌, ℕ, List, ◌∷◌, length, Bool, true, false, cond, Option, Some, None, codes, refl, sym, ap, ◌∙◌, arith}
 use Rattle.std.specs.Prelude.{option_and_then, unwrap_or}
-use Rattle.std.specs.List.{list_any}
-use Rattle.std.proofs.lemmas.List.Folds.{list_any-append}
 use Rattle.std.proofs.lemmas.Option.{same_Some}
 use Rattle.serde_json.specs.Data.{Data, Items, no_items, item, Members}
 use Rattle.serde_json.specs.Find.{get_member, as_str, as_array}
-use Rattle.avro_nodes.specs.Names.{is_dot, has_dot, namespace_of}
+use Rattle.avro_nodes.specs.Names.{has_dot, namespace_of}
 use Rattle.avro_nodes.specs.Nodes.{NamedView, FieldView, NodeView}
 use Rattle.avro_schema.specs.Names.{Known, is_dotted, is_space, joined, name_in, full_name, alias_in}
 use Rattle.avro_schema.specs.Attributes.{text_in, array_in, text_of_any, text_if_any, texts_in, texts_if_any}
@@ -15,23 +12,8 @@ use Rattle.avro_schema.specs.Kinds.{BranchKind}
 use Rattle.avro_schema.specs.Denotes.{IsNamed, Denotes, a_primitive, a_reference, primitive_type, reference_type, array_type, map_type, fixed_type, enum_type, record_type, union_type, Branches, no_branch, branch, Fields, no_field, field}
 use Rattle.avro_schema.specs.Inside.Weight.{texts_size, named_size, names_size, if_any, items_weight, full_in, alias_weight, space_in, names_weight, definition_weight, field_weight, record_weight, object_weight, weight}
 use Rattle.avro_schema.proofs.Inversion.{bind_some, bind3, guard_some, map_some}
-use Rattle.avro_schema.proofs.RoundNames.{no_namespace}
+use Rattle.avro_schema.proofs.FullNames.{joined_space}
 use Rattle.avro_schema.proofs.Sizes.{names_append}
-
--- ---- the namespace of a full name is the one that the name was put in
-
-dot_between : (cs name : List ℕ) → list_any is_dot (cs ++ 46 ∷ name) ≡ true
-dot_between cs name = list_any-append is_dot cs (46 ∷ name) ∙ or_right (list_any is_dot cs) true refl
-
-cut_back : (cs name : List ℕ) → list_any is_dot name ≡ false → namespace_of (cs ++ 46 ∷ name) ≡ cs
-unfolding namespace_of
-cut_back [] name plain = rw plain refl
-cut_back (c ∷ cs) name plain = rw (dot_between cs name, cut_back cs name plain) refl
-
-joined_space : (space name : List ℕ) → has_dot name ≡ false → namespace_of (joined space name) ≡ space
-unfolding joined has_dot
-joined_space [] name plain = no_namespace name plain
-joined_space (c ∷ space) name plain = cut_back (c ∷ space) name plain
 
 -- ---- the names of a definition
 

@@ -8,4 +8,5 @@ pub mod Fitting
 pub mod FieldTables
 pub mod Weight
 pub mod Mentions
+pub mod NameTables
 pub mod ReaderAnswers

@@ -9,15 +9,17 @@ ghost use Rattle.avro_nodes.specs.Nodes.{texts_view, named_view, nodes_view};
 ghost use Rattle.avro_schema.specs.Attributes.{without_all, fallback_in};
 ghost use Rattle.avro_schema.specs.Inside.Declarations.{naming, if_new, new_name, named_in, symbols_in, enum_at, fixed_at, bounded};
 ghost use Rattle.avro_schema.specs.Inside.ValueReaders.{room_at};
-ghost use Rattle.avro_schema.specs.Inside.ReaderAnswers.{Gives, Reads, known_in};
+ghost use Rattle.avro_schema.specs.Inside.ReaderAnswers.{Gives, Reads};
+ghost use Rattle.avro_schema.specs.Inside.NameTables.{known_in, KeepsNumbers};
 
 use crate::attributes::{
     names_if_any, names_of, size_of, take, take_items, take_text, take_text_if_any, text_of,
 };
 use crate::distinct::texts_differ;
 use crate::error::SchemaError;
-use crate::names::{Places, define, full_name, place_of};
+use crate::names::full_name;
 use crate::nesting::members_within;
+use crate::places::Places;
 use crate::words::kind_of;
 use avro_nodes::{Extra, MAX_NESTING, MAX_PLACES, Named, Node, last_part, namespace_of};
 use serde_json::Value;
@@ -79,7 +81,7 @@ pub fn other_attributes(alloc: Global, attributes: Extra) -> Result<Extra, Schem
 fn if_free(full: String, known: &Places) -> Result<String, SchemaError>
     ensures { Gives string_bytes result (if_new (known_in known.now) (string_bytes full)) }
 {
-    if place_of(known, full.as_str()).is_some() {
+    if known.place_of(full.as_str()).is_some() {
         return Err(SchemaError::Redefined);
     }
     if kind_of(last_part(full.as_str())).is_some() {
@@ -195,9 +197,10 @@ pub fn enum_at(
     nodes: &mut Vec<Node>,
     known: &mut Places,
 ) -> Result<u32, SchemaError>
-    ensures { Reads (λ p. p) result
+    ensures read { Reads (λ p. p) result
         (enum_at space.now (members_view attributes.entries) (known_in known.old) (length nodes.old.items))
         (nodes_view nodes.old.items) (nodes_view nodes.new.items) (known_in known.new) }
+    ensures kept { OnOk result (KeepsNumbers known.old known.new) }
 {
     let mut rest = attributes;
     let place = next_place(nodes)?;
@@ -205,7 +208,7 @@ pub fn enum_at(
     let symbols = symbols_of(alloc, &mut rest)?;
     let fallback = fallback_of(take(&mut rest, "default"), &symbols)?;
     let extra = other_attributes(alloc, rest)?;
-    define(alloc, known, named.name.as_str(), place)?;
+    known.define(alloc, named.name.as_str(), place)?;
     nodes.push(Node::Enum {
         named,
         symbols,
@@ -230,9 +233,10 @@ pub fn fixed_at(
     nodes: &mut Vec<Node>,
     known: &mut Places,
 ) -> Result<u32, SchemaError>
-    ensures { Reads (λ p. p) result
+    ensures read { Reads (λ p. p) result
         (fixed_at space.now (members_view attributes.entries) (known_in known.old) (length nodes.old.items))
         (nodes_view nodes.old.items) (nodes_view nodes.new.items) (known_in known.new) }
+    ensures kept { OnOk result (KeepsNumbers known.old known.new) }
 {
     let mut rest = attributes;
     let place = next_place(nodes)?;
@@ -241,7 +245,7 @@ pub fn fixed_at(
         return Err(SchemaError::BadShape);
     };
     let extra = other_attributes(alloc, rest)?;
-    define(alloc, known, named.name.as_str(), place)?;
+    known.define(alloc, named.name.as_str(), place)?;
     nodes.push(Node::Fixed { named, size, extra })?;
     Ok(place)
 }

@@ -11,6 +11,7 @@ mod labels;
 mod mentions;
 mod names;
 mod nesting;
+mod places;
 mod reading;
 mod schema;
 mod tables;

@@ -1,16 +1,11 @@
 //! Names and namespaces.
 
-ghost use Rattle.std.specs.Prelude.{◌≡◌, ◌<◌, length, Some, None, IfOk, OnOk, option_map, string_bytes, true};
-ghost use Rattle.avro_schema.specs.Names.{is_start, is_part, is_dotted, is_simple, joined, resolved, is_space, full_name, alias_in, defined};
-ghost use Rattle.avro_nodes.specs.Names.{namespace_of};
-ghost use Rattle.avro_schema.specs.Inside.ReaderAnswers.{known_in};
+ghost use Rattle.std.specs.Prelude.{◌≡◌, ◌<◌, length, IfOk, option_map, string_bytes};
+ghost use Rattle.avro_schema.specs.Names.{is_start, is_part, is_dotted, is_simple, joined, is_space, full_name, alias_in};
+ghost use Rattle.avro_schema.specs.Inside.NameTables.{without_space};
 
-use avro_nodes::has_dot;
+use avro_nodes::{has_dot, last_part};
 use std::alloc::{AllocError, Global};
-use std::collections::BTreeMap;
-
-/// The names defined so far, with the places of their definitions.
-pub type Places = BTreeMap<String, u32>;
 
 fn is_start(c: u8) -> bool
     ensures { result ≡ is_start c }
@@ -83,50 +78,14 @@ fn joined(alloc: Global, space: &str, name: String) -> Result<String, AllocError
     dotted(alloc, space, name.as_str())
 }
 
-/// The place of the definition of this full name.
-pub fn place_of(known: &Places, name: &str) -> Option<u32>
-    ensures { result ≡ known_in known.now name.now }
+/// A full name without its namespace, which is given.
+pub fn without_space<'a>(space: &str, full: &'a str) -> &'a str
+    ensures { result.now ≡ without_space space.now full.now }
 {
-    known.get(name).copied()
-}
-
-/// Adds a definition's full name.
-///
-/// # Errors
-///
-/// `AllocError` where memory for the name is refused. The contract leaves open what is known then.
-pub fn define(alloc: Global, known: &mut Places, full: &str, place: u32) -> Result<(), AllocError>
-    ensures { OnOk result (known_in known.new ≡ defined (known_in known.old) full.now place) }
-{
-    let name = String::from_str(alloc, full)?;
-    known.insert(name, place)?;
-    Ok(())
-}
-
-/// The place of what a reference names, in the enclosing namespace or else in the null one.
-///
-/// # Errors
-///
-/// `AllocError` where memory for a full name is refused.
-#[tactic(auto, unfolding(crate::specs::Names::resolved))]
-pub fn resolve(
-    alloc: Global,
-    known: &Places,
-    space: &str,
-    name: &str,
-) -> Result<Option<u32>, AllocError>
-    ensures { IfOk result (λ o. o ≡ resolved (known_in known.now) space.now name.now) }
-{
-    if has_dot(name) {
-        return Ok(place_of(known, name));
-    }
     if space.is_empty() {
-        return Ok(place_of(known, name));
-    }
-    let full = dotted(alloc, space, name)?;
-    match place_of(known, full.as_str()) {
-        Some(place) => Ok(Some(place)),
-        None => Ok(place_of(known, name)),
+        full
+    } else {
+        last_part(full)
     }
 }
 

@@ -1,11 +1,12 @@
 //! From a JSON value to the nodes of a type.
 
-ghost use Rattle.std.specs.Prelude.{length, map};
+ghost use Rattle.std.specs.Prelude.{length, map, OnOk};
 ghost use Rattle.serde_json.specs.View.{view, items_view, members_view};
 ghost use Rattle.avro_nodes.specs.Nodes.{field_view, nodes_view};
 ghost use Rattle.avro_schema.specs.Inside.ValueReaders.{parts_of};
 ghost use Rattle.avro_schema.specs.Inside.Types.{container_at, branch_of, union_at, field_of, record_at, object_at, type_at};
-ghost use Rattle.avro_schema.specs.Inside.ReaderAnswers.{Reads, known_in};
+ghost use Rattle.avro_schema.specs.Inside.ReaderAnswers.{Reads};
+ghost use Rattle.avro_schema.specs.Inside.NameTables.{known_in, HasNumber, KeepsNumbers};
 
 use crate::attributes::{members_of, take, take_items, take_text};
 use crate::definitions::{
@@ -14,7 +15,7 @@ use crate::definitions::{
 use crate::distinct::{kinds_differ, texts_differ};
 use crate::error::SchemaError;
 use crate::labels::label_of;
-use crate::names::{Places, define};
+use crate::places::{Places, Space};
 use crate::reading::kinds::{branch_number, key_of};
 use crate::reading::names::{name_at, primitive_at, reference_to};
 use crate::reading::nodes::{blank, container_node, field_from, fill_blank};
@@ -37,14 +38,16 @@ mod nodes;
 pub fn type_at(
     alloc: Global,
     value: Value,
-    space: &str,
+    space: &Space,
     depth: u32,
     nodes: &mut Vec<Node>,
     known: &mut Places,
 ) -> Result<u32, SchemaError>
-    ensures { Reads (λ p. p) result
-        (type_at depth space.now (view value) (known_in known.old) (length nodes.old.items))
+    requires { HasNumber known.old space.now }
+    ensures read { Reads (λ p. p) result
+        (type_at depth space.now.text.now (view value) (known_in known.old) (length nodes.old.items))
         (nodes_view nodes.old.items) (nodes_view nodes.new.items) (known_in known.new) }
+    ensures kept { OnOk result (KeepsNumbers known.old known.new) }
 {
     if depth == 0 {
         return Err(SchemaError::TooLarge);
@@ -63,14 +66,16 @@ pub fn type_at(
 fn object_at(
     alloc: Global,
     object: Extra,
-    space: &str,
+    space: &Space,
     depth: u32,
     nodes: &mut Vec<Node>,
     known: &mut Places,
 ) -> Result<u32, SchemaError>
-    ensures { Reads (λ p. p) result
-        (object_at (type_at depth) space.now (members_view object.entries) (known_in known.old) (length nodes.old.items))
+    requires { HasNumber known.old space.now }
+    ensures read { Reads (λ p. p) result
+        (object_at (type_at depth) space.now.text.now (members_view object.entries) (known_in known.old) (length nodes.old.items))
         (nodes_view nodes.old.items) (nodes_view nodes.new.items) (known_in known.new) }
+    ensures kept { OnOk result (KeepsNumbers known.old known.new) }
 {
     let mut attributes = object;
     let Some(name) = take_text(&mut attributes, "type") else {
@@ -96,12 +101,12 @@ fn object_at(
             nodes,
             known,
         ),
-        Word::Fixed => fixed_at(alloc, attributes, space, nodes, known),
-        Word::Enum => enum_at(alloc, attributes, space, nodes, known),
+        Word::Fixed => fixed_at(alloc, attributes, space.text, nodes, known),
+        Word::Enum => enum_at(alloc, attributes, space.text, nodes, known),
         Word::Record => record_at(alloc, attributes, space, depth, nodes, known),
         Word::Reference => {
             nest_within_limit(&attributes)?;
-            reference_to(alloc, name.as_str(), space, nodes, known)
+            reference_to(name.as_str(), space, nodes, known)
         }
     }
 }
@@ -111,14 +116,16 @@ fn container_at(
     alloc: Global,
     container: Container,
     attributes: Extra,
-    space: &str,
+    space: &Space,
     depth: u32,
     nodes: &mut Vec<Node>,
     known: &mut Places,
 ) -> Result<u32, SchemaError>
-    ensures { Reads (λ p. p) result
-        (container_at container (type_at depth space.now) (members_view attributes.entries) (known_in known.old) (length nodes.old.items))
+    requires { HasNumber known.old space.now }
+    ensures read { Reads (λ p. p) result
+        (container_at container (type_at depth space.now.text.now) (members_view attributes.entries) (known_in known.old) (length nodes.old.items))
         (nodes_view nodes.old.items) (nodes_view nodes.new.items) (known_in known.new) }
+    ensures kept { OnOk result (KeepsNumbers known.old known.new) }
 {
     let mut rest = attributes;
     let place = next_place(nodes)?;
@@ -136,14 +143,16 @@ fn container_at(
 fn union_at(
     alloc: Global,
     items: Vec<Value>,
-    space: &str,
+    space: &Space,
     depth: u32,
     nodes: &mut Vec<Node>,
     known: &mut Places,
 ) -> Result<u32, SchemaError>
-    ensures { Reads (λ p. p) result
-        (union_at (type_at depth space.now) (items_view items.items) (known_in known.old) (length nodes.old.items))
+    requires { HasNumber known.old space.now }
+    ensures read { Reads (λ p. p) result
+        (union_at (type_at depth space.now.text.now) (items_view items.items) (known_in known.old) (length nodes.old.items))
         (nodes_view nodes.old.items) (nodes_view nodes.new.items) (known_in known.new) }
+    ensures kept { OnOk result (KeepsNumbers known.old known.new) }
 {
     let place = next_place(nodes)?;
     nodes.push(blank(alloc))?;
@@ -160,14 +169,16 @@ fn union_at(
 fn branches_at(
     alloc: Global,
     items: Vec<Value>,
-    space: &str,
+    space: &Space,
     depth: u32,
     nodes: &mut Vec<Node>,
     known: &mut Places,
 ) -> Result<Vec<(u32, u64)>, SchemaError>
-    ensures { Reads (λ v. v.items) result
-        (parts_of (branch_of (type_at depth space.now)) (items_view items.items) (known_in known.old) (length nodes.old.items))
+    requires { HasNumber known.old space.now }
+    ensures read { Reads (λ v. v.items) result
+        (parts_of (branch_of (type_at depth space.now.text.now)) (items_view items.items) (known_in known.old) (length nodes.old.items))
         (nodes_view nodes.old.items) (nodes_view nodes.new.items) (known_in known.new) }
+    ensures kept { OnOk result (KeepsNumbers known.old known.new) }
 {
     let mut branches = Vec::with_capacity(alloc, items.len())?;
     for item in items {
@@ -180,14 +191,16 @@ fn branches_at(
 fn branch_at(
     alloc: Global,
     value: Value,
-    space: &str,
+    space: &Space,
     depth: u32,
     nodes: &mut Vec<Node>,
     known: &mut Places,
 ) -> Result<(u32, u64), SchemaError>
-    ensures { Reads (λ b. b) result
-        (branch_of (type_at depth space.now) (view value) (known_in known.old) (length nodes.old.items))
+    requires { HasNumber known.old space.now }
+    ensures read { Reads (λ b. b) result
+        (branch_of (type_at depth space.now.text.now) (view value) (known_in known.old) (length nodes.old.items))
         (nodes_view nodes.old.items) (nodes_view nodes.new.items) (known_in known.new) }
+    ensures kept { OnOk result (KeepsNumbers known.old known.new) }
 {
     let before = nodes.len();
     let place = type_at(alloc, value, space, depth, nodes, known)?;
@@ -201,26 +214,31 @@ fn branch_at(
 fn record_at(
     alloc: Global,
     attributes: Extra,
-    space: &str,
+    space: &Space,
     depth: u32,
     nodes: &mut Vec<Node>,
     known: &mut Places,
 ) -> Result<u32, SchemaError>
-    ensures { Reads (λ p. p) result
-        (record_at (type_at depth) space.now (members_view attributes.entries) (known_in known.old) (length nodes.old.items))
+    requires { HasNumber known.old space.now }
+    ensures read { Reads (λ p. p) result
+        (record_at (type_at depth) space.now.text.now (members_view attributes.entries) (known_in known.old) (length nodes.old.items))
         (nodes_view nodes.old.items) (nodes_view nodes.new.items) (known_in known.new) }
+    ensures kept { OnOk result (KeepsNumbers known.old known.new) }
 {
     let mut rest = attributes;
     let place = next_place(nodes)?;
-    let named = named_of(alloc, &mut rest, space, known)?;
+    let named = named_of(alloc, &mut rest, space.text, known)?;
     let Some(items) = take_items(&mut rest, "fields") else {
         return Err(SchemaError::BadShape);
     };
     let extra = other_attributes(alloc, rest)?;
     nodes.push(blank(alloc))?;
-    define(alloc, known, named.name.as_str(), place)?;
-    let inside = namespace_of(named.name.as_str());
-    let fields = fields_at(alloc, items, inside, depth, nodes, known)?;
+    let number = known.define(alloc, named.name.as_str(), place)?;
+    let inside = Space {
+        text: namespace_of(named.name.as_str()),
+        number,
+    };
+    let fields = fields_at(alloc, items, &inside, depth, nodes, known)?;
     if !texts_differ(alloc, &fields)? {
         return Err(SchemaError::Redefined);
     }
@@ -240,14 +258,16 @@ fn record_at(
 fn fields_at(
     alloc: Global,
     items: Vec<Value>,
-    space: &str,
+    space: &Space,
     depth: u32,
     nodes: &mut Vec<Node>,
     known: &mut Places,
 ) -> Result<Vec<Field>, SchemaError>
-    ensures { Reads (λ v. map field_view v.items) result
-        (parts_of (field_of (type_at depth space.now)) (items_view items.items) (known_in known.old) (length nodes.old.items))
+    requires { HasNumber known.old space.now }
+    ensures read { Reads (λ v. map field_view v.items) result
+        (parts_of (field_of (type_at depth space.now.text.now)) (items_view items.items) (known_in known.old) (length nodes.old.items))
         (nodes_view nodes.old.items) (nodes_view nodes.new.items) (known_in known.new) }
+    ensures kept { OnOk result (KeepsNumbers known.old known.new) }
 {
     let mut fields = Vec::with_capacity(alloc, items.len())?;
     for item in items {
@@ -260,14 +280,16 @@ fn fields_at(
 fn field_at(
     alloc: Global,
     value: Value,
-    space: &str,
+    space: &Space,
     depth: u32,
     nodes: &mut Vec<Node>,
     known: &mut Places,
 ) -> Result<Field, SchemaError>
-    ensures { Reads field_view result
-        (field_of (type_at depth space.now) (view value) (known_in known.old) (length nodes.old.items))
+    requires { HasNumber known.old space.now }
+    ensures read { Reads field_view result
+        (field_of (type_at depth space.now.text.now) (view value) (known_in known.old) (length nodes.old.items))
         (nodes_view nodes.old.items) (nodes_view nodes.new.items) (known_in known.new) }
+    ensures kept { OnOk result (KeepsNumbers known.old known.new) }
 {
     let Some(mut rest) = members_of(value) else {
         return Err(SchemaError::BadShape);

@@ -12,7 +12,7 @@ ghost use Rattle.avro_schema.specs.Inside.ReaderAnswers.{Gives};
 use crate::defaults::defaults_fit;
 use crate::error::SchemaError;
 use crate::mentions::mentions_fit;
-use crate::names::Places;
+use crate::places::{Places, Space};
 use crate::reading::type_at;
 use crate::weight::names_fit;
 use avro_nodes::{MAX_NESTING, MAX_TEXT, Node, OutOfMemory, identity_of, plain_of};
@@ -79,8 +79,12 @@ fn nodes_of(alloc: Global, text: &str) -> Result<Vec<Node>, SchemaError>
         return Err(SchemaError::TooLarge);
     }
     let mut nodes = Vec::new(alloc);
-    let mut known = Places::new(alloc);
-    type_at(alloc, value, "", MAX_NESTING, &mut nodes, &mut known)?;
+    let mut known = Places::none(alloc);
+    let outside = Space {
+        text: "",
+        number: known.number(alloc, "")?,
+    };
+    type_at(alloc, value, &outside, MAX_NESTING, &mut nodes, &mut known)?;
     Ok(nodes)
 }
 

@@ -76,12 +76,12 @@ pub static CASES: [Case; 11] = [
     Case {
         name: "references",
         shape: Shape::References,
-        counts: &[1000, 4000, 15_000],
+        counts: &[1000, 4000, 15_000, 25_000],
     },
     Case {
         name: "branches",
         shape: Shape::Branches,
-        counts: &[100, 1000, 10_000],
+        counts: &[100, 1000, 10_000, 100_000, 187_000],
     },
     Case {
         name: "objects",

@@ -1,7 +1,5 @@
 -- What a function of the reader answers, beside what the definitions give.
-use Rattle.std.specs.Prelude.{◌≡◌, ℕ, List, ◌++◌, Option, Some, None, Result, Ok, Err, String}
-use Rattle.std.specs.BTreeMap.{BTreeMap, get_by_text}
-use Rattle.std.specs.declared.alloc.Global.{Global}
+use Rattle.std.specs.Prelude.{◌≡◌, List, ◌++◌, Option, Some, None, Result, Ok, Err}
 use Rattle.avro_nodes.specs.Nodes.{NodeView}
 use Rattle.avro_schema.specs.Names.{Known}
 use Rattle.avro_schema.specs.Inside.ValueReaders.{Part}
@@ -27,7 +25,3 @@ pub record Adds {A : Type 0} (o : Option (Part A)) (it : A) (before after : List
 abbrev pub Reads : {X A : Type 0} → (X → A) → Result X SchemaError → Option (Part A) → List NodeView → List NodeView → Known → Type 0
 Reads shown (Ok x) o before after known = Adds o (shown x) before after known
 Reads shown (Err e) o before after known = Fails e o
-
--- the table of names as a function
-abbrev pub known_in : BTreeMap (String Global) ℕ → Known
-known_in table = λ name. get_by_text table name

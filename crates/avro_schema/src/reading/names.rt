@@ -4,11 +4,12 @@ ghost use Rattle.std.specs.Prelude.{length};
 ghost use Rattle.serde_json.specs.View.{members_view};
 ghost use Rattle.avro_nodes.specs.Nodes.{nodes_view};
 ghost use Rattle.avro_schema.specs.Inside.Types.{reference_to, primitive_at, name_at};
-ghost use Rattle.avro_schema.specs.Inside.ReaderAnswers.{Reads, known_in};
+ghost use Rattle.avro_schema.specs.Inside.ReaderAnswers.{Reads};
+ghost use Rattle.avro_schema.specs.Inside.NameTables.{known_in, HasNumber};
 
 use crate::definitions::{next_place, other_attributes};
 use crate::error::SchemaError;
-use crate::names::{Places, resolve};
+use crate::places::{Places, Space};
 use crate::words::kind_of;
 use avro_nodes::{Extra, Kind, Node};
 use std::alloc::Global;
@@ -41,20 +42,19 @@ pub fn primitive_at(
 ///
 /// # Errors
 ///
-/// `Undefined` where nothing known has the name, and `OutOfMemory` where memory for a full name is
-/// refused.
+/// `Undefined` where nothing known has the name.
 #[tactic(auto, unfolding(crate::specs::Inside::Types::reference_to))]
 pub fn reference_to(
-    alloc: Global,
     name: &str,
-    space: &str,
+    space: &Space,
     nodes: &Vec<Node>,
     known: &Places,
 ) -> Result<u32, SchemaError>
-    ensures { Reads (λ p. p) result (reference_to space.now name.now (known_in known.now))
+    requires { HasNumber known.now space.now }
+    ensures { Reads (λ p. p) result (reference_to space.now.text.now name.now (known_in known.now))
         (nodes_view nodes.now.items) (nodes_view nodes.now.items) (known_in known.now) }
 {
-    match resolve(alloc, known, space, name)? {
+    match known.resolve(space, name) {
         Some(place) => Ok(place),
         None => Err(SchemaError::Undefined),
     }
@@ -69,16 +69,17 @@ pub fn reference_to(
 pub fn name_at(
     alloc: Global,
     name: &str,
-    space: &str,
+    space: &Space,
     nodes: &mut Vec<Node>,
     known: &Places,
 ) -> Result<u32, SchemaError>
+    requires { HasNumber known.now space.now }
     ensures { Reads (λ p. p) result
-        (name_at space.now name.now (known_in known.now) (length nodes.old.items))
+        (name_at space.now.text.now name.now (known_in known.now) (length nodes.old.items))
         (nodes_view nodes.old.items) (nodes_view nodes.new.items) (known_in known.now) }
 {
     match kind_of(name) {
         Some(kind) => primitive_at(alloc, kind, Extra::new(alloc), nodes, known),
-        None => reference_to(alloc, name, space, nodes, known),
+        None => reference_to(name, space, nodes, known),
     }
 }

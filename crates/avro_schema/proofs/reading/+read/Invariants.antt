@@ -3,7 +3,7 @@ use Rattle.std.specs.Vec.Iter.{into_iter_items, into_iter_len}
 use Rattle.serde_json.specs.View.{items_view}
 use Rattle.avro_nodes.specs.Nodes.{field_view, nodes_view}
 use Rattle.avro_schema.specs.Inside.Types.{branch_of, field_of, type_at}
-use Rattle.avro_schema.specs.Inside.ReaderAnswers.{known_in}
+use Rattle.avro_schema.specs.Inside.NameTables.{known_in, KeepsNumbers}
 use Rattle.avro_schema.proofs.Sequence.{Going}
 use Rattle.avro_schema.proofs.reading.+read.Given as goal
 
@@ -36,12 +36,14 @@ decreases-field_at l = 5 * l.depth + 1
 
 abbrev pub invariant-branches_at-loop-item : goal.invariant-branches_at-loop-item
 invariant-branches_at-loop-item l =
-    Going (branch_of (type_at l.depth l.space)) (items_view (into_iter_items l.initial.item-iterator)) (known_in l.initial.known) (length l.initial.nodes.items) (nodes_view l.initial.nodes.items)
+    Going (branch_of (type_at l.depth l.space.text.now)) (items_view (into_iter_items l.initial.item-iterator)) (known_in l.initial.known) (length l.initial.nodes.items) (nodes_view l.initial.nodes.items)
     l.branches.items (nodes_view l.nodes.items) (known_in l.known) (length l.nodes.items) (items_view (into_iter_items l.item-iterator))
     × (into_iter_len l.item-iterator ≡ length (into_iter_items l.item-iterator))
+    × KeepsNumbers l.initial.known l.known
 
 abbrev pub invariant-fields_at-loop-item : goal.invariant-fields_at-loop-item
 invariant-fields_at-loop-item l =
-    Going (field_of (type_at l.depth l.space)) (items_view (into_iter_items l.initial.item-iterator)) (known_in l.initial.known) (length l.initial.nodes.items) (nodes_view l.initial.nodes.items)
+    Going (field_of (type_at l.depth l.space.text.now)) (items_view (into_iter_items l.initial.item-iterator)) (known_in l.initial.known) (length l.initial.nodes.items) (nodes_view l.initial.nodes.items)
     (map field_view l.fields.items) (nodes_view l.nodes.items) (known_in l.known) (length l.nodes.items) (items_view (into_iter_items l.item-iterator))
     × (into_iter_len l.item-iterator ≡ length (into_iter_items l.item-iterator))
+    × KeepsNumbers l.initial.known l.known
