@@ -22,7 +22,7 @@ use Rattle.avro_resolve.specs.Resolution.{first_named}
 use Rattle.avro_resolve.specs.Inside.Lists.{list_at}
 use Rattle.avro_resolve.specs.Inside.Numbers.{number_in, IsNumbering, Keeps}
 use Rattle.avro_resolve.specs.Inside.Sides.{nodes_of}
-use Rattle.avro_resolve.specs.Inside.Sources.{found_by, first_by, fields_of, AreSorted, FindsAsBefore, Matches, AreSourcesOf, IsSourced, Numbered, IsNamed, AreSourced, TellSources}
+use Rattle.avro_resolve.specs.Inside.Sources.{found_by, first_by, fields_of, AreSorted, FindsAsBefore, Matches, AreSourcesOf, IsSourced, Numbered, IsNamed, AreSources, AreFieldNames, AreSourced, TellSources, MayTell}
 use Rattle.avro_resolve.proofs.FieldLemmas.{place-or}
 use Rattle.avro_resolve.proofs.ListLemmas.{get_or_any}
 
@@ -220,11 +220,25 @@ module _ (t : Numbers) (is : IsNumbering t) where
       ap (λ (o : Option ℕ). option_or o (first_by sources ns)) own ∙ ap (λ (o : Option ℕ). option_or (option_map (λ (g : FieldView). g.place) (find (λ (g : FieldView). bytes_eq g.name name) fs)) o) rest
       ∙ sym (place-or (find (λ (g : FieldView). bytes_eq g.name name) fs) (first_named names fs))
 
-pub tell_at : (writer reader : Side) → AreSourced writer reader → (i j : ℕ) (a b : NodeView) → slice_get (nodes_of writer) i ≡ Some a → slice_get (nodes_of reader) j ≡ Some b
-    → TellSources (list_at writer.sources.items i) (list_at reader.names.items j) (fields_of a) (fields_of b)
-tell_at writer reader h i j a b ea eb =
-    let row = h.rows i a ea in let sources = list_at writer.sources.items i in
+tell_lists : (t : Numbers) → IsNumbering t → (w r : List NodeView) (all : List (Vec Source Global)) (names : List (Vec (Vec ℕ Global) Global)) → AreSources t w all → AreFieldNames t r names
+    → (i j : ℕ) (a b : NodeView) → slice_get w i ≡ Some a → slice_get r j ≡ Some b → TellSources (list_at all i) (list_at names j) (fields_of a) (fields_of b)
+tell_lists t is w r all names rows columns i j a b ea eb =
+    let row = rows i a ea in let sources = list_at all i in
     record {
       sorted = row.sorted;
-      told = λ k f e. first_alike h.numbers h.numbering (fields_of a) row.unsorted sources row.matches row.same (f.name ∷ f.aliases) (list_at (list_at reader.names.items j) k) (h.columns j b eb k f e);
+      told = λ k f e. first_alike t is (fields_of a) row.unsorted sources row.matches row.same (f.name ∷ f.aliases) (list_at (list_at names j) k) (columns j b eb k f e);
     }
+
+pub tell_at : (writer reader : Side) → AreSourced writer reader → (i j : ℕ) (a b : NodeView) → slice_get (nodes_of writer) i ≡ Some a → slice_get (nodes_of reader) j ≡ Some b
+    → TellSources (list_at writer.sources.items i) (list_at reader.names.items j) (fields_of a) (fields_of b)
+tell_at writer reader h = tell_lists h.numbers h.numbering (nodes_of writer) (nodes_of reader) writer.sources.items reader.names.items h.rows h.columns
+
+pub all_tell : (t : Numbers) → IsNumbering t → (w r : List NodeView) (all : List (Vec Source Global)) (names : List (Vec (Vec ℕ Global) Global)) → AreSources t w all → AreFieldNames t r names → MayTell w r all names
+all_tell t is w r all names rows columns = record {
+  tell = λ i j a b ea eb k f e l. (let h = tell_lists t is w r all names rows columns i j a b ea eb in (h.sorted, h.told k f e));
+}
+
+-- where no names have numbers, nothing is told by them
+pub none_tell : (w r : List NodeView) (all : List (Vec Source Global)) → MayTell w r all []
+unfolding list_at
+none_tell w r all = record { tell = λ i j a b ea eb k f e l. absurd (omega arith) }

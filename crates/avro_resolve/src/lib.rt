@@ -8,6 +8,7 @@ mod askers;
 mod field_lists;
 mod field_names;
 mod fields;
+mod finding;
 mod joining;
 mod kinds;
 mod links;

@@ -8,14 +8,17 @@ ghost use Rattle.avro_resolve.specs.Inside.Agreeing.{Agree};
 ghost use Rattle.avro_resolve.specs.Inside.Places.{Names};
 ghost use Rattle.avro_resolve.specs.Inside.Lookups.{FindsFields};
 ghost use Rattle.avro_resolve.specs.Inside.Sides.{nodes_of, IsSide};
+ghost use Rattle.avro_resolve.specs.Inside.Sources.{MayTell, TellsIfAny, TellAnySources};
 ghost use Rattle.avro_resolve.specs.Witnesses.{member, without};
 ghost use Rattle.avro_resolve.specs.Asking.{source_place};
 ghost use Rattle.avro_resolve.specs.Inside.Asked.{Asked, AreAsked, IsSourceAsked};
 ghost use Rattle.avro_resolve.specs.Inside.Walking.{Ready, Tells};
 
 use crate::fields::source_of;
+use crate::lists::list_of;
 use crate::lookups::Lookup;
 use crate::sides::Side;
+use crate::sources::{Source, source_by_numbers};
 use crate::walk::{Answer, Walk, agree_once, fail_pair, is_long, is_marked, open_pair};
 use avro_nodes::{Field, Node};
 use std::alloc::AllocError;
@@ -34,15 +37,20 @@ fn node_in<'a>(side: &'a Side, place: u32) -> &'a Node
     side.node(place)
 }
 
-/// The place of the type of a reader's field's source.
+/// The place of the type of the source of a reader's field, which is found by numbers where its names
+/// have such.
 fn source_in(
     writer: &Side,
     reader: &Side,
     fields: &[Field],
     sources: Option<&Lookup>,
+    by_number: &[Source],
+    names: &[Vec<usize>],
+    index: usize,
     f: &Field,
 ) -> Option<u32>
     requires sources { IfSome sources (λ t. FindsFields t.now fields.now) }
+    requires told { TellsIfAny by_number.now names.now (map field_view fields.now) index (field_view f.now) }
     requires fields_in { All (λ g. g.place < length (nodes_of writer.now)) (map field_view fields.now) }
     requires asked { IsSourceAsked (nodes_of writer.now) (nodes_of reader.now) (map field_view fields.now) (field_view f.now) }
     ensures none { IfNone result (source_place (map field_view fields.now) (field_view f.now) ≡ None) }
@@ -51,6 +59,9 @@ fn source_in(
     ensures asked { IfSome result (λ p. Asked (nodes_of writer.now) (nodes_of reader.now) p f.now.place) }
 {
     let (_writer, _reader) = (writer, reader);
+    if index < names.len() {
+        return source_by_numbers(by_number, list_of(names, index));
+    }
     source_of(fields, sources, f)
 }
 
@@ -67,6 +78,7 @@ pub fn ask(
 ) -> Result<Answer, AllocError>
     requires writer { IsSide writer.now }
     requires reader { IsSide reader.now }
+    requires tells { MayTell (nodes_of writer.now) (nodes_of reader.now) writer.now.sources.items reader.now.names.items }
     requires ready { Ready (nodes_of writer.now) (nodes_of reader.now) depth walk.old }
     requires i_in { i < length (nodes_of writer.now) }
     requires j_in { j < length (nodes_of reader.now) }
@@ -115,6 +127,7 @@ fn fits(
 ) -> Result<Answer, AllocError>
     requires writer { IsSide writer.now }
     requires reader { IsSide reader.now }
+    requires tells { MayTell (nodes_of writer.now) (nodes_of reader.now) writer.now.sources.items reader.now.names.items }
     requires ready { Ready (nodes_of writer.now) (nodes_of reader.now) depth walk.old }
     requires a_at { slice_get writer.now.schema.now at.0 ≡ Some a.now }
     requires b_at { slice_get reader.now.schema.now at.1 ≡ Some b.now }
@@ -149,6 +162,7 @@ fn parts_fit(
 ) -> Result<Answer, AllocError>
     requires writer { IsSide writer.now }
     requires reader { IsSide reader.now }
+    requires tells { MayTell (nodes_of writer.now) (nodes_of reader.now) writer.now.sources.items reader.now.names.items }
     requires ready { Ready (nodes_of writer.now) (nodes_of reader.now) depth walk.old }
     requires a_at { slice_get writer.now.schema.now at.0 ≡ Some a.now }
     requires b_at { slice_get reader.now.schema.now at.1 ≡ Some b.now }
@@ -177,7 +191,10 @@ fn parts_fit(
         }
         (Node::Rec { fields, .. }, Node::Rec { fields: wanted, .. }) => {
             let sources = writer.lookup(at.0, a);
-            all_readable(writer, reader, fields, sources, wanted, depth, walk, looks)
+            let (by_number, names) = (writer.sources(at.0), reader.names(at.1));
+            all_readable(
+                writer, reader, fields, sources, by_number, names, wanted, depth, walk, looks,
+            )
         }
         _ => Ok(Answer::Yes),
     }
@@ -196,6 +213,7 @@ fn all_asked(
 ) -> Result<Answer, AllocError>
     requires writer { IsSide writer.now }
     requires reader { IsSide reader.now }
+    requires tells { MayTell (nodes_of writer.now) (nodes_of reader.now) writer.now.sources.items reader.now.names.items }
     requires ready { Ready (nodes_of writer.now) (nodes_of reader.now) depth walk.old }
     requires places_in { All (λ p. p < length (nodes_of writer.now)) places.now }
     requires j_in { j < length (nodes_of reader.now) }
@@ -227,6 +245,7 @@ fn any_asked(
 ) -> Result<Answer, AllocError>
     requires writer { IsSide writer.now }
     requires reader { IsSide reader.now }
+    requires tells { MayTell (nodes_of writer.now) (nodes_of reader.now) writer.now.sources.items reader.now.names.items }
     requires ready { Ready (nodes_of writer.now) (nodes_of reader.now) depth walk.old }
     requires places_in { All (λ p. p < length (nodes_of reader.now)) places.now }
     requires i_in { i < length (nodes_of writer.now) }
@@ -252,6 +271,8 @@ fn all_readable(
     reader: &Side,
     fields: &[Field],
     sources: Option<&Lookup>,
+    by_number: &[Source],
+    names: &[Vec<usize>],
     wanted: &[Field],
     depth: usize,
     walk: &mut Walk,
@@ -259,8 +280,10 @@ fn all_readable(
 ) -> Result<Answer, AllocError>
     requires writer { IsSide writer.now }
     requires reader { IsSide reader.now }
+    requires tells { MayTell (nodes_of writer.now) (nodes_of reader.now) writer.now.sources.items reader.now.names.items }
     requires ready { Ready (nodes_of writer.now) (nodes_of reader.now) depth walk.old }
     requires sources { IfSome sources (λ t. FindsFields t.now fields.now) }
+    requires told { TellAnySources by_number.now names.now (map field_view fields.now) (map field_view wanted.now) }
     requires fields_in { All (λ f. f.place < length (nodes_of writer.now)) (map field_view fields.now) }
     requires wanted_in { All (λ f. f.place < length (nodes_of reader.now)) wanted.now }
     requires asked { All (λ f. IsSourceAsked (nodes_of writer.now) (nodes_of reader.now) (map field_view fields.now) (field_view f)) wanted.now }
@@ -268,11 +291,12 @@ fn all_readable(
         (All (λ f. Readable (member walk.new.assumed.items) (map field_view fields.now) (field_view f)) wanted.now)
         (Any (λ f. Readable (without walk.new.failed.items) (map field_view fields.now) (field_view f) → ⊥) wanted.now) answer) }
 {
-    for f in wanted {
+    for index in 0..wanted.len() {
+        let f = &wanted[index];
         *looks = looks
             .saturating_add(f.aliases.len() as u64)
             .saturating_add(1);
-        match source_in(writer, reader, fields, sources, f) {
+        match source_in(writer, reader, fields, sources, by_number, names, index, f) {
             Some(p) => match ask(writer, reader, p, f.place, depth, walk, looks)? {
                 Answer::Yes => {}
                 Answer::No => return Ok(Answer::No),

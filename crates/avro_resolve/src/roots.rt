@@ -6,6 +6,7 @@ ghost use Rattle.avro_resolve.specs.Witnesses.{Pair};
 ghost use Rattle.avro_resolve.specs.Asking.{HoldsAsked};
 ghost use Rattle.avro_resolve.specs.Inside.Walking.{Shows};
 
+use crate::finding::{FieldNumbers, numbers_if_many};
 use crate::lookups::{Sought, lookups_of};
 use crate::pair_set::PairSet;
 use crate::recursion::ask;
@@ -33,13 +34,14 @@ pub fn walk_roots(
         agreed_set: PairSet::none(alloc, columns),
         visits: 0,
     };
+    let FieldNumbers { sources, names } = numbers_if_many(alloc, writer, reader)?;
     let lookups = lookups_of(alloc, Sought::Fields, writer)?;
     let written = Side {
         schema: writer,
         lookups,
         lasts: Vec::new(alloc),
         symbols: Vec::new(alloc),
-        sources: Vec::new(alloc),
+        sources,
         names: Vec::new(alloc),
         field_lists: Vec::new(alloc),
     };
@@ -50,7 +52,7 @@ pub fn walk_roots(
         lasts: Vec::new(alloc),
         symbols: Vec::new(alloc),
         sources: Vec::new(alloc),
-        names: Vec::new(alloc),
+        names,
         field_lists: Vec::new(alloc),
     };
     let mut looks = 0;

@@ -88,3 +88,14 @@ pub record AreSourced (writer reader : Side) : Type 0 where
   pub numbering : IsNumbering numbers
   pub rows : AreSources numbers (nodes_of writer) writer.sources.items
   pub columns : AreFieldNames numbers (nodes_of reader) reader.names.items
+
+-- the same, where there are numbers for the field's names
+abbrev pub TellsIfAny : List Source → List (Vec ℕ Global) → List FieldView → ℕ → FieldView → Type 0
+TellsIfAny sources names fields k f = k < length names → AreSorted sources × (first_by sources (list_at names k) ≡ source_place fields f)
+
+-- the same of each field of two records, and of all records of two schemas
+abbrev pub TellAnySources : List Source → List (Vec ℕ Global) → List FieldView → List FieldView → Type 0
+TellAnySources sources names fields wanted = (k : ℕ) (f : FieldView) → slice_get wanted k ≡ Some f → TellsIfAny sources names fields k f
+
+pub record MayTell (w r : List NodeView) (sources : List (Vec Source Global)) (names : List (Vec (Vec ℕ Global) Global)) : Type 0 where
+  pub tell : (i j : ℕ) (a b : NodeView) → slice_get w i ≡ Some a → slice_get r j ≡ Some b → TellAnySources (list_at sources i) (list_at names j) (fields_of a) (fields_of b)

@@ -1,15 +1,22 @@
-use Rattle.std.proofs.Common.{rules, ◌≡◌, ℕ, ◌+◌, ◌<◌, ◌≤◌, List, false, not, true≢false, length, map, take, take_all, get_or, All, IsTrue, sym, subst, ap, ◌∙◌, arith}
+use Rattle.std.proofs.Common.{rules, ◌≡◌, ℕ, ◌+◌, ◌<◌, ◌≤◌, List, Some, false, not, true≢false, length, map, take, take_all, get_or, All, IsTrue, sym, subst, ap, ◌∙◌, arith}
 use Rattle.std.proofs.lemmas.List.{get_or_default}
-use Rattle.std.specs.Prelude.{IfSome}
+use Rattle.std.specs.Prelude.{IfSome, Vec, slice_get}
+use Rattle.std.specs.declared.alloc.Global.{Global}
+use Rattle.std.proofs.lemmas.Option.{slice_get-get_or}
 use Rattle.std.proofs.lemmas.List.Elements.{All-map, All-more, All-weaker}
 use Rattle.serde_json.specs.View.{view}
 use Rattle.avro_nodes.specs.declared.node.Field.{Field}
 use Rattle.avro_nodes.specs.Nodes.{FieldView, node_view, nodes_view, field_view}
 use Rattle.avro_resolve.specs.Resolution.{Readable}
 use Rattle.avro_resolve.specs.Inside.Lookups.{FindsFields}
+use Rattle.avro_resolve.specs.declared.sources.Source.{Source}
 use Rattle.avro_resolve.specs.Inside.Asked.{IsSourceAsked}
+use Rattle.avro_resolve.specs.Inside.Lists.{list_at}
+use Rattle.avro_resolve.specs.Inside.Sources.{fields_of, TellAnySources}
 use Rattle.avro_resolve.specs.Witnesses.{Pair, member, without}
 use Rattle.avro_resolve.proofs.Agreement.{fits_agree}
+use Rattle.avro_resolve.proofs.EachLemmas.{view_got}
+use Rattle.avro_resolve.proofs.NumberLemmas.{node_got}
 use Rattle.avro_resolve.proofs.MarkLemmas.{marks_at}
 use Rattle.avro_resolve.proofs.Monotone.{supports_at}
 use Rattle.avro_resolve.proofs.SupportLemmas.{all_of}
@@ -52,6 +59,14 @@ pub parts_fit-all_readable-requires : goal.parts_fit-all_readable-requires
 parts_fit-all_readable-requires t c =
     let w = nodes_view c.args.writer.now.schema.now in let r = nodes_view c.args.reader.now.schema.now in let fs = c.in-Rec-Rec.fields.items in let gs = c.in-Rec-Rec.wanted.items in
     let e = sym c.deref-in-Rec-Rec.ensures.value in let e2 = sym c.deref-in-Rec-Rec-2.ensures.value in
+    let told0 : TellAnySources c.sources-by_number.result.now c.names-names.result.now (fields_of (node_view c.args.a.now)) (fields_of (node_view c.args.b.now)) =
+    subst (λ (xs : List Source). TellAnySources xs c.names-names.result.now (fields_of (node_view c.args.a.now)) (fields_of (node_view c.args.b.now))) (sym c.sources-by_number.ensures)
+    (subst (λ (ns : List (Vec ℕ Global)). TellAnySources (list_at c.args.writer.now.sources.items c.args.at.0) ns (fields_of (node_view c.args.a.now)) (fields_of (node_view c.args.b.now))) (sym c.names-names.ensures)
+    (c.requires.tells.tell c.args.at.0 c.args.at.1 (node_view c.args.a.now) (node_view c.args.b.now) (node_got c.args.writer.now.schema.now c.args.at.0 c.args.a.now c.requires.a_at) (node_got c.args.reader.now.schema.now c.args.at.1 c.args.b.now c.requires.b_at))) in
+    let told1 : TellAnySources c.sources-by_number.result.now c.names-names.result.now (map field_view fs) (map field_view gs) = rw (c.in-Rec-Rec.is-0, c.in-Rec-Rec.is-1) at told0 in
+    let told : TellAnySources c.sources-by_number.result.now c.names-names.result.now (map field_view c.deref-in-Rec-Rec.result.now) (map field_view c.deref-in-Rec-Rec-2.result.now) =
+    subst (λ (xs : List Field). TellAnySources c.sources-by_number.result.now c.names-names.result.now (map field_view xs) (map field_view c.deref-in-Rec-Rec-2.result.now)) e
+    (subst (λ (ys : List Field). TellAnySources c.sources-by_number.result.now c.names-names.result.now (map field_view fs) (map field_view ys)) e2 told1) in
     let sources : IfSome c.lookup-sources.result (λ t. FindsFields t.now c.deref-in-Rec-Rec.result.now) = subst (λ (xs : List Field). IfSome c.lookup-sources.result (λ t. FindsFields t.now xs)) e (rw c.in-Rec-Rec.is-0 at c.lookup-sources.ensures) in
     let fields_in : All (λ f. f.place < length w) (map field_view c.deref-in-Rec-Rec.result.now) = subst (λ (xs : List Field). All (λ f. f.place < length w) (map field_view xs)) e (rw c.in-Rec-Rec.is-0 at c.requires.a_in) in
     let wanted_in : All (λ (f : Field). f.place < length r) c.deref-in-Rec-Rec-2.result.now = subst (λ (xs : List Field). All (λ (f : Field). f.place < length r) xs) e2 (all_of (λ (f : FieldView). f.place < length r) field_view gs (rw c.in-Rec-Rec.is-1 at c.requires.b_in)) in
@@ -123,55 +138,61 @@ any_asked-returns-in-Yes t c =
 
 pub all_readable-returns-in-No : goal.all_readable-returns-in-No
 all_readable-returns-in-No t c =
-    let w = nodes_view c.args.writer.now.schema.now in let r = nodes_view c.args.reader.now.schema.now in let s = c.args.walk.now in let u = c.loop-f.walk in let v = c.ask.new.walk in
-    let told = rw c.in-No.is at c.in_ok-ask-in-Some.ensures in let f = c.f-item.result in (
+    let w = nodes_view c.args.writer.now.schema.now in let r = nodes_view c.args.reader.now.schema.now in let s = c.args.walk.now in let u = c.loop-index.walk in let v = c.ask.new.walk in
+    let told = rw c.in-No.is at c.in_ok-ask-in-Some.ensures in let f = c.index-wanted-index.result in (
       told.0,
-      grown2 w r s u v c.loop-f.invariant.grown told.1,
+      grown2 w r s u v c.loop-index.invariant.grown told.1,
       (
-        c.loop-f.f-index,
+        c.loop-index.index,
         f,
-        c.loop-f-test.true,
-        sym c.f-item.is,
+        c.loop-index-test.true,
+        sym c.index-wanted-index.is,
         (λ h. not_without v.failed.items c.in-Some.p f.place told.2.1 ((readable_source (without v.failed.items) (map field_view c.args.fields.now) (field_view f) c.in-Some.p c.in-Some.ensures.source).0 h)),
       ),
     )
 
 pub all_readable-returns-then-is_none : goal.all_readable-returns-then-is_none
 all_readable-returns-then-is_none t c =
-    let u = c.loop-f.walk in let f = c.f-item.result in (
-      c.loop-f.invariant.ready,
-      c.loop-f.invariant.grown,
+    let u = c.loop-index.walk in let f = c.index-wanted-index.result in (
+      c.loop-index.invariant.ready,
+      c.loop-index.invariant.grown,
       (
-        c.loop-f.f-index,
+        c.loop-index.index,
         f,
-        c.loop-f-test.true,
-        sym c.f-item.is,
+        c.loop-index-test.true,
+        sym c.index-wanted-index.is,
         (λ h. true≢false (sym (sym (some_mapped view f.value) ∙ (readable_default (without u.failed.items) (map field_view c.args.fields.now) (field_view f) c.in-None.ensures.none).0 h) ∙ c.is_none.ensures ∙ ap not c.if-is_none.true)),
       ),
     )
 
-pub all_readable-loop-f-preserved : goal.all_readable-loop-f-preserved
-all_readable-loop-f-preserved t c =
-    let w' = nodes_view c.args.writer.now.schema.now in let r' = nodes_view c.args.reader.now.schema.now in let s = c.args.walk.now in let u = c.loop-f.walk in
-    let fs = map field_view c.args.fields.now in let gs = c.args.wanted.now in let f = c.f-item.result in
+pub all_readable-source_in-requires-clause-told : goal.all_readable-source_in-requires-clause-told
+all_readable-source_in-requires-clause-told t c =
+    let gs = c.args.wanted.now in let n = c.loop-index.index in let f = c.index-wanted-index.result in
+    let here : slice_get gs n ≡ Some f = slice_get-get_or gs n f c.loop-index-test.true ∙ ap Some (sym c.index-wanted-index.is) in
+    c.requires.told n (field_view f) (view_got field_view gs n f here)
+
+pub all_readable-loop-index-preserved : goal.all_readable-loop-index-preserved
+all_readable-loop-index-preserved t c =
+    let w' = nodes_view c.args.writer.now.schema.now in let r' = nodes_view c.args.reader.now.schema.now in let s = c.args.walk.now in let u = c.loop-index.walk in
+    let fs = map field_view c.args.fields.now in let gs = c.args.wanted.now in let f = c.index-wanted-index.result in
     elim c.match-source_in.branch [
       | all_readable-in-Some+in_ok-ask-in-Some+in-Yes w ↦ (
           let told = rw w.in-Yes.is at w.in_ok-ask-in-Some.ensures in
           let v = w.ask.new.walk in
           rw w.walk-is (record {
             ready = told.0;
-            grown = grown2 w' r' s u v c.loop-f.invariant.grown told.1;
-            held = held_more (member u.assumed.items) (member v.assumed.items) fs gs c.loop-f.f-index f c.loop-f-test.true c.f-item.is (within2 w' r' u v told.1) c.loop-f.invariant.held ((readable_source (member v.assumed.items) fs (field_view f) w.in-Some.p w.in-Some.ensures.source).1 told.2);
+            grown = grown2 w' r' s u v c.loop-index.invariant.grown told.1;
+            held = held_more (member u.assumed.items) (member v.assumed.items) fs gs c.loop-index.index f c.loop-index-test.true c.index-wanted-index.is (within2 w' r' u v told.1) c.loop-index.invariant.held ((readable_source (member v.assumed.items) fs (field_view f) w.in-Some.p w.in-Some.ensures.source).1 told.2);
           }))
       | all_readable-in-None+else-is_none w ↦ (
           rw w.walk-is (record {
-            ready = c.loop-f.invariant.ready;
-            grown = c.loop-f.invariant.grown;
-            held = held_more (member u.assumed.items) (member u.assumed.items) fs gs c.loop-f.f-index f c.loop-f-test.true c.f-item.is (λ i j h. h) c.loop-f.invariant.held ((readable_default (member u.assumed.items) fs (field_view f) w.in-None.ensures.none).1 (some_mapped view f.value ∙ w.is_none.ensures ∙ ap not w.if-is_none.false));
+            ready = c.loop-index.invariant.ready;
+            grown = c.loop-index.invariant.grown;
+            held = held_more (member u.assumed.items) (member u.assumed.items) fs gs c.loop-index.index f c.loop-index-test.true c.index-wanted-index.is (λ i j h. h) c.loop-index.invariant.held ((readable_default (member u.assumed.items) fs (field_view f) w.in-None.ensures.none).1 (some_mapped view f.value ∙ w.is_none.ensures ∙ ap not w.if-is_none.false));
           }))
     ]
 
 pub all_readable-returns : goal.all_readable-returns
 all_readable-returns t c =
-    let l : length c.args.wanted.now ≤ c.loop-f.f-index = omega arith in
-    (c.loop-f.invariant.ready, c.loop-f.invariant.grown, subst (λ (x : List Field). All (λ f. Readable (member c.loop-f.walk.assumed.items) (map field_view c.args.fields.now) (field_view f)) x) (take_all c.loop-f.f-index c.args.wanted.now l) c.loop-f.invariant.held)
+    let l : length c.args.wanted.now ≤ c.loop-index.index = omega arith in
+    (c.loop-index.invariant.ready, c.loop-index.invariant.grown, subst (λ (x : List Field). All (λ f. Readable (member c.loop-index.walk.assumed.items) (map field_view c.args.fields.now) (field_view f)) x) (take_all c.loop-index.index c.args.wanted.now l) c.loop-index.invariant.held)

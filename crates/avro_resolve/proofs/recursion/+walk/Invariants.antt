@@ -37,9 +37,9 @@ invariant-any_asked-loop-p l = record {
   lost : All (λ p. IsTrue (member l.walk.failed.items l.i p)) (take l.p-index l.places);
 }
 
-abbrev pub invariant-all_readable-loop-f : goal.invariant-all_readable-loop-f
-invariant-all_readable-loop-f l = record {
+abbrev pub invariant-all_readable-loop-index : goal.invariant-all_readable-loop-index
+invariant-all_readable-loop-index l = record {
   ready : Ready (nodes_view l.writer.schema.now) (nodes_view l.reader.schema.now) l.depth l.walk;
   grown : HasGrown (nodes_view l.writer.schema.now) (nodes_view l.reader.schema.now) l.initial.walk l.walk;
-  held : All (λ f. Readable (member l.walk.assumed.items) (map field_view l.fields) (field_view f)) (take l.f-index l.wanted);
+  held : All (λ f. Readable (member l.walk.assumed.items) (map field_view l.fields) (field_view f)) (take l.index l.wanted);
 }

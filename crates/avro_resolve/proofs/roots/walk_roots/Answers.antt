@@ -15,7 +15,7 @@ pub ask-requires-clause-writer : goal.ask-requires-clause-writer
 ask-requires-clause-writer c = record {
   whole = is_whole (nodes_view c.args.writer.now) c.places-rows.ensures.schema;
   lookups = c.in_ok-lookups.ensures;
-  field_lists = rw c.new-7.ensures.items (no_lists _);
+  field_lists = rw c.new-6.ensures.items (no_lists _);
   few = omega (arith, c.places-rows.ensures.places, c.places-rows.ensures.few);
 }
 
@@ -23,9 +23,12 @@ pub ask-requires-clause-reader : goal.ask-requires-clause-reader
 ask-requires-clause-reader c = record {
   whole = is_whole (nodes_view c.args.reader.now) c.places-columns.ensures.schema;
   lookups = c.in_ok-lookups-2.ensures;
-  field_lists = rw c.new-12.ensures.items (no_lists _);
+  field_lists = rw c.new-10.ensures.items (no_lists _);
   few = omega (arith, c.places-columns.ensures.places, c.places-columns.ensures.few);
 }
+
+pub ask-requires-clause-tells : goal.ask-requires-clause-tells
+ask-requires-clause-tells c = c.in_ok-sources.ensures
 
 pub ask-requires-clause-ready : goal.ask-requires-clause-ready
 ask-requires-clause-ready c =
