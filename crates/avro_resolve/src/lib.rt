@@ -25,8 +25,8 @@ mod sides;
 mod striking;
 mod support;
 mod sweeping;
-mod symbols;
 mod table;
+mod texts;
 mod unions;
 mod walk;
 

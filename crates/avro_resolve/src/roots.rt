@@ -38,6 +38,8 @@ pub fn walk_roots(
         schema: writer,
         lookups,
         lasts: Vec::new(alloc),
+        full_names: Vec::new(alloc),
+        aliases: Vec::new(alloc),
         symbols: Vec::new(alloc),
         field_lists: Vec::new(alloc),
     };
@@ -46,6 +48,8 @@ pub fn walk_roots(
         schema: reader,
         lookups,
         lasts: Vec::new(alloc),
+        full_names: Vec::new(alloc),
+        aliases: Vec::new(alloc),
         symbols: Vec::new(alloc),
         field_lists: Vec::new(alloc),
     };
