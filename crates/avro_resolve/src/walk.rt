@@ -46,7 +46,7 @@ pub struct Walk {
 /// The most pairs that are opened, one after the other.
 const MAX_VISITS: u128 = 250_000;
 
-/// The most names and symbols that are looked up, once a thousand pairs were opened.
+/// The most names, aliases and symbols that are looked up, once a thousand pairs were opened.
 const MAX_LOOKS: u64 = 4_000_000;
 
 /// Whether so much was done that striking out takes less: each pair is looked at once there, and
