@@ -2,7 +2,7 @@ pub mod NameLemmas
 pub mod LookupLemmas
 pub mod NumberLemmas
 pub mod Merges
-pub mod SymbolLemmas
+pub mod TextLemmas
 pub mod EachLemmas
 pub mod SourceLemmas
 pub mod FieldLemmas

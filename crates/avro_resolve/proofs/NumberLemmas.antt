@@ -8,12 +8,14 @@ use Rattle.std.proofs.lemmas.Map.{update_same, update_other}
 use Rattle.std.proofs.lemmas.Option.{same_Some}
 use Rattle.std.proofs.lemmas.Slice.Eq.{bytes_eq-Decides}
 use Rattle.avro_resolve.specs.declared.numbers.Numbers.{Numbers}
+use Rattle.avro_resolve.specs.declared.numbers.Part.{Part}
+use Rattle.avro_resolve.specs.declared.numbers.Part.TheVariants.{Last}
 use Rattle.std.proofs.lemmas.Bool.Decides.{nat_tests}
 use Rattle.avro_nodes.specs.Names.{last_part}
 use Rattle.avro_nodes.specs.declared.node.Node.{Node}
 use Rattle.avro_nodes.specs.Nodes.{NamedView, NodeView, node_view, nodes_view}
 use Rattle.avro_resolve.specs.Inside.Agreeing.{named_of, TellsSameLast}
-use Rattle.avro_resolve.specs.Inside.Numbers.{number_in, IsNumbering, Keeps, IsLastNumber, AreLastNumbers}
+use Rattle.avro_resolve.specs.Inside.Numbers.{number_in, part_of, IsNumbering, Keeps, IsNameNumber, AreNameNumbers}
 use Rattle.avro_resolve.proofs.LookupLemmas.{got_before}
 
 pub keeps_same : (t : Numbers) → Keeps t t
@@ -64,16 +66,16 @@ module _ (t u : Numbers) (name : List ℕ) (n : ℕ) (is : IsNumbering t) (fresh
 
 -- ---- the numbers of a schema's names
 
-kept_at : (t u : Numbers) (n : ℕ) (x : Option NamedView) → Keeps t u → MatchOption x (Unit {0}) (λ m. number_in t (last_part m.name) ≡ Some n) → MatchOption x (Unit {0}) (λ m. number_in u (last_part m.name) ≡ Some n)
+kept_at : (t u : Numbers) (part : Part) (n : ℕ) (x : Option NamedView) → Keeps t u → MatchOption x (Unit {0}) (λ m. number_in t (part_of part m.name) ≡ Some n) → MatchOption x (Unit {0}) (λ m. number_in u (part_of part m.name) ≡ Some n)
 unfolding Keeps
-kept_at t u n None keeps h = tt
-kept_at t u n (Some m) keeps h = keeps (last_part m.name) n h
+kept_at t u part n None keeps h = tt
+kept_at t u part n (Some m) keeps h = keeps (part_of part m.name) n h
 
-pub kept_last : (t u : Numbers) (n : ℕ) (a : NodeView) → Keeps t u → IsLastNumber t n a → IsLastNumber u n a
-kept_last t u n a keeps h = kept_at t u n (named_of a) keeps h
+kept_name : (t u : Numbers) (part : Part) (n : ℕ) (a : NodeView) → Keeps t u → IsNameNumber t part n a → IsNameNumber u part n a
+kept_name t u part n a keeps h = kept_at t u part n (named_of a) keeps h
 
-pub kept_lasts : (t u : Numbers) (nodes : List NodeView) (xs : List ℕ) → Keeps t u → AreLastNumbers t nodes xs → AreLastNumbers u nodes xs
-kept_lasts t u nodes xs keeps h = record { long = h.long; each = λ place n a e f. kept_last t u n a keeps (h.each place n a e f) }
+pub kept_names : (t u : Numbers) (part : Part) (nodes : List NodeView) (xs : List ℕ) → Keeps t u → AreNameNumbers t part nodes xs → AreNameNumbers u part nodes xs
+kept_names t u part nodes xs keeps h = record { long = h.long; each = λ place n a e f. kept_name t u part n a keeps (h.each place n a e f) }
 
 pub node_got : (nodes : List Node) (place : ℕ) (node : Node) → slice_get nodes place ≡ Some node → slice_get (nodes_view nodes) place ≡ Some (node_view node)
 node_got [] place node e = absurd cc
@@ -81,16 +83,16 @@ node_got (x ∷ xs) zero node e = ap (option_map node_view) e
 node_got (x ∷ xs) (suc place) node e = node_got xs place node e
 
 -- each number that is there is that of the node at its place
-abbrev pub EachLast : Numbers → List NodeView → List ℕ → Type 0
-EachLast t nodes xs = (place m : ℕ) (b : NodeView) → slice_get xs place ≡ Some m → slice_get nodes place ≡ Some b → IsLastNumber t m b
+abbrev pub EachName : Numbers → Part → List NodeView → List ℕ → Type 0
+EachName t part nodes xs = (place m : ℕ) (b : NodeView) → slice_get xs place ≡ Some m → slice_get nodes place ≡ Some b → IsNameNumber t part m b
 
-pub no_last : (t : Numbers) (nodes : List NodeView) → EachLast t nodes []
-no_last t nodes place m b e f = absurd cc
+pub no_name : (t : Numbers) (part : Part) (nodes : List NodeView) → EachName t part nodes []
+no_name t part nodes place m b e f = absurd cc
 
-pub last_more : (t u : Numbers) (nodes : List NodeView) (xs : List ℕ) (n : ℕ) (a : NodeView) → Keeps t u → EachLast t nodes xs → slice_get nodes (length xs) ≡ Some a → IsLastNumber u n a → EachLast u nodes (xs ++ n ∷ [])
-last_more t u nodes xs n a keeps so_far here is place m b e f = elim (got_before xs n m place e) [
-  | inl g ↦ kept_last t u m b keeps (so_far place m b g f)
-  | inr g ↦ (let same : a ≡ b = same_Some a b (sym here ∙ ap (slice_get nodes) (sym g.0) ∙ f) in subst (λ (x : NodeView). IsLastNumber u m x) same (subst (λ (k : ℕ). IsLastNumber u k a) g.1 is))
+pub name_more : (t u : Numbers) (part : Part) (nodes : List NodeView) (xs : List ℕ) (n : ℕ) (a : NodeView) → Keeps t u → EachName t part nodes xs → slice_get nodes (length xs) ≡ Some a → IsNameNumber u part n a → EachName u part nodes (xs ++ n ∷ [])
+name_more t u part nodes xs n a keeps so_far here is place m b e f = elim (got_before xs n m place e) [
+  | inl g ↦ kept_name t u part m b keeps (so_far place m b g f)
+  | inr g ↦ (let same : a ≡ b = same_Some a b (sym here ∙ ap (slice_get nodes) (sym g.0) ∙ f) in subst (λ (x : NodeView). IsNameNumber u part m x) same (subst (λ (k : ℕ). IsNameNumber u part k a) g.1 is))
 ]
 
 -- ---- what equal numbers say
@@ -104,6 +106,6 @@ tells t is m n same e (Some k) (Some l) g h = (
   (λ p. let one : m ≡ n = same_Some m n (sym g ∙ ap (number_in t) p ∙ h) in e ∙ eq-eqb m n one),
 )
 
-pub tells_last : (t : Numbers) → IsNumbering t → (w r : List NodeView) (xs ys : List ℕ) → AreLastNumbers t w xs → AreLastNumbers t r ys → (i j m n : ℕ) (a b : NodeView) → slice_get w i ≡ Some a → slice_get r j ≡ Some b
+pub tells_last : (t : Numbers) → IsNumbering t → (w r : List NodeView) (xs ys : List ℕ) → AreNameNumbers t Last w xs → AreNameNumbers t Last r ys → (i j m n : ℕ) (a b : NodeView) → slice_get w i ≡ Some a → slice_get r j ≡ Some b
     → slice_get xs i ≡ Some m → slice_get ys j ≡ Some n → (same : Bool) → same ≡ (m == n) → TellsSameLast same a b
 tells_last t is w r xs ys rows columns i j m n a b ea eb em en same e = tells t is m n same e (named_of a) (named_of b) (rows.each i m a em ea) (columns.each j n b en eb)

@@ -28,8 +28,8 @@ mod sources;
 mod striking;
 mod support;
 mod sweeping;
-mod symbols;
 mod table;
+mod texts;
 mod unions;
 mod walk;
 

@@ -1,4 +1,4 @@
-//! Whether one list of numbers has those of another, where both are in order.
+//! Whether a list of numbers in order has a number, or those of another such list.
 
 ghost use Rattle.std.specs.Prelude.{◌≡◌, ℕ, ◌↔◌, ◌<◌, ◌≤◌, All, Contains, IsTrue, length, slice_index};
 ghost use Rattle.std.specs.List.Sorted.{IsStrictlyIncreasing};
@@ -22,6 +22,14 @@ fn is_at(list: &[usize], at: usize, number: usize) -> bool
     ensures { IsTrue result ↔ (at < length list.now) × (slice_index list.now at ≡ number) }
 {
     at < list.len() && list[at] == number
+}
+
+/// Whether the number is one of the list's.
+pub fn has_number(list: &[usize], number: usize) -> bool
+    requires { IsStrictlyIncreasing list.now }
+    ensures { IsTrue result ↔ Contains list.now number }
+{
+    list.binary_search(&number).is_ok()
 }
 
 /// Whether each of the numbers is one of the list's. Both are walked once, side by side.

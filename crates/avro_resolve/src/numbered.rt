@@ -1,16 +1,13 @@
-//! What two nodes say of a pair by themselves, where symbols are told by their numbers.
+//! What two nodes say of a pair by themselves, where names and symbols are told by their numbers.
 
 ghost use Rattle.std.specs.Prelude.{◌≡◌, ◌↔◌, ◌⊎◌, option_map, string_bytes, All, Contains, IsSome, IsTrue};
 ghost use Rattle.std.specs.List.Sorted.{IsStrictlyIncreasing};
-ghost use Rattle.avro_nodes.specs.Names.{last_part};
-ghost use Rattle.avro_nodes.specs.Nodes.{named_view, node_view};
-ghost use Rattle.avro_resolve.specs.Resolution.{NameMatch};
-ghost use Rattle.avro_resolve.specs.Inside.Agreeing.{Agree, TellsSameLast, TellSymbols};
+ghost use Rattle.avro_nodes.specs.Nodes.{node_view};
+ghost use Rattle.avro_resolve.specs.Inside.Agreeing.{Agree, TellsSameLast, TellsAliased, TellSymbols};
 
 use crate::agreeing::agree;
 use crate::merging::has_all;
-use crate::names::names_match;
-use avro_nodes::{Named, Node};
+use avro_nodes::Node;
 
 /// Whether each of a writer's symbols may come, where they and the reader's are told by their
 /// numbers.
@@ -23,41 +20,28 @@ fn symbols_fit(symbols: &[usize], known: &[usize], fallback: &Option<String>) ->
     fallback.is_some() || has_all(known, symbols)
 }
 
-/// Whether a writer's enum is read as the reader's, where their symbols are told by their numbers.
-fn enums_fit(
-    named: &Named,
+/// Whether the nodes agree as far as they say by themselves, where their names and symbols are told
+/// by their numbers.
+pub fn numbered_agree(
+    a: &Node,
+    b: &Node,
     symbols: &[usize],
-    wanted: &Named,
     known: &[usize],
-    same: bool,
-    fallback: &Option<String>,
+    same_last: bool,
+    aliased: bool,
 ) -> bool
-    requires symbols { IsStrictlyIncreasing symbols.now }
-    requires known { IsStrictlyIncreasing known.now }
-    requires last { IsTrue same ↔ (last_part (string_bytes named.now.name) ≡ last_part (string_bytes wanted.now.name)) }
-    ensures { IsTrue result ↔ (NameMatch (named_view named.now) (named_view wanted.now)
-        × (IsSome (option_map string_bytes fallback.now)
-        ⊎ All (Contains known.now) symbols.now)) }
-{
-    names_match(named, wanted, same) && symbols_fit(symbols, known, fallback)
-}
-
-/// Whether the nodes agree as far as they say by themselves, where their symbols are told by their
-/// numbers.
-pub fn numbered_agree(a: &Node, b: &Node, symbols: &[usize], known: &[usize], same: bool) -> bool
     requires symbols { TellSymbols symbols.now known.now (node_view a.now) (node_view b.now) }
-    requires last { TellsSameLast same (node_view a.now) (node_view b.now) }
+    requires last { TellsSameLast same_last (node_view a.now) (node_view b.now) }
+    requires aliased { TellsAliased aliased (node_view a.now) (node_view b.now) }
     ensures { IsTrue result ↔ Agree (node_view a.now) (node_view b.now) }
 {
+    let matched = same_last || aliased;
     match (a, b) {
-        (
-            Node::Enum { named, .. },
-            Node::Enum {
-                named: wanted,
-                fallback,
-                ..
-            },
-        ) => enums_fit(named, symbols, wanted, known, same, fallback),
-        _ => agree(a, b, None, same),
+        (Node::Enum { .. }, Node::Enum { fallback, .. }) => {
+            matched && symbols_fit(symbols, known, fallback)
+        }
+        (Node::Fixed { size, .. }, Node::Fixed { size: wanted, .. }) => matched && size == wanted,
+        (Node::Rec { .. }, Node::Rec { .. }) => matched,
+        _ => agree(a, b, None, same_last),
     }
 }

@@ -3,7 +3,7 @@
 
 ghost use Rattle.std.specs.Prelude.{◌≡◌, None, Some, IfOk, IfSome, OnOk};
 ghost use Rattle.avro_nodes.specs.Nodes.{named_view, node_view, nodes_view};
-ghost use Rattle.avro_resolve.specs.Inside.Numbers.{number_in, IsNumbering, Keeps, IsLastNumber, AreLastNumbers};
+ghost use Rattle.avro_resolve.specs.Inside.Numbers.{number_in, part_of, IsNumbering, Keeps, IsNameNumber, AreNameNumbers};
 
 use crate::names::named_of;
 use avro_nodes::{Node, last_part};
@@ -43,34 +43,58 @@ impl<'a> Numbers<'a> {
     }
 }
 
-/// The number of the last part of a node's name, where it has a name.
-fn last_number<'a>(numbers: &mut Numbers<'a>, node: &'a Node) -> Result<usize, AllocError>
+/// Which part of a name has a number.
+#[derive(Clone, Copy, Debug, PartialEq, Eq)]
+pub enum Part {
+    /// what stands after its last dot
+    Last,
+    /// all of it
+    Whole,
+}
+
+/// That part of the name.
+fn part_of(part: Part, name: &str) -> &str
+    ensures { result.now ≡ part_of part name.now }
+{
+    match part {
+        Part::Last => last_part(name),
+        Part::Whole => name,
+    }
+}
+
+/// The number of that part of a node's name, where it has a name.
+fn name_number<'a>(
+    numbers: &mut Numbers<'a>,
+    part: Part,
+    node: &'a Node,
+) -> Result<usize, AllocError>
     requires { IsNumbering numbers.old }
     ensures numbering { OnOk result (IsNumbering numbers.new) }
     ensures kept { OnOk result (Keeps numbers.old numbers.new) }
-    ensures there { IfOk result (λ n. IsLastNumber numbers.new n (node_view node.now)) }
+    ensures there { IfOk result (λ n. IsNameNumber numbers.new part n (node_view node.now)) }
 {
     match named_of(node) {
-        Some(named) => numbers.number(last_part(named.name.as_str())),
+        Some(named) => numbers.number(part_of(part, named.name.as_str())),
         None => Ok(0),
     }
 }
 
-/// The numbers of the last parts of the names at a schema's places.
-pub fn last_numbers<'a>(
+/// The numbers of that part of the names at a schema's places.
+pub fn name_numbers<'a>(
     alloc: Global,
     numbers: &mut Numbers<'a>,
+    part: Part,
     schema: &'a Schema,
 ) -> Result<Vec<usize>, AllocError>
     requires { IsNumbering numbers.old }
     ensures numbering { OnOk result (IsNumbering numbers.new) }
     ensures kept { OnOk result (Keeps numbers.old numbers.new) }
-    ensures there { IfOk result (λ v. AreLastNumbers numbers.new (nodes_view schema.now) v.items) }
+    ensures there { IfOk result (λ v. AreNameNumbers numbers.new part (nodes_view schema.now) v.items) }
 {
-    let mut lasts = Vec::with_capacity(alloc, schema.places() as usize)?;
+    let mut listed = Vec::with_capacity(alloc, schema.places() as usize)?;
     for place in 0..schema.places() {
-        let number = last_number(numbers, schema.node(place))?;
-        lasts.push(number)?;
+        let number = name_number(numbers, part, schema.node(place))?;
+        listed.push(number)?;
     }
-    Ok(lasts)
+    Ok(listed)
 }

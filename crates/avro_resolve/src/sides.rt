@@ -21,6 +21,10 @@ pub struct Side<'a> {
     pub lookups: Vec<Option<Lookup<'a>>>,
     /// the numbers of the last parts of the names at the places, where they are made
     pub lasts: Vec<usize>,
+    /// the numbers of the full names at the places, where they are made
+    pub full_names: Vec<usize>,
+    /// the numbers of the aliases at the places, each place's in order, where they are made
+    pub aliases: Vec<Vec<usize>>,
     /// the numbers of the symbols at the places, each place's in order, where they are made
     pub symbols: Vec<Vec<usize>>,
     /// a writer's fields at the places by the numbers of their names, where they are made
@@ -54,6 +58,22 @@ impl<'a> Side<'a> {
         ensures { slice_get self.now.lasts.items place ≡ Some result }
     {
         self.lasts[place as usize]
+    }
+
+    /// The number of the full name at a place.
+    pub fn full_name(&self, place: u32) -> usize
+        requires { place < vec_len self.now.full_names }
+        ensures { slice_get self.now.full_names.items place ≡ Some result }
+    {
+        self.full_names[place as usize]
+    }
+
+    /// The numbers of the aliases at a place, in order.
+    pub fn aliases(&self, place: u32) -> &[usize]
+        requires { place < vec_len self.now.aliases }
+        ensures { result.now ≡ list_at self.now.aliases.items place }
+    {
+        &self.aliases[place as usize]
     }
 
     /// The numbers of the symbols at a place, in order.

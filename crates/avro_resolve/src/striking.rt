@@ -16,12 +16,12 @@ use crate::field_names::field_names;
 use crate::joining::look_joined;
 use crate::lists::list_of;
 use crate::looking::{look_along, look_down, look_everywhere};
-use crate::numbers::{Numbers, last_numbers};
+use crate::numbers::{Numbers, Part, name_numbers};
 use crate::sides::Side;
 use crate::sources::all_sources;
 use crate::sweeping::sweep;
-use crate::symbols::symbol_numbers;
 use crate::table::Table;
+use crate::texts::{Texts, text_numbers};
 use avro_nodes::Node;
 use avro_schema::Schema;
 use std::alloc::{AllocError, Global};
@@ -131,11 +131,14 @@ pub fn largest_closed(alloc: Global, writer: &Schema, reader: &Schema) -> Result
     let (rows, columns) = (writer.places() as usize, reader.places() as usize);
     let mut table = Table::all(alloc, rows, columns, has_union(reader))?;
     let mut numbers = Numbers::none(alloc);
-    let rows_lasts = last_numbers(alloc, &mut numbers, writer)?;
-    let columns_lasts = last_numbers(alloc, &mut numbers, reader)?;
+    let rows_lasts = name_numbers(alloc, &mut numbers, Part::Last, writer)?;
+    let columns_lasts = name_numbers(alloc, &mut numbers, Part::Last, reader)?;
     let mut numbers = Numbers::none(alloc);
-    let rows_symbols = symbol_numbers(alloc, &mut numbers, writer)?;
-    let columns_symbols = symbol_numbers(alloc, &mut numbers, reader)?;
+    let rows_names = name_numbers(alloc, &mut numbers, Part::Whole, writer)?;
+    let columns_aliases = text_numbers(alloc, &mut numbers, Texts::Aliases, reader)?;
+    let mut numbers = Numbers::none(alloc);
+    let rows_symbols = text_numbers(alloc, &mut numbers, Texts::Symbols, writer)?;
+    let columns_symbols = text_numbers(alloc, &mut numbers, Texts::Symbols, reader)?;
     let mut numbers = Numbers::none(alloc);
     let sources = all_sources(alloc, &mut numbers, writer)?;
     let names = field_names(alloc, &mut numbers, reader)?;
@@ -143,6 +146,8 @@ pub fn largest_closed(alloc: Global, writer: &Schema, reader: &Schema) -> Result
         schema: writer,
         lookups: Vec::new(alloc),
         lasts: rows_lasts,
+        full_names: rows_names,
+        aliases: Vec::new(alloc),
         symbols: rows_symbols,
         sources,
         names: Vec::new(alloc),
@@ -153,6 +158,8 @@ pub fn largest_closed(alloc: Global, writer: &Schema, reader: &Schema) -> Result
         schema: reader,
         lookups: Vec::new(alloc),
         lasts: columns_lasts,
+        full_names: Vec::new(alloc),
+        aliases: columns_aliases,
         symbols: columns_symbols,
         sources: Vec::new(alloc),
         names,

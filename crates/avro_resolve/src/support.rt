@@ -13,6 +13,7 @@ ghost use Rattle.avro_resolve.specs.Inside.Sources.{first_by, fields_of, AreSort
 ghost use Rattle.avro_resolve.specs.Inside.Left.{left, Agreed, WithinBut, Ignores};
 
 use crate::lists::list_of;
+use crate::merging::has_number;
 use crate::numbered::numbered_agree;
 use crate::sides::Side;
 use crate::sources::{Source, source_by_numbers};
@@ -146,7 +147,15 @@ pub fn agree_at(writer: &Side, reader: &Side, i: u32, j: u32) -> bool
 {
     let (a, b) = (writer.node(i), reader.node(j));
     let same_last = writer.last(i) == reader.last(j);
-    numbered_agree(a, b, writer.symbols(i), reader.symbols(j), same_last)
+    let aliased = has_number(reader.aliases(j), writer.full_name(i));
+    numbered_agree(
+        a,
+        b,
+        writer.symbols(i),
+        reader.symbols(j),
+        same_last,
+        aliased,
+    )
 }
 
 /// Whether what is left supports the pair of these places, whose nodes agree.

@@ -46,7 +46,7 @@ pub struct Walk {
 /// The most pairs that are opened, one after the other.
 const MAX_VISITS: u128 = 250_000;
 
-/// The most names and symbols that are looked up, once a thousand pairs were opened.
+/// The most names, aliases and symbols that are looked up, once a thousand pairs were opened.
 const MAX_LOOKS: u64 = 4_000_000;
 
 /// Whether so much was done that striking out takes less: each pair is looked at once there, and
@@ -96,9 +96,23 @@ pub fn open_pair(
     Ok(())
 }
 
+/// How many aliases a writer's name is compared with at most: none where the last parts of the
+/// names are the same.
+fn aliases_compared(a: &Node, b: &Node, same_last: bool) -> u64 {
+    if same_last {
+        return 0;
+    }
+    match (a, b) {
+        (Node::Enum { .. }, Node::Enum { named, .. }) => named.aliases.len() as u64,
+        (Node::Fixed { .. }, Node::Fixed { named, .. }) => named.aliases.len() as u64,
+        (Node::Rec { .. }, Node::Rec { named, .. }) => named.aliases.len() as u64,
+        _ => 0,
+    }
+}
+
 /// How many symbols of a writer's enum are looked up at most: none where the names can't match, or
 /// where the reader's default excuses them.
-fn compared(a: &Node, b: &Node, same_last: bool) -> u64 {
+fn symbols_compared(a: &Node, b: &Node, same_last: bool) -> u64 {
     match (a, b) {
         (
             Node::Enum { symbols, .. },
@@ -113,8 +127,8 @@ fn compared(a: &Node, b: &Node, same_last: bool) -> u64 {
 }
 
 /// Whether the nodes of a pair agree. Those that do are remembered, so that a pair that is opened
-/// again after it was taken back isn't compared again: it may have many symbols. Those that are
-/// looked up are counted.
+/// again after it was taken back isn't compared again: it may have many aliases or symbols. Those
+/// that are compared are counted.
 pub fn agree_once(
     writer: &Side,
     reader: &Side,
@@ -141,7 +155,9 @@ pub fn agree_once(
         return Ok(true);
     }
     let same = same_last(a, b);
-    *looks = looks.saturating_add(compared(a, b, same));
+    let aliases = aliases_compared(a, b, same);
+    let symbols = symbols_compared(a, b, same);
+    *looks = looks.saturating_add(aliases).saturating_add(symbols);
     if !agree(a, b, reader.lookup(at.1, b), same) {
         return Ok(false);
     }

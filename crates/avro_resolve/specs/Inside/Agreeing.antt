@@ -1,5 +1,5 @@
 -- What two nodes say of a pair by themselves.
-use Rattle.std.specs.Prelude.{◌≡◌, ◌⊎◌, ◌↔◌, ℕ, List, [], Bool, Option, Some, None, IsSome, IsTrue, MatchOption, All, Contains}
+use Rattle.std.specs.Prelude.{◌≡◌, ◌⊎◌, ◌↔◌, ℕ, List, [], Bool, Option, Some, None, IsSome, IsTrue, MatchOption, All, Contains, option_map, unwrap_or}
 use Rattle.std.specs.List.Sorted.{IsStrictlyIncreasing}
 use Rattle.avro_nodes.specs.Names.{last_part}
 use Rattle.avro_nodes.specs.Nodes.{NamedView, NodeView, primitive, array, mapping, union, enumeration, fixed, rec}
@@ -31,6 +31,14 @@ named_of (rec named fields _) = Some named
 -- the test says whether the names of two nodes, where both have names, have one last part
 abbrev pub TellsSameLast : Bool → NodeView → NodeView → Type 0
 TellsSameLast same a b = MatchOption (named_of a) (Unit {0}) (λ n. MatchOption (named_of b) (Unit {0}) (λ m. IsTrue same ↔ (last_part n.name ≡ last_part m.name)))
+
+-- the test says whether the full name of the first node, where both have names, is an alias of the second
+abbrev pub TellsAliased : Bool → NodeView → NodeView → Type 0
+TellsAliased aliased a b = MatchOption (named_of a) (Unit {0}) (λ n. MatchOption (named_of b) (Unit {0}) (λ m. IsTrue aliased ↔ Contains m.aliases n.name))
+
+-- the aliases of a node that has names, and none of another
+abbrev pub aliases_of : NodeView → List (List ℕ)
+aliases_of a = unwrap_or (option_map (λ n. n.aliases) (named_of a)) []
 
 -- the symbols of an enum, and none of another node
 abbrev pub symbols_of : NodeView → List (List ℕ)

@@ -7,8 +7,12 @@ use Rattle.std.specs.Str.{bytes_eq}
 use Rattle.avro_nodes.specs.Names.{last_part}
 use Rattle.avro_nodes.specs.Nodes.{NodeView}
 use Rattle.avro_resolve.specs.declared.numbers.Numbers.{Numbers}
+use Rattle.avro_resolve.specs.declared.numbers.Part.{Part}
+use Rattle.avro_resolve.specs.declared.numbers.Part.TheVariants.{Last, Whole}
 use Rattle.avro_resolve.specs.declared.sides.Side.{Side}
-use Rattle.avro_resolve.specs.Inside.Agreeing.{named_of, symbols_of}
+use Rattle.avro_resolve.specs.declared.texts.Texts.{Texts}
+use Rattle.avro_resolve.specs.declared.texts.Texts.TheVariants.{Symbols, Aliases}
+use Rattle.avro_resolve.specs.Inside.Agreeing.{named_of, aliases_of, symbols_of}
 use Rattle.avro_resolve.specs.Inside.Lists.{list_at}
 use Rattle.avro_resolve.specs.Inside.Sides.{nodes_of}
 
@@ -25,14 +29,19 @@ pub record IsNumbering (t : Numbers) : Type 0 where
 unfoldable pub Keeps : Numbers → Numbers → Type 0
 Keeps t u = (name : List ℕ) (n : ℕ) → number_in t name ≡ Some n → number_in u name ≡ Some n
 
--- the number of the last part of a node's name, where it has a name
-abbrev pub IsLastNumber : Numbers → ℕ → NodeView → Type 0
-IsLastNumber t n a = MatchOption (named_of a) (Unit {0}) (λ m. number_in t (last_part m.name) ≡ Some n)
+-- the part of a name that has a number: what stands after its last dot, or all of it
+abbrev pub part_of : Part → List ℕ → List ℕ
+part_of Last name = last_part name
+part_of Whole name = name
+
+-- the number of that part of a node's name, where it has a name
+abbrev pub IsNameNumber : Numbers → Part → ℕ → NodeView → Type 0
+IsNameNumber t part n a = MatchOption (named_of a) (Unit {0}) (λ m. number_in t (part_of part m.name) ≡ Some n)
 
 -- the same at each place
-pub record AreLastNumbers (t : Numbers) (nodes : List NodeView) (numbers : List ℕ) : Type 0 where
+pub record AreNameNumbers (t : Numbers) (part : Part) (nodes : List NodeView) (numbers : List ℕ) : Type 0 where
   pub long : length numbers ≡ length nodes
-  pub each : (place n : ℕ) (a : NodeView) → slice_get numbers place ≡ Some n → slice_get nodes place ≡ Some a → IsLastNumber t n a
+  pub each : (place n : ℕ) (a : NodeView) → slice_get numbers place ≡ Some n → slice_get nodes place ≡ Some a → IsNameNumber t part n a
 
 -- the list has the number of the name
 abbrev pub HasNumberOf : Numbers → List ℕ → List ℕ → Type 0
@@ -48,18 +57,28 @@ pub record AreNumbersOf (t : Numbers) (names : List (List ℕ)) (numbers : List 
   pub all : All (HasNumberOf t numbers) names
   pub only : All (NumbersOne t names) numbers
 
--- at each place those of the symbols of the node there
-pub record AreSymbolNumbers (t : Numbers) (nodes : List NodeView) (lists : List (Vec ℕ Global)) : Type 0 where
-  pub long : length lists ≡ length nodes
-  pub each : (place : ℕ) (a : NodeView) → slice_get nodes place ≡ Some a → AreNumbersOf t (symbols_of a) (list_at lists place)
+-- the texts of a node that have numbers
+abbrev pub texts_of : Texts → NodeView → List (List ℕ)
+texts_of Symbols a = symbols_of a
+texts_of Aliases a = aliases_of a
 
--- both sides have their numbers from one numbering of the names' last parts, and from one of the symbols
+-- at each place those of the texts of the node there
+pub record AreTextNumbers (t : Numbers) (texts : Texts) (nodes : List NodeView) (lists : List (Vec ℕ Global)) : Type 0 where
+  pub long : length lists ≡ length nodes
+  pub each : (place : ℕ) (a : NodeView) → slice_get nodes place ≡ Some a → AreNumbersOf t (texts_of texts a) (list_at lists place)
+
+-- both sides have their numbers from one numbering of the names' last parts, from one of the writer's names and the reader's aliases, and from one
+-- of the symbols
 pub record AreNumbered (writer reader : Side) : Type 0 where
   pub numbers : Numbers
   pub numbering : IsNumbering numbers
-  pub rows : AreLastNumbers numbers (nodes_of writer) writer.lasts.items
-  pub columns : AreLastNumbers numbers (nodes_of reader) reader.lasts.items
+  pub rows : AreNameNumbers numbers Last (nodes_of writer) writer.lasts.items
+  pub columns : AreNameNumbers numbers Last (nodes_of reader) reader.lasts.items
+  pub names : Numbers
+  pub names_numbering : IsNumbering names
+  pub row_names : AreNameNumbers names Whole (nodes_of writer) writer.full_names.items
+  pub column_aliases : AreTextNumbers names Aliases (nodes_of reader) reader.aliases.items
   pub symbols : Numbers
   pub symbols_numbering : IsNumbering symbols
-  pub row_symbols : AreSymbolNumbers symbols (nodes_of writer) writer.symbols.items
-  pub column_symbols : AreSymbolNumbers symbols (nodes_of reader) reader.symbols.items
+  pub row_symbols : AreTextNumbers symbols Symbols (nodes_of writer) writer.symbols.items
+  pub column_symbols : AreTextNumbers symbols Symbols (nodes_of reader) reader.symbols.items

@@ -15,7 +15,7 @@ pub ask-requires-clause-writer : goal.ask-requires-clause-writer
 ask-requires-clause-writer c = record {
   whole = is_whole (nodes_view c.args.writer.now) c.places-rows.ensures.schema;
   lookups = c.in_ok-lookups.ensures;
-  field_lists = rw c.new-6.ensures.items (no_lists _);
+  field_lists = rw c.new-8.ensures.items (no_lists _);
   few = omega (arith, c.places-rows.ensures.places, c.places-rows.ensures.few);
 }
 
@@ -23,7 +23,7 @@ pub ask-requires-clause-reader : goal.ask-requires-clause-reader
 ask-requires-clause-reader c = record {
   whole = is_whole (nodes_view c.args.reader.now) c.places-columns.ensures.schema;
   lookups = c.in_ok-lookups-2.ensures;
-  field_lists = rw c.new-10.ensures.items (no_lists _);
+  field_lists = rw c.new-14.ensures.items (no_lists _);
   few = omega (arith, c.places-columns.ensures.places, c.places-columns.ensures.few);
 }
 

@@ -4,10 +4,10 @@ use Rattle.avro_nodes.specs.Nodes.{node_view, nodes_view}
 use Rattle.avro_resolve.proofs.FieldListLemmas.{no_lists}
 use Rattle.avro_resolve.proofs.Denoted.{is_whole}
 use Rattle.avro_resolve.proofs.LookupLemmas.{no_lookups}
-use Rattle.avro_resolve.proofs.NumberLemmas.{kept_lasts}
 use Rattle.avro_resolve.specs.Inside.Lists.{list_at}
+use Rattle.avro_resolve.proofs.NumberLemmas.{kept_names}
 use Rattle.avro_resolve.proofs.SourceLemmas.{kept_sources}
-use Rattle.avro_resolve.proofs.SymbolLemmas.{kept_symbols}
+use Rattle.avro_resolve.proofs.TextLemmas.{kept_texts}
 use Rattle.avro_resolve.proofs.Strikes.{all_left}
 use Rattle.avro_resolve.proofs.striking.largest_closed.Goals as goal
 
@@ -23,27 +23,31 @@ pub strike_out-requires-clause-writer : goal.strike_out-requires-clause-writer
 strike_out-requires-clause-writer c = record {
   whole = is_whole (nodes_view c.args.writer.now) c.places.ensures.schema;
   lookups = rw c.new.ensures.items (no_lookups _);
-  field_lists = rw c.new-3.ensures.items (no_lists _);
+  field_lists = rw c.new-4.ensures.items (no_lists _);
   few = omega (arith, c.places.ensures.places, c.places.ensures.few);
 }
 
 pub strike_out-requires-clause-reader : goal.strike_out-requires-clause-reader
 strike_out-requires-clause-reader c = record {
   whole = is_whole (nodes_view c.args.reader.now) c.places-2.ensures.schema;
-  lookups = rw c.new-4.ensures.items (no_lookups _);
+  lookups = rw c.new-5.ensures.items (no_lookups _);
   field_lists = c.in_ok-lists.ensures;
   few = omega (arith, c.places-2.ensures.places, c.places-2.ensures.few);
 }
 
 pub strike_out-requires-clause-numbers : goal.strike_out-requires-clause-numbers
 strike_out-requires-clause-numbers c = record {
-  numbers = c.last_numbers-2.new.numbers;
+  numbers = c.name_numbers-2.new.numbers;
   numbering = c.in_ok-columns_lasts.ensures.numbering;
-  rows = kept_lasts c.last_numbers.new.numbers c.last_numbers-2.new.numbers (nodes_view c.args.writer.now) c.in_ok-rows_lasts.rows_lasts.items c.in_ok-columns_lasts.ensures.kept c.in_ok-rows_lasts.ensures.there;
+  rows = kept_names c.name_numbers.new.numbers c.name_numbers-2.new.numbers _ (nodes_view c.args.writer.now) c.in_ok-rows_lasts.rows_lasts.items c.in_ok-columns_lasts.ensures.kept c.in_ok-rows_lasts.ensures.there;
   columns = c.in_ok-columns_lasts.ensures.there;
-  symbols = c.symbol_numbers-2.new.numbers;
+  names = c.text_numbers.new.numbers;
+  names_numbering = c.in_ok-columns_aliases.ensures.numbering;
+  row_names = kept_names c.name_numbers-3.new.numbers c.text_numbers.new.numbers _ (nodes_view c.args.writer.now) c.in_ok-rows_names.rows_names.items c.in_ok-columns_aliases.ensures.kept c.in_ok-rows_names.ensures.there;
+  column_aliases = c.in_ok-columns_aliases.ensures.there;
+  symbols = c.text_numbers-3.new.numbers;
   symbols_numbering = c.in_ok-columns_symbols.ensures.numbering;
-  row_symbols = kept_symbols c.symbol_numbers.new.numbers c.symbol_numbers-2.new.numbers c.in_ok-columns_symbols.ensures.kept (nodes_view c.args.writer.now) c.in_ok-rows_symbols.rows_symbols.items c.in_ok-rows_symbols.ensures.there;
+  row_symbols = kept_texts c.text_numbers-2.new.numbers c.text_numbers-3.new.numbers c.in_ok-columns_symbols.ensures.kept _ (nodes_view c.args.writer.now) c.in_ok-rows_symbols.rows_symbols.items c.in_ok-rows_symbols.ensures.there;
   column_symbols = c.in_ok-columns_symbols.ensures.there;
 }
 

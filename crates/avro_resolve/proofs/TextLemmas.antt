@@ -1,6 +1,6 @@
--- The symbols of enums by their numbers, and what the numbers say of them.
+-- The symbols of enums and the aliases of types by their numbers, and what the numbers say of them.
 use Rattle.std.proofs.Common.{eqb, nat_cmp, ◌≡◌, ◌⊎◌, inl, inr, ℕ, zero, suc, ◌+◌, ◌<◌, List, [], ◌∷◌, ◌++◌, length, take, take_all, get_or, Some, String, Global, string_bytes, refl, sym, ap, subst, ◌∙◌, arith, length-append}
-use Rattle.std.specs.Prelude.{slice_get, IsTrue, Bool, All, Contains, Vec, ◌↔◌, ◌≤◌}
+use Rattle.std.specs.Prelude.{slice_get, option_map, unwrap_or, MatchOption, Option, None, IsTrue, Bool, All, Contains, Vec, ◌↔◌, ◌≤◌}
 use Rattle.std.specs.List.{dedup}
 use Rattle.std.specs.List.Sorted.{IsPermutation, IsSorted}
 use Rattle.std.proofs.lemmas.List.Filters.{All-dedup}
@@ -12,13 +12,16 @@ use Rattle.std.proofs.lemmas.List.{length-map}
 use Rattle.std.proofs.lemmas.Option.{same_Some, slice_get_within}
 use Rattle.std.proofs.lemmas.List.Elements.{All-more, All-push, All-weaker, All-map, All-contains, Contains-push, Contains-append_left}
 use Rattle.std.proofs.lemmas.List.Sorted.{All-permutation, Contains-permutation}
-use Rattle.avro_nodes.specs.Nodes.{NodeView, texts_view}
+use Rattle.avro_nodes.specs.Nodes.{NamedView, NodeView, texts_view}
 use Rattle.avro_resolve.specs.declared.numbers.Numbers.{Numbers}
-use Rattle.avro_resolve.specs.Inside.Agreeing.{symbols_of, TellSymbols}
+use Rattle.avro_resolve.specs.declared.numbers.Part.TheVariants.{Whole}
+use Rattle.avro_resolve.specs.declared.texts.Texts.{Texts}
+use Rattle.avro_resolve.specs.declared.texts.Texts.TheVariants.{Symbols, Aliases}
+use Rattle.avro_resolve.specs.Inside.Agreeing.{named_of, aliases_of, symbols_of, TellsAliased, TellSymbols}
 use Rattle.avro_resolve.specs.Inside.Lists.{list_at}
-use Rattle.avro_resolve.specs.Inside.Numbers.{number_in, IsNumbering, Keeps, HasNumberOf, NumbersOne, AreNumbersOf, AreSymbolNumbers}
+use Rattle.avro_resolve.specs.Inside.Numbers.{number_in, texts_of, IsNumbering, Keeps, HasNumberOf, NumbersOne, AreNameNumbers, AreNumbersOf, AreTextNumbers}
 
--- ---- one more symbol has its number
+-- ---- one more text has its number
 
 has_more : (t u : Numbers) → Keeps t u → (numbers : List ℕ) (n : ℕ) (name : List ℕ) → HasNumberOf t numbers name → HasNumberOf u (numbers ++ n ∷ []) name
 unfolding Keeps
@@ -32,7 +35,7 @@ one_kept : (t u : Numbers) → Keeps t u → (names : List (List ℕ)) (n : ℕ)
 unfolding Keeps
 one_kept t u keeps names n h = (h.0, h.1, keeps h.0 n h.2)
 
--- the first symbols have their numbers, and no other number is there
+-- the first texts have their numbers, and no other number is there
 abbrev pub AllNumbered : Numbers → List (String Global) → ℕ → List ℕ → Type 0
 AllNumbered t symbols i numbers = All (λ s. HasNumberOf t numbers (string_bytes s)) (take i symbols)
 
@@ -63,7 +66,7 @@ all_numbered t symbols i numbers sorted kept l moved rise once all only =
       only = All-dedup eqb (NumbersOne t (texts_view symbols)) sorted (All-permutation (NumbersOne t (texts_view symbols)) numbers sorted moved only);
     })
 
--- ---- the symbols of a schema's nodes
+-- ---- the texts of a schema's nodes
 
 pub kept_numbers : (t u : Numbers) → Keeps t u → (names : List (List ℕ)) (numbers : List ℕ) → AreNumbersOf t names numbers → AreNumbersOf u names numbers
 kept_numbers t u keeps names numbers h = record {
@@ -72,8 +75,8 @@ kept_numbers t u keeps names numbers h = record {
   only = All-weaker (NumbersOne t names) (NumbersOne u names) (one_kept t u keeps names) numbers h.only;
 }
 
-pub kept_symbols : (t u : Numbers) → Keeps t u → (nodes : List NodeView) (lists : List (Vec ℕ Global)) → AreSymbolNumbers t nodes lists → AreSymbolNumbers u nodes lists
-kept_symbols t u keeps nodes lists h = record { long = h.long; each = λ place a e. kept_numbers t u keeps (symbols_of a) (list_at lists place) (h.each place a e) }
+pub kept_texts : (t u : Numbers) → Keeps t u → (texts : Texts) (nodes : List NodeView) (lists : List (Vec ℕ Global)) → AreTextNumbers t texts nodes lists → AreTextNumbers u texts nodes lists
+kept_texts t u keeps texts nodes lists h = record { long = h.long; each = λ place a e. kept_numbers t u keeps (texts_of texts a) (list_at lists place) (h.each place a e) }
 
 list_before : (xs : List (Vec ℕ Global)) (v : Vec ℕ Global) (p : ℕ) → p < length xs → list_at (xs ++ v ∷ []) p ≡ list_at xs p
 unfolding list_at
@@ -87,24 +90,24 @@ list_last [] v = refl
 list_last (x ∷ xs) v = list_last xs v
 
 -- the lists so far are those of the nodes before a place
-abbrev pub EachList : Numbers → List NodeView → List (Vec ℕ Global) → Type 0
-EachList t nodes lists = (place : ℕ) (a : NodeView) → place < length lists → slice_get nodes place ≡ Some a → AreNumbersOf t (symbols_of a) (list_at lists place)
+abbrev pub EachList : Numbers → Texts → List NodeView → List (Vec ℕ Global) → Type 0
+EachList t texts nodes lists = (place : ℕ) (a : NodeView) → place < length lists → slice_get nodes place ≡ Some a → AreNumbersOf t (texts_of texts a) (list_at lists place)
 
-pub no_list : (t : Numbers) (nodes : List NodeView) → EachList t nodes []
-no_list t nodes place a l e = absurd (omega arith)
+pub no_list : (t : Numbers) (texts : Texts) (nodes : List NodeView) → EachList t texts nodes []
+no_list t texts nodes place a l e = absurd (omega arith)
 
-pub list_more : (t u : Numbers) (nodes : List NodeView) (lists : List (Vec ℕ Global)) (v : Vec ℕ Global) (a : NodeView) → Keeps t u → EachList t nodes lists → slice_get nodes (length lists) ≡ Some a → AreNumbersOf u (symbols_of a) v.items
-    → EachList u nodes (lists ++ v ∷ [])
-list_more t u nodes lists v a keeps so_far here is place b l e = elim (cases_lt place (length lists)) [
-  | inl g ↦ subst (λ (xs : List ℕ). AreNumbersOf u (symbols_of b) xs) (sym (list_before lists v place g)) (kept_numbers t u keeps (symbols_of b) (list_at lists place) (so_far place b g e))
+pub list_more : (t u : Numbers) (texts : Texts) (nodes : List NodeView) (lists : List (Vec ℕ Global)) (v : Vec ℕ Global) (a : NodeView) → Keeps t u → EachList t texts nodes lists → slice_get nodes (length lists) ≡ Some a → AreNumbersOf u (texts_of texts a) v.items
+    → EachList u texts nodes (lists ++ v ∷ [])
+list_more t u texts nodes lists v a keeps so_far here is place b l e = elim (cases_lt place (length lists)) [
+  | inl g ↦ subst (λ (xs : List ℕ). AreNumbersOf u (texts_of texts b) xs) (sym (list_before lists v place g)) (kept_numbers t u keeps (texts_of texts b) (list_at lists place) (so_far place b g e))
   | inr g ↦ (
       let same : place ≡ length lists = omega (arith, length-append lists (v ∷ [])) in
       let one : a ≡ b = same_Some a b (sym here ∙ ap (slice_get nodes) (sym same) ∙ e) in
-      subst (λ (x : NodeView). AreNumbersOf u (symbols_of x) (list_at (lists ++ v ∷ []) place)) one (subst (λ (xs : List ℕ). AreNumbersOf u (symbols_of a) xs) (sym (ap (list_at (lists ++ v ∷ [])) same ∙ list_last lists v)) is))
+      subst (λ (x : NodeView). AreNumbersOf u (texts_of texts x) (list_at (lists ++ v ∷ []) place)) one (subst (λ (xs : List ℕ). AreNumbersOf u (texts_of texts a) xs) (sym (ap (list_at (lists ++ v ∷ [])) same ∙ list_last lists v)) is))
 ]
 
-pub all_listed : (t : Numbers) (nodes : List NodeView) (lists : List (Vec ℕ Global)) → length lists ≡ length nodes → EachList t nodes lists → AreSymbolNumbers t nodes lists
-all_listed t nodes lists long so_far = record { long = long; each = λ place a e. so_far place a (subst (λ (n : ℕ). place < n) (sym long) (slice_get_within nodes place a e)) e }
+pub all_listed : (t : Numbers) (texts : Texts) (nodes : List NodeView) (lists : List (Vec ℕ Global)) → length lists ≡ length nodes → EachList t texts nodes lists → AreTextNumbers t texts nodes lists
+all_listed t texts nodes lists long so_far = record { long = long; each = λ place a e. so_far place a (subst (λ (n : ℕ). place < n) (sym long) (slice_get_within nodes place a e)) e }
 
 -- ---- what the numbers say
 
@@ -126,16 +129,34 @@ module _ (t : Numbers) (is : IsNumbering t) (symbols known : List (List ℕ)) (n
   pub told : All (Contains others) numbers ↔ All (Contains known) symbols
   told = (known_if, numbered_if)
 
-pub tell_symbols : (t : Numbers) → IsNumbering t → (w r : List NodeView) (xs ys : List (Vec ℕ Global)) → AreSymbolNumbers t w xs → AreSymbolNumbers t r ys → (i j : ℕ) (a b : NodeView) → slice_get w i ≡ Some a → slice_get r j ≡ Some b
+pub tell_symbols : (t : Numbers) → IsNumbering t → (w r : List NodeView) (xs ys : List (Vec ℕ Global)) → AreTextNumbers t Symbols w xs → AreTextNumbers t Symbols r ys → (i j : ℕ) (a b : NodeView) → slice_get w i ≡ Some a → slice_get r j ≡ Some b
     → (symbols known : List ℕ) → symbols ≡ list_at xs i → known ≡ list_at ys j → TellSymbols symbols known a b
 tell_symbols t is w r xs ys rows columns i j a b ea eb symbols known es ek =
     let row = subst (λ (ns : List ℕ). AreNumbersOf t (symbols_of a) ns) (sym es) (rows.each i a ea) in
     let column = subst (λ (ns : List ℕ). AreNumbersOf t (symbols_of b) ns) (sym ek) (columns.each j b eb) in
     record { symbols_ordered = row.ordered; known_ordered = column.ordered; tell = told t is (symbols_of a) (symbols_of b) symbols known row column }
 
--- a test that rests on one of two facts that say the same rests on the other
-pub told_by : (r : Bool) (N F X Y : Type 0) → IsTrue r ↔ (N × (F ⊎ X)) → X ↔ Y → IsTrue r ↔ (N × (F ⊎ Y))
-told_by r N F X Y h same = (
-  (λ yes. let (n, o) = h.0 yes in (n, elim o [ inl f ↦ inl f | inr x ↦ inr (same.0 x) ])),
-  (λ (n, o). h.1 (n, elim o [ inl f ↦ inl f | inr y ↦ inr (same.1 y) ])),
+aliased_at : (t : Numbers) → IsNumbering t → (n : ℕ) (numbers : List ℕ) (aliased : Bool) → IsTrue aliased ↔ Contains numbers n → (x y : Option NamedView) → MatchOption x (Unit {0}) (λ k. number_in t k.name ≡ Some n) → AreNumbersOf t (unwrap_or (option_map (λ k. k.aliases) y) []) numbers
+    → MatchOption x (Unit {0}) (λ k. MatchOption y (Unit {0}) (λ l. IsTrue aliased ↔ Contains l.aliases k.name))
+aliased_at t is n numbers aliased test None y g h = tt
+aliased_at t is n numbers aliased test (Some k) None g h = tt
+aliased_at t is n numbers aliased test (Some k) (Some l) g h = (
+  (λ yes.
+      let back = All-contains (NumbersOne t l.aliases) numbers n h.only (test.0 yes) in
+      subst (λ (x : List ℕ). Contains l.aliases x) (is.differ back.0 k.name n back.2 g) back.1),
+  (λ own.
+      let there = All-contains (HasNumberOf t numbers) l.aliases k.name h.all own in
+      test.1 (subst (λ (x : ℕ). Contains numbers x) (same_Some there.0 n (sym there.2 ∙ g)) there.1)),
+)
+
+pub tells_aliased : (t : Numbers) → IsNumbering t → (w r : List NodeView) (xs : List ℕ) (ys : List (Vec ℕ Global)) → AreNameNumbers t Whole w xs → AreTextNumbers t Aliases r ys → (i j n : ℕ) (a b : NodeView) → slice_get w i ≡ Some a → slice_get r j ≡ Some b
+    → slice_get xs i ≡ Some n → (numbers : List ℕ) → numbers ≡ list_at ys j → (aliased : Bool) → IsTrue aliased ↔ Contains numbers n → TellsAliased aliased a b
+tells_aliased t is w r xs ys rows columns i j n a b ea eb en numbers eq aliased test =
+    aliased_at t is n numbers aliased test (named_of a) (named_of b) (rows.each i n a en ea) (subst (λ (ns : List ℕ). AreNumbersOf t (aliases_of b) ns) (sym eq) (columns.each j b eb))
+
+-- beside a fact that holds, a test that rests on one of two facts that say the same rests on the other
+pub told_by : (r : Bool) (N F X Y : Type 0) → N → IsTrue r ↔ (F ⊎ X) → X ↔ Y → IsTrue r ↔ (N × (F ⊎ Y))
+told_by r N F X Y n h same = (
+  (λ yes. (n, elim (h.0 yes) [ inl f ↦ inl f | inr x ↦ inr (same.0 x) ])),
+  (λ (_, o). h.1 (elim o [ inl f ↦ inl f | inr y ↦ inr (same.1 y) ])),
 )
