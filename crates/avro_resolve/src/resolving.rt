@@ -40,7 +40,8 @@ pub fn resolves_plain(alloc: Global, writer: &Schema, reader: &Schema) -> Result
 /// Resolution), by opening the pair of the roots, and how many pairs were opened: at most the square
 /// of the number of those that the roots reach. A small number comes with a small witness: a closed
 /// set, or a list of pairs that refutes the roots. Where more than a thousand pairs would be open at
-/// once, or more than a million be opened in all, the answer comes by striking out.
+/// once, or 250,000 have been opened, or four million names, aliases and symbols been looked up after
+/// the first thousand, the answer comes by striking out.
 ///
 /// # Errors
 ///
