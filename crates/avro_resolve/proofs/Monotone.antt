@@ -121,17 +121,3 @@ module _ (R S : Pairs) (within : Within R S) where
   pub supports_within : (w r : List NodeView) (i j : ℕ) → Supports w r R i j → Supports w r S i j
   unfolding Supports
   supports_within w r i j h = both_within i j (slice_get w i) (slice_get r j) h
-
--- ---- the pairs that a pair of places asks for
-
-module _ (w r : List NodeView) (P Q : ℕ → Type 0) (R S : Pairs) (near : WithinAmong P Q R S) (i j : ℕ) (li : P i) (lj : Q j) where
-  both_near : (x y : Option NodeView) → ((a : NodeView) → x ≡ Some a → NamesAll P a) → ((b : NodeView) → y ≡ Some b → NamesAll Q b)
-      → MatchOption x ⊥ (λ a. MatchOption y ⊥ (λ b. Fits R i j a b)) → MatchOption x ⊥ (λ a. MatchOption y ⊥ (λ b. Fits S i j a b))
-  both_near None y e f h = h
-  both_near (Some a) None e f h = h
-  both_near (Some a) (Some b) e f h = fits_more P Q R S near i j a b li lj (e a refl) (f b refl) h
-
-  -- where each pair of the one set that the places may ask for is one of the other's, that one supports the places too
-  pub supports_near : ((a : NodeView) → slice_get w i ≡ Some a → NamesAll P a) → ((b : NodeView) → slice_get r j ≡ Some b → NamesAll Q b) → Supports w r R i j → Supports w r S i j
-  unfolding Supports
-  supports_near e f h = both_near (slice_get w i) (slice_get r j) e f h

@@ -1,5 +1,5 @@
 -- The symbols of enums and the aliases of types by their numbers, and what the numbers say of them.
-use Rattle.std.proofs.Common.{eqb, nat_cmp, ◌≡◌, ◌⊎◌, inl, inr, ℕ, zero, suc, ◌+◌, ◌<◌, List, [], ◌∷◌, ◌++◌, length, take, take_all, get_or, Some, String, Global, string_bytes, refl, sym, ap, subst, ◌∙◌, arith, length-append}
+use Rattle.std.proofs.Common.{eqb, nat_cmp, ◌≡◌, ◌⊎◌, inl, inr, ℕ, ◌+◌, ◌<◌, List, [], ◌∷◌, ◌++◌, length, take, take_all, get_or, Some, String, Global, string_bytes, sym, ap, subst, ◌∙◌}
 use Rattle.std.specs.Prelude.{slice_get, option_map, unwrap_or, MatchOption, Option, None, IsTrue, Bool, All, Contains, Vec, ◌↔◌, ◌≤◌}
 use Rattle.std.specs.List.{dedup}
 use Rattle.std.specs.List.Sorted.{IsPermutation, IsSorted}
@@ -7,9 +7,8 @@ use Rattle.std.proofs.lemmas.List.Filters.{All-dedup}
 use Rattle.std.proofs.lemmas.List.Kept.{Contains-dedup_nat}
 use Rattle.std.proofs.lemmas.Map.Keys.{IsStrictlyIncreasing-dedup}
 use Rattle.std.proofs.Math.ListN.{get_or-map}
-use Rattle.std.proofs.lemmas.Bool.{cases_lt}
 use Rattle.std.proofs.lemmas.List.{length-map}
-use Rattle.std.proofs.lemmas.Option.{same_Some, slice_get_within}
+use Rattle.std.proofs.lemmas.Option.{same_Some}
 use Rattle.std.proofs.lemmas.List.Elements.{All-more, All-push, All-weaker, All-map, All-contains, Contains-push, Contains-append_left}
 use Rattle.std.proofs.lemmas.List.Sorted.{All-permutation, Contains-permutation}
 use Rattle.avro_nodes.specs.Nodes.{NamedView, NodeView, texts_view}
@@ -78,36 +77,12 @@ kept_numbers t u keeps names numbers h = record {
 pub kept_texts : (t u : Numbers) → Keeps t u → (texts : Texts) (nodes : List NodeView) (lists : List (Vec ℕ Global)) → AreTextNumbers t texts nodes lists → AreTextNumbers u texts nodes lists
 kept_texts t u keeps texts nodes lists h = record { long = h.long; each = λ place a e. kept_numbers t u keeps (texts_of texts a) (list_at lists place) (h.each place a e) }
 
-list_before : (xs : List (Vec ℕ Global)) (v : Vec ℕ Global) (p : ℕ) → p < length xs → list_at (xs ++ v ∷ []) p ≡ list_at xs p
-unfolding list_at
-list_before [] v p l = absurd (omega arith)
-list_before (x ∷ xs) v zero l = refl
-list_before (x ∷ xs) v (suc p) l = list_before xs v p (omega arith)
+-- the numbers of the node's texts
+abbrev pub NumberTexts : Texts → Numbers → NodeView → List ℕ → Type 0
+NumberTexts texts t a numbers = AreNumbersOf t (texts_of texts a) numbers
 
-list_last : (xs : List (Vec ℕ Global)) (v : Vec ℕ Global) → list_at (xs ++ v ∷ []) (length xs) ≡ v.items
-unfolding list_at
-list_last [] v = refl
-list_last (x ∷ xs) v = list_last xs v
-
--- the lists so far are those of the nodes before a place
-abbrev pub EachList : Numbers → Texts → List NodeView → List (Vec ℕ Global) → Type 0
-EachList t texts nodes lists = (place : ℕ) (a : NodeView) → place < length lists → slice_get nodes place ≡ Some a → AreNumbersOf t (texts_of texts a) (list_at lists place)
-
-pub no_list : (t : Numbers) (texts : Texts) (nodes : List NodeView) → EachList t texts nodes []
-no_list t texts nodes place a l e = absurd (omega arith)
-
-pub list_more : (t u : Numbers) (texts : Texts) (nodes : List NodeView) (lists : List (Vec ℕ Global)) (v : Vec ℕ Global) (a : NodeView) → Keeps t u → EachList t texts nodes lists → slice_get nodes (length lists) ≡ Some a → AreNumbersOf u (texts_of texts a) v.items
-    → EachList u texts nodes (lists ++ v ∷ [])
-list_more t u texts nodes lists v a keeps so_far here is place b l e = elim (cases_lt place (length lists)) [
-  | inl g ↦ subst (λ (xs : List ℕ). AreNumbersOf u (texts_of texts b) xs) (sym (list_before lists v place g)) (kept_numbers t u keeps (texts_of texts b) (list_at lists place) (so_far place b g e))
-  | inr g ↦ (
-      let same : place ≡ length lists = omega (arith, length-append lists (v ∷ [])) in
-      let one : a ≡ b = same_Some a b (sym here ∙ ap (slice_get nodes) (sym same) ∙ e) in
-      subst (λ (x : NodeView). AreNumbersOf u (texts_of texts x) (list_at (lists ++ v ∷ []) place)) one (subst (λ (xs : List ℕ). AreNumbersOf u (texts_of texts a) xs) (sym (ap (list_at (lists ++ v ∷ [])) same ∙ list_last lists v)) is))
-]
-
-pub all_listed : (t : Numbers) (texts : Texts) (nodes : List NodeView) (lists : List (Vec ℕ Global)) → length lists ≡ length nodes → EachList t texts nodes lists → AreTextNumbers t texts nodes lists
-all_listed t texts nodes lists long so_far = record { long = long; each = λ place a e. so_far place a (subst (λ (n : ℕ). place < n) (sym long) (slice_get_within nodes place a e)) e }
+pub kept_texts_of : (texts : Texts) (t u : Numbers) → Keeps t u → (a : NodeView) (numbers : List ℕ) → NumberTexts texts t a numbers → NumberTexts texts u a numbers
+kept_texts_of texts t u keeps a numbers h = kept_numbers t u keeps (texts_of texts a) numbers h
 
 -- ---- what the numbers say
 
