@@ -19,6 +19,7 @@ fn skip_smaller(links: &[Link], from: usize, label: usize) -> usize
     ensures on { from ≤ result }
     ensures within { result ≤ length links.now }
     ensures smaller { (k : ℕ) (d : Link) → from ≤ k → k < result → (get_or links.now k d).label < label }
+    ensures next { (d : Link) → result < length links.now → label ≤ (get_or links.now result d).label }
 {
     for at in from..links.len() {
         if links[at].label >= label {
