@@ -11,6 +11,9 @@ const TWO_FIELDS: &str =
 
 const RUNGS: u32 = 30;
 
+/// More aliases than the recursion looks up as texts.
+const MANY: u32 = 4100;
+
 /// Defines a record of one field, whose type is written as given.
 fn define(text: &mut String, name: &str, rung: u32, of: &str) -> Result<(), Fail> {
     write!(
@@ -57,6 +60,19 @@ fn ladder_of_two(alloc: Global) -> Result<String, Fail> {
     Ok(text)
 }
 
+/// A record with a field of so many aliases and then this one.
+fn aliased(alloc: Global, count: u32, last: &str) -> Result<String, Fail> {
+    let mut text = String::new(alloc);
+    text.push_str(
+        r#"{"type":"record","name":"R","fields":[{"name":"y","type":"long","aliases":["#,
+    )?;
+    for alias in 0..count {
+        write!(text, r#""a{alias}","#)?;
+    }
+    write!(text, r#""{last}"]}}]}}"#)?;
+    Ok(text)
+}
+
 /// The answer that both calls give, and how many pairs were opened.
 fn opened(alloc: Global, writer: &str, reader: &str) -> Result<(bool, u128), Fail> {
     let writer = Schema::read(alloc, writer)?;
@@ -88,5 +104,15 @@ fn visits_of_a_ladder(rt: HostRuntime) -> Result<(), Fail> {
         opened(rt.alloc(), writer.as_str(), reader.as_str())?,
         (false, 122)
     );
+    Ok(())
+}
+
+#[test]
+fn visits_of_a_field_of_many_aliases(rt: HostRuntime) -> Result<(), Fail> {
+    let writer = r#"{"type":"record","name":"R","fields":[{"name":"x","type":"int"}]}"#;
+    let found = aliased(rt.alloc(), MANY, "x")?;
+    let missed = aliased(rt.alloc(), MANY, "z")?;
+    assert_eq!(rt; opened(rt.alloc(), writer, found.as_str())?, (true, 2));
+    assert_eq!(rt; opened(rt.alloc(), writer, missed.as_str())?, (false, 1));
     Ok(())
 }
