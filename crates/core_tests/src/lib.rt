@@ -1,4 +1,5 @@
-//! Tests of the plain registry and of the rows that hold one.
+//! Tests of schemas, of the plain registry, of messages and of words: of what stands below the database, and no program
+//! shows.
 
 #![tactic(auto)]
 

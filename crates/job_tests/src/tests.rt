@@ -1,10 +1,9 @@
-//! What no clause says: the bytes of messages, whole and in pieces, what fails in mid-stream, what is opened for jobs and how they come out.
+//! What no clause says: how jobs come out, over disks that are closed and opened again, and with ends that fail.
 
-mod jobs;
-mod listings;
+mod doing;
+mod failing;
+mod files;
 mod loopback;
-mod messages;
-mod opening;
-mod schema_files;
-mod sessions;
+mod pieces;
+mod runs;
 mod turns;

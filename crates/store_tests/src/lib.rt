@@ -1,4 +1,4 @@
-//! Tests of the tables, of stores and of services, over memory and over disks that fail.
+//! Tests of stores and of services, over disks that fail too.
 
 #![tactic(auto)]
 

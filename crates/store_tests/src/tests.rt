@@ -1,10 +1,7 @@
-//! What no clause says: that with ample memory each call does its work, and what failing disks leave.
+//! What no clause says: that with ample memory each call does its work, and what failing disks and refused memory leave.
 
 mod deliveries;
-mod disks;
 mod faults;
-mod look_ups;
-mod refusals;
+mod memory;
 mod services;
 mod stores;
-mod tables;
