@@ -119,23 +119,32 @@ fn answer_random(rt: &HostRuntime) -> Result<()> {
     Ok(())
 }
 
-/// Measures the shapes of a name as the first word asks.
-fn measure(rt: &HostRuntime, word: &str, name: &str, counts: Option<&[u32]>) -> Result<()> {
-    let (shapes, is_read): (&[Shape], bool) = match word {
-        "read" => (&READING, true),
-        "resolve" => (&RESOLUTION, false),
-        _ => bail!("no measurement is named {word}"),
-    };
+/// The shapes that are read, or those that are resolved.
+fn shapes(is_read: bool) -> &'static [Shape] {
+    if is_read { &READING } else { &RESOLUTION }
+}
+
+/// Measures a shape with each of the counts.
+fn measure(rt: &HostRuntime, is_read: bool, shape: &Shape, counts: &[u32]) -> Result<()> {
+    for count in counts {
+        if is_read {
+            read(rt, shape, *count)?;
+        } else {
+            resolve(rt, shape, *count)?;
+        }
+    }
+    Ok(())
+}
+
+/// Measures the shapes of this name, with this count or with each of their own.
+fn measure_all(rt: &HostRuntime, is_read: bool, name: &str, count: Option<u32>) -> Result<()> {
     let mut found = false;
-    for shape in shapes {
+    for shape in shapes(is_read) {
         if name == "all" || name == shape.name {
             found = true;
-            for count in counts.unwrap_or(shape.counts) {
-                if is_read {
-                    read(rt, shape, *count)?;
-                } else {
-                    resolve(rt, shape, *count)?;
-                }
+            match count {
+                Some(count) => measure(rt, is_read, shape, &[count])?,
+                None => measure(rt, is_read, shape, shape.counts)?,
             }
         }
     }
@@ -143,16 +152,33 @@ fn measure(rt: &HostRuntime, word: &str, name: &str, counts: Option<&[u32]>) -> 
     Ok(())
 }
 
+/// The count that a word tells.
+fn count_of(word: Option<&String>) -> Result<Option<u32>> {
+    match word {
+        Some(word) => Ok(Some(word.parse()?)),
+        None => Ok(None),
+    }
+}
+
+/// Measures what the words ask for.
+fn measure_by(rt: &HostRuntime, words: &[String]) -> Result<()> {
+    let Some(word) = words.first() else {
+        return Ok(());
+    };
+    let word = word.as_str();
+    if word == "random" {
+        return answer_random(rt);
+    }
+    let is_read = word == "read";
+    ensure!(
+        is_read || word == "resolve",
+        "no measurement is named {word}"
+    );
+    let name = words.get(1).context("the name of a shape is wanted")?;
+    measure_all(rt, is_read, name.as_str(), count_of(words.get(2))?)
+}
+
 fn main(rt: HostRuntime) -> Result<()> {
     let words: Vec<String> = env::args(&rt)?.skip(1).collect(rt.alloc())?;
-    match words.as_slice() {
-        [] => Ok(()),
-        [word] if word.as_str() == "random" => answer_random(&rt),
-        [word, name] => measure(&rt, word.as_str(), name.as_str(), None),
-        [word, name, count] => {
-            let counts = [count.parse().context("a count is wanted")?];
-            measure(&rt, word.as_str(), name.as_str(), Some(&counts))
-        }
-        _ => bail!("other words are wanted"),
-    }
+    measure_by(&rt, words.as_slice())
 }

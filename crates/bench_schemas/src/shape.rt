@@ -1,7 +1,7 @@
 //! How the texts are described: as parts with marks, which stand for numbers and other texts.
 
 /// For which numbers a part is written.
-#[derive(Clone, Copy, Debug, PartialEq, Eq)]
+#[derive(Clone, Copy)]
 pub enum Numbers {
     /// from the first up to the second
     Of(u32, u32),
@@ -18,11 +18,11 @@ pub enum Numbers {
 }
 
 /// A part of a text: its templates, by turns, for each of its numbers.
-#[derive(Clone, Copy, Debug)]
+#[derive(Clone, Copy)]
 pub struct Part(pub Numbers, pub &'static [&'static str]);
 
 /// A text of a shape.
-#[derive(Clone, Copy, Debug)]
+#[derive(Clone, Copy)]
 pub struct Text {
     /// what the mark of a word stands for
     pub word: &'static str,
@@ -30,7 +30,7 @@ pub struct Text {
 }
 
 /// What is measured: texts of one form, from a small one on, which shows how its time grows.
-#[derive(Clone, Copy, Debug)]
+#[derive(Clone, Copy)]
 pub struct Shape {
     pub name: &'static str,
     pub counts: &'static [u32],

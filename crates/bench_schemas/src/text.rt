@@ -13,7 +13,7 @@ const AROUND: u32 = 200;
 const MOST_LETTERS: u32 = 4;
 
 /// What the marks of a template stand for.
-#[derive(Clone, Copy, Debug)]
+#[derive(Clone, Copy)]
 pub struct Marks<'a> {
     /// `#`; `<` is the number before it and `>` the one behind, `~` its symbol
     pub number: u32,
@@ -72,16 +72,17 @@ pub fn push_template(text: &mut String, template: &str, marks: &Marks) -> Result
     Ok(())
 }
 
-/// The first of a part's numbers, and the one behind the last.
-fn bounds(numbers: Numbers, count: u32) -> (u32, u32) {
+/// The first of a part's numbers, the one behind the last, and whether they go down.
+fn bounds(numbers: Numbers, count: u32) -> (u32, u32, bool) {
     match numbers {
-        Numbers::Of(from, to) => (from, to),
-        Numbers::Each => (0, count),
-        Numbers::Later | Numbers::Down => (1, count),
-        Numbers::Last => (count, count.saturating_add(1)),
+        Numbers::Of(from, to) => (from, to, false),
+        Numbers::Each => (0, count, false),
+        Numbers::Later => (1, count, false),
+        Numbers::Down => (1, count, true),
+        Numbers::Last => (count, count.saturating_add(1), false),
         Numbers::Filling(bytes) => {
             let filled = AROUND.saturating_add(bytes.saturating_mul(count));
-            (0, MAX_TEXT.saturating_sub(filled))
+            (0, MAX_TEXT.saturating_sub(filled), false)
         }
     }
 }
@@ -95,13 +96,9 @@ fn push_part(
     word: &str,
 ) -> Result<(), AllocError> {
     let Part(numbers, templates) = *part;
-    let (from, to) = bounds(numbers, count);
+    let (from, to, is_down) = bounds(numbers, count);
     for at in from..to {
-        let number = if numbers == Numbers::Down {
-            to - at
-        } else {
-            at
-        };
+        let number = if is_down { to - at } else { at };
         let turn = (number as usize).checked_rem(templates.len()).unwrap_or(0);
         let template = templates.get(turn).copied().unwrap_or("");
         let marks = Marks {

@@ -34,7 +34,7 @@ pub enum Work<'a> {
 }
 
 /// What a work answers, and what it takes.
-#[derive(Clone, Copy, Debug)]
+#[derive(Clone, Copy)]
 pub struct Least {
     pub told: Verdict,
     /// the nanoseconds of the shortest call
