@@ -1,7 +1,7 @@
 //! Pairs of schemas made at random: both draw the same words, and each differs here and there.
 //! Records stand in one another and refer to one another, alone and in arrays, maps and unions.
 
-use crate::text::Role;
+use crate::text::{Marks, push_template};
 use rand_pcg::Pcg32;
 use rand_pcg::rand_core::Rng;
 use std::alloc::{AllocError, Global};
@@ -23,49 +23,42 @@ struct Draft {
     own: Pcg32,
 }
 
-/// A primitive or, as often, a record by its name.
-fn push_single(draft: &mut Draft, word: u32) -> Result<(), AllocError> {
-    if word % 2 == 0 {
-        return push_name(draft, word / 2);
-    }
-    let primitive = PRIMITIVES[(word / 2 % 7) as usize];
-    write!(draft.text, r#""{primitive}""#)
-}
+/// The types: `@` is a primitive or a record, and `$` a record.
+static TYPES: [&str; 8] = [
+    r#"{"type":"array","items":"@"}"#,
+    r#"{"type":"map","values":"@"}"#,
+    r#"["null","@"]"#,
+    r#"["null","@"]"#,
+    r#"["$","string","int"]"#,
+    r#""@""#,
+    r#""@""#,
+    r#""@""#,
+];
 
-/// One of the records so far, by its name.
-fn push_name(draft: &mut Draft, word: u32) -> Result<(), AllocError> {
-    let at = (word as usize).checked_rem(draft.names.len()).unwrap_or(0);
-    match draft.names.get(at) {
-        Some(name) => write!(draft.text, r#""{name}""#),
-        None => draft.text.push_str(r#""long""#),
+/// One of the records so far.
+fn name_of(names: &[String], word: u32) -> &str {
+    let at = (word as usize).checked_rem(names.len()).unwrap_or(0);
+    match names.get(at) {
+        Some(name) => name.as_str(),
+        None => "long",
     }
 }
 
 /// A type.
-fn push_type(draft: &mut Draft, word: u32) -> Result<(), AllocError> {
+fn push_type(text: &mut String, names: &[String], word: u32) -> Result<(), AllocError> {
     let rest = word / 8;
-    let (before, after) = match word % 8 {
-        0 => (r#"{"type":"array","items":"#, "}"),
-        1 => (r#"{"type":"map","values":"#, "}"),
-        2 | 3 => (r#"["null","#, "]"),
-        4 => return push_union(draft, rest),
-        _ => ("", ""),
+    let inner = if rest % 2 == 0 {
+        name_of(names, rest / 2)
+    } else {
+        PRIMITIVES[(rest / 2 % 7) as usize]
     };
-    draft.text.push_str(before)?;
-    push_single(draft, rest)?;
-    draft.text.push_str(after)
-}
-
-/// A union of a record and two primitives.
-fn push_union(draft: &mut Draft, word: u32) -> Result<(), AllocError> {
-    draft.text.push_str("[")?;
-    push_name(draft, word)?;
-    draft.text.push_str(r#","string","int"]"#)
-}
-
-/// Whether a type of this word may have null as its default.
-fn may_be_null(word: u32) -> bool {
-    word % 8 == 2 || word % 8 == 3
+    let marks = Marks {
+        number: 0,
+        is_first: false,
+        inner,
+        word: name_of(names, rest),
+    };
+    push_template(text, TYPES[(word % 8) as usize], &marks)
 }
 
 /// A field after others: now and then it is left out, has another type or stands by an alias.
@@ -84,8 +77,8 @@ fn push_field(draft: &mut Draft, level: u32, index: u32) -> Result<(), AllocErro
         write!(draft.text, r#",{{"name":"f{level}x{index}","type":"#)?;
     }
     let word = if own % 32 == 2 { own / 32 } else { shared };
-    push_type(draft, word)?;
-    if may_be_null(word) && own % 3 > 0 {
+    push_type(&mut draft.text, draft.names.as_slice(), word)?;
+    if (word % 8 == 2 || word % 8 == 3) && own % 3 > 0 {
         draft.text.push_str(r#","default":null"#)?;
     }
     draft.text.push_str("}")
@@ -117,12 +110,8 @@ fn open_record(alloc: Global, draft: &mut Draft, level: u32) -> Result<(), Alloc
         .push_str(r#""fields":[{"name":"f","type":"int"}"#)
 }
 
-/// The text of the one schema of a pair.
-pub fn random_text(alloc: Global, pair: u64, role: Role) -> Result<String, AllocError> {
-    let stream = match role {
-        Role::Writer => 1,
-        Role::Reader => 2,
-    };
+/// The text of a pair's schema, which the stream tells from its other one.
+pub fn random_text(alloc: Global, pair: u64, stream: u64) -> Result<String, AllocError> {
     let mut draft = Draft {
         text: String::new(alloc),
         names: Vec::new(alloc),
@@ -136,7 +125,7 @@ pub fn random_text(alloc: Global, pair: u64, role: Role) -> Result<String, Alloc
         write!(draft.text, r#",{{"name":"next","type":"#)?;
     }
     let last = draft.shared.next_u32();
-    push_type(&mut draft, last)?;
+    push_type(&mut draft.text, draft.names.as_slice(), last)?;
     for level in (0..levels).rev() {
         draft.text.push_str("}")?;
         push_fields(&mut draft, level, 3)?;
