@@ -35,9 +35,12 @@ use Rattle.reg_tables.specs.Layout.{layout, texts, versions}
 use Rattle.reg_tables.specs.Contents.{text_cmp, version_cmp, version_key_cells, number_cells, flag_cell, version_cells, text_row_cells, VersionRow, Contents, version_form, Holds}
 use Rattle.reg_tables.specs.FailedCalls.{IsFault, IsPutFault, IsInsertFault}
 use Rattle.reg_tables.specs.Rooms.{HasRoom, CanBeStored}
-use Rattle.reg_tables.proofs.MapLemmas.{IsKeyOrder, same_key, tied_key}
+use Rattle.reg_tables.specs.Inside.KeyedLaws.{IsKeyOrder}
+use Rattle.reg_tables.specs.Inside.Statements.{by_version}
+use Rattle.reg_tables.proofs.MapLemmas.{same_key, tied_key}
 use Rattle.reg_tables.proofs.KeyedTables.{text_order, number_order, version_order, by_id_test, by_version_test, cast-Null, cast-Int, cast-flag}
-use Rattle.reg_tables.proofs.Statements.{text_terms, four_terms, put_text, put_text_is, put_version, put_version_is, by_version, drop_version, drop_version_is}
+use Rattle.reg_tables.proofs.Statements.{text_terms, four_terms, put_text, put_text_is, put_version, put_version_is, drop_version, drop_version_is}
+use Rattle.reg_tables.proofs.Settled.{layout_settled}
 use Rattle.reg_tables.proofs.TableFaults.{texts_at, versions_at, has_text, refers_if, new_key, delete_fails, insert_fails, IsRowTrouble, as_insert_fault, fault_alone}
 
 -- rows that agree on a text have one text
@@ -89,7 +92,7 @@ module _ (old new : State) (contents : Contents) (h : Holds old.now contents) (e
   pub drop_version_fails : (key : List ℕ × ℕ) → ExecutesInside 0 drop_version (Text key.0 ∷ Int (pos key.1) ∷ []) old new (Err e) → IsFault old new e
   unfolding understood everything
   drop_version_fails key =
-      delete_fails 1 versions versions_at old new h.declared h.sound drop_version (Text key.0 ∷ Int (pos key.1) ∷ []) by_version drop_version_is (lit≤ tt, refl) refl
+      delete_fails layout layout_settled 1 versions versions_at old new h.declared h.sound drop_version (Text key.0 ∷ Int (pos key.1) ∷ []) by_version drop_version_is (lit≤ tt, refl) refl
       (λ found next applies. refers_if old.now.trees next (λ had row there.
       subst (λ l. has_text l row ≡ true) (sym (applies.tables.0 (λ e. omega (arith, e)))) (had row (without_all_has (ids_of found) (old.now.trees 2) row (subst (λ l. Has l row) applies.rows there))))) e
 
@@ -98,7 +101,7 @@ module _ (old new : State) (contents : Contents) (h : Holds old.now contents) (e
   put_version_row key version = Int (next_rowid (old.now.trees versions.tree)) ∷ Text key.0 ∷ Int (pos key.1) ∷ Int (pos version.id) ∷ flag_cell version.deleted ∷ []
 
   put_version_stops : (key : List ℕ × ℕ) (version : VersionRow) → get contents.versions key ≡ None → (text : List ℕ) → get contents.texts version.id ≡ Some text
-      → ExecutesInside 0 put_version (Text key.0 ∷ Int (pos key.1) ∷ Int (pos version.id) ∷ flag_cell version.deleted ∷ []) old new (Err e) → IsFault old new e ⊎ IsRowTrouble versions (old.now.trees versions.tree) (put_version_row key version) e
+      → ExecutesInside 0 put_version (Text key.0 ∷ Int (pos key.1) ∷ Int (pos version.id) ∷ flag_cell version.deleted ∷ []) old new (Err e) → IsFault old new e ⊎ IsRowTrouble layout versions (old.now.trees versions.tree) (put_version_row key version) e
   unfolding understood everything
   put_version_stops key version none text known ran =
       let params : Row = Text key.0 ∷ Int (pos key.1) ∷ Int (pos version.id) ∷ flag_cell version.deleted ∷ [] in
@@ -106,7 +109,7 @@ module _ (old new : State) (contents : Contents) (h : Holds old.now contents) (e
       let its = h.texts.complete version.id text known in
       let put : Edit = edit_of old.now.trees versions [] Chosen 0 (value_rows (stamped versions params) 5 (length four_terms / 5) four_terms) in
       let news : put.news ≡ row ∷ [] = rw (cast-Null, cast-Int (pos key.1), cast-Int (pos version.id), cast-flag version.deleted) in
-      insert_fails 1 versions versions_at old new h.declared h.sound four_terms 5 params row put_version refl put_version_is (lit≤ tt, refl) refl news (record {
+      insert_fails layout layout_settled 1 versions versions_at old new h.declared h.sound four_terms 5 params row put_version refl put_version_is (lit≤ tt, refl) refl news (record {
         keyed = refl;
         typed = refl;
         present = refl;
@@ -127,13 +130,13 @@ module _ (old new : State) (contents : Contents) (h : Holds old.now contents) (e
 
   pub put_version_fails : (key : List ℕ × ℕ) (version : VersionRow) → get contents.versions key ≡ None → (text : List ℕ) → get contents.texts version.id ≡ Some text
       → ExecutesInside 0 put_version (Text key.0 ∷ Int (pos key.1) ∷ Int (pos version.id) ∷ flag_cell version.deleted ∷ []) old new (Err e) → IsInsertFault old new e
-  put_version_fails key version none text known ran = as_insert_fault old new versions (old.now.trees versions.tree) (put_version_row key version) e (put_version_stops key version none text known ran)
+  put_version_fails key version none text known ran = as_insert_fault layout old new versions (old.now.trees versions.tree) (put_version_row key version) e (put_version_stops key version none text known ran)
 
   pub put_version_faults : (key : List ℕ × ℕ) (version : VersionRow) → get contents.versions key ≡ None → (text : List ℕ) → get contents.texts version.id ≡ Some text
       → ExecutesInside 0 put_version (Text key.0 ∷ Int (pos key.1) ∷ Int (pos version.id) ∷ flag_cell version.deleted ∷ []) old new (Err e)
       → (n : ℕ) → HasRoom (old.now.trees versions.tree) (n + 1) → CanBeStored versions (version_key_cells key ++ version_cells version) → IsFault old new e
   put_version_faults key version none text known ran n room stored =
-      fault_alone old new versions (old.now.trees versions.tree) (put_version_row key version) e n room refl (stored (next_rowid (old.now.trees versions.tree))) (put_version_stops key version none text known ran)
+      fault_alone layout old new versions (old.now.trees versions.tree) (put_version_row key version) e n room refl (stored (next_rowid (old.now.trees versions.tree))) (put_version_stops key version none text known ran)
 
   -- why the row is not put in: its rowid is the id, which is free
   put_text_stops : (id : ℕ) (text : List ℕ) → id < 2 ^ 32 → get contents.texts id ≡ None → ((other : ℕ) → get contents.texts other ≡ Some text → ⊥)
@@ -144,7 +147,7 @@ module _ (old new : State) (contents : Contents) (h : Holds old.now contents) (e
       let row : Row = Int (pos id) ∷ Null ∷ Text text ∷ [] in
       let put : Edit = edit_of old.now.trees texts [] Chosen 0 (value_rows (stamped texts params) 3 (length text_terms / 3) text_terms) in
       let news : put.news ≡ row ∷ [] = rw (cast-Null, cast-Int (pos id)) in
-      elim (insert_fails 0 texts texts_at old new h.declared h.sound text_terms 3 params row put_text refl put_text_is (lit≤ tt, refl) refl news (record {
+      elim (insert_fails layout layout_settled 0 texts texts_at old new h.declared h.sound text_terms 3 params row put_text refl put_text_is (lit≤ tt, refl) refl news (record {
         keyed = refl;
         typed = refl;
         present = refl;
