@@ -1,5 +1,6 @@
 -- What a put and a drop make of a table that has one row for each key, and why they fail.
-use Rattle.std.proofs.Common.{◌||◌, ◌==◌, not, bytes_eq, subst₂, ◌≡◌, ◌⊎◌, ◌+◌, ℕ, true, List, Ok, Err, refl, ap, ◌∙◌, arith}
+use Rattle.std.proofs.Common.{◌||◌, ◌==◌, not, bytes_eq, subst, subst₂, ◌≡◌, ◌⊎◌, inl, inr, ◌+◌, ℕ, true, List, [], ◌∷◌, Ok, Err, refl, ap, ◌∙◌, arith}
+use Rattle.std.specs.Prelude.{IsTrue}
 use Rattle.std.specs.FinMap.{get, insert, remove}
 use Rattle.std.proofs.lemmas.Bool.{and_parts, eqb-true}
 use Rattle.std.proofs.lemmas.Slice.Eq.{bytes_eq-Decides}
@@ -13,7 +14,9 @@ use Rattle.sqlite_schema.specs.Rules.{agree, guards}
 use Rattle.sqlite_rules.specs.Lists.{Has}
 use Rattle.sqlite_schema.specs.declared.schema.Index.{Index}
 use Rattle.sqlite_rules.specs.Edit.{IsOversized}
+use Rattle.sqlite_rules.specs.Calls.{ids_of}
 use Rattle.sqlite_rules.proofs.ListLemmas.{all_from, test_has}
+use Rattle.sqlite_rules.proofs.TableLemmas.{put_all_has, without_all_has}
 use Rattle.reg_tables.specs.FailedCalls.{IsFault, IsInsertFault}
 use Rattle.reg_tables.specs.Inside.Keyed.{Keyed, cells_of, with_entry, without_entry, IsFreeKey}
 use Rattle.reg_tables.specs.Inside.KeyedLaws.{TurnsTable, is_on, IsKeyed, PutsRow, DropsRow, new_row}
@@ -21,6 +24,9 @@ use Rattle.reg_tables.proofs.Settled.{IsSettled}
 use Rattle.reg_tables.proofs.KeyedTables.{inserts, inserts_room, removes, removes_room}
 use Rattle.reg_tables.proofs.TableFaults.{IsFree, IsRowTrouble, new_key, delete_fails, insert_fails, as_insert_fault, fault_alone}
 use Rattle.reg_tables.proofs.MapLemmas.{get-remove-same, insert-remove}
+
+the_one : (rows : List Row) (r row : Row) → rows ≡ row ∷ [] → Has rows r → r ≡ row
+the_one rows r row is there = elim (subst (λ l. Has l r) is there) [ inl same ↦ same | inr none ↦ absurd none ]
 
 module _ {C K V : Type 0} (schema : Schema) (settled : IsSettled schema) (Holds : Database → C → Type 0) (Rooms : Database → ℕ → Type 0) (t : Keyed C K V) (its : IsKeyed schema Holds Rooms t) where
   -- a key that was dropped is free, and a put then sets its value
@@ -63,8 +69,8 @@ module _ {C K V : Type 0} (schema : Schema) (settled : IsSettled schema) (Holds 
         abbrev row_of : V → Row
         row_of value = new_row t (old.now.trees t.table.tree) key value
 
-        put_stops : (value : V) → IsFreeKey t key contents → ExecutesInside 0 sql (cells_of t key value) old new (Err e) → IsFault old new e ⊎ IsRowTrouble schema t.table (old.now.trees t.table.tree) (row_of value) e
-        put_stops value free ran =
+        put_stops : (value : V) → IsFreeKey t key contents → IsTrue (t.refers contents value) → ExecutesInside 0 sql (cells_of t key value) old new (Err e) → IsFault old new e ⊎ IsRowTrouble schema t.table (old.now.trees t.table.tree) (row_of value) e
+        put_stops value free refers ran =
             let rows = old.now.trees t.table.tree in
             let row = row_of value in
             let stands = p.stands (next_rowid rows) key value in
@@ -76,14 +82,15 @@ module _ {C K V : Type 0} (schema : Schema) (settled : IsSettled schema) (Holds 
               checked = stands.checked;
               free = all_from (IsFree t.table rows row) schema.indexes (λ i known on. new_key t.form t.cmp (t.map_of contents) rows (its.shows old.now contents h) key free (λ r. agree i.order i.columns r i.columns row ≡ true)
                   (λ r q of_r same. same_entry i known on r row q key of_r (p.entry (next_rowid rows) key value).0 same));
-            }) (λ next applies. its.refers old.now.trees next applies.tables) e ran
+            }) (λ next applies. its.put_refers old.now contents h key value refers row (p.entry (next_rowid rows) key value) next applies.tables (λ r there.
+            elim (put_all_has _ rows r (subst (λ l. Has l r) applies.rows there)) [ inl fresh ↦ inl (the_one _ r row (p.row old.now.trees key value) fresh) | inr was ↦ inr was ])) e ran
 
-        pub put_fails : (value : V) → IsFreeKey t key contents → ExecutesInside 0 sql (cells_of t key value) old new (Err e) → IsInsertFault old new e
-        put_fails value free ran = as_insert_fault schema old new t.table (old.now.trees t.table.tree) (row_of value) e (put_stops value free ran)
+        pub put_fails : (value : V) → IsFreeKey t key contents → IsTrue (t.refers contents value) → ExecutesInside 0 sql (cells_of t key value) old new (Err e) → IsInsertFault old new e
+        put_fails value free refers ran = as_insert_fault schema old new t.table (old.now.trees t.table.tree) (row_of value) e (put_stops value free refers ran)
 
-        pub put_faults : (value : V) → IsFreeKey t key contents → ExecutesInside 0 sql (cells_of t key value) old new (Err e) → (n : ℕ) → Rooms old.now (n + 1) → ¬ IsOversized schema t.table (row_of value) → IsFault old new e
-        put_faults value free ran n rooms fits =
-            fault_alone schema old new t.table (old.now.trees t.table.tree) (row_of value) e n (its.room old.now (n + 1) rooms) refl fits (put_stops value free ran)
+        pub put_faults : (value : V) → IsFreeKey t key contents → IsTrue (t.refers contents value) → ExecutesInside 0 sql (cells_of t key value) old new (Err e) → (n : ℕ) → Rooms old.now (n + 1) → ¬ IsOversized schema t.table (row_of value) → IsFault old new e
+        put_faults value free refers ran n rooms fits =
+            fault_alone schema old new t.table (old.now.trees t.table.tree) (row_of value) e n (its.room old.now (n + 1) rooms) refl fits (put_stops value free refers ran)
 
     module _ (sql : List ℕ) (d : DropsRow schema t sql) where
       drop_turns : (count : ℕ) → Executes sql (t.form.key_cells key) old new (Ok count) → TurnsTable schema t.form t.table.tree old.now new.now (get (remove (t.map_of contents) key))
@@ -103,4 +110,4 @@ module _ {C K V : Type 0} (schema : Schema) (settled : IsSettled schema) (Holds 
       pub drop_fails : (e : Error) → ExecutesInside 0 sql (t.form.key_cells key) old new (Err e) → IsFault old new e
       drop_fails e =
           delete_fails schema settled t.at t.table its.is_at old new (its.declared old.now contents h) (its.sound old.now contents h) sql (t.form.key_cells key) t.tests d.is (d.whole key) (d.typed key)
-          (λ found next applies. its.refers old.now.trees next applies.tables) e
+          (λ found next applies. its.drop_refers old.now.trees next applies.tables (λ r there. without_all_has (ids_of found) (old.now.trees t.table.tree) r (subst (λ l. Has l r) applies.rows there))) e

@@ -1,15 +1,16 @@
 -- The tables of layout 1 that have one row for each key.
-use Rattle.std.proofs.Common.{◌≡◌, inl, inr, ℕ, List, [], ◌∷◌, refl, sym, arith, true, ◌∙◌}
+use Rattle.std.proofs.Common.{◌≡◌, inl, inr, ℕ, pos, List, [], ◌∷◌, refl, sym, ap, subst, arith, true, ◌∙◌}
 use Rattle.std.specs.Prelude.{String, string_bytes}
 use Rattle.std.specs.declared.alloc.Global.{Global}
-use Rattle.sqlite.specs.declared.types.Value.TheVariants.{Text}
+use Rattle.std.specs.FinMap.{get}
+use Rattle.sqlite.specs.declared.types.Value.TheVariants.{Text, Int}
 use Rattle.sqlite.specs.Order.{Row, column}
 use Rattle.sqlite_schema.specs.Rules.{agree}
 use Rattle.sqlite_value.specs.Keys.{first_key}
 use Rattle.reg_tables.specs.declared.kept.KeptReply.{KeptReply}
 use Rattle.reg_tables.specs.declared.versions.VersionEntry.{VersionEntry}
-use Rattle.reg_tables.specs.Layout.{layout, levels, kept, meta}
-use Rattle.reg_tables.specs.Contents.{text_cmp, text_cells, VersionRow, version_cells, KeptRow, kept_cells, Holds}
+use Rattle.reg_tables.specs.Layout.{layout, versions, levels, kept, meta}
+use Rattle.reg_tables.specs.Contents.{text_cmp, version_cmp, text_cells, VersionRow, version_key_cells, version_cells, KeptRow, kept_cells, Holds}
 use Rattle.reg_tables.specs.KeptRows.{kept_row}
 use Rattle.reg_tables.specs.Entries.{version_row}
 use Rattle.reg_tables.specs.Rooms.{HasRooms}
@@ -18,8 +19,9 @@ use Rattle.reg_tables.specs.Inside.KeyedLaws.{HasKey, IsKeyed}
 use Rattle.reg_tables.proofs.Opening.{distinct_version_rows, distinct_kept_rows}
 use Rattle.reg_tables.proofs.MapLemmas.{same_key}
 use Rattle.reg_tables.proofs.KeyedTables.{text_order, distinct_texts, by_key_test, number_order, distinct_numbers, by_id_test, version_order, distinct_versions, by_version_test}
-use Rattle.reg_tables.proofs.TableFaults.{levels_at, kept_at, meta_at, beside_refers}
+use Rattle.reg_tables.proofs.TableFaults.{versions_at, levels_at, kept_at, meta_at, has_text, refers_if, beside_refers}
 use Rattle.reg_tables.proofs.TableWrites.{all_turned, all_leave}
+use Rattle.reg_tables.proofs.FailedVersions.{text_of_version, value_of}
 
 -- ---- keys
 
@@ -43,7 +45,43 @@ texts_agree : (a b : Row) (q k : List ℕ) → column a 1 ∷ [] ≡ text_cells 
 unfolding first_key
 texts_agree a b q k of_a of_b same = let its : column b 1 ≡ Text k = cc in same_key text_cmp text_order q k (sym (by_key_test a k q of_a) ∙ (rw its at same))
 
+-- rows that agree in their first two columns have one version's key
+versions_agree : (a b : Row) (q k : List ℕ × ℕ) → column a 1 ∷ column a 2 ∷ [] ≡ version_key_cells q → column b 1 ∷ column b 2 ∷ [] ≡ version_key_cells k → agree (record { digits = 0 }) (1 ∷ 2 ∷ []) a (1 ∷ 2 ∷ []) b ≡ true → q ≡ k
+unfolding first_key
+versions_agree a b q k of_a of_b same =
+    let subject : column b 1 ≡ Text k.0 = cc in
+    let number : column b 2 ≡ Int (pos k.1) = cc in
+    same_key version_cmp version_order q k (sym (by_version_test a k q of_a) ∙ (rw (subject, number) at same))
+
 -- ---- where the contents are
+
+-- a version refers to its text
+pub versions_keyed : IsKeyed layout Holds HasRooms versions_table
+versions_keyed = record {
+  is_at = versions_at;
+  uncounted = refl;
+  key = versions_key;
+  guarded = refl;
+  agrees = λ a b q k of_a of_b same. versions_agree a b q k of_a of_b same;
+  declared = λ db contents h. h.declared;
+  sound = λ db contents h. h.sound;
+  shows = λ db contents h. h.versions;
+  turned = λ old new contents h later t. all_turned [] layout.indexes versions.tree old new t.others contents (record contents { versions = later }) h t.declared t.sound (inr (λ e. omega (arith, e), refl)) (inl t.rows) (inr (λ e. omega (arith, e), refl)) (inr (λ e. omega (arith, e), refl)) (inr (λ e. omega (arith, e), refl));
+  put_refers = λ db contents h key version refers row is next others came.
+      (let known = value_of (get contents.texts version.id) refers in
+      let its = h.texts.complete version.id known.0 known.1 in
+      let id : column row 3 ≡ Int (pos version.id) = (let cells = is.1 in cc) in
+      refers_if db.trees next (λ had r there.
+      subst (λ l. has_text l r ≡ true) (sym (others.0 (λ e. omega (arith, e)))) (elim (came r there) [
+        | inl same ↦ text_of_version (db.trees 0) its.0 r version.id its.1 its.2.0 (ap (λ (x : Row). column x 3) same ∙ id)
+        | inr was ↦ had r was
+      ])));
+  drop_refers = λ old new others left. refers_if old new (λ had r there. subst (λ l. has_text l r ≡ true) (sym (others.0 (λ e. omega (arith, e)))) (had r (left r there)));
+  map_is = λ contents map. refl;
+  last_map = λ contents first last. refl;
+  room = λ db count rooms. rooms.versions;
+  rooms = λ old new more count low rooms others own. all_leave [] layout.indexes versions.tree old new others more count low rooms (inl own) (inr (λ e. omega (arith, e))) (inr (λ e. omega (arith, e))) (inr (λ e. omega (arith, e)));
+}
 
 pub levels_keyed : IsKeyed layout Holds HasRooms levels_table
 levels_keyed = record {
@@ -56,7 +94,8 @@ levels_keyed = record {
   sound = λ db contents h. h.sound;
   shows = λ db contents h. h.levels;
   turned = λ old new contents h later t. all_turned [] layout.indexes levels.tree old new t.others contents (record contents { levels = later }) h t.declared t.sound (inr (λ e. omega (arith, e), refl)) (inr (λ e. omega (arith, e), refl)) (inl t.rows) (inr (λ e. omega (arith, e), refl)) (inr (λ e. omega (arith, e), refl));
-  refers = λ old new others. beside_refers levels (λ e. omega (arith, e)) (λ e. omega (arith, e)) old new others;
+  put_refers = λ db contents h key value refers row is next others came. beside_refers levels (λ e. omega (arith, e)) (λ e. omega (arith, e)) db.trees next others;
+  drop_refers = λ old new others left. beside_refers levels (λ e. omega (arith, e)) (λ e. omega (arith, e)) old new others;
   map_is = λ contents map. refl;
   last_map = λ contents first last. refl;
   room = λ db count rooms. rooms.levels;
@@ -74,7 +113,8 @@ kept_keyed = record {
   sound = λ db contents h. h.sound;
   shows = λ db contents h. h.kept;
   turned = λ old new contents h later t. all_turned [] layout.indexes kept.tree old new t.others contents (record contents { kept = later }) h t.declared t.sound (inr (λ e. omega (arith, e), refl)) (inr (λ e. omega (arith, e), refl)) (inr (λ e. omega (arith, e), refl)) (inl t.rows) (inr (λ e. omega (arith, e), refl));
-  refers = λ old new others. beside_refers kept (λ e. omega (arith, e)) (λ e. omega (arith, e)) old new others;
+  put_refers = λ db contents h key value refers row is next others came. beside_refers kept (λ e. omega (arith, e)) (λ e. omega (arith, e)) db.trees next others;
+  drop_refers = λ old new others left. beside_refers kept (λ e. omega (arith, e)) (λ e. omega (arith, e)) old new others;
   map_is = λ contents map. refl;
   last_map = λ contents first last. refl;
   room = λ db count rooms. rooms.kept;
@@ -92,7 +132,8 @@ meta_keyed = record {
   sound = λ db contents h. h.sound;
   shows = λ db contents h. h.meta;
   turned = λ old new contents h later t. all_turned [] layout.indexes meta.tree old new t.others contents (record contents { meta = later }) h t.declared t.sound (inr (λ e. omega (arith, e), refl)) (inr (λ e. omega (arith, e), refl)) (inr (λ e. omega (arith, e), refl)) (inr (λ e. omega (arith, e), refl)) (inl t.rows);
-  refers = λ old new others. beside_refers meta (λ e. omega (arith, e)) (λ e. omega (arith, e)) old new others;
+  put_refers = λ db contents h key value refers row is next others came. beside_refers meta (λ e. omega (arith, e)) (λ e. omega (arith, e)) db.trees next others;
+  drop_refers = λ old new others left. beside_refers meta (λ e. omega (arith, e)) (λ e. omega (arith, e)) old new others;
   map_is = λ contents map. refl;
   last_map = λ contents first last. refl;
   room = λ db count rooms. rooms.meta;

@@ -5,7 +5,7 @@ use Rattle.sqlite_value.specs.declared.keys.Key.{Key}
 use Rattle.sqlite.specs.Term.{Term, lit, col, op2}
 use Rattle.sqlite.specs.Collation.TheVariants.{Binary}
 use Rattle.sqlite.specs.Source.TheVariants.{Values}
-use Rattle.sqlite.specs.Command.TheVariants.{Insert, CreateTable, CreateIndex, Update, Delete}
+use Rattle.sqlite.specs.Command.TheVariants.{Insert, CreateTable, CreateIndex, Update}
 use Rattle.sqlite.specs.Compile.{table_defined_by, index_defined_by}
 use Rattle.sqlite.specs.Change.{created, indexed}
 use Rattle.sqlite.specs.Does.{lacks_sequence}
@@ -100,20 +100,6 @@ put_text = codes "INSERT INTO texts (id, text) VALUES (?1, ?2)"
 pub put_text_is : IsCommand layout put_text (Insert 0 (Values text_terms 3))
 unfolding understood everything
 put_text_is = record { is = refl; plain = (refl, refl) }
-
-abbrev pub put_version : List ℕ
-put_version = codes "INSERT INTO versions (subject, version, id, deleted) VALUES (?1, ?2, ?3, ?4)"
-
-pub put_version_is : IsCommand layout put_version (Insert 1 (Values four_terms 5))
-unfolding understood everything
-put_version_is = record { is = refl; plain = (refl, refl) }
-
-abbrev pub drop_version : List ℕ
-drop_version = codes "DELETE FROM versions WHERE subject = ?1 AND version = ?2"
-
-pub drop_version_is : IsCommand layout drop_version (Delete 1 (record { lets = []; body = plain_query 2 by_version (col 1 0 ∷ []) }))
-unfolding understood everything
-drop_version_is = record { is = refl; plain = (refl, refl) }
 
 -- the row with another last column, after its rowid
 abbrev pub with_flag : List Term

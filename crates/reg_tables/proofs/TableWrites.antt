@@ -1,9 +1,8 @@
 -- What each statement makes of the contents.
-use Rattle.std.proofs.Common.{◌≡◌, ◌≢◌, ◌+◌, ◌≤◌, sym, subst, ℕ, pos, List, [], ◌∷◌, None, Ok, refl, arith, Ordering, ◌⊎◌, inl, inr}
+use Rattle.std.proofs.Common.{◌≡◌, ◌≢◌, ◌≤◌, sym, subst, ℕ, pos, List, [], ◌∷◌, None, Ok, refl, arith, Ordering, ◌⊎◌, inl, inr}
 use Rattle.std.specs.Ordering.{nat_cmp}
-use Rattle.std.specs.FinMap.{FinMap, get, insert, remove}
+use Rattle.std.specs.FinMap.{FinMap, get, insert}
 use Rattle.sqlite.specs.declared.types.Value.TheVariants.{Null, Int, Text}
-use Rattle.sqlite.specs.Edit.{next_rowid}
 use Rattle.sqlite.specs.Order.{Row, column}
 use Rattle.sqlite.specs.Tree.{rowid}
 use Rattle.sqlite.specs.Table.{Table}
@@ -11,18 +10,18 @@ use Rattle.sqlite.specs.Cast.{cast_row}
 use Rattle.sqlite.specs.Effect.{Database, IsDatabase}
 use Rattle.sqlite.specs.State.{State, Executes}
 use Rattle.reg_tables.specs.Layout.{layout, texts, versions, levels, kept, meta}
-use Rattle.reg_tables.specs.Contents.{version_cmp, VersionRow, Contents, flag_cell, text_form, version_form, pair_form, kept_form, Holds, HoldsIn}
+use Rattle.reg_tables.specs.Contents.{version_cmp, VersionRow, Contents, text_form, version_form, pair_form, kept_form, Holds, HoldsIn}
 use Rattle.reg_tables.specs.TableMaps.{IsEntry, Form, ShowsMap}
-use Rattle.reg_tables.specs.Changes.{altered, as_deleted, with_deleted, with_text, with_version, without_version}
+use Rattle.reg_tables.specs.Changes.{altered, as_deleted, with_deleted, with_text}
 use Rattle.reg_tables.specs.Rooms.{HasRoom, HasRooms}
 use Rattle.reg_tables.specs.Inside.Statements.{by_version}
 use Rattle.reg_tables.specs.Inside.KeyedLaws.{KeepsOthers, TurnsTable}
 use Rattle.reg_tables.proofs.Rooms.{room_for_fewer}
 use Rattle.reg_tables.proofs.RowLemmas.{same_rows}
 use Rattle.sqlite_schema.specs.declared.schema.Index.{Index}
-use Rattle.reg_tables.proofs.Statements.{begins, text_terms, put_text, put_text_is, put_version, put_version_is, drop_version, drop_version_is, with_flag, mark_version, mark_version_is, four_terms}
+use Rattle.reg_tables.proofs.Statements.{begins, text_terms, put_text, put_text_is, with_flag, mark_version, mark_version_is}
 use Rattle.reg_tables.proofs.Settled.{layout_settled}
-use Rattle.reg_tables.proofs.KeyedTables.{inserts_room, removes_room, alters_room, number_order, distinct_numbers, version_order, distinct_versions, by_version_test, cast-flag, cast-Null, cast-Int, inserts, removes, alters}
+use Rattle.reg_tables.proofs.KeyedTables.{alters_room, number_order, distinct_numbers, version_order, distinct_versions, by_version_test, cast-Null, cast-Int, inserts, alters}
 
 -- ---- a write to one table, in a database of the five tables and more
 
@@ -86,25 +85,6 @@ module _ (old new : State) (count : ℕ) (contents : Contents) (h : Holds old.no
   version_held : (later : FinMap version_cmp VersionRow) → TurnsTable layout version_form versions.tree old.now new.now (get later) → Holds new.now (record contents { versions = later })
   version_held later t = all_turned [] layout.indexes versions.tree old.now new.now t.others contents (record contents { versions = later }) h t.declared t.sound (inr (λ e. omega (arith, e), refl)) (inl t.rows) (inr (λ e. omega (arith, e), refl)) (inr (λ e. omega (arith, e), refl)) (inr (λ e. omega (arith, e), refl))
 
-  puts_version_turns : (key : List ℕ × ℕ) (version : VersionRow) → get contents.versions key ≡ None
-      → Executes put_version (Text key.0 ∷ Int (pos key.1) ∷ Int (pos version.id) ∷ flag_cell version.deleted ∷ []) old new (Ok count) → TurnsTable layout version_form versions.tree old.now new.now (get (insert contents.versions key version))
-  puts_version_turns key version free ran = inserts layout layout_settled version_form version_cmp version_order distinct_versions 1 versions refl old new h.declared contents.versions h.versions key put_version
-      (Text key.0 ∷ Int (pos key.1) ∷ Int (pos version.id) ∷ flag_cell version.deleted ∷ []) count four_terms 5
-      (Int (next_rowid (old.now.trees versions.tree)) ∷ Text key.0 ∷ Int (pos key.1) ∷ Int (pos version.id) ∷ flag_cell version.deleted ∷ []) version refl put_version_is
-      (rw (cast-Null, cast-Int (pos key.1), cast-Int (pos version.id), cast-flag version.deleted)) (record { has_id = refl; has_key = refl; has_value = refl }) free ran
-
-  pub puts_version : (key : List ℕ × ℕ) (version : VersionRow) → get contents.versions key ≡ None
-      → Executes put_version (Text key.0 ∷ Int (pos key.1) ∷ Int (pos version.id) ∷ flag_cell version.deleted ∷ []) old new (Ok count) → Holds new.now (with_version key version contents)
-  puts_version key version free ran = version_held (insert contents.versions key version) (puts_version_turns key version free ran)
-
-  drops_version_turns : (key : List ℕ × ℕ) → Executes drop_version (Text key.0 ∷ Int (pos key.1) ∷ []) old new (Ok count) → TurnsTable layout version_form versions.tree old.now new.now (get (remove contents.versions key))
-  drops_version_turns key ran =
-      removes layout layout_settled version_form version_cmp version_order distinct_versions 1 versions refl old new h.declared contents.versions h.versions key drop_version (Text key.0 ∷ Int (pos key.1) ∷ []) count by_version drop_version_is
-      (λ row q is. by_version_test row key q is) ran
-
-  pub drops_version : (key : List ℕ × ℕ) → Executes drop_version (Text key.0 ∷ Int (pos key.1) ∷ []) old new (Ok count) → Holds new.now (without_version key contents)
-  drops_version key ran = version_held (remove contents.versions key) (drops_version_turns key ran)
-
   marks_version_turns : (key : List ℕ × ℕ) → Executes mark_version (Text key.0 ∷ Int (pos key.1) ∷ []) old new (Ok count) → TurnsTable layout version_form versions.tree old.now new.now (get (altered contents.versions key as_deleted))
   marks_version_turns key ran =
       alters layout layout_settled version_form version_cmp version_order distinct_versions 1 versions refl old new h.declared contents.versions h.versions key mark_version (Text key.0 ∷ Int (pos key.1) ∷ []) count by_version with_flag as_deleted mark_version_is
@@ -115,20 +95,6 @@ module _ (old new : State) (count : ℕ) (contents : Contents) (h : Holds old.no
 
   pub puts_text_rooms : (id : ℕ) (text : List ℕ) → get contents.texts id ≡ None → Executes put_text (Int (pos id) ∷ Text text ∷ []) old new (Ok count) → (n : ℕ) → HasRooms old.now n → HasRooms new.now n
   puts_text_rooms id text free ran n rooms = all_leave [] layout.indexes texts.tree old.now new.now (puts_text_turns id text free ran).others n n (omega arith) rooms (inr (λ e. omega (arith, e))) (inr (λ e. omega (arith, e))) (inr (λ e. omega (arith, e))) (inr (λ e. omega (arith, e)))
-
-  pub puts_version_rooms : (key : List ℕ × ℕ) (version : VersionRow) → get contents.versions key ≡ None
-      → Executes put_version (Text key.0 ∷ Int (pos key.1) ∷ Int (pos version.id) ∷ flag_cell version.deleted ∷ []) old new (Ok count) → (n : ℕ) → HasRooms old.now (n + 1) → HasRooms new.now n
-  puts_version_rooms key version free ran n rooms =
-      all_leave [] layout.indexes versions.tree old.now new.now (puts_version_turns key version free ran).others (n + 1) n (omega arith) rooms
-      (inl (inserts_room layout layout_settled version_form version_cmp version_order distinct_versions 1 versions refl old new h.declared contents.versions h.versions key put_version
-      (Text key.0 ∷ Int (pos key.1) ∷ Int (pos version.id) ∷ flag_cell version.deleted ∷ []) count four_terms 5
-      (Int (next_rowid (old.now.trees versions.tree)) ∷ Text key.0 ∷ Int (pos key.1) ∷ Int (pos version.id) ∷ flag_cell version.deleted ∷ []) refl put_version_is
-      (rw (cast-Null, cast-Int (pos key.1), cast-Int (pos version.id), cast-flag version.deleted)) refl ran n rooms.versions)) (inr (λ e. omega (arith, e))) (inr (λ e. omega (arith, e))) (inr (λ e. omega (arith, e)))
-
-  pub drops_version_rooms : (key : List ℕ × ℕ) → Executes drop_version (Text key.0 ∷ Int (pos key.1) ∷ []) old new (Ok count) → (n : ℕ) → HasRooms old.now n → HasRooms new.now n
-  drops_version_rooms key ran n rooms =
-      all_leave [] layout.indexes versions.tree old.now new.now (drops_version_turns key ran).others n n (omega arith) rooms
-      (inl (removes_room layout layout_settled version_form version_cmp version_order distinct_versions 1 versions refl old new h.declared contents.versions h.versions key drop_version (Text key.0 ∷ Int (pos key.1) ∷ []) count by_version drop_version_is ran n rooms.versions)) (inr (λ e. omega (arith, e))) (inr (λ e. omega (arith, e))) (inr (λ e. omega (arith, e)))
 
   pub marks_version_rooms : (key : List ℕ × ℕ) → Executes mark_version (Text key.0 ∷ Int (pos key.1) ∷ []) old new (Ok count) → (n : ℕ) → HasRooms old.now n → HasRooms new.now n
   marks_version_rooms key ran n rooms =

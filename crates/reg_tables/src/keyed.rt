@@ -1,6 +1,6 @@
 //! The statements of a table that has one row for each key.
 
-ghost use Rattle.std.specs.Prelude.{◌≡◌, ◌+◌, ◌∷◌, ◌++◌, ℕ, ℤ, List, [], IsUtf8, string_bytes, None, Some, OnOk, IfOk, IfErr, MatchOption, false};
+ghost use Rattle.std.specs.Prelude.{◌≡◌, ◌+◌, ◌∷◌, ◌++◌, ℕ, ℤ, List, [], IsUtf8, IsTrue, string_bytes, None, Some, OnOk, IfOk, IfErr, MatchOption, false};
 ghost use Rattle.std.specs.FinMap.{get};
 ghost use Rattle.sqlite.specs.Order.{column};
 ghost use Rattle.sqlite.specs.Held.{state};
@@ -40,7 +40,7 @@ pub(crate) trait KeyedTable {
             → get (table.map_of contents) key ≡ Some value → Self.Found.is_readable (table.form.value_cells value) };
 }
 
-/// A table that rows are put into, which refers to no other table, and to which none refers.
+/// A table that rows are put into, and to which no other table refers.
 pub(crate) trait FilledTable: KeyedTable {
     /// The INSERT of a row, by the columns of its key and then of its value.
     fn put_sql() -> &'static str
@@ -81,6 +81,7 @@ pub(crate) fn put<S: Alter, T: FilledTable>(
     ensures fault { HasCleanDisk (state_in S.Store tx.new) → IfErr result (λ e. (key : T.Key) (value : T.Value)
         → bound values.now ≡ cells_of T.table key value
         → (contents : Contents) → Holds (state_in S.Store tx.old).now contents → IsFreeKey T.table key contents
+        → IsTrue (T.table.refers contents value)
         → IsInsertFault (state_in S.Store tx.old) (state_in S.Store tx.new) e) }
     ensures room { HasCleanDisk (state_in S.Store tx.new) → OnOk result ((key : T.Key) (value : T.Value)
         → bound values.now ≡ cells_of T.table key value
@@ -89,7 +90,7 @@ pub(crate) fn put<S: Alter, T: FilledTable>(
     ensures fits { HasCleanDisk (state_in S.Store tx.new) → IfErr result (λ e. (key : T.Key) (value : T.Value)
         → bound values.now ≡ cells_of T.table key value
         → (contents : Contents) → Holds (state_in S.Store tx.old).now contents → IsFreeKey T.table key contents
-        → (n : ℕ) → HasRooms (state_in S.Store tx.old).now (n + 1)
+        → IsTrue (T.table.refers contents value) → (n : ℕ) → HasRooms (state_in S.Store tx.old).now (n + 1)
         → CanBeStored T.table.table (cells_of T.table key value)
         → IsWriteFault (state_in S.Store tx.old) (state_in S.Store tx.new) e) }
 {
@@ -133,6 +134,7 @@ pub(crate) fn set<S: Alter, T: ChangedTable>(
     ensures fault { HasCleanDisk (state_in S.Store tx.new) → IfErr result (λ e. (key : T.Key) (value : T.Value)
         → bound key_values.now ≡ T.table.form.key_cells key → bound values.now ≡ cells_of T.table key value
         → (contents : Contents) → Holds (state_in S.Store tx.old).now contents
+        → IsTrue (T.table.refers (without_entry T.table key contents) value)
         → IsInsertFault (state_in S.Store tx.old) (state_in S.Store tx.new) e) }
     ensures room { HasCleanDisk (state_in S.Store tx.new) → OnOk result ((key : T.Key) (value : T.Value)
         → bound key_values.now ≡ T.table.form.key_cells key → bound values.now ≡ cells_of T.table key value
@@ -141,6 +143,7 @@ pub(crate) fn set<S: Alter, T: ChangedTable>(
     ensures fits { HasCleanDisk (state_in S.Store tx.new) → IfErr result (λ e. (key : T.Key) (value : T.Value)
         → bound key_values.now ≡ T.table.form.key_cells key → bound values.now ≡ cells_of T.table key value
         → (contents : Contents) → Holds (state_in S.Store tx.old).now contents
+        → IsTrue (T.table.refers (without_entry T.table key contents) value)
         → (n : ℕ) → HasRooms (state_in S.Store tx.old).now (n + 1)
         → CanBeStored T.table.table (cells_of T.table key value)
         → IsWriteFault (state_in S.Store tx.old) (state_in S.Store tx.new) e) }

@@ -15,7 +15,7 @@ ghost use Rattle.reg_tables.specs.FailedCalls.{IsFault, IsWriteFault, IsInsertFa
 ghost use Rattle.reg_tables.specs.Entries.{version_row};
 ghost use Rattle.reg_tables.specs.Inside.Keyed.{versions_table};
 
-use crate::keyed::{KeyedTable, find};
+use crate::keyed::{ChangedTable, FilledTable, KeyedTable, drop, find, put};
 use crate::lines::flag_in;
 use crate::statement::{Line, run};
 use sqlite::{Alter, Connection, Error, ErrorCode, Row, Transaction, params};
@@ -61,6 +61,18 @@ impl KeyedTable for Versions {
     }
 }
 
+impl FilledTable for Versions {
+    fn put_sql() -> &'static str {
+        "INSERT INTO versions (subject, version, id, deleted) VALUES (?1, ?2, ?3, ?4)"
+    }
+}
+
+impl ChangedTable for Versions {
+    fn drop_sql() -> &'static str {
+        "DELETE FROM versions WHERE subject = ?1 AND version = ?2"
+    }
+}
+
 /// Puts a version of a subject under its number, which the caller has seen to have none.
 ///
 /// # Errors
@@ -98,11 +110,7 @@ pub fn put_version<S: Alter>(
         → CanBeStored versions (version_key_cells (subject.now, number) ++ version_cells (record { id = id; deleted = deleted }))
         → IsWriteFault (state_in S.Store tx.old) (state_in S.Store tx.new) e) }
 {
-    run(
-        tx,
-        "INSERT INTO versions (subject, version, id, deleted) VALUES (?1, ?2, ?3, ?4)",
-        params![subject, number, id, deleted],
-    )
+    put::<S, Versions>(tx, params![subject, number, id, deleted])
 }
 
 /// Drops the version of a subject that has the number, if there is one.
@@ -128,11 +136,7 @@ pub fn drop_version<S: Alter>(
         → Holds (state_in S.Store tx.old).now contents
         → (n : ℕ) → HasRooms (state_in S.Store tx.old).now n → HasRooms (state_in S.Store tx.new).now n) }
 {
-    run(
-        tx,
-        "DELETE FROM versions WHERE subject = ?1 AND version = ?2",
-        params![subject, number],
-    )
+    drop::<S, Versions>(tx, params![subject, number])
 }
 
 /// Marks the version of a subject that has the number as deleted, if there is one.

@@ -1,5 +1,5 @@
 -- Tables that have one row for each key.
-use Rattle.std.specs.Prelude.{◌≡◌, ℕ, List, ◌++◌, None}
+use Rattle.std.specs.Prelude.{◌≡◌, ℕ, List, ◌++◌, None, Bool, true, is_some}
 use Rattle.std.specs.declared.cmp.Ordering.{Ordering}
 use Rattle.std.specs.Ordering.{nat_cmp}
 use Rattle.std.specs.FinMap.{FinMap, get, insert, remove}
@@ -11,7 +11,7 @@ use Rattle.reg_tables.specs.TableMaps.{Form}
 use Rattle.reg_tables.specs.Contents.{VersionRow, KeptRow, Contents, text_cmp, version_cmp, text_form, version_form, pair_form, kept_form}
 use Rattle.reg_tables.specs.Inside.Statements.{by_key, by_version, by_id}
 
--- how a table is declared, how a row is found by the columns of its key, and where the contents have what the table holds
+-- how a table is declared, how a row is found by the columns of its key, where the contents have what the table holds, and what an entry refers to
 pub record Keyed (C K V : Type 0) : Type 0 where
   pub at : ℕ
   pub table : Table
@@ -20,6 +20,8 @@ pub record Keyed (C K V : Type 0) : Type 0 where
   pub tests : List Term
   pub map_of : C → FinMap cmp V
   pub with_map : C → FinMap cmp V → C
+  -- what the entry refers to is there
+  pub refers : C → V → Bool
 
 -- a row after its rowid, which SQLite chooses
 abbrev pub cells_of : {C K V : Type 0} → Keyed C K V → K → V → Row
@@ -38,16 +40,16 @@ IsFreeKey t key contents = get (t.map_of contents) key ≡ None
 -- ---- the tables of layout 1
 
 abbrev pub texts_table : Keyed Contents ℕ (List ℕ)
-texts_table = record { at = 0; table = texts; form = text_form; cmp = nat_cmp; tests = by_id; map_of = λ contents. contents.texts; with_map = λ contents map. record contents { texts = map } }
+texts_table = record { at = 0; table = texts; form = text_form; cmp = nat_cmp; tests = by_id; map_of = λ contents. contents.texts; with_map = λ contents map. record contents { texts = map }; refers = λ contents text. true }
 
 abbrev pub versions_table : Keyed Contents (List ℕ × ℕ) VersionRow
-versions_table = record { at = 1; table = versions; form = version_form; cmp = version_cmp; tests = by_version; map_of = λ contents. contents.versions; with_map = λ contents map. record contents { versions = map } }
+versions_table = record { at = 1; table = versions; form = version_form; cmp = version_cmp; tests = by_version; map_of = λ contents. contents.versions; with_map = λ contents map. record contents { versions = map }; refers = λ contents version. is_some (get contents.texts version.id) }
 
 abbrev pub levels_table : Keyed Contents (List ℕ) (List ℕ)
-levels_table = record { at = 2; table = levels; form = pair_form; cmp = text_cmp; tests = by_key; map_of = λ contents. contents.levels; with_map = λ contents map. record contents { levels = map } }
+levels_table = record { at = 2; table = levels; form = pair_form; cmp = text_cmp; tests = by_key; map_of = λ contents. contents.levels; with_map = λ contents map. record contents { levels = map }; refers = λ contents level. true }
 
 abbrev pub kept_table : Keyed Contents (List ℕ) KeptRow
-kept_table = record { at = 3; table = kept; form = kept_form; cmp = text_cmp; tests = by_key; map_of = λ contents. contents.kept; with_map = λ contents map. record contents { kept = map } }
+kept_table = record { at = 3; table = kept; form = kept_form; cmp = text_cmp; tests = by_key; map_of = λ contents. contents.kept; with_map = λ contents map. record contents { kept = map }; refers = λ contents reply. true }
 
 abbrev pub meta_table : Keyed Contents (List ℕ) (List ℕ)
-meta_table = record { at = 4; table = meta; form = pair_form; cmp = text_cmp; tests = by_key; map_of = λ contents. contents.meta; with_map = λ contents map. record contents { meta = map } }
+meta_table = record { at = 4; table = meta; form = pair_form; cmp = text_cmp; tests = by_key; map_of = λ contents. contents.meta; with_map = λ contents map. record contents { meta = map }; refers = λ contents value. true }

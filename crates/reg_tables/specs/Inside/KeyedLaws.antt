@@ -1,5 +1,5 @@
 -- What is asked of a table that has one row for each key.
-use Rattle.std.specs.Prelude.{◌≡◌, ◌≢◌, ◌≤◌, ◌/◌, ◌&&◌, ◌||◌, ◌==◌, not, bytes_eq, ℕ, ℤ, Bool, Option, Some, slice_get, length, drop, List, [], ◌∷◌, true, false}
+use Rattle.std.specs.Prelude.{◌≡◌, ◌≢◌, ◌⊎◌, ◌≤◌, ◌/◌, ◌&&◌, ◌||◌, ◌==◌, not, bytes_eq, ℕ, ℤ, Bool, IsTrue, Option, Some, slice_get, length, drop, List, [], ◌∷◌, true, false}
 use Rattle.std.specs.Ordering.{is_eq}
 use Rattle.std.specs.List.{AllByRecursion, list_all}
 use Rattle.std.specs.FinMap.{FinMap, get, IsAntisymmetric}
@@ -22,6 +22,7 @@ use Rattle.sqlite_schema.specs.declared.schema.Among.TheVariants.{All}
 use Rattle.sqlite_schema.specs.declared.program.Program.{Program}
 use Rattle.sqlite_schema.specs.Rules.{agree, guards, are_typed, has_computed, are_present, passes_checks, Refers, references_fit}
 use Rattle.sqlite_schema.specs.declared.schema.Index.{Index}
+use Rattle.sqlite_rules.specs.Lists.{Has}
 use Rattle.sqlite_typing.specs.Types.{accepts_program, accepts_terms}
 use Rattle.reg_tables.specs.Layout.{IsLayout}
 use Rattle.reg_tables.specs.TableMaps.{IsEntry, ShowsMap, Form}
@@ -107,8 +108,10 @@ pub record IsKeyed {C K V : Type 0} (schema : Schema) (Holds : Database → C �
   pub sound : (db : Database) (contents : C) → Holds db contents → IsDatabase db
   pub shows : (db : Database) (contents : C) → Holds db contents → ShowsMap t.form (db.trees t.table.tree) (get (t.map_of contents))
   pub turned : (old new : Database) (contents : C) → Holds old contents → (later : FinMap t.cmp V) → TurnsTable schema t.form t.table.tree old new (get later) → Holds new (t.with_map contents later)
-  -- no reference is to it or from it
-  pub refers : (old new : Trees) → KeepsOthers schema t.table.tree old new → Refers All schema old → Refers All schema new
+  -- a row that refers to what is there breaks no reference, and no reference is to the table
+  pub put_refers : (db : Database) (contents : C) → Holds db contents → (key : K) (value : V) → IsTrue (t.refers contents value) → (row : Row) → IsEntry t.form row key value
+      → (next : Trees) → KeepsOthers schema t.table.tree db.trees next → ((r : Row) → Has (next t.table.tree) r → (r ≡ row) ⊎ Has (db.trees t.table.tree) r) → Refers All schema db.trees → Refers All schema next
+  pub drop_refers : (old new : Trees) → KeepsOthers schema t.table.tree old new → ((r : Row) → Has (new t.table.tree) r → Has (old t.table.tree) r) → Refers All schema old → Refers All schema new
   pub map_is : (contents : C) (map : FinMap t.cmp V) → t.map_of (t.with_map contents map) ≡ map
   pub last_map : (contents : C) (first last : FinMap t.cmp V) → t.with_map (t.with_map contents first) last ≡ t.with_map contents last
   pub room : (db : Database) (count : ℕ) → Rooms db count → HasRoom (db.trees t.table.tree) count

@@ -19,8 +19,8 @@ pub returns-clause-fault : goal.returns-clause-fault
 returns-clause-fault g c clean =
     let first = state g.S.Store c.args.tx.now.conn.now in
     let last = state g.S.Store c.run.new.tx.conn.now in
-    if_err c.run.result (λ e failed key value cells contents holds free.
-    or_insert_fault first last e (put_fails layout layout_settled Holds HasRooms g.T.KeyedTable.table c.put_sql.ensures.keyed first last contents holds key c.put_sql.result.now c.put_sql.ensures.puts e value free)
+    if_err c.run.result (λ e failed key value cells contents holds free refers.
+    or_insert_fault first last e (put_fails layout layout_settled Holds HasRooms g.T.KeyedTable.table c.put_sql.ensures.keyed first last contents holds key c.put_sql.result.now c.put_sql.ensures.puts e value free refers)
     (rw cells at failed)) (c.run.ensures.failed clean)
 
 pub returns-clause-room : goal.returns-clause-room
@@ -33,6 +33,6 @@ pub returns-clause-fits : goal.returns-clause-fits
 returns-clause-fits g c clean =
     let first = state g.S.Store c.args.tx.now.conn.now in
     let last = state g.S.Store c.run.new.tx.conn.now in
-    if_err c.run.result (λ e failed key value cells contents holds free n rooms stored.
-    as_write_fault first last e (λ ran. put_faults layout layout_settled Holds HasRooms g.T.KeyedTable.table c.put_sql.ensures.keyed first last contents holds key c.put_sql.result.now c.put_sql.ensures.puts e value free ran n rooms (stored (next_rowid (first.now.trees g.T.KeyedTable.table.table.tree))))
+    if_err c.run.result (λ e failed key value cells contents holds free refers n rooms stored.
+    as_write_fault first last e (λ ran. put_faults layout layout_settled Holds HasRooms g.T.KeyedTable.table c.put_sql.ensures.keyed first last contents holds key c.put_sql.result.now c.put_sql.ensures.puts e value free refers ran n rooms (stored (next_rowid (first.now.trees g.T.KeyedTable.table.table.tree))))
     (rw cells at failed)) (c.run.ensures.failed clean)

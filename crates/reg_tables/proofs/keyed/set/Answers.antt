@@ -22,7 +22,7 @@ returns-clause-set g c clean =
 
 pub returns-in_err-drop-clause-fault : goal.returns-in_err-drop-clause-fault
 returns-in_err-drop-clause-fault g c clean =
-    if_err_is c.from_residual.result _ c.in_err-drop.field-0.0 c.from_residual.ensures.1 (λ key value by cells contents holds. inl (inl (c.in_err-drop.ensures.fault clean key by contents holds)))
+    if_err_is c.from_residual.result _ c.in_err-drop.field-0.0 c.from_residual.ensures.1 (λ key value by cells contents holds refers. inl (inl (c.in_err-drop.ensures.fault clean key by contents holds)))
 
 pub returns-clause-fault : goal.returns-clause-fault
 returns-clause-fault g c clean =
@@ -30,9 +30,9 @@ returns-clause-fault g c clean =
     let mid = state g.S.Store c.drop.new.tx.conn.now in
     let early : HasCleanDisk mid = omega (arith, c.put.ensures.frame.keeps.survives.clean) in
     let t = g.T.KeyedTable.table in
-    if_err c.put.result (λ e failed key value by cells contents holds.
+    if_err c.put.result (λ e failed key value by cells contents holds refers.
     insert_fault_later first mid (state g.S.Store c.put.new.tx.conn.now) c.drop.ensures.frame.keeps.survives early c.put.ensures.frame.keeps.survives.counts (c.in_ok-drop.ensures.frame.inside early) e
-    (failed key value cells (without_entry t key contents) (c.in_ok-drop.ensures.dropped early key by contents holds) (free_once_dropped layout layout_settled Holds HasRooms t c.drop.ensures.keyed contents key))) (c.put.ensures.fault clean)
+    (failed key value cells (without_entry t key contents) (c.in_ok-drop.ensures.dropped early key by contents holds) (free_once_dropped layout layout_settled Holds HasRooms t c.drop.ensures.keyed contents key) refers)) (c.put.ensures.fault clean)
 
 pub returns-clause-room : goal.returns-clause-room
 returns-clause-room g c clean =
@@ -44,7 +44,7 @@ returns-clause-room g c clean =
 
 pub returns-in_err-drop-clause-fits : goal.returns-in_err-drop-clause-fits
 returns-in_err-drop-clause-fits g c clean =
-    if_err_is c.from_residual.result _ c.in_err-drop.field-0.0 c.from_residual.ensures.1 (λ key value by cells contents holds n rooms stored. c.in_err-drop.ensures.fault clean key by contents holds)
+    if_err_is c.from_residual.result _ c.in_err-drop.field-0.0 c.from_residual.ensures.1 (λ key value by cells contents holds refers n rooms stored. c.in_err-drop.ensures.fault clean key by contents holds)
 
 pub returns-clause-fits : goal.returns-clause-fits
 returns-clause-fits g c clean =
@@ -53,7 +53,7 @@ returns-clause-fits g c clean =
     let last = state g.S.Store c.put.new.tx.conn.now in
     let early : HasCleanDisk mid = omega (arith, c.put.ensures.frame.keeps.survives.clean) in
     let t = g.T.KeyedTable.table in
-    if_err c.put.result (λ e fits key value by cells contents holds n rooms stored.
+    if_err c.put.result (λ e fits key value by cells contents holds refers n rooms stored.
     write_fault_later first mid last c.drop.ensures.frame.keeps.survives early c.put.ensures.frame.keeps.survives.counts (c.in_ok-drop.ensures.frame.inside early) e
-    (fits key value cells (without_entry t key contents) (c.in_ok-drop.ensures.dropped early key by contents holds) (free_once_dropped layout layout_settled Holds HasRooms t c.drop.ensures.keyed contents key) n
+    (fits key value cells (without_entry t key contents) (c.in_ok-drop.ensures.dropped early key by contents holds) (free_once_dropped layout layout_settled Holds HasRooms t c.drop.ensures.keyed contents key) refers n
     (c.in_ok-drop.ensures.room early key by contents holds (n + 1) rooms) stored)) (c.put.ensures.fits clean)

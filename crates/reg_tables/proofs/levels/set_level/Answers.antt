@@ -8,7 +8,7 @@ returns-clause-set g c clean =
 
 pub returns-clause-fault : goal.returns-clause-fault
 returns-clause-fault g c clean =
-    if_err c.set.result (λ e fault. fault c.args.subject.now c.args.level.now (rw c.params-to_sql.ensures refl) (rw (c.params-to_sql-2.ensures, c.params-to_sql-3.ensures) refl)) (c.set.ensures.fault clean)
+    if_err c.set.result (λ e fault contents holds. fault c.args.subject.now c.args.level.now (rw c.params-to_sql.ensures refl) (rw (c.params-to_sql-2.ensures, c.params-to_sql-3.ensures) refl) contents holds refl) (c.set.ensures.fault clean)
 
 pub returns-clause-room : goal.returns-clause-room
 returns-clause-room g c clean =
@@ -16,4 +16,4 @@ returns-clause-room g c clean =
 
 pub returns-clause-fits : goal.returns-clause-fits
 returns-clause-fits g c clean =
-    if_err c.set.result (λ e fits. fits c.args.subject.now c.args.level.now (rw c.params-to_sql.ensures refl) (rw (c.params-to_sql-2.ensures, c.params-to_sql-3.ensures) refl)) (c.set.ensures.fits clean)
+    if_err c.set.result (λ e fits contents holds. fits c.args.subject.now c.args.level.now (rw c.params-to_sql.ensures refl) (rw (c.params-to_sql-2.ensures, c.params-to_sql-3.ensures) refl) contents holds refl) (c.set.ensures.fits clean)

@@ -6,10 +6,10 @@ pub returns-clause-put : goal.returns-clause-put
 returns-clause-put g c clean = on_ok c.put.result (λ put. put c.args.name.now c.args.value.now (rw (c.params-to_sql.ensures, c.params-to_sql-2.ensures) refl)) (c.put.ensures.put clean)
 
 pub returns-clause-fault : goal.returns-clause-fault
-returns-clause-fault g c clean = if_err c.put.result (λ e fault. fault c.args.name.now c.args.value.now (rw (c.params-to_sql.ensures, c.params-to_sql-2.ensures) refl)) (c.put.ensures.fault clean)
+returns-clause-fault g c clean = if_err c.put.result (λ e fault contents holds free. fault c.args.name.now c.args.value.now (rw (c.params-to_sql.ensures, c.params-to_sql-2.ensures) refl) contents holds free refl) (c.put.ensures.fault clean)
 
 pub returns-clause-room : goal.returns-clause-room
 returns-clause-room g c clean = on_ok c.put.result (λ room. room c.args.name.now c.args.value.now (rw (c.params-to_sql.ensures, c.params-to_sql-2.ensures) refl)) (c.put.ensures.room clean)
 
 pub returns-clause-fits : goal.returns-clause-fits
-returns-clause-fits g c clean = if_err c.put.result (λ e fits. fits c.args.name.now c.args.value.now (rw (c.params-to_sql.ensures, c.params-to_sql-2.ensures) refl)) (c.put.ensures.fits clean)
+returns-clause-fits g c clean = if_err c.put.result (λ e fits contents holds free. fits c.args.name.now c.args.value.now (rw (c.params-to_sql.ensures, c.params-to_sql-2.ensures) refl) contents holds free refl) (c.put.ensures.fits clean)
