@@ -24,8 +24,8 @@ use anyhow::{Context, Result, bail, ensure};
 use avro_resolve::{resolves, resolves_plain};
 use avro_schema::Schema;
 use random::random_text;
-use reading::READING;
-use resolution::RESOLUTION;
+use reading::reading;
+use resolution::resolution;
 use shape::Shape;
 use std::alloc::Global;
 use std::{env, fs};
@@ -119,11 +119,6 @@ fn answer_random(rt: &HostRuntime) -> Result<()> {
     Ok(())
 }
 
-/// The shapes that are read, or those that are resolved.
-fn shapes(is_read: bool) -> &'static [Shape] {
-    if is_read { &READING } else { &RESOLUTION }
-}
-
 /// Measures a shape with each of the counts.
 fn measure(rt: &HostRuntime, is_read: bool, shape: &Shape, counts: &[u32]) -> Result<()> {
     for count in counts {
@@ -138,8 +133,9 @@ fn measure(rt: &HostRuntime, is_read: bool, shape: &Shape, counts: &[u32]) -> Re
 
 /// Measures the shapes of this name, with this count or with each of their own.
 fn measure_all(rt: &HostRuntime, is_read: bool, name: &str, count: Option<u32>) -> Result<()> {
+    let shapes = if is_read { reading() } else { resolution() };
     let mut found = false;
-    for shape in shapes(is_read) {
+    for shape in shapes {
         if name == "all" || name == shape.name {
             found = true;
             match count {

@@ -1,28 +1,19 @@
 //! The texts that are read.
 
-use crate::shape::{NO_TEXT, NONE, Numbers, ONCE, Part, Shape, Text};
+use crate::shape::{NO_TEXT, Shape, Text};
 
 /// What is measured by reading.
-pub static READING: [Shape; 11] = [
-    // fields of type int, each third with a default
+static READING: [Shape; 11] = [
+    // threes of fields of type int, one of them with a default
     Shape {
         name: "fields",
-        counts: &[1, 3, 9, 100, 1000, 4000],
-        inner: NONE,
+        counts: &[1, 3, 33, 333, 1333],
+        inner: "",
         writer: Text {
             word: "",
-            parts: &[
-                Part(ONCE, &[r#"{"type":"record","name":"Root","fields":["#]),
-                Part(
-                    Numbers::Each,
-                    &[
-                        r#";{"name":"field_#","type":"int","default":#}"#,
-                        r#";{"name":"field_#","type":"int"}"#,
-                        r#";{"name":"field_#","type":"int"}"#,
-                    ],
-                ),
-                Part(ONCE, &[r#"]}"#]),
-            ],
+            parts: r##"once {"type":"record","name":"Root","fields":[
+each ;{"name":"first_#","type":"int","default":#},{"name":"second_#","type":"int"},{"name":"third_#","type":"int"}
+once ]}"##,
         },
         reader: NO_TEXT,
     },
@@ -30,22 +21,12 @@ pub static READING: [Shape; 11] = [
     Shape {
         name: "nested",
         counts: &[1, 10, 100],
-        inner: Part(
-            Numbers::Of(1, 20),
-            &[r#"{"type":"record","name":"Nested_#","fields":[{"name":"inner","type":"#],
-        ),
+        inner: r##"1..20 {"type":"record","name":"Nested_#","fields":[{"name":"inner","type":"##,
         writer: Text {
             word: "",
-            parts: &[
-                Part(ONCE, &[r#"{"type":"record","name":"Root","fields":["#]),
-                Part(
-                    Numbers::Each,
-                    &[
-                        r#";{"name":"field_#","type":{"type":"record","name":"space_#.Nested_0","fields":[{"name":"inner","type":@"int"}]}}]}}]}}]}}]}}]}}]}}]}}]}}]}}]}}]}}]}}]}}]}}]}}]}}]}}]}}]}}"#,
-                    ],
-                ),
-                Part(ONCE, &[r#"]}"#]),
-            ],
+            parts: r##"once {"type":"record","name":"Root","fields":[
+each ;{"name":"field_#","type":{"type":"record","name":"space_#.Nested_0","fields":[{"name":"inner","type":@"int"}]}}]}}]}}]}}]}}]}}]}}]}}]}}]}}]}}]}}]}}]}}]}}]}}]}}]}}]}}]}}
+once ]}"##,
         },
         reader: NO_TEXT,
     },
@@ -53,46 +34,25 @@ pub static READING: [Shape; 11] = [
     Shape {
         name: "aliased",
         counts: &[1, 10, 100, 1000],
-        inner: NONE,
+        inner: "",
         writer: Text {
             word: "",
-            parts: &[
-                Part(
-                    ONCE,
-                    &[
-                        r#"{"type":"record","name":"Root","namespace":"bench.aliased","aliases":["Old","other.Old"],"fields":["#,
-                    ],
-                ),
-                Part(
-                    Numbers::Each,
-                    &[
-                        r#";{"name":"field_#","aliases":["first_#","second_#"],"type":{"type":"record","name":"Inner_#","aliases":["Old_#","other.Old_#"],"fields":[{"name":"value","type":"int","aliases":["number"]}]}}"#,
-                    ],
-                ),
-                Part(ONCE, &[r#"]}"#]),
-            ],
+            parts: r##"once {"type":"record","name":"Root","namespace":"bench.aliased","aliases":["Old","other.Old"],"fields":[
+each ;{"name":"field_#","aliases":["first_#","second_#"],"type":{"type":"record","name":"Inner_#","aliases":["Old_#","other.Old_#"],"fields":[{"name":"value","type":"int","aliases":["number"]}]}}
+once ]}"##,
         },
         reader: NO_TEXT,
     },
-    // branches: a record, an enum and a fixed by turns
+    // threes of branches: a record, an enum and a fixed
     Shape {
         name: "union",
-        counts: &[3, 10, 100, 1000],
-        inner: NONE,
+        counts: &[1, 3, 33, 333],
+        inner: "",
         writer: Text {
             word: "",
-            parts: &[
-                Part(ONCE, &[r#"["#]),
-                Part(
-                    Numbers::Each,
-                    &[
-                        r#";{"type":"record","name":"Branch_#","fields":[]}"#,
-                        r#";{"type":"enum","name":"Branch_#","symbols":["A","B"]}"#,
-                        r#";{"type":"fixed","name":"Branch_#","size":16}"#,
-                    ],
-                ),
-                Part(ONCE, &[r#"]"#]),
-            ],
+            parts: r##"once [
+each ;{"type":"record","name":"Record_#","fields":[]},{"type":"enum","name":"Enum_#","symbols":["A","B"]},{"type":"fixed","name":"Fixed_#","size":16}
+once ]"##,
         },
         reader: NO_TEXT,
     },
@@ -100,24 +60,14 @@ pub static READING: [Shape; 11] = [
     Shape {
         name: "defaults",
         counts: &[3, 10, 100, 1000],
-        inner: NONE,
+        inner: "",
         writer: Text {
             word: "",
-            parts: &[
-                Part(
-                    ONCE,
-                    &[
-                        r#"{"type":"record","name":"Root","fields":[{"name":"items","type":{"type":"array","items":{"type":"record","name":"Item","fields":["#,
-                    ],
-                ),
-                Part(
-                    Numbers::Each,
-                    &[r#";{"name":"field_#","type":"int","default":#}"#],
-                ),
-                Part(ONCE, &[r#"]}},"default":["#]),
-                Part(Numbers::Each, &[r#";{}"#]),
-                Part(ONCE, &[r#"]}]}"#]),
-            ],
+            parts: r##"once {"type":"record","name":"Root","fields":[{"name":"items","type":{"type":"array","items":{"type":"record","name":"Item","fields":[
+each ;{"name":"field_#","type":"int","default":#}
+once ]}},"default":[
+each ;{}
+once ]}]}"##,
         },
         reader: NO_TEXT,
     },
@@ -125,14 +75,12 @@ pub static READING: [Shape; 11] = [
     Shape {
         name: "symbols",
         counts: &[10, 1000, 60000],
-        inner: NONE,
+        inner: "",
         writer: Text {
             word: "",
-            parts: &[
-                Part(ONCE, &[r#"{"type":"enum","name":"Root","symbols":["#]),
-                Part(Numbers::Each, &[r##";"SYMBOL_#""##]),
-                Part(ONCE, &[r#"]}"#]),
-            ],
+            parts: r##"once {"type":"enum","name":"Root","symbols":[
+each ;"SYMBOL_#"
+once ]}"##,
         },
         reader: NO_TEXT,
     },
@@ -140,14 +88,12 @@ pub static READING: [Shape; 11] = [
     Shape {
         name: "parts",
         counts: &[10, 1000, 500000],
-        inner: NONE,
+        inner: "",
         writer: Text {
             word: "",
-            parts: &[
-                Part(ONCE, &[r#"{"type":"fixed","size":1,"name":"a"#]),
-                Part(Numbers::Each, &[r#".a"#]),
-                Part(ONCE, &[r#""}"#]),
-            ],
+            parts: r##"once {"type":"fixed","size":1,"name":"a
+each .a
+once "}"##,
         },
         reader: NO_TEXT,
     },
@@ -155,21 +101,14 @@ pub static READING: [Shape; 11] = [
     Shape {
         name: "references",
         counts: &[1000, 4000, 15000, 25000],
-        inner: NONE,
+        inner: "",
         writer: Text {
             word: "",
-            parts: &[
-                Part(
-                    ONCE,
-                    &[
-                        r#"[{"type":"fixed","name":"A","size":1},{"type":"record","name":"Root","namespace":"a"#,
-                    ],
-                ),
-                Part(Numbers::Filling(30), &[r#"a"#]),
-                Part(ONCE, &[r#"","fields":["#]),
-                Part(Numbers::Each, &[r#";{"name":"a#","type":"A"}"#]),
-                Part(ONCE, &[r#"]}]"#]),
-            ],
+            parts: r##"once [{"type":"fixed","name":"A","size":1},{"type":"record","name":"Root","namespace":"a
+30 a
+once ","fields":[
+each ;{"name":"a#","type":"A"}
+once ]}]"##,
         },
         reader: NO_TEXT,
     },
@@ -178,16 +117,14 @@ pub static READING: [Shape; 11] = [
     Shape {
         name: "branches",
         counts: &[100, 1000, 10000, 100000, 187000],
-        inner: NONE,
+        inner: "",
         writer: Text {
             word: "",
-            parts: &[
-                Part(ONCE, &[r#"{"type":"record","name":"A","namespace":"a"#]),
-                Part(Numbers::Filling(4), &[r#"a"#]),
-                Part(ONCE, &[r#"","fields":[{"name":"a","type":["#]),
-                Part(Numbers::Each, &[r#";"A""#]),
-                Part(ONCE, &[r#"]}]}"#]),
-            ],
+            parts: r##"once {"type":"record","name":"A","namespace":"a
+4 a
+once ","fields":[{"name":"a","type":[
+each ;"A"
+once ]}]}"##,
         },
         reader: NO_TEXT,
     },
@@ -195,14 +132,12 @@ pub static READING: [Shape; 11] = [
     Shape {
         name: "objects",
         counts: &[10, 1000, 140000],
-        inner: NONE,
+        inner: "",
         writer: Text {
             word: "",
-            parts: &[
-                Part(ONCE, &[r#"{"type":"int","doc":["#]),
-                Part(Numbers::Each, &[r#";{"":0}"#]),
-                Part(ONCE, &[r#"]}"#]),
-            ],
+            parts: r##"once {"type":"int","doc":[
+each ;{"":0}
+once ]}"##,
         },
         reader: NO_TEXT,
     },
@@ -210,20 +145,18 @@ pub static READING: [Shape; 11] = [
     Shape {
         name: "chains",
         counts: &[1, 100, 9000],
-        inner: NONE,
+        inner: "",
         writer: Text {
             word: "",
-            parts: &[
-                Part(ONCE, &[r#"{"type":"int","doc":["#]),
-                Part(
-                    Numbers::Each,
-                    &[
-                        r#";{"":{"":{"":{"":{"":{"":{"":{"":{"":{"":{"":{"":{"":{"":{"":{"":{"":{"":{"":{"":0}}}}}}}}}}}}}}}}}}}}"#,
-                    ],
-                ),
-                Part(ONCE, &[r#"]}"#]),
-            ],
+            parts: r##"once {"type":"int","doc":[
+each ;{"":{"":{"":{"":{"":{"":{"":{"":{"":{"":{"":{"":{"":{"":{"":{"":{"":{"":{"":{"":0}}}}}}}}}}}}}}}}}}}}
+once ]}"##,
         },
         reader: NO_TEXT,
     },
 ];
+
+/// The shapes that are read.
+pub fn reading() -> &'static [Shape] {
+    &READING
+}

@@ -1,201 +1,99 @@
 //! The pairs of texts that are resolved.
 
-use crate::shape::{NONE, Numbers, ONCE, Part, Shape, Text};
+use crate::shape::{Shape, Text};
 
 /// A record of fields of one type.
-const FIELDS: &[Part] = &[
-    Part(ONCE, &[r#"{"type":"record","name":"R","fields":["#]),
-    Part(Numbers::Each, &[r#";{"name":"f#","type":$}"#]),
-    Part(ONCE, &[r#"]}"#]),
-];
+const FIELDS: &str = r##"once {"type":"record","name":"R","fields":[
+each ;{"name":"f#","type":$}
+once ]}"##;
 
 /// A union of records.
-const UNION: &[Part] = &[
-    Part(ONCE, &[r#"["#]),
-    Part(
-        Numbers::Each,
-        &[r#";{"type":"record","name":"A#","fields":[{"name":"f","type":"int"}]}"#],
-    ),
-    Part(ONCE, &[r#"]"#]),
-];
+const UNION: &str = r##"once [
+each ;{"type":"record","name":"A#","fields":[{"name":"f","type":"int"}]}
+once ]"##;
 
 /// Records, each with a field of the one before it.
-const CHAIN: &[Part] = &[
-    Part(
-        ONCE,
-        &[r#"[{"type":"record","name":"n.A0","fields":[{"name":"f","type":$}]}"#],
-    ),
-    Part(
-        Numbers::Later,
-        &[r#",{"type":"record","name":"n.A#","fields":[{"name":"f","type":"n.A<"}]}"#],
-    ),
-    Part(ONCE, &[r#"]"#]),
-];
-
-/// A record from which records of one last name go, each with a field of the next one.
-const CYCLE: &[Part] = &[
-    Part(
-        ONCE,
-        &[r#"{"type":"record","name":"c.A","fields":[{"name":"d","type":["null""#],
-    ),
-    Part(
-        Numbers::Last,
-        &[r#",{"type":"record","name":"n#.A","fields":[{"name":"f","type":$}]}"#],
-    ),
-    Part(
-        Numbers::Down,
-        &[r#",{"type":"record","name":"n#.A","fields":[{"name":"f","type":"n>.A"}]}"#],
-    ),
-    Part(ONCE, &[r#"],"default":null},{"name":"f","type":"n1.A"}]}"#]),
-];
-
-/// Records in one another, 20 deep.
-const NESTED: &[Part] = &[
-    Part(
-        Numbers::Of(0, 20),
-        &[r#"{"type":"record","name":"R#","fields":[@{"name":"next","type":"#],
-    ),
-    Part(
-        ONCE,
-        &[r#""int"}]}}]}}]}}]}}]}}]}}]}}]}}]}}]}}]}}]}}]}}]}}]}}]}}]}}]}}]}}]}"#],
-    ),
-];
-
-/// A record of fields of a binary tree.
-const TREE: &[Part] = &[
-    Part(
-        ONCE,
-        &[
-            r#"{"type":"record","name":"R","fields":[{"name":"f","type":{"type":"record","name":"Tree","fields":[{"name":"value","type":"int"},{"name":"left","type":["null","Tree"]},{"name":"right","type":["null","Tree"]}]}}"#,
-        ],
-    ),
-    Part(Numbers::Later, &[r#",{"name":"f#","type":"Tree"}"#]),
-    Part(ONCE, &[r#"]}"#]),
-];
-
-/// An enum.
-const ENUM: &[Part] = &[
-    Part(ONCE, &[r#"{"type":"enum","name":"E","symbols":["#]),
-    Part(Numbers::Later, &[r#""~","#]),
-    Part(ONCE, &[r#""a"]}"#]),
-];
-
-/// Enums of one last name.
-const ENUMS: &[Part] = &[
-    Part(ONCE, &[r#"["#]),
-    Part(
-        Numbers::Each,
-        &[r#";{"type":"enum","name":"n#.A","symbols":[@"$"]}"#],
-    ),
-    Part(ONCE, &[r#"]"#]),
-];
+const CHAIN: &str = r##"once [{"type":"record","name":"n.A0","fields":[{"name":"f","type":$}]}
+later ,{"type":"record","name":"n.A#","fields":[{"name":"f","type":"n.A<"}]}
+once ]"##;
 
 /// The same, of one last name.
-const ONE_NAME: &[Part] = &[
-    Part(
-        ONCE,
-        &[r#"[{"type":"record","name":"n0.A","fields":[{"name":"f","type":$}]}"#],
-    ),
-    Part(
-        Numbers::Later,
-        &[r#",{"type":"record","name":"n#.A","fields":[{"name":"f","type":"n<.A"}]}"#],
-    ),
-    Part(ONCE, &[r#"]"#]),
-];
+const ONE_NAME: &str = r##"once [{"type":"record","name":"n0.A","fields":[{"name":"f","type":$}]}
+later ,{"type":"record","name":"n#.A","fields":[{"name":"f","type":"n<.A"}]}
+once ]"##;
+
+/// A record from which records of one last name go, each with a field of the next one.
+const CYCLE: &str = r##"once {"type":"record","name":"c.A","fields":[{"name":"d","type":["null"
+last ,{"type":"record","name":"n#.A","fields":[{"name":"f","type":$}]}
+down ,{"type":"record","name":"n#.A","fields":[{"name":"f","type":"n>.A"}]}
+once ],"default":null},{"name":"f","type":"n1.A"}]}"##;
+
+/// Records in one another, 20 deep.
+const NESTED: &str = r##"0..20 {"type":"record","name":"R#","fields":[@{"name":"next","type":
+once "int"}]}}]}}]}}]}}]}}]}}]}}]}}]}}]}}]}}]}}]}}]}}]}}]}}]}}]}}]}}]}"##;
+
+/// A record of fields of a binary tree.
+const TREE: &str =
+    r##"once {"type":"record","name":"R","fields":[{"name":"f","type":{"type":"record","name":"Tree","fields":[{"name":"value","type":"int"},{"name":"left","type":["null","Tree"]},{"name":"right","type":["null","Tree"]}]}}
+later ,{"name":"f#","type":"Tree"}
+once ]}"##;
+
+/// An enum.
+const ENUM: &str = r##"once {"type":"enum","name":"E","symbols":[
+later "~",
+once "a"]}"##;
+
+/// Enums of one last name.
+const ENUMS: &str = r##"once [
+each ;{"type":"enum","name":"n#.A","symbols":[@"$"]}
+once ]"##;
 
 /// Records of one last name with a field of one record.
-const FAN: &[Part] = &[
-    Part(
-        ONCE,
-        &[r#"[{"type":"record","name":"n.Z","fields":[{"name":"f","type":$}]}"#],
-    ),
-    Part(
-        Numbers::Each,
-        &[r#",{"type":"record","name":"n#.A","fields":[{"name":"f","type":"n.Z"}]}"#],
-    ),
-    Part(ONCE, &[r#"]"#]),
-];
+const FAN: &str = r##"once [{"type":"record","name":"n.Z","fields":[{"name":"f","type":$}]}
+each ,{"type":"record","name":"n#.A","fields":[{"name":"f","type":"n.Z"}]}
+once ]"##;
 
 /// A record with a field for each of other records.
-const REFERENCES: &[Part] = &[
-    Part(
-        ONCE,
-        &[r#"{"type":"record","name":"R","fields":[{"name":"d","type":["null""#],
-    ),
-    Part(
-        Numbers::Each,
-        &[r#",{"type":"record","name":"n#.A","fields":[{"name":"f#","type":"int"}]}"#],
-    ),
-    Part(ONCE, &[r#"],"default":null}"#]),
-    Part(Numbers::Each, &[r#",{"name":"g#","type":"n#.A"}"#]),
-    Part(ONCE, &[r#"]}"#]),
-];
+const REFERENCES: &str = r##"once {"type":"record","name":"R","fields":[{"name":"d","type":["null"
+each ,{"type":"record","name":"n#.A","fields":[{"name":"f#","type":"int"}]}
+once ],"default":null}
+each ,{"name":"g#","type":"n#.A"}
+once ]}"##;
 
 /// An enum of 20,000 symbols, and records with a field of it and another one.
-const RETAKEN: &[Part] = &[
-    Part(ONCE, &[r#"[{"type":"enum","name":"E","symbols":["#]),
-    Part(Numbers::Of(1, 20000), &[r#""~","#]),
-    Part(ONCE, &[r#""a"]}"#]),
-    Part(
-        Numbers::Each,
-        &[
-            r#",{"type":"record","name":"n#.A","fields":[{"name":"e","type":"E"},{"name":"f","type":$}]}"#,
-        ],
-    ),
-    Part(ONCE, &[r#"]"#]),
-];
+const RETAKEN: &str = r##"once [{"type":"enum","name":"E","symbols":[
+1..20000 "~",
+once "a"]}
+each ,{"type":"record","name":"n#.A","fields":[{"name":"e","type":"E"},{"name":"f","type":$}]}
+once ]"##;
 
 /// A chain beside an enum of 5000 symbols.
-const BESIDE: &[Part] = &[
-    Part(ONCE, &[r#"[{"type":"enum","name":"E","symbols":["#]),
-    Part(Numbers::Of(1, 5000), &[r#""~","#]),
-    Part(
-        ONCE,
-        &[r#""a"]},{"type":"record","name":"n.A0","fields":[{"name":"f","type":$}]}"#],
-    ),
-    Part(
-        Numbers::Later,
-        &[r#",{"type":"record","name":"n.A#","fields":[{"name":"f","type":"n.A<"}]}"#],
-    ),
-    Part(ONCE, &[r#"]"#]),
-];
+const BESIDE: &str = r##"once [{"type":"enum","name":"E","symbols":[
+1..5000 "~",
+once "a"]},{"type":"record","name":"n.A0","fields":[{"name":"f","type":$}]}
+later ,{"type":"record","name":"n.A#","fields":[{"name":"f","type":"n.A<"}]}
+once ]"##;
 
 /// Records of one last name, and eleven fields of the union of them.
-const UNIONS: &[Part] = &[
-    Part(
-        ONCE,
-        &[r#"{"type":"record","name":"R","fields":[{"name":"d","type":["null","#],
-    ),
-    Part(
-        Numbers::Each,
-        &[r#";{"type":"record","name":"n#.A","fields":[{"name":"f","type":$}]}"#],
-    ),
-    Part(ONCE, &[r#"],"default":null}"#]),
-    Part(Numbers::Of(0, 11), &[r#",{"name":"u#","type":[@]}"#]),
-    Part(ONCE, &[r#"]}"#]),
-];
+const UNIONS: &str = r##"once {"type":"record","name":"R","fields":[{"name":"d","type":["null",
+each ;{"type":"record","name":"n#.A","fields":[{"name":"f","type":$}]}
+once ],"default":null}
+0..11 ,{"name":"u#","type":[@]}
+once ]}"##;
 
 /// Records of one last name, and eleven with a field for each of them.
-const WIDE: &[Part] = &[
-    Part(ONCE, &[r#"["#]),
-    Part(
-        Numbers::Each,
-        &[r#";{"type":"record","name":"n#.A","fields":[{"name":"f#","type":"int"}]}"#],
-    ),
-    Part(
-        Numbers::Of(0, 11),
-        &[r#",{"type":"record","name":"w#.W","fields":[@]}"#],
-    ),
-    Part(ONCE, &[r#"]"#]),
-];
+const WIDE: &str = r##"once [
+each ;{"type":"record","name":"n#.A","fields":[{"name":"f#","type":"int"}]}
+0..11 ,{"type":"record","name":"w#.W","fields":[@]}
+once ]"##;
 
 /// What is measured by resolving.
-pub static RESOLUTION: [Shape; 23] = [
+static RESOLUTION: [Shape; 23] = [
     // a record of fields of type int, with itself
     Shape {
         name: "fields",
         counts: &[10, 100, 1000, 4095],
-        inner: NONE,
+        inner: "",
         writer: Text {
             word: r#""int""#,
             parts: FIELDS,
@@ -209,25 +107,23 @@ pub static RESOLUTION: [Shape; 23] = [
     Shape {
         name: "reversed",
         counts: &[10, 100, 1000, 4095],
-        inner: NONE,
+        inner: "",
         writer: Text {
             word: r#""int""#,
             parts: FIELDS,
         },
         reader: Text {
             word: r#""int""#,
-            parts: &[
-                Part(ONCE, &[r#"{"type":"record","name":"R","fields":["#]),
-                Part(Numbers::Down, &[r#"{"name":"f#","type":$},"#]),
-                Part(ONCE, &[r#"{"name":"f0","type":$}]}"#]),
-            ],
+            parts: r##"once {"type":"record","name":"R","fields":[
+down {"name":"f#","type":$},
+once {"name":"f0","type":$}]}"##,
         },
     },
     // the same, where the reader has strings
     Shape {
         name: "other-types",
         counts: &[10, 100, 1000, 4095],
-        inner: NONE,
+        inner: "",
         writer: Text {
             word: r#""int""#,
             parts: FIELDS,
@@ -241,7 +137,7 @@ pub static RESOLUTION: [Shape; 23] = [
     Shape {
         name: "nested",
         counts: &[1, 10, 100],
-        inner: Part(Numbers::Each, &[r#"{"name":"f#","type":"int"},"#]),
+        inner: r##"each {"name":"f#","type":"int"},"##,
         writer: Text {
             word: "",
             parts: NESTED,
@@ -255,7 +151,7 @@ pub static RESOLUTION: [Shape; 23] = [
     Shape {
         name: "tree",
         counts: &[1, 100],
-        inner: NONE,
+        inner: "",
         writer: Text {
             word: "",
             parts: TREE,
@@ -269,7 +165,7 @@ pub static RESOLUTION: [Shape; 23] = [
     Shape {
         name: "union",
         counts: &[100, 680],
-        inner: NONE,
+        inner: "",
         writer: Text {
             word: "",
             parts: UNION,
@@ -283,7 +179,7 @@ pub static RESOLUTION: [Shape; 23] = [
     Shape {
         name: "enum",
         counts: &[100, 1000, 10000, 140000],
-        inner: NONE,
+        inner: "",
         writer: Text {
             word: "",
             parts: ENUM,
@@ -297,7 +193,7 @@ pub static RESOLUTION: [Shape; 23] = [
     Shape {
         name: "enums",
         counts: &[100, 1000, 3500],
-        inner: Part(Numbers::Of(1, 60), &[r#""~","#]),
+        inner: r##"1..60 "~","##,
         writer: Text {
             word: "a",
             parts: ENUMS,
@@ -312,31 +208,23 @@ pub static RESOLUTION: [Shape; 23] = [
     Shape {
         name: "last-symbols",
         counts: &[100, 499],
-        inner: Part(Numbers::Of(1, 340), &[r#""~","#]),
+        inner: r##"1..340 "~","##,
         writer: Text {
             word: "Guh",
             parts: ENUMS,
         },
         reader: Text {
             word: "Huh",
-            parts: &[
-                Part(ONCE, &[r#"["#]),
-                Part(
-                    Numbers::Each,
-                    &[r#";{"type":"enum","name":"n#.A","symbols":[@"$"]}"#],
-                ),
-                Part(
-                    ONCE,
-                    &[r#",{"type":"enum","name":"z.A","symbols":["other"],"default":"other"}]"#],
-                ),
-            ],
+            parts: r##"once [
+each ;{"type":"enum","name":"n#.A","symbols":[@"$"]}
+once ,{"type":"enum","name":"z.A","symbols":["other"],"default":"other"}]"##,
         },
     },
     // a union of records, each with a field of the one before it, with itself
     Shape {
         name: "chain",
         counts: &[100, 1000, 4000],
-        inner: NONE,
+        inner: "",
         writer: Text {
             word: r#""int""#,
             parts: CHAIN,
@@ -350,7 +238,7 @@ pub static RESOLUTION: [Shape; 23] = [
     Shape {
         name: "broken-chain",
         counts: &[100, 1000, 4000],
-        inner: NONE,
+        inner: "",
         writer: Text {
             word: r#""int""#,
             parts: CHAIN,
@@ -364,7 +252,7 @@ pub static RESOLUTION: [Shape; 23] = [
     Shape {
         name: "one-name",
         counts: &[100, 1000, 4000],
-        inner: NONE,
+        inner: "",
         writer: Text {
             word: r#""int""#,
             parts: ONE_NAME,
@@ -378,7 +266,7 @@ pub static RESOLUTION: [Shape; 23] = [
     Shape {
         name: "fan",
         counts: &[100, 1000, 4000],
-        inner: NONE,
+        inner: "",
         writer: Text {
             word: r#""int""#,
             parts: FAN,
@@ -392,30 +280,17 @@ pub static RESOLUTION: [Shape; 23] = [
     Shape {
         name: "cycles",
         counts: &[40, 400, 4000],
-        inner: NONE,
+        inner: "",
         writer: Text {
             word: r#""c.A""#,
             parts: CYCLE,
         },
         reader: Text {
             word: r#""n.A""#,
-            parts: &[
-                Part(
-                    ONCE,
-                    &[
-                        r#"{"type":"record","name":"c.A","fields":[{"name":"d","type":["null",{"type":"record","name":"n.A","fields":[{"name":"f","type":"c.A"}]}"#,
-                    ],
-                ),
-                Part(
-                    Numbers::Last,
-                    &[r#",{"type":"record","name":"n#.A","fields":[{"name":"f","type":$}]}"#],
-                ),
-                Part(
-                    Numbers::Down,
-                    &[r#",{"type":"record","name":"n#.A","fields":[{"name":"f","type":"n>.A"}]}"#],
-                ),
-                Part(ONCE, &[r#"],"default":null},{"name":"f","type":"n1.A"}]}"#]),
-            ],
+            parts: r##"once {"type":"record","name":"c.A","fields":[{"name":"d","type":["null",{"type":"record","name":"n.A","fields":[{"name":"f","type":"c.A"}]}
+last ,{"type":"record","name":"n#.A","fields":[{"name":"f","type":$}]}
+down ,{"type":"record","name":"n#.A","fields":[{"name":"f","type":"n>.A"}]}
+once ],"default":null},{"name":"f","type":"n1.A"}]}"##,
         },
     },
     // a record from which records of one last name go, the last of which has an int, and the
@@ -423,7 +298,7 @@ pub static RESOLUTION: [Shape; 23] = [
     Shape {
         name: "open-cycles",
         counts: &[400, 4000],
-        inner: NONE,
+        inner: "",
         writer: Text {
             word: r#""int""#,
             parts: CYCLE,
@@ -438,7 +313,7 @@ pub static RESOLUTION: [Shape; 23] = [
     Shape {
         name: "references",
         counts: &[200, 2000],
-        inner: NONE,
+        inner: "",
         writer: Text {
             word: "",
             parts: REFERENCES,
@@ -453,7 +328,7 @@ pub static RESOLUTION: [Shape; 23] = [
     Shape {
         name: "retaken",
         counts: &[200, 2000],
-        inner: NONE,
+        inner: "",
         writer: Text {
             word: r#""int""#,
             parts: RETAKEN,
@@ -467,61 +342,27 @@ pub static RESOLUTION: [Shape; 23] = [
     Shape {
         name: "ladder",
         counts: &[30, 300],
-        inner: NONE,
+        inner: "",
         writer: Text {
             word: r#""int""#,
-            parts: &[
-                Part(
-                    ONCE,
-                    &[r#"{"type":"record","name":"T","fields":[{"name":"d","type":["null""#],
-                ),
-                Part(
-                    Numbers::Last,
-                    &[r#",{"type":"record","name":"w.A#","fields":[{"name":"f","type":$}]}"#],
-                ),
-                Part(
-                    Numbers::Down,
-                    &[
-                        r#",{"type":"record","name":"w.A#","fields":[{"name":"f","type":["w.A>"]}]}"#,
-                    ],
-                ),
-                Part(
-                    ONCE,
-                    &[r#"],"default":null},{"name":"f","type":["w.A1"]}]}"#],
-                ),
-            ],
+            parts: r##"once {"type":"record","name":"T","fields":[{"name":"d","type":["null"
+last ,{"type":"record","name":"w.A#","fields":[{"name":"f","type":$}]}
+down ,{"type":"record","name":"w.A#","fields":[{"name":"f","type":["w.A>"]}]}
+once ],"default":null},{"name":"f","type":["w.A1"]}]}"##,
         },
         reader: Text {
             word: r#""string""#,
-            parts: &[
-                Part(
-                    ONCE,
-                    &[r#"{"type":"record","name":"T","fields":[{"name":"d","type":["null""#],
-                ),
-                Part(
-                    Numbers::Last,
-                    &[
-                        r#",{"type":"record","name":"x.A#","fields":[{"name":"f","type":$}]},{"type":"record","name":"y.A#","fields":[{"name":"f","type":$}]}"#,
-                    ],
-                ),
-                Part(
-                    Numbers::Down,
-                    &[
-                        r#",{"type":"record","name":"x.A#","fields":[{"name":"f","type":["x.A>","y.A>"]}]},{"type":"record","name":"y.A#","fields":[{"name":"f","type":["x.A>","y.A>"]}]}"#,
-                    ],
-                ),
-                Part(
-                    ONCE,
-                    &[r#"],"default":null},{"name":"f","type":["x.A1","y.A1"]}]}"#],
-                ),
-            ],
+            parts: r##"once {"type":"record","name":"T","fields":[{"name":"d","type":["null"
+last ,{"type":"record","name":"x.A#","fields":[{"name":"f","type":$}]},{"type":"record","name":"y.A#","fields":[{"name":"f","type":$}]}
+down ,{"type":"record","name":"x.A#","fields":[{"name":"f","type":["x.A>","y.A>"]}]},{"type":"record","name":"y.A#","fields":[{"name":"f","type":["x.A>","y.A>"]}]}
+once ],"default":null},{"name":"f","type":["x.A1","y.A1"]}]}"##,
         },
     },
     // a broken chain beside an enum of 5000 symbols
     Shape {
         name: "beside",
         counts: &[200],
-        inner: NONE,
+        inner: "",
         writer: Text {
             word: r#""int""#,
             parts: BESIDE,
@@ -536,7 +377,7 @@ pub static RESOLUTION: [Shape; 23] = [
     Shape {
         name: "unions",
         counts: &[200, 2000],
-        inner: Part(Numbers::Each, &[r#";"n#.A""#]),
+        inner: r##"each ;"n#.A""##,
         writer: Text {
             word: r#""int""#,
             parts: UNIONS,
@@ -551,7 +392,7 @@ pub static RESOLUTION: [Shape; 23] = [
     Shape {
         name: "wide",
         counts: &[200, 2000],
-        inner: Part(Numbers::Each, &[r#";{"name":"g#","type":"n#.A"}"#]),
+        inner: r##"each ;{"name":"g#","type":"n#.A"}"##,
         writer: Text {
             word: "",
             parts: WIDE,
@@ -565,53 +406,41 @@ pub static RESOLUTION: [Shape; 23] = [
     Shape {
         name: "aliases",
         counts: &[200, 2000],
-        inner: NONE,
+        inner: "",
         writer: Text {
             word: "",
             parts: UNION,
         },
         reader: Text {
             word: "",
-            parts: &[
-                Part(ONCE, &[r#"[{"type":"record","name":"Other","aliases":["#]),
-                Part(Numbers::Of(52, 100052), &[r#";"~""#]),
-                Part(ONCE, &[r#"],"fields":[]},"#]),
-                Part(
-                    Numbers::Each,
-                    &[r#";{"type":"record","name":"A#","fields":[{"name":"f","type":"int"}]}"#],
-                ),
-                Part(ONCE, &[r#"]"#]),
-            ],
+            parts: r##"once [{"type":"record","name":"Other","aliases":[
+52..100052 ;"~"
+once ],"fields":[]},
+each ;{"type":"record","name":"A#","fields":[{"name":"f","type":"int"}]}
+once ]"##,
         },
     },
     // records of one last name, with one whose field has 100,000 aliases
     Shape {
         name: "field-aliases",
         counts: &[200, 2000],
-        inner: NONE,
+        inner: "",
         writer: Text {
             word: "",
-            parts: &[
-                Part(ONCE, &[r#"["#]),
-                Part(
-                    Numbers::Each,
-                    &[r#";{"type":"record","name":"n#.A","fields":[{"name":"f","type":"int"}]}"#],
-                ),
-                Part(ONCE, &[r#"]"#]),
-            ],
+            parts: r##"once [
+each ;{"type":"record","name":"n#.A","fields":[{"name":"f","type":"int"}]}
+once ]"##,
         },
         reader: Text {
             word: "",
-            parts: &[
-                Part(
-                    ONCE,
-                    &[
-                        r#"{"type":"record","name":"r.A","fields":[{"name":"g","type":"int","default":0,"aliases":["#,
-                    ],
-                ),
-                Part(Numbers::Of(52, 100052), &[r#";"~""#]),
-                Part(ONCE, &[r#"]}]}"#]),
-            ],
+            parts: r##"once {"type":"record","name":"r.A","fields":[{"name":"g","type":"int","default":0,"aliases":[
+52..100052 ;"~"
+once ]}]}"##,
         },
     },
 ];
+
+/// The shapes that are resolved.
+pub fn resolution() -> &'static [Shape] {
+    &RESOLUTION
+}

@@ -1,6 +1,6 @@
 //! The texts of shapes.
 
-use crate::shape::{Numbers, Part, Shape, Text};
+use crate::shape::{Shape, Text};
 use std::alloc::{AllocError, Global};
 
 /// The most bytes of a schema's text.
@@ -73,36 +73,39 @@ pub fn push_template(text: &mut String, template: &str, marks: &Marks) -> Result
 }
 
 /// The first of a part's numbers, the one behind the last, and whether they go down.
-fn bounds(numbers: Numbers, count: u32) -> (u32, u32, bool) {
+fn bounds(numbers: &str, count: u32) -> (u32, u32, bool) {
     match numbers {
-        Numbers::Of(from, to) => (from, to, false),
-        Numbers::Each => (0, count, false),
-        Numbers::Later => (1, count, false),
-        Numbers::Down => (1, count, true),
-        Numbers::Last => (count, count.saturating_add(1), false),
-        Numbers::Filling(bytes) => {
-            let filled = AROUND.saturating_add(bytes.saturating_mul(count));
-            (0, MAX_TEXT.saturating_sub(filled), false)
-        }
+        "once" => (0, 1, false),
+        "each" => (0, count, false),
+        "later" => (1, count, false),
+        "down" => (1, count, true),
+        "last" => (count, count.saturating_add(1), false),
+        _ => match numbers.split_once("..") {
+            Some((from, to)) => (from.parse().unwrap_or(0), to.parse().unwrap_or(0), false),
+            None => {
+                let bytes: u32 = numbers.parse().unwrap_or(0);
+                let filled = AROUND.saturating_add(bytes.saturating_mul(count));
+                (0, MAX_TEXT.saturating_sub(filled), false)
+            }
+        },
     }
 }
 
-/// Adds a part.
+/// Adds a part for each of its numbers.
 fn push_part(
     text: &mut String,
-    part: &Part,
+    line: &str,
     count: u32,
     inner: &str,
     word: &str,
 ) -> Result<(), AllocError> {
-    let Part(numbers, templates) = *part;
+    let Some((numbers, template)) = line.split_once(" ") else {
+        return Ok(());
+    };
     let (from, to, is_down) = bounds(numbers, count);
     for at in from..to {
-        let number = if is_down { to - at } else { at };
-        let turn = (number as usize).checked_rem(templates.len()).unwrap_or(0);
-        let template = templates.get(turn).copied().unwrap_or("");
         let marks = Marks {
-            number,
+            number: if is_down { to - at } else { at },
             is_first: at == from,
             inner,
             word,
@@ -120,10 +123,10 @@ pub fn text_of(
     count: u32,
 ) -> Result<String, AllocError> {
     let mut inner = String::new(alloc);
-    push_part(&mut inner, &shape.inner, count, "", "")?;
+    push_part(&mut inner, shape.inner, count, "", "")?;
     let mut text = String::new(alloc);
-    for part in made.parts {
-        push_part(&mut text, part, count, inner.as_str(), made.word)?;
+    for line in made.parts.lines() {
+        push_part(&mut text, line, count, inner.as_str(), made.word)?;
     }
     Ok(text)
 }
