@@ -1,36 +1,42 @@
-//! Measures how long a schema's text takes to read, beside `serde_json` reading the same bytes
-//! into a `Value`.
+//! Measures how long schemas take to be read and resolved.
 //!
-//! The words are the names of cases, or `all`. For each text of a case it prints its bytes, the
-//! least times, their ratio, and the most memory that the process held so far. Without words it
-//! measures nothing and prints nothing.
+//! Its words are `read` or `resolve`, the name of a shape or `all`, and a count of the shape's
+//! parts, where only that one is wanted. `read` has a text of the shape read by `Schema::read`,
+//! which makes its identity text, and by `serde_json` into a `Value`, and prints its bytes, the
+//! times, and their ratio. `resolve` has a writer's and a reader's text of the shape resolved by
+//! `resolves` and by `resolves_plain`, and prints the numbers of their places, the verdicts and
+//! the times. The shortest of many calls counts. Behind them it prints the most memory that the
+//! process held so far.
+//!
+//! The word `random` has 2,000 pairs made at random, always the same ones, and tells whether both
+//! ways to resolve answer each of them alike. Without words it does nothing.
 
 #![tactic(auto)]
 
-mod case;
-mod measure;
+mod random;
+mod reading;
+mod resolution;
+mod shape;
 mod text;
+mod times;
 
-use anyhow::{Result, bail};
-use case::{CASES, Case};
-use measure::measure;
-use std::rt::{Clock, Files};
+use anyhow::{Context, Result, bail, ensure};
+use avro_resolve::{resolves, resolves_plain};
+use avro_schema::Schema;
+use random::random_text;
+use reading::READING;
+use resolution::RESOLUTION;
+use shape::Shape;
+use std::alloc::Global;
 use std::{env, fs};
 use text::text_of;
+use times::{Least, Work, times};
 
-/// The cases that a word names.
-fn cases_of(word: &str) -> Result<&'static [Case]> {
-    if word == "all" {
-        return Ok(&CASES);
-    }
-    match CASES.iter().position(|case| case.name == word) {
-        Some(at) => Ok(&CASES[at..at + 1]),
-        None => bail!("no case is named {word}"),
-    }
-}
+/// How many pairs are made at random.
+const RANDOM_PAIRS: u64 = 2000;
 
 /// Prints the most memory that the process held so far.
-fn print_memory(rt: &(impl Files + Print + AllocGlobal)) -> Result<()> {
+fn print_memory(rt: &HostRuntime) -> Result<()> {
     let status = fs::read_to_string(rt, "/proc/self/status")?;
     for line in status.lines() {
         if line.starts_with("VmHWM:") {
@@ -40,23 +46,139 @@ fn print_memory(rt: &(impl Files + Print + AllocGlobal)) -> Result<()> {
     Ok(())
 }
 
-/// Measures the text of a case with so many parts, and prints its line.
-fn run(rt: &(impl Clock + Files + Print + AllocGlobal), case: &Case, count: u32) -> Result<()> {
-    let text = text_of(rt.alloc(), case.shape, count)?;
-    let name = case.name;
-    let bytes = text.len();
-    let times = measure(rt, text.as_str())?;
-    print!(rt; "{name:<10} {count:>6} {bytes:>7} bytes  {times}")?;
+/// Measures how long the text of a shape takes to read.
+fn read(rt: &HostRuntime, shape: &Shape, count: u32) -> Result<()> {
+    let text = text_of(rt.alloc(), shape, &shape.writer, count)?;
+    let text = text.as_str();
+    let (schema, json) = times(rt, Work::Schema(text), Work::Json(text))?;
+    ensure!(json.told.yes, "the text is not JSON");
+    let (name, bytes) = (shape.name, text.len());
+    let percent = schema.nanos.saturating_mul(100) / json.nanos.max(1);
+    let (whole, rest) = (percent / 100, percent % 100);
+    let verdict = if schema.told.yes { "" } else { "  refused" };
+    print!(rt;
+        "{name:<10} {count:>6} {bytes:>7} bytes  schema {:>9} ns  serde_json {:>9} ns  ratio {whole}.{rest:02}{verdict}",
+        schema.nanos, json.nanos
+    )?;
     print_memory(rt)
 }
 
-fn main(rt: HostRuntime) -> Result<()> {
-    for word in env::args(&rt)?.skip(1) {
-        for case in cases_of(word.as_str())? {
-            for count in case.counts {
-                run(&rt, case, *count)?;
-            }
+/// Prints how long a way to resolve took, in microseconds.
+fn print_time(rt: &HostRuntime, way: &str, least: Least) -> Result<()> {
+    let (whole, tenths) = (least.nanos / 1000, least.nanos / 100 % 10);
+    println!(rt; "  {way} in {whole}.{tenths} us")?;
+    Ok(())
+}
+
+/// Measures how long the pair of a shape takes to resolve.
+fn resolve(rt: &HostRuntime, shape: &Shape, count: u32) -> Result<()> {
+    let alloc = rt.alloc();
+    let writer = text_of(alloc, shape, &shape.writer, count)?;
+    let reader = text_of(alloc, shape, &shape.reader, count)?;
+    let writer = Schema::read(alloc, writer.as_str())?;
+    let reader = Schema::read(alloc, reader.as_str())?;
+    let (opening, striking) = times(
+        rt,
+        Work::Opening(&writer, &reader),
+        Work::Striking(&writer, &reader),
+    )?;
+    let (name, rows, columns) = (shape.name, writer.places(), reader.places());
+    println!(rt; "{name} {count}: {rows} and {columns} places")?;
+    println!(rt;
+        "  resolves: {} with {} visits",
+        opening.told.yes, opening.told.visits
+    )?;
+    print_time(rt, "resolves", opening)?;
+    println!(rt; "  resolves_plain: {}", striking.told.yes)?;
+    print_time(rt, "resolves_plain", striking)?;
+    print_memory(rt)
+}
+
+/// Whether both ways say yes to a random pair; they answer alike, or it is an error.
+fn answer_alike(alloc: Global, pair: u64) -> Result<bool> {
+    let writer = random_text(alloc, pair, 1)?;
+    let reader = random_text(alloc, pair, 2)?;
+    let writer = Schema::read(alloc, writer.as_str())?;
+    let reader = Schema::read(alloc, reader.as_str())?;
+    let yes = resolves(alloc, &writer, &reader)?.yes;
+    if resolves_plain(alloc, &writer, &reader)? != yes {
+        bail!("the two ways answer pair {pair} differently");
+    }
+    Ok(yes)
+}
+
+/// Has both ways answer all random pairs.
+fn answer_random(rt: &HostRuntime) -> Result<()> {
+    let mut yes = 0u64;
+    for pair in 0..RANDOM_PAIRS {
+        if answer_alike(rt.alloc(), pair)? {
+            yes = yes.saturating_add(1);
+        }
+    }
+    println!(rt; "{RANDOM_PAIRS} random pairs: both ways agree on each, and {yes} resolve")?;
+    Ok(())
+}
+
+/// The shapes that are read, or those that are resolved.
+fn shapes(is_read: bool) -> &'static [Shape] {
+    if is_read { &READING } else { &RESOLUTION }
+}
+
+/// Measures a shape with each of the counts.
+fn measure(rt: &HostRuntime, is_read: bool, shape: &Shape, counts: &[u32]) -> Result<()> {
+    for count in counts {
+        if is_read {
+            read(rt, shape, *count)?;
+        } else {
+            resolve(rt, shape, *count)?;
         }
     }
     Ok(())
+}
+
+/// Measures the shapes of this name, with this count or with each of their own.
+fn measure_all(rt: &HostRuntime, is_read: bool, name: &str, count: Option<u32>) -> Result<()> {
+    let mut found = false;
+    for shape in shapes(is_read) {
+        if name == "all" || name == shape.name {
+            found = true;
+            match count {
+                Some(count) => measure(rt, is_read, shape, &[count])?,
+                None => measure(rt, is_read, shape, shape.counts)?,
+            }
+        }
+    }
+    ensure!(found, "no shape is named {name}");
+    Ok(())
+}
+
+/// The count that a word tells.
+fn count_of(word: Option<&String>) -> Result<Option<u32>> {
+    match word {
+        Some(word) => Ok(Some(word.parse()?)),
+        None => Ok(None),
+    }
+}
+
+/// Measures what the words ask for.
+fn measure_by(rt: &HostRuntime, words: &[String]) -> Result<()> {
+    let Some(word) = words.first() else {
+        return Ok(());
+    };
+    let word = word.as_str();
+    if word == "random" {
+        return answer_random(rt);
+    }
+    let is_read = word == "read";
+    ensure!(
+        is_read || word == "resolve",
+        "no measurement is named {word}"
+    );
+    let name = words.get(1).context("the name of a shape is wanted")?;
+    measure_all(rt, is_read, name.as_str(), count_of(words.get(2))?)
+}
+
+fn main(rt: HostRuntime) -> Result<()> {
+    let words: Vec<String> = env::args(&rt)?.skip(1).collect(rt.alloc())?;
+    measure_by(&rt, words.as_slice())
 }

@@ -1,219 +1,129 @@
-//! The texts that are measured.
+//! The texts of shapes.
 
-use crate::case::Shape;
+use crate::shape::{Numbers, Part, Shape, Text};
 use std::alloc::{AllocError, Global};
 
-/// How deep the records of a nested field go, and the objects of a chain.
-const DEPTH: u32 = 20;
-
 /// The most bytes of a schema's text.
-const MAX_TEXT: usize = 1_048_576;
+const MAX_TEXT: u32 = 1_048_576;
 
-/// How many bytes stand around a namespace and the items behind it, at most.
-const AROUND: usize = 200;
+/// How many bytes stand around what fills a text and around the numbers of the count, at most.
+const AROUND: u32 = 200;
 
-/// What stands before the items of a text.
-fn head_of(shape: Shape) -> &'static str {
-    match shape {
-        Shape::Fields | Shape::Nested => r#"{"type":"record","name":"Root","fields":["#,
-        Shape::Aliased => {
-            r#"{"type":"record","name":"Root","namespace":"bench.aliased","aliases":["Old","other.Old"],"fields":["#
-        }
-        Shape::Union => "[",
-        Shape::Defaults => {
-            r#"{"type":"record","name":"Root","fields":[{"name":"items","type":{"type":"array","items":{"type":"record","name":"Item","fields":["#
-        }
-        Shape::Symbols => r#"{"type":"enum","name":"Root","symbols":["#,
-        Shape::Parts => r#"{"type":"fixed","size":1,"name":"a"#,
-        Shape::References => {
-            r#"[{"type":"fixed","name":"A","size":1},{"type":"record","name":"Root","namespace":"a"#
-        }
-        Shape::Branches => r#"{"type":"record","name":"A","namespace":"a"#,
-        Shape::Objects | Shape::Chains => r#"{"type":"int","doc":["#,
-    }
+/// The most letters of a symbol.
+const MOST_LETTERS: u32 = 4;
+
+/// What the marks of a template stand for.
+#[derive(Clone, Copy)]
+pub struct Marks<'a> {
+    /// `#`; `<` is the number before it and `>` the one behind, `~` its symbol
+    pub number: u32,
+    /// whether `;` is no comma
+    pub is_first: bool,
+    /// `@`
+    pub inner: &'a str,
+    /// `$`
+    pub word: &'a str,
 }
 
-/// What stands between a namespace and the items behind it.
-fn middle_of(shape: Shape) -> &'static str {
-    match shape {
-        Shape::References => r#"","fields":["#,
-        Shape::Branches => r#"","fields":[{"name":"a","type":["#,
-        Shape::Fields
-        | Shape::Nested
-        | Shape::Aliased
-        | Shape::Union
-        | Shape::Defaults
-        | Shape::Symbols
-        | Shape::Parts
-        | Shape::Objects
-        | Shape::Chains => "",
-    }
-}
-
-/// How many bytes an item takes, at most, where a namespace fills the text.
-fn item_bytes(shape: Shape) -> usize {
-    match shape {
-        Shape::References => 30,
-        Shape::Branches => 4,
-        Shape::Fields
-        | Shape::Nested
-        | Shape::Aliased
-        | Shape::Union
-        | Shape::Defaults
-        | Shape::Symbols
-        | Shape::Parts
-        | Shape::Objects
-        | Shape::Chains => MAX_TEXT,
-    }
-}
-
-/// Adds a namespace that fills the text.
-fn push_namespace(text: &mut String, shape: Shape, count: u32) -> Result<(), AllocError> {
-    let items = item_bytes(shape).saturating_mul(count as usize);
-    for _ in 0..MAX_TEXT.saturating_sub(AROUND).saturating_sub(items) {
-        text.push_str("a")?;
-    }
-    text.push_str(middle_of(shape))
-}
-
-/// What stands after the items of a text, of which there are so many.
-fn push_tail(text: &mut String, shape: Shape, count: u32) -> Result<(), AllocError> {
-    match shape {
-        Shape::Fields | Shape::Nested | Shape::Aliased | Shape::Symbols => text.push_str("]}"),
-        Shape::Union => text.push_str("]"),
-        Shape::Defaults => {
-            text.push_str(r#"]}},"default":["#)?;
-            for index in 0..count {
-                push_comma(text, index)?;
-                text.push_str("{}")?;
-            }
-            text.push_str("]}]}")
-        }
-        Shape::Parts => text.push_str(r#""}"#),
-        Shape::References => text.push_str("]}]"),
-        Shape::Branches => text.push_str("]}]}"),
-        Shape::Objects | Shape::Chains => text.push_str("]}"),
-    }
-}
-
-/// Adds a comma before each item but the first.
-fn push_comma(text: &mut String, index: u32) -> Result<(), AllocError> {
-    if index > 0 {
-        text.push_str(",")
+/// A letter, the small ones first.
+fn letter(index: u32) -> char {
+    let within = (index % 26) as u8;
+    char::from(if index < 26 {
+        b'a' + within
     } else {
-        Ok(())
-    }
+        b'A' + within
+    })
 }
 
-/// Adds a field of type int with a default.
-fn push_default(text: &mut String, index: u32) -> Result<(), AllocError> {
-    write!(
-        text,
-        r#"{{"name":"field_{index}","type":"int","default":{index}}}"#
-    )
-}
-
-/// Adds a field of type int, each third with a default.
-fn push_field(text: &mut String, index: u32) -> Result<(), AllocError> {
-    if index % 3 == 0 {
-        push_default(text, index)
-    } else {
-        write!(text, r#"{{"name":"field_{index}","type":"int"}}"#)
-    }
-}
-
-/// Adds a field of a record of a field of a record and so on, with an int at the end.
-fn push_nested(text: &mut String, index: u32) -> Result<(), AllocError> {
-    write!(text, r#"{{"name":"field_{index}","type":"#)?;
-    for level in 0..DEPTH {
-        write!(
-            text,
-            r#"{{"type":"record","name":"Nested_{index}_{level}","fields":[{{"name":"inner","type":"#
-        )?;
-    }
-    text.push_str(r#""int""#)?;
-    for _ in 0..DEPTH {
-        text.push_str("}]}")?;
-    }
-    text.push_str("}")
-}
-
-/// Adds a field with aliases, of a record with aliases.
-fn push_aliased(text: &mut String, index: u32) -> Result<(), AllocError> {
-    write!(
-        text,
-        r#"{{"name":"field_{index}","aliases":["first_{index}","second_{index}"],"type":"#
-    )?;
-    write!(
-        text,
-        r#"{{"type":"record","name":"Inner_{index}","aliases":["Old_{index}","other.Old_{index}"],"#
-    )?;
-    text.push_str(r#""fields":[{"name":"value","type":"int","aliases":["number"]}]}}"#)
-}
-
-/// Adds a record, an enum or a fixed, by turns.
-fn push_branch(text: &mut String, index: u32) -> Result<(), AllocError> {
-    match index % 3 {
-        0 => write!(
-            text,
-            r#"{{"type":"record","name":"Branch_{index}","fields":[]}}"#
-        ),
-        1 => write!(
-            text,
-            r#"{{"type":"enum","name":"Branch_{index}","symbols":["A","B"]}}"#
-        ),
-        _ => write!(
-            text,
-            r#"{{"type":"fixed","name":"Branch_{index}","size":16}}"#
-        ),
-    }
-}
-
-/// Adds an object of an object and so on, with an empty one at the end.
-fn push_chain(text: &mut String) -> Result<(), AllocError> {
-    for _ in 0..DEPTH {
-        text.push_str(r#"{"":"#)?;
-    }
-    text.push_str("0")?;
-    for _ in 0..DEPTH {
-        text.push_str("}")?;
+/// A symbol: of one letter for the first 52, and of more for later ones.
+fn push_symbol(text: &mut String, number: u32) -> Result<(), AllocError> {
+    let mut rest = number;
+    for _letter in 0..MOST_LETTERS {
+        text.push(letter(rest % 52))?;
+        rest /= 52;
+        if rest == 0 {
+            break;
+        }
     }
     Ok(())
 }
 
-/// Adds an item of the shape.
-fn push_item(text: &mut String, shape: Shape, index: u32) -> Result<(), AllocError> {
-    match shape {
-        Shape::Fields => push_field(text, index),
-        Shape::Nested => push_nested(text, index),
-        Shape::Aliased => push_aliased(text, index),
-        Shape::Union => push_branch(text, index),
-        Shape::Defaults => push_default(text, index),
-        Shape::Symbols => write!(text, r#""SYMBOL_{index}""#),
-        Shape::Parts => text.push_str(".a"),
-        Shape::References => write!(text, r#"{{"name":"a{index}","type":"A"}}"#),
-        Shape::Branches => text.push_str(r#""A""#),
-        Shape::Objects => text.push_str(r#"{"":0}"#),
-        Shape::Chains => push_chain(text),
+/// Adds what a mark stands for, or the letter that is none.
+fn push_mark(text: &mut String, mark: char, marks: &Marks) -> Result<(), AllocError> {
+    let number = marks.number;
+    match mark {
+        '#' => write!(text, "{number}"),
+        '<' => write!(text, "{}", number.saturating_sub(1)),
+        '>' => write!(text, "{}", number.saturating_add(1)),
+        '~' => push_symbol(text, number),
+        '@' => text.push_str(marks.inner),
+        '$' => text.push_str(marks.word),
+        ';' if marks.is_first => Ok(()),
+        ';' => text.push(','),
+        _ => text.push(mark),
     }
 }
 
-/// Adds the items of the shape, with commas between them where they are of an array.
-fn push_items(text: &mut String, shape: Shape, count: u32) -> Result<(), AllocError> {
-    for index in 0..count {
-        if shape != Shape::Parts {
-            push_comma(text, index)?;
-        }
-        push_item(text, shape, index)?;
+/// Adds a template, with what its marks stand for.
+pub fn push_template(text: &mut String, template: &str, marks: &Marks) -> Result<(), AllocError> {
+    for mark in template.chars() {
+        push_mark(text, mark, marks)?;
     }
     Ok(())
 }
 
-/// A schema's text of the shape, with so many items.
-pub fn text_of(alloc: Global, shape: Shape, count: u32) -> Result<String, AllocError> {
-    let mut text = String::from_str(alloc, head_of(shape))?;
-    push_namespace(&mut text, shape, count)?;
-    push_items(&mut text, shape, count)?;
-    push_tail(&mut text, shape, count)?;
+/// The first of a part's numbers, the one behind the last, and whether they go down.
+fn bounds(numbers: Numbers, count: u32) -> (u32, u32, bool) {
+    match numbers {
+        Numbers::Of(from, to) => (from, to, false),
+        Numbers::Each => (0, count, false),
+        Numbers::Later => (1, count, false),
+        Numbers::Down => (1, count, true),
+        Numbers::Last => (count, count.saturating_add(1), false),
+        Numbers::Filling(bytes) => {
+            let filled = AROUND.saturating_add(bytes.saturating_mul(count));
+            (0, MAX_TEXT.saturating_sub(filled), false)
+        }
+    }
+}
+
+/// Adds a part.
+fn push_part(
+    text: &mut String,
+    part: &Part,
+    count: u32,
+    inner: &str,
+    word: &str,
+) -> Result<(), AllocError> {
+    let Part(numbers, templates) = *part;
+    let (from, to, is_down) = bounds(numbers, count);
+    for at in from..to {
+        let number = if is_down { to - at } else { at };
+        let turn = (number as usize).checked_rem(templates.len()).unwrap_or(0);
+        let template = templates.get(turn).copied().unwrap_or("");
+        let marks = Marks {
+            number,
+            is_first: at == from,
+            inner,
+            word,
+        };
+        push_template(text, template, &marks)?;
+    }
+    Ok(())
+}
+
+/// The text of a shape, with this count.
+pub fn text_of(
+    alloc: Global,
+    shape: &Shape,
+    made: &Text,
+    count: u32,
+) -> Result<String, AllocError> {
+    let mut inner = String::new(alloc);
+    push_part(&mut inner, &shape.inner, count, "", "")?;
+    let mut text = String::new(alloc);
+    for part in made.parts {
+        push_part(&mut text, part, count, inner.as_str(), made.word)?;
+    }
     Ok(text)
 }

@@ -1,6 +1,6 @@
 -- Why a read of tables that spell a registry fails.
 use Rattle.std.proofs.Common.{◌≡◌, ◌≤◌, ◌⊎◌, inl, inr, None, Ok, Err, Result, IsTrue, refl, sym, subst}
-use Rattle.std.specs.Prelude.{IfErr, IsErrAnd, OnErr, IsSome}
+use Rattle.std.specs.Prelude.{IfErr, IsErrAnd, IsSome}
 use Rattle.sqlite.specs.declared.error.Error.{Error}
 use Rattle.sqlite.specs.declared.error.Error.TheVariants.{SqliteFailure, SqlInputError, InvalidParameterCount, ExecuteReturnedResults, InvalidQuery, MultipleStatement, QueryReturnedNoRows, InvalidColumnIndex, InvalidColumnType, IntegralValueOutOfRange, Utf8Error}
 use Rattle.sqlite.specs.declared.error.ErrorCode.{ErrorCode}
@@ -17,7 +17,7 @@ use Rattle.reg_tables.specs.FailedCalls.{HasDiskFault, HasReason, IsFault}
 use Rattle.reg_tables.proofs.Reasons.{fault_until, fault_since}
 use Rattle.reg_store.specs.declared.error.StoreError.{StoreError}
 use Rattle.reg_store.specs.declared.error.StoreError.TheVariants.{Memory, Disk, NotARegistry, OldLayout, NewerLayout}
-use Rattle.reg_store.specs.Failures.{failure_of, is_fault, IsFaultBy, IsFaultOver, IsNumberless}
+use Rattle.reg_store.specs.Failures.{failure_of, is_fault, IsFaultBy, IsNumberless}
 use Rattle.reg_core.specs.KeptReplies.{Kept}
 use Rattle.reg_store.specs.Spells.{SpellsWhileOpen}
 use Rattle.reg_store.proofs.Texts.{readable_if_spelled}
@@ -65,9 +65,6 @@ can_be_read s g k over = λ is_open.
     let it = (over is_open).spells in
     record { schema = layout; is_layout = inl refl; contents = it.contents; holds = it.holds; readable = readable_if_spelled it.contents g k it.spelled }
 
-pub fault_over : (old new : State) (e : Error) → old.step_limit ≡ None → (CanBeRead old → IsFault old new e) → IsFaultOver old new (failure_of e)
-fault_over old new e unlimited fault = λ g k over. fault_by old new e unlimited (fault (can_be_read old g k over))
-
 -- an error that `?` passes on
 pub passed : {X : Type 0} (P : StoreError → Type 0) (r : Result X StoreError) (first : StoreError) → IsErrAnd r (λ e. e ≡ first) → P first → IfErr r P
 passed P (Ok x) first is h = tt
@@ -76,10 +73,6 @@ passed P (Err e) first is h = subst P (sym is) h
 pub if_err_each : {X E : Type 0} {P : E → Type 0} (r : Result X E) → ((e : E) → P e) → IfErr r P
 if_err_each (Ok x) f = tt
 if_err_each (Err e) f = f e
-
-pub if_err_on : {X E P : Type 0} {Q : E → Type 0} (r : Result X E) → OnErr r P → (P → (e : E) → Q e) → IfErr r Q
-if_err_on (Ok x) h f = tt
-if_err_on (Err e) h f = f h e
 
 -- an error of `sqlite` names no layout
 pub numberless : (e : Error) → IsNumberless (failure_of e)

@@ -1,6 +1,6 @@
 -- What stands behind a cursor of a listing.
 use Rattle.std.proofs.Common.{◌≡◌, inl, inr, ◌&&◌, ℕ, zero, suc, ◌+◌, ◌-◌, ◌^◌, ◌<◌, ◌≤◌, min, List, [], ◌∷◌, length, map, take, find, Bool, true, false, cond, Option, None, Some, slice_get, Ordering, Less, Equal, Greater, refl, sym, ap, subst, ◌∙◌, add-one, arith}
-use Rattle.std.specs.Prelude.{bytes_eq, option_map, IsTrue, IfOk, OnOk, Result, Ok, Err, Vec, String}
+use Rattle.std.specs.Prelude.{bytes_eq, option_map, IsTrue, Vec, String}
 use Rattle.std.specs.declared.alloc.Global.{Global}
 use Rattle.std.specs.FinMap.{entries, get}
 use Rattle.std.specs.List.{enumerate_from, last_or}
@@ -145,10 +145,6 @@ of_subject contents g k s subject entry h =
     s.registered entry.0 it.0 it.1
 
 -- ---- the first of all
-
-pub if_ok_both : {X E P : Type 0} {Q R : X → Type 0} (r : Result X E) → ((x : X) → P → Q x → R x) → OnOk r P → IfOk r Q → IfOk r R
-if_ok_both (Ok x) f p q = f x p q
-if_ok_both (Err e) f p q = tt
 
 pub first_any : {X : Type 0} (xs : List X) → find (λ x. true) xs ≡ slice_get xs 0
 first_any [] = refl

@@ -9,6 +9,7 @@ use Rattle.reg_tables.specs.Reads.{OnlyReads}
 use Rattle.reg_store.specs.declared.error.StoreError.{StoreError}
 use Rattle.reg_store.specs.declared.error.StoreError.TheVariants.{Disk}
 use Rattle.reg_store.specs.declared.store.Store.{Store}
+use Rattle.reg_store.specs.Inside.Reads.{Stored, Reads}
 use Rattle.reg_store.specs.Stores.{state_of, has_failed, KeepsStore}
 
 -- the law of a store: while it is open, a crash leaves its last commit alone
@@ -25,7 +26,7 @@ module _ {S T : Type 0} {g : Ghosts S} (settles : Settles g) (old new : Store S 
         clean = λ clean. clean;
         was_open = λ _. tt;
         connection = record { counts = omega arith; stays_shut = λ _ is_open. is_open; closes = λ _ is_open. inl is_open };
-        settled = λ is_open db it. settles old.conn.store db is_open it;
+        settled = λ is_open db it. settles old.db.conn.store db is_open it;
       }))
 
   module _ (unfailed : has_failed old ≡ false) (failed_now : (result ≡ Err Disk) ↔ IsTrue (has_failed new)) (P : Trees → Type 0) (survives : Survives (state_of old) (state_of new) P)
@@ -37,7 +38,7 @@ module _ {S T : Type 0} {g : Ghosts S} (settles : Settles g) (old new : Store S 
       clean = λ clean. omega (arith, survives.clean);
       was_open = was_open;
       connection = record { counts = survives.counts; stays_shut = stays_shut; closes = survives.closes };
-      settled = λ is_open db it. settles new.conn.store db is_open it;
+      settled = λ is_open db it. settles new.db.conn.store db is_open it;
     }
 
     -- a call that only reads
@@ -48,3 +49,8 @@ module _ {S T : Type 0} {g : Ghosts S} (settles : Settles g) (old new : Store S 
 pub opens_none : {X E : Type 0} (old new : State) (r : Result X E) → OnOk r (IsTrue old.is_open) → OnErr r (KeepsCommit old new) → IsTrue new.is_open → IsTrue old.is_open
 opens_none old new (Ok x) was keeps is_open = was
 opens_none old new (Err e) was keeps is_open = keeps.was_open is_open
+
+-- a call that reads what is stored
+pub keeps_reads : {S T : Type 0} {g : Ghosts S} {Tells : Stored → T → Type 0} (settles : Settles g) (old new : Store S g) (r : Result T StoreError) → has_failed old ≡ false → ((r ≡ Err Disk) ↔ IsTrue (has_failed new)) → Reads old.db new.db r Tells
+    → KeepsStore old new r
+keeps_reads settles old new r unfailed failed_now reads = keeps_store settles old new r unfailed failed_now _ reads.may.rests.survives reads.was_open (λ clean. (reads.may.rests.commit_stays clean).was_open)

@@ -17,7 +17,7 @@ pub mod Keeping
 pub mod Writing
 pub mod Additions
 pub mod Deletions
-pub mod ViewLemmas
+pub mod ReadLemmas
 pub mod RowLemmas
 pub mod ChosenLemmas
 pub mod ViewTexts

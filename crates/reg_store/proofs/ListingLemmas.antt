@@ -5,20 +5,12 @@ use Rattle.std.specs.List.{dedup, dedup_from, enumerate_from}
 use Rattle.std.proofs.lemmas.List.{take_more, map-append, length-map}
 use Rattle.std.proofs.lemmas.List.FromFn.{length-enumerate_from}
 use Rattle.std.proofs.lemmas.Option.{none-some, slice_get_within, get_or_from_slice_get}
-use Rattle.sqlite.specs.Held.{Held, state}
-use Rattle.sqlite.specs.State.{HasCleanDisk}
-use Rattle.sqlite_trees.specs.declared.store.Store.{Ghosts}
 use Rattle.avro_nodes.specs.Nodes.{NodeView}
 use Rattle.avro_nodes.specs.Identity.{identity}
 use Rattle.reg_core.specs.Registry.{Schemas}
 use Rattle.reg_core.specs.Rows.{text_at}
 use Rattle.reg_core.proofs.IdLemmas.{text_there}
-use Rattle.reg_store.specs.declared.error.StoreError.{StoreError}
-use Rattle.reg_store.specs.Failures.{IsFaultBy}
-use Rattle.reg_store.specs.Inside.Viewing.{KeepsIdle}
 use Rattle.reg_store.specs.Listings.{Fields, schema_line, schema_lines}
-use Rattle.reg_store.proofs.Failing.{by_since}
-use Rattle.reg_store.proofs.ViewLemmas.{clean_before}
 
 -- ---- lines
 
@@ -75,9 +67,3 @@ dedup_from-map f same k (x ∷ xs) = either-map f (same (f x) (f k)) _ _ _ _ (de
 pub dedup-map : {X Y : Type 0} (f : X → Y) (same : Y → Y → Bool) (xs : List X) → map f (dedup (λ x y. same (f x) (f y)) xs) ≡ dedup same (map f xs)
 dedup-map f same [] = refl
 dedup-map f same (x ∷ xs) = dedup_from-map f same x xs
-
--- ---- faults
-
--- a fault that a later read tells is one of all
-pub fault_on : {S : Type 0} (g : Ghosts S) (a b c : Held S) → KeepsIdle g a b → KeepsIdle g b c → HasCleanDisk (state g c) → (e : StoreError) → IsFaultBy (state g b) (state g c) e → IsFaultBy (state g a) (state g c) e
-fault_on g a b c p q clean e = by_since (state g a) (state g b) (state g c) (p.survives.closes (clean_before g a b c q clean)) p.survives.counts q.survives.counts e

@@ -2,18 +2,15 @@
 use Rattle.std.proofs.Common.{◌≡◌, List, ℕ, Option, Some, None, codes, refl, sym, ap, ◌∙◌}
 use Rattle.std.specs.Prelude.{option_map}
 use Rattle.std.specs.FinMap.{get}
-use Rattle.sqlite.specs.State.{State}
 use Rattle.reg_core.specs.declared.level.Level.{Level}
 use Rattle.reg_core.specs.declared.level.Level.TheVariants.{Backward, BackwardTransitive, Forward, ForwardTransitive, Full, FullTransitive, Off}
 use Rattle.reg_core.specs.Levels.{level_text, level_of}
 use Rattle.reg_core.specs.Registry.{Registry}
 use Rattle.reg_tables.specs.Contents.{text_cmp, KeptRow, Contents}
-use Rattle.reg_tables.specs.Reads.{OnlyReads}
 use Rattle.reg_tables.proofs.MapLemmas.{get-insert-same}
 use Rattle.reg_tables.proofs.KeyedTables.{text_order}
 use Rattle.reg_core.specs.KeptReplies.{Entry, Kept}
-use Rattle.reg_store.specs.Spells.{IsSpelled, SpellsWhileOpen, row_of}
-use Rattle.reg_store.proofs.Committing.{still_spells}
+use Rattle.reg_store.specs.Spells.{IsSpelled, row_of}
 
 -- a level's text spells it alone
 pub level_of-level_text : (level : Level) → level_of (level_text level) ≡ Some level
@@ -49,7 +46,3 @@ kept_is (Some e) entry h =
 
 pub global_is : (contents : Contents) (g : Registry) (k : Kept) → IsSpelled contents g k → get contents.meta (codes "global") ≡ Some (level_text g.global)
 global_is contents g k s = ap (λ m. get m (codes "global")) s.meta ∙ get-insert-same text_cmp text_order _ (codes "global") (level_text g.global)
-
--- after a read the tables spell what they spelled
-pub reads_on : (old new : State) (g : Registry) (k : Kept) → OnlyReads old new → SpellsWhileOpen old g k → SpellsWhileOpen new g k
-reads_on old new g k reads = still_spells old new g k reads.commit_stays reads.settled

@@ -14,25 +14,25 @@ use Rattle.sqlite_trees.specs.declared.store.Store.{Ghosts}
 use Rattle.sqlite_rules.proofs.ListLemmas.{all_has, all_from}
 use Rattle.reg_core.specs.Registry.{Registry}
 use Rattle.reg_core.specs.KeptReplies.{Kept}
-use Rattle.reg_rows.specs.Spelling.{Text, AreNumbered, AreTexts, IsTextRow}
+use Rattle.reg_rows.specs.Spelling.{Text, AreNumbered, IsTextRow}
 use Rattle.reg_tables.specs.declared.lines.TextLine.{TextLine}
 use Rattle.reg_tables.specs.Frames.{StaysIdle}
 use Rattle.reg_tables.specs.Layout.{IsLayout}
 use Rattle.reg_tables.specs.Listings.{ListsTexts}
 use Rattle.reg_tables.specs.Reads.{CanBeRead}
 use Rattle.reg_tables.proofs.ListMembers.{has_permuted}
+use Rattle.reg_tables.proofs.Transactions.{keeps_then, survives_both}
 use Rattle.reg_store.specs.declared.error.StoreError.{StoreError}
 use Rattle.reg_store.specs.declared.error.StoreError.TheVariants.{NotARegistry}
 use Rattle.reg_store.specs.Failures.{IsFaultBy}
 use Rattle.reg_store.specs.Opening.{text_row}
 use Rattle.reg_store.specs.Spells.{SpellsUnopened}
 use Rattle.reg_store.specs.Inside.Testing.{text_fits, Tests, TextsPass, NumbersTexts, Judges}
-use Rattle.reg_store.specs.Inside.Viewing.{KeepsIdle}
-use Rattle.reg_store.proofs.ListingLemmas.{fault_on}
+use Rattle.reg_store.specs.Inside.Reads.{Rests}
 use Rattle.reg_store.proofs.Numbering.{Rises}
 use Rattle.reg_store.proofs.TestLemmas.{each_row, lists_sorted, texts_pass, unopened_can_be_read}
 use Rattle.reg_store.proofs.TextParts.{within, in_order}
-use Rattle.reg_store.proofs.ViewLemmas.{idle_read, clean_before, stays_then, readable_on}
+use Rattle.reg_store.proofs.ReadLemmas.{on_ok_each, rests_read, clean_at, fault_of_all, readable_on}
 
 -- ---- what all lines say of the table
 
@@ -82,25 +82,38 @@ module _ (db : Database) (count : ℕ) (numbers : NumbersTexts db count) (fit : 
 
 -- ---- how the test comes out, after the ids were counted
 
-module _ {S : Type 0} (g : Ghosts S) (a b c : Held S) (settled : IsTrue (state g a).is_open → (state g a).now ≡ (state g a).committed) (count : ℕ) (counted : StaysIdle {E = StoreError} g a b (Ok count)) (read : KeepsIdle g b c) where
+module _ {S : Type 0} (g : Ghosts S) (a b c : Held S) (settled : IsTrue (state g a).is_open → (state g a).now ≡ (state g a).committed) (count : ℕ) (counted : StaysIdle {E = StoreError} g a b (Ok count)) (read : Rests (state g b) (state g c)) (idle : c.in_transaction ≡ false) where
+  stays : {X : Type 0} (r : Result X StoreError) → StaysIdle g a c r
+  stays r = record {
+    idle = idle;
+    was_open = λ clean. on_ok_each r (counted.was_open (clean_at (state g a) (state g b) (state g c) read clean));
+    only_reads = λ clean.
+        (let first = counted.only_reads (clean_at (state g a) (state g b) (state g c) read clean) in record {
+          commit_stays = keeps_then (state g a) (state g b) (state g c) first.commit_stays (read.commit_stays clean);
+          settled = λ is_open. read.settled clean is_open (first.settled ((read.commit_stays clean).was_open is_open));
+        });
+    survives = survives_both (state g a) (state g b) (state g c) counted.survives read.survives;
+  }
+
   -- the texts weren't read
   pub reading_failed : {P : Database → Type 0} (r : Result (Unit {0}) StoreError) (e : StoreError) → (HasCleanDisk (state g c) → CanBeRead (state g b) → IsFaultBy (state g b) (state g c) e) → IsErrAnd r (λ failure. failure ≡ e) → Tests g a c r P
   reading_failed (Ok x) e fault is = absurd is
   reading_failed (Err failure) e fault is = record {
-    frame = stays_then g a b c count (Err failure) counted read;
+    frame = stays (Err failure);
     passes = λ clean. tt;
     fault = λ clean registry k over.
-        (let first = idle_read g a b (Ok count) counted in
-        let early = clean_before g a b c read clean in
-        subst (IsFaultBy (state g a) (state g c)) (sym is) (fault_on g a b c first read clean e (fault clean (readable_on g a b first settled early (unopened_can_be_read (state g a) registry k over)))));
+        (let first = rests_read g a b (Ok count) counted in
+        let early = clean_at (state g a) (state g b) (state g c) read clean in
+        subst (IsFaultBy (state g a) (state g c)) (sym is)
+        (fault_of_all (state g a) (state g b) (state g c) first read clean e (fault clean (readable_on (state g a) (state g b) first settled early (unopened_can_be_read (state g a) registry k over)))));
   }
 
   -- they were, and pass or don't
   pub texts_judged : {P : Database → Type 0} (r : Result (Unit {0}) StoreError) (fit : Bool) → OnOk r (IsTrue fit) → IfErr r (λ e. (e ≡ NotARegistry) × (fit ≡ false)) → (HasCleanDisk (state g c) → IsTrue fit → IsLayout (state g a).now.schema → P (state g a).now)
       → (HasCleanDisk (state g c) → fit ≡ false → (registry : Registry) (k : Kept) → SpellsUnopened (state g a).now registry k → ⊥) → Tests g a c r P
-  texts_judged (Ok x) fit ok err passes fails = record { frame = stays_then g a b c count (Ok x) counted read; passes = λ clean. passes clean ok; fault = λ clean. tt }
+  texts_judged (Ok x) fit ok err passes fails = record { frame = stays (Ok x); passes = λ clean. passes clean ok; fault = λ clean. tt }
   texts_judged (Err e) fit ok err passes fails = record {
-    frame = stays_then g a b c count (Err e) counted read;
+    frame = stays (Err e);
     passes = λ clean. tt;
-    fault = λ clean registry k over. absurd (fails clean err.1 registry k (over (counted.was_open (clean_before g a b c read clean))));
+    fault = λ clean registry k over. absurd (fails clean err.1 registry k (over (counted.was_open (clean_at (state g a) (state g b) (state g c) read clean))));
   }

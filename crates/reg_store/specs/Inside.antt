@@ -1,3 +1,4 @@
 pub mod Viewing
 pub mod Testing
 pub mod Making
+pub mod Reads

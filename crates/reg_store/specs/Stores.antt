@@ -11,7 +11,7 @@ use Rattle.reg_store.specs.declared.store.Store.{Store}
 
 -- SQLite, connections: the store's one
 abbrev pub connection_of : {S : Type 0} {g : Ghosts S} → Store S g → Held S
-connection_of store = store.conn
+connection_of store = store.db.conn
 
 -- SQLite, transactions: what its connection shows
 abbrev pub state_of : {S : Type 0} {g : Ghosts S} → Store S g → State

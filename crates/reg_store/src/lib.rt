@@ -7,6 +7,7 @@
 
 mod changes;
 mod error;
+mod idle;
 mod keep;
 mod listing;
 mod rowids;

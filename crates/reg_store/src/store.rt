@@ -1,8 +1,7 @@
 //! The store.
 
-ghost use Rattle.std.specs.Prelude.{◌≡◌, None, false};
-
-use sqlite::{Alter, Connection};
+use crate::idle::Idle;
+use sqlite::Alter;
 use std::alloc::Global;
 
 mod applying;
@@ -30,8 +29,6 @@ pub use lent::Lines;
 #[derive(Drop)]
 pub struct Store<S: Alter> {
     alloc: Global,
-    conn: Connection<S>,
+    db: Idle<S>,
     failed: bool,
-    ghost idle: { conn.in_transaction ≡ false },
-    ghost unlimited: { conn.step_limit ≡ None },
 }

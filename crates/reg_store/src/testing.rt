@@ -1,19 +1,20 @@
 //! What the tables are tested for before a store is opened over them: one table is read, tested and
 //! let go before the next.
 
-ghost use Rattle.std.specs.Prelude.{◌≡◌, ◌↔◌, ℤ, map, IfOk, IfErr, OnOk, OnErr, IsTrue, None, false};
+ghost use Rattle.std.specs.Prelude.{◌≡◌, ◌↔◌, ℤ, map, IfOk, IfErr, OnOk, IsTrue, false};
 ghost use Rattle.std.specs.List.{AllByRecursion};
-ghost use Rattle.sqlite.specs.Held.{state};
 ghost use Rattle.sqlite.specs.State.{HasCleanDisk};
 ghost use Rattle.reg_tables.specs.Layout.{IsLayout};
 ghost use Rattle.reg_store.specs.Failures.{IsNumberless};
 ghost use Rattle.reg_store.specs.Opening.{meta_row, IsRefusedBy, TellsNewer};
 ghost use Rattle.reg_rows.specs.Spelling.{pair_of, is_meta};
 ghost use Rattle.reg_store.specs.Inside.Testing.{Allows, AreApart, version_fits, level_fits, kept_fits, JudgesMeta, Tests, VersionsPass, LevelsPass, KeptPass, RestPasses, MetaPass, TablesPass};
+ghost use Rattle.reg_store.specs.Inside.Reads.{shown};
 
 mod texts;
 
 use crate::error::StoreError;
+use crate::idle::Idle;
 use crate::rowids::are_apart;
 use crate::testing::texts::test_texts;
 use reg_rows::{fits_kept, fits_levels, fits_versions, is_meta, layout_of};
@@ -21,7 +22,7 @@ use reg_tables::{
     KeptLine, LevelLine, MetaLine, VersionLine, has_layout, is_unindexed, kept_lines, level_lines,
     meta_lines, version_lines,
 };
-use sqlite::{Alter, Connection};
+use sqlite::Alter;
 use std::alloc::{AllocError, Global};
 
 /// A line that may be a row of its table by itself, or may not.
@@ -141,50 +142,42 @@ fn allow(passes: bool) -> Result<(), StoreError>
 }
 
 /// Reads `versions`, and tests it.
-fn test_versions<S: Alter>(alloc: Global, conn: &mut Connection<S>) -> Result<(), StoreError>
-    requires idle { conn.old.in_transaction ≡ false }
-    requires unlimited { conn.old.step_limit ≡ None }
-    ensures tests { Tests S.Store conn.old conn.new result VersionsPass }
+fn test_versions<S: Alter>(alloc: Global, db: &mut Idle<S>) -> Result<(), StoreError>
+    ensures tests { Tests S.Store db.old.conn db.new.conn result VersionsPass }
     ensures plain { IfErr result IsNumberless }
 {
-    let lines = version_lines(alloc, conn)?;
+    let lines = version_lines(alloc, &mut db.conn)?;
     allow(pass(alloc, &lines)?)
 }
 
 /// Reads `levels`, and tests it.
-fn test_levels<S: Alter>(alloc: Global, conn: &mut Connection<S>) -> Result<(), StoreError>
-    requires idle { conn.old.in_transaction ≡ false }
-    requires unlimited { conn.old.step_limit ≡ None }
-    ensures tests { Tests S.Store conn.old conn.new result LevelsPass }
+fn test_levels<S: Alter>(alloc: Global, db: &mut Idle<S>) -> Result<(), StoreError>
+    ensures tests { Tests S.Store db.old.conn db.new.conn result LevelsPass }
     ensures plain { IfErr result IsNumberless }
 {
-    let lines = level_lines(alloc, conn)?;
+    let lines = level_lines(alloc, &mut db.conn)?;
     allow(pass(alloc, &lines)?)
 }
 
 /// Reads `kept`, and tests it.
-fn test_kept<S: Alter>(alloc: Global, conn: &mut Connection<S>) -> Result<(), StoreError>
-    requires idle { conn.old.in_transaction ≡ false }
-    requires unlimited { conn.old.step_limit ≡ None }
-    ensures tests { Tests S.Store conn.old conn.new result KeptPass }
+fn test_kept<S: Alter>(alloc: Global, db: &mut Idle<S>) -> Result<(), StoreError>
+    ensures tests { Tests S.Store db.old.conn db.new.conn result KeptPass }
     ensures plain { IfErr result IsNumberless }
 {
-    let lines = kept_lines(alloc, conn)?;
+    let lines = kept_lines(alloc, &mut db.conn)?;
     allow(pass(alloc, &lines)?)
 }
 
 /// Reads all tables but `meta`, and tests them.
-fn test_rest<S: Alter>(alloc: Global, conn: &mut Connection<S>) -> Result<(), StoreError>
-    requires idle { conn.old.in_transaction ≡ false }
-    requires unlimited { conn.old.step_limit ≡ None }
-    ensures tests { Tests S.Store conn.old conn.new result RestPasses }
+fn test_rest<S: Alter>(alloc: Global, db: &mut Idle<S>) -> Result<(), StoreError>
+    ensures tests { Tests S.Store db.old.conn db.new.conn result RestPasses }
     ensures plain { IfErr result IsNumberless }
 {
-    let _idle = conn.is_autocommit();
-    test_versions(alloc, conn)?;
-    test_texts(alloc, conn)?;
-    test_levels(alloc, conn)?;
-    test_kept(alloc, conn)
+    let _idle = db.conn.is_autocommit();
+    test_versions(alloc, db)?;
+    test_texts(alloc, db)?;
+    test_levels(alloc, db)?;
+    test_kept(alloc, db)
 }
 
 fn meta_rows(alloc: Global, lines: Vec<MetaLine>) -> Result<Vec<(String, String)>, AllocError>
@@ -225,33 +218,29 @@ fn judge_meta(alloc: Global, lines: Vec<MetaLine>) -> Result<(), StoreError>
 }
 
 /// Reads `meta`, and tests it: the format, then the layout, then the rest.
-fn test_meta<S: Alter>(alloc: Global, conn: &mut Connection<S>) -> Result<(), StoreError>
-    requires idle { conn.old.in_transaction ≡ false }
-    requires unlimited { conn.old.step_limit ≡ None }
-    ensures tests { Tests S.Store conn.old conn.new result MetaPass }
-    ensures refused { HasCleanDisk (state S.Store conn.new)
-        → IfErr result (IsRefusedBy (state S.Store conn.old).now) }
-    ensures newer { HasCleanDisk (state S.Store conn.new)
-        → IfErr result (TellsNewer (state S.Store conn.old)) }
+fn test_meta<S: Alter>(alloc: Global, db: &mut Idle<S>) -> Result<(), StoreError>
+    ensures tests { Tests S.Store db.old.conn db.new.conn result MetaPass }
+    ensures refused { HasCleanDisk (shown db.new)
+        → IfErr result (IsRefusedBy (shown db.old).now) }
+    ensures newer { HasCleanDisk (shown db.new)
+        → IfErr result (TellsNewer (shown db.old)) }
 {
-    let lines = meta_lines(alloc, conn)?;
+    let lines = meta_lines(alloc, &mut db.conn)?;
     judge_meta(alloc, lines)
 }
 
 /// Tests the tables.
-pub(crate) fn test<S: Alter>(alloc: Global, conn: &mut Connection<S>) -> Result<(), StoreError>
-    requires idle { conn.old.in_transaction ≡ false }
-    requires unlimited { conn.old.step_limit ≡ None }
-    ensures tests { Tests S.Store conn.old conn.new result TablesPass }
-    ensures known { OnOk result (IsLayout (state S.Store conn.old).now.schema) }
-    ensures refused { HasCleanDisk (state S.Store conn.new)
-        → IfErr result (IsRefusedBy (state S.Store conn.old).now) }
-    ensures newer { HasCleanDisk (state S.Store conn.new)
-        → IfErr result (TellsNewer (state S.Store conn.old)) }
+pub(crate) fn test<S: Alter>(alloc: Global, db: &mut Idle<S>) -> Result<(), StoreError>
+    ensures tests { Tests S.Store db.old.conn db.new.conn result TablesPass }
+    ensures known { OnOk result (IsLayout (shown db.old).now.schema) }
+    ensures refused { HasCleanDisk (shown db.new)
+        → IfErr result (IsRefusedBy (shown db.old).now) }
+    ensures newer { HasCleanDisk (shown db.new)
+        → IfErr result (TellsNewer (shown db.old)) }
 {
-    let _idle = conn.is_autocommit();
-    let known = has_layout(conn) || is_unindexed(conn);
-    test_meta(alloc, conn)?;
+    let _idle = db.conn.is_autocommit();
+    let known = has_layout(&db.conn) || is_unindexed(&db.conn);
+    test_meta(alloc, db)?;
     allow(known)?;
-    test_rest(alloc, conn)
+    test_rest(alloc, db)
 }

@@ -4,8 +4,8 @@ use Rattle.std.specs.Prelude.{IsUtf8, IsTrue}
 use Rattle.std.specs.List.{AllByRecursion}
 use Rattle.std.proofs.lemmas.Bool.{both_ways, MatchBool-at_false}
 use Rattle.sqlite.specs.declared.types.Value.TheVariants.{Null, Int, Real, Text, Blob}
-use Rattle.sqlite.specs.Order.{column, value_cmp}
-use Rattle.sqlite.specs.Tree.{Trees}
+use Rattle.sqlite.specs.Order.{column, value_cmp, Row}
+use Rattle.sqlite.specs.Tree.{Trees, rowid}
 use Rattle.sqlite.specs.Table.{Table}
 use Rattle.sqlite.specs.Schema.{Schema}
 use Rattle.sqlite.specs.Change.{is_used, is_reserved, automatics, next_tree, created, indexed}
@@ -29,17 +29,16 @@ use Rattle.sqlite_rules.specs.Lists.{Has}
 use Rattle.sqlite_trees.specs.View.{is_int, IsStorable}
 use Rattle.reg_tables.specs.Contents.{Contents, HoldsIn}
 use Rattle.sqlite.specs.declared.types.Value.{Value}
-use Rattle.sqlite.specs.Tree.{rowid}
 use Rattle.sqlite_sql.specs.Catalog.{entry_of}
-use Rattle.sqlite.specs.Order.{Row}
 use Rattle.sqlite_rules.proofs.ListLemmas.{all_has, test_push}
 use Rattle.sqlite_rules.proofs.RuleLemmas.{keeps_at, keeps_from}
 use Rattle.sqlite_trees.specs.Sound.{same_name as same_word, begins, is_free_name, fits_kind}
 use Rattle.sqlite_tied.specs.Compute.{everything}
 use Rattle.reg_tables.specs.Layout.{no_schema, begun, layout, texts, versions, levels, kept, meta, versions_of_id}
 use Rattle.reg_tables.specs.FailedCalls.{IsFault}
+use Rattle.reg_tables.specs.Inside.Statements.{IsWhole}
 use Rattle.reg_tables.proofs.Statements.{MakesTable, make_texts, make_versions, make_levels, make_kept, make_meta, make_versions_of_id, makes_versions_of_id}
-use Rattle.reg_tables.proofs.WriteFaults.{IsWhole, refused_by}
+use Rattle.reg_tables.proofs.WriteFaults.{refused_by}
 use Rattle.reg_tables.proofs.StoredRows.{storable}
 
 -- what SQLite asks of a table's name, keys and text

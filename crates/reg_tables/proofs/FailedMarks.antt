@@ -42,16 +42,18 @@ use Rattle.reg_tables.specs.Contents.{version_cmp, VersionRow, version_key_cells
 use Rattle.reg_tables.specs.Changes.{as_deleted}
 use Rattle.reg_tables.specs.Rooms.{HasRoom, CanBeStored}
 use Rattle.reg_tables.specs.FailedCalls.{IsFault, IsInsertFault}
+use Rattle.reg_tables.specs.Inside.Statements.{plain_query, by_version}
 use Rattle.reg_tables.proofs.Rooms.{above}
 use Rattle.reg_tables.proofs.ListMembers.{has_mapped}
 use Rattle.reg_tables.proofs.MapLemmas.{equal_of, tied_key}
 use Rattle.reg_tables.proofs.RowLemmas.{left_fails, same_if_tied}
-use Rattle.reg_tables.proofs.Queries.{plain_query, passes}
+use Rattle.reg_tables.proofs.Queries.{passes}
 use Rattle.reg_tables.proofs.KeyedTables.{version_order, by_version_test, cast-Int, given_as_is, FindsOne, own_row, finds_one}
-use Rattle.reg_tables.proofs.Statements.{by_version, with_flag, mark_version, mark_version_is}
+use Rattle.reg_tables.proofs.Statements.{with_flag, mark_version, mark_version_is}
 use Rattle.reg_tables.proofs.UniqueLemmas.{with_tree_there, with_tree_elsewhere, stays_unique}
 use Rattle.reg_tables.proofs.WriteFaults.{refused_by, update_refused, update_too_large}
-use Rattle.reg_tables.proofs.TableFaults.{layout_apart, obeys_layout, versions_at, has_text, refers_if, differ_itself, plain_fits}
+use Rattle.reg_tables.proofs.Settled.{layout_settled}
+use Rattle.reg_tables.proofs.TableFaults.{obeys as obeyed, versions_at, has_text, refers_if, differ_itself, plain_fits}
 use Rattle.reg_tables.proofs.FailedVersions.{version_keys, flag_passes}
 
 -- at most one row, at a rowid that is not taken
@@ -85,7 +87,7 @@ module _ (old new : State) (contents : Contents) (h : Holds old.now contents) (e
   marking = record { lets = []; body = plain_query 2 by_version (col 1 0 ∷ with_flag) }
 
   obeys : Obeys layout db
-  obeys = obeys_layout old.now h.declared h.sound
+  obeys = obeyed layout old.now h.declared h.sound
 
   -- a row that passes is the version's
   its_version : (r : Row) → Has (db 2) r → named r ≡ true → (v : VersionRow) × (get contents.versions key ≡ Some v) × IsEntry version_form r key v
@@ -180,7 +182,7 @@ module _ (old new : State) (contents : Contents) (h : Holds old.now contents) (e
 
     unique : Keeps Unique layout after
     unique =
-        stays_unique layout db after versions edit.news layout_apart (has_got layout.tables 1 versions refl) (λ t known other. with_tree_elsewhere db 2 (edited db edit) t.tree other)
+        stays_unique layout db after versions edit.news layout_settled.apart (has_got layout.tables 1 versions refl) (λ t known other. with_tree_elsewhere db 2 (edited db edit) t.tree other)
         (λ r there. elim (came r there) [ inl new ↦ inl new | inr stays ↦ inr (without_all_has (ids_of found) (db 2) r stays) ])
         (λ i known. all_has (λ (i : Index). guards i versions ≡ true → (r fresh : Row) → Has (after 2) r → Has edit.news fresh → agree i.order i.columns r i.columns fresh ≡ true → differ (rowid r) (rowid fresh) ≡ true → ⊥) layout.indexes i
         ((λ on. absurd (cc)), ((λ on. apart), ((λ on. absurd (cc)), ((λ on. absurd (cc)), ((λ on. absurd (cc)), ((λ on. absurd (cc)), tt)))))) known)
@@ -237,9 +239,9 @@ module _ (old new : State) (contents : Contents) (h : Holds old.now contents) (e
         | inl fault ↦ inl fault
         | inr rest ↦ elim rest [
           | inl large ↦
-              let it = update_too_large 1 versions refl old new (statement_of mark_version (understood layout mark_version)) params e marking refl (plain_fits db params 2 by_version (col 1 0 ∷ with_flag)) large.1 in
+              let it = update_too_large layout layout_settled 1 versions refl old new (statement_of mark_version (understood layout mark_version)) params e marking refl (plain_fits db params 2 by_version (col 1 0 ∷ with_flag)) large.1 in
               inr (inl (large.0, it.0, found_as it.0 it.1, it.2))
-          | inr does ↦ elim (update_refused 1 versions refl old new (statement_of mark_version (understood layout mark_version)) params e marking refl (plain_fits db params 2 by_version (col 1 0 ∷ with_flag))
+          | inr does ↦ elim (update_refused layout layout_settled 1 versions refl old new (statement_of mark_version (understood layout mark_version)) params e marking refl (plain_fits db params 2 by_version (col 1 0 ∷ with_flag))
               (λ found next asked applies. refers found (found_as found asked) next applies) does) [
                 | inl fault ↦ inl fault
                 | inr r ↦

@@ -1,5 +1,5 @@
 -- How the statements that write texts and versions fail.
-use Rattle.std.proofs.Common.{arith, ◌≡◌, ◌⊎◌, ◌+◌, ◌++◌, ◌/◌, not, length, ◌<◌, ◌^◌, inl, inr, ℕ, pos, List, [], ◌∷◌, lit≤, true, false, Bool, ◌&&◌, None, Some, Err, Option, refl, sym, ap, subst, ◌∙◌}
+use Rattle.std.proofs.Common.{arith, ◌≡◌, ◌⊎◌, ◌/◌, not, length, ◌<◌, ◌^◌, inl, inr, ℕ, pos, List, [], ◌∷◌, lit≤, true, false, Bool, ◌&&◌, None, Some, Err, Option, refl, sym, ap, subst, ◌∙◌}
 use Rattle.std.specs.Prelude.{IsSome}
 use Rattle.std.specs.FinMap.{get, int_cmp-IsAntisymmetric}
 use Rattle.std.specs.Ordering.{is_eq, int_cmp, nat_cmp}
@@ -9,7 +9,7 @@ use Rattle.sqlite.specs.declared.types.Value.{Value}
 use Rattle.sqlite.specs.declared.types.Value.TheVariants.{Null, Int, Text}
 use Rattle.sqlite.specs.Order.{Row, column, value_cmp}
 use Rattle.sqlite.specs.Tree.{rowid}
-use Rattle.sqlite.specs.Edit.{Edit, edit_of, next_rowid}
+use Rattle.sqlite.specs.Edit.{Edit, edit_of}
 use Rattle.sqlite.specs.Rowids.TheVariants.{Chosen}
 use Rattle.sqlite.specs.Rows.{stamped}
 use Rattle.sqlite.specs.Effect.{value_rows}
@@ -24,21 +24,22 @@ use Rattle.sqlite.specs.declared.error.ErrorCode.TheVariants as code
 use Rattle.sqlite_rules.specs.Edit.{IsOversized}
 use Rattle.sqlite_rules.specs.Lists.{Has}
 use Rattle.sqlite_rules.proofs.ListLemmas.{some_has, some_from}
-use Rattle.sqlite_rules.proofs.TableLemmas.{put_all_has, put_all_keeps, without_all_has}
-use Rattle.sqlite_rules.specs.Calls.{ids_of}
+use Rattle.sqlite_rules.proofs.TableLemmas.{put_all_keeps}
 use Rattle.sqlite_schema.specs.Rules.{agree}
 use Rattle.sqlite_sql.specs.Ops.{binary, is_true, is_false, from_truth}
 use Rattle.sqlite_value.proofs.OrderLemmas.{value_cmp-Text, value_cmp-Int}
 use Rattle.sqlite_value.specs.Keys.{plain, first_key}
 use Rattle.sqlite_tied.specs.Compute.{everything}
-use Rattle.reg_tables.specs.Layout.{layout, texts, versions}
-use Rattle.reg_tables.specs.Contents.{text_cmp, version_cmp, version_key_cells, number_cells, flag_cell, version_cells, text_row_cells, VersionRow, Contents, version_form, Holds}
-use Rattle.reg_tables.specs.FailedCalls.{IsFault, IsPutFault, IsInsertFault}
-use Rattle.reg_tables.specs.Rooms.{HasRoom, CanBeStored}
-use Rattle.reg_tables.proofs.MapLemmas.{IsKeyOrder, same_key, tied_key}
-use Rattle.reg_tables.proofs.KeyedTables.{text_order, number_order, version_order, by_id_test, by_version_test, cast-Null, cast-Int, cast-flag}
-use Rattle.reg_tables.proofs.Statements.{text_terms, four_terms, put_text, put_text_is, put_version, put_version_is, by_version, drop_version, drop_version_is}
-use Rattle.reg_tables.proofs.TableFaults.{texts_at, versions_at, has_text, refers_if, new_key, delete_fails, insert_fails, IsRowTrouble, as_insert_fault, fault_alone}
+use Rattle.reg_tables.specs.Layout.{layout, texts}
+use Rattle.reg_tables.specs.Contents.{text_cmp, version_cmp, version_key_cells, number_cells, flag_cell, text_row_cells, Contents, Holds}
+use Rattle.reg_tables.specs.FailedCalls.{IsFault, IsPutFault}
+use Rattle.reg_tables.specs.Rooms.{CanBeStored}
+use Rattle.reg_tables.specs.Inside.KeyedLaws.{IsKeyOrder}
+use Rattle.reg_tables.proofs.MapLemmas.{same_key, tied_key}
+use Rattle.reg_tables.proofs.KeyedTables.{text_order, number_order, version_order, by_id_test, by_version_test, cast-Null, cast-Int}
+use Rattle.reg_tables.proofs.Statements.{text_terms, put_text, put_text_is}
+use Rattle.reg_tables.proofs.Settled.{layout_settled}
+use Rattle.reg_tables.proofs.TableFaults.{texts_at, has_text, refers_if, insert_fails}
 
 -- rows that agree on a text have one text
 text_agrees : (place : ℕ) (row r : Row) (t k : List ℕ) → column row place ≡ Text k → column r place ≡ Text t → agree (record { digits = 0 }) (place ∷ []) r (place ∷ []) row ≡ true → t ≡ k
@@ -63,7 +64,7 @@ more_texts old new kept row had = elim (or_cases _ _ had) [
 ]
 
 -- the row of an id is the text of a version that names it
-text_of_version : (texts : List Row) (text row : Row) (id : ℕ) → Has texts text → column text 0 ∷ [] ≡ number_cells id → column row 3 ≡ Int (pos id) → has_text texts row ≡ true
+pub text_of_version : (texts : List Row) (text row : Row) (id : ℕ) → Has texts text → column text 0 ∷ [] ≡ number_cells id → column row 3 ≡ Int (pos id) → has_text texts row ≡ true
 unfolding first_key
 text_of_version texts text row id there is its =
     let same : agree plain (0 ∷ []) text (3 ∷ []) row ≡ true = rw its (by_id_test text id id is ∙ tied_key nat_cmp number_order id id refl) in
@@ -79,62 +80,10 @@ pub value_of : {X : Type 0} (o : Option X) → IsSome o → (x : X) × (o ≡ So
 value_of None h = absurd (cc)
 value_of (Some x) h = (x, refl)
 
-the_one : (rows : List Row) (r row : Row) → rows ≡ row ∷ [] → Has rows r → r ≡ row
-the_one rows r row is there = elim (subst (λ l. Has l r) is there) [ inl same ↦ same | inr none ↦ absurd none ]
-
 numbers_apart : IsKeyOrder int_cmp
 numbers_apart = record { total = int_cmp_total; antisymmetric = int_cmp-IsAntisymmetric }
 
 module _ (old new : State) (contents : Contents) (h : Holds old.now contents) (e : Error) where
-  pub drop_version_fails : (key : List ℕ × ℕ) → ExecutesInside 0 drop_version (Text key.0 ∷ Int (pos key.1) ∷ []) old new (Err e) → IsFault old new e
-  unfolding understood everything
-  drop_version_fails key =
-      delete_fails 1 versions versions_at old new h.declared h.sound drop_version (Text key.0 ∷ Int (pos key.1) ∷ []) by_version drop_version_is (lit≤ tt, refl) refl
-      (λ found next applies. refers_if old.now.trees next (λ had row there.
-      subst (λ l. has_text l row ≡ true) (sym (applies.tables.0 (λ e. omega (arith, e)))) (had row (without_all_has (ids_of found) (old.now.trees 2) row (subst (λ l. Has l row) applies.rows there))))) e
-
-  -- why the row is not put in
-  abbrev put_version_row : (key : List ℕ × ℕ) (version : VersionRow) → Row
-  put_version_row key version = Int (next_rowid (old.now.trees versions.tree)) ∷ Text key.0 ∷ Int (pos key.1) ∷ Int (pos version.id) ∷ flag_cell version.deleted ∷ []
-
-  put_version_stops : (key : List ℕ × ℕ) (version : VersionRow) → get contents.versions key ≡ None → (text : List ℕ) → get contents.texts version.id ≡ Some text
-      → ExecutesInside 0 put_version (Text key.0 ∷ Int (pos key.1) ∷ Int (pos version.id) ∷ flag_cell version.deleted ∷ []) old new (Err e) → IsFault old new e ⊎ IsRowTrouble versions (old.now.trees versions.tree) (put_version_row key version) e
-  unfolding understood everything
-  put_version_stops key version none text known ran =
-      let params : Row = Text key.0 ∷ Int (pos key.1) ∷ Int (pos version.id) ∷ flag_cell version.deleted ∷ [] in
-      let row : Row = Int (next_rowid (old.now.trees versions.tree)) ∷ params in
-      let its = h.texts.complete version.id text known in
-      let put : Edit = edit_of old.now.trees versions [] Chosen 0 (value_rows (stamped versions params) 5 (length four_terms / 5) four_terms) in
-      let news : put.news ≡ row ∷ [] = rw (cast-Null, cast-Int (pos key.1), cast-Int (pos version.id), cast-flag version.deleted) in
-      insert_fails 1 versions versions_at old new h.declared h.sound four_terms 5 params row put_version refl put_version_is (lit≤ tt, refl) refl news (record {
-        keyed = refl;
-        typed = refl;
-        present = refl;
-        checked = flag_passes version.deleted;
-        free = (
-          (λ on. absurd (cc)),
-          (
-            (λ on. new_key version_form version_cmp contents.versions (old.now.trees versions.tree) h.versions key none (λ r. agree (record { digits = 0 }) (1 ∷ 2 ∷ []) r (1 ∷ 2 ∷ []) row ≡ true)
-                (λ r q is same. version_keys (Int (next_rowid (old.now.trees versions.tree))) (Int (pos version.id) ∷ flag_cell version.deleted ∷ []) r q key is same)),
-            ((λ on. absurd (cc)), ((λ on. absurd (cc)), ((λ on. absurd (cc)), ((λ on. absurd (cc)), tt)))),
-          ),
-        );
-      }) (λ next applies. refers_if old.now.trees next (λ had r there.
-      subst (λ l. has_text l r ≡ true) (sym (applies.tables.0 (λ e. omega (arith, e)))) (elim (put_all_has put.news (old.now.trees 2) r (subst (λ l. Has l r) applies.rows there)) [
-        | inl fresh ↦ text_of_version (old.now.trees 0) its.0 r version.id its.1 its.2.0 (ap (λ (x : Row). column x 3) (the_one put.news r row news fresh))
-        | inr was ↦ had r was
-      ]))) e ran
-
-  pub put_version_fails : (key : List ℕ × ℕ) (version : VersionRow) → get contents.versions key ≡ None → (text : List ℕ) → get contents.texts version.id ≡ Some text
-      → ExecutesInside 0 put_version (Text key.0 ∷ Int (pos key.1) ∷ Int (pos version.id) ∷ flag_cell version.deleted ∷ []) old new (Err e) → IsInsertFault old new e
-  put_version_fails key version none text known ran = as_insert_fault old new versions (old.now.trees versions.tree) (put_version_row key version) e (put_version_stops key version none text known ran)
-
-  pub put_version_faults : (key : List ℕ × ℕ) (version : VersionRow) → get contents.versions key ≡ None → (text : List ℕ) → get contents.texts version.id ≡ Some text
-      → ExecutesInside 0 put_version (Text key.0 ∷ Int (pos key.1) ∷ Int (pos version.id) ∷ flag_cell version.deleted ∷ []) old new (Err e)
-      → (n : ℕ) → HasRoom (old.now.trees versions.tree) (n + 1) → CanBeStored versions (version_key_cells key ++ version_cells version) → IsFault old new e
-  put_version_faults key version none text known ran n room stored =
-      fault_alone old new versions (old.now.trees versions.tree) (put_version_row key version) e n room refl (stored (next_rowid (old.now.trees versions.tree))) (put_version_stops key version none text known ran)
-
   -- why the row is not put in: its rowid is the id, which is free
   put_text_stops : (id : ℕ) (text : List ℕ) → id < 2 ^ 32 → get contents.texts id ≡ None → ((other : ℕ) → get contents.texts other ≡ Some text → ⊥)
       → ExecutesInside 0 put_text (Int (pos id) ∷ Text text ∷ []) old new (Err e) → IsFault old new e ⊎ ((e ≡ SqliteFailure code.TooBig) × IsOversized layout texts (Int (pos id) ∷ text_row_cells text))
@@ -144,7 +93,7 @@ module _ (old new : State) (contents : Contents) (h : Holds old.now contents) (e
       let row : Row = Int (pos id) ∷ Null ∷ Text text ∷ [] in
       let put : Edit = edit_of old.now.trees texts [] Chosen 0 (value_rows (stamped texts params) 3 (length text_terms / 3) text_terms) in
       let news : put.news ≡ row ∷ [] = rw (cast-Null, cast-Int (pos id)) in
-      elim (insert_fails 0 texts texts_at old new h.declared h.sound text_terms 3 params row put_text refl put_text_is (lit≤ tt, refl) refl news (record {
+      elim (insert_fails layout layout_settled 0 texts texts_at old new h.declared h.sound text_terms 3 params row put_text refl put_text_is (lit≤ tt, refl) refl news (record {
         keyed = refl;
         typed = refl;
         present = refl;

@@ -19,110 +19,80 @@ use Rattle.sqlite.specs.Clock.{timed}
 use Rattle.sqlite.proofs.Callers.{IsPlain, command_of}
 use Rattle.sqlite_schema.specs.declared.command.Returning.{Returning}
 use Rattle.sqlite_resolve.specs.declared.compiled.Compiled.{Compiled}
-use Rattle.sqlite_resolve.specs.declared.error.CompileError.{CompileError}
 use Rattle.sqlite_typing.specs.Types.{accepts_program}
 use Rattle.sqlite_rules.proofs.ListLemmas.{any_has}
 use Rattle.sqlite_tied.specs.Compute.{everything}
 use Rattle.reg_tables.specs.Layout.{IsLayout}
 use Rattle.reg_tables.specs.Reads.{CanBeRead}
 use Rattle.reg_tables.specs.FailedCalls.{IsFault}
+use Rattle.reg_tables.specs.Inside.Statements.{IsWhole, Takes, TableQuery, body_of, program_of, IsQuery}
 use Rattle.sqlite.specs.Schema.{Schema}
 use Rattle.reg_tables.proofs.Reasons.{reason_of, reason_if_shut, reason_by, fault_until}
-use Rattle.reg_tables.proofs.Statements.{TableQuery, body_of, program_of, IsQuery, laid_out, in_layouts, find_text, find_id, find_version, find_versions, find_last_version, find_last_live, find_last, find_behind, find_next, find_of_id, find_one_of_id, list_versions, find_level, find_meta, find_kept, all_ids, texts_between, all_versions, all_levels, all_kept, all_meta}
-
--- the text is one statement, with so many parameters
-abbrev IsWhole : List ℕ → ℕ → Result Compiled CompileError → Type 0
-IsWhole sql count (Ok c) = (length sql ≤ c.tail) × (length c.names ≡ count)
-IsWhole sql count (Err e) = ⊥
-
--- in this schema the query takes these parameters
-pub record Takes (q : TableQuery) (params : Row) (schema : Schema) : Type 0 where
-  pub whole : IsWhole q.sql (length params) (understood schema q.sql)
-  pub typed : accepts_program schema [] (body_of q) params ≡ true
-
-pub takes_level : (k : List ℕ) → (schema : Schema) → IsLayout schema → Takes find_level (Text k ∷ []) schema
-unfolding understood everything
-takes_level k = in_layouts (Takes find_level (Text k ∷ [])) (record { whole = (lit≤ tt, refl); typed = refl }) (record { whole = (lit≤ tt, refl); typed = refl })
-
-pub takes_text : (id : ℕ) → (schema : Schema) → IsLayout schema → Takes find_text (Int (pos id) ∷ []) schema
-unfolding understood everything
-takes_text id = in_layouts (Takes find_text (Int (pos id) ∷ [])) (record { whole = (lit≤ tt, refl); typed = refl }) (record { whole = (lit≤ tt, refl); typed = refl })
+use Rattle.reg_tables.proofs.Statements.{laid_out, in_layouts, find_id, find_versions, find_last_version, find_last_live, find_last, find_behind, find_next, find_of_id, find_one_of_id, list_versions, all_ids, texts_between, all_versions, all_levels, all_kept, all_meta}
 
 pub takes_id : (text : List ℕ) → (schema : Schema) → IsLayout schema → Takes find_id (Text text ∷ []) schema
 unfolding understood everything
-takes_id text = in_layouts (Takes find_id (Text text ∷ [])) (record { whole = (lit≤ tt, refl); typed = refl }) (record { whole = (lit≤ tt, refl); typed = refl })
-
-pub takes_version : (subject : List ℕ) (number : ℕ) → (schema : Schema) → IsLayout schema → Takes find_version (Text subject ∷ Int (pos number) ∷ []) schema
-unfolding understood everything
-takes_version subject number = in_layouts (Takes find_version (Text subject ∷ Int (pos number) ∷ [])) (record { whole = (lit≤ tt, refl); typed = refl }) (record { whole = (lit≤ tt, refl); typed = refl })
+takes_id text = in_layouts (Takes find_id (Text text ∷ [])) (λ tables indexes. record { whole = (lit≤ tt, refl); typed = refl })
 
 pub takes_versions : (subject : List ℕ) → (schema : Schema) → IsLayout schema → Takes find_versions (Text subject ∷ []) schema
 unfolding understood everything
-takes_versions subject = in_layouts (Takes find_versions (Text subject ∷ [])) (record { whole = (lit≤ tt, refl); typed = refl }) (record { whole = (lit≤ tt, refl); typed = refl })
+takes_versions subject = in_layouts (Takes find_versions (Text subject ∷ [])) (λ tables indexes. record { whole = (lit≤ tt, refl); typed = refl })
 
 pub takes_last_version : (subject : List ℕ) → (schema : Schema) → IsLayout schema → Takes find_last_version (Text subject ∷ []) schema
 unfolding understood everything
-takes_last_version subject = in_layouts (Takes find_last_version (Text subject ∷ [])) (record { whole = (lit≤ tt, refl); typed = refl }) (record { whole = (lit≤ tt, refl); typed = refl })
+takes_last_version subject = in_layouts (Takes find_last_version (Text subject ∷ [])) (λ tables indexes. record { whole = (lit≤ tt, refl); typed = refl })
 
 pub takes_last_live : (subject : List ℕ) → (schema : Schema) → IsLayout schema → Takes find_last_live (Text subject ∷ []) schema
 unfolding understood everything
-takes_last_live subject = in_layouts (Takes find_last_live (Text subject ∷ [])) (record { whole = (lit≤ tt, refl); typed = refl }) (record { whole = (lit≤ tt, refl); typed = refl })
+takes_last_live subject = in_layouts (Takes find_last_live (Text subject ∷ [])) (λ tables indexes. record { whole = (lit≤ tt, refl); typed = refl })
 
 pub takes_last : (schema : Schema) → IsLayout schema → Takes find_last [] schema
 unfolding understood everything
-takes_last = in_layouts (Takes find_last []) (record { whole = (lit≤ tt, refl); typed = refl }) (record { whole = (lit≤ tt, refl); typed = refl })
+takes_last = in_layouts (Takes find_last []) (λ tables indexes. record { whole = (lit≤ tt, refl); typed = refl })
 
 pub takes_behind : (subject : List ℕ) → (schema : Schema) → IsLayout schema → Takes find_behind (Text subject ∷ []) schema
 unfolding understood everything
-takes_behind subject = in_layouts (Takes find_behind (Text subject ∷ [])) (record { whole = (lit≤ tt, refl); typed = refl }) (record { whole = (lit≤ tt, refl); typed = refl })
+takes_behind subject = in_layouts (Takes find_behind (Text subject ∷ [])) (λ tables indexes. record { whole = (lit≤ tt, refl); typed = refl })
 
 pub takes_next : (subject : List ℕ) (number : ℕ) → (schema : Schema) → IsLayout schema → Takes find_next (Text subject ∷ Int (pos number) ∷ []) schema
 unfolding understood everything
-takes_next subject number = in_layouts (Takes find_next (Text subject ∷ Int (pos number) ∷ [])) (record { whole = (lit≤ tt, refl); typed = refl }) (record { whole = (lit≤ tt, refl); typed = refl })
+takes_next subject number = in_layouts (Takes find_next (Text subject ∷ Int (pos number) ∷ [])) (λ tables indexes. record { whole = (lit≤ tt, refl); typed = refl })
 
 pub takes_of_id : (id : ℕ) → (schema : Schema) → IsLayout schema → Takes find_of_id (Int (pos id) ∷ []) schema
 unfolding understood everything
-takes_of_id id = in_layouts (Takes find_of_id (Int (pos id) ∷ [])) (record { whole = (lit≤ tt, refl); typed = refl }) (record { whole = (lit≤ tt, refl); typed = refl })
+takes_of_id id = in_layouts (Takes find_of_id (Int (pos id) ∷ [])) (λ tables indexes. record { whole = (lit≤ tt, refl); typed = refl })
 
 pub takes_one_of_id : (id : ℕ) → (schema : Schema) → IsLayout schema → Takes find_one_of_id (Int (pos id) ∷ []) schema
 unfolding understood everything
-takes_one_of_id id = in_layouts (Takes find_one_of_id (Int (pos id) ∷ [])) (record { whole = (lit≤ tt, refl); typed = refl }) (record { whole = (lit≤ tt, refl); typed = refl })
+takes_one_of_id id = in_layouts (Takes find_one_of_id (Int (pos id) ∷ [])) (λ tables indexes. record { whole = (lit≤ tt, refl); typed = refl })
 
 pub takes_list : (schema : Schema) → IsLayout schema → Takes list_versions [] schema
 unfolding understood everything
-takes_list = in_layouts (Takes list_versions []) (record { whole = (lit≤ tt, refl); typed = refl }) (record { whole = (lit≤ tt, refl); typed = refl })
-
-pub takes_meta : (k : List ℕ) → (schema : Schema) → IsLayout schema → Takes find_meta (Text k ∷ []) schema
-unfolding understood everything
-takes_meta k = in_layouts (Takes find_meta (Text k ∷ [])) (record { whole = (lit≤ tt, refl); typed = refl }) (record { whole = (lit≤ tt, refl); typed = refl })
-
-pub takes_kept : (k : List ℕ) → (schema : Schema) → IsLayout schema → Takes find_kept (Text k ∷ []) schema
-unfolding understood everything
-takes_kept k = in_layouts (Takes find_kept (Text k ∷ [])) (record { whole = (lit≤ tt, refl); typed = refl }) (record { whole = (lit≤ tt, refl); typed = refl })
+takes_list = in_layouts (Takes list_versions []) (λ tables indexes. record { whole = (lit≤ tt, refl); typed = refl })
 
 pub takes_all_ids : (schema : Schema) → IsLayout schema → Takes all_ids [] schema
 unfolding understood everything
-takes_all_ids = in_layouts (Takes all_ids []) (record { whole = (lit≤ tt, refl); typed = refl }) (record { whole = (lit≤ tt, refl); typed = refl })
+takes_all_ids = in_layouts (Takes all_ids []) (λ tables indexes. record { whole = (lit≤ tt, refl); typed = refl })
 
 pub takes_between : (low high : ℕ) → (schema : Schema) → IsLayout schema → Takes texts_between (Int (pos low) ∷ Int (pos high) ∷ []) schema
 unfolding understood everything
-takes_between low high = in_layouts (Takes texts_between (Int (pos low) ∷ Int (pos high) ∷ [])) (record { whole = (lit≤ tt, refl); typed = refl }) (record { whole = (lit≤ tt, refl); typed = refl })
+takes_between low high = in_layouts (Takes texts_between (Int (pos low) ∷ Int (pos high) ∷ [])) (λ tables indexes. record { whole = (lit≤ tt, refl); typed = refl })
 
 pub takes_all_versions : (schema : Schema) → IsLayout schema → Takes all_versions [] schema
 unfolding understood everything
-takes_all_versions = in_layouts (Takes all_versions []) (record { whole = (lit≤ tt, refl); typed = refl }) (record { whole = (lit≤ tt, refl); typed = refl })
+takes_all_versions = in_layouts (Takes all_versions []) (λ tables indexes. record { whole = (lit≤ tt, refl); typed = refl })
 
 pub takes_all_levels : (schema : Schema) → IsLayout schema → Takes all_levels [] schema
 unfolding understood everything
-takes_all_levels = in_layouts (Takes all_levels []) (record { whole = (lit≤ tt, refl); typed = refl }) (record { whole = (lit≤ tt, refl); typed = refl })
+takes_all_levels = in_layouts (Takes all_levels []) (λ tables indexes. record { whole = (lit≤ tt, refl); typed = refl })
 
 pub takes_all_kept : (schema : Schema) → IsLayout schema → Takes all_kept [] schema
 unfolding understood everything
-takes_all_kept = in_layouts (Takes all_kept []) (record { whole = (lit≤ tt, refl); typed = refl }) (record { whole = (lit≤ tt, refl); typed = refl })
+takes_all_kept = in_layouts (Takes all_kept []) (λ tables indexes. record { whole = (lit≤ tt, refl); typed = refl })
 
 pub takes_all_meta : (schema : Schema) → IsLayout schema → Takes all_meta [] schema
 unfolding understood everything
-takes_all_meta = in_layouts (Takes all_meta []) (record { whole = (lit≤ tt, refl); typed = refl }) (record { whole = (lit≤ tt, refl); typed = refl })
+takes_all_meta = in_layouts (Takes all_meta []) (λ tables indexes. record { whole = (lit≤ tt, refl); typed = refl })
 
 pub read_fault_until : (old mid new : State) → mid.faults ≤ new.faults → (e : Error) → IsFault old mid e → IsFault old new e
 read_fault_until old mid new up e (inl store) = inl (store.0, store.1, reason_by old mid old new (fault_until old mid new up) store.0 store.2)

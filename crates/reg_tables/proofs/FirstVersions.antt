@@ -23,13 +23,14 @@ use Rattle.reg_tables.specs.Contents.{text_cmp, version_cmp, version_key_cells, 
 use Rattle.reg_tables.specs.Entries.{NumberedVersion, numbered, numbered_cells, subject_versions, IsReadableNumbered, keyed, keyed_cells, IsReadableKeyed}
 use Rattle.reg_tables.specs.declared.listed.SubjectVersion.{SubjectVersion}
 use Rattle.reg_tables.specs.declared.listed.ListedVersion.{ListedVersion}
+use Rattle.reg_tables.specs.Inside.Statements.{ordered_query, TableQuery, body_of, IsQuery}
 use Rattle.reg_tables.proofs.KeyedLists.{distinct_keyed, whole as keyed_shown, can_be_held}
 use Rattle.reg_tables.proofs.KeyedTables.{int_order, version_order, with_nothing, answered}
 use Rattle.reg_tables.proofs.LastVersions.{first_taken, map_twice, same_shown, entry_version, line_columns}
 use Rattle.reg_tables.proofs.ListMembers.{has_mapped, has_taken}
 use Rattle.reg_tables.proofs.OrderedQueries.{entries_rise, entry_got, got_entry, in_order_as}
-use Rattle.reg_tables.proofs.Queries.{ordered_query, passes}
-use Rattle.reg_tables.proofs.Statements.{TableQuery, body_of, IsQuery, in_order, first_row, laid_out, by_later_subject, find_behind, find_behind_is, by_later_number, find_next, find_next_is}
+use Rattle.reg_tables.proofs.Queries.{passes}
+use Rattle.reg_tables.proofs.Statements.{in_order, first_row, laid_out, by_later_subject, find_behind, find_behind_is, by_later_number, find_next, find_next_is}
 use Rattle.reg_tables.proofs.TableLines.{all_if_each}
 use Rattle.reg_tables.proofs.VersionLists.{Entry, ranks, distinct_numbered, same_text, entry_cells, entry_shown, readable_entry}
 

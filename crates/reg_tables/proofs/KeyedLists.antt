@@ -21,12 +21,13 @@ use Rattle.reg_tables.specs.TableMaps.{IsEntry}
 use Rattle.reg_tables.specs.Contents.{VersionRow, version_cells, version_form, Contents, AreReadable, HoldsIn}
 use Rattle.reg_tables.specs.Entries.{KeyedVersion, keyed, keyed_cells, id_versions, IsReadableKeyed}
 use Rattle.reg_tables.specs.declared.listed.ListedVersion.{ListedVersion}
+use Rattle.reg_tables.specs.Inside.Statements.{IsQuery, body_of}
 use Rattle.reg_tables.proofs.KeyedTables.{number_order, same_pos, with_nothing, answered}
 use Rattle.reg_tables.proofs.MapLemmas.{same_key, tied_key}
 use Rattle.reg_tables.proofs.ListMembers.{has_mapped, maps_had, has_taken, takes_one}
 use Rattle.reg_tables.proofs.Opening.{distinct_version_rows}
 use Rattle.reg_tables.proofs.Queries.{passes, ordered_has, has_ordered}
-use Rattle.reg_tables.proofs.Statements.{IsQuery, body_of, first_row, by_its_id, laid_out, find_of_id, find_of_id_is, find_one_of_id, find_one_of_id_is, list_versions, list_versions_is}
+use Rattle.reg_tables.proofs.Statements.{first_row, by_its_id, laid_out, find_of_id, find_of_id_is, find_one_of_id, find_one_of_id_is, list_versions, list_versions_is}
 use Rattle.reg_tables.proofs.TableLines.{all_if_each}
 use Rattle.reg_tables.proofs.TableReads.{first_shown}
 use Rattle.reg_tables.proofs.VersionLists.{same_cells, lists_versions, readable_versions}

@@ -1,11 +1,9 @@
 -- What the statements of one table make of the map that it shows, by the key of its rows.
-use Rattle.std.proofs.Common.{T, arith, ◌≤◌, ◌+◌, ◌≡◌, ◌≢◌, inl, ◌&&◌, ◌==◌, ℕ, ℤ, length, map, drop, List, [], ◌∷◌, ◌/◌, Option, Some, None, Bool, true, false, cond, Ok, MatchOption, slice_get, refl, sym, ap, subst, ◌∙◌}
-use Rattle.std.specs.List.{AllByRecursion}
+use Rattle.std.proofs.Common.{T, arith, ◌≤◌, ◌+◌, ◌≡◌, inl, ◌&&◌, ℕ, ℤ, length, map, drop, List, [], ◌∷◌, ◌/◌, Option, Some, None, Bool, true, false, cond, Ok, MatchOption, slice_get, refl, sym, ap, subst, ◌∙◌, Ordering, Less, Equal, Greater, pos, nat_le, ◌^◌}
 use Rattle.std.specs.Cmp.{int_cmp_is}
 use Rattle.std.specs.Prelude.{◌<ℤ◌, ◌<◌}
 use Rattle.std.specs.Ordering.{is_eq, nat_cmp, int_cmp, ordering_then, MatchOrdering}
 use Rattle.std.specs.FinMap.{FinMap, get, insert, remove, slice_cmp-IsAntisymmetric, nat_cmp-IsAntisymmetric, IsAntisymmetric}
-use Rattle.std.proofs.Common.{Ordering, Less, Equal, Greater, pos, nat_le, ◌^◌}
 use Rattle.std.proofs.lemmas.Cmp.{ranked, nat_list_cmp_total, nat_cmp_total, on_total, then_total}
 use Rattle.std.proofs.lemmas.Bool.{lt-ltb, and_parts, not-true}
 use Rattle.sqlite.specs.declared.types.Value.{Value}
@@ -25,31 +23,31 @@ use Rattle.sqlite.specs.Query.{IsAnswer}
 use Rattle.sqlite.specs.Program.{overlay}
 use Rattle.sqlite.specs.Command.TheVariants.{Insert, Update, Delete, Select}
 use Rattle.sqlite.specs.Source.TheVariants.{Values}
-use Rattle.sqlite.specs.Effect.{Database, IsDatabase, value_rows}
+use Rattle.sqlite.specs.Effect.{value_rows}
 use Rattle.sqlite.specs.Rows.{stamped}
 use Rattle.sqlite.specs.State.{State, Executes, Shown}
 use Rattle.sqlite.specs.Listing.{understood}
 use Rattle.sqlite.proofs.Callers.{statement_of, runs_as, reads_as}
 use Rattle.sqlite_value.proofs.OrderLemmas.{value_cmp-Text, value_cmp-Int}
 use Rattle.sqlite_sql.specs.Ops.{binary, is_true, from_truth}
-use Rattle.sqlite_schema.specs.declared.schema.Action.TheVariants.{NoAction}
-use Rattle.sqlite_schema.specs.declared.schema.Keys.TheVariants.{Enforced}
 use Rattle.sqlite_schema.specs.declared.program.Program.{Program}
-use Rattle.sqlite_rules.specs.Action.{works}
 use Rattle.sqlite_rules.specs.Lists.{Has}
 use Rattle.sqlite_rules.proofs.ListLemmas.{all_has}
 use Rattle.sqlite_rules.proofs.TableLemmas.{int_is}
-use Rattle.reg_tables.specs.Layout.{layout}
+use Rattle.sqlite.specs.Schema.{Schema}
 use Rattle.reg_tables.specs.TableMaps.{Form, IsEntry, ShowsMap}
 use Rattle.reg_tables.specs.Changes.{altered}
 use Rattle.reg_tables.specs.Rooms.{HasRoom}
 use Rattle.reg_tables.proofs.Rooms.{room_after, room_without_all, room_altered}
 use Rattle.reg_tables.proofs.ListMembers.{has_mapped, maps_had}
 use Rattle.reg_tables.specs.Contents.{version_cmp, number_cells, version_key_cells, flag_cell, text_cmp, text_cells}
-use Rattle.reg_tables.proofs.Queries.{plain_query, passes, passing, one_passing, found_count, answer_has, has_answer}
-use Rattle.reg_tables.proofs.MapLemmas.{IsKeyOrder, same_key, tied_key}
+use Rattle.reg_tables.specs.Inside.KeyedLaws.{TurnsTable, IsKeyOrder}
+use Rattle.reg_tables.specs.Inside.Statements.{plain_query, IsCommand, TableQuery, body_of, program_of, IsQuery, by_key, by_id, by_version}
+use Rattle.reg_tables.proofs.Queries.{passes, passing, one_passing, found_count, answer_has, has_answer}
+use Rattle.reg_tables.proofs.MapLemmas.{same_key, tied_key}
 use Rattle.reg_tables.proofs.RowLemmas.{FindsRowids, shows_inserted, shows_removed, shows_altered}
-use Rattle.reg_tables.proofs.Statements.{IsCommand, TableQuery, body_of, program_of, IsQuery, by_key, by_id, by_text, by_version}
+use Rattle.reg_tables.proofs.Statements.{by_text}
+use Rattle.reg_tables.proofs.Settled.{IsSettled}
 use Rattle.reg_tables.proofs.Writes.{inserted, updated, deleted}
 
 -- ---- values that a column keeps as they are
@@ -162,14 +160,6 @@ by_version_test row k q is =
 
 -- ---- one table
 
--- no foreign key of the layout acts
-pub idle : (tree : ℕ) (olds news : List Row) → works layout Enforced 0 tree olds news ≡ []
-idle tree olds news = rw (no_action (length news == 0))
-  where
-    no_action : (b : Bool) → cond b NoAction NoAction ≡ NoAction
-    no_action true = refl
-    no_action false = refl
-
 -- a query with no WITH reads the tables as they are
 pub with_nothing : (db : Trees) (tree : ℕ) → overlay db [] tree ≡ db tree
 with_nothing db tree = rw (no_table (nat_le (2 ^ 31) tree))
@@ -182,17 +172,6 @@ with_nothing db tree = rw (no_table (nat_le (2 ^ 31) tree))
 pub given_as_is : (rows news : List Row) → numbered Given rows news ≡ news
 given_as_is rows [] = refl
 given_as_is rows (r ∷ news) = ap (λ l. r ∷ l) (given_as_is (put_row r rows) news)
-
--- the tables but one have the rows that they had
-abbrev pub KeepsOthers : ℕ → Database → Database → Type 0
-KeepsOthers tree old new = AllByRecursion (λ t. t.tree ≢ tree → new.trees t.tree ≡ old.trees t.tree) layout.tables
-
--- the table shows another map, and that is all
-pub record TurnsTable {K V : Type 0} (form : Form K V) (tree : ℕ) (old new : Database) (value_at : K → Option V) : Type 0 where
-  pub declared : new.schema ≡ layout
-  pub sound : IsDatabase new
-  pub rows : ShowsMap form (new.trees tree) value_at
-  pub others : KeepsOthers tree old new
 
 -- what a row that is put in has
 pub record IsRowOf {K V : Type 0} (form : Form K V) (row : Row) (key : K) (value : V) : Type 0 where
@@ -228,15 +207,15 @@ module _ {K V : Type 0} (form : Form K V) (R : K → K → Ordering) (order : Is
         few = omega (arith, one, all);
       }
 
-module _ {K V : Type 0} (form : Form K V) (R : K → K → Ordering) (order : IsKeyOrder R) (distinct : (a b : K) → form.key_cells a ≡ form.key_cells b → a ≡ b) (at : ℕ) (table : Table)
-    (there : slice_get layout.tables at ≡ Some table) (old new : State) (declared : old.now.schema ≡ layout) (m : FinMap R V) (shows : ShowsMap form (old.now.trees table.tree) (get m)) (k : K) (sql : List ℕ) (params : Row) (count : ℕ) where
-  pub inserts : (terms : List Term) (width : ℕ) (new_row : Row) (v : V) → table.is_counted ≡ false → IsCommand layout sql (Insert at (Values terms width))
+module _ (schema : Schema) (settled : IsSettled schema) {K V : Type 0} (form : Form K V) (R : K → K → Ordering) (order : IsKeyOrder R) (distinct : (a b : K) → form.key_cells a ≡ form.key_cells b → a ≡ b) (at : ℕ) (table : Table)
+    (there : slice_get schema.tables at ≡ Some table) (old new : State) (declared : old.now.schema ≡ schema) (m : FinMap R V) (shows : ShowsMap form (old.now.trees table.tree) (get m)) (k : K) (sql : List ℕ) (params : Row) (count : ℕ) where
+  pub inserts : (terms : List Term) (width : ℕ) (new_row : Row) (v : V) → table.is_counted ≡ false → IsCommand schema sql (Insert at (Values terms width))
       → (edit_of old.now.trees table [] Chosen 0 (value_rows (stamped table params) width (length terms / width) terms)).news ≡ new_row ∷ [] → IsRowOf form new_row k v → get m k ≡ None
-      → Executes sql params old new (Ok count) → TurnsTable form table.tree old.now new.now (get (insert m k v))
+      → Executes sql params old new (Ok count) → TurnsTable schema form table.tree old.now new.now (get (insert m k v))
   inserts terms width new_row v uncounted it news is free h =
       let db = old.now.trees in
-      let w = runs_as sql params old new layout declared (Insert at (Values terms width)) it.is it.plain count h in
-      let step = inserted layout idle at table there old new declared (statement_of sql (understood layout sql)) params count terms width uncounted w in
+      let w = runs_as sql params old new schema declared (Insert at (Values terms width)) it.is it.plain count h in
+      let step = inserted schema settled.idle at table there old new declared (statement_of sql (understood schema sql)) params count terms width uncounted w in
       let rows : new.now.trees table.tree ≡ put_row new_row (db table.tree) = step.applies.rows ∙ ap (put_all (db table.tree)) news in
       let fresh : is_taken (db table.tree) new_row ≡ false = not-true _ (and_parts _ _ (ap (are_fresh (db table.tree)) (sym news) ∙ step.applies.fresh)).0 in
       record {
@@ -246,34 +225,34 @@ module _ {K V : Type 0} (form : Form K V) (R : K → K → Ordering) (order : Is
         others = step.applies.tables;
       }
 
-  pub inserts_room : (terms : List Term) (width : ℕ) (new_row : Row) → table.is_counted ≡ false → IsCommand layout sql (Insert at (Values terms width))
+  pub inserts_room : (terms : List Term) (width : ℕ) (new_row : Row) → table.is_counted ≡ false → IsCommand schema sql (Insert at (Values terms width))
       → (edit_of old.now.trees table [] Chosen 0 (value_rows (stamped table params) width (length terms / width) terms)).news ≡ new_row ∷ [] → rowid new_row ≡ Int (next_rowid (old.now.trees table.tree))
       → Executes sql params old new (Ok count) → (n : ℕ) → HasRoom (old.now.trees table.tree) (n + 1) → HasRoom (new.now.trees table.tree) n
   inserts_room terms width new_row uncounted it news its h n room =
       let db = old.now.trees in
-      let w = runs_as sql params old new layout declared (Insert at (Values terms width)) it.is it.plain count h in
-      let step = inserted layout idle at table there old new declared (statement_of sql (understood layout sql)) params count terms width uncounted w in
+      let w = runs_as sql params old new schema declared (Insert at (Values terms width)) it.is it.plain count h in
+      let step = inserted schema settled.idle at table there old new declared (statement_of sql (understood schema sql)) params count terms width uncounted w in
       let rows : new.now.trees table.tree ≡ put_row new_row (db table.tree) = step.applies.rows ∙ ap (put_all (db table.tree)) news in
       subst (λ r. HasRoom r n) (sym rows) (room_after (db table.tree) n room new_row its)
 
-  pub removes_room : (tests : List Term) → IsCommand layout sql (Delete at (record { lets = []; body = plain_query table.tree tests (col 1 0 ∷ []) })) → Executes sql params old new (Ok count)
+  pub removes_room : (tests : List Term) → IsCommand schema sql (Delete at (record { lets = []; body = plain_query table.tree tests (col 1 0 ∷ []) })) → Executes sql params old new (Ok count)
       → (n : ℕ) → HasRoom (old.now.trees table.tree) n → HasRoom (new.now.trees table.tree) n
   removes_room tests it h n room =
       let db = old.now.trees in
       let q : Program = record { lets = []; body = plain_query table.tree tests (col 1 0 ∷ []) } in
-      let w = runs_as sql params old new layout declared (Delete at q) it.is it.plain count h in
-      let cut = deleted layout idle at table there old new declared (statement_of sql (understood layout sql)) params count q w in
+      let w = runs_as sql params old new schema declared (Delete at q) it.is it.plain count h in
+      let cut = deleted schema settled.idle at table there old new declared (statement_of sql (understood schema sql)) params count q w in
       subst (λ r. HasRoom r n) (sym cut.2.applies.rows) (room_without_all (ids_of cut.0) (db table.tree) n room)
 
   -- the query of the DELETE tests the key
-  pub removes : (tests : List Term) → IsCommand layout sql (Delete at (record { lets = []; body = plain_query table.tree tests (col 1 0 ∷ []) }))
+  pub removes : (tests : List Term) → IsCommand schema sql (Delete at (record { lets = []; body = plain_query table.tree tests (col 1 0 ∷ []) }))
       → ((row : Row) (q : K) → form.key_of row ≡ form.key_cells q → passes tests params row ≡ is_eq (R q k)) → Executes sql params old new (Ok count)
-      → TurnsTable form table.tree old.now new.now (get (remove m k))
+      → TurnsTable schema form table.tree old.now new.now (get (remove m k))
   removes tests it test h =
       let db = old.now.trees in
       let q : Program = record { lets = []; body = plain_query table.tree tests (col 1 0 ∷ []) } in
-      let w = runs_as sql params old new layout declared (Delete at q) it.is it.plain count h in
-      let cut = deleted layout idle at table there old new declared (statement_of sql (understood layout sql)) params count q w in
+      let w = runs_as sql params old new schema declared (Delete at q) it.is it.plain count h in
+      let cut = deleted schema settled.idle at table there old new declared (statement_of sql (understood schema sql)) params count q w in
       let found = cut.0 in
       let answer : IsAnswer q.body (overlay db []) params found = cut.1.answer Null in
       let step = cut.2 in
@@ -289,15 +268,15 @@ module _ {K V : Type 0} (form : Form K V) (R : K → K → Ordering) (order : Is
       }
 
   -- the query of the UPDATE tests the key, and shows the rowid and then the new row
-  pub alters : (tests shown : List Term) (change : V → V) → IsCommand layout sql (Update at (record { lets = []; body = plain_query table.tree tests (col 1 0 ∷ shown) }))
+  pub alters : (tests shown : List Term) (change : V → V) → IsCommand schema sql (Update at (record { lets = []; body = plain_query table.tree tests (col 1 0 ∷ shown) }))
       → ((row : Row) (q : K) → form.key_of row ≡ form.key_cells q → passes tests params row ≡ is_eq (R q k))
       → ((row : Row) (v : V) → IsEntry form row k v → IsEntry form (cast_row table (eval_all shown (params ∷ row ∷ []))) k (change v)) → Executes sql params old new (Ok count)
-      → TurnsTable form table.tree old.now new.now (get (altered m k change))
+      → TurnsTable schema form table.tree old.now new.now (get (altered m k change))
   alters tests shown change it test turns h =
       let db = old.now.trees in
       let q : Program = record { lets = []; body = plain_query table.tree tests (col 1 0 ∷ shown) } in
-      let w = runs_as sql params old new layout declared (Update at q) it.is it.plain count h in
-      let put = updated layout idle at table there old new declared (statement_of sql (understood layout sql)) params count q w in
+      let w = runs_as sql params old new schema declared (Update at q) it.is it.plain count h in
+      let put = updated schema settled.idle at table there old new declared (statement_of sql (understood schema sql)) params count q w in
       let found = put.0 in
       let answer : IsAnswer q.body (overlay db []) params found = put.1.answer Null in
       let step = put.2 in
@@ -322,15 +301,15 @@ module _ {K V : Type 0} (form : Form K V) (R : K → K → Ordering) (order : Is
       }
 
   -- the new row has the rowid of the one whose place it takes
-  pub alters_room : (tests shown : List Term) → IsCommand layout sql (Update at (record { lets = []; body = plain_query table.tree tests (col 1 0 ∷ shown) }))
+  pub alters_room : (tests shown : List Term) → IsCommand schema sql (Update at (record { lets = []; body = plain_query table.tree tests (col 1 0 ∷ shown) }))
       → ((row : Row) (q : K) → form.key_of row ≡ form.key_cells q → passes tests params row ≡ is_eq (R q k))
       → ((row : Row) (id : ℤ) → rowid row ≡ Int id → rowid (cast_row table (eval_all shown (params ∷ row ∷ []))) ≡ Int id) → Executes sql params old new (Ok count)
       → (n : ℕ) → HasRoom (old.now.trees table.tree) n → HasRoom (new.now.trees table.tree) n
   alters_room tests shown it test keeps h n room =
       let db = old.now.trees in
       let q : Program = record { lets = []; body = plain_query table.tree tests (col 1 0 ∷ shown) } in
-      let w = runs_as sql params old new layout declared (Update at q) it.is it.plain count h in
-      let put = updated layout idle at table there old new declared (statement_of sql (understood layout sql)) params count q w in
+      let w = runs_as sql params old new schema declared (Update at q) it.is it.plain count h in
+      let put = updated schema settled.idle at table there old new declared (statement_of sql (understood schema sql)) params count q w in
       let found = put.0 in
       let one = finds_one form R order db table.tree m shows k tests params test shown found (put.1.answer Null) in
       let left = without_all (db table.tree) (ids_of found) in

@@ -19,11 +19,12 @@ use Rattle.sqlite_value.specs.declared.keys.Key.{Key}
 use Rattle.sqlite_value.proofs.OrderLemmas.{value_cmp-Int}
 use Rattle.reg_tables.specs.Layout.{IsLayout}
 use Rattle.reg_tables.specs.Contents.{number_cells, Contents, HoldsIn}
+use Rattle.reg_tables.specs.Inside.Statements.{body_of}
 use Rattle.reg_tables.proofs.FailedVersions.{value_of}
 use Rattle.reg_tables.proofs.KeyedTables.{int_order, with_nothing, answered, none_of}
 use Rattle.reg_tables.proofs.OrderedQueries.{at_most, key_cmp_total}
 use Rattle.reg_tables.proofs.Queries.{ordered_has, has_ordered}
-use Rattle.reg_tables.proofs.Statements.{body_of, laid_out, find_last, find_last_is}
+use Rattle.reg_tables.proofs.Statements.{laid_out, find_last, find_last_is}
 
 module _ (old new : State) (schema : Schema) (contents : Contents) (h : HoldsIn schema old.now contents) (is_layout : IsLayout schema) (found : List Row) (shown : Shown find_last.sql [] old new found) where
   abbrev cmp : Output → Output → Ordering

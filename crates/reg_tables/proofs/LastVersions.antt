@@ -26,11 +26,12 @@ use Rattle.reg_tables.specs.TableMaps.{IsEntry, ShowsMap}
 use Rattle.reg_tables.specs.Contents.{text_cmp, version_cmp, version_key_cells, version_form, Contents, AreReadable, HoldsIn}
 use Rattle.reg_tables.specs.Entries.{NumberedVersion, numbered, numbered_cells, subject_versions, IsReadableNumbered}
 use Rattle.reg_tables.specs.declared.listed.SubjectVersion.{SubjectVersion}
+use Rattle.reg_tables.specs.Inside.Statements.{ordered_query, TableQuery, body_of, IsQuery}
 use Rattle.reg_tables.proofs.KeyedTables.{version_order, with_nothing, answered}
 use Rattle.reg_tables.proofs.ListMembers.{has_mapped, has_reversed, reversed_has, has_taken}
 use Rattle.reg_tables.proofs.OrderedQueries.{entries_rise, entry_got, got_entry, in_order_as}
-use Rattle.reg_tables.proofs.Queries.{ordered_query, passes}
-use Rattle.reg_tables.proofs.Statements.{TableQuery, body_of, IsQuery, from_greatest, first_row, laid_out, by_live_key, find_last_version, find_last_version_is, find_last_live, find_last_live_is}
+use Rattle.reg_tables.proofs.Queries.{passes}
+use Rattle.reg_tables.proofs.Statements.{from_greatest, first_row, laid_out, by_live_key, find_last_version, find_last_version_is, find_last_live, find_last_live_is}
 use Rattle.reg_tables.proofs.TableLines.{all_if_each}
 use Rattle.reg_tables.proofs.VersionLists.{Entry, ranks, distinct_numbered, same_text, entry_cells, by_subject, entry_shown, readable_entry}
 

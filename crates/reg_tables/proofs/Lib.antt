@@ -5,9 +5,13 @@ pub mod RowLemmas
 pub mod Writes
 pub mod Statements
 pub mod OrderedQueries
+pub mod Settled
 pub mod KeyedTables
 pub mod Creation
 pub mod TableWrites
+pub mod KeyedWrites
+pub mod KeyedFinds
+pub mod LayoutTables
 pub mod Faults
 pub mod Reasons
 pub mod Rooms
@@ -30,7 +34,6 @@ pub mod References
 pub mod UniqueLemmas
 pub mod WriteFaults
 pub mod TableFaults
-pub mod FailedWrites
 pub mod FailedVersions
 pub mod FailedMarks
 pub mod CreationFaults

@@ -19,8 +19,9 @@ use Rattle.sqlite_rules.specs.Lists.{Has}
 use Rattle.sqlite_rules.proofs.ListLemmas.{all_from, all_has}
 use Rattle.reg_tables.specs.TableMaps.{Form, HaveOwnRowids, HaveRowids, ShowsMap}
 use Rattle.reg_tables.specs.Listings.{RowParts, parts_of, entry_parts, Lists, HasNoTwins, without_rowid}
+use Rattle.reg_tables.specs.Inside.KeyedLaws.{IsKeyOrder}
 use Rattle.reg_tables.proofs.ListMembers.{has_mapped, maps_had, has_permuted}
-use Rattle.reg_tables.proofs.MapLemmas.{IsKeyOrder, same_key, tied_key, other_key}
+use Rattle.reg_tables.proofs.MapLemmas.{same_key, tied_key, other_key}
 use Rattle.reg_tables.proofs.RowLemmas.{same_if_tied}
 
 -- ---- rowids

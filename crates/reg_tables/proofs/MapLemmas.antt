@@ -2,21 +2,16 @@
 use Rattle.std.proofs.Common.{◌≡◌, ◌≢◌, ◌⊎◌, inl, inr, Option, Some, None, option_map, true, false, cond, Ordering, Less, Equal, Greater, refl, sym, ap, ◌∙◌}
 use Rattle.std.specs.Prelude.{unwrap_or}
 use Rattle.std.specs.Ordering.{is_eq}
-use Rattle.std.specs.FinMap.{FinMap, get, insert, remove, get-insert, get-remove, same_map, IsAntisymmetric}
-use Rattle.std.specs.Cmp.{IsTotalOrder}
+use Rattle.std.specs.FinMap.{FinMap, get, insert, remove, get-insert, get-remove, same_map}
 use Rattle.std.proofs.lemmas.Cmp.{tied_itself}
 use Rattle.reg_tables.specs.Changes.{altered}
+use Rattle.reg_tables.specs.Inside.KeyedLaws.{IsKeyOrder}
 use Rattle.std.proofs.lemmas.Bool.{cases_Bool, both_ways, false_from_ne_true}
 
 pub equal_of : (o : Ordering) → is_eq o ≡ true → o ≡ Equal
 equal_of Less h = absurd (cc)
 equal_of Equal h = refl
 equal_of Greater h = absurd (cc)
-
--- an order in which only equal keys tie
-pub record IsKeyOrder {K : Type 0} (R : K → K → Ordering) : Type 0 where
-  pub total : IsTotalOrder R
-  pub antisymmetric : IsAntisymmetric R
 
 module _ {K : Type 0} (R : K → K → Ordering) (order : IsKeyOrder R) where
   pub same_key : (q k : K) → is_eq (R q k) ≡ true → q ≡ k

@@ -21,9 +21,11 @@ use Rattle.sqlite_value.specs.declared.keys.Key.{Key}
 use Rattle.sqlite_value.proofs.KeyLemmas.{by_key_total}
 use Rattle.sqlite_value.proofs.OrderLemmas.{value_cmp_total}
 use Rattle.reg_tables.specs.TableMaps.{Form, IsEntry, HaveOwnRowids, ShowsMap}
+use Rattle.reg_tables.specs.Inside.KeyedLaws.{IsKeyOrder}
+use Rattle.reg_tables.specs.Inside.Statements.{ordered_query}
 use Rattle.reg_tables.proofs.ListMembers.{has_mapped, maps_had}
-use Rattle.reg_tables.proofs.MapLemmas.{IsKeyOrder, equal_of, same_key, tied_key, other_key}
-use Rattle.reg_tables.proofs.Queries.{ordered_query, passes, passing, passing_has, ordered_outputs, ordered_has, has_ordered}
+use Rattle.reg_tables.proofs.MapLemmas.{equal_of, same_key, tied_key, other_key}
+use Rattle.reg_tables.proofs.Queries.{passes, passing, passing_has, ordered_outputs, ordered_has, has_ordered}
 
 -- ---- lists that rise
 

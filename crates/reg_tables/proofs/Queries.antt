@@ -1,5 +1,5 @@
 -- What a query on one table answers: the rows that pass, each shown.
-use Rattle.std.proofs.Common.{arith, lit≤, length, ◌≤◌, ◌≡◌, inl, inr, ℕ, pos, negsuc, List, [], ◌∷◌, ◌++◌, map, filter, flat_map, Bool, true, false, cond, None, refl, sym, ap, subst, ◌∙◌}
+use Rattle.std.proofs.Common.{arith, lit≤, length, ◌≤◌, ◌≡◌, inl, inr, ℕ, List, [], ◌∷◌, ◌++◌, map, filter, flat_map, Bool, true, false, cond, refl, sym, ap, subst, ◌∙◌}
 use Rattle.std.specs.List.{list_all}
 use Rattle.std.specs.List.Sorted.{IsPermutation}
 use Rattle.std.proofs.lemmas.List.Sorted.{IsPermutation-sym, IsPermutation-map, length_permutation}
@@ -10,36 +10,14 @@ use Rattle.std.specs.Ordering.{is_eq}
 use Rattle.sqlite_value.proofs.OrderLemmas.{value_cmp_total}
 use Rattle.sqlite_rules.proofs.ListLemmas.{all_has}
 use Rattle.reg_tables.specs.TableMaps.{HaveOwnRowids}
-use Rattle.sqlite.specs.declared.types.Value.TheVariants.{Int}
+use Rattle.reg_tables.specs.Inside.Statements.{all_rows, ordered_query, plain_query}
 use Rattle.sqlite_value.specs.declared.keys.Key.{Key}
 use Rattle.sqlite.specs.Order.{Row, value_cmp}
 use Rattle.sqlite.specs.Tree.{Trees, IsAscending, rowid}
-use Rattle.sqlite.specs.Term.{Term, Env, lit, eval_all, holds}
-use Rattle.sqlite.specs.Query.{Query, Output, inner, end, IsAnswer, output}
+use Rattle.sqlite.specs.Term.{Term, Env, eval_all, holds}
+use Rattle.sqlite.specs.Query.{Output, IsAnswer, output}
 use Rattle.sqlite_rules.specs.Lists.{Has}
 use Rattle.reg_tables.proofs.ListMembers.{has_mapped, maps_had, has_permuted}
-
--- no LIMIT
-abbrev pub all_rows : Term
-all_rows = lit (Int (negsuc 0))
-
--- SELECT of terms from one table, with ORDER BY and LIMIT
-abbrev pub ordered_query : ℕ → List Term → List Term → List (Term × Key) → Term → Query
-ordered_query tree tests shown order limit = record {
-  from = inner tree end;
-  filter = tests;
-  group = None;
-  project = shown;
-  distinct = false;
-  collations = [];
-  order = order;
-  limit = limit;
-  offset = lit (Int (pos 0));
-}
-
--- the same with neither
-abbrev pub plain_query : ℕ → List Term → List Term → Query
-plain_query tree tests shown = ordered_query tree tests shown [] all_rows
 
 module _ (tests : List Term) (params : Row) where
   abbrev pub passes : Row → Bool

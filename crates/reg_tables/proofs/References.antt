@@ -20,10 +20,11 @@ use Rattle.sqlite_rules.proofs.ListLemmas.{test_has, some_has}
 use Rattle.sqlite_rules.proofs.RuleLemmas.{keeps_at}
 use Rattle.reg_tables.specs.Layout.{automatic_index, layout, IsLayout, texts, versions, to_texts}
 use Rattle.reg_tables.specs.Contents.{text_cmp, text_cells, number_cells, VersionRow, Contents, HoldsIn}
+use Rattle.reg_tables.specs.Inside.Statements.{by_id}
 use Rattle.reg_tables.proofs.MapLemmas.{same_key, tied_key}
 use Rattle.reg_tables.proofs.KeyedTables.{text_order, number_order, by_id_test}
 use Rattle.reg_tables.proofs.Queries.{passes}
-use Rattle.reg_tables.proofs.Statements.{by_id, laid_out}
+use Rattle.reg_tables.proofs.Statements.{laid_out}
 use Rattle.reg_tables.proofs.UniqueKeys.{same_number, one_rowid, has_table, has_index}
 
 -- rows of one text agree on it

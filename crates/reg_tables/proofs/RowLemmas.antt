@@ -19,8 +19,9 @@ use Rattle.sqlite_trees.proofs.TreeLemmas.{all-put_row}
 use Rattle.sqlite_trees.proofs.ListLemmas.{ascending-filter, all-filter}
 use Rattle.reg_tables.specs.TableMaps.{Form, HaveOwnRowids, HaveRowids, IsEntry, ShowsMap}
 use Rattle.reg_tables.specs.Changes.{altered}
+use Rattle.reg_tables.specs.Inside.KeyedLaws.{IsKeyOrder}
 use Rattle.reg_tables.proofs.ListMembers.{has_mapped, maps_had}
-use Rattle.reg_tables.proofs.MapLemmas.{IsKeyOrder, equal_of, same_key, tied_key, other_key, same_or_not, get-insert-same, get-insert-other, get-remove-same, get-remove-other, get-altered-same, get-altered-other}
+use Rattle.reg_tables.proofs.MapLemmas.{equal_of, same_key, tied_key, other_key, same_or_not, get-insert-same, get-insert-other, get-remove-same, get-remove-other, get-altered-same, get-altered-other}
 
 -- ---- rowids
 

@@ -4,11 +4,8 @@ use Rattle.sqlite.specs.declared.types.Value.TheVariants.{Null, Int}
 use Rattle.sqlite_value.specs.declared.keys.Key.{Key}
 use Rattle.sqlite.specs.Term.{Term, lit, col, op2}
 use Rattle.sqlite.specs.Collation.TheVariants.{Binary}
-use Rattle.sqlite.specs.Query.{Query}
-use Rattle.sqlite_schema.specs.declared.program.Program.{Program}
 use Rattle.sqlite.specs.Source.TheVariants.{Values}
-use Rattle.sqlite.specs.Command.{Command}
-use Rattle.sqlite.specs.Command.TheVariants.{Insert, Select, CreateTable, CreateIndex, Update, Delete}
+use Rattle.sqlite.specs.Command.TheVariants.{Insert, CreateTable, CreateIndex, Update}
 use Rattle.sqlite.specs.Compile.{table_defined_by, index_defined_by}
 use Rattle.sqlite.specs.Change.{created, indexed}
 use Rattle.sqlite.specs.Does.{lacks_sequence}
@@ -16,18 +13,14 @@ use Rattle.sqlite.specs.Table.{Table}
 use Rattle.sqlite.specs.Schema.{Schema}
 use Rattle.sqlite.specs.Effect.{Database}
 use Rattle.reg_tables.specs.Contents.{Contents, HoldsIn}
-use Rattle.sqlite.specs.Listing.{understood, reads_listing}
-use Rattle.sqlite.proofs.Callers.{IsPlain, command_of, statement_of}
+use Rattle.sqlite.specs.Listing.{understood}
+use Rattle.sqlite.proofs.Callers.{statement_of}
 use Rattle.sqlite_sql.specs.declared.ops.BinaryOp.TheVariants.{Compare}
 use Rattle.sqlite_sql.specs.declared.ops.CompareOp.TheVariants.{Eq, Gt, Ge, Le}
 use Rattle.sqlite_tied.specs.Compute.{everything}
 use Rattle.reg_tables.specs.Layout.{no_schema, begun, layout, unindexed, IsLayout, texts, versions, levels, kept, meta, versions_of_id}
-use Rattle.reg_tables.proofs.Queries.{all_rows, ordered_query, plain_query}
-
--- the text is one command, plainly
-pub record IsCommand (schema : Schema) (sql : List ℕ) (command : Command) : Type 0 where
-  pub is : command_of (understood schema sql) ≡ command
-  pub plain : IsPlain (understood schema sql)
+use Rattle.reg_tables.specs.Inside.Statements.{by_key, by_version, IsCommand, TableQuery, IsQuery, all_rows, plain_query}
+use Rattle.sqlite_schema.specs.declared.schema.Index.{Index}
 
 -- ---- the tables are made in this order
 
@@ -97,13 +90,6 @@ two_terms = lit Null ∷ col 0 0 ∷ col 0 1 ∷ []
 abbrev pub four_terms : List Term
 four_terms = lit Null ∷ col 0 0 ∷ col 0 1 ∷ col 0 2 ∷ col 0 3 ∷ []
 
--- the first column is the parameter
-abbrev pub by_key : List Term
-by_key = op2 (Compare Eq Binary) (col 1 1) (col 0 0) ∷ []
-
-abbrev pub drops_by_key : ℕ → ℕ → Command
-drops_by_key at tree = Delete at (record { lets = []; body = plain_query tree by_key (col 1 0 ∷ []) })
-
 -- the id is the rowid, and the column that stands for it is empty
 abbrev pub text_terms : List Term
 text_terms = col 0 0 ∷ lit Null ∷ col 0 1 ∷ []
@@ -114,24 +100,6 @@ put_text = codes "INSERT INTO texts (id, text) VALUES (?1, ?2)"
 pub put_text_is : IsCommand layout put_text (Insert 0 (Values text_terms 3))
 unfolding understood everything
 put_text_is = record { is = refl; plain = (refl, refl) }
-
-abbrev pub put_version : List ℕ
-put_version = codes "INSERT INTO versions (subject, version, id, deleted) VALUES (?1, ?2, ?3, ?4)"
-
-pub put_version_is : IsCommand layout put_version (Insert 1 (Values four_terms 5))
-unfolding understood everything
-put_version_is = record { is = refl; plain = (refl, refl) }
-
--- the first two columns are the parameters
-abbrev pub by_version : List Term
-by_version = op2 (Compare Eq Binary) (col 1 1) (col 0 0) ∷ op2 (Compare Eq Binary) (col 1 2) (col 0 1) ∷ []
-
-abbrev pub drop_version : List ℕ
-drop_version = codes "DELETE FROM versions WHERE subject = ?1 AND version = ?2"
-
-pub drop_version_is : IsCommand layout drop_version (Delete 1 (record { lets = []; body = plain_query 2 by_version (col 1 0 ∷ []) }))
-unfolding understood everything
-drop_version_is = record { is = refl; plain = (refl, refl) }
 
 -- the row with another last column, after its rowid
 abbrev pub with_flag : List Term
@@ -144,100 +112,30 @@ pub mark_version_is : IsCommand layout mark_version (Update 1 (record { lets = [
 unfolding understood everything
 mark_version_is = record { is = refl; plain = (refl, refl) }
 
--- the rowid is the parameter
-abbrev pub by_id : List Term
-by_id = op2 (Compare Eq Binary) (col 1 0) (col 0 0) ∷ []
-
 -- the text is the parameter
 abbrev pub by_text : List Term
 by_text = op2 (Compare Eq Binary) (col 1 2) (col 0 0) ∷ []
 
-abbrev pub put_level : List ℕ
-put_level = codes "INSERT INTO levels (subject, level) VALUES (?1, ?2)"
-
-pub put_level_is : IsCommand layout put_level (Insert 2 (Values two_terms 3))
-unfolding understood everything
-put_level_is = record { is = refl; plain = (refl, refl) }
-
-abbrev pub drop_level : List ℕ
-drop_level = codes "DELETE FROM levels WHERE subject = ?1"
-
-pub drop_level_is : IsCommand layout drop_level (drops_by_key 2 4)
-unfolding understood everything
-drop_level_is = record { is = refl; plain = (refl, refl) }
-
-abbrev pub put_kept : List ℕ
-put_kept = codes "INSERT INTO kept (key, command, status, body) VALUES (?1, ?2, ?3, ?4)"
-
-pub put_kept_is : IsCommand layout put_kept (Insert 3 (Values four_terms 5))
-unfolding understood everything
-put_kept_is = record { is = refl; plain = (refl, refl) }
-
-abbrev pub put_meta : List ℕ
-put_meta = codes "INSERT INTO meta (name, value) VALUES (?1, ?2)"
-
-pub put_meta_is : IsCommand layout put_meta (Insert 4 (Values two_terms 3))
-unfolding understood everything
-put_meta_is = record { is = refl; plain = (refl, refl) }
-
-abbrev pub drop_meta : List ℕ
-drop_meta = codes "DELETE FROM meta WHERE name = ?1"
-
-pub drop_meta_is : IsCommand layout drop_meta (drops_by_key 4 8)
-unfolding understood everything
-drop_meta_is = record { is = refl; plain = (refl, refl) }
-
 -- ---- queries
-
--- the text shows these terms of the rows of a table that pass, in this order
-pub record TableQuery : Type 0 where
-  pub sql : List ℕ
-  pub tree : ℕ
-  pub tests : List Term
-  pub shown : List Term
-  pub names : List (List ℕ)
-  pub order : List (Term × Key)
-  pub limit : Term
-
-abbrev pub body_of : TableQuery → Query
-body_of q = ordered_query q.tree q.tests q.shown q.order q.limit
-
-abbrev pub program_of : TableQuery → Program
-program_of q = record { lets = []; body = body_of q }
-
--- in this schema the text is that query, and reads no list of the tables
-pub record IsQuery (q : TableQuery) (schema : Schema) : Type 0 where
-  pub command : IsCommand schema q.sql (Select (program_of q) q.names)
-  pub unlisted : reads_listing schema q.sql ≡ false
 
 pub laid_out : {schema : Schema} {db : Database} {contents : Contents} → HoldsIn schema db contents → IsLayout schema → IsLayout db.schema
 laid_out holds is_layout = subst IsLayout (sym holds.declared) is_layout
 
--- what is so in each layout
-pub in_layouts : (P : Schema → Type 0) → P layout → P unindexed → (schema : Schema) → IsLayout schema → P schema
-in_layouts P whole bare schema (inl is) = subst P (sym is) whole
-in_layouts P whole bare schema (inr is) = subst P (sym is) bare
+-- the five tables come first
+abbrev pub begins : List Table → List Index → Schema
+begins tables indexes = record { tables = texts ∷ versions ∷ levels ∷ kept ∷ meta ∷ tables; indexes = indexes; views = [] }
 
-abbrev pub find_text : TableQuery
-find_text = record { sql = codes "SELECT text FROM texts WHERE id = ?1"; tree = 0; tests = by_id; shown = col 1 2 ∷ []; names = codes "text" ∷ []; order = []; limit = all_rows }
-
-pub find_text_is : (schema : Schema) → IsLayout schema → IsQuery find_text schema
-unfolding understood everything
-find_text_is = in_layouts (IsQuery find_text) (record { command = record { is = refl; plain = (refl, refl) }; unlisted = refl }) (record { command = record { is = refl; plain = (refl, refl) }; unlisted = refl })
+-- what is so whatever tables and indexes are there beside the five tables
+pub in_layouts : (P : Schema → Type 0) → ((tables : List Table) (indexes : List Index) → P (begins tables indexes)) → (schema : Schema) → IsLayout schema → P schema
+in_layouts P all schema (inl is) = subst P (sym is) (all [] layout.indexes)
+in_layouts P all schema (inr is) = subst P (sym is) (all [] unindexed.indexes)
 
 abbrev pub find_id : TableQuery
 find_id = record { sql = codes "SELECT id FROM texts WHERE text = ?1"; tree = 0; tests = by_text; shown = col 1 0 ∷ []; names = codes "id" ∷ []; order = []; limit = all_rows }
 
 pub find_id_is : (schema : Schema) → IsLayout schema → IsQuery find_id schema
 unfolding understood everything
-find_id_is = in_layouts (IsQuery find_id) (record { command = record { is = refl; plain = (refl, refl) }; unlisted = refl }) (record { command = record { is = refl; plain = (refl, refl) }; unlisted = refl })
-
-abbrev pub find_version : TableQuery
-find_version = record { sql = codes "SELECT id, deleted FROM versions WHERE subject = ?1 AND version = ?2"; tree = 2; tests = by_version; shown = col 1 3 ∷ col 1 4 ∷ []; names = codes "id" ∷ codes "deleted" ∷ []; order = []; limit = all_rows }
-
-pub find_version_is : (schema : Schema) → IsLayout schema → IsQuery find_version schema
-unfolding understood everything
-find_version_is = in_layouts (IsQuery find_version) (record { command = record { is = refl; plain = (refl, refl) }; unlisted = refl }) (record { command = record { is = refl; plain = (refl, refl) }; unlisted = refl })
+find_id_is = in_layouts (IsQuery find_id) (λ tables indexes. record { command = record { is = refl; plain = (refl, refl) }; unlisted = refl })
 
 -- LIMIT 1
 abbrev pub first_row : Term
@@ -252,7 +150,7 @@ find_last = record { sql = codes "SELECT id FROM texts ORDER BY id DESC LIMIT 1"
 
 pub find_last_is : (schema : Schema) → IsLayout schema → IsQuery find_last schema
 unfolding understood everything
-find_last_is = in_layouts (IsQuery find_last) (record { command = record { is = refl; plain = (refl, refl) }; unlisted = refl }) (record { command = record { is = refl; plain = (refl, refl) }; unlisted = refl })
+find_last_is = in_layouts (IsQuery find_last) (λ tables indexes. record { command = record { is = refl; plain = (refl, refl) }; unlisted = refl })
 
 -- by subject and number
 abbrev pub in_order : List (Term × Key)
@@ -263,7 +161,7 @@ find_versions = record { sql = codes "SELECT version, id, deleted FROM versions 
 
 pub find_versions_is : (schema : Schema) → IsLayout schema → IsQuery find_versions schema
 unfolding understood everything
-find_versions_is = in_layouts (IsQuery find_versions) (record { command = record { is = refl; plain = (refl, refl) }; unlisted = refl }) (record { command = record { is = refl; plain = (refl, refl) }; unlisted = refl })
+find_versions_is = in_layouts (IsQuery find_versions) (λ tables indexes. record { command = record { is = refl; plain = (refl, refl) }; unlisted = refl })
 
 -- by subject and number, from the greatest
 abbrev pub from_greatest : List (Term × Key)
@@ -282,7 +180,7 @@ find_last_version = record {
 
 pub find_last_version_is : (schema : Schema) → IsLayout schema → IsQuery find_last_version schema
 unfolding understood everything
-find_last_version_is = in_layouts (IsQuery find_last_version) (record { command = record { is = refl; plain = (refl, refl) }; unlisted = refl }) (record { command = record { is = refl; plain = (refl, refl) }; unlisted = refl })
+find_last_version_is = in_layouts (IsQuery find_last_version) (λ tables indexes. record { command = record { is = refl; plain = (refl, refl) }; unlisted = refl })
 
 -- the subject is the parameter, and the version is not marked as deleted
 abbrev pub by_live_key : List Term
@@ -301,7 +199,7 @@ find_last_live = record {
 
 pub find_last_live_is : (schema : Schema) → IsLayout schema → IsQuery find_last_live schema
 unfolding understood everything
-find_last_live_is = in_layouts (IsQuery find_last_live) (record { command = record { is = refl; plain = (refl, refl) }; unlisted = refl }) (record { command = record { is = refl; plain = (refl, refl) }; unlisted = refl })
+find_last_live_is = in_layouts (IsQuery find_last_live) (λ tables indexes. record { command = record { is = refl; plain = (refl, refl) }; unlisted = refl })
 
 -- the subject is behind the parameter
 abbrev pub by_later_subject : List Term
@@ -320,7 +218,7 @@ find_behind = record {
 
 pub find_behind_is : (schema : Schema) → IsLayout schema → IsQuery find_behind schema
 unfolding understood everything
-find_behind_is = in_layouts (IsQuery find_behind) (record { command = record { is = refl; plain = (refl, refl) }; unlisted = refl }) (record { command = record { is = refl; plain = (refl, refl) }; unlisted = refl })
+find_behind_is = in_layouts (IsQuery find_behind) (λ tables indexes. record { command = record { is = refl; plain = (refl, refl) }; unlisted = refl })
 
 -- the subject is the first parameter, and the number is above the second
 abbrev pub by_later_number : List Term
@@ -339,7 +237,7 @@ find_next = record {
 
 pub find_next_is : (schema : Schema) → IsLayout schema → IsQuery find_next schema
 unfolding understood everything
-find_next_is = in_layouts (IsQuery find_next) (record { command = record { is = refl; plain = (refl, refl) }; unlisted = refl }) (record { command = record { is = refl; plain = (refl, refl) }; unlisted = refl })
+find_next_is = in_layouts (IsQuery find_next) (λ tables indexes. record { command = record { is = refl; plain = (refl, refl) }; unlisted = refl })
 
 -- the id of the version is the parameter
 abbrev pub by_its_id : List Term
@@ -350,7 +248,7 @@ find_of_id = record { sql = codes "SELECT subject, version, id, deleted FROM ver
 
 pub find_of_id_is : (schema : Schema) → IsLayout schema → IsQuery find_of_id schema
 unfolding understood everything
-find_of_id_is = in_layouts (IsQuery find_of_id) (record { command = record { is = refl; plain = (refl, refl) }; unlisted = refl }) (record { command = record { is = refl; plain = (refl, refl) }; unlisted = refl })
+find_of_id_is = in_layouts (IsQuery find_of_id) (λ tables indexes. record { command = record { is = refl; plain = (refl, refl) }; unlisted = refl })
 
 abbrev pub find_one_of_id : TableQuery
 find_one_of_id = record {
@@ -365,42 +263,21 @@ find_one_of_id = record {
 
 pub find_one_of_id_is : (schema : Schema) → IsLayout schema → IsQuery find_one_of_id schema
 unfolding understood everything
-find_one_of_id_is = in_layouts (IsQuery find_one_of_id) (record { command = record { is = refl; plain = (refl, refl) }; unlisted = refl }) (record { command = record { is = refl; plain = (refl, refl) }; unlisted = refl })
+find_one_of_id_is = in_layouts (IsQuery find_one_of_id) (λ tables indexes. record { command = record { is = refl; plain = (refl, refl) }; unlisted = refl })
 
 abbrev pub list_versions : TableQuery
 list_versions = record { sql = codes "SELECT subject, version, id, deleted FROM versions ORDER BY subject, version"; tree = 2; tests = []; shown = col 1 1 ∷ col 1 2 ∷ col 1 3 ∷ col 1 4 ∷ []; names = codes "subject" ∷ codes "version" ∷ codes "id" ∷ codes "deleted" ∷ []; order = in_order; limit = all_rows }
 
 pub list_versions_is : (schema : Schema) → IsLayout schema → IsQuery list_versions schema
 unfolding understood everything
-list_versions_is = in_layouts (IsQuery list_versions) (record { command = record { is = refl; plain = (refl, refl) }; unlisted = refl }) (record { command = record { is = refl; plain = (refl, refl) }; unlisted = refl })
-
-abbrev pub find_level : TableQuery
-find_level = record { sql = codes "SELECT level FROM levels WHERE subject = ?1"; tree = 4; tests = by_key; shown = col 1 2 ∷ []; names = codes "level" ∷ []; order = []; limit = all_rows }
-
-pub find_level_is : (schema : Schema) → IsLayout schema → IsQuery find_level schema
-unfolding understood everything
-find_level_is = in_layouts (IsQuery find_level) (record { command = record { is = refl; plain = (refl, refl) }; unlisted = refl }) (record { command = record { is = refl; plain = (refl, refl) }; unlisted = refl })
-
-abbrev pub find_meta : TableQuery
-find_meta = record { sql = codes "SELECT value FROM meta WHERE name = ?1"; tree = 8; tests = by_key; shown = col 1 2 ∷ []; names = codes "value" ∷ []; order = []; limit = all_rows }
-
-pub find_meta_is : (schema : Schema) → IsLayout schema → IsQuery find_meta schema
-unfolding understood everything
-find_meta_is = in_layouts (IsQuery find_meta) (record { command = record { is = refl; plain = (refl, refl) }; unlisted = refl }) (record { command = record { is = refl; plain = (refl, refl) }; unlisted = refl })
-
-abbrev pub find_kept : TableQuery
-find_kept = record { sql = codes "SELECT command, status, body FROM kept WHERE key = ?1"; tree = 6; tests = by_key; shown = col 1 2 ∷ col 1 3 ∷ col 1 4 ∷ []; names = codes "command" ∷ codes "status" ∷ codes "body" ∷ []; order = []; limit = all_rows }
-
-pub find_kept_is : (schema : Schema) → IsLayout schema → IsQuery find_kept schema
-unfolding understood everything
-find_kept_is = in_layouts (IsQuery find_kept) (record { command = record { is = refl; plain = (refl, refl) }; unlisted = refl }) (record { command = record { is = refl; plain = (refl, refl) }; unlisted = refl })
+list_versions_is = in_layouts (IsQuery list_versions) (λ tables indexes. record { command = record { is = refl; plain = (refl, refl) }; unlisted = refl })
 
 abbrev pub all_ids : TableQuery
 all_ids = record { sql = codes "SELECT id FROM texts"; tree = 0; tests = []; shown = col 1 0 ∷ []; names = codes "id" ∷ []; order = []; limit = all_rows }
 
 pub all_ids_is : (schema : Schema) → IsLayout schema → IsQuery all_ids schema
 unfolding understood everything
-all_ids_is = in_layouts (IsQuery all_ids) (record { command = record { is = refl; plain = (refl, refl) }; unlisted = refl }) (record { command = record { is = refl; plain = (refl, refl) }; unlisted = refl })
+all_ids_is = in_layouts (IsQuery all_ids) (λ tables indexes. record { command = record { is = refl; plain = (refl, refl) }; unlisted = refl })
 
 -- the rowid is no less than the first parameter, and no greater than the second
 abbrev pub by_range : List Term
@@ -419,32 +296,32 @@ texts_between = record {
 
 pub texts_between_is : (schema : Schema) → IsLayout schema → IsQuery texts_between schema
 unfolding understood everything
-texts_between_is = in_layouts (IsQuery texts_between) (record { command = record { is = refl; plain = (refl, refl) }; unlisted = refl }) (record { command = record { is = refl; plain = (refl, refl) }; unlisted = refl })
+texts_between_is = in_layouts (IsQuery texts_between) (λ tables indexes. record { command = record { is = refl; plain = (refl, refl) }; unlisted = refl })
 
 abbrev pub all_versions : TableQuery
 all_versions = record { sql = codes "SELECT rowid, subject, version, id, deleted FROM versions"; tree = 2; tests = []; shown = col 1 0 ∷ col 1 1 ∷ col 1 2 ∷ col 1 3 ∷ col 1 4 ∷ []; names = codes "rowid" ∷ codes "subject" ∷ codes "version" ∷ codes "id" ∷ codes "deleted" ∷ []; order = []; limit = all_rows }
 
 pub all_versions_is : (schema : Schema) → IsLayout schema → IsQuery all_versions schema
 unfolding understood everything
-all_versions_is = in_layouts (IsQuery all_versions) (record { command = record { is = refl; plain = (refl, refl) }; unlisted = refl }) (record { command = record { is = refl; plain = (refl, refl) }; unlisted = refl })
+all_versions_is = in_layouts (IsQuery all_versions) (λ tables indexes. record { command = record { is = refl; plain = (refl, refl) }; unlisted = refl })
 
 abbrev pub all_levels : TableQuery
 all_levels = record { sql = codes "SELECT rowid, subject, level FROM levels"; tree = 4; tests = []; shown = col 1 0 ∷ col 1 1 ∷ col 1 2 ∷ []; names = codes "rowid" ∷ codes "subject" ∷ codes "level" ∷ []; order = []; limit = all_rows }
 
 pub all_levels_is : (schema : Schema) → IsLayout schema → IsQuery all_levels schema
 unfolding understood everything
-all_levels_is = in_layouts (IsQuery all_levels) (record { command = record { is = refl; plain = (refl, refl) }; unlisted = refl }) (record { command = record { is = refl; plain = (refl, refl) }; unlisted = refl })
+all_levels_is = in_layouts (IsQuery all_levels) (λ tables indexes. record { command = record { is = refl; plain = (refl, refl) }; unlisted = refl })
 
 abbrev pub all_kept : TableQuery
 all_kept = record { sql = codes "SELECT rowid, key, command, status, body FROM kept"; tree = 6; tests = []; shown = col 1 0 ∷ col 1 1 ∷ col 1 2 ∷ col 1 3 ∷ col 1 4 ∷ []; names = codes "rowid" ∷ codes "key" ∷ codes "command" ∷ codes "status" ∷ codes "body" ∷ []; order = []; limit = all_rows }
 
 pub all_kept_is : (schema : Schema) → IsLayout schema → IsQuery all_kept schema
 unfolding understood everything
-all_kept_is = in_layouts (IsQuery all_kept) (record { command = record { is = refl; plain = (refl, refl) }; unlisted = refl }) (record { command = record { is = refl; plain = (refl, refl) }; unlisted = refl })
+all_kept_is = in_layouts (IsQuery all_kept) (λ tables indexes. record { command = record { is = refl; plain = (refl, refl) }; unlisted = refl })
 
 abbrev pub all_meta : TableQuery
 all_meta = record { sql = codes "SELECT rowid, name, value FROM meta"; tree = 8; tests = []; shown = col 1 0 ∷ col 1 1 ∷ col 1 2 ∷ []; names = codes "rowid" ∷ codes "name" ∷ codes "value" ∷ []; order = []; limit = all_rows }
 
 pub all_meta_is : (schema : Schema) → IsLayout schema → IsQuery all_meta schema
 unfolding understood everything
-all_meta_is = in_layouts (IsQuery all_meta) (record { command = record { is = refl; plain = (refl, refl) }; unlisted = refl }) (record { command = record { is = refl; plain = (refl, refl) }; unlisted = refl })
+all_meta_is = in_layouts (IsQuery all_meta) (λ tables indexes. record { command = record { is = refl; plain = (refl, refl) }; unlisted = refl })

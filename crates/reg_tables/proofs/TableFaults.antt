@@ -1,16 +1,15 @@
 -- Why the writes of each table fail.
-use Rattle.std.proofs.Common.{◌+◌, ◌^◌, pos, ◌≡◌, ◌≢◌, ◌⊎◌, inl, inr, ℕ, drop, ◌/◌, not, cond, Ordering, Option, None, List, [], ◌∷◌, length, slice_get, Bool, true, false, Some, Err, refl, sym, ap, subst, subst₂, ◌||◌, ◌&&◌, ◌∙◌, arith}
+use Rattle.std.proofs.Common.{◌+◌, ◌^◌, pos, ◌≡◌, ◌≢◌, ◌⊎◌, inl, inr, ℕ, drop, ◌/◌, not, cond, Ordering, Option, None, List, [], ◌∷◌, length, Bool, true, false, Some, Err, refl, sym, ap, subst, subst₂, ◌||◌, ◌&&◌, ◌∙◌, arith}
 use Rattle.std.specs.Prelude.{nat_lt}
 use Rattle.std.specs.Ordering.{is_eq}
 use Rattle.std.specs.declared.cmp.Ordering.TheVariants.{Less}
-use Rattle.sqlite.specs.Order.{value_cmp}
+use Rattle.sqlite.specs.Order.{value_cmp, Row}
 use Rattle.std.specs.List.{AllByRecursion, list_any, list_all}
 use Rattle.std.proofs.lemmas.Bool.{lt-ltb, both_ways, and_from, and_parts}
 use Rattle.std.proofs.lemmas.Cmp.{tied_itself}
 use Rattle.std.specs.FinMap.{FinMap, get}
-use Rattle.sqlite.specs.Order.{Row}
 use Rattle.sqlite.specs.Term.{Term, col}
-use Rattle.sqlite.specs.Tree.{Trees, IsAscending, rowid, with_tree}
+use Rattle.sqlite.specs.Tree.{Trees, rowid, with_tree}
 use Rattle.sqlite.specs.View.{is_int}
 use Rattle.sqlite.specs.Table.{Table}
 use Rattle.sqlite.specs.declared.types.Value.{Value}
@@ -33,7 +32,7 @@ use Rattle.sqlite_schema.specs.declared.schema.Among.TheVariants.{All}
 use Rattle.sqlite_schema.specs.declared.schema.Constraint.TheVariants.{Datatype, NotNull, Check, PrimaryKey, Unique, ForeignKey}
 use Rattle.sqlite_schema.specs.declared.program.Program.{Program}
 use Rattle.sqlite_schema.specs.Names.{same_name}
-use Rattle.sqlite_schema.specs.Rules.{agree, differ, guards, has_null, are_typed, has_computed, are_present, passes_checks, references_fit, Keeps, Obeys, Refers}
+use Rattle.sqlite_schema.specs.Rules.{agree, differ, guards, has_null, are_typed, has_computed, are_present, passes_checks, Keeps, Obeys, Refers}
 use Rattle.sqlite_rules.specs.declared.error.Refusal.{Refusal}
 use Rattle.sqlite_rules.specs.declared.error.Refusal.TheVariants.{Violates, Mismatch, NoRowid, BadReference, TooDeep}
 use Rattle.sqlite_rules.specs.Calls.{ids_of}
@@ -52,79 +51,62 @@ use Rattle.reg_tables.specs.TableMaps.{Form, ShowsMap}
 use Rattle.reg_tables.specs.Rooms.{HasRoom}
 use Rattle.reg_tables.proofs.Rooms.{above, less}
 use Rattle.reg_tables.specs.FailedCalls.{IsFault, IsInsertFault}
-use Rattle.reg_tables.proofs.Queries.{plain_query}
-use Rattle.reg_tables.proofs.Statements.{IsCommand}
+use Rattle.reg_tables.specs.Inside.KeyedLaws.{HasKeys, IsAt, KeepsOthers}
+use Rattle.reg_tables.specs.Inside.Statements.{plain_query, IsCommand, IsWhole}
+use Rattle.reg_tables.proofs.Settled.{IsSettled}
+use Rattle.sqlite.specs.Schema.{Schema}
 use Rattle.reg_tables.proofs.UniqueLemmas.{with_tree_there, with_tree_elsewhere, stays_unique}
-use Rattle.reg_tables.proofs.WriteFaults.{IsWhole, delete_fits, delete_refused, insert_too_large, insert_refused, refused_by}
+use Rattle.reg_tables.proofs.WriteFaults.{delete_fits, delete_refused, insert_too_large, insert_refused, refused_by}
 
--- the tables have trees of their own
-pub layout_apart : IsAscending (λ (a : Table) (b : Table). a.tree ≡ b.tree → ⊥) layout.tables
-layout_apart = (
-  (λ e. omega (arith, e), (λ e. omega (arith, e), (λ e. omega (arith, e), (λ e. omega (arith, e), tt)))),
-  ((λ e. omega (arith, e), (λ e. omega (arith, e), (λ e. omega (arith, e), tt))), ((λ e. omega (arith, e), (λ e. omega (arith, e), tt)), ((λ e. omega (arith, e), tt), (tt, tt)))),
-)
+-- a sound database of this schema obeys it
+pub obeys : (schema : Schema) (db : Database) → db.schema ≡ schema → IsDatabase db → Obeys schema db.trees
+obeys schema db declared sound = (subst (λ s. IsDatabase (record { schema = s; trees = db.trees })) declared sound).obeys
 
--- a sound database of this layout obeys it
-pub obeys_layout : (db : Database) → db.schema ≡ layout → IsDatabase db → Obeys layout db.trees
-obeys_layout db declared sound = (subst (λ s. IsDatabase (record { schema = s; trees = db.trees })) declared sound).obeys
-
-abbrev KeepsOthers : Table → Trees → Trees → Type 0
-KeepsOthers table old new = AllByRecursion (λ t. t.tree ≢ table.tree → new t.tree ≡ old t.tree) layout.tables
-
--- its references, and those to it, point to a key
-abbrev pub HasKeys : Table → Type 0
-HasKeys table = (adds removes : Bool) → references_fit layout table adds removes ≡ true
-
--- a table of the layout
-pub record IsAt (at : ℕ) (table : Table) : Type 0 where
-  pub there : slice_get layout.tables at ≡ Some table
-  pub keys : HasKeys table
-
-pub texts_at : IsAt 0 texts
+pub texts_at : IsAt layout 0 texts
 unfolding same_name joined
 texts_at = record { there = refl; keys = keys }
   where
-    keys : HasKeys texts
+    keys : HasKeys layout texts
     keys true true = refl
     keys true false = refl
     keys false true = refl
     keys false false = refl
 
-pub versions_at : IsAt 1 versions
+pub versions_at : IsAt layout 1 versions
 unfolding same_name joined
 versions_at = record { there = refl; keys = keys }
   where
-    keys : HasKeys versions
+    keys : HasKeys layout versions
     keys true true = refl
     keys true false = refl
     keys false true = refl
     keys false false = refl
 
-pub levels_at : IsAt 2 levels
+pub levels_at : IsAt layout 2 levels
 unfolding same_name joined
 levels_at = record { there = refl; keys = keys }
   where
-    keys : HasKeys levels
+    keys : HasKeys layout levels
     keys true true = refl
     keys true false = refl
     keys false true = refl
     keys false false = refl
 
-pub kept_at : IsAt 3 kept
+pub kept_at : IsAt layout 3 kept
 unfolding same_name joined
 kept_at = record { there = refl; keys = keys }
   where
-    keys : HasKeys kept
+    keys : HasKeys layout kept
     keys true true = refl
     keys true false = refl
     keys false true = refl
     keys false false = refl
 
-pub meta_at : IsAt 4 meta
+pub meta_at : IsAt layout 4 meta
 unfolding same_name joined
 meta_at = record { there = refl; keys = keys }
   where
-    keys : HasKeys meta
+    keys : HasKeys layout meta
     keys true true = refl
     keys true false = refl
     keys false true = refl
@@ -153,7 +135,7 @@ refers_if old new still h =
     each (row ∷ rows) = (refl, each rows)
 
 -- a write to another table than `texts` and `versions` breaks none
-pub beside_refers : (table : Table) → texts.tree ≢ table.tree → versions.tree ≢ table.tree → (old new : Trees) → KeepsOthers table old new → Refers All layout old → Refers All layout new
+pub beside_refers : (table : Table) → texts.tree ≢ table.tree → versions.tree ≢ table.tree → (old new : Trees) → KeepsOthers layout table.tree old new → Refers All layout old → Refers All layout new
 beside_refers table not_texts not_versions old new same =
     let texts_same : new 0 ≡ old 0 = same.0 not_texts in
     let versions_same : new 2 ≡ old 2 = same.1.0 not_versions in
@@ -161,7 +143,7 @@ beside_refers table not_texts not_versions old new same =
 
 -- ---- rows that are taken out
 
-module _ (old : State) (table : Table) (listed : Has layout.tables table) (keys : HasKeys table) (obeys : Obeys layout old.now.trees) (found : List Row) where
+module _ (schema : Schema) (settled : IsSettled schema) (old : State) (table : Table) (listed : Has schema.tables table) (keys : HasKeys schema table) (lawful : Obeys schema old.now.trees) (found : List Row) where
   abbrev db : Trees
   db = old.now.trees
 
@@ -169,12 +151,12 @@ module _ (old : State) (table : Table) (listed : Has layout.tables table) (keys 
   left = left_by db (edit_of db table (ids_of found) Given 0 [])
 
   -- fewer rows share no key
-  fewer : Keeps Unique layout (with_tree db table.tree left)
-  fewer = stays_unique layout db (with_tree db table.tree left) table [] layout_apart listed (λ t known other. with_tree_elsewhere db table.tree left t.tree other)
-      (λ r there. inr (without_all_has (ids_of found) (db table.tree) r (subst (λ l. Has l r) (with_tree_there db table.tree left) there))) (λ i known on r fresh there none. absurd none) (obeys.rules Unique)
+  fewer : Keeps Unique schema (with_tree db table.tree left)
+  fewer = stays_unique schema db (with_tree db table.tree left) table [] settled.apart listed (λ t known other. with_tree_elsewhere db table.tree left t.tree other)
+      (λ r there. inr (without_all_has (ids_of found) (db table.tree) r (subst (λ l. Has l r) (with_tree_there db table.tree left) there))) (λ i known on r fresh there none. absurd none) (lawful.rules Unique)
 
   -- rows may be taken out
-  delete_allowed : (why : Refusal) → IsRefused layout Enforced db (edit_of db table (ids_of found) Given 0 []) why → ⊥
+  delete_allowed : (why : Refusal) → IsRefused schema Enforced db (edit_of db table (ids_of found) Given 0 []) why → ⊥
   delete_allowed (Violates Datatype) h = cc
   delete_allowed (Violates NotNull) h = cc
   delete_allowed (Violates Check) h = cc
@@ -193,12 +175,12 @@ abbrev pub IsFree : Table → List Row → Row → Index → Type 0
 IsFree table rows row i = guards i table ≡ true → (r : Row) → Has rows r → agree i.order i.columns r i.columns row ≡ true → ⊥
 
 -- the row is of the table's types, passes its checks and shares no key
-pub record IsFitting (table : Table) (rows : List Row) (row : Row) : Type 0 where
+pub record IsFitting (schema : Schema) (table : Table) (rows : List Row) (row : Row) : Type 0 where
   pub keyed : is_int (rowid row) ≡ true
   pub typed : (are_typed table.key 0 table.columns (drop 1 row) && has_computed table row) ≡ true
   pub present : are_present table.key 0 table.columns row ≡ true
   pub checked : passes_checks table row ≡ true
-  pub free : AllByRecursion (IsFree table rows row) layout.indexes
+  pub free : AllByRecursion (IsFree table rows row) schema.indexes
 
 -- a row whose key under the index is its entry's, which is new
 pub new_key : {K V : Type 0} (form : Form K V) (R : K → K → Ordering) (m : FinMap R V) (rows : List Row) → ShowsMap form rows (get m) → (k : K) → get m k ≡ None → (Shares : Row → Type 0)
@@ -237,11 +219,11 @@ no_trouble rows count h row its why (inr taken) =
     cc
 
 -- a row is not put in: it is too large, or its rowid isn't free
-abbrev pub IsRowTrouble : Table → List Row → Row → Error → Type 0
-IsRowTrouble table rows row e = ((e ≡ SqliteFailure code.TooBig) × IsOversized layout table row) ⊎ ((why : Refusal) × IsRowidTrouble rows row why × (e ≡ edit_error why))
+abbrev pub IsRowTrouble : Schema → Table → List Row → Row → Error → Type 0
+IsRowTrouble schema table rows row e = ((e ≡ SqliteFailure code.TooBig) × IsOversized schema table row) ⊎ ((why : Refusal) × IsRowidTrouble rows row why × (e ≡ edit_error why))
 
-module _ (trees : Trees) (table : Table) (listed : Has layout.tables table) (keys : HasKeys table) (obeys : Obeys layout trees) (rowids : Rowids) (sources : List Row) (row : Row)
-    (news : (edit_of trees table [] rowids 0 sources).news ≡ row ∷ []) (fitting : IsFitting table (trees table.tree) row) where
+module _ (schema : Schema) (settled : IsSettled schema) (trees : Trees) (table : Table) (listed : Has schema.tables table) (keys : HasKeys schema table) (lawful : Obeys schema trees) (rowids : Rowids) (sources : List Row) (row : Row)
+    (news : (edit_of trees table [] rowids 0 sources).news ≡ row ∷ []) (fitting : IsFitting schema table (trees table.tree) row) where
   abbrev edit : Edit
   edit = edit_of trees table [] rowids 0 sources
 
@@ -254,25 +236,25 @@ module _ (trees : Trees) (table : Table) (listed : Has layout.tables table) (key
   is_row : (r : Row) → Has edit.news r → r ≡ row
   is_row r there = elim (subst (λ l. Has l r) news there) [ inl same ↦ same | inr none ↦ absurd none ]
 
-  clear : (i : Index) → Has layout.indexes i → guards i table ≡ true → (r fresh : Row) → Has (after table.tree) r → Has edit.news fresh
+  clear : (i : Index) → Has schema.indexes i → guards i table ≡ true → (r fresh : Row) → Has (after table.tree) r → Has edit.news fresh
       → agree i.order i.columns r i.columns fresh ≡ true → differ (rowid r) (rowid fresh) ≡ true → ⊥
   clear i known on r fresh there isnew agrees differs =
       let its = is_row fresh isnew in
       elim (came r there) [
         | inl also ↦ both_ways _ (differ_itself (rowid row)) (subst₂ (λ a b. differ (rowid a) (rowid b) ≡ true) (is_row r also) its differs)
         | inr was ↦
-            let free : IsFree table (trees table.tree) row i = all_has (IsFree table (trees table.tree) row) layout.indexes i fitting.free known in
+            let free : IsFree table (trees table.tree) row i = all_has (IsFree table (trees table.tree) row) schema.indexes i fitting.free known in
             free on r was (subst (λ b. agree i.order i.columns r i.columns b ≡ true) its agrees)
       ]
 
-  one_more : Keeps Unique layout after
-  one_more = stays_unique layout trees after table edit.news layout_apart listed (λ t known other. with_tree_elsewhere trees table.tree (edited trees edit) t.tree other) came clear (obeys.rules Unique)
+  one_more : Keeps Unique schema after
+  one_more = stays_unique schema trees after table edit.news settled.apart listed (λ t known other. with_tree_elsewhere trees table.tree (edited trees edit) t.tree other) came clear (lawful.rules Unique)
 
   passing : (p : Row → Bool) → p row ≡ true → list_all p edit.news ≡ false → ⊥
   passing p is fails = both_ways _ (subst (λ l. list_all p l ≡ false) news fails) (and_from _ _ is refl)
 
   -- a row may be put in where its rowid may
-  pub insert_allowed : (why : Refusal) → IsRefused layout Enforced trees edit why → IsRowidTrouble (trees table.tree) row why
+  pub insert_allowed : (why : Refusal) → IsRefused schema Enforced trees edit why → IsRowidTrouble (trees table.tree) row why
   insert_allowed (Violates Datatype) h = absurd (passing _ fitting.typed h)
   insert_allowed (Violates NotNull) h = absurd (passing _ fitting.present h)
   insert_allowed (Violates Check) h = absurd (passing _ fitting.checked h)
@@ -297,26 +279,26 @@ pub plain_fits : (trees : Trees) (params : Row) (tree : ℕ) (tests shown : List
 plain_fits trees params tree tests shown (inl none) = none
 plain_fits trees params tree tests shown (inr some) = (any_has _ _ some).2
 
-module _ (at : ℕ) (table : Table) (its : IsAt at table) (old new : State) (declared : old.now.schema ≡ layout) (sound : IsDatabase old.now) where
-  obeys : Obeys layout old.now.trees
-  obeys = obeys_layout old.now declared sound
+module _ (schema : Schema) (settled : IsSettled schema) (at : ℕ) (table : Table) (its : IsAt schema at table) (old new : State) (declared : old.now.schema ≡ schema) (sound : IsDatabase old.now) where
+  lawful : Obeys schema old.now.trees
+  lawful = obeys schema old.now declared sound
 
-  listed : Has layout.tables table
-  listed = has_got layout.tables at table its.there
+  listed : Has schema.tables table
+  listed = has_got schema.tables at table its.there
 
   -- a DELETE of rows to which no other refers
-  pub delete_fails : (sql : List ℕ) (params : Row) (tests : List Term) → IsCommand layout sql (Delete at (record { lets = []; body = plain_query table.tree tests (col 1 0 ∷ []) }))
-      → IsWhole sql (length params) (understood layout sql) → accepts_program layout [] (plain_query table.tree tests (col 1 0 ∷ [])) params ≡ true
-      → ((found : List Row) (next : Trees) → Applies layout Enforced old.now.trees (edit_of old.now.trees table (ids_of found) Given 0 []) next → Refers All layout old.now.trees → Refers All layout next)
+  pub delete_fails : (sql : List ℕ) (params : Row) (tests : List Term) → IsCommand schema sql (Delete at (record { lets = []; body = plain_query table.tree tests (col 1 0 ∷ []) }))
+      → IsWhole sql (length params) (understood schema sql) → accepts_program schema [] (plain_query table.tree tests (col 1 0 ∷ [])) params ≡ true
+      → ((found : List Row) (next : Trees) → Applies schema Enforced old.now.trees (edit_of old.now.trees table (ids_of found) Given 0 []) next → Refers All schema old.now.trees → Refers All schema next)
       → (e : Error) → ExecutesInside 0 sql params old new (Err e) → IsFault old new e
   delete_fails sql params tests it whole typed refers e h =
       let q : Program = record { lets = []; body = plain_query table.tree tests (col 1 0 ∷ []) } in
-      elim (refused_by sql params old new layout declared (Delete at q) it whole (record { silent = refl; stays = refl }) e h) [
+      elim (refused_by sql params old new schema declared (Delete at q) it whole (record { silent = refl; stays = refl }) e h) [
         | inl fault ↦ fault
         | inr rest ↦ elim rest [
-          | inl large ↦ absurd (delete_fits at table its.there old new (statement_of sql (understood layout sql)) params e q typed (plain_fits old.now.trees params table.tree tests (col 1 0 ∷ [])) large.1)
-          | inr does ↦ delete_refused at table its.there old new (statement_of sql (understood layout sql)) params e q typed (plain_fits old.now.trees params table.tree tests (col 1 0 ∷ []))
-              (λ found why. delete_allowed old table listed its.keys obeys found why) (λ found next applies. refers found next applies (obeys.rules ForeignKey)) does
+          | inl large ↦ absurd (delete_fits schema settled at table its.there old new (statement_of sql (understood schema sql)) params e q typed (plain_fits old.now.trees params table.tree tests (col 1 0 ∷ [])) large.1)
+          | inr does ↦ delete_refused schema settled at table its.there old new (statement_of sql (understood schema sql)) params e q typed (plain_fits old.now.trees params table.tree tests (col 1 0 ∷ []))
+              (λ found why. delete_allowed schema settled old table listed its.keys lawful found why) (λ found next applies. refers found next applies (lawful.rules ForeignKey)) does
         ]
       ]
 
@@ -328,30 +310,30 @@ module _ (at : ℕ) (table : Table) (its : IsAt at table) (old new : State) (dec
     abbrev put : Edit
     put = edit_of old.now.trees table [] Chosen 0 sources
 
-    pub insert_fails : (sql : List ℕ) → table.is_counted ≡ false → IsCommand layout sql (Insert at (Values terms width)) → IsWhole sql (length params) (understood layout sql) → accepts_terms terms (stamped table params) ≡ true
-        → put.news ≡ row ∷ [] → IsFitting table (old.now.trees table.tree) row → ((next : Trees) → Applies layout Enforced old.now.trees put next → Refers All layout old.now.trees → Refers All layout next)
-        → (e : Error) → ExecutesInside 0 sql params old new (Err e) → IsFault old new e ⊎ IsRowTrouble table (old.now.trees table.tree) row e
+    pub insert_fails : (sql : List ℕ) → table.is_counted ≡ false → IsCommand schema sql (Insert at (Values terms width)) → IsWhole sql (length params) (understood schema sql) → accepts_terms terms (stamped table params) ≡ true
+        → put.news ≡ row ∷ [] → IsFitting schema table (old.now.trees table.tree) row → ((next : Trees) → Applies schema Enforced old.now.trees put next → Refers All schema old.now.trees → Refers All schema next)
+        → (e : Error) → ExecutesInside 0 sql params old new (Err e) → IsFault old new e ⊎ IsRowTrouble schema table (old.now.trees table.tree) row e
     insert_fails sql uncounted it whole typed news fitting refers e h =
-        elim (refused_by sql params old new layout declared (Insert at (Values terms width)) it whole (record { silent = refl; stays = refl }) e h) [
+        elim (refused_by sql params old new schema declared (Insert at (Values terms width)) it whole (record { silent = refl; stays = refl }) e h) [
           | inl fault ↦ inl fault
           | inr rest ↦ elim rest [
             | inl large ↦
-                let big = insert_too_large at table its.there old new (statement_of sql (understood layout sql)) params e terms width uncounted typed (λ next applies. refers next applies (obeys.rules ForeignKey)) large.1 in
-                inr (inl (large.0, subst (IsOversized layout table) (elim (subst (λ l. Has l big.0) news big.1) [ inl same ↦ same | inr none ↦ absurd none ]) big.2))
-            | inr does ↦ elim (insert_refused at table its.there old new (statement_of sql (understood layout sql)) params e terms width uncounted typed (λ next applies. refers next applies (obeys.rules ForeignKey)) does) [
+                let big = insert_too_large schema settled at table its.there old new (statement_of sql (understood schema sql)) params e terms width uncounted typed (λ next applies. refers next applies (lawful.rules ForeignKey)) large.1 in
+                inr (inl (large.0, subst (IsOversized schema table) (elim (subst (λ l. Has l big.0) news big.1) [ inl same ↦ same | inr none ↦ absurd none ]) big.2))
+            | inr does ↦ elim (insert_refused schema settled at table its.there old new (statement_of sql (understood schema sql)) params e terms width uncounted typed (λ next applies. refers next applies (lawful.rules ForeignKey)) does) [
               | inl fault ↦ inl fault
-              | inr r ↦ inr (inr (r.0, insert_allowed old.now.trees table listed its.keys obeys Chosen sources row news fitting r.0 r.1, r.2))
+              | inr r ↦ inr (inr (r.0, insert_allowed schema settled old.now.trees table listed its.keys lawful Chosen sources row news fitting r.0 r.1, r.2))
             ]
           ]
         ]
 
-pub as_insert_fault : (old new : State) (table : Table) (rows : List Row) (row : Row) (e : Error) → IsFault old new e ⊎ IsRowTrouble table rows row e → IsInsertFault old new e
-as_insert_fault old new table rows row e (inl fault) = inl (inl (inl fault))
-as_insert_fault old new table rows row e (inr (inl large)) = inl (inr large.0)
-as_insert_fault old new table rows row e (inr (inr r)) = elim r.1 [ inl high ↦ inr (inl (r.2 ∙ ap edit_error high.0)) | inr taken ↦ inr (inr (r.2 ∙ ap edit_error taken.0)) ]
+pub as_insert_fault : (schema : Schema) (old new : State) (table : Table) (rows : List Row) (row : Row) (e : Error) → IsFault old new e ⊎ IsRowTrouble schema table rows row e → IsInsertFault old new e
+as_insert_fault schema old new table rows row e (inl fault) = inl (inl (inl fault))
+as_insert_fault schema old new table rows row e (inr (inl large)) = inl (inr large.0)
+as_insert_fault schema old new table rows row e (inr (inr r)) = elim r.1 [ inl high ↦ inr (inl (r.2 ∙ ap edit_error high.0)) | inr taken ↦ inr (inr (r.2 ∙ ap edit_error taken.0)) ]
 
 -- where there is room for it, a row is put in but for a fault
-pub fault_alone : (old new : State) (table : Table) (rows : List Row) (row : Row) (e : Error) (count : ℕ) → HasRoom rows (count + 1) → rowid row ≡ Int (next_rowid rows) → (IsOversized layout table row → ⊥) → IsFault old new e ⊎ IsRowTrouble table rows row e → IsFault old new e
-fault_alone old new table rows row e count room its fits (inl fault) = fault
-fault_alone old new table rows row e count room its fits (inr (inl large)) = absurd (fits large.1)
-fault_alone old new table rows row e count room its fits (inr (inr r)) = absurd (no_trouble rows count room row its r.0 r.1)
+pub fault_alone : (schema : Schema) (old new : State) (table : Table) (rows : List Row) (row : Row) (e : Error) (count : ℕ) → HasRoom rows (count + 1) → rowid row ≡ Int (next_rowid rows) → (IsOversized schema table row → ⊥) → IsFault old new e ⊎ IsRowTrouble schema table rows row e → IsFault old new e
+fault_alone schema old new table rows row e count room its fits (inl fault) = fault
+fault_alone schema old new table rows row e count room its fits (inr (inl large)) = absurd (fits large.1)
+fault_alone schema old new table rows row e count room its fits (inr (inr r)) = absurd (no_trouble rows count room row its r.0 r.1)

@@ -21,10 +21,11 @@ use Rattle.reg_tables.specs.TableMaps.{Form}
 use Rattle.reg_tables.specs.Contents.{version_form, pair_form, kept_form}
 use Rattle.reg_tables.specs.Listings.{parts_of, entry_parts, Lists}
 use Rattle.reg_tables.specs.Inside.ReadableRows.{IsReadableVersion, IsReadablePair, IsReadableKept}
-use Rattle.reg_tables.proofs.Queries.{plain_query, answer_has, answer_all}
+use Rattle.reg_tables.specs.Inside.Statements.{plain_query, TableQuery, body_of, IsQuery, Takes}
+use Rattle.reg_tables.proofs.Queries.{answer_has, answer_all}
 use Rattle.reg_tables.proofs.KeyedTables.{with_nothing, answered}
-use Rattle.reg_tables.proofs.Statements.{TableQuery, body_of, IsQuery, laid_out, all_versions, all_versions_is, all_levels, all_levels_is, all_kept, all_kept_is, all_meta, all_meta_is}
-use Rattle.reg_tables.proofs.Faults.{Takes, takes_all_versions, takes_all_levels, takes_all_kept, takes_all_meta, query_faults, read_fault_until, memory_is_fault}
+use Rattle.reg_tables.proofs.Statements.{laid_out, all_versions, all_versions_is, all_levels, all_levels_is, all_kept, all_kept_is, all_meta, all_meta_is}
+use Rattle.reg_tables.proofs.Faults.{takes_all_versions, takes_all_levels, takes_all_kept, takes_all_meta, query_faults, read_fault_until, memory_is_fault}
 use Rattle.reg_tables.proofs.Transactions.{shown_open}
 use Rattle.reg_tables.proofs.ReadableRows.{readable_version, readable_level, readable_kept, readable_meta}
 

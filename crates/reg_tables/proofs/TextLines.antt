@@ -1,5 +1,5 @@
 -- What the queries of parts of `texts` list: the ids of all rows, or the rows of a range of ids.
-use Rattle.std.proofs.Common.{◌≡◌, ◌&&◌, ℕ, pos, List, [], ◌∷◌, map, filter, All, Bool, true, false, cond, not, Some, refl, sym, ap, subst, ◌∙◌, Ordering, Less, Equal, Greater}
+use Rattle.std.proofs.Common.{◌≡◌, ◌&&◌, ℕ, pos, List, [], ◌∷◌, map, filter, All, Bool, true, false, not, Some, refl, sym, ap, subst, ◌∙◌, Ordering, Less, Equal, Greater}
 use Rattle.std.specs.Ordering.{is_lt, is_gt, is_le, is_ge, nat_cmp}
 use Rattle.std.specs.List.Sorted.{IsPermutation}
 use Rattle.std.proofs.lemmas.List.Sorted.{IsPermutation-map}
@@ -16,12 +16,13 @@ use Rattle.sqlite_rules.specs.Lists.{Has}
 use Rattle.sqlite_sql.specs.Ops.{binary, is_true, from_truth}
 use Rattle.sqlite_value.proofs.OrderLemmas.{value_cmp-Int}
 use Rattle.reg_tables.specs.declared.lines.TextLine.{TextLine}
-use Rattle.reg_tables.specs.Layout.{IsLayout, texts}
+use Rattle.reg_tables.specs.Layout.{IsLayout}
 use Rattle.reg_tables.specs.Reads.{HoldsReadable}
 use Rattle.reg_tables.specs.Contents.{text_form}
-use Rattle.reg_tables.specs.Listings.{RowParts, parts_of, entry_parts, text_entry, ListsIds, ListsTextsBetween, is_between}
+use Rattle.reg_tables.specs.Listings.{parts_of, entry_parts, text_entry, ListsIds, ListsTextsBetween, is_between}
 use Rattle.reg_tables.specs.Inside.ReadableRows.{IsReadableId, IsReadableText}
-use Rattle.reg_tables.proofs.Queries.{plain_query, passes, answer_has, answer_all, answer_passing}
+use Rattle.reg_tables.specs.Inside.Statements.{plain_query}
+use Rattle.reg_tables.proofs.Queries.{passes, answer_has, answer_all, answer_passing}
 use Rattle.reg_tables.proofs.KeyedTables.{int_order, with_nothing, answered}
 use Rattle.reg_tables.proofs.Statements.{laid_out, all_ids, all_ids_is, by_range, texts_between, texts_between_is}
 use Rattle.reg_tables.proofs.ReadableRows.{readable_text}

@@ -29,9 +29,10 @@ use Rattle.reg_tables.specs.declared.lines.VersionLine.{VersionLine}
 use Rattle.reg_tables.specs.declared.lines.LevelLine.{LevelLine}
 use Rattle.reg_tables.specs.declared.lines.KeptLine.{KeptLine}
 use Rattle.reg_tables.specs.declared.lines.MetaLine.{MetaLine}
+use Rattle.reg_tables.specs.Inside.KeyedLaws.{IsKeyOrder}
 use Rattle.reg_tables.proofs.KeyedTables.{text_order, version_order, number_order, distinct_texts, distinct_versions}
 use Rattle.reg_tables.proofs.ListingLemmas.{stored, keys_distinct}
-use Rattle.reg_tables.proofs.MapLemmas.{IsKeyOrder, tied_key}
+use Rattle.reg_tables.proofs.MapLemmas.{tied_key}
 use Rattle.reg_tables.proofs.ListMembers.{has_mapped}
 
 -- rowids that don't differ are the same

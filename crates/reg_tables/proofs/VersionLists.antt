@@ -20,13 +20,14 @@ use Rattle.reg_tables.specs.TableMaps.{IsEntry, ShowsMap}
 use Rattle.reg_tables.specs.Contents.{version_cmp, VersionRow, version_cells, version_key_cells, version_form, text_cmp, Contents, AreReadable, HoldsIn}
 use Rattle.reg_tables.specs.Entries.{NumberedVersion, numbered, numbered_cells, subject_versions, IsReadableNumbered}
 use Rattle.reg_tables.specs.declared.listed.SubjectVersion.{SubjectVersion}
+use Rattle.reg_tables.specs.Inside.Statements.{all_rows, ordered_query, TableQuery, body_of, IsQuery, by_key}
 use Rattle.reg_tables.proofs.KeyedTables.{int_order, text_order, version_order, by_key_test, with_nothing, answered}
 use Rattle.reg_tables.proofs.ListMembers.{has_mapped}
 use Rattle.reg_tables.proofs.MapLemmas.{same_key, tied_key}
 use Rattle.reg_tables.proofs.Opening.{distinct_version_rows}
 use Rattle.reg_tables.proofs.OrderedQueries.{entries_rise, entry_got, got_entry, in_order_as}
-use Rattle.reg_tables.proofs.Queries.{all_rows, ordered_query, passes}
-use Rattle.reg_tables.proofs.Statements.{TableQuery, body_of, IsQuery, by_key, in_order, laid_out, find_versions, find_versions_is}
+use Rattle.reg_tables.proofs.Queries.{passes}
+use Rattle.reg_tables.proofs.Statements.{in_order, laid_out, find_versions, find_versions_is}
 use Rattle.reg_tables.proofs.TableLines.{all_if_each}
 use Rattle.std.proofs.lemmas.Bool.{cases_Bool, both_ways, false_from_ne_true}
 use Rattle.std.proofs.lemmas.Slice.Eq.{bytes_eq-Decides}

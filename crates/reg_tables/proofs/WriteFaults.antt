@@ -31,25 +31,18 @@ use Rattle.sqlite_schema.specs.declared.program.Program.{Program}
 use Rattle.sqlite_schema.specs.Program.{lets_of}
 use Rattle.sqlite_schema.specs.Rules.{Refers}
 use Rattle.sqlite_resolve.specs.declared.compiled.Compiled.{Compiled}
-use Rattle.sqlite_resolve.specs.declared.error.CompileError.{CompileError}
 use Rattle.sqlite_rules.specs.declared.error.Refusal.{Refusal}
 use Rattle.sqlite_rules.specs.Action.{works, Leads, Settles}
 use Rattle.sqlite_rules.specs.Action as action
 use Rattle.sqlite_rules.specs.Calls.{ids_of}
 use Rattle.sqlite_sql.specs.Program.{ProgramOverflows}
 use Rattle.sqlite_typing.specs.Types.{accepts_program, accepts_terms}
-use Rattle.reg_tables.specs.Layout.{layout}
 use Rattle.reg_tables.specs.FailedCalls.{IsFault, IsWriteFault, IsPutFault, IsInsertFault}
+use Rattle.reg_tables.specs.Inside.Statements.{IsWhole, IsCommand}
 use Rattle.reg_tables.proofs.Reasons.{reason_or_large, reason_of, reason_if_shut, reason_by, fault_since}
 use Rattle.sqlite_trees.specs.declared.error.StoreError.{StoreError}
-use Rattle.reg_tables.proofs.Statements.{IsCommand}
 use Rattle.reg_tables.proofs.Writes.{uncounts}
-use Rattle.reg_tables.proofs.KeyedTables.{idle}
-
--- the text is one statement, with so many parameters
-abbrev pub IsWhole : List ℕ → ℕ → Result Compiled CompileError → Type 0
-IsWhole sql count (Ok c) = (length sql ≤ c.tail) × (length c.names ≡ count)
-IsWhole sql count (Err e) = ⊥
+use Rattle.reg_tables.proofs.Settled.{IsSettled}
 
 -- it begins, ends or marks a transaction
 abbrev pub is_control : Command → Bool
@@ -170,256 +163,257 @@ open_or_failed sql params old new e h = elim (cases_Bool old.is_open) [ inl is_o
 
 -- ---- what is refused of the rows of one table
 
-module _ (db : Trees) (edit : Edit) where
-  -- with no action of a foreign key, nothing is refused after the edit
-  no_end : (next : Trees) (why : Option Refusal) → Settles layout Enforced next (works layout Enforced 0 edit.table.tree (taken_by db edit) edit.news) (Err why) → ⊥
-  no_end next why h = go h.0 (rw (idle edit.table.tree (taken_by db edit) edit.news) at h.1)
-    where
-      go : (n : ℕ) → Leads layout Enforced n next [] (Err why) → ⊥
-      go zero h = let e = h.1 in cc
-      go (suc n) h = omega (arith, ap length h.2, length-append h.0 (h.1 ∷ []))
-
-  -- an edit is refused for one of the reasons that it has
-  edit_refused : (stop : Option Error) (e : Error) → stop ≡ Some e → Edited layout Enforced db edit (Err stop) → (why : Refusal) × IsRefused layout Enforced db edit why × (e ≡ edit_error why)
-  edit_refused stop e is h = go h.0 h.1 (sym is ∙ h.2)
-    where
-      go : (why : Option Refusal) → action.Writes layout Enforced db edit (Err why) → Some e ≡ option_map edit_error why → (why : Refusal) × IsRefused layout Enforced db edit why × (e ≡ edit_error why)
-      go None w is = absurd (cc)
-      go (Some why) (inl r) is = let same : why ≡ r.0 = (let e = r.2 in cc) in (r.0, r.1, let all : e ≡ edit_error why = cc in all ∙ ap edit_error same)
-      go (Some why) (inr (inl big)) is = absurd (let e = big.3 in cc)
-      go (Some why) (inr (inr went)) is = absurd (no_end went.0 (Some why) went.2)
-
-  -- what stops an edit for its size is a row
-  edit_large : (stop : Option Error) → stop ≡ None → Edited layout Enforced db edit (Err stop) → (row : Row) × Has edit.news row × IsOversized layout edit.table row
-  edit_large stop is h = go h.0 h.1 (sym is ∙ h.2)
-    where
-      go : (why : Option Refusal) → action.Writes layout Enforced db edit (Err why) → None ≡ option_map edit_error why → (row : Row) × Has edit.news row × IsOversized layout edit.table row
-      go (Some why) w is = absurd (cc)
-      go None (inl r) is = absurd (let e = r.2 in cc)
-      go None (inr (inl big)) is = (big.0, big.1, big.2)
-      go None (inr (inr went)) is = absurd (no_end went.0 None went.2)
-
-module _ (at : ℕ) (table : Table) (there : slice_get layout.tables at ≡ Some table) (old new : State) (text : List ℕ) (params : Row) (e : Error) where
-  abbrev db : Trees
-  db = old.now.trees
-
-  abbrev task : Task
-  task = record { limit = old.step_limit; keys = Enforced; schema = layout; table = table; params = params }
-
-  abbrev Refused : Command → Type 0
-  Refused command = Does old.step_limit (mode_of old) params (record old.now { schema = layout }) text None command (Err (Some e))
-
-  -- the foreign keys hold once the rows are written
-  concluded : (w : Written) → Refers All layout w.trees → Concludes task (mode_of old) None w (Err (Some e)) → ⊥
-  concluded w refers (inl tested) = tested.1.0 refers
-  concluded w refers (inr shown) = elim shown.2 [ inl stopped ↦ (let e = stopped.1 in cc) | inr gave ↦ (let e = gave.2 in cc) ]
-
-  -- once the rows are written, none is too large
-  concluded_large : (w : Written) → Concludes task (mode_of old) None w (Err None) → ⊥
-  concluded_large w (inl tested) = let some = tested.1.1 in let none = tested.2 in cc
-  concluded_large w (inr shown) = elim shown.2 [ inl stopped ↦ (let e = stopped.1 in cc) | inr gave ↦ (let e = gave.2 in cc) ]
-
-  -- a query finds the rows
-  module _ (q : Program) (typed : accepts_program layout (lets_of q) q.body params ≡ true) (fits : ProgramOverflows db params [] (lets_of q) q.body → ⊥) where
-    query_stopped : (stop : Option Error) → stop ≡ Some e → Queried old.step_limit (record { schema = layout; trees = db }) q params (Err stop) → IsFault old new e
-    query_stopped None is h = absurd h
-    query_stopped (Some x) is (inl ill) = absurd (both_ways _ ill.1 typed)
-    query_stopped (Some x) is (inr (inl over)) = absurd (fits over.1)
-    query_stopped (Some x) is (inr (inr limit)) = let same : x ≡ e = cc in subst (IsFault old new) same (inr limit)
-
-    query_large : (stop : Option Error) → stop ≡ None → Queried old.step_limit (record { schema = layout; trees = db }) q params (Err stop) → ⊥
-    query_large None is h = h
-    query_large (Some x) is h = cc
-
-    delete_large : (stop : Option Error) → stop ≡ None → Deletes task q db (Err stop) → ⊥
-    delete_large stop is (inl asked) = query_large asked.0 (let e = asked.2 in cc) asked.1
-    delete_large stop is (inr found) = elim found.2 [
-      | inl cut ↦ (edit_large db (edit_of db table (ids_of found.0) Given 0 []) cut.0 (let e = cut.2 in cc) cut.1).1
-      | inr done ↦ (let e = done.2 in cc)
-    ]
-
-    -- a DELETE puts no row in that could be too large
-    pub delete_fits : Does old.step_limit (mode_of old) params (record old.now { schema = layout }) text None (Delete at q) (Err None) → ⊥
-    delete_fits does = go (rw there at does)
+module _ (schema : Schema) (settled : IsSettled schema) where
+  module _ (db : Trees) (edit : Edit) where
+    -- with no action of a foreign key, nothing is refused after the edit
+    no_end : (next : Trees) (why : Option Refusal) → Settles schema Enforced next (works schema Enforced 0 edit.table.tree (taken_by db edit) edit.news) (Err why) → ⊥
+    no_end next why h = go h.0 (rw (settled.idle edit.table.tree (taken_by db edit) edit.news) at h.1)
       where
-        go : Then (Deletes task q db) (Concludes task (mode_of old) None) (Err None) → ⊥
-        go (inl stopped) = delete_large stopped.0 (let e = stopped.2 in cc) stopped.1
-        go (inr wrote) = concluded_large wrote.0 wrote.2
+        go : (n : ℕ) → Leads schema Enforced n next [] (Err why) → ⊥
+        go zero h = let e = h.1 in cc
+        go (suc n) h = omega (arith, ap length h.2, length-append h.0 (h.1 ∷ []))
 
-    -- a DELETE of them
-    module _ (allowed : (found : List Row) (why : Refusal) → IsRefused layout Enforced db (edit_of db table (ids_of found) Given 0 []) why → ⊥)
-        (refers : (found : List Row) (next : Trees) → Applies layout Enforced db (edit_of db table (ids_of found) Given 0 []) next → Refers All layout next) where
-      delete_stopped : (stop : Option Error) → stop ≡ Some e → Deletes task q db (Err stop) → IsFault old new e
-      delete_stopped stop is (inl asked) = query_stopped asked.0 (let e = asked.2 in cc) asked.1
-      delete_stopped stop is (inr found) = elim found.2 [
-        | inl cut ↦ let r = edit_refused db (edit_of db table (ids_of found.0) Given 0 []) cut.0 e (let e = cut.2 in cc) cut.1 in absurd (allowed found.0 r.0 r.1)
+    -- an edit is refused for one of the reasons that it has
+    edit_refused : (stop : Option Error) (e : Error) → stop ≡ Some e → Edited schema Enforced db edit (Err stop) → (why : Refusal) × IsRefused schema Enforced db edit why × (e ≡ edit_error why)
+    edit_refused stop e is h = go h.0 h.1 (sym is ∙ h.2)
+      where
+        go : (why : Option Refusal) → action.Writes schema Enforced db edit (Err why) → Some e ≡ option_map edit_error why → (why : Refusal) × IsRefused schema Enforced db edit why × (e ≡ edit_error why)
+        go None w is = absurd (cc)
+        go (Some why) (inl r) is = let same : why ≡ r.0 = (let e = r.2 in cc) in (r.0, r.1, let all : e ≡ edit_error why = cc in all ∙ ap edit_error same)
+        go (Some why) (inr (inl big)) is = absurd (let e = big.3 in cc)
+        go (Some why) (inr (inr went)) is = absurd (no_end went.0 (Some why) went.2)
+
+    -- what stops an edit for its size is a row
+    edit_large : (stop : Option Error) → stop ≡ None → Edited schema Enforced db edit (Err stop) → (row : Row) × Has edit.news row × IsOversized schema edit.table row
+    edit_large stop is h = go h.0 h.1 (sym is ∙ h.2)
+      where
+        go : (why : Option Refusal) → action.Writes schema Enforced db edit (Err why) → None ≡ option_map edit_error why → (row : Row) × Has edit.news row × IsOversized schema edit.table row
+        go (Some why) w is = absurd (cc)
+        go None (inl r) is = absurd (let e = r.2 in cc)
+        go None (inr (inl big)) is = (big.0, big.1, big.2)
+        go None (inr (inr went)) is = absurd (no_end went.0 None went.2)
+
+  module _ (at : ℕ) (table : Table) (there : slice_get schema.tables at ≡ Some table) (old new : State) (text : List ℕ) (params : Row) (e : Error) where
+    abbrev db : Trees
+    db = old.now.trees
+
+    abbrev task : Task
+    task = record { limit = old.step_limit; keys = Enforced; schema = schema; table = table; params = params }
+
+    abbrev Refused : Command → Type 0
+    Refused command = Does old.step_limit (mode_of old) params (record old.now { schema = schema }) text None command (Err (Some e))
+
+    -- the foreign keys hold once the rows are written
+    concluded : (w : Written) → Refers All schema w.trees → Concludes task (mode_of old) None w (Err (Some e)) → ⊥
+    concluded w refers (inl tested) = tested.1.0 refers
+    concluded w refers (inr shown) = elim shown.2 [ inl stopped ↦ (let e = stopped.1 in cc) | inr gave ↦ (let e = gave.2 in cc) ]
+
+    -- once the rows are written, none is too large
+    concluded_large : (w : Written) → Concludes task (mode_of old) None w (Err None) → ⊥
+    concluded_large w (inl tested) = let some = tested.1.1 in let none = tested.2 in cc
+    concluded_large w (inr shown) = elim shown.2 [ inl stopped ↦ (let e = stopped.1 in cc) | inr gave ↦ (let e = gave.2 in cc) ]
+
+    -- a query finds the rows
+    module _ (q : Program) (typed : accepts_program schema (lets_of q) q.body params ≡ true) (fits : ProgramOverflows db params [] (lets_of q) q.body → ⊥) where
+      query_stopped : (stop : Option Error) → stop ≡ Some e → Queried old.step_limit (record { schema = schema; trees = db }) q params (Err stop) → IsFault old new e
+      query_stopped None is h = absurd h
+      query_stopped (Some x) is (inl ill) = absurd (both_ways _ ill.1 typed)
+      query_stopped (Some x) is (inr (inl over)) = absurd (fits over.1)
+      query_stopped (Some x) is (inr (inr limit)) = let same : x ≡ e = cc in subst (IsFault old new) same (inr limit)
+
+      query_large : (stop : Option Error) → stop ≡ None → Queried old.step_limit (record { schema = schema; trees = db }) q params (Err stop) → ⊥
+      query_large None is h = h
+      query_large (Some x) is h = cc
+
+      delete_large : (stop : Option Error) → stop ≡ None → Deletes task q db (Err stop) → ⊥
+      delete_large stop is (inl asked) = query_large asked.0 (let e = asked.2 in cc) asked.1
+      delete_large stop is (inr found) = elim found.2 [
+        | inl cut ↦ (edit_large db (edit_of db table (ids_of found.0) Given 0 []) cut.0 (let e = cut.2 in cc) cut.1).1
+        | inr done ↦ (let e = done.2 in cc)
+      ]
+
+      -- a DELETE puts no row in that could be too large
+      pub delete_fits : Does old.step_limit (mode_of old) params (record old.now { schema = schema }) text None (Delete at q) (Err None) → ⊥
+      delete_fits does = go (rw there at does)
+        where
+          go : Then (Deletes task q db) (Concludes task (mode_of old) None) (Err None) → ⊥
+          go (inl stopped) = delete_large stopped.0 (let e = stopped.2 in cc) stopped.1
+          go (inr wrote) = concluded_large wrote.0 wrote.2
+
+      -- a DELETE of them
+      module _ (allowed : (found : List Row) (why : Refusal) → IsRefused schema Enforced db (edit_of db table (ids_of found) Given 0 []) why → ⊥)
+          (refers : (found : List Row) (next : Trees) → Applies schema Enforced db (edit_of db table (ids_of found) Given 0 []) next → Refers All schema next) where
+        delete_stopped : (stop : Option Error) → stop ≡ Some e → Deletes task q db (Err stop) → IsFault old new e
+        delete_stopped stop is (inl asked) = query_stopped asked.0 (let e = asked.2 in cc) asked.1
+        delete_stopped stop is (inr found) = elim found.2 [
+          | inl cut ↦ let r = edit_refused db (edit_of db table (ids_of found.0) Given 0 []) cut.0 e (let e = cut.2 in cc) cut.1 in absurd (allowed found.0 r.0 r.1)
+          | inr done ↦ absurd (let e = done.2 in cc)
+        ]
+
+        deleted_trees : (w : Written) → Deletes task q db (Ok w) → Refers All schema w.trees
+        deleted_trees w (inl stopped) = absurd (let e = stopped.2 in cc)
+        deleted_trees w (inr found) = elim found.2 [
+          | inl stopped ↦ absurd (let e = stopped.2 in cc)
+          | inr cut ↦
+              let edit = edit_of db table (ids_of found.0) Given 0 [] in
+              let step = one_step schema Enforced db cut.0 edit (settled.idle edit.table.tree (taken_by db edit) edit.news) cut.1 in
+              let same : w ≡ record { trees = cut.0; rows = taken_by db edit; last = None } = (let e = cut.2 in cc) in
+              subst (λ (w : Written). Refers All schema w.trees) (sym same) (refers found.0 cut.0 step)
+        ]
+
+        pub delete_refused : Refused (Delete at q) → IsFault old new e
+        delete_refused does = go (rw there at does)
+          where
+            go : Then (Deletes task q db) (Concludes task (mode_of old) None) (Err (Some e)) → IsFault old new e
+            go (inl stopped) = delete_stopped stopped.0 (let e = stopped.2 in cc) stopped.1
+            go (inr wrote) = absurd (concluded wrote.0 (deleted_trees wrote.0 wrote.1) wrote.2)
+
+      abbrev altered_by : List Row → Edit
+      altered_by found = edit_of db table (ids_of found) Given 1 found
+
+      -- an UPDATE of them
+      module _ (refers : (found : List Row) (next : Trees) → Queried old.step_limit (record { schema = schema; trees = db }) q params (Ok found) → Applies schema Enforced db (altered_by found) next → Refers All schema next) where
+        -- the fault, or why the edit is refused
+        abbrev Halt : Type 0
+        Halt = IsFault old new e ⊎ ((found : List Row) × (why : Refusal) × Queried old.step_limit (record { schema = schema; trees = db }) q params (Ok found) × IsRefused schema Enforced db (altered_by found) why × (e ≡ edit_error why))
+
+        update_stopped : (stop : Option Error) → stop ≡ Some e → Updates task q params db (Err stop) → Halt
+        update_stopped stop is (inl asked) = inl (query_stopped asked.0 (let e = asked.2 in cc) asked.1)
+        update_stopped stop is (inr found) = elim found.2 [
+          | inl put ↦ let r = edit_refused db (altered_by found.0) put.0 e (let e = put.2 in cc) put.1 in inr (found.0, r.0, found.1, r.1, r.2)
+          | inr done ↦ absurd (let e = done.2 in cc)
+        ]
+
+        updated_trees : (w : Written) → Updates task q params db (Ok w) → Refers All schema w.trees
+        updated_trees w (inl stopped) = absurd (let e = stopped.2 in cc)
+        updated_trees w (inr found) = elim found.2 [
+          | inl stopped ↦ absurd (let e = stopped.2 in cc)
+          | inr put ↦
+              let edit = altered_by found.0 in
+              let step = one_step schema Enforced db put.0 edit (settled.idle edit.table.tree (taken_by db edit) edit.news) put.1 in
+              let same : w ≡ record { trees = put.0; rows = edit.news; last = None } = (let e = put.2 in cc) in
+              subst (λ (w : Written). Refers All schema w.trees) (sym same) (refers found.0 put.0 found.1 step)
+        ]
+
+        pub update_refused : Refused (Update at q) → Halt
+        update_refused does = go (rw there at does)
+          where
+            go : Then (Updates task q params db) (Concludes task (mode_of old) None) (Err (Some e)) → Halt
+            go (inl stopped) = update_stopped stopped.0 (let e = stopped.2 in cc) stopped.1
+            go (inr wrote) = absurd (concluded wrote.0 (updated_trees wrote.0 wrote.1) wrote.2)
+
+      -- the row that is too large is one that takes the place of a row that was found
+      abbrev LargeOf : Type 0
+      LargeOf = (found : List Row) × Queried old.step_limit (record { schema = schema; trees = db }) q params (Ok found) × ((row : Row) × Has (altered_by found).news row × IsOversized schema table row)
+
+      update_large : (stop : Option Error) → stop ≡ None → Updates task q params db (Err stop) → LargeOf
+      update_large stop is (inl asked) = absurd (query_large asked.0 (let e = asked.2 in cc) asked.1)
+      update_large stop is (inr found) = elim found.2 [
+        | inl put ↦ (found.0, found.1, edit_large db (altered_by found.0) put.0 (let e = put.2 in cc) put.1)
         | inr done ↦ absurd (let e = done.2 in cc)
       ]
 
-      deleted_trees : (w : Written) → Deletes task q db (Ok w) → Refers All layout w.trees
-      deleted_trees w (inl stopped) = absurd (let e = stopped.2 in cc)
-      deleted_trees w (inr found) = elim found.2 [
-        | inl stopped ↦ absurd (let e = stopped.2 in cc)
-        | inr cut ↦
-            let edit = edit_of db table (ids_of found.0) Given 0 [] in
-            let step = one_step layout Enforced db cut.0 edit (idle edit.table.tree (taken_by db edit) edit.news) cut.1 in
-            let same : w ≡ record { trees = cut.0; rows = taken_by db edit; last = None } = (let e = cut.2 in cc) in
-            subst (λ (w : Written). Refers All layout w.trees) (sym same) (refers found.0 cut.0 step)
-      ]
-
-      pub delete_refused : Refused (Delete at q) → IsFault old new e
-      delete_refused does = go (rw there at does)
+      pub update_too_large : Does old.step_limit (mode_of old) params (record old.now { schema = schema }) text None (Update at q) (Err None) → LargeOf
+      update_too_large does = go (rw there at does)
         where
-          go : Then (Deletes task q db) (Concludes task (mode_of old) None) (Err (Some e)) → IsFault old new e
-          go (inl stopped) = delete_stopped stopped.0 (let e = stopped.2 in cc) stopped.1
-          go (inr wrote) = absurd (concluded wrote.0 (deleted_trees wrote.0 wrote.1) wrote.2)
+          go : Then (Updates task q params db) (Concludes task (mode_of old) None) (Err None) → LargeOf
+          go (inl stopped) = update_large stopped.0 (let e = stopped.2 in cc) stopped.1
+          go (inr wrote) = absurd (concluded_large wrote.0 wrote.2)
 
-    abbrev altered_by : List Row → Edit
-    altered_by found = edit_of db table (ids_of found) Given 1 found
+    -- an INSERT of one row of values into a table with no AUTOINCREMENT
+    module _ (terms : List Term) (width : ℕ) (uncounted : table.is_counted ≡ false) (typed : accepts_terms terms (stamped table params) ≡ true)
+        (refers : (next : Trees) → Applies schema Enforced db (edit_of db table [] Chosen 0 (value_rows (stamped table params) width (length terms / width) terms)) next → Refers All schema next) where
+      abbrev edit : Edit
+      edit = edit_of db table [] Chosen 0 (value_rows (stamped table params) width (length terms / width) terms)
 
-    -- an UPDATE of them
-    module _ (refers : (found : List Row) (next : Trees) → Queried old.step_limit (record { schema = layout; trees = db }) q params (Ok found) → Applies layout Enforced db (altered_by found) next → Refers All layout next) where
+      abbrev edit_by : List Row → Rowids → Edit
+      edit_by rows rowids = edit_of db table [] rowids 0 rows
+
       -- the fault, or why the edit is refused
-      abbrev Halt : Type 0
-      Halt = IsFault old new e ⊎ ((found : List Row) × (why : Refusal) × Queried old.step_limit (record { schema = layout; trees = db }) q params (Ok found) × IsRefused layout Enforced db (altered_by found) why × (e ≡ edit_error why))
+      abbrev Stop : Type 0
+      Stop = IsFault old new e ⊎ ((why : Refusal) × IsRefused schema Enforced db edit why × (e ≡ edit_error why))
 
-      update_stopped : (stop : Option Error) → stop ≡ Some e → Updates task q params db (Err stop) → Halt
-      update_stopped stop is (inl asked) = inl (query_stopped asked.0 (let e = asked.2 in cc) asked.1)
-      update_stopped stop is (inr found) = elim found.2 [
-        | inl put ↦ let r = edit_refused db (altered_by found.0) put.0 e (let e = put.2 in cc) put.1 in inr (found.0, r.0, found.1, r.1, r.2)
-        | inr done ↦ absurd (let e = done.2 in cc)
+      chosen : (counter : Option Row) → rowids_for table (count_of counter) ≡ Chosen
+      chosen counter = ap (λ b. if b then Above (count_of counter) else Chosen) uncounted
+
+      source_stopped : (stop : Option Error) → stop ≡ Some e → Sourced old.step_limit (record { schema = schema; trees = db }) (stamped table params) (Values terms width) (Err stop) → IsFault old new e
+      source_stopped None is h = absurd h
+      source_stopped (Some x) is (inl ill) = absurd (both_ways _ ill.1 typed)
+      source_stopped (Some x) is (inr limit) = let same : x ≡ e = cc in subst (IsFault old new) same (inr limit)
+
+      same_edit : (rows : List Row) (counter : Option Row) → rows ≡ value_rows (stamped table params) width (length terms / width) terms → edit_by rows (rowids_for table (count_of counter)) ≡ edit
+      same_edit rows counter is = ap (edit_by rows) (chosen counter) ∙ ap (λ r. edit_by r Chosen) is
+
+      insert_stopped : (stop : Option Error) → stop ≡ Some e → Inserts task (Values terms width) db (Err stop) → Stop
+      insert_stopped stop is (inl asked) = inl (source_stopped asked.0 (let e = asked.2 in cc) asked.1)
+      insert_stopped stop is (inr given) = elim given.2 [
+        | inl counter ↦ absurd (let e = MatchBool-at_false _ _ uncounted counter.1 in cc)
+        | inr counter ↦ elim counter.2 [
+          | inl put ↦
+              let r = edit_refused db (edit_by given.0 (rowids_for table (count_of counter.0))) put.0 e (let e = put.2 in cc) put.1 in
+              inr (r.0, subst (λ (d : Edit). IsRefused schema Enforced db d r.0) (same_edit given.0 counter.0 given.1.1) r.1, r.2)
+          | inr put ↦ elim put.2 [
+            | inl counted ↦ absurd (let e = uncounts table.is_counted _ _ _ uncounted counted.1 in cc)
+            | inr done ↦ absurd (let e = done.2 in cc)
+          ]
+        ]
       ]
 
-      updated_trees : (w : Written) → Updates task q params db (Ok w) → Refers All layout w.trees
-      updated_trees w (inl stopped) = absurd (let e = stopped.2 in cc)
-      updated_trees w (inr found) = elim found.2 [
-        | inl stopped ↦ absurd (let e = stopped.2 in cc)
-        | inr put ↦
-            let edit = altered_by found.0 in
-            let step = one_step layout Enforced db put.0 edit (idle edit.table.tree (taken_by db edit) edit.news) put.1 in
-            let same : w ≡ record { trees = put.0; rows = edit.news; last = None } = (let e = put.2 in cc) in
-            subst (λ (w : Written). Refers All layout w.trees) (sym same) (refers found.0 put.0 found.1 step)
+      inserted_trees : (w : Written) → Inserts task (Values terms width) db (Ok w) → Refers All schema w.trees
+      inserted_trees w (inl stopped) = absurd (let e = stopped.2 in cc)
+      inserted_trees w (inr given) = elim given.2 [
+        | inl counter ↦ absurd (let e = counter.2 in cc)
+        | inr counter ↦ elim counter.2 [
+          | inl put ↦ absurd (let e = put.2 in cc)
+          | inr put ↦ elim put.2 [
+            | inl counted ↦ absurd (let e = counted.2 in cc)
+            | inr done ↦
+                let its = edit_by given.0 (rowids_for table (count_of counter.0)) in
+                let step = one_step schema Enforced db put.0 its (settled.idle its.table.tree (taken_by db its) its.news) put.1 in
+                let kept : done.0 ≡ put.0 = (let e = uncounts table.is_counted _ _ _ uncounted done.1 in cc) in
+                let same : w ≡ record { trees = done.0; rows = its.news; last = w.last } = (let e = done.2 in cc) in
+                let end : w.trees ≡ put.0 = ap (λ (x : Written). x.trees) same ∙ kept in
+                subst (Refers All schema) (sym end) (refers put.0 (subst (λ (d : Edit). Applies schema Enforced db d put.0) (same_edit given.0 counter.0 given.1.1) step))
+          ]
+        ]
       ]
 
-      pub update_refused : Refused (Update at q) → Halt
-      update_refused does = go (rw there at does)
+      source_large : (stop : Option Error) → stop ≡ None → Sourced old.step_limit (record { schema = schema; trees = db }) (stamped table params) (Values terms width) (Err stop) → ⊥
+      source_large None is h = h
+      source_large (Some x) is h = cc
+
+      -- the row that is too large is the one that is put in
+      abbrev Large : Type 0
+      Large = (row : Row) × Has edit.news row × IsOversized schema table row
+
+      insert_large : (stop : Option Error) → stop ≡ None → Inserts task (Values terms width) db (Err stop) → Large
+      insert_large stop is (inl asked) = absurd (source_large asked.0 (let e = asked.2 in cc) asked.1)
+      insert_large stop is (inr given) = elim given.2 [
+        | inl counter ↦ absurd (let e = MatchBool-at_false _ _ uncounted counter.1 in cc)
+        | inr counter ↦ elim counter.2 [
+          | inl put ↦
+              let r = edit_large db (edit_by given.0 (rowids_for table (count_of counter.0))) put.0 (let e = put.2 in cc) put.1 in
+              (r.0, subst (λ (d : Edit). Has d.news r.0) (same_edit given.0 counter.0 given.1.1) r.1, r.2)
+          | inr put ↦ elim put.2 [
+            | inl counted ↦ absurd (let e = uncounts table.is_counted _ _ _ uncounted counted.1 in cc)
+            | inr done ↦ absurd (let e = done.2 in cc)
+          ]
+        ]
+      ]
+
+      pub insert_too_large : Does old.step_limit (mode_of old) params (record old.now { schema = schema }) text None (Insert at (Values terms width)) (Err None) → Large
+      insert_too_large does = go (rw there at does)
         where
-          go : Then (Updates task q params db) (Concludes task (mode_of old) None) (Err (Some e)) → Halt
-          go (inl stopped) = update_stopped stopped.0 (let e = stopped.2 in cc) stopped.1
-          go (inr wrote) = absurd (concluded wrote.0 (updated_trees wrote.0 wrote.1) wrote.2)
+          go : Then (Inserts task (Values terms width) db) (Concludes task (mode_of old) None) (Err None) → Large
+          go (inl stopped) = insert_large stopped.0 (let e = stopped.2 in cc) stopped.1
+          go (inr wrote) = absurd (concluded_large wrote.0 wrote.2)
 
-    -- the row that is too large is one that takes the place of a row that was found
-    abbrev LargeOf : Type 0
-    LargeOf = (found : List Row) × Queried old.step_limit (record { schema = layout; trees = db }) q params (Ok found) × ((row : Row) × Has (altered_by found).news row × IsOversized layout table row)
-
-    update_large : (stop : Option Error) → stop ≡ None → Updates task q params db (Err stop) → LargeOf
-    update_large stop is (inl asked) = absurd (query_large asked.0 (let e = asked.2 in cc) asked.1)
-    update_large stop is (inr found) = elim found.2 [
-      | inl put ↦ (found.0, found.1, edit_large db (altered_by found.0) put.0 (let e = put.2 in cc) put.1)
-      | inr done ↦ absurd (let e = done.2 in cc)
-    ]
-
-    pub update_too_large : Does old.step_limit (mode_of old) params (record old.now { schema = layout }) text None (Update at q) (Err None) → LargeOf
-    update_too_large does = go (rw there at does)
-      where
-        go : Then (Updates task q params db) (Concludes task (mode_of old) None) (Err None) → LargeOf
-        go (inl stopped) = update_large stopped.0 (let e = stopped.2 in cc) stopped.1
-        go (inr wrote) = absurd (concluded_large wrote.0 wrote.2)
-
-  -- an INSERT of one row of values into a table with no AUTOINCREMENT
-  module _ (terms : List Term) (width : ℕ) (uncounted : table.is_counted ≡ false) (typed : accepts_terms terms (stamped table params) ≡ true)
-      (refers : (next : Trees) → Applies layout Enforced db (edit_of db table [] Chosen 0 (value_rows (stamped table params) width (length terms / width) terms)) next → Refers All layout next) where
-    abbrev edit : Edit
-    edit = edit_of db table [] Chosen 0 (value_rows (stamped table params) width (length terms / width) terms)
-
-    abbrev edit_by : List Row → Rowids → Edit
-    edit_by rows rowids = edit_of db table [] rowids 0 rows
-
-    -- the fault, or why the edit is refused
-    abbrev Stop : Type 0
-    Stop = IsFault old new e ⊎ ((why : Refusal) × IsRefused layout Enforced db edit why × (e ≡ edit_error why))
-
-    chosen : (counter : Option Row) → rowids_for table (count_of counter) ≡ Chosen
-    chosen counter = ap (λ b. if b then Above (count_of counter) else Chosen) uncounted
-
-    source_stopped : (stop : Option Error) → stop ≡ Some e → Sourced old.step_limit (record { schema = layout; trees = db }) (stamped table params) (Values terms width) (Err stop) → IsFault old new e
-    source_stopped None is h = absurd h
-    source_stopped (Some x) is (inl ill) = absurd (both_ways _ ill.1 typed)
-    source_stopped (Some x) is (inr limit) = let same : x ≡ e = cc in subst (IsFault old new) same (inr limit)
-
-    same_edit : (rows : List Row) (counter : Option Row) → rows ≡ value_rows (stamped table params) width (length terms / width) terms → edit_by rows (rowids_for table (count_of counter)) ≡ edit
-    same_edit rows counter is = ap (edit_by rows) (chosen counter) ∙ ap (λ r. edit_by r Chosen) is
-
-    insert_stopped : (stop : Option Error) → stop ≡ Some e → Inserts task (Values terms width) db (Err stop) → Stop
-    insert_stopped stop is (inl asked) = inl (source_stopped asked.0 (let e = asked.2 in cc) asked.1)
-    insert_stopped stop is (inr given) = elim given.2 [
-      | inl counter ↦ absurd (let e = MatchBool-at_false _ _ uncounted counter.1 in cc)
-      | inr counter ↦ elim counter.2 [
-        | inl put ↦
-            let r = edit_refused db (edit_by given.0 (rowids_for table (count_of counter.0))) put.0 e (let e = put.2 in cc) put.1 in
-            inr (r.0, subst (λ (d : Edit). IsRefused layout Enforced db d r.0) (same_edit given.0 counter.0 given.1.1) r.1, r.2)
-        | inr put ↦ elim put.2 [
-          | inl counted ↦ absurd (let e = uncounts table.is_counted _ _ _ uncounted counted.1 in cc)
-          | inr done ↦ absurd (let e = done.2 in cc)
-        ]
-      ]
-    ]
-
-    inserted_trees : (w : Written) → Inserts task (Values terms width) db (Ok w) → Refers All layout w.trees
-    inserted_trees w (inl stopped) = absurd (let e = stopped.2 in cc)
-    inserted_trees w (inr given) = elim given.2 [
-      | inl counter ↦ absurd (let e = counter.2 in cc)
-      | inr counter ↦ elim counter.2 [
-        | inl put ↦ absurd (let e = put.2 in cc)
-        | inr put ↦ elim put.2 [
-          | inl counted ↦ absurd (let e = counted.2 in cc)
-          | inr done ↦
-              let its = edit_by given.0 (rowids_for table (count_of counter.0)) in
-              let step = one_step layout Enforced db put.0 its (idle its.table.tree (taken_by db its) its.news) put.1 in
-              let kept : done.0 ≡ put.0 = (let e = uncounts table.is_counted _ _ _ uncounted done.1 in cc) in
-              let same : w ≡ record { trees = done.0; rows = its.news; last = w.last } = (let e = done.2 in cc) in
-              let end : w.trees ≡ put.0 = ap (λ (x : Written). x.trees) same ∙ kept in
-              subst (Refers All layout) (sym end) (refers put.0 (subst (λ (d : Edit). Applies layout Enforced db d put.0) (same_edit given.0 counter.0 given.1.1) step))
-        ]
-      ]
-    ]
-
-    source_large : (stop : Option Error) → stop ≡ None → Sourced old.step_limit (record { schema = layout; trees = db }) (stamped table params) (Values terms width) (Err stop) → ⊥
-    source_large None is h = h
-    source_large (Some x) is h = cc
-
-    -- the row that is too large is the one that is put in
-    abbrev Large : Type 0
-    Large = (row : Row) × Has edit.news row × IsOversized layout table row
-
-    insert_large : (stop : Option Error) → stop ≡ None → Inserts task (Values terms width) db (Err stop) → Large
-    insert_large stop is (inl asked) = absurd (source_large asked.0 (let e = asked.2 in cc) asked.1)
-    insert_large stop is (inr given) = elim given.2 [
-      | inl counter ↦ absurd (let e = MatchBool-at_false _ _ uncounted counter.1 in cc)
-      | inr counter ↦ elim counter.2 [
-        | inl put ↦
-            let r = edit_large db (edit_by given.0 (rowids_for table (count_of counter.0))) put.0 (let e = put.2 in cc) put.1 in
-            (r.0, subst (λ (d : Edit). Has d.news r.0) (same_edit given.0 counter.0 given.1.1) r.1, r.2)
-        | inr put ↦ elim put.2 [
-          | inl counted ↦ absurd (let e = uncounts table.is_counted _ _ _ uncounted counted.1 in cc)
-          | inr done ↦ absurd (let e = done.2 in cc)
-        ]
-      ]
-    ]
-
-    pub insert_too_large : Does old.step_limit (mode_of old) params (record old.now { schema = layout }) text None (Insert at (Values terms width)) (Err None) → Large
-    insert_too_large does = go (rw there at does)
-      where
-        go : Then (Inserts task (Values terms width) db) (Concludes task (mode_of old) None) (Err None) → Large
-        go (inl stopped) = insert_large stopped.0 (let e = stopped.2 in cc) stopped.1
-        go (inr wrote) = absurd (concluded_large wrote.0 wrote.2)
-
-    pub insert_refused : Refused (Insert at (Values terms width)) → Stop
-    insert_refused does = go (rw there at does)
-      where
-        go : Then (Inserts task (Values terms width) db) (Concludes task (mode_of old) None) (Err (Some e)) → Stop
-        go (inl stopped) = insert_stopped stopped.0 (let e = stopped.2 in cc) stopped.1
-        go (inr wrote) = absurd (concluded wrote.0 (inserted_trees wrote.0 wrote.1) wrote.2)
+      pub insert_refused : Refused (Insert at (Values terms width)) → Stop
+      insert_refused does = go (rw there at does)
+        where
+          go : Then (Inserts task (Values terms width) db) (Concludes task (mode_of old) None) (Err (Some e)) → Stop
+          go (inl stopped) = insert_stopped stopped.0 (let e = stopped.2 in cc) stopped.1
+          go (inr wrote) = absurd (concluded wrote.0 (inserted_trees wrote.0 wrote.1) wrote.2)
 
 -- ---- several statements in one transaction
 

@@ -2,3 +2,6 @@ pub mod ReadableRows
 pub mod AllLines
 pub mod Forms
 pub mod Checks
+pub mod Keyed
+pub mod Statements
+pub mod KeyedLaws

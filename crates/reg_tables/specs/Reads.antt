@@ -1,7 +1,6 @@
 -- What a call that only reads leaves of a connection, and why a read or a write fails.
 use Rattle.std.specs.Prelude.{◌≡◌, IsTrue}
 use Rattle.sqlite.specs.State.{State, KeepsCommit}
-use Rattle.sqlite.specs.declared.error.ErrorCode.TheVariants as code
 use Rattle.sqlite.specs.Schema.{Schema}
 use Rattle.sqlite.specs.Effect.{Database}
 use Rattle.reg_tables.specs.Layout.{IsLayout}

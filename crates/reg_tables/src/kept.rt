@@ -1,7 +1,8 @@
 //! What is kept under retry keys.
 
-ghost use Rattle.std.specs.Prelude.{◌≡◌, None, Some, OnOk, IfOk, IfErr, MatchOption, false, ◌+◌, ℕ, ◌∷◌};
+ghost use Rattle.std.specs.Prelude.{◌≡◌, None, Some, OnOk, IfOk, IfErr, MatchOption, false, ◌+◌, ℕ, List, [], ◌∷◌};
 ghost use Rattle.std.specs.FinMap.{get};
+ghost use Rattle.sqlite.specs.Order.{column};
 ghost use Rattle.sqlite.specs.Held.{state};
 ghost use Rattle.reg_tables.specs.Frames.{state_in, StaysInside, StaysIdle};
 ghost use Rattle.sqlite.specs.State.{HasCleanDisk};
@@ -13,8 +14,10 @@ ghost use Rattle.reg_tables.specs.Changes.{with_kept};
 ghost use Rattle.reg_tables.specs.Reads.{CanBeRead};
 ghost use Rattle.reg_tables.specs.FailedCalls.{IsFault, IsInsertFault, IsWriteFault};
 ghost use Rattle.reg_tables.specs.KeptRows.{kept_row};
+ghost use Rattle.reg_tables.specs.Inside.Keyed.{kept_table};
 
-use crate::statement::{ask, run};
+use crate::keyed::{FilledTable, KeyedTable, find, put};
+use crate::statement::Line;
 use sqlite::{Alter, Connection, Error, ErrorCode, Row, Transaction, params};
 
 /// A command's text and its reply, as they are kept under a retry key.
@@ -24,6 +27,47 @@ pub struct KeptReply {
     /// An HTTP status code. (RFC 9110, section 15.)
     pub status: u32,
     pub body: String,
+}
+
+impl Line for KeptReply {
+    ghost shown = { λ row. column row 0 ∷ column row 1 ∷ column row 2 ∷ [] };
+
+    ghost cells = { λ reply. kept_cells (kept_row reply) };
+
+    ghost is_readable = { λ row. (reply : KeptRow) × (row ≡ kept_cells reply) × IsReadableReply reply };
+
+    fn read(row: &Row) -> Result<KeptReply, Error> {
+        Ok(KeptReply {
+            command: row.get(0)?,
+            status: row.get(1)?,
+            body: row.get(2)?,
+        })
+    }
+}
+
+/// The table `kept`.
+struct Kept;
+
+impl KeyedTable for Kept {
+    type Found = KeptReply;
+
+    ghost Key = { List ℕ };
+
+    ghost Value = { KeptRow };
+
+    ghost table = { kept_table };
+
+    ghost value_of = { kept_row };
+
+    fn find_sql() -> &'static str {
+        "SELECT command, status, body FROM kept WHERE key = ?1"
+    }
+}
+
+impl FilledTable for Kept {
+    fn put_sql() -> &'static str {
+        "INSERT INTO kept (key, command, status, body) VALUES (?1, ?2, ?3, ?4)"
+    }
 }
 
 /// Keeps a command's text and its reply under a retry key, which the caller has seen to have none.
@@ -61,24 +105,7 @@ pub fn keep_reply<S: Alter>(
         (record { command = command.now; status = status; body = body.now }))
         → IsWriteFault (state_in S.Store tx.old) (state_in S.Store tx.new) e) }
 {
-    run(
-        tx,
-        "INSERT INTO kept (key, command, status, body) VALUES (?1, ?2, ?3, ?4)",
-        params![key, command, status, body],
-    )
-}
-
-fn reply_in(row: &Row) -> Result<KeptReply, Error>
-    ensures ok { IfOk result (λ reply. (kept : KeptRow) → row.now ≡ kept_cells kept
-        → kept_row reply ≡ kept) }
-    ensures err { IfErr result (λ e. (kept : KeptRow) → row.now ≡ kept_cells kept
-        → IsReadableReply kept → e ≡ Error.SqliteFailure ErrorCode.OutOfMemory) }
-{
-    Ok(KeptReply {
-        command: row.get(0)?,
-        status: row.get(1)?,
-        body: row.get(2)?,
-    })
+    put::<S, Kept>(tx, params![key, command, status, body])
 }
 
 /// What is kept under a retry key, if something is.
@@ -98,13 +125,5 @@ pub fn kept_reply<S: Alter>(conn: &mut Connection<S>, key: &str) -> Result<Optio
         CanBeRead (state S.Store conn.old)
         → IsFault (state S.Store conn.old) (state S.Store conn.new) e) }
 {
-    let rows = ask(
-        conn,
-        "SELECT command, status, body FROM kept WHERE key = ?1",
-        params![key],
-    )?;
-    match rows.first() {
-        None => Ok(None),
-        Some(row) => Ok(Some(reply_in(row)?)),
-    }
+    find::<S, Kept>(conn, params![key])
 }

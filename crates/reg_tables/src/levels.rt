@@ -1,6 +1,6 @@
 //! The own levels of subjects. (Schema Registry API reference, Config.)
 
-ghost use Rattle.std.specs.Prelude.{◌≡◌, ◌+◌, ℕ, [], ◌∷◌, None, Some, OnOk, IfOk, IfErr, MatchOption, false, string_bytes};
+ghost use Rattle.std.specs.Prelude.{◌≡◌, ◌+◌, ℕ, List, [], ◌∷◌, None, Some, OnOk, IfOk, IfErr, MatchOption, false, string_bytes};
 ghost use Rattle.std.specs.FinMap.{get};
 ghost use Rattle.sqlite.specs.Held.{state};
 ghost use Rattle.reg_tables.specs.Frames.{state_in, StaysInside, StaysIdle};
@@ -12,34 +12,40 @@ ghost use Rattle.reg_tables.specs.Contents.{Contents, Holds};
 ghost use Rattle.reg_tables.specs.Changes.{Changes, with_level, without_level};
 ghost use Rattle.reg_tables.specs.Reads.{CanBeRead};
 ghost use Rattle.reg_tables.specs.FailedCalls.{IsFault, IsWriteFault, IsInsertFault};
+ghost use Rattle.reg_tables.specs.Inside.Keyed.{levels_table};
 
-use crate::statement::{ask, run};
+use crate::keyed::{ChangedTable, FilledTable, KeyedTable, drop, find, set};
 use sqlite::{Alter, Connection, Error, Transaction, params};
 
-/// Gives a level to a subject that has none of its own.
-fn put_level<S: Alter>(tx: &mut Transaction<'_, S>, subject: &str, level: &str) -> Result<(), Error>
-    ensures frame { StaysInside S.Store tx.old tx.new result }
-    ensures put { HasCleanDisk (state_in S.Store tx.new) → OnOk result ((contents : Contents)
-        → Holds (state_in S.Store tx.old).now contents → get contents.levels subject.now ≡ None
-        → Holds (state_in S.Store tx.new).now (with_level subject.now level.now contents)) }
-    ensures fault { HasCleanDisk (state_in S.Store tx.new) → IfErr result (λ e.
-        (contents : Contents) → Holds (state_in S.Store tx.old).now contents
-        → get contents.levels subject.now ≡ None → IsInsertFault (state_in S.Store tx.old) (state_in S.Store tx.new) e) }
-    ensures room { HasCleanDisk (state_in S.Store tx.new) → OnOk result ((contents : Contents)
-        → Holds (state_in S.Store tx.old).now contents
-        → get contents.levels subject.now ≡ None
-        → (n : ℕ) → HasRooms (state_in S.Store tx.old).now (n + 1) → HasRooms (state_in S.Store tx.new).now n) }
-    ensures fits { HasCleanDisk (state_in S.Store tx.new) → IfErr result (λ e. (contents : Contents)
-        → Holds (state_in S.Store tx.old).now contents
-        → get contents.levels subject.now ≡ None
-        → (n : ℕ) → HasRooms (state_in S.Store tx.old).now (n + 1) → CanBeStored levels (Text subject.now ∷ Text level.now ∷ [])
-        → IsWriteFault (state_in S.Store tx.old) (state_in S.Store tx.new) e) }
-{
-    run(
-        tx,
-        "INSERT INTO levels (subject, level) VALUES (?1, ?2)",
-        params![subject, level],
-    )
+/// The table `levels`.
+struct Levels;
+
+impl KeyedTable for Levels {
+    type Found = String;
+
+    ghost Key = { List ℕ };
+
+    ghost Value = { List ℕ };
+
+    ghost table = { levels_table };
+
+    ghost value_of = { string_bytes };
+
+    fn find_sql() -> &'static str {
+        "SELECT level FROM levels WHERE subject = ?1"
+    }
+}
+
+impl FilledTable for Levels {
+    fn put_sql() -> &'static str {
+        "INSERT INTO levels (subject, level) VALUES (?1, ?2)"
+    }
+}
+
+impl ChangedTable for Levels {
+    fn drop_sql() -> &'static str {
+        "DELETE FROM levels WHERE subject = ?1"
+    }
 }
 
 /// Drops the own level of a subject, if it has one.
@@ -60,11 +66,7 @@ pub fn drop_level<S: Alter>(tx: &mut Transaction<'_, S>, subject: &str) -> Resul
     ensures room { HasCleanDisk (state_in S.Store tx.new) → OnOk result ((contents : Contents)
         → Holds (state_in S.Store tx.old).now contents → (n : ℕ) → HasRooms (state_in S.Store tx.old).now n → HasRooms (state_in S.Store tx.new).now n) }
 {
-    run(
-        tx,
-        "DELETE FROM levels WHERE subject = ?1",
-        params![subject],
-    )
+    drop::<S, Levels>(tx, params![subject])
 }
 
 /// Sets the own level of a subject, in place of the one that it may have.
@@ -96,8 +98,7 @@ pub fn set_level<S: Alter>(
         → (n : ℕ) → HasRooms (state_in S.Store tx.old).now (n + 1) → CanBeStored levels (Text subject.now ∷ Text level.now ∷ [])
         → IsWriteFault (state_in S.Store tx.old) (state_in S.Store tx.new) e) }
 {
-    drop_level(tx, subject)?;
-    put_level(tx, subject, level)
+    set::<S, Levels>(tx, params![subject], params![subject, level])
 }
 
 /// The own level of a subject, if it has one.
@@ -117,13 +118,5 @@ pub fn own_level<S: Alter>(conn: &mut Connection<S>, subject: &str) -> Result<Op
         CanBeRead (state S.Store conn.old)
         → IsFault (state S.Store conn.old) (state S.Store conn.new) e) }
 {
-    let rows = ask(
-        conn,
-        "SELECT level FROM levels WHERE subject = ?1",
-        params![subject],
-    )?;
-    match rows.first() {
-        None => Ok(None),
-        Some(row) => Ok(Some(row.get(0)?)),
-    }
+    find::<S, Levels>(conn, params![subject])
 }

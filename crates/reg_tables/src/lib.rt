@@ -13,6 +13,7 @@
 
 mod declared;
 mod kept;
+mod keyed;
 mod layout;
 mod levels;
 mod lines;

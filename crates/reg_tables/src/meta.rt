@@ -1,6 +1,6 @@
 //! What the database says of itself: its format, its layout and the global level.
 
-ghost use Rattle.std.specs.Prelude.{◌≡◌, ◌+◌, ℕ, [], ◌∷◌, None, Some, OnOk, IfOk, IfErr, MatchOption, false, codes, string_bytes};
+ghost use Rattle.std.specs.Prelude.{◌≡◌, ◌+◌, ℕ, List, [], ◌∷◌, None, Some, OnOk, IfOk, IfErr, MatchOption, false, codes, string_bytes};
 ghost use Rattle.std.specs.FinMap.{get};
 ghost use Rattle.sqlite.specs.Held.{state};
 ghost use Rattle.reg_tables.specs.Frames.{state_in, StaysInside, StaysIdle};
@@ -9,12 +9,44 @@ ghost use Rattle.sqlite.specs.declared.types.Value.TheVariants.{Text};
 ghost use Rattle.reg_tables.specs.Layout.{meta};
 ghost use Rattle.reg_tables.specs.Rooms.{HasRooms, CanBeStored};
 ghost use Rattle.reg_tables.specs.Contents.{Contents, Holds};
-ghost use Rattle.reg_tables.specs.Changes.{Changes, with_meta, without_meta, with_global};
+ghost use Rattle.reg_tables.specs.Changes.{Changes, with_meta, with_global};
 ghost use Rattle.reg_tables.specs.Reads.{CanBeRead};
 ghost use Rattle.reg_tables.specs.FailedCalls.{IsFault, IsWriteFault, IsInsertFault};
+ghost use Rattle.reg_tables.specs.Inside.Keyed.{meta_table};
 
-use crate::statement::{ask, run};
+use crate::keyed::{ChangedTable, FilledTable, KeyedTable, find, put, set};
 use sqlite::{Alter, Connection, Error, Transaction, params};
+
+/// The table `meta`.
+struct Meta;
+
+impl KeyedTable for Meta {
+    type Found = String;
+
+    ghost Key = { List ℕ };
+
+    ghost Value = { List ℕ };
+
+    ghost table = { meta_table };
+
+    ghost value_of = { string_bytes };
+
+    fn find_sql() -> &'static str {
+        "SELECT value FROM meta WHERE name = ?1"
+    }
+}
+
+impl FilledTable for Meta {
+    fn put_sql() -> &'static str {
+        "INSERT INTO meta (name, value) VALUES (?1, ?2)"
+    }
+}
+
+impl ChangedTable for Meta {
+    fn drop_sql() -> &'static str {
+        "DELETE FROM meta WHERE name = ?1"
+    }
+}
 
 /// Says a value under a name that has none.
 pub(crate) fn put_meta<S: Alter>(
@@ -39,25 +71,7 @@ pub(crate) fn put_meta<S: Alter>(
         → (n : ℕ) → HasRooms (state_in S.Store tx.old).now (n + 1) → CanBeStored meta (Text name.now ∷ Text value.now ∷ [])
         → IsWriteFault (state_in S.Store tx.old) (state_in S.Store tx.new) e) }
 {
-    run(
-        tx,
-        "INSERT INTO meta (name, value) VALUES (?1, ?2)",
-        params![name, value],
-    )
-}
-
-fn drop_meta<S: Alter>(tx: &mut Transaction<'_, S>, name: &str) -> Result<(), Error>
-    ensures frame { StaysInside S.Store tx.old tx.new result }
-    ensures dropped { HasCleanDisk (state_in S.Store tx.new)
-        → OnOk result (Changes (state_in S.Store tx.old) (state_in S.Store tx.new)
-        (without_meta name.now)) }
-    ensures fault { HasCleanDisk (state_in S.Store tx.new) → IfErr result (λ e.
-        (contents : Contents) → Holds (state_in S.Store tx.old).now contents
-        → IsWriteFault (state_in S.Store tx.old) (state_in S.Store tx.new) e) }
-    ensures room { HasCleanDisk (state_in S.Store tx.new) → OnOk result ((contents : Contents)
-        → Holds (state_in S.Store tx.old).now contents → (n : ℕ) → HasRooms (state_in S.Store tx.old).now n → HasRooms (state_in S.Store tx.new).now n) }
-{
-    run(tx, "DELETE FROM meta WHERE name = ?1", params![name])
+    put::<S, Meta>(tx, params![name, value])
 }
 
 /// Sets the global level, in place of the one that is there.
@@ -85,8 +99,7 @@ pub fn set_global<S: Alter>(tx: &mut Transaction<'_, S>, level: &str) -> Result<
         → (n : ℕ) → HasRooms (state_in S.Store tx.old).now (n + 1) → CanBeStored meta (Text (codes "global") ∷ Text level.now ∷ [])
         → IsWriteFault (state_in S.Store tx.old) (state_in S.Store tx.new) e) }
 {
-    drop_meta(tx, "global")?;
-    put_meta(tx, "global", level)
+    set::<S, Meta>(tx, params!["global"], params!["global", level])
 }
 
 /// The global level, if the database has one.
@@ -106,13 +119,5 @@ pub fn global_level<S: Alter>(conn: &mut Connection<S>) -> Result<Option<String>
         CanBeRead (state S.Store conn.old)
         → IsFault (state S.Store conn.old) (state S.Store conn.new) e) }
 {
-    let rows = ask(
-        conn,
-        "SELECT value FROM meta WHERE name = ?1",
-        params!["global"],
-    )?;
-    match rows.first() {
-        None => Ok(None),
-        Some(row) => Ok(Some(row.get(0)?)),
-    }
+    find::<S, Meta>(conn, params!["global"])
 }

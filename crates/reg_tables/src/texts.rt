@@ -1,6 +1,6 @@
 //! The texts of schemas, by their ids.
 
-ghost use Rattle.std.specs.Prelude.{◌≡◌, ◌≢◌, ◌≤◌, ◌<◌, ◌^◌, ℕ, None, Some, IsSome, OnOk, IfOk, IfErr, MatchOption, false, string_bytes};
+ghost use Rattle.std.specs.Prelude.{List, ◌≡◌, ◌≢◌, ◌≤◌, ◌<◌, ◌^◌, ℕ, None, Some, IsSome, OnOk, IfOk, IfErr, MatchOption, false, string_bytes};
 ghost use Rattle.std.specs.FinMap.{get};
 ghost use Rattle.sqlite.specs.Held.{state};
 ghost use Rattle.reg_tables.specs.Frames.{state_in, StaysInside, StaysIdle};
@@ -11,9 +11,30 @@ ghost use Rattle.reg_tables.specs.Rooms.{HasRooms, CanBeStored};
 ghost use Rattle.reg_tables.specs.Changes.{with_text};
 ghost use Rattle.reg_tables.specs.Reads.{CanBeRead};
 ghost use Rattle.reg_tables.specs.FailedCalls.{IsFault, IsWriteFault, IsPutFault};
+ghost use Rattle.reg_tables.specs.Inside.Keyed.{texts_table};
 
+use crate::keyed::{KeyedTable, find};
 use crate::statement::{ask, run};
 use sqlite::{Alter, Connection, Error, ErrorCode, Row, Transaction, params};
+
+/// The table `texts`, by id.
+struct Texts;
+
+impl KeyedTable for Texts {
+    type Found = String;
+
+    ghost Key = { ℕ };
+
+    ghost Value = { List ℕ };
+
+    ghost table = { texts_table };
+
+    ghost value_of = { string_bytes };
+
+    fn find_sql() -> &'static str {
+        "SELECT text FROM texts WHERE id = ?1"
+    }
+}
 
 /// Puts a text under an id, which the caller has seen to have none.
 ///
@@ -66,11 +87,7 @@ pub fn text_of<S: Alter>(conn: &mut Connection<S>, id: u32) -> Result<Option<Str
         CanBeRead (state S.Store conn.old)
         → IsFault (state S.Store conn.old) (state S.Store conn.new) e) }
 {
-    let rows = ask(conn, "SELECT text FROM texts WHERE id = ?1", params![id])?;
-    match rows.first() {
-        None => Ok(None),
-        Some(row) => Ok(Some(row.get(0)?)),
-    }
+    find::<S, Texts>(conn, params![id])
 }
 
 /// The number in a row's one column.

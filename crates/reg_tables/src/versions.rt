@@ -1,7 +1,8 @@
 //! The versions of subjects: one is put, dropped, marked as deleted or found, by its subject and its number.
 
-ghost use Rattle.std.specs.Prelude.{◌≡◌, ◌+◌, ◌++◌, ◌<◌, ◌^◌, ℕ, None, Some, IsSome, OnOk, IfOk, IfErr, MatchOption, false};
+ghost use Rattle.std.specs.Prelude.{List, [], ◌∷◌, ◌≡◌, ◌+◌, ◌++◌, ◌<◌, ◌^◌, ℕ, None, Some, IsSome, OnOk, IfOk, IfErr, MatchOption, false};
 ghost use Rattle.std.specs.FinMap.{get};
+ghost use Rattle.sqlite.specs.Order.{column};
 ghost use Rattle.sqlite.specs.Held.{state};
 ghost use Rattle.reg_tables.specs.Frames.{state_in, StaysInside, StaysIdle};
 ghost use Rattle.sqlite.specs.State.{HasCleanDisk};
@@ -12,9 +13,11 @@ ghost use Rattle.reg_tables.specs.Changes.{Changes, with_version, without_versio
 ghost use Rattle.reg_tables.specs.Reads.{CanBeRead};
 ghost use Rattle.reg_tables.specs.FailedCalls.{IsFault, IsWriteFault, IsInsertFault};
 ghost use Rattle.reg_tables.specs.Entries.{version_row};
+ghost use Rattle.reg_tables.specs.Inside.Keyed.{versions_table};
 
+use crate::keyed::{ChangedTable, FilledTable, KeyedTable, drop, find, put};
 use crate::lines::flag_in;
-use crate::statement::{ask, run};
+use crate::statement::{Line, run};
 use sqlite::{Alter, Connection, Error, ErrorCode, Row, Transaction, params};
 
 /// What a version of a subject is: the id of its text, and whether it is marked as deleted.
@@ -22,6 +25,52 @@ use sqlite::{Alter, Connection, Error, ErrorCode, Row, Transaction, params};
 pub struct VersionEntry {
     pub id: u32,
     pub deleted: bool,
+}
+
+impl Line for VersionEntry {
+    ghost shown = { λ row. column row 0 ∷ column row 1 ∷ [] };
+
+    ghost cells = { λ entry. version_cells (version_row entry) };
+
+    ghost is_readable = { λ row. (version : VersionRow) × (row ≡ version_cells version) × (version.id < 2 ^ 32) };
+
+    fn read(row: &Row) -> Result<VersionEntry, Error> {
+        Ok(VersionEntry {
+            id: row.get(0)?,
+            deleted: flag_in(row, 1)?,
+        })
+    }
+}
+
+/// The table `versions`, by subject and number.
+struct Versions;
+
+impl KeyedTable for Versions {
+    type Found = VersionEntry;
+
+    ghost Key = { List ℕ × ℕ };
+
+    ghost Value = { VersionRow };
+
+    ghost table = { versions_table };
+
+    ghost value_of = { version_row };
+
+    fn find_sql() -> &'static str {
+        "SELECT id, deleted FROM versions WHERE subject = ?1 AND version = ?2"
+    }
+}
+
+impl FilledTable for Versions {
+    fn put_sql() -> &'static str {
+        "INSERT INTO versions (subject, version, id, deleted) VALUES (?1, ?2, ?3, ?4)"
+    }
+}
+
+impl ChangedTable for Versions {
+    fn drop_sql() -> &'static str {
+        "DELETE FROM versions WHERE subject = ?1 AND version = ?2"
+    }
 }
 
 /// Puts a version of a subject under its number, which the caller has seen to have none.
@@ -61,11 +110,7 @@ pub fn put_version<S: Alter>(
         → CanBeStored versions (version_key_cells (subject.now, number) ++ version_cells (record { id = id; deleted = deleted }))
         → IsWriteFault (state_in S.Store tx.old) (state_in S.Store tx.new) e) }
 {
-    run(
-        tx,
-        "INSERT INTO versions (subject, version, id, deleted) VALUES (?1, ?2, ?3, ?4)",
-        params![subject, number, id, deleted],
-    )
+    put::<S, Versions>(tx, params![subject, number, id, deleted])
 }
 
 /// Drops the version of a subject that has the number, if there is one.
@@ -91,11 +136,7 @@ pub fn drop_version<S: Alter>(
         → Holds (state_in S.Store tx.old).now contents
         → (n : ℕ) → HasRooms (state_in S.Store tx.old).now n → HasRooms (state_in S.Store tx.new).now n) }
 {
-    run(
-        tx,
-        "DELETE FROM versions WHERE subject = ?1 AND version = ?2",
-        params![subject, number],
-    )
+    drop::<S, Versions>(tx, params![subject, number])
 }
 
 /// Marks the version of a subject that has the number as deleted, if there is one.
@@ -137,18 +178,6 @@ pub fn mark_deleted<S: Alter>(
     )
 }
 
-fn entry_in(row: &Row) -> Result<VersionEntry, Error>
-    ensures ok { IfOk result (λ entry. (version : VersionRow) → row.now ≡ version_cells version
-        → version_row entry ≡ version) }
-    ensures err { IfErr result (λ e. (version : VersionRow) → row.now ≡ version_cells version
-        → version.id < 2 ^ 32 → e ≡ Error.SqliteFailure ErrorCode.OutOfMemory) }
-{
-    Ok(VersionEntry {
-        id: row.get(0)?,
-        deleted: flag_in(row, 1)?,
-    })
-}
-
 /// The version of a subject that has the number, if there is one.
 ///
 /// # Errors
@@ -170,13 +199,5 @@ pub fn version_of<S: Alter>(
         CanBeRead (state S.Store conn.old)
         → IsFault (state S.Store conn.old) (state S.Store conn.new) e) }
 {
-    let rows = ask(
-        conn,
-        "SELECT id, deleted FROM versions WHERE subject = ?1 AND version = ?2",
-        params![subject, number],
-    )?;
-    match rows.first() {
-        None => Ok(None),
-        Some(row) => Ok(Some(entry_in(row)?)),
-    }
+    find::<S, Versions>(conn, params![subject, number])
 }

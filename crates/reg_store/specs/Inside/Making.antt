@@ -5,7 +5,6 @@ use Rattle.sqlite.specs.declared.error.Error.{Error}
 use Rattle.reg_core.specs.declared.decision.Change.{Change}
 use Rattle.reg_core.specs.Registry.{Registry}
 use Rattle.reg_core.specs.Views.{ChangeFits, ChangesFit, after_change, after_changes}
-use Rattle.reg_tables.specs.Layout.{kept}
 use Rattle.reg_tables.specs.FailedCalls.{IsInsertFault}
 use Rattle.reg_store.specs.declared.keep.Keep.{Keep}
 use Rattle.reg_core.specs.KeptReplies.{Kept}

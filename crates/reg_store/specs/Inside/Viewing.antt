@@ -1,12 +1,9 @@
 -- What a view is read by.
-use Rattle.std.specs.Prelude.{◌≡◌, ◌≢◌, ℕ, IsTrue, false, List, length, String, string_bytes, Option, None, Some, IfSome, option_map, option_and_then}
+use Rattle.std.specs.Prelude.{◌≡◌, ◌≢◌, ℕ, IsTrue, List, length, String, string_bytes, Option, None, Some, IfSome, option_map, option_and_then}
 use Rattle.std.specs.BTreeMap as tree
 use Rattle.std.specs.BTreeMap.{BTreeMap}
 use Rattle.std.specs.declared.alloc.Global.{Global}
 use Rattle.std.specs.Ordering.{nat_cmp}
-use Rattle.sqlite.specs.Held.{Held, state}
-use Rattle.sqlite.specs.State.{HasCleanDisk, KeepsCommit, Survives}
-use Rattle.sqlite_trees.specs.declared.store.Store.{Ghosts}
 use Rattle.reg_core.specs.declared.command.Command.{Command}
 use Rattle.reg_core.specs.declared.decision.View.{View}
 use Rattle.reg_core.specs.Subjects.{is_subject}
@@ -17,14 +14,6 @@ use Rattle.reg_core.specs.Views.{AnswerAs, rows_needed, needs_levels, needs_coun
 use Rattle.reg_tables.specs.declared.listed.ListedVersion.{ListedVersion}
 use Rattle.reg_tables.specs.Contents.{VersionRow}
 use Rattle.reg_tables.specs.Entries.{NumberedVersion, KeyedVersion}
-
--- A call that only reads, if it reads at all, ends outside a transaction, and commits nothing.
-pub record KeepsIdle {S : Type 0} (g : Ghosts S) (old new : Held S) : Type 0 where
-  pub idle : new.in_transaction ≡ false
-  pub commit_stays : HasCleanDisk (state g new) → KeepsCommit (state g old) (state g new)
-  -- a connection that showed its last commit shows it still
-  pub settled : HasCleanDisk (state g new) → IsTrue (state g new).is_open → (state g old).now ≡ (state g old).committed → (state g new).now ≡ (state g new).committed
-  pub survives : Survives (state g old) (state g new) (λ _. ⊥)
 
 -- ---- rows
 

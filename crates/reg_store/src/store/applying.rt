@@ -1,57 +1,54 @@
 //! Changes of the registry, and the replies that are kept with them.
 
-ghost use Rattle.std.specs.Prelude.{◌≡◌, ◌⊎◌, ◌↔◌, IfSome, IfErr, OnOk, OnErr, Err, IsTrue, None, false};
+ghost use Rattle.std.specs.Prelude.{◌≡◌, ◌⊎◌, IfSome, IfErr, OnOk, OnErr, Err, IsTrue, false};
 ghost use Rattle.sqlite.specs.Tree.{Trees};
-ghost use Rattle.sqlite.specs.Held.{state};
 ghost use Rattle.sqlite.specs.State.{HasCleanDisk, Survives, KeepsCommit};
 ghost use Rattle.reg_core.specs.Registry.{Registry};
 ghost use Rattle.reg_core.specs.Views.{ChangesFit, after_changes};
-ghost use Rattle.reg_tables.specs.Reads.{OnlyReads};
 ghost use Rattle.reg_core.specs.KeptReplies.{Kept};
 ghost use Rattle.reg_store.specs.Spells.{Leaves, IsOpenOver, SpellsWhileOpen};
 ghost use Rattle.reg_store.specs.Changes.{with_reply, IsNewTo, IsKeepable, ActsOn, HasRoomFor};
 ghost use Rattle.reg_store.specs.Failures.{failure_of, is_fault, IsFaultBy};
 ghost use Rattle.reg_store.specs.Stores.{state_of, has_failed, KeepsStore};
+ghost use Rattle.reg_store.specs.Inside.Reads.{shown};
 
 use crate::changes::{keep_reply, make_all};
 use crate::error::StoreError;
+use crate::idle::Idle;
 use crate::keep::Keep;
 use crate::store::Store;
 use reg_core::Change;
-use sqlite::{Alter, Connection, Error};
+use sqlite::{Alter, Error};
 
 /// Makes the changes and keeps the reply in one transaction.
 fn commit_all<S: Alter>(
-    conn: &mut Connection<S>,
+    db: &mut Idle<S>,
     changes: &[Change],
     keep: Option<Keep<'_>>,
 ) -> Result<(), Error>
-    requires idle { conn.old.in_transaction ≡ false }
-    requires unlimited { conn.old.step_limit ≡ None }
     requires keepable { IfSome keep IsKeepable }
-    ensures idle { conn.new.in_transaction ≡ false }
-    ensures done { HasCleanDisk (state S.Store conn.new) → OnOk result ((g : Registry) (k : Kept)
-        → SpellsWhileOpen (state S.Store conn.old) g k → IsNewTo k keep.entry → ChangesFit changes.now g
-        → IsOpenOver (state S.Store conn.new) (after_changes changes.now g) (with_reply keep.entry k)) }
-    ensures fault { HasCleanDisk (state S.Store conn.new) → IfErr result (λ e.
-        (g : Registry) (k : Kept) → SpellsWhileOpen (state S.Store conn.old) g k
+    ensures done { HasCleanDisk (shown db.new) → OnOk result ((g : Registry) (k : Kept)
+        → SpellsWhileOpen (shown db.old) g k → IsNewTo k keep.entry → ChangesFit changes.now g
+        → IsOpenOver (shown db.new) (after_changes changes.now g) (with_reply keep.entry k)) }
+    ensures fault { HasCleanDisk (shown db.new) → IfErr result (λ e.
+        (g : Registry) (k : Kept) → SpellsWhileOpen (shown db.old) g k
         → IsNewTo k keep.entry → ChangesFit changes.now g → IsTrue (is_fault (failure_of e))) }
-    ensures fits { HasCleanDisk (state S.Store conn.new) → IfErr result (λ e.
-        (g : Registry) (k : Kept) → SpellsWhileOpen (state S.Store conn.old) g k
+    ensures fits { HasCleanDisk (shown db.new) → IfErr result (λ e.
+        (g : Registry) (k : Kept) → SpellsWhileOpen (shown db.old) g k
         → IsNewTo k keep.entry → ChangesFit changes.now g
-        → HasRoomFor (state S.Store conn.old) changes.now keep.entry
-        → IsFaultBy (state S.Store conn.old) (state S.Store conn.new) (failure_of e)) }
-    ensures was_open { HasCleanDisk (state S.Store conn.new)
-        → OnOk result (IsTrue (state S.Store conn.old).is_open) }
-    ensures nothing { HasCleanDisk (state S.Store conn.new)
-        → OnErr result (KeepsCommit (state S.Store conn.old) (state S.Store conn.new)) }
-    ensures survives { Survives (state S.Store conn.old) (state S.Store conn.new) (λ db.
+        → HasRoomFor (shown db.old) changes.now keep.entry
+        → IsFaultBy (shown db.old) (shown db.new) (failure_of e)) }
+    ensures was_open { HasCleanDisk (shown db.new)
+        → OnOk result (IsTrue (shown db.old).is_open) }
+    ensures nothing { HasCleanDisk (shown db.new)
+        → OnErr result (KeepsCommit (shown db.old) (shown db.new)) }
+    ensures survives { Survives (shown db.old) (shown db.new) (λ left.
         (g : Registry) (k : Kept)
-        → SpellsWhileOpen (state S.Store conn.old) g k → IsNewTo k keep.entry → ChangesFit changes.now g
-        → IsTrue (state S.Store conn.old).is_open ⊎ ActsOn changes.now keep.entry
-        → Leaves db (after_changes changes.now g) (with_reply keep.entry k)) }
+        → SpellsWhileOpen (shown db.old) g k → IsNewTo k keep.entry → ChangesFit changes.now g
+        → IsTrue (shown db.old).is_open ⊎ ActsOn changes.now keep.entry
+        → Leaves left (after_changes changes.now g) (with_reply keep.entry k)) }
 {
-    let mut tx = conn.transaction();
+    let mut tx = db.conn.transaction();
     make_all(&mut tx, changes)?;
     keep_reply(&mut tx, keep)?;
     tx.commit()
@@ -106,8 +103,8 @@ impl<S: Alter> Store<S> {
         if self.failed {
             return Err(StoreError::Disk);
         }
-        let done = commit_all(&mut self.conn, changes, keep);
-        let _idle = self.conn.is_autocommit();
+        let done = commit_all(&mut self.db, changes, keep);
+        let _idle = self.db.conn.is_autocommit();
         let done = done.map_err(StoreError::from);
         self.failed = matches!(done, Err(StoreError::Disk));
         done

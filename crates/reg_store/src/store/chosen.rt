@@ -3,106 +3,84 @@
 ghost use Rattle.std.specs.Prelude.{◌≡◌, ◌||◌, [], ◌∷◌, None, Some, IfOk, IfErr, MatchOption, false, true, not, map, option_map, option_to_list};
 ghost use Rattle.std.specs.FinMap.{entries, get};
 ghost use Rattle.std.specs.List.{last_or};
-ghost use Rattle.sqlite.specs.Held.{state};
-ghost use Rattle.sqlite.specs.State.{HasCleanDisk};
 ghost use Rattle.reg_core.specs.declared.number.Choice.TheVariants.{Numbered};
 ghost use Rattle.reg_core.specs.Compatibility.{latest};
 ghost use Rattle.reg_core.specs.Numbers.{id_in};
-ghost use Rattle.reg_core.specs.Registry.{Registry, Version};
+ghost use Rattle.reg_core.specs.Registry.{Version};
 ghost use Rattle.reg_core.specs.Rows.{rows_of, rows_with, shown_rows};
 ghost use Rattle.reg_core.specs.ReadCommands.{found_row, rows_with_id};
-ghost use Rattle.reg_core.specs.KeptReplies.{Kept};
 ghost use Rattle.reg_tables.specs.Entries.{keyed, numbered};
-ghost use Rattle.reg_tables.specs.Frames.{StaysIdle};
 ghost use Rattle.reg_store.specs.declared.error.StoreError.TheVariants.{Memory};
-ghost use Rattle.reg_store.specs.Spells.{SpellsWhileOpen};
-ghost use Rattle.reg_store.specs.Failures.{IsFaultOver};
-ghost use Rattle.reg_store.specs.Inside.Viewing.{HasSubject, KeepsIdle, row_numbered, row_spelled};
+ghost use Rattle.reg_store.specs.Inside.Viewing.{HasSubject, row_numbered, row_spelled};
+ghost use Rattle.reg_store.specs.Inside.Reads.{MayRead, Reads};
 
 use crate::error::StoreError;
+use crate::idle::Idle;
 use crate::store::rows::{push_row, row_in};
 use reg_core::{Choice, OutOfMemory, Row, Subject, id_in};
 use reg_tables::{
     ListedVersion, SubjectVersion, a_version_of_id, last_live_version_of, last_version_of,
     version_of,
 };
-use sqlite::{Alter, Connection};
+use sqlite::Alter;
 use std::alloc::Global;
 
 /// The version of the subject that is chosen among those that are shown. Where there is none such,
 /// the last one that is shown tells whether there are others.
 pub(crate) fn chosen_rows<S: Alter>(
     alloc: Global,
-    conn: &mut Connection<S>,
+    db: &mut Idle<S>,
     subject: &Subject,
     choice: Option<Choice>,
     deleted: bool,
 ) -> Result<Vec<Row>, StoreError>
-    requires idle { conn.old.in_transaction ≡ false }
-    requires unlimited { conn.old.step_limit ≡ None }
-    ensures frame { KeepsIdle S.Store conn.old conn.new }
-    ensures found { HasCleanDisk (state S.Store conn.new) → IfOk result (λ rows.
-        (g : Registry) (k : Kept) → SpellsWhileOpen (state S.Store conn.old) g k
-        → found_row choice (shown_rows deleted rows.items)
-        ≡ found_row choice (shown_rows deleted (rows_of g subject.now))) }
-    ensures fault { HasCleanDisk (state S.Store conn.new)
-        → IfErr result (IsFaultOver (state S.Store conn.old) (state S.Store conn.new)) }
+    ensures { MayRead db.old db.new result (λ was rows.
+        found_row choice (shown_rows deleted rows.items)
+        ≡ found_row choice (shown_rows deleted (rows_of was.registry subject.now))) }
 {
     let Some(choice) = choice else {
         return Ok(Vec::new(alloc));
     };
     match choice {
-        Choice::Latest => last_rows(alloc, conn, subject, deleted),
-        Choice::Numbered(number) => numbered_rows(alloc, conn, subject, number, deleted),
+        Choice::Latest => last_rows(alloc, db, subject, deleted),
+        Choice::Numbered(number) => numbered_rows(alloc, db, subject, number, deleted),
     }
 }
 
 /// The version of the subject with the number, where it is shown. Else the last one that is.
 fn numbered_rows<S: Alter>(
     alloc: Global,
-    conn: &mut Connection<S>,
+    db: &mut Idle<S>,
     subject: &Subject,
     number: u32,
     deleted: bool,
 ) -> Result<Vec<Row>, StoreError>
-    requires idle { conn.old.in_transaction ≡ false }
-    requires unlimited { conn.old.step_limit ≡ None }
-    ensures frame { KeepsIdle S.Store conn.old conn.new }
-    ensures found { HasCleanDisk (state S.Store conn.new) → IfOk result (λ rows.
-        (g : Registry) (k : Kept) → SpellsWhileOpen (state S.Store conn.old) g k
-        → found_row (Some (Numbered number)) (shown_rows deleted rows.items)
-        ≡ found_row (Some (Numbered number)) (shown_rows deleted (rows_of g subject.now))) }
-    ensures fault { HasCleanDisk (state S.Store conn.new)
-        → IfErr result (IsFaultOver (state S.Store conn.old) (state S.Store conn.new)) }
+    ensures { MayRead db.old db.new result (λ was rows.
+        found_row (Some (Numbered number)) (shown_rows deleted rows.items)
+        ≡ found_row (Some (Numbered number)) (shown_rows deleted (rows_of was.registry subject.now))) }
 {
-    match shown_line(conn, subject, number, deleted)? {
+    match shown_line(db, subject, number, deleted)? {
         Some(line) => Ok(row_list(alloc, subject, Some(line))?),
-        None => last_rows(alloc, conn, subject, deleted),
+        None => last_rows(alloc, db, subject, deleted),
     }
 }
 
 /// The line of the version of the subject with the number, where that is shown.
 fn shown_line<S: Alter>(
-    conn: &mut Connection<S>,
+    db: &mut Idle<S>,
     subject: &Subject,
     number: u32,
     deleted: bool,
 ) -> Result<Option<SubjectVersion>, StoreError>
-    requires idle { conn.old.in_transaction ≡ false }
-    requires unlimited { conn.old.step_limit ≡ None }
-    ensures frame { StaysIdle S.Store conn.old conn.new result }
-    ensures found { HasCleanDisk (state S.Store conn.new) → IfOk result (λ found.
-        (g : Registry) (k : Kept) → SpellsWhileOpen (state S.Store conn.old) g k
-        → MatchOption found
-        ((version : Version) → get g.rows (subject.now, number) ≡ Some version
+    ensures { Reads db.old db.new result (λ was found.
+        MatchOption found
+        ((version : Version) → get was.registry.rows (subject.now, number) ≡ Some version
         → (deleted || not version.deleted) ≡ false)
-        (λ line. (get g.rows (row_numbered subject.now (numbered line)).0
+        (λ line. (get was.registry.rows (row_numbered subject.now (numbered line)).0
         ≡ Some (row_numbered subject.now (numbered line)).1)
         × (line.number ≡ number) × ((deleted || not line.deleted) ≡ true))) }
-    ensures fault { HasCleanDisk (state S.Store conn.new)
-        → IfErr result (IsFaultOver (state S.Store conn.old) (state S.Store conn.new)) }
 {
-    match version_of(conn, subject.as_str(), number)? {
+    match version_of(&mut db.conn, subject.as_str(), number)? {
         Some(entry) if deleted || !entry.deleted => Ok(Some(SubjectVersion {
             number,
             id: entry.id,
@@ -115,43 +93,31 @@ fn shown_line<S: Alter>(
 /// The last version of the subject that is shown, if there is one.
 fn last_rows<S: Alter>(
     alloc: Global,
-    conn: &mut Connection<S>,
+    db: &mut Idle<S>,
     subject: &Subject,
     deleted: bool,
 ) -> Result<Vec<Row>, StoreError>
-    requires idle { conn.old.in_transaction ≡ false }
-    requires unlimited { conn.old.step_limit ≡ None }
-    ensures frame { StaysIdle S.Store conn.old conn.new result }
-    ensures found { HasCleanDisk (state S.Store conn.new) → IfOk result (λ rows.
-        (g : Registry) (k : Kept) → SpellsWhileOpen (state S.Store conn.old) g k
-        → rows.items ≡ latest (shown_rows deleted (rows_of g subject.now))) }
-    ensures fault { HasCleanDisk (state S.Store conn.new)
-        → IfErr result (IsFaultOver (state S.Store conn.old) (state S.Store conn.new)) }
+    ensures { Reads db.old db.new result (λ was rows.
+        rows.items ≡ latest (shown_rows deleted (rows_of was.registry subject.now))) }
 {
-    let line = last_line(conn, subject, deleted)?;
+    let line = last_line(db, subject, deleted)?;
     Ok(row_list(alloc, subject, line)?)
 }
 
 /// The line of the last version of the subject that is shown, if there is one.
 fn last_line<S: Alter>(
-    conn: &mut Connection<S>,
+    db: &mut Idle<S>,
     subject: &Subject,
     deleted: bool,
 ) -> Result<Option<SubjectVersion>, StoreError>
-    requires idle { conn.old.in_transaction ≡ false }
-    requires unlimited { conn.old.step_limit ≡ None }
-    ensures frame { StaysIdle S.Store conn.old conn.new result }
-    ensures found { HasCleanDisk (state S.Store conn.new) → IfOk result (λ found.
-        (g : Registry) (k : Kept) → SpellsWhileOpen (state S.Store conn.old) g k
-        → option_map (λ line. row_numbered subject.now (numbered line)) found
-        ≡ last_or None (shown_rows deleted (rows_of g subject.now))) }
-    ensures fault { HasCleanDisk (state S.Store conn.new)
-        → IfErr result (IsFaultOver (state S.Store conn.old) (state S.Store conn.new)) }
+    ensures { Reads db.old db.new result (λ was found.
+        option_map (λ line. row_numbered subject.now (numbered line)) found
+        ≡ last_or None (shown_rows deleted (rows_of was.registry subject.now))) }
 {
     if deleted {
-        Ok(last_version_of(conn, subject.as_str())?)
+        Ok(last_version_of(&mut db.conn, subject.as_str())?)
     } else {
-        Ok(last_live_version_of(conn, subject.as_str())?)
+        Ok(last_live_version_of(&mut db.conn, subject.as_str())?)
     }
 }
 
@@ -175,42 +141,26 @@ fn row_list(
 /// A version of the id that a text spells, if it spells one and some version has it.
 pub(crate) fn spelt_row<S: Alter>(
     alloc: Global,
-    conn: &mut Connection<S>,
+    db: &mut Idle<S>,
     id: &str,
 ) -> Result<Vec<Row>, StoreError>
-    requires idle { conn.old.in_transaction ≡ false }
-    requires unlimited { conn.old.step_limit ≡ None }
-    ensures frame { KeepsIdle S.Store conn.old conn.new }
-    ensures found { HasCleanDisk (state S.Store conn.new) → IfOk result (λ rows.
-        (g : Registry) (k : Kept) → SpellsWhileOpen (state S.Store conn.old) g k
-        → map (λ row. row.1.id) (latest rows.items)
-        ≡ map (λ row. row.1.id) (latest (rows_with_id (id_in id.now) (entries g.rows)))) }
-    ensures fault { HasCleanDisk (state S.Store conn.new)
-        → IfErr result (IsFaultOver (state S.Store conn.old) (state S.Store conn.new)) }
+    ensures { MayRead db.old db.new result (λ was rows.
+        map (λ row. row.1.id) (latest rows.items)
+        ≡ map (λ row. row.1.id) (latest (rows_with_id (id_in id.now) (entries was.registry.rows)))) }
 {
     match id_in(id) {
         None => Ok(Vec::new(alloc)),
-        Some(id) => some_row(alloc, conn, id),
+        Some(id) => some_row(alloc, db, id),
     }
 }
 
 /// A version of the id, if there is one.
-fn some_row<S: Alter>(
-    alloc: Global,
-    conn: &mut Connection<S>,
-    id: u32,
-) -> Result<Vec<Row>, StoreError>
-    requires idle { conn.old.in_transaction ≡ false }
-    requires unlimited { conn.old.step_limit ≡ None }
-    ensures frame { StaysIdle S.Store conn.old conn.new result }
-    ensures found { HasCleanDisk (state S.Store conn.new) → IfOk result (λ rows.
-        (g : Registry) (k : Kept) → SpellsWhileOpen (state S.Store conn.old) g k
-        → map (λ row. row.1.id) (latest rows.items)
-        ≡ map (λ row. row.1.id) (latest (rows_with id (entries g.rows)))) }
-    ensures fault { HasCleanDisk (state S.Store conn.new)
-        → IfErr result (IsFaultOver (state S.Store conn.old) (state S.Store conn.new)) }
+fn some_row<S: Alter>(alloc: Global, db: &mut Idle<S>, id: u32) -> Result<Vec<Row>, StoreError>
+    ensures { Reads db.old db.new result (λ was rows.
+        map (λ row. row.1.id) (latest rows.items)
+        ≡ map (λ row. row.1.id) (latest (rows_with id (entries was.registry.rows)))) }
 {
-    match a_version_of_id(conn, id)? {
+    match a_version_of_id(&mut db.conn, id)? {
         None => Ok(Vec::new(alloc)),
         Some(line) => one_row(alloc, line),
     }

@@ -1,26 +1,26 @@
 //! Listings.
 
-ghost use Rattle.std.specs.Prelude.{◌≡◌, None, IfOk, IfErr, false, map};
+ghost use Rattle.std.specs.Prelude.{◌≡◌, IfOk, IfErr, false, map};
 ghost use Rattle.std.specs.FinMap.{entries};
 ghost use Rattle.sqlite.specs.Tree.{Trees};
-ghost use Rattle.sqlite.specs.Held.{state};
 ghost use Rattle.sqlite.specs.State.{HasCleanDisk};
 ghost use Rattle.reg_core.specs.Registry.{Registry};
 ghost use Rattle.reg_core.specs.KeptReplies.{Kept};
-ghost use Rattle.reg_tables.specs.Frames.{StaysIdle};
 ghost use Rattle.reg_store.specs.Spells.{SpellsWhileOpen};
 ghost use Rattle.reg_store.specs.Failures.{IsFaultOver};
 ghost use Rattle.reg_store.specs.Stores.{state_of, has_failed, KeepsStore};
 ghost use Rattle.reg_store.specs.Listings.{lines_of, listing_lines, version_line};
+ghost use Rattle.reg_store.specs.Inside.Reads.{Reads};
 
 use crate::error::StoreError;
+use crate::idle::Idle;
 use crate::listing::Listing;
 use crate::store::Store;
 use crate::store::lines::version_lines;
 use crate::store::rows::all_rows;
 use crate::store::schema_lines::listed_schemas;
 use crate::store::subject_lines::listed_subjects;
-use sqlite::{Alter, Connection};
+use sqlite::Alter;
 use std::alloc::Global;
 
 impl<S: Alter> Store<S> {
@@ -45,7 +45,7 @@ impl<S: Alter> Store<S> {
         if self.failed {
             return Err(StoreError::Disk);
         }
-        let rows = listed(self.alloc, &mut self.conn, kind);
+        let rows = listed(self.alloc, &mut self.db, kind);
         self.failed = matches!(rows, Err(StoreError::Disk));
         rows
     }
@@ -54,39 +54,27 @@ impl<S: Alter> Store<S> {
 /// The lines of the listing.
 fn listed<S: Alter>(
     alloc: Global,
-    conn: &mut Connection<S>,
+    db: &mut Idle<S>,
     kind: Listing,
 ) -> Result<Vec<Vec<String>>, StoreError>
-    requires idle { conn.old.in_transaction ≡ false }
-    requires unlimited { conn.old.step_limit ≡ None }
-    ensures frame { StaysIdle S.Store conn.old conn.new result }
-    ensures found { HasCleanDisk (state S.Store conn.new) → IfOk result (λ lines.
-        (g : Registry) (k : Kept) → SpellsWhileOpen (state S.Store conn.old) g k
-        → lines_of lines ≡ listing_lines kind g) }
-    ensures fault { HasCleanDisk (state S.Store conn.new)
-        → IfErr result (IsFaultOver (state S.Store conn.old) (state S.Store conn.new)) }
+    ensures { Reads db.old db.new result (λ was lines.
+        lines_of lines ≡ listing_lines kind was.registry) }
 {
     match kind {
-        Listing::Subjects => listed_subjects(alloc, conn),
-        Listing::Versions => listed_versions(alloc, conn),
-        Listing::Schemas => listed_schemas(alloc, conn),
+        Listing::Subjects => listed_subjects(alloc, db),
+        Listing::Versions => listed_versions(alloc, db),
+        Listing::Schemas => listed_schemas(alloc, db),
     }
 }
 
 /// The lines of the versions of all subjects.
 fn listed_versions<S: Alter>(
     alloc: Global,
-    conn: &mut Connection<S>,
+    db: &mut Idle<S>,
 ) -> Result<Vec<Vec<String>>, StoreError>
-    requires idle { conn.old.in_transaction ≡ false }
-    requires unlimited { conn.old.step_limit ≡ None }
-    ensures frame { StaysIdle S.Store conn.old conn.new result }
-    ensures found { HasCleanDisk (state S.Store conn.new) → IfOk result (λ lines.
-        (g : Registry) (k : Kept) → SpellsWhileOpen (state S.Store conn.old) g k
-        → lines_of lines ≡ map version_line (entries g.rows)) }
-    ensures fault { HasCleanDisk (state S.Store conn.new)
-        → IfErr result (IsFaultOver (state S.Store conn.old) (state S.Store conn.new)) }
+    ensures { Reads db.old db.new result (λ was lines.
+        lines_of lines ≡ map version_line (entries was.registry.rows)) }
 {
-    let rows = all_rows(alloc, conn)?;
+    let rows = all_rows(alloc, db)?;
     Ok(version_lines(alloc, rows.as_slice())?)
 }

@@ -12,8 +12,10 @@ ghost use Rattle.reg_core.specs.KeptReplies.{nothing_kept};
 ghost use Rattle.reg_store.specs.Spells.{Leaves, IsOpenOver};
 ghost use Rattle.reg_store.specs.Failures.{failure_of, IsFaultBy};
 ghost use Rattle.reg_store.specs.Stores.{connection_of, state_of, has_failed, LeavesCommit};
+ghost use Rattle.reg_store.specs.Inside.Reads.{shown};
 
 use crate::error::StoreError;
+use crate::idle::Idle;
 use crate::store::Store;
 use reg_tables::has_no_tables;
 use sqlite::{Alter, Connection, Error};
@@ -62,15 +64,19 @@ impl<S: Alter> Store<S> {
             let _idle = connection.is_autocommit();
             return Err((StoreError::NotARegistry, connection));
         }
-        let made = make_in(&mut connection);
-        let _idle = connection.is_autocommit();
+        let mut db = Idle { conn: connection };
+        let made = make_in(&mut db);
+        let _idle = db.conn.is_autocommit();
         match made {
             Ok(()) => Ok(Store {
                 alloc,
-                conn: connection,
+                db,
                 failed: false,
             }),
-            Err(error) => Err((StoreError::from(error), connection)),
+            Err(error) => {
+                let Idle { conn } = db;
+                Err((StoreError::from(error), conn))
+            }
         }
     }
 
@@ -88,30 +94,28 @@ impl<S: Alter> Store<S> {
     {
         let Store {
             alloc: _,
-            conn,
+            db,
             failed: _,
         } = self;
+        let Idle { conn } = db;
         conn
     }
 }
 
 /// Makes the tables of a new registry in one transaction.
-fn make_in<S: Alter>(conn: &mut Connection<S>) -> Result<(), Error>
-    requires idle { conn.old.in_transaction ≡ false }
-    requires unlimited { conn.old.step_limit ≡ None }
-    ensures idle { conn.new.in_transaction ≡ false }
-    ensures done { HasCleanDisk (state S.Store conn.new)
-        → OnOk result ((state S.Store conn.old).now.schema ≡ no_schema
-        → IsOpenOver (state S.Store conn.new) new_registry nothing_kept) }
-    ensures fault { HasCleanDisk (state S.Store conn.new) → IfErr result (λ e.
-        (state S.Store conn.old).now.schema ≡ no_schema
-        → IsFaultBy (state S.Store conn.old) (state S.Store conn.new) (failure_of e)) }
-    ensures nothing { HasCleanDisk (state S.Store conn.new)
-        → OnErr result (KeepsCommit (state S.Store conn.old) (state S.Store conn.new)) }
-    ensures survives { Survives (state S.Store conn.old) (state S.Store conn.new) (λ db.
-        (state S.Store conn.old).now.schema ≡ no_schema → Leaves db new_registry nothing_kept) }
+fn make_in<S: Alter>(db: &mut Idle<S>) -> Result<(), Error>
+    ensures done { HasCleanDisk (shown db.new)
+        → OnOk result ((shown db.old).now.schema ≡ no_schema
+        → IsOpenOver (shown db.new) new_registry nothing_kept) }
+    ensures fault { HasCleanDisk (shown db.new) → IfErr result (λ e.
+        (shown db.old).now.schema ≡ no_schema
+        → IsFaultBy (shown db.old) (shown db.new) (failure_of e)) }
+    ensures nothing { HasCleanDisk (shown db.new)
+        → OnErr result (KeepsCommit (shown db.old) (shown db.new)) }
+    ensures survives { Survives (shown db.old) (shown db.new) (λ left.
+        (shown db.old).now.schema ≡ no_schema → Leaves left new_registry nothing_kept) }
 {
-    let mut tx = conn.transaction();
+    let mut tx = db.conn.transaction();
     reg_tables::create(&mut tx)?;
     tx.commit()
 }

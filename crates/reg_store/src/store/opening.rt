@@ -11,8 +11,10 @@ ghost use Rattle.reg_store.specs.Failures.{failure_of, IsFaultBy};
 ghost use Rattle.reg_store.specs.Opening.{IsRefusedBy, TellsNewer, OpensOver, IsIndexed};
 ghost use Rattle.reg_store.specs.Stores.{state_of, has_failed};
 ghost use Rattle.reg_store.specs.UnopenedFaults.{IsFaultUnopened};
+ghost use Rattle.reg_store.specs.Inside.Reads.{shown};
 
 use crate::error::StoreError;
+use crate::idle::Idle;
 use crate::store::Store;
 use crate::testing::test;
 use reg_tables::{index_versions, is_unindexed};
@@ -58,66 +60,64 @@ impl<S: Alter> Store<S> {
             → (state S.Store connection).may_leave db ⊎ IsIndexed (state S.Store connection).now db) }
     {
         connection.set_step_limit(None);
-        match make_ready(alloc, &mut connection) {
+        let mut db = Idle { conn: connection };
+        match make_ready(alloc, &mut db) {
             Ok(()) => Ok(Store {
                 alloc,
-                conn: connection,
+                db,
                 failed: false,
             }),
-            Err(error) => Err((error, connection)),
+            Err(error) => {
+                let Idle { conn } = db;
+                Err((error, conn))
+            }
         }
     }
 }
 
 /// Tests the tables, and makes the index where it is missing.
-fn make_ready<S: Alter>(alloc: Global, conn: &mut Connection<S>) -> Result<(), StoreError>
-    requires idle { conn.old.in_transaction ≡ false }
-    requires unlimited { conn.old.step_limit ≡ None }
-    ensures idle { conn.new.in_transaction ≡ false }
-    ensures done { HasCleanDisk (state S.Store conn.new)
-        → OnOk result (OpensOver (state S.Store conn.old) (state S.Store conn.new)) }
-    ensures fault { HasCleanDisk (state S.Store conn.new)
-        → IfErr result (IsFaultUnopened (state S.Store conn.old) (state S.Store conn.new)) }
-    ensures refused { HasCleanDisk (state S.Store conn.new)
-        → IfErr result (IsRefusedBy (state S.Store conn.old).now) }
-    ensures newer { HasCleanDisk (state S.Store conn.new)
-        → IfErr result (TellsNewer (state S.Store conn.old)) }
-    ensures nothing { HasCleanDisk (state S.Store conn.new)
-        → OnErr result (OnlyReads (state S.Store conn.old) (state S.Store conn.new)) }
-    ensures survives { Survives (state S.Store conn.old) (state S.Store conn.new)
-        (IsIndexed (state S.Store conn.old).now) }
+fn make_ready<S: Alter>(alloc: Global, db: &mut Idle<S>) -> Result<(), StoreError>
+    ensures done { HasCleanDisk (shown db.new)
+        → OnOk result (OpensOver (shown db.old) (shown db.new)) }
+    ensures fault { HasCleanDisk (shown db.new)
+        → IfErr result (IsFaultUnopened (shown db.old) (shown db.new)) }
+    ensures refused { HasCleanDisk (shown db.new)
+        → IfErr result (IsRefusedBy (shown db.old).now) }
+    ensures newer { HasCleanDisk (shown db.new)
+        → IfErr result (TellsNewer (shown db.old)) }
+    ensures nothing { HasCleanDisk (shown db.new)
+        → OnErr result (OnlyReads (shown db.old) (shown db.new)) }
+    ensures survives { Survives (shown db.old) (shown db.new)
+        (IsIndexed (shown db.old).now) }
 {
-    let _live = conn.schema();
-    let _idle = conn.is_autocommit();
-    test(alloc, conn)?;
-    if !is_unindexed(conn) {
+    let _live = db.conn.schema();
+    let _idle = db.conn.is_autocommit();
+    test(alloc, db)?;
+    if !is_unindexed(&db.conn) {
         return Ok(());
     }
-    let made = make_index(conn);
-    let _settled = conn.is_autocommit();
+    let made = make_index(db);
+    let _settled = db.conn.is_autocommit();
     Ok(made?)
 }
 
 /// Makes the index of versions, in one transaction.
-fn make_index<S: Alter>(conn: &mut Connection<S>) -> Result<(), Error>
-    requires idle { conn.old.in_transaction ≡ false }
-    requires unlimited { conn.old.step_limit ≡ None }
-    ensures idle { conn.new.in_transaction ≡ false }
-    ensures done { HasCleanDisk (state S.Store conn.new) → OnOk result (
-        IsTrue (state S.Store conn.old).is_open × IsTrue (state S.Store conn.new).is_open
-        × ((state S.Store conn.new).committed ≡ (state S.Store conn.new).now)
-        × ((contents : Contents) → HoldsIn unindexed (state S.Store conn.old).now contents
-        → Holds (state S.Store conn.new).now contents)) }
-    ensures fault { HasCleanDisk (state S.Store conn.new) → IfErr result (λ e.
-        (IsTrue (state S.Store conn.old).is_open
-        → (contents : Contents) × HoldsIn unindexed (state S.Store conn.old).now contents)
-        → IsFaultBy (state S.Store conn.old) (state S.Store conn.new) (failure_of e)) }
-    ensures nothing { HasCleanDisk (state S.Store conn.new)
-        → OnErr result (KeepsCommit (state S.Store conn.old) (state S.Store conn.new)) }
-    ensures survives { Survives (state S.Store conn.old) (state S.Store conn.new)
-        (λ db. IsTrue (state S.Store conn.old).is_open × IsIndexed (state S.Store conn.old).now db) }
+fn make_index<S: Alter>(db: &mut Idle<S>) -> Result<(), Error>
+    ensures done { HasCleanDisk (shown db.new) → OnOk result (
+        IsTrue (shown db.old).is_open × IsTrue (shown db.new).is_open
+        × ((shown db.new).committed ≡ (shown db.new).now)
+        × ((contents : Contents) → HoldsIn unindexed (shown db.old).now contents
+        → Holds (shown db.new).now contents)) }
+    ensures fault { HasCleanDisk (shown db.new) → IfErr result (λ e.
+        (IsTrue (shown db.old).is_open
+        → (contents : Contents) × HoldsIn unindexed (shown db.old).now contents)
+        → IsFaultBy (shown db.old) (shown db.new) (failure_of e)) }
+    ensures nothing { HasCleanDisk (shown db.new)
+        → OnErr result (KeepsCommit (shown db.old) (shown db.new)) }
+    ensures survives { Survives (shown db.old) (shown db.new)
+        (λ left. IsTrue (shown db.old).is_open × IsIndexed (shown db.old).now left) }
 {
-    let mut tx = conn.transaction();
+    let mut tx = db.conn.transaction();
     index_versions(&mut tx)?;
     tx.commit()
 }

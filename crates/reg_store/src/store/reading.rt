@@ -2,24 +2,24 @@
 
 ghost use Rattle.std.specs.Prelude.{◌≡◌, None, IfOk, IfErr, OnErr, false, option_map, string_bytes};
 ghost use Rattle.sqlite.specs.Tree.{Trees};
-ghost use Rattle.sqlite.specs.Held.{state};
 ghost use Rattle.sqlite.specs.State.{HasCleanDisk};
 ghost use Rattle.reg_core.specs.Registry.{Registry};
 ghost use Rattle.reg_core.specs.Replies.{IsKeptStatus};
 ghost use Rattle.reg_core.specs.Rows.{text_at};
-ghost use Rattle.reg_tables.specs.Frames.{StaysIdle};
 ghost use Rattle.reg_tables.specs.KeptRows.{kept_row};
 ghost use Rattle.reg_core.specs.KeptReplies.{Kept, entry_told};
 ghost use Rattle.reg_store.specs.Spells.{SpellsWhileOpen, row_of};
 ghost use Rattle.reg_store.specs.Failures.{IsFaultOver};
 ghost use Rattle.reg_store.specs.Stores.{state_of, has_failed, KeepsStore};
+ghost use Rattle.reg_store.specs.Inside.Reads.{Reads};
 
 use crate::error::StoreError;
+use crate::idle::Idle;
 use crate::store::Store;
 use crate::store::texts::text_under;
 use reg_core::{Key, Reply};
 use reg_tables::{KeptReply, kept_reply};
-use sqlite::{Alter, Connection};
+use sqlite::Alter;
 
 impl<S: Alter> Store<S> {
     /// The text and the reply that are kept under the key, if something is.
@@ -43,7 +43,7 @@ impl<S: Alter> Store<S> {
         if self.failed {
             return Err(StoreError::Disk);
         }
-        let found = kept_under(&mut self.conn, key);
+        let found = kept_under(&mut self.db, key);
         self.failed = matches!(found, Err(StoreError::Disk));
         found
     }
@@ -69,7 +69,7 @@ impl<S: Alter> Store<S> {
         if self.failed {
             return Err(StoreError::Disk);
         }
-        let text = text_under(&mut self.conn, id);
+        let text = text_under(&mut self.db, id);
         self.failed = matches!(text, Err(StoreError::Disk));
         text
     }
@@ -77,19 +77,13 @@ impl<S: Alter> Store<S> {
 
 /// What is kept under the key.
 fn kept_under<S: Alter>(
-    conn: &mut Connection<S>,
+    db: &mut Idle<S>,
     key: &Key<'_>,
 ) -> Result<Option<(String, Reply)>, StoreError>
-    requires idle { conn.old.in_transaction ≡ false }
-    requires unlimited { conn.old.step_limit ≡ None }
-    ensures frame { StaysIdle S.Store conn.old conn.new result }
-    ensures found { HasCleanDisk (state S.Store conn.new) → IfOk result (λ found.
-        (g : Registry) (k : Kept) → SpellsWhileOpen (state S.Store conn.old) g k
-        → k key.now ≡ option_map (λ kept. entry_told (string_bytes kept.0) kept.1) found) }
-    ensures fault { HasCleanDisk (state S.Store conn.new)
-        → IfErr result (IsFaultOver (state S.Store conn.old) (state S.Store conn.new)) }
+    ensures { Reads db.old db.new result (λ was found.
+        was.replies key.now ≡ option_map (λ kept. entry_told (string_bytes kept.0) kept.1) found) }
 {
-    match kept_reply(conn, key.as_str())? {
+    match kept_reply(&mut db.conn, key.as_str())? {
         None => Ok(None),
         Some(row) => Ok(Some(told_in(row)?)),
     }

@@ -2,43 +2,32 @@
 
 ghost use Rattle.std.specs.Prelude.{◌≡◌, ◌++◌, ◌∷◌, [], None, IfOk, IfErr, OnOk, OnErr, IfSome, All, false, map};
 ghost use Rattle.std.specs.FinMap.{entries};
-ghost use Rattle.sqlite.specs.Held.{state};
-ghost use Rattle.sqlite.specs.State.{HasCleanDisk};
 ghost use Rattle.reg_core.specs.Numbers.{id_in};
-ghost use Rattle.reg_core.specs.Registry.{Registry};
 ghost use Rattle.reg_core.specs.Rows.{rows_of, rows_with};
 ghost use Rattle.reg_core.specs.ReadCommands.{rows_with_id};
-ghost use Rattle.reg_core.specs.KeptReplies.{Kept};
 ghost use Rattle.reg_core.specs.Views.{AnswerAs, rows_needed};
 ghost use Rattle.reg_tables.specs.Entries.{numbered, keyed};
-ghost use Rattle.reg_tables.specs.Frames.{StaysIdle};
 ghost use Rattle.reg_store.specs.declared.error.StoreError.TheVariants.{Memory};
-ghost use Rattle.reg_store.specs.Spells.{SpellsWhileOpen};
-ghost use Rattle.reg_store.specs.Failures.{IsFaultOver};
-ghost use Rattle.reg_store.specs.Inside.Viewing.{KeepsIdle, row_spelled, row_numbered, HasSubject};
+ghost use Rattle.reg_store.specs.Inside.Viewing.{row_spelled, row_numbered, HasSubject};
+ghost use Rattle.reg_store.specs.Inside.Reads.{MayRead, Reads};
 
 use crate::error::StoreError;
+use crate::idle::Idle;
 use crate::store::chosen::{chosen_rows, spelt_row};
 use reg_core::{Command, OutOfMemory, Row, Subject, choice_in, id_in};
 use reg_tables::{ListedVersion, SubjectVersion, all_versions, versions_of, versions_of_id};
-use sqlite::{Alter, Connection};
+use sqlite::Alter;
 use std::alloc::Global;
 
 /// The versions that give the command's answer, in the order of subjects and numbers: all that it
 /// looks at, deleted ones too, or where one is chosen that one.
 pub(crate) fn rows_for<S: Alter>(
     alloc: Global,
-    conn: &mut Connection<S>,
+    db: &mut Idle<S>,
     command: &Command,
 ) -> Result<Vec<Row>, StoreError>
-    requires idle { conn.old.in_transaction ≡ false }
-    requires unlimited { conn.old.step_limit ≡ None }
-    ensures frame { KeepsIdle S.Store conn.old conn.new }
-    ensures found { HasCleanDisk (state S.Store conn.new) → IfOk result (λ rows.
-        (g : Registry) (k : Kept) → SpellsWhileOpen (state S.Store conn.old) g k
-        → IfSome (rows_needed g command.now) (AnswerAs command.now rows.items)) }
-    ensures fault { HasCleanDisk (state S.Store conn.new)
-        → IfErr result (IsFaultOver (state S.Store conn.old) (state S.Store conn.new)) }
+    ensures { MayRead db.old db.new result (λ was rows.
+        IfSome (rows_needed was.registry command.now) (AnswerAs command.now rows.items)) }
 {
     match command {
         Command::Register { subject, .. }
@@ -46,7 +35,7 @@ pub(crate) fn rows_for<S: Alter>(
         | Command::DeleteSubject { subject, .. }
         | Command::Lookup { subject, .. }
         | Command::Versions { subject, .. }
-        | Command::CheckAll { subject, .. } => subject_rows(alloc, conn, subject),
+        | Command::CheckAll { subject, .. } => subject_rows(alloc, db, subject),
         Command::Version {
             subject,
             version,
@@ -56,15 +45,15 @@ pub(crate) fn rows_for<S: Alter>(
             subject,
             version,
             deleted,
-        } => chosen_rows(alloc, conn, subject, choice_in(version.as_str()), *deleted),
+        } => chosen_rows(alloc, db, subject, choice_in(version.as_str()), *deleted),
         Command::Check {
             subject,
             version,
             ..
-        } => chosen_rows(alloc, conn, subject, choice_in(version.as_str()), false),
-        Command::Subjects { .. } => all_rows(alloc, conn),
-        Command::ById { id } => spelt_row(alloc, conn, id.as_str()),
-        Command::VersionsOfId { id, .. } => spelt_rows(alloc, conn, id.as_str()),
+        } => chosen_rows(alloc, db, subject, choice_in(version.as_str()), false),
+        Command::Subjects { .. } => all_rows(alloc, db),
+        Command::ById { id } => spelt_row(alloc, db, id.as_str()),
+        Command::VersionsOfId { id, .. } => spelt_rows(alloc, db, id.as_str()),
         Command::SetGlobal { .. }
         | Command::SetLevel { .. }
         | Command::Global
@@ -74,79 +63,43 @@ pub(crate) fn rows_for<S: Alter>(
 }
 
 /// The versions of the id that a text spells: none where it spells none.
-fn spelt_rows<S: Alter>(
-    alloc: Global,
-    conn: &mut Connection<S>,
-    id: &str,
-) -> Result<Vec<Row>, StoreError>
-    requires idle { conn.old.in_transaction ≡ false }
-    requires unlimited { conn.old.step_limit ≡ None }
-    ensures frame { KeepsIdle S.Store conn.old conn.new }
-    ensures found { HasCleanDisk (state S.Store conn.new) → IfOk result (λ rows.
-        (g : Registry) (k : Kept) → SpellsWhileOpen (state S.Store conn.old) g k
-        → rows.items ≡ rows_with_id (id_in id.now) (entries g.rows)) }
-    ensures fault { HasCleanDisk (state S.Store conn.new)
-        → IfErr result (IsFaultOver (state S.Store conn.old) (state S.Store conn.new)) }
+fn spelt_rows<S: Alter>(alloc: Global, db: &mut Idle<S>, id: &str) -> Result<Vec<Row>, StoreError>
+    ensures { MayRead db.old db.new result (λ was rows.
+        rows.items ≡ rows_with_id (id_in id.now) (entries was.registry.rows)) }
 {
     match id_in(id) {
         None => Ok(Vec::new(alloc)),
-        Some(id) => id_rows(alloc, conn, id),
+        Some(id) => id_rows(alloc, db, id),
     }
 }
 
 /// The versions of a subject, in the order of their numbers.
 pub(crate) fn subject_rows<S: Alter>(
     alloc: Global,
-    conn: &mut Connection<S>,
+    db: &mut Idle<S>,
     subject: &Subject,
 ) -> Result<Vec<Row>, StoreError>
-    requires idle { conn.old.in_transaction ≡ false }
-    requires unlimited { conn.old.step_limit ≡ None }
-    ensures frame { StaysIdle S.Store conn.old conn.new result }
-    ensures found { HasCleanDisk (state S.Store conn.new) → IfOk result (λ rows.
-        (g : Registry) (k : Kept) → SpellsWhileOpen (state S.Store conn.old) g k
-        → rows.items ≡ rows_of g subject.now) }
-    ensures fault { HasCleanDisk (state S.Store conn.new)
-        → IfErr result (IsFaultOver (state S.Store conn.old) (state S.Store conn.new)) }
+    ensures { Reads db.old db.new result (λ was rows.
+        rows.items ≡ rows_of was.registry subject.now) }
 {
-    let lines = versions_of(alloc, conn, subject.as_str())?;
+    let lines = versions_of(alloc, &mut db.conn, subject.as_str())?;
     Ok(rows_under(alloc, subject, lines)?)
 }
 
 /// The versions of an id, in the order of subjects and numbers.
-fn id_rows<S: Alter>(
-    alloc: Global,
-    conn: &mut Connection<S>,
-    id: u32,
-) -> Result<Vec<Row>, StoreError>
-    requires idle { conn.old.in_transaction ≡ false }
-    requires unlimited { conn.old.step_limit ≡ None }
-    ensures frame { StaysIdle S.Store conn.old conn.new result }
-    ensures found { HasCleanDisk (state S.Store conn.new) → IfOk result (λ rows.
-        (g : Registry) (k : Kept) → SpellsWhileOpen (state S.Store conn.old) g k
-        → rows.items ≡ rows_with id (entries g.rows)) }
-    ensures fault { HasCleanDisk (state S.Store conn.new)
-        → IfErr result (IsFaultOver (state S.Store conn.old) (state S.Store conn.new)) }
+fn id_rows<S: Alter>(alloc: Global, db: &mut Idle<S>, id: u32) -> Result<Vec<Row>, StoreError>
+    ensures { Reads db.old db.new result (λ was rows.
+        rows.items ≡ rows_with id (entries was.registry.rows)) }
 {
-    let lines = versions_of_id(alloc, conn, id)?;
+    let lines = versions_of_id(alloc, &mut db.conn, id)?;
     rows_in(alloc, lines)
 }
 
 /// The versions of all subjects, in the order of subjects and numbers.
-pub(crate) fn all_rows<S: Alter>(
-    alloc: Global,
-    conn: &mut Connection<S>,
-) -> Result<Vec<Row>, StoreError>
-    requires idle { conn.old.in_transaction ≡ false }
-    requires unlimited { conn.old.step_limit ≡ None }
-    ensures frame { StaysIdle S.Store conn.old conn.new result }
-    ensures found { HasCleanDisk (state S.Store conn.new) → IfOk result (λ rows.
-        (g : Registry) (k : Kept) → SpellsWhileOpen (state S.Store conn.old) g k
-        → rows.items ≡ entries g.rows) }
-    ensures fault { HasCleanDisk (state S.Store conn.new)
-        → IfErr result (IsFaultOver (state S.Store conn.old) (state S.Store conn.new)) }
+pub(crate) fn all_rows<S: Alter>(alloc: Global, db: &mut Idle<S>) -> Result<Vec<Row>, StoreError>
+    ensures { Reads db.old db.new result (λ was rows. rows.items ≡ entries was.registry.rows) }
 {
-    let lines = all_versions(alloc, conn)?;
+    let lines = all_versions(alloc, &mut db.conn)?;
     rows_in(alloc, lines)
 }
 

@@ -1,19 +1,19 @@
 //! The line of a listing behind a cursor.
 
-ghost use Rattle.std.specs.Prelude.{◌≡◌, ℕ, None, IfOk, IfErr, false};
+ghost use Rattle.std.specs.Prelude.{ℕ, None, IfOk, IfErr};
 ghost use Rattle.sqlite.specs.Tree.{Trees};
-ghost use Rattle.sqlite.specs.Held.{state};
 ghost use Rattle.sqlite.specs.State.{HasCleanDisk};
 ghost use Rattle.reg_core.specs.Registry.{Registry};
 ghost use Rattle.reg_core.specs.KeptReplies.{Kept};
-ghost use Rattle.reg_tables.specs.Frames.{StaysIdle};
 ghost use Rattle.reg_store.specs.Spells.{SpellsWhileOpen};
 ghost use Rattle.reg_store.specs.Failures.{IsFaultOver};
 ghost use Rattle.reg_store.specs.Stores.{state_of, KeepsLent};
 ghost use Rattle.reg_store.specs.declared.listing.Listing.{Listing};
 ghost use Rattle.reg_store.specs.Handing.{IsAt, LeadsOn};
+ghost use Rattle.reg_store.specs.Inside.Reads.{Reads};
 
 use crate::error::StoreError;
+use crate::idle::Idle;
 use crate::store::Store;
 use crate::store::behind::{next_subject, next_version};
 use crate::store::cursor::Cursor;
@@ -21,7 +21,7 @@ use crate::store::lines::{schema_line, version_line};
 use crate::store::subject_lines::listed_subject;
 use crate::store::texts::text_under;
 use reg_core::Row;
-use sqlite::{Alter, Connection};
+use sqlite::Alter;
 use std::alloc::Global;
 
 impl<S: Alter> Store<S> {
@@ -42,52 +42,39 @@ impl<S: Alter> Store<S> {
         ensures crash { HasCleanDisk (state_of self.new) → (db : Trees)
             → (state_of self.new).may_leave db → (state_of self.old).may_leave db }
     {
-        line_at(self.alloc, &mut self.conn, cursor)
+        line_at(self.alloc, &mut self.db, cursor)
     }
 }
 
 /// The next line behind the cursor, if there is one, and where the lines then end.
 fn line_at<S: Alter>(
     alloc: Global,
-    conn: &mut Connection<S>,
+    db: &mut Idle<S>,
     cursor: Cursor,
 ) -> Result<(Option<Vec<String>>, Cursor), StoreError>
-    requires idle { conn.old.in_transaction ≡ false }
-    requires unlimited { conn.old.step_limit ≡ None }
-    ensures frame { StaysIdle S.Store conn.old conn.new result }
-    ensures found { HasCleanDisk (state S.Store conn.new) → IfOk result (λ found.
-        (kind : Listing) (g : Registry) (k : Kept) (count : ℕ)
-        → SpellsWhileOpen (state S.Store conn.old) g k
-        → IsAt kind g count cursor → LeadsOn kind g count found) }
-    ensures fault { HasCleanDisk (state S.Store conn.new)
-        → IfErr result (IsFaultOver (state S.Store conn.old) (state S.Store conn.new)) }
+    ensures { Reads db.old db.new result (λ was found.
+        (kind : Listing) (count : ℕ) → IsAt kind was.registry count cursor → LeadsOn kind was.registry count found) }
 {
     match cursor {
-        Cursor::Subject(last) => subject_at(alloc, conn, last),
-        Cursor::Version(last) => version_at(alloc, conn, last),
-        Cursor::Schema(id) => schema_at(alloc, conn, id),
+        Cursor::Subject(last) => subject_at(alloc, db, last),
+        Cursor::Version(last) => version_at(alloc, db, last),
+        Cursor::Schema(id) => schema_at(alloc, db, id),
     }
 }
 
 /// The line of the next subject, if there is one, and where the lines then end.
 fn subject_at<S: Alter>(
     alloc: Global,
-    conn: &mut Connection<S>,
+    db: &mut Idle<S>,
     last: Option<Row>,
 ) -> Result<(Option<Vec<String>>, Cursor), StoreError>
-    requires idle { conn.old.in_transaction ≡ false }
-    requires unlimited { conn.old.step_limit ≡ None }
-    ensures frame { StaysIdle S.Store conn.old conn.new result }
-    ensures found { HasCleanDisk (state S.Store conn.new) → IfOk result (λ found.
-        (g : Registry) (k : Kept) (count : ℕ) → SpellsWhileOpen (state S.Store conn.old) g k
-        → IsAt Listing.Subjects g count (Cursor.Subject last) → LeadsOn Listing.Subjects g count found) }
-    ensures fault { HasCleanDisk (state S.Store conn.new)
-        → IfErr result (IsFaultOver (state S.Store conn.old) (state S.Store conn.new)) }
+    ensures { Reads db.old db.new result (λ was found.
+        (count : ℕ) → IsAt Listing.Subjects was.registry count (Cursor.Subject last) → LeadsOn Listing.Subjects was.registry count found) }
 {
-    match next_subject(conn, last.as_ref())? {
+    match next_subject(db, last.as_ref())? {
         None => Ok((None, Cursor::Subject(last))),
         Some(row) => {
-            let line = listed_subject(alloc, conn, row.subject())?;
+            let line = listed_subject(alloc, db, row.subject())?;
             Ok((Some(line), Cursor::Subject(Some(row))))
         }
     }
@@ -96,19 +83,13 @@ fn subject_at<S: Alter>(
 /// The line of the next version, if there is one, and where the lines then end.
 fn version_at<S: Alter>(
     alloc: Global,
-    conn: &mut Connection<S>,
+    db: &mut Idle<S>,
     last: Option<Row>,
 ) -> Result<(Option<Vec<String>>, Cursor), StoreError>
-    requires idle { conn.old.in_transaction ≡ false }
-    requires unlimited { conn.old.step_limit ≡ None }
-    ensures frame { StaysIdle S.Store conn.old conn.new result }
-    ensures found { HasCleanDisk (state S.Store conn.new) → IfOk result (λ found.
-        (g : Registry) (k : Kept) (count : ℕ) → SpellsWhileOpen (state S.Store conn.old) g k
-        → IsAt Listing.Versions g count (Cursor.Version last) → LeadsOn Listing.Versions g count found) }
-    ensures fault { HasCleanDisk (state S.Store conn.new)
-        → IfErr result (IsFaultOver (state S.Store conn.old) (state S.Store conn.new)) }
+    ensures { Reads db.old db.new result (λ was found.
+        (count : ℕ) → IsAt Listing.Versions was.registry count (Cursor.Version last) → LeadsOn Listing.Versions was.registry count found) }
 {
-    match next_version(conn, last.as_ref())? {
+    match next_version(db, last.as_ref())? {
         None => Ok((None, Cursor::Version(last))),
         Some(row) => {
             let line = version_line(alloc, &row)?;
@@ -120,21 +101,15 @@ fn version_at<S: Alter>(
 /// The line of the schema with the next id, if there is one, and where the lines then end.
 fn schema_at<S: Alter>(
     alloc: Global,
-    conn: &mut Connection<S>,
+    db: &mut Idle<S>,
     id: u32,
 ) -> Result<(Option<Vec<String>>, Cursor), StoreError>
-    requires idle { conn.old.in_transaction ≡ false }
-    requires unlimited { conn.old.step_limit ≡ None }
-    ensures frame { StaysIdle S.Store conn.old conn.new result }
-    ensures found { HasCleanDisk (state S.Store conn.new) → IfOk result (λ found.
-        (g : Registry) (k : Kept) (count : ℕ) → SpellsWhileOpen (state S.Store conn.old) g k
-        → IsAt Listing.Schemas g count (Cursor.Schema id) → LeadsOn Listing.Schemas g count found) }
-    ensures fault { HasCleanDisk (state S.Store conn.new)
-        → IfErr result (IsFaultOver (state S.Store conn.old) (state S.Store conn.new)) }
+    ensures { Reads db.old db.new result (λ was found.
+        (count : ℕ) → IsAt Listing.Schemas was.registry count (Cursor.Schema id) → LeadsOn Listing.Schemas was.registry count found) }
 {
     // The last number that there can be is no id, so that nothing is found past it.
     let next = id.saturating_add(1);
-    match text_under(conn, next)? {
+    match text_under(db, next)? {
         None => Ok((None, Cursor::Schema(id))),
         Some(text) => {
             let line = schema_line(alloc, next, text)?;

@@ -1,67 +1,40 @@
 //! Schemas: the texts of ids, the ids of texts, and how many there are.
 
-ghost use Rattle.std.specs.Prelude.{◌≡◌, None, IfOk, IfErr, OnOk, All, IsTrue, length, false, option_map, option_and_then, option_copied, string_bytes};
-ghost use Rattle.sqlite.specs.Held.{state};
-ghost use Rattle.sqlite.specs.State.{HasCleanDisk};
-ghost use Rattle.reg_core.specs.Registry.{Registry};
+ghost use Rattle.std.specs.Prelude.{◌≡◌, None, OnOk, All, IsTrue, length, option_map, option_and_then, option_copied, string_bytes};
 ghost use Rattle.reg_core.specs.Rows.{id_of, text_at};
-ghost use Rattle.reg_core.specs.KeptReplies.{Kept};
 ghost use Rattle.reg_core.specs.Views.{needs_count};
-ghost use Rattle.reg_tables.specs.Frames.{StaysIdle};
-ghost use Rattle.reg_store.specs.Spells.{SpellsWhileOpen};
-ghost use Rattle.reg_store.specs.Failures.{IsFaultOver};
-ghost use Rattle.reg_store.specs.Inside.Viewing.{KeepsIdle, HasText, AreTrueTexts, AddsText, PutsText};
+ghost use Rattle.reg_store.specs.Inside.Viewing.{HasText, AreTrueTexts, AddsText, PutsText};
+ghost use Rattle.reg_store.specs.Inside.Reads.{MayRead, Reads};
 
 use crate::error::StoreError;
+use crate::idle::Idle;
 use reg_core::{Command, OutOfMemory};
 use reg_tables::{id_of, last_id, text_of};
-use sqlite::{Alter, Connection};
+use sqlite::Alter;
 use std::alloc::Global;
 use std::collections::BTreeMap;
 
 /// The identity text of the id's schema, if there is one.
-pub(crate) fn text_under<S: Alter>(
-    conn: &mut Connection<S>,
-    id: u32,
-) -> Result<Option<String>, StoreError>
-    requires idle { conn.old.in_transaction ≡ false }
-    requires unlimited { conn.old.step_limit ≡ None }
-    ensures frame { StaysIdle S.Store conn.old conn.new result }
-    ensures found { HasCleanDisk (state S.Store conn.new) → IfOk result (λ found.
-        (g : Registry) (k : Kept) → SpellsWhileOpen (state S.Store conn.old) g k
-        → option_map string_bytes found ≡ text_at g.schemas id) }
-    ensures fault { HasCleanDisk (state S.Store conn.new)
-        → IfErr result (IsFaultOver (state S.Store conn.old) (state S.Store conn.new)) }
+pub(crate) fn text_under<S: Alter>(db: &mut Idle<S>, id: u32) -> Result<Option<String>, StoreError>
+    ensures { Reads db.old db.new result (λ was found.
+        option_map string_bytes found ≡ text_at was.registry.schemas id) }
 {
-    Ok(text_of(conn, id)?)
+    Ok(text_of(&mut db.conn, id)?)
 }
 
 /// The id of the schema with this identity text, if there is one.
-fn id_under<S: Alter>(conn: &mut Connection<S>, text: &str) -> Result<Option<u32>, StoreError>
-    requires idle { conn.old.in_transaction ≡ false }
-    requires unlimited { conn.old.step_limit ≡ None }
-    ensures frame { StaysIdle S.Store conn.old conn.new result }
-    ensures found { HasCleanDisk (state S.Store conn.new) → IfOk result (λ found.
-        (g : Registry) (k : Kept) → SpellsWhileOpen (state S.Store conn.old) g k
-        → found ≡ id_of g.schemas text.now) }
-    ensures fault { HasCleanDisk (state S.Store conn.new)
-        → IfErr result (IsFaultOver (state S.Store conn.old) (state S.Store conn.new)) }
+fn id_under<S: Alter>(db: &mut Idle<S>, text: &str) -> Result<Option<u32>, StoreError>
+    ensures { Reads db.old db.new result (λ was found.
+        found ≡ id_of was.registry.schemas text.now) }
 {
-    Ok(id_of(conn, text)?)
+    Ok(id_of(&mut db.conn, text)?)
 }
 
 /// The number of schemas.
-pub(crate) fn count<S: Alter>(conn: &mut Connection<S>) -> Result<u32, StoreError>
-    requires idle { conn.old.in_transaction ≡ false }
-    requires unlimited { conn.old.step_limit ≡ None }
-    ensures frame { StaysIdle S.Store conn.old conn.new result }
-    ensures found { HasCleanDisk (state S.Store conn.new) → IfOk result (λ count.
-        (g : Registry) (k : Kept) → SpellsWhileOpen (state S.Store conn.old) g k
-        → count ≡ length g.schemas) }
-    ensures fault { HasCleanDisk (state S.Store conn.new)
-        → IfErr result (IsFaultOver (state S.Store conn.old) (state S.Store conn.new)) }
+pub(crate) fn count<S: Alter>(db: &mut Idle<S>) -> Result<u32, StoreError>
+    ensures { Reads db.old db.new result (λ was count. count ≡ length was.registry.schemas) }
 {
-    match last_id(conn)? {
+    match last_id(&mut db.conn)? {
         None => Ok(0),
         Some(id) => Ok(id),
     }
@@ -69,40 +42,25 @@ pub(crate) fn count<S: Alter>(conn: &mut Connection<S>) -> Result<u32, StoreErro
 
 /// The id of the schema with the identity text that is given, if one is and there is one.
 pub(crate) fn known_for<S: Alter>(
-    conn: &mut Connection<S>,
+    db: &mut Idle<S>,
     identity: Option<&str>,
 ) -> Result<Option<u32>, StoreError>
-    requires idle { conn.old.in_transaction ≡ false }
-    requires unlimited { conn.old.step_limit ≡ None }
-    ensures frame { KeepsIdle S.Store conn.old conn.new }
-    ensures found { HasCleanDisk (state S.Store conn.new) → IfOk result (λ known.
-        (g : Registry) (k : Kept) → SpellsWhileOpen (state S.Store conn.old) g k
-        → known ≡ option_and_then (id_of g.schemas) (option_copied identity.entry)) }
-    ensures fault { HasCleanDisk (state S.Store conn.new)
-        → IfErr result (IsFaultOver (state S.Store conn.old) (state S.Store conn.new)) }
+    ensures { MayRead db.old db.new result (λ was known.
+        known ≡ option_and_then (id_of was.registry.schemas) (option_copied identity.entry)) }
 {
     match identity {
         None => Ok(None),
-        Some(text) => id_under(conn, text),
+        Some(text) => id_under(db, text),
     }
 }
 
 /// The number of schemas, if the command looks at it.
-pub(crate) fn count_for<S: Alter>(
-    conn: &mut Connection<S>,
-    command: &Command,
-) -> Result<u32, StoreError>
-    requires idle { conn.old.in_transaction ≡ false }
-    requires unlimited { conn.old.step_limit ≡ None }
-    ensures frame { KeepsIdle S.Store conn.old conn.new }
-    ensures found { HasCleanDisk (state S.Store conn.new) → IfOk result (λ count.
-        (g : Registry) (k : Kept) → SpellsWhileOpen (state S.Store conn.old) g k
-        → IsTrue (needs_count command.now) → count ≡ length g.schemas) }
-    ensures fault { HasCleanDisk (state S.Store conn.new)
-        → IfErr result (IsFaultOver (state S.Store conn.old) (state S.Store conn.new)) }
+pub(crate) fn count_for<S: Alter>(db: &mut Idle<S>, command: &Command) -> Result<u32, StoreError>
+    ensures { MayRead db.old db.new result (λ was count.
+        IsTrue (needs_count command.now) → count ≡ length was.registry.schemas) }
 {
     if command.needs_count() {
-        count(conn)
+        count(db)
     } else {
         Ok(0)
     }
@@ -111,44 +69,32 @@ pub(crate) fn count_for<S: Alter>(
 /// The identity texts of the ids that have one.
 pub(crate) fn texts_of<S: Alter>(
     alloc: Global,
-    conn: &mut Connection<S>,
+    db: &mut Idle<S>,
     ids: &[u32],
 ) -> Result<BTreeMap<u32, String>, StoreError>
-    requires idle { conn.old.in_transaction ≡ false }
-    requires unlimited { conn.old.step_limit ≡ None }
-    ensures frame { KeepsIdle S.Store conn.old conn.new }
-    ensures found { HasCleanDisk (state S.Store conn.new) → IfOk result (λ texts.
-        (g : Registry) (k : Kept) → SpellsWhileOpen (state S.Store conn.old) g k
-        → All (HasText texts g.schemas) ids.now × AreTrueTexts texts g.schemas) }
-    ensures fault { HasCleanDisk (state S.Store conn.new)
-        → IfErr result (IsFaultOver (state S.Store conn.old) (state S.Store conn.new)) }
+    ensures { MayRead db.old db.new result (λ was texts.
+        All (HasText texts was.registry.schemas) ids.now × AreTrueTexts texts was.registry.schemas) }
 {
     let mut texts = BTreeMap::new(alloc);
     for id in ids {
-        add_text(conn, &mut texts, *id)?;
+        add_text(db, &mut texts, *id)?;
     }
     Ok(texts)
 }
 
 /// Adds the identity text of the id, if the id has one and it isn't there.
 fn add_text<S: Alter>(
-    conn: &mut Connection<S>,
+    db: &mut Idle<S>,
     texts: &mut BTreeMap<u32, String>,
     id: u32,
 ) -> Result<(), StoreError>
-    requires idle { conn.old.in_transaction ≡ false }
-    requires unlimited { conn.old.step_limit ≡ None }
-    ensures frame { KeepsIdle S.Store conn.old conn.new }
-    ensures added { HasCleanDisk (state S.Store conn.new) → OnOk result (
-        (g : Registry) (k : Kept) → SpellsWhileOpen (state S.Store conn.old) g k
-        → AddsText texts.old texts.new g.schemas id) }
-    ensures fault { HasCleanDisk (state S.Store conn.new)
-        → IfErr result (IsFaultOver (state S.Store conn.old) (state S.Store conn.new)) }
+    ensures { MayRead db.old db.new result (λ was _.
+        AddsText texts.old texts.new was.registry.schemas id) }
 {
     if texts.contains_key(&id) {
         return Ok(());
     }
-    let found = text_under(conn, id)?;
+    let found = text_under(db, id)?;
     Ok(put_text(texts, id, found)?)
 }
 

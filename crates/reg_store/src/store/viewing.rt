@@ -1,8 +1,7 @@
 //! What a command needs to know of the registry.
 
-ghost use Rattle.std.specs.Prelude.{◌≡◌, None, IfOk, IfErr, IsTrue, length, false, option_map, option_and_then, option_copied};
+ghost use Rattle.std.specs.Prelude.{◌≡◌, IfOk, IfErr, IsTrue, length, false, option_map, option_and_then, option_copied};
 ghost use Rattle.sqlite.specs.Tree.{Trees};
-ghost use Rattle.sqlite.specs.Held.{state};
 ghost use Rattle.sqlite.specs.State.{HasCleanDisk};
 ghost use Rattle.avro_nodes.specs.Identity.{identity as identity_text};
 ghost use Rattle.reg_core.specs.Registry.{Registry};
@@ -10,19 +9,20 @@ ghost use Rattle.reg_core.specs.Rows.{id_of};
 ghost use Rattle.reg_core.specs.KeptReplies.{Kept};
 ghost use Rattle.reg_core.specs.Machine.{schema_sent};
 ghost use Rattle.reg_core.specs.Views.{IsViewOf, needs_count};
-ghost use Rattle.reg_tables.specs.Frames.{StaysIdle};
 ghost use Rattle.reg_store.specs.Spells.{SpellsWhileOpen};
 ghost use Rattle.reg_store.specs.Failures.{IsFaultOver};
 ghost use Rattle.reg_store.specs.Stores.{state_of, has_failed, KeepsStore};
-ghost use Rattle.reg_store.specs.Inside.Viewing.{KeepsIdle, IsViewButTexts};
+ghost use Rattle.reg_store.specs.Inside.Viewing.{IsViewButTexts};
+ghost use Rattle.reg_store.specs.Inside.Reads.{MayRead, Reads};
 
 use crate::error::StoreError;
+use crate::idle::Idle;
 use crate::store::Store;
 use crate::store::levels::levels_for;
 use crate::store::rows::rows_for;
 use crate::store::texts::{count_for, known_for, texts_of};
 use reg_core::{Command, View, ids_read};
-use sqlite::{Alter, Connection};
+use sqlite::Alter;
 use std::alloc::Global;
 use std::collections::BTreeMap;
 
@@ -50,7 +50,7 @@ impl<S: Alter> Store<S> {
         if self.failed {
             return Err(StoreError::Disk);
         }
-        let view = view_for(self.alloc, &mut self.conn, command, identity);
+        let view = view_for(self.alloc, &mut self.db, command, identity);
         self.failed = matches!(view, Err(StoreError::Disk));
         view
     }
@@ -59,23 +59,17 @@ impl<S: Alter> Store<S> {
 /// The view that the command needs.
 fn view_for<S: Alter>(
     alloc: Global,
-    conn: &mut Connection<S>,
+    db: &mut Idle<S>,
     command: &Command,
     identity: Option<&str>,
 ) -> Result<View, StoreError>
-    requires idle { conn.old.in_transaction ≡ false }
-    requires unlimited { conn.old.step_limit ≡ None }
-    ensures frame { StaysIdle S.Store conn.old conn.new result }
-    ensures view { HasCleanDisk (state S.Store conn.new) → IfOk result (λ view.
-        (g : Registry) (k : Kept) → SpellsWhileOpen (state S.Store conn.old) g k
-        → option_copied identity.entry ≡ option_map identity_text (schema_sent command.now)
-        → IsViewOf view g command.now) }
-    ensures fault { HasCleanDisk (state S.Store conn.new)
-        → IfErr result (IsFaultOver (state S.Store conn.old) (state S.Store conn.new)) }
+    ensures { Reads db.old db.new result (λ was view.
+        option_copied identity.entry ≡ option_map identity_text (schema_sent command.now)
+        → IsViewOf view was.registry command.now) }
 {
-    let mut view = view_but_texts(alloc, conn, command, identity)?;
+    let mut view = view_but_texts(alloc, db, command, identity)?;
     let ids = ids_read(alloc, command, &view)?;
-    let texts = texts_of(alloc, conn, ids.as_slice())?;
+    let texts = texts_of(alloc, db, ids.as_slice())?;
     view.texts = texts;
     Ok(view)
 }
@@ -83,23 +77,17 @@ fn view_for<S: Alter>(
 /// The view that the command needs, but with no texts.
 fn view_but_texts<S: Alter>(
     alloc: Global,
-    conn: &mut Connection<S>,
+    db: &mut Idle<S>,
     command: &Command,
     identity: Option<&str>,
 ) -> Result<View, StoreError>
-    requires idle { conn.old.in_transaction ≡ false }
-    requires unlimited { conn.old.step_limit ≡ None }
-    ensures frame { StaysIdle S.Store conn.old conn.new result }
-    ensures view { HasCleanDisk (state S.Store conn.new) → IfOk result (λ view.
-        (g : Registry) (k : Kept) → SpellsWhileOpen (state S.Store conn.old) g k
-        → option_copied identity.entry ≡ option_map identity_text (schema_sent command.now)
-        → IsViewButTexts view g command.now) }
-    ensures fault { HasCleanDisk (state S.Store conn.new)
-        → IfErr result (IsFaultOver (state S.Store conn.old) (state S.Store conn.new)) }
+    ensures { Reads db.old db.new result (λ was view.
+        option_copied identity.entry ≡ option_map identity_text (schema_sent command.now)
+        → IsViewButTexts view was.registry command.now) }
 {
-    let levels = levels_for(conn, command)?;
-    let rows = rows_for(alloc, conn, command)?;
-    let ids = ids_for(conn, command, identity)?;
+    let levels = levels_for(db, command)?;
+    let rows = rows_for(alloc, db, command)?;
+    let ids = ids_for(db, command, identity)?;
     Ok(View {
         rows,
         texts: BTreeMap::new(alloc),
@@ -113,21 +101,15 @@ fn view_but_texts<S: Alter>(
 /// The id of the schema with the identity text that is given, if one is and there is one, and the
 /// number of schemas, if the command looks at it.
 fn ids_for<S: Alter>(
-    conn: &mut Connection<S>,
+    db: &mut Idle<S>,
     command: &Command,
     identity: Option<&str>,
 ) -> Result<(Option<u32>, u32), StoreError>
-    requires idle { conn.old.in_transaction ≡ false }
-    requires unlimited { conn.old.step_limit ≡ None }
-    ensures frame { KeepsIdle S.Store conn.old conn.new }
-    ensures found { HasCleanDisk (state S.Store conn.new) → IfOk result (λ found.
-        (g : Registry) (k : Kept) → SpellsWhileOpen (state S.Store conn.old) g k
-        → (found.0 ≡ option_and_then (id_of g.schemas) (option_copied identity.entry))
-        × (IsTrue (needs_count command.now) → found.1 ≡ length g.schemas)) }
-    ensures fault { HasCleanDisk (state S.Store conn.new)
-        → IfErr result (IsFaultOver (state S.Store conn.old) (state S.Store conn.new)) }
+    ensures { MayRead db.old db.new result (λ was found.
+        (found.0 ≡ option_and_then (id_of was.registry.schemas) (option_copied identity.entry))
+        × (IsTrue (needs_count command.now) → found.1 ≡ length was.registry.schemas)) }
 {
-    let known = known_for(conn, identity)?;
-    let count = count_for(conn, command)?;
+    let known = known_for(db, identity)?;
+    let count = count_for(db, command)?;
     Ok((known, count))
 }

@@ -8,7 +8,6 @@ use Rattle.reg_tables.specs.declared.lines.VersionLine.{VersionLine}
 use Rattle.reg_tables.specs.declared.lines.LevelLine.{LevelLine}
 use Rattle.reg_tables.specs.declared.lines.KeptLine.{KeptLine}
 use Rattle.reg_tables.specs.declared.lines.MetaLine.{MetaLine}
-use Rattle.reg_tables.specs.Layout.{texts, versions, levels, kept, meta}
 use Rattle.reg_tables.specs.Contents.{text_cmp, version_cmp, Contents}
 use Rattle.reg_tables.specs.Listings.{HasNoTwins, ListsKept, ListsLevels, ListsMeta, ListsTexts, ListsVersions, kept_entry, level_entry, meta_entry, text_entry, version_entry, without_rowid}
 

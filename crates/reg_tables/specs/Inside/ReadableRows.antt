@@ -2,8 +2,6 @@
 use Rattle.std.specs.Prelude.{◌≡◌, ℕ, ◌<◌, ◌^◌, ℤ, pos, List, [], ◌∷◌, IsUtf8}
 use Rattle.sqlite.specs.declared.types.Value.TheVariants.{Int, Text}
 use Rattle.sqlite.specs.Order.{Row}
-use Rattle.sqlite.specs.Tree.{rowid}
-use Rattle.reg_tables.specs.Layout.{texts}
 use Rattle.reg_tables.specs.Contents.{VersionRow, KeptRow, version_cells, kept_cells, IsReadableReply}
 
 pub record IsReadableId (row : Row) : Type 0 where

@@ -1,43 +1,9 @@
-use Rattle.std.proofs.Common.{◌∙◌, inl, refl, None, Some, ap, slice_get, List, [], ◌∷◌, codes}
-use Rattle.sqlite.specs.Order.{Row}
-use Rattle.sqlite.specs.Held.{state}
-use Rattle.reg_tables.specs.Layout.{layout}
-use Rattle.reg_tables.specs.Frames.{once_begun}
-use Rattle.reg_tables.proofs.TableReads.{finds_meta, read_back, text_read}
-use Rattle.reg_tables.proofs.Faults.{takes_meta, query_faults, read_fault_until, memory_is_fault, passed_on}
-use Rattle.reg_tables.proofs.Statements.{find_meta, find_meta_is}
-use Rattle.sqlite.specs.declared.types.Value.TheVariants.{Text}
+use Rattle.std.proofs.Common.{refl, codes}
+use Rattle.reg_tables.proofs.Transactions.{if_ok, if_err}
 use Rattle.reg_tables.proofs.meta.global_level.Goals as goal
 
-pub returns-in-None-clause-found : goal.returns-in-None-clause-found
-returns-in-None-clause-found g c clean contents holds =
-    let shown = c.in_ok-rows.ensures.shown clean in
-    finds_meta (once_begun g.S.Store c.args.conn.now) (state g.S.Store shown.0) layout contents holds (inl refl) (codes "global") c.in_ok-rows.rows.items None
-    (c.in-None.ensures.value ∙ ap (λ (l : List Row). slice_get l 0) c.deref.ensures.value) (rw c.params-to_sql.ensures at shown.1)
-
 pub returns-clause-found : goal.returns-clause-found
-returns-clause-found g c clean contents holds =
-    let shown = c.in_ok-rows.ensures.shown clean in
-    let found = finds_meta (once_begun g.S.Store c.args.conn.now) (state g.S.Store shown.0) layout contents holds (inl refl) (codes "global") c.in_ok-rows.rows.items (Some c.in-Some.row.now)
-    (c.in-Some.ensures.value ∙ ap (λ (l : List Row). slice_get l 0) c.deref.ensures.value) (rw c.params-to_sql.ensures at shown.1) in
-    found.1 ∙ ap Some (read_back c.in-Some.row.now found.0 _ found.2 c.in_ok-get-in-Some.ensures.ok.1)
+returns-clause-found g c clean = if_ok c.find.result (λ found is. is (codes "global") (rw c.params-to_sql.ensures refl)) (c.find.ensures.found clean)
 
-pub returns-in_err-rows-clause-fault : goal.returns-in_err-rows-clause-fault
-returns-in_err-rows-clause-fault g c clean =
-    let failed = c.in_err-rows.ensures.failed clean in
-    passed_on (state g.S.Store c.args.conn.now) (state g.S.Store c.ask.new.conn) c.from_residual.result c.in_err-rows.field-0.0 c.from_residual.ensures.1
-    (λ can.
-    read_fault_until (once_begun g.S.Store c.args.conn.now) (state g.S.Store failed.0) (state g.S.Store c.ask.new.conn) failed.1 c.in_err-rows.field-0.0 (query_faults find_meta find_meta_is (Text (codes "global") ∷ []) (takes_meta (codes "global")) (once_begun g.S.Store c.args.conn.now)
-    (state g.S.Store failed.0) can c.in_err-rows.field-0.0 (rw c.params-to_sql.ensures at failed.2)))
-
-pub returns-in_err-get-in-Some-clause-fault : goal.returns-in_err-get-in-Some-clause-fault
-returns-in_err-get-in-Some-clause-fault g c clean =
-    let shown = c.in_ok-rows.ensures.shown clean in
-    let it = c.in_err-get-in-Some.ensures in
-    passed_on (state g.S.Store c.args.conn.now) (state g.S.Store c.ask.new.conn) c.from_residual-in_err-get-in-Some.result c.in_err-get-in-Some.field-0.0 c.from_residual-in_err-get-in-Some.ensures.1
-    (λ can.
-    let there = can (c.in_ok-rows.ensures.frame.was_open clean) in
-    let found = finds_meta (once_begun g.S.Store c.args.conn.now) (state g.S.Store shown.0) there.schema there.contents there.holds there.is_layout (codes "global") c.in_ok-rows.rows.items (Some c.in-Some.row.now)
-    (c.in-Some.ensures.value ∙ ap (λ (l : List Row). slice_get l 0) c.deref.ensures.value) (rw c.params-to_sql.ensures at shown.1) in
-    memory_is_fault (state g.S.Store c.args.conn.now) (state g.S.Store c.ask.new.conn) c.in_err-get-in-Some.field-0.0
-    (text_read c.in-Some.row.now found.0 c.in_err-get-in-Some.field-0.0 found.2 (there.readable.meta (codes "global") found.0 found.1).1 it.named it.kind))
+pub returns-clause-fault : goal.returns-clause-fault
+returns-clause-fault g c clean = if_err c.find.result (λ e fault. fault (codes "global") (rw c.params-to_sql.ensures refl)) (c.find.ensures.fault clean)

@@ -1,31 +1,15 @@
-use Rattle.sqlite.specs.Held.{state}
+use Rattle.std.proofs.Common.{refl}
 use Rattle.reg_tables.proofs.Transactions.{on_ok, if_err}
-use Rattle.reg_tables.proofs.TableWrites.{puts_meta, puts_meta_rooms}
-use Rattle.reg_tables.proofs.WriteFaults.{or_insert_fault, as_write_fault}
-use Rattle.reg_tables.proofs.FailedWrites.{put_meta_fails, put_meta_faults}
 use Rattle.reg_tables.proofs.meta.put_meta.Goals as goal
 
 pub returns-clause-put : goal.returns-clause-put
-returns-clause-put g c clean =
-    on_ok c.run.result (λ ran contents holds free.
-    puts_meta (state g.S.Store c.args.tx.now.conn.now) (state g.S.Store c.run.new.tx.conn.now) ran.0 contents holds c.args.name.now c.args.value.now free
-    (rw (c.params-to_sql.ensures, c.params-to_sql-2.ensures) at ran.1.0)) (c.run.ensures.runs clean)
+returns-clause-put g c clean = on_ok c.put.result (λ put. put c.args.name.now c.args.value.now (rw (c.params-to_sql.ensures, c.params-to_sql-2.ensures) refl)) (c.put.ensures.put clean)
 
 pub returns-clause-fault : goal.returns-clause-fault
-returns-clause-fault g c clean =
-    let first = state g.S.Store c.args.tx.now.conn.now in
-    if_err c.run.result (λ e failed contents holds free. or_insert_fault first (state g.S.Store c.run.new.tx.conn.now) e (put_meta_fails first (state g.S.Store c.run.new.tx.conn.now) contents holds e c.args.name.now c.args.value.now free)
-    (rw (c.params-to_sql.ensures, c.params-to_sql-2.ensures) at failed)) (c.run.ensures.failed clean)
+returns-clause-fault g c clean = if_err c.put.result (λ e fault contents holds free. fault c.args.name.now c.args.value.now (rw (c.params-to_sql.ensures, c.params-to_sql-2.ensures) refl) contents holds free refl) (c.put.ensures.fault clean)
 
 pub returns-clause-room : goal.returns-clause-room
-returns-clause-room g c clean =
-    on_ok c.run.result (λ ran contents holds free n rooms.
-    puts_meta_rooms (state g.S.Store c.args.tx.now.conn.now) (state g.S.Store c.run.new.tx.conn.now) ran.0 contents holds c.args.name.now c.args.value.now free
-    (rw (c.params-to_sql.ensures, c.params-to_sql-2.ensures) at ran.1.0) n rooms) (c.run.ensures.runs clean)
+returns-clause-room g c clean = on_ok c.put.result (λ room. room c.args.name.now c.args.value.now (rw (c.params-to_sql.ensures, c.params-to_sql-2.ensures) refl)) (c.put.ensures.room clean)
 
 pub returns-clause-fits : goal.returns-clause-fits
-returns-clause-fits g c clean =
-    let first = state g.S.Store c.args.tx.now.conn.now in
-    let last = state g.S.Store c.run.new.tx.conn.now in
-    if_err c.run.result (λ e failed contents holds free n rooms stored. as_write_fault first last e (λ ran. put_meta_faults first last contents holds e c.args.name.now c.args.value.now free ran n rooms.meta stored)
-    (rw (c.params-to_sql.ensures, c.params-to_sql-2.ensures) at failed)) (c.run.ensures.failed clean)
+returns-clause-fits g c clean = if_err c.put.result (λ e fits contents holds free. fits c.args.name.now c.args.value.now (rw (c.params-to_sql.ensures, c.params-to_sql-2.ensures) refl) contents holds free refl) (c.put.ensures.fits clean)

@@ -2,7 +2,7 @@ use Rattle.std.proofs.Common.{[]}
 use Rattle.sqlite.specs.Held.{state}
 use Rattle.reg_tables.specs.Inside.ReadableRows.{IsReadableId}
 use Rattle.reg_tables.proofs.Faults.{takes_all_ids}
-use Rattle.reg_tables.proofs.Statements.{all_ids, all_ids_is, laid_out}
+use Rattle.reg_tables.proofs.Statements.{all_ids, all_ids_is}
 use Rattle.reg_tables.proofs.TableLines.{list_fault}
 use Rattle.reg_tables.proofs.TextLines.{lists_ids, readable_ids}
 use Rattle.reg_tables.proofs.Transactions.{if_ok, if_err}

@@ -21,7 +21,7 @@ loop-delivery-init g c =
       clean = λ h. h;
       served = λ h. none_over _;
       keeps = keeps_open (state_in c.args.self.now);
-      crash = λ h registry k over db it. found_none registry k db (leaves_open (state_in c.args.self.now) registry k db (g.met.S.Store.settled c.args.self.now.store.conn.store db) over it);
+      crash = λ h registry k over db it. found_none registry k db (leaves_open (state_in c.args.self.now) registry k db (g.met.S.Store.settled c.args.self.now.store.db.conn.store db) over it);
     }
 
 pub loop-delivery-preserved : goal.loop-delivery-preserved
@@ -61,10 +61,10 @@ returns-clause-crash g c clean registry k over db it =
     subst (λ (list : List Delivery). IsFoundAfter registry k (zip list c.loop-delivery.replies.items) db) all (c.loop-delivery.invariant.crash clean registry k over db it)
 
 pub returns-in_err-replies-clause-settled : goal.returns-in_err-replies-clause-settled
-returns-in_err-replies-clause-settled g c registry k over db it = leaves_open (state_in c.args.self.now) registry k db (g.met.S.Store.settled c.args.self.now.store.conn.store db) over it
+returns-in_err-replies-clause-settled g c registry k over db it = leaves_open (state_in c.args.self.now) registry k db (g.met.S.Store.settled c.args.self.now.store.db.conn.store db) over it
 
 pub returns-clause-settled : goal.returns-clause-settled
-returns-clause-settled g c registry k over db it = leaves_open (state_in c.loop-delivery.self) registry k db (g.met.S.Store.settled c.loop-delivery.self.store.conn.store db) over it
+returns-clause-settled g c registry k over db it = leaves_open (state_in c.loop-delivery.self) registry k db (g.met.S.Store.settled c.loop-delivery.self.store.db.conn.store db) over it
 
 pub returns-clause-admitted : goal.returns-clause-admitted
 returns-clause-admitted g c clean registry k over = all_admitted registry k over.spells.spelled.registry _

@@ -36,19 +36,19 @@ pub returns-in_default-clause-crash : goal.returns-in_default-clause-crash
 returns-in_default-clause-crash g c clean registry k over db it =
     let old = state_in c.args.self.now in
     found_keyless registry k c.args.delivery.now db old (state_in c.carry_out.new.self) c.carry_out.result (sym c.in_default.ensures)
-    (leaves_open old registry k db (g.met.S.Store.settled c.args.self.now.store.conn.store db) over) (λ _. over)
+    (leaves_open old registry k db (g.met.S.Store.settled c.args.self.now.store.db.conn.store db) over) (λ _. over)
     (c.carry_out.ensures.done clean) c.carry_out.ensures.own (c.carry_out.ensures.crash clean registry k over db it)
 
 pub returns-in_err-text-clause-crash : goal.returns-in_err-text-clause-crash
 returns-in_err-text-clause-crash g c clean registry k over db it =
     let none : OnOk c.from_residual.result ⊥ = search rules in
-    found_failed registry k c.args.delivery.now db c.from_residual.result none (leaves_open (state_in c.args.self.now) registry k db (g.met.S.Store.settled c.args.self.now.store.conn.store db) over it)
+    found_failed registry k c.args.delivery.now db c.from_residual.result none (leaves_open (state_in c.args.self.now) registry k db (g.met.S.Store.settled c.args.self.now.store.db.conn.store db) over it)
 
 pub returns-in_err-kept-clause-crash : goal.returns-in_err-kept-clause-crash
 returns-in_err-kept-clause-crash g c clean registry k over db it =
     let none : OnOk c.from_residual-in_err-kept.result ⊥ = search rules in
     found_failed registry k c.args.delivery.now db c.from_residual-in_err-kept.result none
-    (leaves_open (state_in c.args.self.now) registry k db (g.met.S.Store.settled c.args.self.now.store.conn.store db) over (c.kept.ensures.crash clean db it))
+    (leaves_open (state_in c.args.self.now) registry k db (g.met.S.Store.settled c.args.self.now.store.db.conn.store db) over (c.kept.ensures.crash clean db it))
 
 pub returns-in-Some-2-clause-crash : goal.returns-in-Some-2-clause-crash
 returns-in-Some-2-clause-crash g c clean registry k over db it =
@@ -56,7 +56,7 @@ returns-in-Some-2-clause-crash g c clean registry k over db it =
     let has : k c.in-Some.key.now ≡ Some (entry_told (string_bytes c.in-Some-2.kept) c.in-Some-2.reply) = rw c.in-Some-2.is at (c.in_ok-kept.ensures.found clean registry k (λ _. over)) in
     found_again registry k c.args.delivery.now db c.in-Some.key.now c.as_str.result.now (entry_told (string_bytes c.in-Some-2.kept) c.in-Some-2.reply) c.answer_again.result (sym c.in-Some.ensures) text has
     c.answer_again.ensures.same c.answer_again.ensures.other
-    (leaves_open (state_in c.args.self.now) registry k db (g.met.S.Store.settled c.args.self.now.store.conn.store db) over (c.in_ok-kept.ensures.crash clean db it))
+    (leaves_open (state_in c.args.self.now) registry k db (g.met.S.Store.settled c.args.self.now.store.db.conn.store db) over (c.in_ok-kept.ensures.crash clean db it))
 
 pub returns-clause-crash : goal.returns-clause-crash
 returns-clause-crash g c clean registry k over db it =
@@ -65,5 +65,5 @@ returns-clause-crash g c clean registry k over db it =
     let fresh : k c.in-Some.key.now ≡ None = rw c.in-None.is at (c.in_ok-kept.ensures.found early registry k (λ _. over)) in
     let mid = c.in_ok-kept.ensures.same early registry k (λ _. over) in
     found_first registry k c.args.delivery.now db (state_of c.kept.new.self) (state_in c.answer_first.new.self) c.answer_first.result c.in-Some.key.now c.as_str-in-None.result.now (sym c.in-Some.ensures) text fresh
-    (λ was. leaves_open (state_in c.args.self.now) registry k db (g.met.S.Store.settled c.args.self.now.store.conn.store db) over (c.in_ok-kept.ensures.crash early db was)) mid
+    (λ was. leaves_open (state_in c.args.self.now) registry k db (g.met.S.Store.settled c.args.self.now.store.db.conn.store db) over (c.in_ok-kept.ensures.crash early db was)) mid
     (c.answer_first.ensures.done clean) c.answer_first.ensures.own (c.answer_first.ensures.crash clean registry k mid fresh db it)

@@ -1,6 +1,11 @@
-use Rattle.sqlite.specs.Held.{state}
-use Rattle.reg_store.proofs.ReadBack.{reads_on}
+use Rattle.reg_store.proofs.ReadLemmas.{told, faulted, same}
 use Rattle.reg_store.proofs.store.Store.kept.Goals as goal
 
+pub returns-clause-found : goal.returns-clause-found
+returns-clause-found g c = told c.kept_under-found.ensures
+
+pub returns-clause-fault : goal.returns-clause-fault
+returns-clause-fault g c clean unfailed = faulted c.kept_under-found.ensures clean
+
 pub returns-clause-same : goal.returns-clause-same
-returns-clause-same g c clean registry k = reads_on (state g.S.Store c.args.self.now.conn) (state g.S.Store c.kept_under-found.new.conn) registry k (c.kept_under-found.ensures.frame.only_reads clean)
+returns-clause-same g c = same c.kept_under-found.ensures

@@ -1,6 +1,11 @@
-use Rattle.sqlite.specs.Held.{state}
-use Rattle.reg_store.proofs.ReadBack.{reads_on}
+use Rattle.reg_store.proofs.ReadLemmas.{told, faulted, same}
 use Rattle.reg_store.proofs.store.Store.text_of.Goals as goal
 
+pub returns-clause-found : goal.returns-clause-found
+returns-clause-found g c = told c.text_under-text.ensures
+
+pub returns-clause-fault : goal.returns-clause-fault
+returns-clause-fault g c clean unfailed = faulted c.text_under-text.ensures clean
+
 pub returns-clause-same : goal.returns-clause-same
-returns-clause-same g c clean registry k = reads_on (state g.S.Store c.args.self.now.conn) (state g.S.Store c.text_under-text.new.conn) registry k (c.text_under-text.ensures.frame.only_reads clean)
+returns-clause-same g c = same c.text_under-text.ensures

@@ -2,7 +2,7 @@ use Rattle.std.proofs.Common.{true, ◌≡◌, ◌⊎◌, ◌+◌, ℕ, length, 
 use Rattle.std.specs.Prelude.{IsTrue}
 use Rattle.sqlite.specs.Tree.{Trees}
 use Rattle.sqlite.specs.Held.{Held, state}
-use Rattle.sqlite.specs.State.{HasCleanDisk, Survives, KeepsCommit}
+use Rattle.sqlite.specs.State.{HasCleanDisk}
 use Rattle.sqlite.proofs.StateLemmas.{survives_then}
 use Rattle.sqlite.proofs.Callers.{survives_begin}
 use Rattle.reg_core.specs.Registry.{Registry}
@@ -23,7 +23,6 @@ use Rattle.reg_store.proofs.store.applying.commit_all.Goals as goal
 pub returns-clause-done : goal.returns-clause-done
 returns-clause-done g c clean =
     let end = c.commit.new.self.0 in
-    let same : end ≡ c.conn-2-1.given.0 = search rules in
     let last = state g.S.Store c.keep_reply.new.tx.conn.now in
     let late : HasCleanDisk (state g.S.Store end) = search rules in
     let clean_last : HasCleanDisk last = omega (arith, c.commit.ensures.survives.clean) in
@@ -39,13 +38,12 @@ returns-clause-done g c clean =
     let put = c.in_ok-keep_reply.ensures.put clean_last after k made fresh in
     let all : IsOpenOver (state g.S.Store end) after kept =
     record { is_open = done.1.is_open; settled = done.1.committed_is ∙ sym done.1.now_is; spells = subst (λ d. Spells d after kept) (sym done.1.now_is) put } in
-    subst (λ h. IsOpenOver (state g.S.Store h) after kept) same all) (c.commit.ensures.ok late)
+    all) (c.commit.ensures.ok late)
 
 pub returns-clause-survives : goal.returns-clause-survives
 returns-clause-survives g c =
     let end = c.commit.new.self.0 in
-    let same : end ≡ c.conn-2-1.given.0 = search rules in
-    let first = state g.S.Store c.args.conn.now in
+    let first = state g.S.Store c.args.db.now.conn in
     let begun = state g.S.Store c.transaction-tx.result.conn.now in
     let mid = state g.S.Store c.make_all.new.tx.conn.now in
     let last = state g.S.Store c.keep_reply.new.tx.conn.now in
@@ -67,24 +65,24 @@ returns-clause-survives g c =
     let put = c.in_ok-keep_reply.ensures.put clean_last (after_changes c.args.changes.now registry) k made fresh in
     leaves_if_spelled db last.now (after_changes c.args.changes.now registry) (with_reply c.args.keep k) is put in
     let whole = survives_then first last (state g.S.Store end) _ _ P (λ _ db none. absurd none) commits
-    (survives_begin g.S.Store c.args.conn.now last _ (rw c.transaction-tx.ensures.begun at inside)) c.commit.ensures.survives in
-    subst (λ h. Survives first (state g.S.Store h) P) same whole
+    (survives_begin g.S.Store c.args.db.now.conn last _ (rw c.transaction-tx.ensures.begun at inside)) c.commit.ensures.survives in
+    whole
 
 pub returns-in_err-make_all-clause-fault : goal.returns-in_err-make_all-clause-fault
 returns-in_err-make_all-clause-fault g c clean =
-    let first = state g.S.Store c.args.conn.now in
+    let first = state g.S.Store c.args.db.now.conn in
     let begun = state g.S.Store c.transaction-tx.result.conn.now in
     let is = c.transaction-tx.ensures.begun in
     let e = c.in_err-make_all.field-0.0 in
     let late : HasCleanDisk (state g.S.Store c.drop-tx.new.self.0) = search rules in
     let clean_mid : HasCleanDisk (state g.S.Store c.make_all.new.tx.conn.now) = omega (arith, c.drop-tx.ensures.survives.clean) in
     erred_with c.from_residual.result e (λ e. (registry : Registry) (k : Kept) → SpellsWhileOpen first registry k → IsNewTo k c.args.keep → ChangesFit c.args.changes.now registry → IsTrue (is_fault (failure_of e))) c.from_residual.ensures.1
-    (λ registry k over fresh fits. is_fault_of_insert begun (state g.S.Store c.make_all.new.tx.conn.now) e (ap (λ (h : Held _). h.step_limit) is ∙ c.requires.unlimited) (ap (λ (h : Held _). h.in_transaction) is)
-    (c.in_err-make_all.ensures.fault clean_mid registry k (begun_spells g.S.Store c.args.conn.now c.transaction-tx.result.conn.now is registry k over) fits))
+    (λ registry k over fresh fits. is_fault_of_insert begun (state g.S.Store c.make_all.new.tx.conn.now) e (ap (λ (h : Held _). h.step_limit) is ∙ c.args.db.now.unlimited) (ap (λ (h : Held _). h.in_transaction) is)
+    (c.in_err-make_all.ensures.fault clean_mid registry k (begun_spells g.S.Store c.args.db.now.conn c.transaction-tx.result.conn.now is registry k over) fits))
 
 pub returns-in_err-keep_reply-clause-fault : goal.returns-in_err-keep_reply-clause-fault
 returns-in_err-keep_reply-clause-fault g c clean =
-    let first = state g.S.Store c.args.conn.now in
+    let first = state g.S.Store c.args.db.now.conn in
     let begun = state g.S.Store c.transaction-tx.result.conn.now in
     let mid = state g.S.Store c.make_all.new.tx.conn.now in
     let is = c.transaction-tx.ensures.begun in
@@ -94,8 +92,8 @@ returns-in_err-keep_reply-clause-fault g c clean =
     let clean_mid : HasCleanDisk mid = omega (arith, c.keep_reply.ensures.frame.survives.clean) in
     erred_with c.from_residual-in_err-keep_reply.result e (λ e. (registry : Registry) (k : Kept) → SpellsWhileOpen first registry k → IsNewTo k c.args.keep → ChangesFit c.args.changes.now registry → IsTrue (is_fault (failure_of e))) c.from_residual-in_err-keep_reply.ensures.1
     (λ registry k over fresh fits.
-    let spelled = begun_spells g.S.Store c.args.conn.now c.transaction-tx.result.conn.now is registry k over in
-    is_fault_of_insert begun (state g.S.Store c.keep_reply.new.tx.conn.now) e (ap (λ (h : Held _). h.step_limit) is ∙ c.requires.unlimited) (ap (λ (h : Held _). h.in_transaction) is)
+    let spelled = begun_spells g.S.Store c.args.db.now.conn c.transaction-tx.result.conn.now is registry k over in
+    is_fault_of_insert begun (state g.S.Store c.keep_reply.new.tx.conn.now) e (ap (λ (h : Held _). h.step_limit) is ∙ c.args.db.now.unlimited) (ap (λ (h : Held _). h.in_transaction) is)
     (fault_later begun mid (state g.S.Store c.keep_reply.new.tx.conn.now) c.make_all.ensures.frame.survives clean_mid c.keep_reply.ensures.frame.survives.counts (c.in_ok-make_all.ensures.goes_on clean_mid) e
     (c.in_err-keep_reply.ensures.fault clean_last (after_changes c.args.changes.now registry) k
     (λ is_open. c.in_ok-make_all.ensures.made clean_mid registry k (spelled ((c.make_all.ensures.frame.commit_stays clean_mid).was_open is_open)) fits) fresh)))
@@ -110,7 +108,7 @@ returns-clause-fault g c clean =
     let late : HasCleanDisk end = search rules in
     let clean_last : HasCleanDisk last = omega (arith, c.commit.ensures.survives.clean) in
     let clean_mid : HasCleanDisk mid = omega (arith, c.keep_reply.ensures.frame.survives.clean) in
-    let unlimited = c.keep_reply.ensures.frame.survives.limit ∙ c.make_all.ensures.frame.survives.limit ∙ ap (λ (h : Held _). h.step_limit) is ∙ c.requires.unlimited in
+    let unlimited = c.keep_reply.ensures.frame.survives.limit ∙ c.make_all.ensures.frame.survives.limit ∙ ap (λ (h : Held _). h.step_limit) is ∙ c.args.db.now.unlimited in
     let inside = still_inside mid last (still_inside begun mid (ap (λ (h : Held _). h.in_transaction) is) (c.in_ok-make_all.ensures.goes_on clean_mid)) (c.in_ok-keep_reply.ensures.goes_on clean_last) in
     if_err c.commit.result (λ e fails registry k over fresh fits. fault_if_by last end _ (fault_of_commit last end e unlimited inside fails)) (c.commit.ensures.err late)
 
@@ -126,47 +124,44 @@ returns-clause-was_open g c clean =
 pub returns-in_err-make_all-clause-nothing : goal.returns-in_err-make_all-clause-nothing
 returns-in_err-make_all-clause-nothing g c clean =
     let end = c.drop-tx.new.self.0 in
-    let same : end ≡ c.conn-1.given.0 = search rules in
     let late : HasCleanDisk (state g.S.Store end) = search rules in
-    let first = state g.S.Store c.args.conn.now in
+    let first = state g.S.Store c.args.db.now.conn in
     let begun = state g.S.Store c.transaction-tx.result.conn.now in
     let mid = state g.S.Store c.make_all.new.tx.conn.now in
     let clean_mid : HasCleanDisk mid = omega (arith, c.drop-tx.ensures.survives.clean) in
-    let all = keeps_begin g.S.Store c.args.conn.now c.transaction-tx.result.conn.now (state g.S.Store end) c.transaction-tx.ensures.begun
+    let all = keeps_begin g.S.Store c.args.db.now.conn c.transaction-tx.result.conn.now (state g.S.Store end) c.transaction-tx.ensures.begun
     (keeps_then begun mid (state g.S.Store end) (c.make_all.ensures.frame.commit_stays clean_mid) (keeps_if_undone mid (state g.S.Store end) (c.drop-tx.ensures.undone late))) in
-    on_err_each c.from_residual.result (subst (λ h. KeepsCommit first (state g.S.Store h)) same all)
+    on_err_each c.from_residual.result all
 
 pub returns-in_err-keep_reply-clause-nothing : goal.returns-in_err-keep_reply-clause-nothing
 returns-in_err-keep_reply-clause-nothing g c clean =
     let end = c.drop-tx-in_err-keep_reply.new.self.0 in
-    let same : end ≡ c.conn-in_err-keep_reply-1.given.0 = search rules in
     let late : HasCleanDisk (state g.S.Store end) = search rules in
-    let first = state g.S.Store c.args.conn.now in
+    let first = state g.S.Store c.args.db.now.conn in
     let begun = state g.S.Store c.transaction-tx.result.conn.now in
     let mid = state g.S.Store c.make_all.new.tx.conn.now in
     let last = state g.S.Store c.keep_reply.new.tx.conn.now in
     let clean_last : HasCleanDisk last = omega (arith, c.drop-tx-in_err-keep_reply.ensures.survives.clean) in
     let clean_mid : HasCleanDisk mid = omega (arith, c.keep_reply.ensures.frame.survives.clean) in
     let ended = keeps_if_undone last (state g.S.Store end) (c.drop-tx-in_err-keep_reply.ensures.undone late) in
-    let all = keeps_begin g.S.Store c.args.conn.now c.transaction-tx.result.conn.now (state g.S.Store end) c.transaction-tx.ensures.begun
+    let all = keeps_begin g.S.Store c.args.db.now.conn c.transaction-tx.result.conn.now (state g.S.Store end) c.transaction-tx.ensures.begun
     (keeps_then begun mid (state g.S.Store end) (c.make_all.ensures.frame.commit_stays clean_mid) (keeps_then mid last (state g.S.Store end) (c.keep_reply.ensures.frame.commit_stays clean_last) ended)) in
-    on_err_each c.from_residual-in_err-keep_reply.result (subst (λ h. KeepsCommit first (state g.S.Store h)) same all)
+    on_err_each c.from_residual-in_err-keep_reply.result all
 
 pub returns-clause-nothing : goal.returns-clause-nothing
 returns-clause-nothing g c clean =
     let end = c.commit.new.self.0 in
-    let same : end ≡ c.conn-2-1.given.0 = search rules in
     let late : HasCleanDisk (state g.S.Store end) = search rules in
-    let first = state g.S.Store c.args.conn.now in
+    let first = state g.S.Store c.args.db.now.conn in
     let begun = state g.S.Store c.transaction-tx.result.conn.now in
     let mid = state g.S.Store c.make_all.new.tx.conn.now in
     let last = state g.S.Store c.keep_reply.new.tx.conn.now in
     let clean_last : HasCleanDisk last = omega (arith, c.commit.ensures.survives.clean) in
     let clean_mid : HasCleanDisk mid = omega (arith, c.keep_reply.ensures.frame.survives.clean) in
     on_err c.commit.result (λ e fails.
-    let all = keeps_begin g.S.Store c.args.conn.now c.transaction-tx.result.conn.now (state g.S.Store end) c.transaction-tx.ensures.begun
+    let all = keeps_begin g.S.Store c.args.db.now.conn c.transaction-tx.result.conn.now (state g.S.Store end) c.transaction-tx.ensures.begun
     (keeps_then begun mid (state g.S.Store end) (c.make_all.ensures.frame.commit_stays clean_mid) (keeps_then mid last (state g.S.Store end) (c.keep_reply.ensures.frame.commit_stays clean_last) (keeps_if_failed last (state g.S.Store end) e fails))) in
-    subst (λ h. KeepsCommit first (state g.S.Store h)) same all) (c.commit.ensures.err late)
+    all) (c.commit.ensures.err late)
 
 -- the transaction's connection shows the rooms that the connection did
 begun_rooms : {S : Type 0} (g : Ghosts S) (conn begun : Held S) → begun ≡ record conn { in_transaction = true } → (n : ℕ) → (IsTrue (state g conn).is_open → HasRooms (state g conn).now n) → IsTrue (state g begun).is_open → HasRooms (state g begun).now n
@@ -174,38 +169,35 @@ begun_rooms g conn begun is n rooms is_open = subst (λ h. HasRooms (state g h).
 
 pub returns-in_err-make_all-clause-fits : goal.returns-in_err-make_all-clause-fits
 returns-in_err-make_all-clause-fits g c clean =
-    let conn = c.args.conn.now in
+    let conn = c.args.db.now.conn in
     let begun = c.transaction-tx.result.conn.now in
     let last = c.make_all.new.tx.conn.now in
     let end = c.drop-tx.new.self.0 in
-    let same : end ≡ c.conn-1.given.0 = search rules in
     let is = c.transaction-tx.ensures.begun in
     let e = c.in_err-make_all.field-0.0 in
     let late : HasCleanDisk (state g.S.Store end) = search rules in
     let clean_mid : HasCleanDisk (state g.S.Store last) = omega (arith, c.drop-tx.ensures.survives.clean) in
     erred_with c.from_residual.result e
-    (λ e. (registry : Registry) (k : Kept) → SpellsWhileOpen (state g.S.Store conn) registry k → IsNewTo k c.args.keep → ChangesFit c.args.changes.now registry → HasRoomFor (state g.S.Store conn) c.args.changes.now c.args.keep → IsFaultBy (state g.S.Store conn) (state g.S.Store c.conn-1.given.0) (failure_of e)) c.from_residual.ensures.1
+    (λ e. (registry : Registry) (k : Kept) → SpellsWhileOpen (state g.S.Store conn) registry k → IsNewTo k c.args.keep → ChangesFit c.args.changes.now registry → HasRoomFor (state g.S.Store conn) c.args.changes.now c.args.keep → IsFaultBy (state g.S.Store conn) (state g.S.Store c.drop-tx.new.self.0) (failure_of e)) c.from_residual.ensures.1
     (λ registry k over fresh fits room.
     let write = c.in_err-make_all.ensures.fits clean_mid registry k (begun_spells g.S.Store conn begun is registry k over) fits 1 (begun_rooms g.S.Store conn begun is (length c.args.changes.now + 1) room.rooms) room.changes_fit in
-    subst (λ h. IsFaultBy (state g.S.Store conn) (state g.S.Store h) (failure_of e)) same
     (of_call g.S.Store conn begun last end is c.drop-tx.ensures.survives.counts (failure_of e)
-    (fault_of_write (state g.S.Store begun) (state g.S.Store last) e (ap (λ (h : Held _). h.step_limit) is ∙ c.requires.unlimited) (ap (λ (h : Held _). h.in_transaction) is) write)))
+    (fault_of_write (state g.S.Store begun) (state g.S.Store last) e (ap (λ (h : Held _). h.step_limit) is ∙ c.args.db.now.unlimited) (ap (λ (h : Held _). h.in_transaction) is) write)))
 
 pub returns-in_err-keep_reply-clause-fits : goal.returns-in_err-keep_reply-clause-fits
 returns-in_err-keep_reply-clause-fits g c clean =
-    let conn = c.args.conn.now in
+    let conn = c.args.db.now.conn in
     let begun = c.transaction-tx.result.conn.now in
     let mid = c.make_all.new.tx.conn.now in
     let last = c.keep_reply.new.tx.conn.now in
     let end = c.drop-tx-in_err-keep_reply.new.self.0 in
-    let same : end ≡ c.conn-in_err-keep_reply-1.given.0 = search rules in
     let is = c.transaction-tx.ensures.begun in
     let e = c.in_err-keep_reply.field-0.0 in
     let late : HasCleanDisk (state g.S.Store end) = search rules in
     let clean_last : HasCleanDisk (state g.S.Store last) = omega (arith, c.drop-tx-in_err-keep_reply.ensures.survives.clean) in
     let clean_mid : HasCleanDisk (state g.S.Store mid) = omega (arith, c.keep_reply.ensures.frame.survives.clean) in
     erred_with c.from_residual-in_err-keep_reply.result e
-    (λ e. (registry : Registry) (k : Kept) → SpellsWhileOpen (state g.S.Store conn) registry k → IsNewTo k c.args.keep → ChangesFit c.args.changes.now registry → HasRoomFor (state g.S.Store conn) c.args.changes.now c.args.keep → IsFaultBy (state g.S.Store conn) (state g.S.Store c.conn-in_err-keep_reply-1.given.0) (failure_of e)) c.from_residual-in_err-keep_reply.ensures.1
+    (λ e. (registry : Registry) (k : Kept) → SpellsWhileOpen (state g.S.Store conn) registry k → IsNewTo k c.args.keep → ChangesFit c.args.changes.now registry → HasRoomFor (state g.S.Store conn) c.args.changes.now c.args.keep → IsFaultBy (state g.S.Store conn) (state g.S.Store c.drop-tx-in_err-keep_reply.new.self.0) (failure_of e)) c.from_residual-in_err-keep_reply.ensures.1
     (λ registry k over fresh fits room.
     let spelled = begun_spells g.S.Store conn begun is registry k over in
     let was = λ (is_open : IsTrue (state g.S.Store mid).is_open). (c.make_all.ensures.frame.commit_stays clean_mid).was_open is_open in
@@ -213,25 +205,23 @@ returns-in_err-keep_reply-clause-fits g c clean =
     let write = write_later (state g.S.Store begun) (state g.S.Store mid) (state g.S.Store last) c.make_all.ensures.frame.survives clean_mid c.keep_reply.ensures.frame.survives.counts (c.in_ok-make_all.ensures.goes_on clean_mid) e
     (c.in_err-keep_reply.ensures.fits clean_last (after_changes c.args.changes.now registry) k (λ is_open. c.in_ok-make_all.ensures.made clean_mid registry k (spelled (was is_open)) fits) fresh 0
     (λ is_open. c.in_ok-make_all.ensures.room clean_mid registry k (spelled (was is_open)) fits 1 (rooms (was is_open))) room.reply_fits) in
-    subst (λ h. IsFaultBy (state g.S.Store conn) (state g.S.Store h) (failure_of e)) same
     (of_call g.S.Store conn begun last end is c.drop-tx-in_err-keep_reply.ensures.survives.counts (failure_of e)
-    (fault_of_write (state g.S.Store begun) (state g.S.Store last) e (ap (λ (h : Held _). h.step_limit) is ∙ c.requires.unlimited) (ap (λ (h : Held _). h.in_transaction) is) write)))
+    (fault_of_write (state g.S.Store begun) (state g.S.Store last) e (ap (λ (h : Held _). h.step_limit) is ∙ c.args.db.now.unlimited) (ap (λ (h : Held _). h.in_transaction) is) write)))
 
 pub returns-clause-fits : goal.returns-clause-fits
 returns-clause-fits g c clean =
-    let conn = c.args.conn.now in
+    let conn = c.args.db.now.conn in
     let begun = c.transaction-tx.result.conn.now in
     let mid = c.make_all.new.tx.conn.now in
     let last = c.keep_reply.new.tx.conn.now in
     let end = c.commit.new.self.0 in
-    let same : end ≡ c.conn-2-1.given.0 = search rules in
     let is = c.transaction-tx.ensures.begun in
     let late : HasCleanDisk (state g.S.Store end) = search rules in
     let clean_last : HasCleanDisk (state g.S.Store last) = omega (arith, c.commit.ensures.survives.clean) in
     let clean_mid : HasCleanDisk (state g.S.Store mid) = omega (arith, c.keep_reply.ensures.frame.survives.clean) in
     let whole = survives_both (state g.S.Store begun) (state g.S.Store mid) (state g.S.Store last) c.make_all.ensures.frame.survives c.keep_reply.ensures.frame.survives in
-    let unlimited = whole.limit ∙ ap (λ (h : Held _). h.step_limit) is ∙ c.requires.unlimited in
+    let unlimited = whole.limit ∙ ap (λ (h : Held _). h.step_limit) is ∙ c.args.db.now.unlimited in
     let inside = still_inside (state g.S.Store mid) (state g.S.Store last) (still_inside (state g.S.Store begun) (state g.S.Store mid) (ap (λ (h : Held _). h.in_transaction) is) (c.in_ok-make_all.ensures.goes_on clean_mid)) (c.in_ok-keep_reply.ensures.goes_on clean_last) in
     if_err c.commit.result (λ e fails registry k over fresh fits room.
     let since = by_since (state g.S.Store begun) (state g.S.Store last) (state g.S.Store end) (whole.closes clean_last) whole.counts c.commit.ensures.survives.counts (failure_of e) (fault_of_commit (state g.S.Store last) (state g.S.Store end) e unlimited inside fails) in
-    subst (λ h. IsFaultBy (state g.S.Store conn) (state g.S.Store h) (failure_of e)) same (subst (λ b. IsFaultBy (state g.S.Store b) (state g.S.Store end) (failure_of e)) is since)) (c.commit.ensures.err late)
+    (subst (λ b. IsFaultBy (state g.S.Store b) (state g.S.Store end) (failure_of e)) is since)) (c.commit.ensures.err late)

@@ -1,7 +1,7 @@
-use Rattle.std.proofs.Common.{◌≡◌, ◌∙◌, sym, ap, subst, subst₂, arith, rules}
+use Rattle.std.proofs.Common.{◌≡◌, ◌∙◌, sym, ap, subst, arith, rules}
 use Rattle.sqlite.specs.Tree.{Trees}
 use Rattle.sqlite.specs.Held.{Held, state}
-use Rattle.sqlite.specs.State.{HasCleanDisk, Survives}
+use Rattle.sqlite.specs.State.{HasCleanDisk}
 use Rattle.sqlite.proofs.StateLemmas.{survives_then}
 use Rattle.sqlite.proofs.Callers.{survives_begin}
 use Rattle.reg_core.specs.Registry.{new_registry}
@@ -19,7 +19,6 @@ use Rattle.reg_store.proofs.store.making.make_in.Goals as goal
 pub returns-clause-done : goal.returns-clause-done
 returns-clause-done g c clean =
     let end = c.commit.new.self.0 in
-    let same : end ≡ c.conn-2-1.given.0 = search rules in
     let last = state g.S.Store c.create.new.tx.conn.now in
     let late : HasCleanDisk (state g.S.Store end) = search rules in
     let clean_last : HasCleanDisk last = omega (arith, c.commit.ensures.survives.clean) in
@@ -31,13 +30,12 @@ returns-clause-done g c clean =
       settled = done.1.committed_is ∙ sym done.1.now_is;
       spells = subst (λ d. Spells d new_registry nothing_kept) (sym done.1.now_is) (spells_new last.now made);
     } in
-    subst (λ h. IsOpenOver (state g.S.Store h) new_registry nothing_kept) same all) (c.commit.ensures.ok late)
+    all) (c.commit.ensures.ok late)
 
 pub returns-clause-survives : goal.returns-clause-survives
 returns-clause-survives g c =
     let end = c.commit.new.self.0 in
-    let same : end ≡ c.conn-2-1.given.0 = search rules in
-    let first = state g.S.Store c.args.conn.now in
+    let first = state g.S.Store c.args.db.now.conn in
     let last = state g.S.Store c.create.new.tx.conn.now in
     let P = λ (db : Trees). first.now.schema ≡ no_schema → Leaves db new_registry nothing_kept in
     let commits = λ (clean : HasCleanDisk (state g.S.Store end)) (db : Trees) (is : db ≡ last.now.trees) (none : first.now.schema ≡ no_schema).
@@ -45,37 +43,34 @@ returns-clause-survives g c =
     let made = c.in_ok-create.ensures.made clean_last (ap (λ (h : Held _). h.schema) c.transaction-tx.ensures.begun ∙ none) in
     leaves_if_spelled db last.now new_registry nothing_kept is (spells_new last.now made) in
     let whole = survives_then first last (state g.S.Store end) _ _ P (λ _ db none. absurd none) commits
-    (survives_begin g.S.Store c.args.conn.now last _ (rw c.transaction-tx.ensures.begun at c.create.ensures.frame.keeps.survives)) c.commit.ensures.survives in
-    subst (λ h. Survives first (state g.S.Store h) P) same whole
+    (survives_begin g.S.Store c.args.db.now.conn last _ (rw c.transaction-tx.ensures.begun at c.create.ensures.frame.keeps.survives)) c.commit.ensures.survives in
+    whole
 
 pub returns-in_err-create-clause-fault : goal.returns-in_err-create-clause-fault
 returns-in_err-create-clause-fault g c clean =
-    let conn = c.args.conn.now in
+    let conn = c.args.db.now.conn in
     let begun = c.transaction-tx.result.conn.now in
     let last = c.create.new.tx.conn.now in
     let end = c.drop-tx.new.self.0 in
-    let same : end ≡ c.conn-1.given.0 = search rules in
     let is = c.transaction-tx.ensures.begun in
     let e = c.in_err-create.field-0.0 in
     let late : HasCleanDisk (state g.S.Store end) = search rules in
     let clean_last : HasCleanDisk (state g.S.Store last) = omega (arith, c.drop-tx.ensures.survives.clean) in
-    erred_with c.from_residual.result e (λ e. conn.schema ≡ no_schema → IsFaultBy (state g.S.Store conn) (state g.S.Store c.conn-1.given.0) (failure_of e)) c.from_residual.ensures.1
+    erred_with c.from_residual.result e (λ e. conn.schema ≡ no_schema → IsFaultBy (state g.S.Store conn) (state g.S.Store c.drop-tx.new.self.0) (failure_of e)) c.from_residual.ensures.1
     (λ none.
     let write = c.in_err-create.ensures.fault clean_last (ap (λ (h : Held _). h.schema) is ∙ none) in
-    subst (λ h. IsFaultBy (state g.S.Store conn) (state g.S.Store h) (failure_of e)) same
     (of_call g.S.Store conn begun last end is c.drop-tx.ensures.survives.counts (failure_of e)
-    (fault_of_write (state g.S.Store begun) (state g.S.Store last) e (ap (λ (h : Held _). h.step_limit) is ∙ c.requires.unlimited) (ap (λ (h : Held _). h.in_transaction) is) write)))
+    (fault_of_write (state g.S.Store begun) (state g.S.Store last) e (ap (λ (h : Held _). h.step_limit) is ∙ c.args.db.now.unlimited) (ap (λ (h : Held _). h.in_transaction) is) write)))
 
 pub returns-clause-fault : goal.returns-clause-fault
 returns-clause-fault g c clean =
     let begun = state g.S.Store c.transaction-tx.result.conn.now in
     let last = state g.S.Store c.create.new.tx.conn.now in
     let end = c.commit.new.self.0 in
-    let same : end ≡ c.conn-2-1.given.0 = search rules in
     let late : HasCleanDisk (state g.S.Store end) = search rules in
     let clean_last : HasCleanDisk last = omega (arith, c.commit.ensures.survives.clean) in
     let frame = c.create.ensures.frame.keeps.survives in
-    let unlimited = frame.limit ∙ ap (λ (h : Held _). h.step_limit) c.transaction-tx.ensures.begun ∙ c.requires.unlimited in
+    let unlimited = frame.limit ∙ ap (λ (h : Held _). h.step_limit) c.transaction-tx.ensures.begun ∙ c.args.db.now.unlimited in
     if_err c.commit.result (λ e fails none.
     let whole = by_since begun last (state g.S.Store end) (frame.closes clean_last) frame.counts c.commit.ensures.survives.counts (failure_of e) (fault_of_commit last (state g.S.Store end) e unlimited (c.in_ok-create.ensures.frame.inside clean_last) fails) in
-    subst₂ (λ h k. IsFaultBy (state g.S.Store h) (state g.S.Store k) (failure_of e)) c.transaction-tx.ensures.begun same whole) (c.commit.ensures.err late)
+    subst (λ h. IsFaultBy (state g.S.Store h) (state g.S.Store end) (failure_of e)) c.transaction-tx.ensures.begun whole) (c.commit.ensures.err late)

@@ -1,9 +1,9 @@
-use Rattle.std.proofs.Common.{◌≡◌, ◌∙◌, inl, inr, sym, ap, subst, subst₂, arith, rules}
+use Rattle.std.proofs.Common.{◌≡◌, ◌∙◌, inl, inr, sym, ap, subst, arith, rules}
 use Rattle.std.specs.Prelude.{IsTrue}
 use Rattle.sqlite.specs.Tree.{Trees}
 use Rattle.sqlite.specs.declared.error.Error.{Error}
 use Rattle.sqlite.specs.Held.{Held, state}
-use Rattle.sqlite.specs.State.{HasCleanDisk, Survives}
+use Rattle.sqlite.specs.State.{HasCleanDisk}
 use Rattle.sqlite.proofs.StateLemmas.{survives_then}
 use Rattle.sqlite.proofs.Callers.{survives_begin}
 use Rattle.reg_tables.specs.Layout.{unindexed}
@@ -21,8 +21,7 @@ use Rattle.reg_store.proofs.store.opening.make_index.Goals as goal
 pub returns-clause-done : goal.returns-clause-done
 returns-clause-done g c clean =
     let end = c.commit.new.self.0 in
-    let same : end ≡ c.conn-2-1.given.0 = search rules in
-    let first = state g.S.Store c.args.conn.now in
+    let first = state g.S.Store c.args.db.now.conn in
     let last = state g.S.Store c.index_versions.new.tx.conn.now in
     let late : HasCleanDisk (state g.S.Store end) = search rules in
     let clean_last : HasCleanDisk last = omega (arith, c.commit.ensures.survives.clean) in
@@ -32,14 +31,12 @@ returns-clause-done g c clean =
     let held = λ (contents : Contents) (holds : HoldsIn unindexed first.now contents).
     let begun = subst (λ h. HoldsIn unindexed (state g.S.Store h).now contents) (sym c.transaction-tx.ensures.begun) holds in
     subst (λ d. Holds d contents) (sym done.1.now_is) (c.in_ok-index_versions.ensures.indexed clean_last contents begun) in
-    subst (λ h. IsTrue first.is_open × IsTrue (state g.S.Store h).is_open × ((state g.S.Store h).committed ≡ (state g.S.Store h).now) × ((contents : Contents) → HoldsIn unindexed first.now contents → Holds (state g.S.Store h).now contents))
-    same (was_open, done.1.is_open, done.1.committed_is ∙ sym done.1.now_is, held)) (c.commit.ensures.ok late)
+    (was_open, done.1.is_open, done.1.committed_is ∙ sym done.1.now_is, held)) (c.commit.ensures.ok late)
 
 pub returns-clause-survives : goal.returns-clause-survives
 returns-clause-survives g c =
     let end = c.commit.new.self.0 in
-    let same : end ≡ c.conn-2-1.given.0 = search rules in
-    let first = state g.S.Store c.args.conn.now in
+    let first = state g.S.Store c.args.db.now.conn in
     let last = state g.S.Store c.index_versions.new.tx.conn.now in
     let P = λ (db : Trees). IsTrue first.is_open × IsIndexed first.now db in
     let commits = λ (clean : HasCleanDisk (state g.S.Store end)) (db : Trees) (is : db ≡ last.now.trees).
@@ -51,41 +48,39 @@ returns-clause-survives g c =
     let both : P db = (was_open, indexed) in
     both in
     let whole = survives_then first last (state g.S.Store end) _ _ P (λ _ db none. absurd none) commits
-    (survives_begin g.S.Store c.args.conn.now last _ (rw c.transaction-tx.ensures.begun at c.index_versions.ensures.frame.keeps.survives)) c.commit.ensures.survives in
-    subst (λ h. Survives first (state g.S.Store h) P) same whole
+    (survives_begin g.S.Store c.args.db.now.conn last _ (rw c.transaction-tx.ensures.begun at c.index_versions.ensures.frame.keeps.survives)) c.commit.ensures.survives in
+    whole
 
 pub returns-clause-fault : goal.returns-clause-fault
 returns-clause-fault g c clean =
     let end = c.commit.new.self.0 in
-    let same : end ≡ c.conn-2-1.given.0 = search rules in
     let late : HasCleanDisk (state g.S.Store end) = search rules in
-    let first = state g.S.Store c.args.conn.now in
+    let first = state g.S.Store c.args.db.now.conn in
     let begun = state g.S.Store c.transaction-tx.result.conn.now in
     let last = state g.S.Store c.index_versions.new.tx.conn.now in
     let clean_last : HasCleanDisk last = omega (arith, c.commit.ensures.survives.clean) in
     let frame = c.index_versions.ensures.frame.keeps.survives in
-    let unlimited = frame.limit ∙ ap (λ (h : Held _). h.step_limit) c.transaction-tx.ensures.begun ∙ c.requires.unlimited in
+    let unlimited = frame.limit ∙ ap (λ (h : Held _). h.step_limit) c.transaction-tx.ensures.begun ∙ c.args.db.now.unlimited in
     if_err c.commit.result (λ e fails held.
     let whole = by_since begun last (state g.S.Store end) (frame.closes clean_last) frame.counts c.commit.ensures.survives.counts _ (fault_of_commit last (state g.S.Store end) e unlimited (c.in_ok-index_versions.ensures.frame.inside clean_last) fails) in
-    subst₂ (λ h k. IsFaultBy (state g.S.Store h) (state g.S.Store k) (failure_of e)) c.transaction-tx.ensures.begun same whole) (c.commit.ensures.err late)
+    subst (λ h. IsFaultBy (state g.S.Store h) (state g.S.Store end) (failure_of e)) c.transaction-tx.ensures.begun whole) (c.commit.ensures.err late)
 
 pub returns-in_err-index_versions-clause-fault : goal.returns-in_err-index_versions-clause-fault
 returns-in_err-index_versions-clause-fault g c clean =
     let end = c.drop-tx.new.self.0 in
-    let same : end ≡ c.conn-1.given.0 = search rules in
     let late : HasCleanDisk (state g.S.Store end) = search rules in
-    let first = state g.S.Store c.args.conn.now in
+    let first = state g.S.Store c.args.db.now.conn in
     let begun = state g.S.Store c.transaction-tx.result.conn.now in
     let last = state g.S.Store c.index_versions.new.tx.conn.now in
     let clean_last : HasCleanDisk last = omega (arith, c.drop-tx.ensures.survives.clean) in
-    let unlimited = ap (λ (h : Held _). h.step_limit) c.transaction-tx.ensures.begun ∙ c.requires.unlimited in
+    let unlimited = ap (λ (h : Held _). h.step_limit) c.transaction-tx.ensures.begun ∙ c.args.db.now.unlimited in
     let inside = ap (λ (h : Held _). h.in_transaction) c.transaction-tx.ensures.begun in
     let e = c.in_err-index_versions.field-0.0 in
     let err = c.in_err-index_versions.ensures in
     let fault = λ (f : IsWriteFault begun last e).
     let until = by_until begun last (state g.S.Store end) c.drop-tx.ensures.survives.counts _ (fault_of_write begun last e unlimited inside f) in
-    subst₂ (λ h k. IsFaultBy (state g.S.Store h) (state g.S.Store k) (failure_of e)) c.transaction-tx.ensures.begun same until in
-    let Held : Error → Type 0 = λ x. (IsTrue first.is_open → (contents : Contents) × HoldsIn unindexed first.now contents) → IsFaultBy first (state g.S.Store c.conn-1.given.0) (failure_of x) in
+    subst (λ h. IsFaultBy (state g.S.Store h) (state g.S.Store end) (failure_of e)) c.transaction-tx.ensures.begun until in
+    let Held : Error → Type 0 = λ x. (IsTrue first.is_open → (contents : Contents) × HoldsIn unindexed first.now contents) → IsFaultBy first (state g.S.Store c.drop-tx.new.self.0) (failure_of x) in
     erred_with c.from_residual.result e Held c.from_residual.ensures.1 (λ held. elim (err.frame.shut clean_last) [
       | inl is_open ↦
           let it = held (subst (λ h. IsTrue (state g.S.Store h).is_open) c.transaction-tx.ensures.begun is_open) in

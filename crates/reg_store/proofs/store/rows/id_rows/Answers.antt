@@ -1,33 +1,20 @@
-use Rattle.std.proofs.Common.{◌∙◌, sym, ap, subst}
+use Rattle.std.proofs.Common.{◌∙◌, sym, ap}
 use Rattle.std.specs.Prelude.{map}
 use Rattle.std.proofs.lemmas.Simd.{map-map}
 use Rattle.sqlite.specs.Held.{state}
 use Rattle.reg_tables.specs.Entries.{keyed}
-use Rattle.reg_tables.proofs.Transactions.{if_ok, if_err}
-use Rattle.reg_store.specs.Failures.{IsFaultBy, IsFaultOver}
 use Rattle.reg_store.specs.Inside.Viewing.{row_spelled}
-use Rattle.reg_store.proofs.Failing.{fault_over, passed}
+use Rattle.reg_store.proofs.ReadLemmas.{read, not_read, match_of, by_memory}
 use Rattle.reg_store.proofs.RowLemmas.{id_spelled, id_lines}
 use Rattle.reg_store.proofs.store.rows.id_rows.Goals as goal
 
-pub returns-in_err-lines-clause-fault : goal.returns-in_err-lines-clause-fault
-returns-in_err-lines-clause-fault g c clean =
-    let old = state g.S.Store c.args.conn.now in
-    let new = state g.S.Store c.versions_of_id.new.conn in
-    passed (IsFaultOver old new) c.from_residual.result _ c.from_residual.ensures.1 (fault_over old new c.in_err-lines.field-0.0 c.requires.unlimited (c.in_err-lines.ensures.fault clean))
+pub returns-in_err-lines : goal.returns-in_err-lines
+returns-in_err-lines g c = not_read c.in_err-lines.ensures.frame c.in_err-lines.ensures.fault c.from_residual.ensures.1
 
-pub returns-clause-found : goal.returns-clause-found
-returns-clause-found g c clean =
-    if_ok c.rows_in.result (λ rows is registry k over.
-    let was = (over (c.in_ok-lines.ensures.frame.was_open clean)).spells in
-    let lines = c.in_ok-lines.ensures.found clean was.contents was.holds in
-    is ∙ sym (map-map row_spelled keyed c.in_ok-lines.lines.items) ∙ ap (map row_spelled) lines ∙ id_spelled was.contents registry was.spelled.versions c.args.id) c.rows_in.ensures.ok
-
-pub returns-clause-fault : goal.returns-clause-fault
-returns-clause-fault g c clean =
-    let old = state g.S.Store c.args.conn.now in
-    let new = state g.S.Store c.versions_of_id.new.conn in
-    if_err c.rows_in.result (λ e only registry k over.
-    let was = (over (c.in_ok-lines.ensures.frame.was_open clean)).spells in
-    let lines = c.in_ok-lines.ensures.found clean was.contents was.holds in
-    subst (IsFaultBy old new) (sym (only (id_lines was.contents registry k was.spelled c.in_ok-lines.lines.items c.args.id lines))) tt) c.rows_in.ensures.err
+pub returns : goal.returns
+returns g c =
+    read c.in_ok-lines.ensures.frame (λ clean was over.
+    let it = over.spells in
+    let lines = c.in_ok-lines.ensures.found clean it.contents it.holds in
+    match_of c.rows_in.result (λ rows is. is ∙ sym (map-map row_spelled keyed c.in_ok-lines.lines.items) ∙ ap (map row_spelled) lines ∙ id_spelled it.contents was.registry it.spelled.versions c.args.id)
+    (λ e only. by_memory (state g.S.Store c.args.db.now.conn) (state g.S.Store c.versions_of_id.new.conn) e (only (id_lines it.contents was.registry was.replies it.spelled c.in_ok-lines.lines.items c.args.id lines))) c.rows_in.ensures.ok c.rows_in.ensures.err)

@@ -1,28 +1,24 @@
-use Rattle.std.proofs.Common.{Ok}
-use Rattle.reg_tables.proofs.Transactions.{if_ok, if_err}
-use Rattle.reg_store.proofs.ViewLemmas.{idle_read, clean_before, stays_then, spells_on}
-use Rattle.reg_store.proofs.ListingLemmas.{fault_on}
+use Rattle.sqlite.specs.Held.{state}
+use Rattle.reg_store.proofs.ReadLemmas.{fail, clean_at, fault_of_all, match_each, on_ok_each, rests_on, spell_on}
 use Rattle.reg_store.proofs.store.schema_lines.listed_schemas.Goals as goal
 
-pub returns-clause-frame : goal.returns-clause-frame
-returns-clause-frame g c = stays_then g.S.Store c.args.conn.now c.count.new.conn c.each_schema.new.conn c.in_ok-count.count _ c.in_ok-count.ensures.frame c.each_schema.ensures.frame
+pub returns-in_err-count : goal.returns-in_err-count
+returns-in_err-count g c = fail c.in_err-count.ensures c.from_residual.ensures.1
 
-pub returns-clause-found : goal.returns-clause-found
-returns-clause-found g c clean =
-    let old = c.args.conn.now in
-    let mid = c.count.new.conn in
-    let first = idle_read g.S.Store old mid (Ok c.in_ok-count.count) c.in_ok-count.ensures.frame in
-    let early = clean_before g.S.Store old mid c.each_schema.new.conn c.each_schema.ensures.frame clean in
-    if_ok c.each_schema.result (λ lines are registry k over.
-    are registry k (spells_on g.S.Store old mid first early registry k over) (c.in_ok-count.ensures.found early registry k over)) (c.each_schema.ensures.found clean)
-
-pub returns-clause-fault : goal.returns-clause-fault
-returns-clause-fault g c clean =
-    let old = c.args.conn.now in
-    let mid = c.count.new.conn in
-    let new = c.each_schema.new.conn in
-    let first = idle_read g.S.Store old mid (Ok c.in_ok-count.count) c.in_ok-count.ensures.frame in
-    let early = clean_before g.S.Store old mid new c.each_schema.ensures.frame clean in
-    if_err c.each_schema.result (λ e fault registry k over.
-    fault_on g.S.Store old mid new first c.each_schema.ensures.frame clean e
-    (fault registry k (spells_on g.S.Store old mid first early registry k over) (c.in_ok-count.ensures.found early registry k over))) (c.each_schema.ensures.fault clean)
+pub returns : goal.returns
+returns g c =
+    let old = state g.S.Store c.args.db.now.conn in
+    let mid = state g.S.Store c.count.new.db.conn in
+    let new = state g.S.Store c.each_schema.new.db.conn in
+    let first = c.in_ok-count.ensures in
+    let last = c.each_schema.ensures in
+    record {
+      may = record {
+        rests = rests_on old mid new first.may.rests last.rests;
+        answers = λ clean was over.
+            (let early = clean_at old mid new last.rests clean in
+            match_each c.each_schema.result (λ lines h. h) (fault_of_all old mid new first.may.rests last.rests clean)
+            (last.answers clean was (spell_on old mid first.may.rests early was over) (first.may.answers early was over)));
+      };
+      was_open = λ clean. on_ok_each c.each_schema.result (first.was_open (clean_at old mid new last.rests clean));
+    }

@@ -1,10 +1,9 @@
-use Rattle.sqlite.specs.Held.{state}
-use Rattle.reg_store.specs.Failures.{IsFaultOver}
-use Rattle.reg_store.proofs.Failing.{fault_over, passed}
+use Rattle.std.proofs.Common.{rules}
+use Rattle.reg_store.proofs.ReadLemmas.{read, not_read}
 use Rattle.reg_store.proofs.store.texts.text_under.Goals as goal
 
-pub returns-in_err-text_of-clause-fault : goal.returns-in_err-text_of-clause-fault
-returns-in_err-text_of-clause-fault g c clean =
-    let old = state g.S.Store c.args.conn.now in
-    let new = state g.S.Store c.text_of.new.conn in
-    passed (IsFaultOver old new) c.from_residual.result _ c.from_residual.ensures.1 (fault_over old new c.in_err-text_of.field-0.0 c.requires.unlimited (c.in_err-text_of.ensures.fault clean))
+pub returns-in_err-text_of : goal.returns-in_err-text_of
+returns-in_err-text_of g c = not_read c.in_err-text_of.ensures.frame c.in_err-text_of.ensures.fault c.from_residual.ensures.1
+
+pub returns : goal.returns
+returns g c = read c.in_ok-text_of.ensures.frame (λ clean was over. search rules)

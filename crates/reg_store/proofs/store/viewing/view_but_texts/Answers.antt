@@ -1,47 +1,29 @@
-use Rattle.std.proofs.Common.{◌∙◌, Ok, ap}
-use Rattle.std.specs.Prelude.{option_and_then}
-use Rattle.sqlite.specs.Held.{state}
+use Rattle.std.proofs.Common.{◌≡◌, ◌∙◌, Option, None, Some, refl, ap}
+use Rattle.std.specs.Prelude.{option_map, option_and_then}
 use Rattle.avro_nodes.specs.Identity.{identity}
 use Rattle.reg_core.specs.Rows.{id_of}
 use Rattle.reg_core.specs.Machine.{schema_sent}
-use Rattle.reg_store.specs.Failures.{IsFaultOver}
-use Rattle.reg_store.proofs.Failing.{passed}
-use Rattle.reg_store.proofs.ViewLemmas.{and_then_map, idle_read, clean_before, idle_then, spells_on, fault_then}
+use Rattle.reg_store.proofs.ReadLemmas.{fail, both, go_on, stop}
 use Rattle.reg_store.proofs.store.viewing.view_but_texts.Goals as goal
 
-pub returns-in_err-rows-clause-fault : goal.returns-in_err-rows-clause-fault
-returns-in_err-rows-clause-fault g c clean =
-    let old = c.args.conn.now in
-    let mid = c.levels_for.new.conn in
-    let new = c.rows_for.new.conn in
-    let first = idle_read g.S.Store old mid (Ok c.in_ok-levels.levels) c.in_ok-levels.ensures.frame in
-    passed (IsFaultOver (state g.S.Store old) (state g.S.Store new)) c.from_residual-in_err-rows.result _ c.from_residual-in_err-rows.ensures.1
-    (fault_then g.S.Store old mid new first c.rows_for.ensures.frame clean _ (c.in_err-rows.ensures.fault clean))
+and_then_map : {A B C : Type 0} (f : A → B) (h : B → Option C) (o : Option A) → option_and_then h (option_map f o) ≡ option_and_then (λ x. h (f x)) o
+and_then_map f h None = refl
+and_then_map f h (Some x) = refl
 
-pub returns-in_err-ids-clause-fault : goal.returns-in_err-ids-clause-fault
-returns-in_err-ids-clause-fault g c clean =
-    let old = c.args.conn.now in
-    let one = c.levels_for.new.conn in
-    let two = c.rows_for.new.conn in
-    let new = c.ids_for.new.conn in
-    let first = idle_then g.S.Store old one two (idle_read g.S.Store old one (Ok c.in_ok-levels.levels) c.in_ok-levels.ensures.frame) c.rows_for.ensures.frame in
-    passed (IsFaultOver (state g.S.Store old) (state g.S.Store new)) c.from_residual-in_err-ids.result _ c.from_residual-in_err-ids.ensures.1
-    (fault_then g.S.Store old two new first c.ids_for.ensures.frame clean _ (c.in_err-ids.ensures.fault clean))
+pub returns-in_err-levels : goal.returns-in_err-levels
+returns-in_err-levels g c = fail c.in_err-levels.ensures c.from_residual.ensures.1
 
-pub returns-clause-view : goal.returns-clause-view
-returns-clause-view g c clean registry k over sent =
-    let old = c.args.conn.now in
-    let one = c.levels_for.new.conn in
-    let two = c.rows_for.new.conn in
-    let new = c.ids_for.new.conn in
-    let first = idle_read g.S.Store old one (Ok c.in_ok-levels.levels) c.in_ok-levels.ensures.frame in
-    let second = idle_then g.S.Store old one two first c.rows_for.ensures.frame in
-    let clean_two = clean_before g.S.Store old two new c.ids_for.ensures.frame clean in
-    let clean_one = clean_before g.S.Store old one two c.rows_for.ensures.frame clean_two in
-    let ids = c.in_ok-ids.ensures.found clean registry k (spells_on g.S.Store old two second clean_two registry k over) in
-    record {
-      rows = c.in_ok-rows.ensures.found clean_two registry k (spells_on g.S.Store old one first clean_one registry k over);
-      levels = c.in_ok-levels.ensures.found clean_one registry k over;
-      known = ids.0 ∙ ap (option_and_then (id_of registry.schemas)) sent ∙ and_then_map identity (id_of registry.schemas) (schema_sent c.args.command.now);
+pub returns-in_err-rows : goal.returns-in_err-rows
+returns-in_err-rows g c = stop c.in_ok-levels.ensures c.in_err-rows.ensures c.from_residual-in_err-rows.ensures.1
+
+pub returns-in_err-ids : goal.returns-in_err-ids
+returns-in_err-ids g c = stop (both c.in_ok-levels.ensures c.in_ok-rows.ensures) c.in_err-ids.ensures c.from_residual-in_err-ids.ensures.1
+
+pub returns : goal.returns
+returns g c =
+    go_on (both c.in_ok-levels.ensures c.in_ok-rows.ensures) c.in_ok-ids.ensures (λ was over read ids sent. record {
+      rows = read.1;
+      levels = read.0;
+      known = ids.0 ∙ ap (option_and_then (id_of was.registry.schemas)) sent ∙ and_then_map identity (id_of was.registry.schemas) (schema_sent c.args.command.now);
       count = ids.1;
-    }
+    })

@@ -1,12 +1,10 @@
-use Rattle.std.proofs.Common.{◌≡◌, ◌≤◌, ℕ, List, length, map, false, IsTrue, sym, subst, ◌∙◌, arith}
+use Rattle.std.proofs.Common.{◌≡◌, ◌≤◌, ℕ, List, length, false, sym, subst, ◌∙◌, arith}
 use Rattle.std.proofs.lemmas.Bool.{both_ways}
 use Rattle.std.proofs.lemmas.List.{map-id}
-use Rattle.std.specs.List.Sorted.{IsPermutation}
-use Rattle.std.proofs.lemmas.List.Sorted.{IsNonDecreasingBy-from_sort, IsPermutation-map, IsPermutation-trans}
+use Rattle.std.proofs.lemmas.List.Sorted.{IsNonDecreasingBy-from_sort}
 use Rattle.sqlite.specs.Held.{state}
 use Rattle.reg_core.specs.Registry.{max_number}
 use Rattle.reg_rows.specs.Spelling.{AreNumbered}
-use Rattle.reg_tables.specs.Listings.{ListsIds}
 use Rattle.reg_store.specs.UnopenedFaults.{IsFaultUnopened}
 use Rattle.reg_store.proofs.Failing.{fault_by, passed}
 use Rattle.reg_store.proofs.Numbering.{Rises, rises}
@@ -16,14 +14,14 @@ use Rattle.reg_store.proofs.testing.texts.count_texts.Goals as goal
 
 pub returns-in_err-ids-clause-fault : goal.returns-in_err-ids-clause-fault
 returns-in_err-ids-clause-fault g c clean =
-    let old = state g.S.Store c.args.conn.now in
+    let old = state g.S.Store c.args.db.now.conn in
     let new = state g.S.Store c.text_ids.new.conn in
     passed (IsFaultUnopened old new) c.from_residual.result _ c.from_residual.ensures.1
-    (λ registry k over. fault_by old new c.in_err-ids.field-0.0 c.requires.unlimited (c.in_err-ids.ensures.fault clean (unopened_can_be_read old registry k over)))
+    (λ registry k over. fault_by old new c.in_err-ids.field-0.0 c.args.db.now.unlimited (c.in_err-ids.ensures.fault clean (unopened_can_be_read old registry k over)))
 
 pub returns-in_err-allow-clause-fault : goal.returns-in_err-allow-clause-fault
 returns-in_err-allow-clause-fault g c clean =
-    let old = state g.S.Store c.args.conn.now in
+    let old = state g.S.Store c.args.db.now.conn in
     let new = state g.S.Store c.text_ids.new.conn in
     let sorted = c.sort_unstable.new.self.items in
     passed (IsFaultUnopened old new) c.from_residual-in_err-allow.result _ c.from_residual-in_err-allow.ensures.1
@@ -37,7 +35,7 @@ returns-in_err-allow-clause-fault g c clean =
 
 pub returns-clause-counted : goal.returns-clause-counted
 returns-clause-counted g c clean known =
-    let db = (state g.S.Store c.args.conn.now).now in
+    let db = (state g.S.Store c.args.db.now.conn).now in
     let sorted = c.sort_unstable.new.self.items in
     let fit = subst (λ (l : List ℕ). AreNumbered 1 l × (length l ≤ max_number)) c.deref.ensures.value (c.are_ids.ensures.0 c.in_ok-allow.ensures.ok) in
     let few = fit.1 in

@@ -6,6 +6,6 @@ use Rattle.reg_store.proofs.testing.texts.judge_some.Goals as goal
 
 pub returns-in_err-lines-clause-fault : goal.returns-in_err-lines-clause-fault
 returns-in_err-lines-clause-fault g c clean =
-    let old = state g.S.Store c.args.conn.now in
+    let old = state g.S.Store c.args.db.now.conn in
     let new = state g.S.Store c.texts_between.new.conn in
-    passed (λ e. CanBeRead old → IsFaultBy old new e) c.from_residual.result _ c.from_residual.ensures.1 (λ can. fault_by old new c.in_err-lines.field-0.0 c.requires.unlimited (c.in_err-lines.ensures.fault clean can))
+    passed (λ e. CanBeRead old → IsFaultBy old new e) c.from_residual.result _ c.from_residual.ensures.1 (λ can. fault_by old new c.in_err-lines.field-0.0 c.args.db.now.unlimited (c.in_err-lines.ensures.fault clean can))

@@ -1,0 +1,158 @@
+//! Measures the registry's service, over a store in memory and over one in a file.
+//!
+//! Without words it does nothing. What is delivered is made before the time of it begins.
+
+#![tactic(auto)]
+
+mod kind;
+mod measure;
+mod request;
+
+use anyhow::{Context, Result, bail, ensure};
+use kind::series_of;
+use measure::{Task, measure_all};
+use reg_service::Service;
+use reg_store::Store;
+use request::Size;
+use sqlite::{Alter, Connection, FileFrom, FileStore, Wary};
+use std::alloc::Global;
+use std::env;
+use std::time::Instant;
+
+/// A database in a file and its log.
+type FileDatabase = FileStore<FileFrom<Wary>>;
+
+/// What is printed where the words are no measurement's.
+const USAGE: &str = "Usage: bench_registry SERIES memory SIZE D
+       bench_registry SERIES fill F SIZE
+       bench_registry SERIES file F SIZE D
+       bench_registry SERIES open F
+
+  memory  makes a registry in memory and measures D requests of each kind
+  fill    makes such a registry in the file F, which is missing or empty
+  file    measures D requests of each kind over the registry that fill made in F with
+          this size; they change it, so a further run wants a copy
+  open    measures how long the registry in F takes to open
+
+A series is levels, versions, deletions or requests. The size of levels is a number N: a
+registry of N kept keys and N subjects with a level of their own. That of the others is
+V S B: a registry of V versions in S subjects, with schemas of about B bytes, each of which
+one version has. The deletions are of D subjects, softly and then for good. The requests are
+read from one connection; those of the other series are deliveries.
+";
+
+/// Opens the database in a file, and prints how long that took.
+fn connected(rt: &HostRuntime, file: &str) -> Result<Connection<FileDatabase>> {
+    let start = Instant::now(rt)?;
+    match Connection::open_from(rt, file, false, Wary) {
+        Ok(connection) => {
+            println!(rt; "database opened in {:?}", start.elapsed(rt)?)?;
+            Ok(connection)
+        }
+        Err((error, _)) => bail!("{error}"),
+    }
+}
+
+/// The service over a new registry.
+fn created<S: Alter + Drop>(alloc: Global, connection: Connection<S>) -> Result<Service<S>> {
+    ensure!(connection.is_autocommit(), "a transaction is open");
+    match Store::create(alloc, connection) {
+        Ok(store) => Ok(Service::new(alloc, store)),
+        Err((error, _)) => bail!("{error}"),
+    }
+}
+
+/// The service over the registry in a file. Prints how long the registry took to open.
+fn opened(rt: &HostRuntime, connection: Connection<FileDatabase>) -> Result<Service<FileDatabase>> {
+    ensure!(connection.is_autocommit(), "a transaction is open");
+    let start = Instant::now(rt)?;
+    match Store::open(rt.alloc(), connection) {
+        Ok(store) => {
+            println!(rt; "registry opened in {:?}", start.elapsed(rt)?)?;
+            Ok(Service::new(rt.alloc(), store))
+        }
+        Err((error, _)) => bail!("{error}"),
+    }
+}
+
+/// Does the task over a new registry in memory.
+fn over_memory(rt: &HostRuntime, task: &Task) -> Result<()> {
+    let mut service = created(rt.alloc(), Connection::open_in_memory(rt.alloc())?)?;
+    measure_all(rt, &mut service, task)
+}
+
+/// Does the task over the registry in a file, and closes the file.
+fn over_file(rt: &HostRuntime, file: &str, task: &Task) -> Result<()> {
+    let connection = connected(rt, file)?;
+    let mut service = if task.fills {
+        created(rt.alloc(), connection)?
+    } else {
+        opened(rt, connection)?
+    };
+    measure_all(rt, &mut service, task)?;
+    service.into_store().into_connection().close()?;
+    Ok(())
+}
+
+/// A word, or an empty one where there are fewer.
+fn word_at(words: &[String], at: usize) -> &str {
+    match words.get(at) {
+        Some(word) => word.as_str(),
+        None => "",
+    }
+}
+
+/// The number that a word tells, or 0 where there are fewer words.
+fn number_at(words: &[String], at: usize) -> Result<usize> {
+    match words.get(at) {
+        Some(word) => Ok(word.parse()?),
+        None => Ok(0),
+    }
+}
+
+/// The task of a series whose numbers begin at this word.
+fn task_of(words: &[String], at: usize, fills: bool, measures: bool) -> Result<Task> {
+    let series = series_of(word_at(words, 0)).context("no series has this name")?;
+    let versions = number_at(words, at)?;
+    let mut size = Size {
+        versions,
+        subjects: versions,
+        bytes: 0,
+    };
+    let mut behind = at + 1;
+    if series.has_schemas {
+        size.subjects = number_at(words, at + 1)?;
+        size.bytes = number_at(words, at + 2)?;
+        behind = at + 3;
+    }
+    Ok(Task {
+        series,
+        size,
+        count: number_at(words, behind)?,
+        fills,
+        measures,
+    })
+}
+
+/// Does what the words ask for.
+fn work(rt: &HostRuntime, words: &[String]) -> Result<()> {
+    let file = word_at(words, 2);
+    match word_at(words, 1) {
+        "memory" => over_memory(rt, &task_of(words, 2, true, true)?),
+        "fill" => over_file(rt, file, &task_of(words, 3, true, false)?),
+        "file" => over_file(rt, file, &task_of(words, 3, false, true)?),
+        "open" => over_file(rt, file, &task_of(words, 3, false, false)?),
+        _ => {
+            eprint!(rt; "{USAGE}")?;
+            bail!("other words are wanted");
+        }
+    }
+}
+
+fn main(rt: HostRuntime) -> Result<()> {
+    let words: Vec<String> = env::args(&rt)?.skip(1).collect(rt.alloc())?;
+    if words.is_empty() {
+        return Ok(());
+    }
+    work(&rt, words.as_slice())
+}

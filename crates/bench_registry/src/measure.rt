@@ -1,0 +1,108 @@
+//! The times of deliveries, and of requests on a connection.
+
+use crate::kind::{Kind, Series};
+use crate::request::{Size, deliveries, keys, requests};
+use anyhow::{Result, ensure};
+use reg_http::{Ended, serve};
+use reg_service::{Delivery, Service};
+use sqlite::Alter;
+use std::rt::Clock;
+use std::time::{Duration, Instant};
+
+/// How many requests are made before they are measured, where many are.
+const PART: usize = 1000;
+
+/// What is to be measured.
+#[derive(Clone, Copy)]
+pub struct Task {
+    pub series: &'static Series,
+    /// the size of the registry
+    pub size: Size,
+    /// how many requests of each kind
+    pub count: usize,
+    /// whether the registry is made
+    pub fills: bool,
+    /// whether the kinds are measured
+    pub measures: bool,
+}
+
+/// How long the service takes for the deliveries, each of which it has to carry out.
+fn time_of<S: Alter>(
+    rt: &impl Clock,
+    service: &mut Service<S>,
+    list: &[Delivery],
+) -> Result<Duration> {
+    let start = Instant::now(rt)?;
+    let replies = service.run(list)?;
+    let took = start.elapsed(rt)?;
+    ensure!(
+        replies.iter().all(|reply| reply.status() == 200),
+        "a delivery was refused"
+    );
+    Ok(took)
+}
+
+/// How long the bytes take on a connection on which they are all there at once.
+fn time_of_bytes<S: Alter>(
+    rt: &(impl Clock + AllocGlobal),
+    service: &mut Service<S>,
+    bytes: &[u8],
+) -> Result<Duration> {
+    let mut reader = bytes;
+    let mut output = Vec::new(rt.alloc());
+    let start = Instant::now(rt)?;
+    let ended = serve(rt.alloc(), &mut reader, &mut output, service);
+    let took = start.elapsed(rt)?;
+    ensure!(ended == Ended::Closed, "the connection ended early");
+    Ok(took)
+}
+
+/// Measures so many requests of a kind, over a registry of this size, and prints their line.
+fn measure<S: Alter>(
+    rt: &(impl Clock + Print + AllocGlobal),
+    service: &mut Service<S>,
+    kind: &Kind,
+    size: Size,
+    count: usize,
+    by_bytes: bool,
+) -> Result<()> {
+    let took = if by_bytes {
+        let bytes = requests(rt.alloc(), kind, size, count)?;
+        time_of_bytes(rt, service, bytes.as_bytes())?
+    } else {
+        let keys = keys(rt.alloc(), kind, size, count)?;
+        let list = deliveries(rt.alloc(), kind, size, keys.as_slice())?;
+        time_of(rt, service, list.as_slice())?
+    };
+    let micros = took.as_micros().max(1);
+    let rate = (count as u128).saturating_mul(1_000_000) / micros;
+    let name = kind.name;
+    println!(rt; "{name:<18} {count:>8} in {micros:>10} us, {rate:>7} a second")?;
+    Ok(())
+}
+
+/// Makes the registry, a part at a time, and measures the kinds, as the task asks.
+pub fn measure_all<S: Alter>(
+    rt: &(impl Clock + Print + AllocGlobal),
+    service: &mut Service<S>,
+    task: &Task,
+) -> Result<()> {
+    let Task { series, size, .. } = *task;
+    let parts = if task.fills {
+        size.versions.div_ceil(PART)
+    } else {
+        0
+    };
+    for part in 0..parts {
+        let versions = part.saturating_mul(PART);
+        let count = size.versions.saturating_sub(versions).min(PART);
+        let made = Size { versions, ..size };
+        measure(rt, service, &series.fill, made, count, false)?;
+    }
+    if task.measures {
+        for kind in series.kinds {
+            measure(rt, service, kind, size, task.count, series.by_bytes)?;
+        }
+    }
+    Ok(())
+}

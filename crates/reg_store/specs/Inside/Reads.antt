@@ -1,0 +1,40 @@
+-- What a call says that only reads what is stored.
+use Rattle.std.specs.Prelude.{◌≡◌, IsTrue, Result, OnOk, MatchResult}
+use Rattle.sqlite.specs.Held.{state}
+use Rattle.sqlite.specs.State.{State, HasCleanDisk, KeepsCommit, Survives}
+use Rattle.sqlite_trees.specs.declared.store.Store.{Ghosts}
+use Rattle.reg_core.specs.Registry.{Registry}
+use Rattle.reg_core.specs.KeptReplies.{Kept}
+use Rattle.reg_store.specs.declared.error.StoreError.{StoreError}
+use Rattle.reg_store.specs.declared.idle.Idle.{Idle}
+use Rattle.reg_store.specs.Spells.{SpellsWhileOpen}
+use Rattle.reg_store.specs.Failures.{IsFaultBy}
+
+-- what is stored: a registry, and the replies that it keeps
+pub record Stored : Type 0 where
+  pub registry : Registry
+  pub replies : Kept
+
+-- SQLite, transactions: what the connection shows
+abbrev pub shown : {S : Type 0} {g : Ghosts S} → Idle S g → State
+shown {S} {g} db = state g db.conn
+
+-- as long as the connection is open, its tables spell what is stored
+abbrev pub Spell : State → Stored → Type 0
+Spell s was = SpellsWhileOpen s was.registry was.replies
+
+-- nothing is committed, and a connection that showed its last commit shows it still
+pub record Rests (old new : State) : Type 0 where
+  pub commit_stays : HasCleanDisk new → KeepsCommit old new
+  pub settled : HasCleanDisk new → IsTrue new.is_open → old.now ≡ old.committed → new.now ≡ new.committed
+  pub survives : Survives old new (λ _. ⊥)
+
+-- A call that reads what is stored, if it reads at all, changes nothing. Where the tables spell what is stored, an Ok tells of it, and an Err is a fault.
+pub record MayRead {S X : Type 0} {g : Ghosts S} (old new : Idle S g) (result : Result X StoreError) (Tells : Stored → X → Type 0) : Type 0 where
+  pub rests : Rests (shown old) (shown new)
+  pub answers : HasCleanDisk (shown new) → (was : Stored) → Spell (shown old) was → MatchResult result (Tells was) (IsFaultBy (shown old) (shown new))
+
+-- a call that surely reads it: what it answers was read over an open connection
+pub record Reads {S X : Type 0} {g : Ghosts S} (old new : Idle S g) (result : Result X StoreError) (Tells : Stored → X → Type 0) : Type 0 where
+  pub may : MayRead old new result Tells
+  pub was_open : HasCleanDisk (shown new) → OnOk result (IsTrue (shown old).is_open)

@@ -1,0 +1,25 @@
+use Rattle.std.proofs.Common.{[], ◌∷◌, lit≤, codes, refl}
+use Rattle.sqlite.specs.Term.{col}
+use Rattle.sqlite.specs.Listing.{understood}
+use Rattle.sqlite_tied.specs.Compute.{everything}
+use Rattle.reg_tables.proofs.Statements.{in_layouts}
+use Rattle.reg_tables.proofs.LayoutTables.{levels_key, text_is_read}
+use Rattle.reg_tables.proofs.levels.LevelsKeyedTable.find_sql.Goals as goal
+
+pub returns-clause-finds : goal.returns-clause-finds
+unfolding understood everything
+returns-clause-finds c = record {
+  key = levels_key;
+  shows = λ schema db contents h. h.levels;
+  shown = col 1 2 ∷ [];
+  names = codes "level" ∷ [];
+  is = in_layouts _ (λ tables indexes. record { command = record { is = refl; plain = (refl, refl) }; unlisted = refl });
+  takes = λ key. in_layouts _ (λ tables indexes. record { whole = (lit≤ tt, refl); typed = refl });
+  whole = λ row key. refl;
+}
+
+pub returns-clause-read : goal.returns-clause-read
+returns-clause-read c = text_is_read
+
+pub returns-clause-readable : goal.returns-clause-readable
+returns-clause-readable c contents readable key value is = (value, refl, (readable.levels key value is).1)

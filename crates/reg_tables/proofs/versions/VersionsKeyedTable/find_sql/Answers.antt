@@ -1,0 +1,25 @@
+use Rattle.std.proofs.Common.{[], ◌∷◌, lit≤, codes, refl}
+use Rattle.sqlite.specs.Term.{col}
+use Rattle.sqlite.specs.Listing.{understood}
+use Rattle.sqlite_tied.specs.Compute.{everything}
+use Rattle.reg_tables.proofs.Statements.{in_layouts}
+use Rattle.reg_tables.proofs.LayoutTables.{versions_key, entry_is_read}
+use Rattle.reg_tables.proofs.versions.VersionsKeyedTable.find_sql.Goals as goal
+
+pub returns-clause-finds : goal.returns-clause-finds
+unfolding understood everything
+returns-clause-finds c = record {
+  key = versions_key;
+  shows = λ schema db contents h. h.versions;
+  shown = col 1 3 ∷ col 1 4 ∷ [];
+  names = codes "id" ∷ codes "deleted" ∷ [];
+  is = in_layouts _ (λ tables indexes. record { command = record { is = refl; plain = (refl, refl) }; unlisted = refl });
+  takes = λ key. in_layouts _ (λ tables indexes. record { whole = (lit≤ tt, refl); typed = refl });
+  whole = λ row key. refl;
+}
+
+pub returns-clause-read : goal.returns-clause-read
+returns-clause-read c = entry_is_read
+
+pub returns-clause-readable : goal.returns-clause-readable
+returns-clause-readable c contents readable key value is = (value, refl, (readable.versions key value is).2)

@@ -1,0 +1,96 @@
+-- What the text of a statement means in a database of this schema.
+use Rattle.std.specs.Prelude.{◌≡◌, ℕ, ◌≤◌, pos, negsuc, true, false, Bool, List, [], ◌∷◌, length, None, Ok, Err, Result}
+use Rattle.std.specs.List.{list_all}
+use Rattle.sqlite_value.specs.declared.keys.Key.{Key}
+use Rattle.sqlite.specs.declared.types.Value.TheVariants.{Int}
+use Rattle.sqlite.specs.Order.{Row}
+use Rattle.sqlite.specs.Term.{Term, lit, col, op2, holds}
+use Rattle.sqlite.specs.Collation.TheVariants.{Binary}
+use Rattle.sqlite_sql.specs.declared.ops.BinaryOp.TheVariants.{Compare}
+use Rattle.sqlite_sql.specs.declared.ops.CompareOp.TheVariants.{Eq}
+use Rattle.sqlite.specs.Query.{Query, inner, end}
+use Rattle.sqlite.specs.Schema.{Schema}
+use Rattle.sqlite.specs.Command.{Command}
+use Rattle.sqlite.specs.Command.TheVariants.{Select}
+use Rattle.sqlite.specs.Listing.{understood, reads_listing}
+use Rattle.sqlite.proofs.Callers.{IsPlain, command_of}
+use Rattle.sqlite_schema.specs.declared.program.Program.{Program}
+use Rattle.sqlite_resolve.specs.declared.compiled.Compiled.{Compiled}
+use Rattle.sqlite_resolve.specs.declared.error.CompileError.{CompileError}
+use Rattle.sqlite_typing.specs.Types.{accepts_program}
+
+-- the text is one command, plainly
+pub record IsCommand (schema : Schema) (sql : List ℕ) (command : Command) : Type 0 where
+  pub is : command_of (understood schema sql) ≡ command
+  pub plain : IsPlain (understood schema sql)
+
+-- no LIMIT
+abbrev pub all_rows : Term
+all_rows = lit (Int (negsuc 0))
+
+-- SELECT of terms from one table, with ORDER BY and LIMIT
+abbrev pub ordered_query : ℕ → List Term → List Term → List (Term × Key) → Term → Query
+ordered_query tree tests shown order limit = record {
+  from = inner tree end;
+  filter = tests;
+  group = None;
+  project = shown;
+  distinct = false;
+  collations = [];
+  order = order;
+  limit = limit;
+  offset = lit (Int (pos 0));
+}
+
+-- the same with neither
+abbrev pub plain_query : ℕ → List Term → List Term → Query
+plain_query tree tests shown = ordered_query tree tests shown [] all_rows
+
+-- a row passes the tests
+abbrev pub passes_tests : List Term → Row → Row → Bool
+passes_tests tests params row = list_all (holds (params ∷ row ∷ [])) tests
+
+-- the text shows these terms of the rows of a table that pass, in this order
+pub record TableQuery : Type 0 where
+  pub sql : List ℕ
+  pub tree : ℕ
+  pub tests : List Term
+  pub shown : List Term
+  pub names : List (List ℕ)
+  pub order : List (Term × Key)
+  pub limit : Term
+
+abbrev pub body_of : TableQuery → Query
+body_of q = ordered_query q.tree q.tests q.shown q.order q.limit
+
+abbrev pub program_of : TableQuery → Program
+program_of q = record { lets = []; body = body_of q }
+
+-- in this schema the text is that query, and reads no list of the tables
+pub record IsQuery (q : TableQuery) (schema : Schema) : Type 0 where
+  pub command : IsCommand schema q.sql (Select (program_of q) q.names)
+  pub unlisted : reads_listing schema q.sql ≡ false
+
+-- the text is one statement, with so many parameters
+abbrev pub IsWhole : List ℕ → ℕ → Result Compiled CompileError → Type 0
+IsWhole sql count (Ok c) = (length sql ≤ c.tail) × (length c.names ≡ count)
+IsWhole sql count (Err e) = ⊥
+
+-- in this schema the query takes these parameters
+pub record Takes (q : TableQuery) (params : Row) (schema : Schema) : Type 0 where
+  pub whole : IsWhole q.sql (length params) (understood schema q.sql)
+  pub typed : accepts_program schema [] (body_of q) params ≡ true
+
+-- ---- rows by their keys
+
+-- the first column is the parameter
+abbrev pub by_key : List Term
+by_key = op2 (Compare Eq Binary) (col 1 1) (col 0 0) ∷ []
+
+-- the first two columns are the parameters
+abbrev pub by_version : List Term
+by_version = op2 (Compare Eq Binary) (col 1 1) (col 0 0) ∷ op2 (Compare Eq Binary) (col 1 2) (col 0 1) ∷ []
+
+-- the rowid is the parameter
+abbrev pub by_id : List Term
+by_id = op2 (Compare Eq Binary) (col 1 0) (col 0 0) ∷ []

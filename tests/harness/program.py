@@ -1,0 +1,123 @@
+"""The program under test: runs of it, servers of it, and what becomes of both."""
+
+import os
+import shlex
+import socket
+import subprocess
+import tempfile
+import time
+
+TESTS = os.path.dirname(os.path.dirname(os.path.abspath(__file__)))
+PROGRAM = os.path.abspath(os.environ.get("AVROREG", f"{TESTS}/../crates/avroreg/out/avroreg"))
+SECONDS = 60
+
+
+class Wrong(Exception):
+    """A case that can't be read, or whose outcome isn't what is due."""
+
+
+def differs(where, due, came):
+    raise Wrong(f"{where}\n  due:  {shown(due)}\n  came: {shown(came)}")
+
+
+def shown(value):
+    text = value if isinstance(value, str) else repr(value)
+    return text if len(text) <= 2000 else f"{text[:1000]} .. {len(text)} characters .. {text[-500:]}"
+
+
+def scratch():
+    """A folder for files of a case, in memory where there is one."""
+    shm = "/dev/shm"
+    return tempfile.TemporaryDirectory(prefix="avroreg-", dir=shm if os.access(shm, os.W_OK) else None)
+
+
+def written(folder, name, content):
+    with open(os.path.join(folder, name), "wb") as file:
+        file.write(content if isinstance(content, bytes) else content.encode())
+
+
+def contents(folder, name):
+    """The bytes of a file, or None where there is none."""
+    try:
+        with open(os.path.join(folder, name), "rb") as file:
+            return file.read()
+    except FileNotFoundError:
+        return None
+
+
+def run(words, given=b"", folder=None, full=False, unread=False):
+    """A run with these words and this input. Where it is `full`, standard output takes nothing; an unread input is a folder."""
+    source, opened = {"input": given}, []
+    try:
+        if unread:
+            opened.append(os.open(folder, os.O_RDONLY))
+            source = {"stdin": opened[-1]}
+        if full:
+            opened.append(os.open("/dev/full", os.O_WRONLY))
+        out = opened[-1] if full else subprocess.PIPE
+        ran = subprocess.run([PROGRAM, *words], stdout=out, stderr=subprocess.PIPE, cwd=folder, timeout=SECONDS, **source)
+        return ended(ran.returncode, ran.stdout or b"", ran.stderr)
+    except subprocess.TimeoutExpired:
+        raise Wrong(f"avroreg {shlex.join(words)} took more than {SECONDS} seconds") from None
+    finally:
+        for it in opened:
+            os.close(it)
+
+
+def ended(status, out, err):
+    return subprocess.CompletedProcess((), status, out, err)
+
+
+def started(words, folder):
+    """A run that goes on beside the case, and takes its input bit by bit."""
+    pipes = {"stdin": subprocess.PIPE, "stdout": subprocess.PIPE, "stderr": subprocess.PIPE}
+    return subprocess.Popen([PROGRAM, *words], cwd=folder, **pipes)
+
+
+def held(where, due, ran):
+    """Holds what a run printed and its status to what is due: status, standard output, standard error."""
+    came = (ran.returncode, ran.stdout.decode(errors="backslashreplace"), ran.stderr.decode(errors="backslashreplace"))
+    if came != due:
+        differs(where, due, came)
+
+
+def served(folder, name, connections, talk):
+    """What `talk` gives with a server over a file that takes so many connections, and how the server ended. It is handed
+    the way to a connection."""
+    for _ in range(5):
+        port = free_port()
+        server = started(["serve", "--db", name, "--port", str(port), "--connections", str(connections)], folder)
+        try:
+            came = talk(lambda: connected(server, port))
+            out, err = server.communicate(timeout=SECONDS)
+            return came, ended(server.returncode, out, err)
+        except PortTaken:
+            pass
+        finally:
+            server.kill()
+            server.communicate()
+    raise Wrong("the server found no free port")
+
+
+class PortTaken(Exception):
+    """Another program took the port before the server did."""
+
+
+def free_port():
+    with socket.socket() as it:
+        it.bind(("127.0.0.1", 0))
+        return it.getsockname()[1]
+
+
+def connected(server, port):
+    """A connection to the server, once it listens."""
+    for _ in range(SECONDS * 200):
+        try:
+            return socket.create_connection(("127.0.0.1", port), timeout=SECONDS)
+        except OSError:
+            if server.poll() is not None:
+                if b"cannot listen" in server.stderr.read():
+                    raise PortTaken from None
+                raise Wrong(f"the server ended with {server.returncode} before it took a connection") from None
+            time.sleep(0.005)
+    raise Wrong("the server takes no connection")
