@@ -80,7 +80,7 @@ fn shown_after_each(alloc: Global, sent: &Sent) -> Result<Vec<String>, Fail> {
 
 /// How many of the writes get their answers. After a fault of the disk each gets 50001.
 fn count_answered(service: &mut Service<FileStore<File>>, sent: &Sent) -> Result<usize, Fail> {
-    let mut count = 0;
+    let mut count = 0usize;
     for (write, row) in sent.writes.iter().zip(WRITES) {
         let reply = service.answer(write);
         if !service.failed() && is_answer(&reply, &row) {
@@ -185,7 +185,7 @@ fn each_call_of_a_disk_fails_in_turn(rt: HostRuntime) -> Result<(), Fail> {
         reads: reads(alloc)?,
     };
     let shows = shown_after_each(alloc, &sent)?;
-    let mut calls = 0;
+    let mut calls = 0u64;
     let mut is_log = true;
     for _ in 0..4000 {
         let log = if is_log { calls } else { u64::MAX };
