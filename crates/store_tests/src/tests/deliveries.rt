@@ -1,6 +1,6 @@
 //! Deliveries and their answers.
 
-use httparse::spans::EMPTY_HEADER_SPAN;
+use httparse::spans::{EMPTY_HEADER_SPAN, HeaderSpan};
 use reg_core::{Command, Delivery, Key, Reply};
 use reg_messages::{Look, Request, look_at};
 use reg_routes::{Routes, command_of};
@@ -19,17 +19,25 @@ pub(super) type Row = (
     &'static str,
 );
 
+/// What the bytes of one message ask for, where memory isn't refused.
+fn asked(alloc: Global, bytes: &[u8]) -> Option<Command> {
+    let routes = Routes::new(alloc).ok()?;
+    let mut headers: Vec<HeaderSpan> = vec![in alloc; EMPTY_HEADER_SPAN; 4].ok()?;
+    let Look::Whole(whole) = look_at(bytes, headers.as_mut_slice()) else {
+        return None;
+    };
+    let request = Request::of(bytes, headers.as_slice(), whole);
+    match command_of(alloc, &routes, &request) {
+        Ok(delivery) => Some(delivery.command),
+        Err(_) => None,
+    }
+}
+
 /// What a method and a target ask for, with a body, where memory isn't refused.
 fn command(alloc: Global, line: &str, body: &str) -> Option<Command> {
     let length = body.len();
-    let text = format!(in alloc; "{line} HTTP/1.1\r\nContent-Length: {length}\r\n\r\n{body}").ok()?;
-    let routes = Routes::new(alloc).ok()?;
-    let mut headers = [EMPTY_HEADER_SPAN];
-    let Look::Whole(whole) = look_at(text.as_bytes(), &mut headers) else {
-        return None;
-    };
-    let request = Request::of(text.as_bytes(), &headers, whole);
-    Some(command_of(alloc, &routes, &request).ok()?.command)
+    let text = format!(in alloc; "{line} HTTP/1.1\r\nContent-Length: {length}\r\n\r\n{body}");
+    asked(alloc, text.ok()?.as_bytes())
 }
 
 /// The delivery of a row. At most one request for memory is refused.
@@ -71,21 +79,27 @@ pub(super) fn reads(alloc: Global) -> Result<Vec<Delivery<'static>>, Fail> {
     deliveries_of(alloc, &READS)
 }
 
-/// What a service shows of its registry: each answer in a line. At most one request for memory is refused.
+/// What a service answers to what is asked of it. At most one request for memory is refused.
 pub(super) fn shown(
-    alloc: Global,
     service: &mut Service<FileStore<File>>,
     reads: &[Delivery],
-) -> Result<String, Fail> {
-    let mut text = String::new(alloc);
-    for delivery in reads {
-        let mut reply = service.answer(delivery);
-        if reply.status() == 500 {
-            reply = service.answer(delivery);
+) -> Result<Vec<Reply>, Fail> {
+    for _ in 0..2 {
+        if let Ok(replies) = service.run(reads)
+            && replies.iter().all(|reply| reply.status() != 500)
+        {
+            return Ok(replies);
         }
-        let body = reply.body();
-        text.push_str(body).or_else(|_| text.push_str(body))?;
-        text.push('\n').or_else(|_| text.push('\n'))?;
     }
-    Ok(text)
+    Err("the registry shows nothing".into())
+}
+
+/// Whether two lists of replies are equal.
+pub(super) fn are_same(some: &[Reply], others: &[Reply]) -> bool {
+    for (reply, other) in some.iter().zip(others) {
+        if reply.status() != other.status() || reply.body() != other.body() {
+            return false;
+        }
+    }
+    some.len() == others.len()
 }

@@ -1,7 +1,7 @@
 //! Keyed writes over a disk that fails from some call on, and over what it leaves.
 
-use super::deliveries::{Row, deliveries_of, is_answer, reads, shown};
-use reg_core::Delivery;
+use super::deliveries::{Row, are_same, deliveries_of, is_answer, reads, shown};
+use reg_core::{Delivery, Reply};
 use reg_service::Service;
 use reg_store::StoreError;
 use reg_tables::{has_no_tables, kept_lines, text_ids, version_lines};
@@ -67,13 +67,13 @@ struct Sent {
 }
 
 /// What a registry shows after none of the writes, after the first, and so on.
-fn shown_after_each(alloc: Global, sent: &Sent) -> Result<Vec<String>, Fail> {
+fn shown_after_each(alloc: Global, sent: &Sent) -> Result<Vec<Vec<Reply>>, Fail> {
     let mut service = new_service(alloc)?;
     let mut all = Vec::new(alloc);
-    all.push(shown(alloc, &mut service, &sent.reads)?)?;
+    all.push(shown(&mut service, &sent.reads)?)?;
     for write in &sent.writes {
         service.answer(write);
-        all.push(shown(alloc, &mut service, &sent.reads)?)?;
+        all.push(shown(&mut service, &sent.reads)?)?;
     }
     Ok(all)
 }
@@ -146,11 +146,11 @@ fn is_found(
     alloc: Global,
     files: Files<File>,
     sent: &Sent,
-    may_show: &[String],
+    may_show: &[Vec<Reply>],
 ) -> Result<(), Fail> {
     let mut service = found(alloc, files)?;
-    let shown = shown(alloc, &mut service, &sent.reads)?;
-    if !may_show.contains(&shown) {
+    let shown = shown(&mut service, &sent.reads)?;
+    if !may_show.iter().any(|replies| are_same(replies, &shown)) {
         return Err("what was answered is lost".into());
     }
     if count_answered(&mut service, sent)? != WRITES.len() {
@@ -165,7 +165,13 @@ fn is_found(
 
 /// Whether nothing fails where the log does after so many calls, and the database. Holds what is left to what was answered,
 /// with or without the next write: where the process dies, and where the machine stops, which loses what isn't synced.
-fn is_whole(alloc: Global, log: u64, db: u64, sent: &Sent, shows: &[String]) -> Result<bool, Fail> {
+fn is_whole(
+    alloc: Global,
+    log: u64,
+    db: u64,
+    sent: &Sent,
+    shows: &[Vec<Reply>],
+) -> Result<bool, Fail> {
     let (count, mut files, is_whole) = attempt(alloc, empty_disk(alloc, log, db), sent)?;
     let end = shows.len().min(count.saturating_add(2));
     let may_show = shows.get(count..end).ok_or("too many answers")?;

@@ -1,6 +1,6 @@
 //! Memory that is refused once: under `rt try --test --fail-alloc N`, for each N.
 
-use super::deliveries::{deliveries_of, delivery_of, is_answer, reads, shown};
+use super::deliveries::{are_same, deliveries_of, delivery_of, is_answer, reads, shown};
 use super::services::ROWS;
 use reg_testing::new_service;
 use std::test::Fail;
@@ -13,11 +13,11 @@ fn refused_memory_changes_nothing(rt: HostRuntime) -> Result<(), Fail> {
     let mut service = new_service(alloc)?;
     for row in ROWS {
         let delivery = delivery_of(alloc, &row)?;
-        let before = shown(alloc, &mut service, &reads)?;
+        let before = shown(&mut service, &reads)?;
         let mut reply = service.answer(&delivery);
         if reply.status() == 500 {
-            let after = shown(alloc, &mut service, &reads)?;
-            assert_eq!(rt; after.as_str(), before.as_str());
+            let after = shown(&mut service, &reads)?;
+            assert!(rt; are_same(&after, &before));
             reply = service.answer(&delivery);
         }
         assert!(rt; is_answer(&reply, &row), "{}: {}", row.1, reply.body());
@@ -33,12 +33,12 @@ fn refused_memory_loses_no_other_delivery(rt: HostRuntime) -> Result<(), Fail> {
     let list = deliveries_of(alloc, &ROWS)?;
     let reads = reads(alloc)?;
     let mut service = new_service(alloc)?;
-    let before = shown(alloc, &mut service, &reads)?;
+    let before = shown(&mut service, &reads)?;
     let replies = match service.run(&list) {
         Ok(replies) => replies,
         Err(_) => {
-            let after = shown(alloc, &mut service, &reads)?;
-            assert_eq!(rt; after.as_str(), before.as_str());
+            let after = shown(&mut service, &reads)?;
+            assert!(rt; are_same(&after, &before));
             service.run(&list)?
         }
     };
