@@ -119,11 +119,11 @@ fn task_of(words: &[String], at: usize, fills: bool, measures: bool) -> Result<T
         subjects: versions,
         bytes: 0,
     };
-    let mut behind = at + 1;
+    let mut behind = at.saturating_add(1);
     if series.has_schemas {
-        size.subjects = number_at(words, at + 1)?;
-        size.bytes = number_at(words, at + 2)?;
-        behind = at + 3;
+        size.subjects = number_at(words, behind)?;
+        size.bytes = number_at(words, at.saturating_add(2))?;
+        behind = at.saturating_add(3);
     }
     Ok(Task {
         series,
