@@ -1,9 +1,9 @@
-//! What no clause says: how jobs come out, over disks that are closed and opened again, and with ends that fail.
+//! What no clause says: the bytes of messages, whole and in pieces, what fails in mid-stream, what is opened for jobs and how they come out.
 
-mod doing;
-mod failing;
-mod files;
+mod jobs;
+mod listings;
 mod loopback;
-mod pieces;
-mod runs;
+mod messages;
+mod schema_files;
+mod sessions;
 mod turns;

@@ -1,5 +1,5 @@
-//! What the tests of stores and jobs share: disks in memory, registries over them, and readers and writers that give and
-//! take little. It promises nothing.
+//! What the tests of stores, requests and jobs share: disks in memory, registries over them, and readers and writers that
+//! give and take little. It promises nothing.
 
 #![tactic(auto)]
 
@@ -7,6 +7,6 @@ mod disks;
 mod stores;
 mod streams;
 
-pub use disks::{File, connect, copied, empty_disk, let_go, over};
-pub use stores::{create, new_service, opened};
-pub use streams::{Pieces, Taker, in_pieces, taking};
+pub use disks::{close, connect, empty_disk, over};
+pub use stores::{created, new_service, opened, registry};
+pub use streams::{Failing, Pieces, in_pieces};

@@ -1,9 +1,10 @@
 //! Stores and services over new registries, and stores over those that a database has.
 
-use crate::disks::{File, connect, empty_disk};
+use crate::disks::{close, empty_disk, over};
 use reg_service::Service;
-use reg_store::{Store, StoreError};
-use sqlite::{Connection, FileStore};
+use reg_store::Store;
+use sqlite::{Alter, Connection, Files, MemStore};
+use sqlite_disk::Memory;
 use std::alloc::Global;
 use std::test::Fail;
 
@@ -11,15 +12,18 @@ use std::test::Fail;
 ///
 /// # Errors
 ///
-/// Why no registry can be made, and the connection. A transaction that is open counts as a fault of the disk.
-pub fn create(
+/// A failed test, where a transaction is open, or no registry can be made.
+pub fn created<S: Alter + Drop>(
     alloc: Global,
-    connection: Connection<FileStore<File>>,
-) -> Result<Store<FileStore<File>>, (StoreError, Connection<FileStore<File>>)> {
+    connection: Connection<S>,
+) -> Result<Store<S>, Fail> {
     if !connection.is_autocommit() {
-        return Err((StoreError::Disk, connection));
+        return Err("a transaction is open".into());
     }
-    Store::create(alloc, connection)
+    match Store::create(alloc, connection) {
+        Ok(store) => Ok(store),
+        Err((error, _)) => Err(error.into()),
+    }
 }
 
 /// A store over the registry that a database has.
@@ -27,10 +31,7 @@ pub fn create(
 /// # Errors
 ///
 /// A failed test, where a transaction is open, or the database is no registry.
-pub fn opened(
-    alloc: Global,
-    connection: Connection<FileStore<File>>,
-) -> Result<Store<FileStore<File>>, Fail> {
+pub fn opened<S: Alter + Drop>(alloc: Global, connection: Connection<S>) -> Result<Store<S>, Fail> {
     if !connection.is_autocommit() {
         return Err("a transaction is open".into());
     }
@@ -40,18 +41,28 @@ pub fn opened(
     }
 }
 
-/// A service over a new registry on an empty disk. At most one request for memory is refused.
+/// The files of a new registry.
+///
+/// # Errors
+///
+/// A failed test, where no registry can be made.
+pub fn registry(alloc: Global) -> Result<Files<Memory>, Fail> {
+    let store = created(alloc, over(alloc, empty_disk(alloc))?)?;
+    close(store.into_connection())
+}
+
+/// A service over a new registry in memory. At most one request for memory is refused.
 ///
 /// # Errors
 ///
 /// A failed test, where memory is refused twice.
-pub fn new_service(alloc: Global) -> Result<Service<FileStore<File>>, Fail> {
+pub fn new_service(alloc: Global) -> Result<Service<MemStore>, Fail> {
     for _ in 0..2 {
-        if let Ok(connection) = connect(alloc, empty_disk(alloc, u64::MAX, u64::MAX))
-            && let Ok(store) = create(alloc, connection)
+        if let Ok(connection) = Connection::open_in_memory(alloc)
+            && let Ok(store) = Store::create(alloc, connection)
         {
             return Ok(Service::new(alloc, store));
         }
     }
-    Err("no registry was made".into())
+    Err("no tables were made".into())
 }

@@ -1,6 +1,5 @@
 //! Readers and writers that give and take a few bytes at a time, and fail.
 
-use std::alloc::Global;
 use std::io::{self, Read, Write};
 
 /// A reader that gives so many bytes at a time, and fails once its reads are used up.
@@ -24,10 +23,10 @@ impl<'a> Read for Pieces<'a> {
     }
 }
 
-/// The bytes, of which each read gives so many.
-pub fn in_pieces(bytes: &[u8], size: usize) -> Pieces<'_> {
+/// The text, of which each read gives so many bytes.
+pub fn in_pieces(text: &[u8], size: usize) -> Pieces<'_> {
     Pieces {
-        left: bytes,
+        left: text,
         size,
         reads: usize::MAX,
     }
@@ -35,13 +34,13 @@ pub fn in_pieces(bytes: &[u8], size: usize) -> Pieces<'_> {
 
 /// A writer that takes a byte at a time, and fails or takes nothing once its writes are used up.
 #[derive(Drop)]
-pub struct Taker {
+pub struct Failing {
     pub taken: Vec<u8>,
     pub writes: usize,
     pub takes_nothing: bool,
 }
 
-impl Write for Taker {
+impl Write for Failing {
     fn write(&mut self, buf: &[u8]) -> io::Result<usize> {
         if self.writes == 0 && self.takes_nothing {
             return Ok(0);
@@ -56,14 +55,5 @@ impl Write for Taker {
 
     fn flush(&mut self) -> io::Result<()> {
         Ok(())
-    }
-}
-
-/// A writer that takes all that it is given.
-pub fn taking(alloc: Global) -> Taker {
-    Taker {
-        taken: Vec::new(alloc),
-        writes: usize::MAX,
-        takes_nothing: false,
     }
 }

@@ -1,4 +1,4 @@
-//! Tests of stores and of services, over disks that fail too.
+//! Tests of the tables, of stores and of services, over memory and over disks that fail.
 
 #![tactic(auto)]
 

@@ -1,7 +1,7 @@
-//! What no clause says: that with ample memory each call does its work, and what failing disks and refused memory leave.
+//! What no clause says: that with ample memory each call does its work, and what failing disks leave.
 
 mod deliveries;
+mod disks;
 mod faults;
-mod memory;
 mod services;
 mod stores;

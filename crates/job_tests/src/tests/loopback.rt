@@ -1,44 +1,58 @@
 //! Connections on loopback, in one thread: what the client sends lies in the system's buffers until it is served.
 
-use super::doing::{FULL_SET, GET, IS_BACKWARD, IS_FULL, SET_FULL, joined};
+use super::sessions::{FULL_SET, IS_BACKWARD, IS_FULL, SET_FULL, joined};
 use reg_jobs::serve_on;
 use reg_testing::new_service;
 use std::io::{self, Read, Write};
 use std::net::{Ipv4Addr, Shutdown, TcpListener, TcpStream};
+use std::process::Abort;
 use std::str;
 use std::test::Fail;
 
 /// A connection to the listener, over which these bytes were sent.
-fn sent(rt: &HostRuntime, listener: &TcpListener, parts: &[&str]) -> io::Result<TcpStream> {
+fn sent(rt: &HostRuntime, listener: &TcpListener, bytes: &str) -> io::Result<TcpStream> {
     let mut stream = TcpStream::connect(rt, listener.local_addr()?)?;
-    for part in parts {
-        stream.write_all(part.as_bytes())?;
-    }
+    stream.write_all(bytes.as_bytes())?;
     stream.shutdown(Shutdown::Write)?;
     Ok(stream)
+}
+
+/// Holds what came back over a connection to the text.
+fn expect(rt: &(impl Abort + AllocGlobal), mut stream: TcpStream, text: &str) -> Result<(), Fail> {
+    let mut bytes = Vec::new(rt.alloc());
+    stream.read_to_end(&mut bytes)?;
+    assert_eq!(rt; str::from_utf8(bytes.as_slice()), Ok(text));
+    Ok(())
 }
 
 #[test]
 fn connections_are_served_in_turn(rt: HostRuntime) -> Result<(), Fail> {
     let listener = TcpListener::bind(&rt, (Ipv4Addr::LOCALHOST, 0))?;
     let mut service = new_service(rt.alloc())?;
-    let mut streams = [
-        (sent(&rt, &listener, &[GET])?, IS_BACKWARD),
-        // the end inside a message has no answer
-        (sent(&rt, &listener, &[&SET_FULL[..40]])?, ""),
-        (sent(&rt, &listener, &[SET_FULL])?, FULL_SET),
-        (sent(&rt, &listener, &[SET_FULL])?, FULL_SET),
-    ];
-    let mut last = sent(&rt, &listener, &[GET, SET_FULL])?;
+    let get = "GET /config HTTP/1.1\r\n\r\n";
+    let first = sent(&rt, &listener, get)?;
+    let cut = sent(&rt, &listener, &SET_FULL[..40])?;
+    let set = sent(&rt, &listener, SET_FULL)?;
+    let again = sent(&rt, &listener, SET_FULL)?;
+    let last = sent(&rt, &listener, get)?;
     serve_on(rt.alloc(), &listener, 4, &mut service);
-    for (stream, answer) in &mut streams {
-        let mut bytes = Vec::new(rt.alloc());
-        stream.read_to_end(&mut bytes)?;
-        assert_eq!(rt; str::from_utf8(bytes.as_slice()), Ok(*answer));
-    }
+    expect(&rt, first, IS_BACKWARD)?;
+    // the end inside a message has no answer
+    expect(&rt, cut, "")?;
+    expect(&rt, set, FULL_SET)?;
+    expect(&rt, again, FULL_SET)?;
     serve_on(rt.alloc(), &listener, 1, &mut service);
-    let mut bytes = Vec::new(rt.alloc());
-    last.read_to_end(&mut bytes)?;
-    assert_eq!(rt; bytes, joined(rt.alloc(), &[IS_FULL, FULL_SET])?);
-    Ok(())
+    expect(&rt, last, IS_FULL)
+}
+
+#[test]
+fn a_connection_has_many_messages(rt: HostRuntime) -> Result<(), Fail> {
+    let listener = TcpListener::bind(&rt, (Ipv4Addr::LOCALHOST, 0))?;
+    let mut service = new_service(rt.alloc())?;
+    let get = "GET /config HTTP/1.1\r\n\r\n";
+    let input = joined(rt.alloc(), &[get, SET_FULL, SET_FULL, get])?;
+    let output = joined(rt.alloc(), &[IS_BACKWARD, FULL_SET, FULL_SET, IS_FULL])?;
+    let stream = sent(&rt, &listener, str::from_utf8(input.as_slice())?)?;
+    serve_on(rt.alloc(), &listener, 1, &mut service);
+    expect(&rt, stream, str::from_utf8(output.as_slice())?)
 }

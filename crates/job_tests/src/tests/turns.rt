@@ -1,6 +1,6 @@
 //! Who speaks on a connection: no byte is read while a whole message that was read has no answer.
 
-use super::doing::{FULL_SET, SET_FULL, joined};
+use super::sessions::{FULL_SET, SET_FULL, joined};
 use reg_http::{Ended, serve};
 use reg_testing::new_service;
 use std::cell::Cell;
@@ -32,12 +32,12 @@ impl<'a> Read for Asking<'a> {
 
 /// Takes an answer a write.
 #[derive(Drop)]
-struct Saying<'a> {
+struct Taking<'a> {
     taken: Vec<u8>,
     answers: &'a Cell<usize>,
 }
 
-impl<'a> Write for Saying<'a> {
+impl<'a> Write for Taking<'a> {
     fn write(&mut self, buf: &[u8]) -> io::Result<usize> {
         self.taken.extend_from_slice(buf)?;
         self.answers.set(self.answers.get().saturating_add(1));
@@ -61,7 +61,7 @@ fn each_message_is_answered_before_the_next_read(rt: HostRuntime) -> Result<(), 
             given: 0,
             answers: &answers,
         };
-        let mut writer = Saying {
+        let mut writer = Taking {
             taken: Vec::new(rt.alloc()),
             answers: &answers,
         };

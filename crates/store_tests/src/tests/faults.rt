@@ -1,211 +1,209 @@
-//! Keyed writes over a disk that fails from some call on, and over what it leaves.
+//! Deliveries over a disk that fails from some call on.
 
-use super::deliveries::{Row, are_same, deliveries_of, is_answer, reads, shown};
-use reg_core::{Delivery, Reply};
+use super::deliveries::{Ask, FAULT, Row, answers_each, reply_to};
+use super::disks::{contents, copied, copy};
 use reg_service::Service;
-use reg_store::StoreError;
-use reg_tables::{has_no_tables, kept_lines, text_ids, version_lines};
-use reg_testing::{File, connect, copied, create, empty_disk, let_go, new_service, opened, over};
-use sqlite::{Connection, FileStore, Files};
-use sqlite_disk::Crash;
+use reg_store::{Store, StoreError};
+use reg_testing::{connect, created, opened, over, registry};
+use sqlite::{Alter, Connection, FileStore, Files};
+use sqlite_disk::{Crash, Disk, Fuse, Memory};
 use std::alloc::Global;
+use std::process::Abort;
 use std::test::Fail;
 
-/// Writes with keys of their own: whichever was carried out last, all of them sent again get these answers.
-pub(super) const WRITES: [Row; 8] = [
-    (
-        Some("z1"),
-        "PUT /config",
-        r#"{"compatibility":"FULL"}"#,
-        200,
-        r#"{"compatibility":"FULL"}"#,
-    ),
-    (
-        Some("z2"),
-        "POST /subjects/t/versions",
-        r#"{"schema":"\"int\""}"#,
-        200,
-        r#"{"id":1}"#,
-    ),
-    (
-        Some("z3"),
-        "POST /subjects/t/versions",
-        r#"{"schema":"\"string\""}"#,
-        409,
-        r#"{"error_code":409,"message":"Schema is incompatible with an earlier version"}"#,
-    ),
-    (Some("z4"), "DELETE /subjects/t/versions/1", "", 200, "1"),
-    (
-        Some("z5"),
-        "POST /subjects/t/versions",
-        r#"{"schema":"\"string\""}"#,
-        200,
-        r#"{"id":2}"#,
-    ),
-    (
-        Some("z6"),
-        "DELETE /subjects/t?permanent=true",
-        "",
-        404,
-        r#"{"error_code":40405,"message":"Subject is not soft-deleted"}"#,
-    ),
-    (Some("z7"), "DELETE /subjects/t", "", 200, "[2]"),
-    (
-        Some("z8"),
-        "DELETE /subjects/t?permanent=true",
-        "",
-        200,
-        "[1,2]",
-    ),
+const ROWS: [Row; 6] = [
+    Row {
+        key: Some("k1"),
+        ask: Ask::SetGlobal("FULL"),
+        status: 200,
+        body: "{\"compatibility\":\"FULL\"}",
+    },
+    Row {
+        key: None,
+        ask: Ask::SetLevel("NONE"),
+        status: 200,
+        body: "{\"compatibility\":\"NONE\"}",
+    },
+    Row {
+        key: Some("k2"),
+        ask: Ask::SetGlobal("full"),
+        status: 422,
+        body: "{\"error_code\":42203,\"message\":\"Invalid compatibility level\"}",
+    },
+    Row {
+        key: None,
+        ask: Ask::Level,
+        status: 200,
+        body: "{\"compatibilityLevel\":\"NONE\"}",
+    },
+    Row {
+        key: Some("k1"),
+        ask: Ask::SetGlobal("FULL"),
+        status: 200,
+        body: "{\"compatibility\":\"FULL\"}",
+    },
+    Row {
+        key: Some("k3"),
+        ask: Ask::SetLevel("FORWARD"),
+        status: 200,
+        body: "{\"compatibility\":\"FORWARD\"}",
+    },
 ];
 
-/// What is sent: the writes, and what is asked to see the registry.
-#[derive(Drop)]
-struct Sent {
-    writes: Vec<Delivery<'static>>,
-    reads: Vec<Delivery<'static>>,
-}
-
-/// What a registry shows after none of the writes, after the first, and so on.
-fn shown_after_each(alloc: Global, sent: &Sent) -> Result<Vec<Vec<Reply>>, Fail> {
-    let mut service = new_service(alloc)?;
-    let mut all = Vec::new(alloc);
-    all.push(shown(&mut service, &sent.reads)?)?;
-    for write in &sent.writes {
-        service.answer(write);
-        all.push(shown(&mut service, &sent.reads)?)?;
+/// What the database of a registry holds after each count of the rows.
+fn held_after(rt: &impl Abort, alloc: Global) -> Result<Vec<String>, Fail> {
+    let mut held = Vec::new(alloc);
+    let mut store = created(alloc, Connection::open_in_memory(alloc)?)?;
+    for count in 0..ROWS.len() + 1 {
+        let mut service = Service::new(alloc, store);
+        answers_each(
+            rt,
+            alloc,
+            &mut service,
+            &ROWS[count.saturating_sub(1)..count],
+        )?;
+        let mut connection = service.into_store().into_connection();
+        held.push(contents(alloc, &mut connection)?)?;
+        store = opened(alloc, connection)?;
     }
-    Ok(all)
+    Ok(held)
 }
 
-/// How many of the writes get their answers. After a fault of the disk each gets 50001.
-fn count_answered(service: &mut Service<FileStore<File>>, sent: &Sent) -> Result<usize, Fail> {
-    let mut count = 0usize;
-    for (write, row) in sent.writes.iter().zip(WRITES) {
-        let reply = service.answer(write);
-        if !service.failed() && is_answer(&reply, &row) {
-            count = count.saturating_add(1);
-        } else if !service.failed() || reply.status() != 500 {
-            return Err(row.1.into());
+/// Delivers the rows, and answers how many got their answer: after a fault of the disk each gets
+/// 50001.
+fn answered<S: Alter + Drop>(
+    rt: &impl Abort,
+    alloc: Global,
+    service: &mut Service<S>,
+) -> Result<usize, Fail> {
+    let mut count = 0;
+    for (at, row) in ROWS.iter().enumerate() {
+        let reply = reply_to(alloc, service, row)?;
+        if service.failed() {
+            assert_eq!(rt; reply.body(), FAULT);
+        } else {
+            assert_eq!(rt; reply.body(), row.body);
+            assert_eq!(rt; reply.status(), row.status);
+            assert_eq!(rt; count, at);
+            count = at + 1;
         }
     }
     Ok(count)
 }
 
-/// How many of the writes get their answers from a new registry on an empty disk, what is left of the disk, and whether
-/// nothing failed.
-fn attempt(
+/// The contents that are found on a disk. Its files can be opened.
+fn found<D: Disk + Drop>(alloc: Global, files: Files<D>) -> Result<String, Fail> {
+    let mut connection = opened(alloc, over(alloc, files)?)?.into_connection();
+    contents(alloc, &mut connection)
+}
+
+/// Holds what is found after the fault to what was answered, with or without the next delivery. A
+/// process that dies loses no write, and a machine that stops loses each one that is not synced.
+fn is_found(
+    rt: &impl Abort,
     alloc: Global,
-    files: Files<File>,
-    sent: &Sent,
-) -> Result<(usize, Files<File>, bool), Fail> {
+    mut files: Files<Fuse<Memory>>,
+    held: &[String],
+) -> Result<(), Fail> {
+    let copies = Files {
+        log: copied(alloc, files.log.inner())?,
+        db: copied(alloc, files.db.inner())?,
+    };
+    let kept = found(alloc, copies)?;
+    assert!(rt;
+        held.iter().any(|text| text.as_str() == kept.as_str()),
+        "{kept}"
+    );
+    files.log.crash();
+    files.db.crash();
+    let synced = found(alloc, files)?;
+    assert!(rt;
+        held.iter().any(|text| text.as_str() == synced.as_str()),
+        "{synced}"
+    );
+    Ok(())
+}
+
+/// The files of a connection, closed or not, and whether it was.
+fn let_go<D: Disk + Drop>(connection: Connection<FileStore<D>>) -> (Files<D>, bool) {
+    match connection.close_files() {
+        Ok(files) => (files, true),
+        Err((_, store)) => (store.close(), false),
+    }
+}
+
+/// The number that was answered over the files, the files, and whether they were closed.
+fn run<D: Disk + Drop>(
+    rt: &impl Abort,
+    alloc: Global,
+    files: Files<D>,
+) -> Result<(usize, Files<D>, bool), Fail> {
     let connection = match connect(alloc, files) {
         Ok(connection) => connection,
         Err(files) => return Ok((0, files, false)),
     };
-    match create(alloc, connection) {
-        Ok(store) => {
-            let mut service = Service::new(alloc, store);
-            let count = count_answered(&mut service, sent)?;
-            let (files, is_closed) = let_go(service.into_store().into_connection());
-            Ok((count, files, is_closed && count == WRITES.len()))
-        }
-        Err((StoreError::Disk, connection)) => {
-            let (files, _) = let_go(connection);
-            Ok((0, files, false))
-        }
-        Err(_) => Err("another fault than the disk's".into()),
-    }
-}
-
-/// The service over what is found on a disk: the registry, or a new one in an empty database.
-fn found(alloc: Global, files: Files<File>) -> Result<Service<FileStore<File>>, Fail> {
-    let connection = over(alloc, files)?;
-    if !has_no_tables(&connection) {
-        return Ok(Service::new(alloc, opened(alloc, connection)?));
-    }
-    match create(alloc, connection) {
-        Ok(store) => Ok(Service::new(alloc, store)),
-        Err((error, _)) => Err(error.into()),
-    }
-}
-
-/// Whether the tables hold what all of the writes leave, each carried out once.
-fn holds_all(alloc: Global, connection: &mut Connection<FileStore<File>>) -> Result<bool, Fail> {
     if !connection.is_autocommit() {
         return Err("a transaction is open".into());
     }
-    let kept = kept_lines(alloc, connection)?.len();
-    let texts = text_ids(alloc, connection)?.len();
-    let versions = version_lines(alloc, connection)?.len();
-    Ok(kept == WRITES.len() && texts == 2 && versions == 0)
+    let (count, connection) = match Store::open(alloc, connection) {
+        Ok(store) => {
+            let mut service = Service::new(alloc, store);
+            let count = answered(rt, alloc, &mut service)?;
+            (count, service.into_store().into_connection())
+        }
+        Err((error, connection)) => {
+            assert_eq!(rt; error, StoreError::Disk);
+            (0, connection)
+        }
+    };
+    let (files, closed) = let_go(connection);
+    Ok((count, files, closed))
 }
 
-/// Holds a disk to what it may show, and to the answers of all of the writes, which are sent again.
-fn is_found(
-    alloc: Global,
-    files: Files<File>,
-    sent: &Sent,
-    may_show: &[Vec<Reply>],
-) -> Result<(), Fail> {
-    let mut service = found(alloc, files)?;
-    let shown = shown(&mut service, &sent.reads)?;
-    if !may_show.iter().any(|replies| are_same(replies, &shown)) {
-        return Err("what was answered is lost".into());
-    }
-    if count_answered(&mut service, sent)? != WRITES.len() {
-        return Err("a repeat failed".into());
-    }
-    let mut connection = service.into_store().into_connection();
-    if !holds_all(alloc, &mut connection)? {
-        return Err("a repeat was carried out again".into());
-    }
-    Ok(())
-}
-
-/// Whether nothing fails where the log does after so many calls, and the database. Holds what is left to what was answered,
-/// with or without the next write: where the process dies, and where the machine stops, which loses what isn't synced.
+/// Whether nothing fails over a registry whose log fails after so many calls, and its database too.
 fn is_whole(
+    rt: &impl Abort,
     alloc: Global,
+    files: Files<Memory>,
     log: u64,
     db: u64,
-    sent: &Sent,
-    shows: &[Vec<Reply>],
+    held: &[String],
 ) -> Result<bool, Fail> {
-    let (count, mut files, is_whole) = attempt(alloc, empty_disk(alloc, log, db), sent)?;
-    let end = shows.len().min(count.saturating_add(2));
-    let may_show = shows.get(count..end).ok_or("too many answers")?;
-    is_found(alloc, copied(alloc, &files)?, sent, may_show)?;
-    files.log.crash();
-    files.db.crash();
-    is_found(alloc, files, sent, may_show)?;
-    Ok(is_whole)
+    let files = Files {
+        log: Fuse::new(files.log, log),
+        db: Fuse::new(files.db, db),
+    };
+    let (count, files, closed) = run(rt, alloc, files)?;
+    assert!(rt; count < held.len());
+    let end = held.len().min(count + 2);
+    is_found(rt, alloc, files, &held[count..end])?;
+    Ok(count == ROWS.len() && closed)
 }
 
-/// No answer is lost and no write is carried out twice, whichever call of the log, or of the database, fails first.
 #[test]
-fn each_call_of_a_disk_fails_in_turn(rt: HostRuntime) -> Result<(), Fail> {
+fn each_call_of_the_log_fails_in_turn(rt: HostRuntime) -> Result<(), Fail> {
     let alloc = rt.alloc();
-    let sent = Sent {
-        writes: deliveries_of(alloc, &WRITES)?,
-        reads: reads(alloc)?,
-    };
-    let shows = shown_after_each(alloc, &sent)?;
-    let mut calls = 0u64;
-    let mut is_log = true;
-    for _ in 0..4000 {
-        let log = if is_log { calls } else { u64::MAX };
-        let db = if is_log { u64::MAX } else { calls };
-        if !is_whole(alloc, log, db, &sent, &shows)? {
-            calls = calls.saturating_add(1);
-        } else if is_log {
-            assert!(rt; calls > 20, "{calls}");
-            is_log = false;
-            calls = 0;
-        } else {
-            assert!(rt; calls > 20, "{calls}");
+    let held = held_after(&rt, alloc)?;
+    let files = registry(alloc)?;
+    for calls in 0..1000 {
+        if is_whole(&rt, alloc, copy(alloc, &files)?, calls, u64::MAX, &held)? {
+            assert!(rt; calls > 20);
             return Ok(());
         }
     }
-    Err("no attempt was whole".into())
+    Err("no run was whole".into())
+}
+
+#[test]
+fn each_call_of_the_database_fails_in_turn(rt: HostRuntime) -> Result<(), Fail> {
+    let alloc = rt.alloc();
+    let held = held_after(&rt, alloc)?;
+    let files = registry(alloc)?;
+    for calls in 0..1000 {
+        if is_whole(&rt, alloc, copy(alloc, &files)?, u64::MAX, calls, &held)? {
+            assert!(rt; calls > 20);
+            return Ok(());
+        }
+    }
+    Err("no run was whole".into())
 }

@@ -1,230 +1,261 @@
-//! The service over a registry, as it answers one delivery after the other and all of them in a list.
+//! The service over a registry in memory.
 
-use super::deliveries::{Row, delivery_of, is_answer};
+use reg_core::{Command, Key, OutOfMemory, Reply, Subject, Text};
+use reg_service::{Delivery, Service};
 use reg_testing::new_service;
+use sqlite::MemStore;
+use std::alloc::Global;
+use std::process::Abort;
 use std::test::Fail;
 
-/// Each command has a 200 among these.
-pub(super) const ROWS: [Row; 32] = [
-    (
-        None,
-        "GET /config",
-        "",
-        200,
-        r#"{"compatibilityLevel":"BACKWARD"}"#,
-    ),
-    (
-        Some("k1"),
-        "PUT /config",
-        r#"{"compatibility":"FULL"}"#,
-        200,
-        r#"{"compatibility":"FULL"}"#,
-    ),
-    (
-        Some("k1"),
-        "PUT /config",
-        r#"{"compatibility":"FULL"}"#,
-        200,
-        r#"{"compatibility":"FULL"}"#,
-    ),
-    (
-        Some("k1"),
-        "PUT /config",
-        r#"{"compatibility":"NONE"}"#,
-        422,
-        REUSED,
-    ),
-    (
-        Some("k1"),
-        "GET /config",
-        "",
-        200,
-        r#"{"compatibilityLevel":"FULL"}"#,
-    ),
-    // a refusal, which its key keeps whatever comes between
-    (
-        Some("k2"),
-        "POST /subjects/t/versions",
-        r#"{"schema":"\"Foo\""}"#,
-        422,
-        INVALID,
-    ),
-    (
-        Some("k3"),
-        "POST /subjects/t/versions",
-        r#"{"schema":"\"int\""}"#,
-        200,
-        r#"{"id":1}"#,
-    ),
-    (
-        Some("k2"),
-        "POST /subjects/t/versions",
-        r#"{"schema":"\"Foo\""}"#,
-        422,
-        INVALID,
-    ),
-    (
-        Some("k2"),
-        "POST /subjects/t/versions",
-        r#"{"schema":"\"int\""}"#,
-        422,
-        REUSED,
-    ),
-    (
-        Some("k3"),
-        "POST /subjects/u/versions",
-        r#"{"schema":"\"int\""}"#,
-        422,
-        REUSED,
-    ),
-    (
-        None,
-        "PUT /config/t",
-        r#"{"compatibility":"NONE"}"#,
-        200,
-        r#"{"compatibility":"NONE"}"#,
-    ),
-    (
-        None,
-        "GET /config/t",
-        "",
-        200,
-        r#"{"compatibilityLevel":"NONE"}"#,
-    ),
-    (
-        None,
-        "GET /config/u?defaultToGlobal=true",
-        "",
-        200,
-        r#"{"compatibilityLevel":"FULL"}"#,
-    ),
-    (
-        None,
-        "POST /subjects/t/versions",
-        r#"{"schema":"\"string\""}"#,
-        200,
-        r#"{"id":2}"#,
-    ),
-    (
-        None,
-        "POST /subjects/t",
-        r#"{"schema":"{\"type\":\"int\"}"}"#,
-        200,
-        r#"{"id":1,"schema":"\"int\"","subject":"t","version":1}"#,
-    ),
-    (None, "GET /subjects", "", 200, r#"["t"]"#),
-    (None, "GET /subjects/t/versions", "", 200, "[1,2]"),
-    (
-        None,
-        "GET /subjects/t/versions/latest",
-        "",
-        200,
-        r#"{"id":2,"schema":"\"string\"","subject":"t","version":2}"#,
-    ),
-    (
-        None,
-        "GET /subjects/t/versions/1/schema",
-        "",
-        200,
-        r#""int""#,
-    ),
-    (
-        None,
-        "GET /schemas/ids/2",
-        "",
-        200,
-        r#"{"schema":"\"string\""}"#,
-    ),
-    (
-        None,
-        "GET /schemas/ids/1/versions",
-        "",
-        200,
-        r#"[{"subject":"t","version":1}]"#,
-    ),
-    (None, "GET /schemas/types", "", 200, r#"["AVRO"]"#),
-    (
-        None,
-        "POST /compatibility/subjects/t/versions/1",
-        r#"{"schema":"\"bytes\""}"#,
-        200,
-        r#"{"is_compatible":true}"#,
-    ),
-    (
-        None,
-        "POST /compatibility/subjects/t/versions",
-        r#"{"schema":"\"bytes\""}"#,
-        200,
-        r#"{"is_compatible":true}"#,
-    ),
-    (
-        Some("k4"),
-        "DELETE /subjects/t/versions/latest",
-        "",
-        200,
-        "2",
-    ),
-    (
-        Some("k4"),
-        "DELETE /subjects/t/versions/latest",
-        "",
-        200,
-        "2",
-    ),
-    (
-        None,
-        "DELETE /subjects/t/versions/2?permanent=true",
-        "",
-        200,
-        "2",
-    ),
-    (None, "DELETE /subjects/t", "", 200, "[1]"),
-    (None, "DELETE /subjects/t?permanent=true", "", 200, "[1]"),
-    // repeats of what is gone
-    (
-        Some("k3"),
-        "POST /subjects/t/versions",
-        r#"{"schema":"\"int\""}"#,
-        200,
-        r#"{"id":1}"#,
-    ),
-    (
-        Some("k4"),
-        "DELETE /subjects/t/versions/latest",
-        "",
-        200,
-        "2",
-    ),
-    (
-        None,
-        "GET /subjects/t/versions",
-        "",
-        404,
-        r#"{"error_code":40401,"message":"Subject not found"}"#,
-    ),
+/// What is asked: of the global level, or of a subject's.
+#[derive(Clone, Copy)]
+enum Ask {
+    SetGlobal(&'static str),
+    SetLevel(&'static str, &'static str),
+    Global,
+    LevelOf(&'static str, bool),
+}
+
+/// A retry key, what is asked, and the answer.
+type Row = (Option<&'static str>, Ask, u16, &'static str);
+
+const BACKWARD: &str = "{\"compatibilityLevel\":\"BACKWARD\"}";
+
+const FULL: &str = "{\"compatibilityLevel\":\"FULL\"}";
+
+const NONE: &str = "{\"compatibilityLevel\":\"NONE\"}";
+
+const FORWARD: &str = "{\"compatibilityLevel\":\"FORWARD\"}";
+
+const FORWARD_SET: &str = "{\"compatibility\":\"FORWARD\"}";
+
+const NO_OWN: &str = "{\"error_code\":40408,\"message\":\"Subject has no level of its own\"}";
+
+const FULL_SET: &str = "{\"compatibility\":\"FULL\"}";
+
+const NONE_SET: &str = "{\"compatibility\":\"NONE\"}";
+
+const INVALID: &str = "{\"error_code\":42203,\"message\":\"Invalid compatibility level\"}";
+
+const FAULT: &str = "{\"error_code\":50001,\"message\":\"Error in the backend data store\"}";
+
+const REUSED: &str =
+    "{\"error_code\":42290,\"message\":\"Retry key was used for another request\"}";
+
+const ROWS: [Row; 14] = [
+    (None, Ask::Global, 200, BACKWARD),
+    // A keyed write, its repeat, and its key with another command.
+    (Some("k1"), Ask::SetGlobal("FULL"), 200, FULL_SET),
+    (Some("k1"), Ask::SetGlobal("FULL"), 200, FULL_SET),
+    (Some("k1"), Ask::SetGlobal("NONE"), 422, REUSED),
+    (None, Ask::Global, 200, FULL),
+    // A refusal, which its key keeps whatever comes between.
+    (Some("k5"), Ask::SetGlobal("full"), 422, INVALID),
+    (None, Ask::SetGlobal("NONE"), 200, NONE_SET),
+    (Some("k5"), Ask::SetGlobal("full"), 422, INVALID),
+    (Some("k5"), Ask::SetGlobal("FULL"), 422, REUSED),
+    // Two keys by turns, and a read beside one of them.
+    (Some("a"), Ask::SetGlobal("FULL"), 200, FULL_SET),
+    (Some("b"), Ask::SetGlobal("NONE"), 200, NONE_SET),
+    (Some("a"), Ask::SetGlobal("FULL"), 200, FULL_SET),
+    (Some("b"), Ask::SetGlobal("NONE"), 200, NONE_SET),
+    (Some("a"), Ask::Global, 200, NONE),
 ];
 
-const REUSED: &str = r#"{"error_code":42290,"message":"Retry key was used for another request"}"#;
+/// Subjects beside the global level.
+const SUBJECTS: [Row; 20] = [
+    (None, Ask::LevelOf("s", false), 404, NO_OWN),
+    (None, Ask::LevelOf("s", true), 200, BACKWARD),
+    (None, Ask::SetLevel("s", "Full"), 422, INVALID),
+    (None, Ask::LevelOf("s", false), 404, NO_OWN),
+    // A keyed write and its repeat, which acts once though another write came between.
+    (Some("k1"), Ask::SetLevel("s", "FORWARD"), 200, FORWARD_SET),
+    (None, Ask::LevelOf("s", false), 200, FORWARD),
+    (None, Ask::SetLevel("s", "FULL"), 200, FULL_SET),
+    (Some("k1"), Ask::SetLevel("s", "FORWARD"), 200, FORWARD_SET),
+    (None, Ask::LevelOf("s", true), 200, FULL),
+    // A refusal, which its key keeps, and its key with a level that is one.
+    (Some("k2"), Ask::SetLevel("s", "full"), 422, INVALID),
+    (None, Ask::SetLevel("s", "FULL"), 200, FULL_SET),
+    (Some("k2"), Ask::SetLevel("s", "full"), 422, INVALID),
+    (Some("k2"), Ask::SetLevel("s", "FULL"), 422, REUSED),
+    // The first key with another subject, another level, and the global level.
+    (Some("k1"), Ask::SetLevel("t", "FORWARD"), 422, REUSED),
+    (Some("k1"), Ask::SetLevel("s", "FULL"), 422, REUSED),
+    (Some("k1"), Ask::SetGlobal("FORWARD"), 422, REUSED),
+    // Another subject and the global level are as they were.
+    (None, Ask::LevelOf("t", false), 404, NO_OWN),
+    (None, Ask::SetGlobal("NONE"), 200, NONE_SET),
+    (None, Ask::LevelOf("t", true), 200, NONE),
+    (None, Ask::LevelOf("s", false), 200, FULL),
+];
 
-const INVALID: &str = r#"{"error_code":42201,"message":"Invalid schema"}"#;
+fn text_of(alloc: Global, text: &str) -> Result<Text, OutOfMemory> {
+    Ok(Text::from(String::from_str(alloc, text)?))
+}
 
-/// No contract refuses a service that answers 50001 to every delivery, or that always gives a list up. This does.
-#[test]
-fn every_delivery_fails(rt: HostRuntime) -> Result<(), Fail> {
-    let alloc = rt.alloc();
-    let mut list = Vec::new(alloc);
+/// The subject with this text. Each text of the rows is one.
+fn subject_of(alloc: Global, text: &str) -> Result<Subject, OutOfMemory> {
+    Subject::new(String::from_str(alloc, text)?).ok_or(OutOfMemory)
+}
+
+fn command_of(alloc: Global, ask: Ask) -> Result<Command, OutOfMemory> {
+    match ask {
+        Ask::SetGlobal(level) => Ok(Command::SetGlobal {
+            level: text_of(alloc, level)?,
+        }),
+        Ask::SetLevel(subject, level) => Ok(Command::SetLevel {
+            subject: subject_of(alloc, subject)?,
+            level: text_of(alloc, level)?,
+        }),
+        Ask::Global => Ok(Command::Global),
+        Ask::LevelOf(subject, default_to_global) => Ok(Command::LevelOf {
+            subject: subject_of(alloc, subject)?,
+            default_to_global,
+        }),
+    }
+}
+
+fn delivery_of(alloc: Global, row: &Row) -> Result<Delivery<'static>, OutOfMemory> {
+    Ok(Delivery {
+        key: row.0.and_then(|text| Key::parse(text)),
+        command: command_of(alloc, row.1)?,
+    })
+}
+
+fn deliveries_of(alloc: Global, rows: &[Row]) -> Result<Vec<Delivery<'static>>, OutOfMemory> {
+    let mut list = Vec::with_capacity(alloc, rows.len())?;
+    for row in rows {
+        list.push(delivery_of(alloc, row)?)?;
+    }
+    Ok(list)
+}
+
+fn assert_answer(rt: &impl Abort, reply: &Reply, row: &Row) {
+    assert_eq!(rt; reply.body(), row.3);
+    assert_eq!(rt; reply.status(), row.2);
+}
+
+fn assert_fault(rt: &impl Abort, reply: &Reply) {
+    assert_eq!(rt; reply.body(), FAULT);
+}
+
+/// What asks for all that the rows change: the level of the subject s, and the global one. At most one
+/// request for memory is refused.
+fn reads(alloc: Global) -> Result<Vec<Delivery<'static>>, OutOfMemory> {
+    let rows = [
+        (None, Ask::LevelOf("s", false), 200, ""),
+        (None, Ask::Global, 200, ""),
+    ];
+    deliveries_of(alloc, &rows).or_else(|_| deliveries_of(alloc, &rows))
+}
+
+/// What the service answers to the reads. At most one request for memory is refused.
+fn shown(service: &mut Service<MemStore>, reads: &[Delivery]) -> Result<Vec<Reply>, Fail> {
+    for _ in 0..2 {
+        if let Ok(replies) = service.run(reads)
+            && replies.iter().all(|reply| reply.status() != 500)
+        {
+            return Ok(replies);
+        }
+    }
+    Err("the registry shows nothing".into())
+}
+
+fn assert_same(rt: &impl Abort, replies: &[Reply], others: &[Reply]) {
+    assert_eq!(rt; replies.len(), others.len());
+    for (reply, other) in replies.iter().zip(others) {
+        assert_eq!(rt; reply.status(), other.status());
+        assert_eq!(rt; reply.body(), other.body());
+    }
+}
+
+fn answers_each(rt: &impl Abort, alloc: Global, rows: &[Row]) -> Result<(), Fail> {
     let mut service = new_service(alloc)?;
-    for row in ROWS {
-        let delivery = delivery_of(alloc, &row)?;
-        let reply = service.answer(&delivery);
-        assert!(rt; is_answer(&reply, &row), "{}: {}", row.1, reply.body());
-        list.push(delivery)?;
+    for row in rows {
+        let reply = service.answer(&delivery_of(alloc, row)?);
+        assert_answer(rt, &reply, row);
     }
     assert!(rt; !service.failed());
-    let replies = new_service(alloc)?.run(&list)?;
-    assert_eq!(rt; replies.len(), ROWS.len());
-    for (reply, row) in replies.iter().zip(ROWS) {
-        assert!(rt; is_answer(reply, &row), "{}: {}", row.1, reply.body());
+    Ok(())
+}
+
+/// No contract refuses a service that answers 50001 to every delivery. This does: with ample memory
+/// each delivery has its answer, and each command a 200.
+#[test]
+fn every_delivery_fails(rt: HostRuntime) -> Result<(), Fail> {
+    answers_each(&rt, rt.alloc(), &ROWS)?;
+    answers_each(&rt, rt.alloc(), &SUBJECTS)
+}
+
+fn runs_all(rt: &impl Abort, alloc: Global, rows: &[Row]) -> Result<(), Fail> {
+    let mut service = new_service(alloc)?;
+    let replies = service.run(&deliveries_of(alloc, rows)?)?;
+    assert_eq!(rt; replies.len(), rows.len());
+    for (reply, row) in replies.iter().zip(rows) {
+        assert_answer(rt, reply, row);
+    }
+    Ok(())
+}
+
+#[test]
+fn run_answers_each_in_order(rt: HostRuntime) -> Result<(), Fail> {
+    runs_all(&rt, rt.alloc(), &ROWS)?;
+    runs_all(&rt, rt.alloc(), &SUBJECTS)
+}
+
+fn answers_each_in_the_end(rt: &impl Abort, alloc: Global, rows: &[Row]) -> Result<(), Fail> {
+    let reads = reads(alloc)?;
+    let mut service = new_service(alloc)?;
+    for row in rows {
+        let delivery = delivery_of(alloc, row).or_else(|_| delivery_of(alloc, row))?;
+        let before = shown(&mut service, &reads)?;
+        let mut reply = service.answer(&delivery);
+        if reply.status() == 500 {
+            assert_fault(rt, &reply);
+            let after = shown(&mut service, &reads)?;
+            assert_same(rt, &after, &before);
+            reply = service.answer(&delivery);
+        }
+        assert_answer(rt, &reply, row);
+    }
+    Ok(())
+}
+
+/// Under `rt try --test --fail-alloc N`, for each N, at most one request for memory is refused. The
+/// delivery is then answered 50001 and has changed nothing: sent again, it gets its answer.
+#[test]
+fn refused_memory_changes_nothing(rt: HostRuntime) -> Result<(), Fail> {
+    answers_each_in_the_end(&rt, rt.alloc(), &ROWS[1..9])?;
+    answers_each_in_the_end(&rt, rt.alloc(), &SUBJECTS[2..9])
+}
+
+/// The same of `run`: where it gives up nothing was carried out, and where one delivery is answered
+/// 50001 the others get their answers.
+#[test]
+fn refused_memory_loses_no_other_delivery(rt: HostRuntime) -> Result<(), Fail> {
+    let alloc = rt.alloc();
+    let reads = reads(alloc)?;
+    let rows = &ROWS[..9];
+    let list = deliveries_of(alloc, rows).or_else(|_| deliveries_of(alloc, rows))?;
+    let mut service = new_service(alloc)?;
+    let before = shown(&mut service, &reads)?;
+    let replies = match service.run(&list) {
+        Ok(replies) => replies,
+        Err(_) => {
+            let after = shown(&mut service, &reads)?;
+            assert_same(&rt, &after, &before);
+            service.run(&list)?
+        }
+    };
+    assert_eq!(rt; replies.len(), rows.len());
+    let refused = replies.iter().filter(|reply| reply.status() == 500);
+    assert!(rt; refused.count() <= 1);
+    for (reply, row) in replies.iter().zip(rows) {
+        if reply.status() != 500 {
+            assert_answer(&rt, reply, row);
+        }
     }
     Ok(())
 }

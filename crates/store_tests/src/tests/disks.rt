@@ -1,0 +1,67 @@
+//! What disks in memory hold.
+
+use sqlite::{Alter, Connection, Error, Files, Row};
+use sqlite_disk::{Disk, Memory};
+use std::alloc::Global;
+use std::test::Fail;
+
+/// The file as a process that ends now leaves it.
+pub(super) fn copied(alloc: Global, file: &Memory) -> Result<Memory, Fail> {
+    let mut copy = Memory::new(alloc);
+    copy.write_at(0, file.bytes())?;
+    copy.sync()?;
+    Ok(copy)
+}
+
+/// The files as a process that ends now leaves them.
+pub(super) fn copy(alloc: Global, files: &Files<Memory>) -> Result<Files<Memory>, Fail> {
+    Ok(Files {
+        log: copied(alloc, &files.log)?,
+        db: copied(alloc, &files.db)?,
+    })
+}
+
+/// The statements that declare what a database has.
+const DECLARED: &str = "SELECT type, name, sql FROM sqlite_schema ORDER BY name";
+
+/// The rows of a registry that has no schema.
+const ROWS: &str =
+    "SELECT 'kept' AS what, key || ' ' || status || ' ' || command AS name, body AS value FROM kept UNION ALL SELECT 'level', subject, level FROM levels UNION ALL SELECT 'meta', name, value FROM meta ORDER BY what, name";
+
+/// The rows that a query of three texts shows, or nothing where it fails.
+fn rows_of<S: Alter + Drop>(
+    alloc: Global,
+    connection: &mut Connection<S>,
+    sql: &str,
+) -> Result<Vec<Row>, Error> {
+    match connection.query_all(sql, &[]) {
+        Ok(rows) => Ok(rows),
+        Err(_) => Ok(Vec::new(alloc)),
+    }
+}
+
+/// Adds the rows to the text, each in a line.
+fn add_rows(text: &mut String, rows: &[Row]) -> Result<(), Fail> {
+    for row in rows {
+        for at in 0..3 {
+            let cell: Option<String> = row.get(at)?;
+            text.push_str(cell.as_ref().map_or("", |cell| cell.as_str()))?;
+            text.push('|')?;
+        }
+        text.push('\n')?;
+    }
+    Ok(())
+}
+
+/// What the database holds, as a text.
+pub(super) fn contents<S: Alter + Drop>(
+    alloc: Global,
+    connection: &mut Connection<S>,
+) -> Result<String, Fail> {
+    let mut text = String::new(alloc);
+    let declared = rows_of(alloc, connection, DECLARED)?;
+    add_rows(&mut text, &declared)?;
+    let rows = rows_of(alloc, connection, ROWS)?;
+    add_rows(&mut text, &rows)?;
+    Ok(text)
+}
