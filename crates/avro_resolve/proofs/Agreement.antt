@@ -7,19 +7,19 @@ use Rattle.avro_resolve.specs.Inside.Agreeing.{Agree}
 use Rattle.avro_resolve.specs.Inside.Left.{Agreed}
 
 pub fits_agree : (R : Pairs) (i j : ℕ) (a b : NodeView) → Fits R i j a b → Agree a b
-fits_agree R i j (union ps) b h = tt
-fits_agree R i j (primitive k x) (union ps) h = tt
-fits_agree R i j (array p x) (union ps) h = tt
-fits_agree R i j (mapping p x) (union ps) h = tt
-fits_agree R i j (enumeration n s f x) (union ps) h = tt
-fits_agree R i j (fixed n s x) (union ps) h = tt
-fits_agree R i j (rec n fs x) (union ps) h = tt
-fits_agree R i j (array p x) (array q y) h = tt
-fits_agree R i j (mapping p x) (mapping q y) h = tt
-fits_agree R i j (primitive k x) (primitive l y) h = h
+fits_agree R i j (union ps) b h = (tt, tt)
+fits_agree R i j (primitive k x) (union ps) h = (tt, tt)
+fits_agree R i j (array p x) (union ps) h = (tt, tt)
+fits_agree R i j (mapping p x) (union ps) h = (tt, tt)
+fits_agree R i j (enumeration n s f x) (union ps) h = (tt, tt)
+fits_agree R i j (fixed n s x) (union ps) h = (tt, tt)
+fits_agree R i j (rec n fs x) (union ps) h = (tt, tt)
+fits_agree R i j (array p x) (array q y) h = (tt, tt)
+fits_agree R i j (mapping p x) (mapping q y) h = (tt, tt)
+fits_agree R i j (primitive k x) (primitive l y) h = (h, tt)
 fits_agree R i j (enumeration n s f x) (enumeration m t g y) h = h
-fits_agree R i j (fixed n s x) (fixed m t y) h = h
-fits_agree R i j (rec n fs x) (rec m gs y) h = h.0
+fits_agree R i j (fixed n s x) (fixed m t y) h = (h, tt)
+fits_agree R i j (rec n fs x) (rec m gs y) h = (h.0, tt)
 fits_agree R i j _ _ h = absurd h
 
 both_agreed : (R : Pairs) (i j : ℕ) (x y : Option NodeView) → MatchOption x ⊥ (λ a. MatchOption y ⊥ (λ b. Fits R i j a b)) → MatchOption x ⊥ (λ a. MatchOption y ⊥ (λ b. Agree a b))

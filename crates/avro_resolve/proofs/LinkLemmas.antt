@@ -1,34 +1,58 @@
--- Links stay as more of them are noted and more names get numbers.
-use Rattle.std.proofs.Common.{◌≡◌, ℕ, List, get_or}
-use Rattle.std.specs.Prelude.{Bool, Vec}
+-- Links stay as more of them are noted, and tell by which names places are referred to.
+use Rattle.std.proofs.Common.{◌≡◌, ℕ, suc, ◌+◌, ◌<◌, List, [], ◌∷◌, ◌++◌, take, Option, Some, None, Bool, true, false, length, get_or, refl, sym, ap, subst, ◌∙◌, arith}
+use Rattle.std.specs.Prelude.{All, MatchOption, option_and_then, slice_get, Vec}
 use Rattle.std.specs.declared.alloc.Global.{Global}
+use Rattle.std.specs.List.{AllZip}
+use Rattle.std.specs.Option.{IsSomeAnd}
+use Rattle.std.proofs.lemmas.List.Elements.{All-cons, All-nil}
+use Rattle.std.proofs.lemmas.List.{take_more}
+use Rattle.std.proofs.lemmas.Option.{get_or_from_slice_get, slice_get-get_or, slice_get_within}
+use Rattle.std.proofs.lemmas.Slice.Zip.{AllZip-left, all_zipped_more}
 use Rattle.avro_nodes.specs.Nodes.{FieldView, NodeView, primitive, array, mapping, union, enumeration, fixed, rec}
-use Rattle.avro_resolve.specs.declared.askers.Askers.{Askers}
+use Rattle.avro_schema.specs.declared.index.FieldRanks.{FieldRanks}
+use Rattle.avro_schema.specs.Index.{AreFieldsRanked, AreRanks, IsFieldRanked, IsRank}
+use Rattle.avro_resolve.specs.declared.aliased.Aliased.{Aliased}
 use Rattle.avro_resolve.specs.declared.links.Link.{Link}
-use Rattle.avro_resolve.specs.declared.numbers.Numbers.{Numbers}
-use Rattle.avro_resolve.specs.Inside.Askers.{HasAskers, IsLinked, IsFieldLinked, IsNodeLinked, IsUnionListed, LinkedBy, names_by}
+use Rattle.avro_resolve.specs.declared.links.Links.{Links}
+use Rattle.avro_resolve.specs.Inside.Askers.{HasLabel, IsAlias, LinkedBy, IsFieldLinked, AreFieldsLinked, IsPlaceLinked, IsUnionListed, Notes, alias_labels}
 use Rattle.avro_resolve.specs.Inside.Lists.{StandsAt}
-use Rattle.avro_resolve.specs.Inside.Numbers.{Keeps}
+use Rattle.avro_resolve.specs.Inside.Meeting.{Tell}
+use Rattle.avro_resolve.proofs.ListLemmas.{adds_none, adds_then}
 
-module _ (t u : Numbers) (xs ys : List (Vec Link Global)) (keeps : Keeps t u) (stand : (x : Link) (p : ℕ) → StandsAt xs x p → StandsAt ys x p) where
-  pub linked_by_on : (P : ℕ → Type 0) (i p : ℕ) → LinkedBy P xs i p → LinkedBy P ys i p
-  linked_by_on P i p (x, e, a, s) = (x, e, a, stand x p s)
+-- ---- more is noted
 
-  pub linked_on : (i p : ℕ) (name : List ℕ) → IsLinked t xs i p name → IsLinked u ys i p name
-  unfolding Keeps
-  linked_on i p name (x, e, a, s) = (x, keeps name x.label e, a, stand x p s)
+pub notes_none : (asker : ℕ) (links : Links) → Notes asker links links
+notes_none asker links = record { adds = adds_none (λ x. x.asker ≡ asker) links.lists.items; kept = λ number field e. e }
 
-  pub field_linked_on : (aliased : Bool) (i : ℕ) (f : FieldView) → IsFieldLinked t xs aliased i f → IsFieldLinked u ys aliased i f
-  field_linked_on aliased i f h k d l = linked_on i f.place (get_or (names_by aliased f) k d) (h k d l)
+pub notes_then : (asker : ℕ) (xs ys zs : Links) → Notes asker xs ys → Notes asker ys zs → Notes asker xs zs
+notes_then asker xs ys zs g h = record {
+  adds = adds_then (λ x. x.asker ≡ asker) xs.lists.items ys.lists.items zs.lists.items g.adds h.adds;
+  kept = λ number field e. h.kept number field (g.kept number field e);
+}
 
-  pub node_linked_on : (aliased : Bool) (i : ℕ) (a : NodeView) → IsNodeLinked t xs aliased i a → IsNodeLinked u ys aliased i a
-  node_linked_on aliased i (primitive k x) h = h
-  node_linked_on aliased i (array p x) h = linked_by_on (λ k. k ≡ 0) i p h
-  node_linked_on aliased i (mapping p x) h = linked_by_on (λ k. k ≡ 0) i p h
-  node_linked_on aliased i (union ps) h = h
-  node_linked_on aliased i (enumeration n s f x) h = h
-  node_linked_on aliased i (fixed n s x) h = h
-  node_linked_on aliased i (rec n fs x) h = λ k d l. field_linked_on aliased i (get_or fs k d) (h k d l)
+module _ (old new : Links) (stand : (x : Link) (p : ℕ) → StandsAt old.lists.items x p → StandsAt new.lists.items x p)
+    (kept : (number : ℕ) (field : Aliased) → slice_get old.aliased.items number ≡ Some field → slice_get new.aliased.items number ≡ Some field) where
+  pub linked_on : (Such : Link → Type 0) (i p : ℕ) → LinkedBy Such old.lists.items i p → LinkedBy Such new.lists.items i p
+  linked_on Such i p (x, s, a, h) = (x, s, a, stand x p h)
+
+  pub alias_on : (i index label p : ℕ) → LinkedBy (IsAlias old.aliased.items i index label) old.lists.items i p → LinkedBy (IsAlias new.aliased.items i index label) new.lists.items i p
+  alias_on i index label p (x, (number, has, at), a, h) = (x, (number, has, kept number (record { place = i; index = index }) at), a, stand x p h)
+
+  pub field_on : (met : List (Option ℕ)) (aliased : Bool) (i index p : ℕ) (ranks : FieldRanks) → IsFieldLinked met aliased old i index p ranks → IsFieldLinked met aliased new i index p ranks
+  field_on met aliased i index p ranks h = record {
+    own = λ label e. linked_on (HasLabel label None) i p (h.own label e);
+    aliases = λ k d l. alias_on i index (get_or (alias_labels aliased ranks.aliases.items) k d) p (h.aliases k d l);
+  }
+
+  pub place_on : (names : List (List ℕ)) (met : List (Option ℕ)) (aliased : Bool) (i : ℕ) (a : NodeView) → IsPlaceLinked names met aliased old i a → IsPlaceLinked names met aliased new i a
+  place_on names met aliased i a (ranks, h) = (
+    ranks,
+    record {
+      contained = λ p e. linked_on (HasLabel 0 None) i p (h.contained p e);
+      ranked = h.ranked;
+      fields = λ index f y e g. field_on met aliased i index f.place y (h.fields index f y e g);
+    },
+  )
 
 pub union_listed_on : (xs ys : List (Vec ℕ Global)) (i : ℕ) → ((x p : ℕ) → StandsAt xs x p → StandsAt ys x p) → (a : NodeView) → IsUnionListed xs i a → IsUnionListed ys i a
 union_listed_on xs ys i stand (union ps) h = λ k d l. stand i (get_or ps k d) (h k d l)
@@ -39,12 +63,69 @@ union_listed_on xs ys i stand (enumeration n s f x) h = h
 union_listed_on xs ys i stand (fixed n s x) h = h
 union_listed_on xs ys i stand (rec n fs x) h = h
 
-pub askers_on : (t u : Numbers) (aliased : Bool) (nodes : List NodeView) (askers : Askers) → Keeps t u → HasAskers t aliased nodes askers → HasAskers u aliased nodes askers
-askers_on t u aliased nodes askers keeps h = record {
-  unions = h.unions;
-  links = record {
-    within = h.links.within;
-    sorted = h.links.sorted;
-    named = λ i a e. node_linked_on t u askers.links.items askers.links.items keeps (λ x p s. s) aliased i a (h.links.named i a e);
-  };
-}
+-- ---- what links say of names
+
+and_some : {X : Type 0} (P : X → Type 0) (o : Option X) → IsSomeAnd o P → (x : X) × (o ≡ Some x) × P x
+and_some P None h = absurd h
+and_some P (Some x) h = (x, refl, h)
+
+pub then_some : {X Y : Type 0} (g : X → Option Y) (o : Option X) (y : Y) → option_and_then g o ≡ Some y → (x : X) × (o ≡ Some x) × (g x ≡ Some y)
+then_some g None y e = absurd cc
+then_some g (Some x) y e = (x, refl, e)
+
+-- what stands beside an element of the first list
+pub zip_got : {X Y : Type 0} (P : X → Y → Type 0) (xs : List X) (ys : List Y) → AllZip P xs ys → (k : ℕ) (x : X) → slice_get xs k ≡ Some x → (y : Y) × (slice_get ys k ≡ Some y) × P x y
+zip_got {X} P xs ys zip k x e = and_some (P x) (slice_get ys k) (subst (λ (o : Option X). MatchOption o (Unit {0}) (λ z. IsSomeAnd (slice_get ys k) (P z))) e (AllZip-left P xs ys zip k))
+
+-- one more of two lists side by side
+pub zip_more : {X Y : Type 0} (P : X → Y → Type 0) (xs : List X) (i : ℕ) (x : X) (ys : List Y) (y : Y) → slice_get xs i ≡ Some x → AllZip P (take i xs) ys → P x y → AllZip P (take (i + 1) xs) (ys ++ y ∷ [])
+zip_more {X} P xs i x ys y e so_far now =
+    let l : i < length xs = slice_get_within xs i x e in
+    let more : take (i + 1) xs ≡ take i xs ++ x ∷ [] = take_more xs i x l ∙ ap (λ z. take i xs ++ z ∷ []) (get_or_from_slice_get xs i x x e) in
+    subst (λ (zs : List X). AllZip P zs (ys ++ y ∷ [])) (sym more) (all_zipped_more P (take i xs) ys x y so_far now)
+
+-- the writer's place refers to the type of a field by the rank that the reader has for the field's name
+abbrev pub IsMetBy : List (List ℕ) → Links → ℕ → FieldView → Type 0
+IsMetBy r links i g = (rank : ℕ) → IsRank r g.name rank → LinkedBy (HasLabel rank None) links.lists.items i g.place
+
+pub met_by : (w r : List (List ℕ)) (met : List (Option ℕ)) → Tell w r met → (links : Links) (i : ℕ) (fields : List FieldView) (ranks : List FieldRanks) → AreFieldsRanked w fields ranks → AreFieldsLinked met false links i fields ranks
+    → All (IsMetBy r links i) fields
+met_by w r met tell links i fields ranks ranked linked k d l rank er =
+    let g = get_or fields k d in
+    let eg : slice_get fields k ≡ Some g = slice_get-get_or fields k d l in
+    let x = zip_got (IsFieldRanked w) fields ranks ranked k g eg in
+    (linked k g x.0 eg x.1).own rank ((tell x.0.name rank g.name g.name x.2.name er).1 refl)
+
+-- the link is of the field's own name, or of one of the aliases of the record's field of this index
+abbrev pub IsOf : List Aliased → ℕ → ℕ → Option ℕ → Type 0
+IsOf aliased asker index None = Unit {0}
+IsOf aliased asker index (Some number) = slice_get aliased number ≡ Some (record { place = asker; index = index })
+
+abbrev pub Seeks : List Aliased → ℕ → ℕ → ℕ → Link → Type 0
+Seeks aliased asker index label x = (x.label ≡ label) × IsOf aliased asker index x.alias
+
+-- the reader's place refers to the type of its field by the rank of the name
+abbrev pub IsSoughtBy : List (List ℕ) → Links → ℕ → ℕ → ℕ → List ℕ → Type 0
+IsSoughtBy r links j index place name = (rank : ℕ) × IsRank r name rank × LinkedBy (Seeks links.aliased.items j index rank) links.lists.items j place
+
+module _ (r : List (List ℕ)) (links : Links) (j index place : ℕ) where
+  own_sought : (name : List ℕ) (rank : ℕ) → IsRank r name rank → LinkedBy (HasLabel rank None) links.lists.items j place → IsSoughtBy r links j index place name
+  own_sought name rank er (x, (l, n), a, h) = (rank, er, (x, (l, subst (IsOf links.aliased.items j index) (sym n) tt), a, h))
+
+  alias_sought : (name : List ℕ) (rank : ℕ) → IsRank r name rank → LinkedBy (IsAlias links.aliased.items j index rank) links.lists.items j place → IsSoughtBy r links j index place name
+  alias_sought name rank er (x, (number, (l, n), at), a, h) = (rank, er, (x, (l, subst (IsOf links.aliased.items j index) (sym n) at), a, h))
+
+  aliases_sought : (texts : List (List ℕ)) (ranks : List ℕ) → AreRanks r texts ranks → All (λ label. LinkedBy (IsAlias links.aliased.items j index label) links.lists.items j place) ranks → All (IsSoughtBy r links j index place) texts
+  aliases_sought [] ranks e h = All-nil (IsSoughtBy r links j index place)
+  aliases_sought (t ∷ ts) [] e h = absurd cc
+  aliases_sought (t ∷ ts) (x ∷ xs) e h =
+      let here : slice_get r x ≡ Some t = cc in
+      let rest : AreRanks r ts xs = cc in
+      All-cons (IsSoughtBy r links j index place) t ts (alias_sought t x here (h 0 x (omega arith))) (aliases_sought ts xs rest (λ k d l. h (suc k) d (omega arith)))
+
+pub sought_by : (r : List (List ℕ)) (met : List (Option ℕ)) (links : Links) (j : ℕ) (fields : List FieldView) (ranks : List FieldRanks) → AreFieldsRanked r fields ranks → AreFieldsLinked met true links j fields ranks
+    → (index : ℕ) (f : FieldView) → slice_get fields index ≡ Some f → All (IsSoughtBy r links j index f.place) (f.name ∷ f.aliases)
+sought_by r met links j fields ranks ranked linked index f ef =
+    let x = zip_got (IsFieldRanked r) fields ranks ranked index f ef in
+    let is = linked index f x.0 ef x.1 in
+    All-cons (IsSoughtBy r links j index f.place) f.name f.aliases (own_sought r links j index f.place f.name x.0.name x.2.name (is.own x.0.name refl)) (aliases_sought r links j index f.place f.aliases x.0.aliases.items x.2.aliases is.aliases)

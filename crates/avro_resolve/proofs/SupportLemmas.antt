@@ -1,33 +1,15 @@
--- Fields, symbols and nodes of the code, and what contracts see of them.
-use Rattle.std.proofs.Common.{◌≡◌, ◌<◌, ◌≤◌, ℕ, length, refl, arith, List, Option, Some, None, Bool, false, true≢false, map, get_or, is_some, String, Global, string_bytes, sym, subst, ◌∙◌}
-use Rattle.std.specs.Prelude.{All, Any, Contains, IfSome, IsSome, IsTrue, option_map, ◌↔◌}
-use Rattle.std.specs.List.{list_any, list_all}
-use Rattle.std.proofs.lemmas.List.Sums.{AllPass-from_list_all, list_all-from_AllPass}
-use Rattle.std.specs.Str.{bytes_eq}
-use Rattle.std.proofs.Math.ListN.{get_or-map}
-use Rattle.std.proofs.lemmas.List.{length-map}
+-- The branches of a union.
+use Rattle.std.proofs.Common.{◌≡◌, ◌<◌, ◌≤◌, ℕ, length, refl, arith, List, ◌∷◌, Option, Some, None, Bool, false, true≢false, map, get_or, is_some, sym, subst, ◌∙◌}
+use Rattle.std.specs.Prelude.{All, Any, IfSome, IsSome, IsTrue, MatchOption, option_map, ◌↔◌}
+use Rattle.std.proofs.lemmas.Option.{same_Some}
+use Rattle.avro_nodes.specs.Nodes.{FieldView, field_view}
+use Rattle.avro_resolve.specs.Asking.{source_place}
+use Rattle.avro_resolve.specs.Resolution.{Pairs, Readable, source}
+use Rattle.avro_resolve.proofs.Monotone.{named_in}
+use Rattle.avro_resolve.proofs.ViewLemmas.{all_of}
 use Rattle.std.proofs.lemmas.List.Elements.{All-map}
-use Rattle.avro_nodes.specs.Nodes.{texts_view}
+use Rattle.avro_nodes.specs.declared.node.Field.{Field}
 use Rattle.avro_resolve.proofs.ListLemmas.{get_or_any}
-use Rattle.avro_resolve.proofs.NameLemmas.{has_texts}
-
--- what holds of each element's view
-pub all_of : {X Y : Type 0} (P : Y → Type 0) (f : X → Y) (xs : List X) → All P (map f xs) → All (λ x. P (f x)) xs
-all_of P f xs h k d l = subst P (get_or-map f xs k d) (h k (f d) (rw length-map l))
-
--- each of a writer's symbols is one of the reader's
-pub all_symbols : (known symbols : List (String Global)) → IsTrue (list_all (λ s. list_any (λ t. bytes_eq (string_bytes t) (string_bytes s)) known) symbols) ↔ All (Contains (texts_view known)) (texts_view symbols)
-all_symbols known symbols =
-    let test = λ (s : String Global). list_any (λ t. bytes_eq (string_bytes t) (string_bytes s)) known in (
-      (λ h. All-map (Contains (texts_view known)) string_bytes symbols (λ k d l. (has_texts known (string_bytes (get_or symbols k d))).0 (AllPass-from_list_all test symbols h k d l))),
-      (λ h. list_all-from_AllPass test symbols (λ k d l. (has_texts known (string_bytes (get_or symbols k d))).1 (all_of (Contains (texts_view known)) string_bytes symbols h k d l))),
-    )
-
-pub no_fallback : (o : Option (String Global)) (b : Bool) → b ≡ is_some o → b ≡ false → IsSome (option_map string_bytes o) → ⊥
-no_fallback None b e f h = true≢false (sym h)
-no_fallback (Some x) b e f h = true≢false (sym e ∙ f)
-
--- ---- the branches of a union
 
 pub found_at : (R : ℕ → Bool) (places : List ℕ) (at : ℕ) → (at < length places) × IsTrue (R (get_or places at 0)) → Any (λ p. IsTrue (R p)) places
 found_at R places at h = (at, get_or places at 0, h.0, get_or_any places at (get_or places at 0) 0 h.0, h.1)
@@ -39,3 +21,37 @@ found_any R places None b e found none = (
   (λ (k, x, l, same, h). absurd (true≢false (sym h ∙ subst (λ (p : ℕ). R p ≡ false) same (none refl k x (omega arith) l)))),
 )
 found_any R places (Some at) b e found none = ((λ h. found_at R places at found), (λ h. e))
+
+-- ---- a field that is read from its source, or by its default
+
+pub place_within : (n : ℕ) (fields : List FieldView) (f : FieldView) (o : Option FieldView) (place : ℕ) → All (λ g. g.place < n) fields → source fields f ≡ o → Some place ≡ option_map (λ g. g.place) o → place < n
+place_within n fields f None place h e s = absurd cc
+place_within n fields f (Some g) place h e s =
+    let same : g.place ≡ place = cc in
+    subst (λ p. p < n) same (named_in (λ g. g.place < n) g (f.name ∷ f.aliases) fields h e)
+
+read_by : (R : Pairs) (X : Type 0) (o : Option FieldView) (place q : ℕ) → option_map (λ (g : FieldView). g.place) o ≡ Some place → IsTrue (R place q) ↔ MatchOption o X (λ g. IsTrue (R g.place q))
+read_by R X None place q e = absurd cc
+read_by R X (Some g) place q e =
+    let same : g.place ≡ place = same_Some g.place place e in
+    ((λ h. subst (λ (p : ℕ). IsTrue (R p q)) (sym same) h), (λ h. subst (λ (p : ℕ). IsTrue (R p q)) same h))
+
+pub read_from : (R : Pairs) (fields : List FieldView) (f : FieldView) (place : ℕ) → source_place fields f ≡ Some place → IsTrue (R place f.place) ↔ Readable R fields f
+read_from R fields f place e = read_by R (IsSome f.value) (source fields f) place f.place e
+
+unread_by : (R : Pairs) (X : Type 0) (o : Option FieldView) (q : ℕ) → option_map (λ (g : FieldView). g.place) o ≡ None → X ↔ MatchOption o X (λ g. IsTrue (R g.place q))
+unread_by R X None q e = ((λ h. h), (λ h. h))
+unread_by R X (Some g) q e = absurd cc
+
+pub read_default : (R : Pairs) (fields : List FieldView) (f : FieldView) → source_place fields f ≡ None → IsSome f.value ↔ Readable R fields f
+read_default R fields f e = unread_by R (IsSome f.value) (source fields f) f.place e
+
+pub default_told : {X Y : Type 0} (o : Option X) (view : X → Y) (b : Bool) → b ≡ is_some o → IsTrue b ↔ IsSome (option_map view o)
+default_told None view b e = ((λ h. sym e ∙ h), (λ h. e ∙ h))
+default_told (Some x) view b e = ((λ h. refl), (λ h. e))
+
+pub readable_as : (R : Pairs) (fields wanted : List FieldView) (mine theirs : List Field) → map field_view mine ≡ fields → map field_view theirs ≡ wanted → (b : Bool) → IsTrue b ↔ All (λ f. Readable R (map field_view mine) (field_view f)) theirs → IsTrue b ↔ All (Readable R fields) wanted
+readable_as R fields wanted mine theirs em et b told = (
+  (λ h. subst (λ (gs : List FieldView). All (Readable R fields) gs) et (subst (λ (fs : List FieldView). All (Readable R fs) (map field_view theirs)) em (All-map (Readable R (map field_view mine)) field_view theirs (told.0 h)))),
+  (λ h. told.1 (all_of (Readable R (map field_view mine)) field_view theirs (subst (λ (fs : List FieldView). All (Readable R fs) (map field_view theirs)) (sym em) (subst (λ (gs : List FieldView). All (Readable R fields) gs) (sym et) h)))),
+)

@@ -1,27 +1,35 @@
 -- A pair that was struck out is told to each pair that asks for it.
-use Rattle.std.proofs.Common.{◌≡◌, ℕ, zero, suc, ◌<◌, List, [], ◌∷◌, ◌++◌, Option, Some, None, Bool, true, false, cond, length, get_or, refl, sym, ap, subst, ◌∙◌, arith, inl, inr}
-use Rattle.std.specs.Prelude.{◌⊎◌, All, Any, Contains, IsSome, IsTrue, MatchOption, find, option_map, slice_get}
+use Rattle.std.proofs.Common.{◌≡◌, ℕ, zero, suc, ◌+◌, ◌<◌, List, [], ◌∷◌, ◌++◌, Option, Some, None, Bool, true, false, cond, length, get_or, refl, sym, ap, subst, ◌∙◌, arith, inl, inr}
+use Rattle.std.specs.Prelude.{◌⊎◌, All, Any, Contains, IsSome, IsTrue, MatchOption, find, option_and_then, option_map, slice_get, Vec}
+use Rattle.std.specs.List.{AllZip}
+use Rattle.std.specs.declared.alloc.Global.{Global}
 use Rattle.std.specs.Option.{option_or}
 use Rattle.std.specs.Str.{bytes_eq}
 use Rattle.std.proofs.lemmas.List.Elements.{Contains-get_or, Contains-append_right, Contains-append_cases, All-contains}
-use Rattle.std.proofs.lemmas.Option.{same_Some, slice_get-get_or}
+use Rattle.std.proofs.lemmas.Option.{get_or_from_slice_get, same_Some, slice_get-get_or, slice_get_within}
 use Rattle.std.proofs.lemmas.Slice.Eq.{bytes_eq-Decides}
-use Rattle.avro_nodes.specs.Nodes.{FieldView, NodeView, primitive, array, mapping, union, enumeration, fixed, rec}
+use Rattle.serde_json.specs.Data.{Members}
+use Rattle.avro_nodes.specs.Nodes.{FieldView, NamedView, NodeView, primitive, array, mapping, union, enumeration, fixed, rec}
+use Rattle.avro_resolve.specs.declared.aliased.Aliased.{Aliased}
 use Rattle.avro_resolve.specs.declared.askers.Askers.{Askers}
 use Rattle.avro_resolve.specs.declared.links.Link.{Link}
-use Rattle.avro_resolve.specs.declared.numbers.Numbers.{Numbers}
+use Rattle.avro_resolve.specs.declared.sides.Sides.{Sides}
 use Rattle.avro_resolve.specs.declared.table.Table.{Table}
 use Rattle.avro_resolve.specs.Asking.{source_place, AsksFor}
 use Rattle.avro_resolve.specs.Resolution.{Pairs, first_named, source, Fits}
 use Rattle.avro_resolve.specs.Witnesses.{Pair}
-use Rattle.avro_resolve.specs.Inside.Askers.{LinkedBy, IsLinked, IsFieldLinked, HasAskers, AreAskers, Joins}
+use Rattle.avro_resolve.specs.Inside.Agreeing.{fields_of}
+use Rattle.avro_resolve.specs.Inside.Askers.{LinkedBy, HasLabel, AreAskers, Joins, MayAsk}
 use Rattle.avro_resolve.specs.Inside.Left.{Settled, AllSettled, Ignores, WithinBut}
 use Rattle.avro_resolve.specs.Inside.Lists.{list_at, StandsAt}
-use Rattle.avro_resolve.specs.Inside.Numbers.{number_in}
 use Rattle.avro_resolve.specs.Inside.Places.{IsWhole, Names}
-use Rattle.avro_resolve.proofs.ListLemmas.{get_or_any, nothing_stands, same_place}
+use Rattle.avro_resolve.proofs.ListLemmas.{get_or_any, list_in, nothing_stands, same_place}
 use Rattle.avro_resolve.proofs.Monotone.{at_place, named_in, supports_at}
 use Rattle.avro_resolve.proofs.Reaching.{asks_in}
+use Rattle.avro_resolve.specs.Inside.Sides.{columns, names_of, rows, IsSides}
+use Rattle.avro_resolve.specs.Inside.Sources.{code, code_at, field_at, AreSources, IsEntry}
+use Rattle.avro_resolve.proofs.LinkLemmas.{met_by, sought_by, zip_got, IsMetBy, IsOf, IsSoughtBy, Seeks}
+use Rattle.avro_resolve.proofs.Meeting.{tell}
 use Rattle.avro_resolve.proofs.Settling.{settled_ignoring}
 
 -- ---- a search through a list
@@ -117,58 +125,99 @@ name_found g (name ∷ names) fs e = name_step g name names fs (find (λ f. byte
 
 -- ---- what asks for a pair is listed
 
--- links of the two places have one label
-abbrev Beside : ℕ → Link → Link → Type 0
-Beside j x y = (y.asker ≡ j) × (x.label ≡ y.label)
+-- what is told for a writer's place and a number
+entry_told : (w r : List NodeView) (aliased : List Aliased) (sources : List (Vec ℕ Global)) → AreSources w r aliased sources → (i number : ℕ) (a : NodeView) (field : Aliased) → slice_get w i ≡ Some a → slice_get aliased number ≡ Some field
+    → IsEntry r (fields_of a) field (code_at sources i number)
+entry_told w r aliased sources are i number a field ea ef =
+    let row = zip_got (λ (a : NodeView) (row : Vec ℕ Global). AllZip (IsEntry r (fields_of a)) aliased row.items) w sources are i a ea in
+    let entry = zip_got (IsEntry r (fields_of a)) aliased row.0.items row.2 number field ef in
+    let within : i < length sources = slice_get_within sources i row.0 row.1 in
+    let list : list_at sources i ≡ row.0.items = list_in sources i row.0 within ∙ ap (λ (v : Vec ℕ Global). v.items) (get_or_from_slice_get sources i row.0 row.0 row.1) in
+    let told : code_at sources i number ≡ entry.0 = ap (λ (xs : List ℕ). get_or xs number 0) list ∙ get_or_from_slice_get row.0.items number entry.0 0 entry.1 in
+    subst (IsEntry r (fields_of a) field) (sym told) entry.2
 
-abbrev Above : List Link → ℕ → ℕ → Link → Type 0
-Above ys i j x = (x.asker ≡ i) × ((y : Link) × Contains ys y × Beside j x y)
+module _ (sources : List (Vec ℕ Global)) (p : ℕ) where
+  may_ask : (x y : Link) → MayAsk sources p x y ⊎ (MayAsk sources p x y → ⊥)
+  may_ask x y = by y.alias
+    where
+      by : (o : Option ℕ) → MatchOption o (Unit {0}) (λ number. code_at sources x.asker number ≡ p + 1) ⊎ (MatchOption o (Unit {0}) (λ number. code_at sources x.asker number ≡ p + 1) → ⊥)
+      by None = inl tt
+      by (Some number) = same_place (code_at sources x.asker number) (p + 1)
 
-abbrev Meet : List Link → List Link → ℕ → ℕ → Type 0
-Meet xs ys i j = (x : Link) × Contains xs x × Above ys i j x
+  -- links of the two places have one label, by which the reader's may ask
+  abbrev Beside : ℕ → Link → Link → Type 0
+  Beside j x y = (y.asker ≡ j) × ((x.label ≡ y.label) × MayAsk sources p x y)
 
-beside : (ys : List Link) (j : ℕ) (x : Link) → ((y : Link) × Contains ys y × Beside j x y) ⊎ ((y : Link) × Contains ys y × Beside j x y → ⊥)
-beside ys j x = elim (search_list (Beside j x) (λ y. both (same_place y.asker j) (same_place x.label y.label)) ys) [ inl h ↦ inl h | inr n ↦ inr (λ h. n h.0 h.1 h.2) ]
+  abbrev Above : List Link → ℕ → ℕ → Link → Type 0
+  Above ys i j x = (x.asker ≡ i) × ((y : Link) × Contains ys y × Beside j x y)
 
-meet : (xs ys : List Link) (i j : ℕ) → Meet xs ys i j ⊎ (Meet xs ys i j → ⊥)
-meet xs ys i j = elim (search_list (Above ys i j) (λ x. both (same_place x.asker i) (beside ys j x)) xs) [ inl h ↦ inl h | inr n ↦ inr (λ h. n h.0 h.1 h.2) ]
+  abbrev Meet : List Link → List Link → ℕ → ℕ → Type 0
+  Meet xs ys i j = (x : Link) × Contains xs x × Above ys i j x
 
-module _ (t : Numbers) (w r : List NodeView) (rows columns : Askers) (hw : HasAskers t false w rows) (hr : HasAskers t true r columns) (i j p q : ℕ) where
+  is_beside : (ys : List Link) (j : ℕ) (x : Link) → ((y : Link) × Contains ys y × Beside j x y) ⊎ ((y : Link) × Contains ys y × Beside j x y → ⊥)
+  is_beside ys j x = elim (search_list (Beside j x) (λ y. both (same_place y.asker j) (both (same_place x.label y.label) (may_ask x y))) ys) [ inl h ↦ inl h | inr n ↦ inr (λ h. n h.0 h.1 h.2) ]
+
+  meet : (xs ys : List Link) (i j : ℕ) → Meet xs ys i j ⊎ (Meet xs ys i j → ⊥)
+  meet xs ys i j = elim (search_list (Above ys i j) (λ x. both (same_place x.asker i) (is_beside ys j x)) xs) [ inl h ↦ inl h | inr n ↦ inr (λ h. n h.0 h.1 h.2) ]
+
+module _ (sides : Sides) (is : IsSides sides) (above beside : Askers) (sources : List (Vec ℕ Global)) (askers : AreAskers sides above beside sources) (i j p q : ℕ) where
   abbrev Listed : Type 0
-  Listed = ((j ≡ q) × StandsAt rows.unions.items i p) ⊎ (((i ≡ p) × StandsAt columns.unions.items j q) ⊎ Meet (list_at rows.links.items p) (list_at columns.links.items q) i j)
+  Listed = ((j ≡ q) × StandsAt above.unions.items i p) ⊎ (((i ≡ p) × StandsAt beside.unions.items j q) ⊎ Meet sources p (list_at above.links.lists.items p) (list_at beside.links.lists.items q) i j)
 
-  joined : (x y : ℕ) (P Q : ℕ → Type 0) → ((k m : ℕ) → P k → Q m → k ≡ m) → LinkedBy P rows.links.items i x → LinkedBy Q columns.links.items j y → x ≡ p → y ≡ q → Listed
-  joined x y P Q same (l, le, la, ls) (m, me, ma, ms) ep eq = inr (inr (l, subst (λ (z : ℕ). StandsAt rows.links.items l z) ep ls, (la, (m, subst (λ (z : ℕ). StandsAt columns.links.items m z) eq ms, (ma, same l.label m.label le me)))))
+  joined : (x y : ℕ) (P Q : Link → Type 0) → ((l m : Link) → l.asker ≡ i → P l → Q m → (l.label ≡ m.label) × MayAsk sources p l m) → LinkedBy P above.links.lists.items i x → LinkedBy Q beside.links.lists.items j y → x ≡ p → y ≡ q → Listed
+  joined x y P Q same (l, le, la, ls) (m, me, ma, ms) ep eq = inr (inr (l, subst (λ (z : ℕ). StandsAt above.links.lists.items l z) ep ls, (la, (m, subst (λ (z : ℕ). StandsAt beside.links.lists.items m z) eq ms, (ma, same l m la le me)))))
 
-  contained : (x y : ℕ) → LinkedBy (λ k. k ≡ 0) rows.links.items i x → LinkedBy (λ k. k ≡ 0) columns.links.items j y → (p ≡ x) × (q ≡ y) → Listed
-  contained x y g h e = joined x y (λ k. k ≡ 0) (λ k. k ≡ 0) (λ k m a b. a ∙ sym b) g h (sym e.0) (sym e.1)
+  of_none : (l m : Link) → m.alias ≡ None → MayAsk sources p l m
+  of_none l m e = subst (λ (o : Option ℕ). MatchOption o (Unit {0}) (λ number. code_at sources l.asker number ≡ p + 1)) (sym e) tt
 
-  of_branch : (bs : List ℕ) → slice_get r j ≡ Some (union bs) → (p ≡ i) × Contains bs q → Listed
-  of_branch bs e h = inr (inl (sym h.0, All-contains (StandsAt columns.unions.items j) bs q (hr.unions.named j (union bs) e) h.1))
+  contained : (x y : ℕ) → LinkedBy (HasLabel 0 None) above.links.lists.items i x → LinkedBy (HasLabel 0 None) beside.links.lists.items j y → (p ≡ x) × (q ≡ y) → Listed
+  contained x y g h e = joined x y (HasLabel 0 None) (HasLabel 0 None) (λ l m la a b. (a.0 ∙ sym b.0, of_none l m b.1)) g h (sym e.0) (sym e.1)
 
-  module _ (fs gs : List FieldView) (mine : All (IsFieldLinked t rows.links.items false i) fs) (theirs : All (IsFieldLinked t columns.links.items true j) gs) where
-    of_field : (f : FieldView) (o : Option FieldView) → source fs f ≡ o → option_map (λ (g : FieldView). g.place) o ≡ Some p → f.place ≡ q → All (IsLinked t columns.links.items j f.place) (f.name ∷ f.aliases) → Listed
-    of_field f None e s at named = absurd cc
-    of_field f (Some g) e s at named =
+  of_branch : (bs : List ℕ) → slice_get (columns sides) j ≡ Some (union bs) → (p ≡ i) × Contains bs q → Listed
+  of_branch bs e h = inr (inl (sym h.0, All-contains (StandsAt beside.unions.items j) bs q (askers.reader.unions.named j (union bs) e) h.1))
+
+  module _ (a b : NodeView) (ea : slice_get (rows sides) i ≡ Some a) (eb : slice_get (columns sides) j ≡ Some b) where
+    -- a link of one of the aliases by which the field is read
+    of_alias : (index : ℕ) (f : FieldView) → slice_get (fields_of b) index ≡ Some f → source_place (fields_of a) f ≡ Some p → (l : Link) → l.asker ≡ i → (o : Option ℕ) → IsOf beside.links.aliased.items j index o
+        → MatchOption o (Unit {0}) (λ number. code_at sources l.asker number ≡ p + 1)
+    of_alias index f ef s l la None of = tt
+    of_alias index f ef s l la (Some number) of =
+        let field : Aliased = record { place = j; index = index } in
+        let at : field_at (columns sides) field ≡ Some f = ap (option_and_then (λ (c : NodeView). slice_get (fields_of c) index)) eb ∙ ef in
+        let told : code_at sources i number ≡ code (source_place (fields_of a) f) = entry_told (rows sides) (columns sides) beside.links.aliased.items sources askers.sources i number a field ea of f at in
+        ap (λ (x : ℕ). code_at sources x number) la ∙ told ∙ ap code s
+
+    of_field : (index : ℕ) (f : FieldView) → slice_get (fields_of b) index ≡ Some f → (o : Option FieldView) → source (fields_of a) f ≡ o → option_map (λ (g : FieldView). g.place) o ≡ Some p → f.place ≡ q
+        → All (IsMetBy (names_of sides.reader) above.links i) (fields_of a) → All (IsSoughtBy (names_of sides.reader) beside.links j index f.place) (f.name ∷ f.aliases) → Listed
+    of_field index f ef None e s at mine theirs = absurd cc
+    of_field index f ef (Some g) e s at mine theirs =
         let names = f.name ∷ f.aliases in
-        let own : IsLinked t rows.links.items i g.place g.name = named_in (IsFieldLinked t rows.links.items false i) g names fs mine e 0 g.name (omega arith) in
-        let sought : IsLinked t columns.links.items j f.place g.name = All-contains (IsLinked t columns.links.items j f.place) names g.name named (name_found g names fs e) in
-        joined g.place f.place (λ k. number_in t g.name ≡ Some k) (λ k. number_in t g.name ≡ Some k) (λ k m a b. same_Some k m (sym a ∙ b)) own sought (same_Some g.place p s) at
+        let own : IsMetBy (names_of sides.reader) above.links i g = named_in (IsMetBy (names_of sides.reader) above.links i) g names (fields_of a) mine e in
+        let sought = All-contains (IsSoughtBy (names_of sides.reader) beside.links j index f.place) names g.name theirs (name_found g names (fields_of a) e) in
+        let from : source_place (fields_of a) f ≡ Some p = ap (option_map (λ (x : FieldView). x.place)) e ∙ s in
+        joined g.place f.place (HasLabel sought.0 None) (Seeks beside.links.aliased.items j index sought.0) (λ l m la x y. (x.0 ∙ sym y.0, of_alias index f ef from l la m.alias y.1))
+        (own sought.0 sought.1) sought.2 (same_Some g.place p s) at
 
-    of_fields : Any (λ f. (source_place fs f ≡ Some p) × (f.place ≡ q)) gs → Listed
-    of_fields (k, f, l, e, (s, at)) = of_field f (source fs f) refl s at (subst (λ (x : FieldView). IsFieldLinked t columns.links.items true j x) e (theirs k f l))
+  of_fields : (k l : NamedView) (fs gs : List FieldView) (x y : Members) → slice_get (rows sides) i ≡ Some (rec k fs x) → slice_get (columns sides) j ≡ Some (rec l gs y) → Any (λ f. (source_place fs f ≡ Some p) × (f.place ≡ q)) gs → Listed
+  of_fields k l fs gs x y ea eb (index, f, within, ef, (s, at)) =
+      let w = names_of sides.writer in let r = names_of sides.reader in let met = sides.met.ranks.items in
+      let mine = askers.writer.links.named i (rec k fs x) ea in let theirs = askers.reader.links.named j (rec l gs y) eb in
+      let got : slice_get gs index ≡ Some f = slice_get-get_or gs index f within ∙ ap (λ (z : FieldView). Some z) ef in
+      of_field (rec k fs x) (rec l gs y) ea eb index f got (source fs f) refl s at
+      (met_by w r met (tell w r met is.met is.reader.index.names.rise) above.links i fs mine.0 mine.1.ranked mine.1.fields)
+      (sought_by r met beside.links j gs theirs.0 theirs.1.ranked theirs.1.fields index f got)
 
-  listed : (a b : NodeView) → slice_get w i ≡ Some a → slice_get r j ≡ Some b → AsksFor i j a b p q → Listed
-  listed (union bs) b ea eb h = inl (sym h.1, All-contains (StandsAt rows.unions.items i) bs p (hw.unions.named i (union bs) ea) h.0)
+  listed : (a b : NodeView) → slice_get (rows sides) i ≡ Some a → slice_get (columns sides) j ≡ Some b → AsksFor i j a b p q → Listed
+  listed (union bs) b ea eb h = inl (sym h.1, All-contains (StandsAt above.unions.items i) bs p (askers.writer.unions.named i (union bs) ea) h.0)
   listed (primitive k x) (union bs) ea eb h = of_branch bs eb h
   listed (array k x) (union bs) ea eb h = of_branch bs eb h
   listed (mapping k x) (union bs) ea eb h = of_branch bs eb h
   listed (enumeration k s f x) (union bs) ea eb h = of_branch bs eb h
   listed (fixed k s x) (union bs) ea eb h = of_branch bs eb h
   listed (rec k fs x) (union bs) ea eb h = of_branch bs eb h
-  listed (array x e) (array y f) ea eb h = contained x y (hw.links.named i (array x e) ea) (hr.links.named j (array y f) eb) h
-  listed (mapping x e) (mapping y f) ea eb h = contained x y (hw.links.named i (mapping x e) ea) (hr.links.named j (mapping y f) eb) h
-  listed (rec k fs e) (rec l gs f) ea eb h = of_fields fs gs (hw.links.named i (rec k fs e) ea) (hr.links.named j (rec l gs f) eb) h
+  listed (array x e) (array y f) ea eb h = contained x y ((askers.writer.links.named i (array x e) ea).1.contained x refl) ((askers.reader.links.named j (array y f) eb).1.contained y refl) h
+  listed (mapping x e) (mapping y f) ea eb h = contained x y ((askers.writer.links.named i (mapping x e) ea).1.contained x refl) ((askers.reader.links.named j (mapping y f) eb).1.contained y refl) h
+  listed (rec k fs e) (rec l gs f) ea eb h = of_fields k l fs gs e f ea eb h
   listed _ _ ea eb h = absurd h
 
   either : {P Q : Type 0} → P ⊎ (P → ⊥) → Q ⊎ (Q → ⊥) → (P ⊎ Q) ⊎ (P ⊎ Q → ⊥)
@@ -177,21 +226,23 @@ module _ (t : Numbers) (w r : List NodeView) (rows columns : Askers) (hw : HasAs
   either (inr m) (inr n) = inr (λ h. elim h [ inl x ↦ m x | inr y ↦ n y ])
 
   is_listed : Listed ⊎ (Listed → ⊥)
-  is_listed = either (both (same_place j q) (stands (list_at rows.unions.items p) i)) (either (both (same_place i p) (stands (list_at columns.unions.items q) j)) (meet (list_at rows.links.items p) (list_at columns.links.items q) i j))
+  is_listed = either (both (same_place j q) (stands (list_at above.unions.items p) i)) (either (both (same_place i p) (stands (list_at beside.unions.items q) j)) (meet sources p (list_at above.links.lists.items p) (list_at beside.links.lists.items q) i j))
 
   -- the pairs of what is listed are settled
   abbrev Seen : Table → List Pair → Type 0
-  Seen v qs = All (λ x. Settled w r v qs x q) (list_at rows.unions.items p) × All (Settled w r v qs p) (list_at columns.unions.items q) × Joins (Settled w r v qs) (list_at rows.links.items p) (list_at columns.links.items q)
+  Seen v qs = All (λ x. Settled (rows sides) (columns sides) v qs x q) (list_at above.unions.items p) × All (Settled (rows sides) (columns sides) v qs p) (list_at beside.unions.items q)
+      × Joins sources p (Settled (rows sides) (columns sides) v qs) (list_at above.links.lists.items p) (list_at beside.links.lists.items q)
 
-  looked : (v : Table) (qs : List Pair) → Seen v qs → Listed → Settled w r v qs i j
-  looked v qs seen (inl (e, s)) = subst (λ (y : ℕ). Settled w r v qs i y) (sym e) (All-contains (λ x. Settled w r v qs x q) (list_at rows.unions.items p) i seen.0 s)
-  looked v qs seen (inr (inl (e, s))) = subst (λ (x : ℕ). Settled w r v qs x j) (sym e) (All-contains (Settled w r v qs p) (list_at columns.unions.items q) j seen.1 s)
-  looked v qs seen (inr (inr (x, hx, (ex, (y, hy, (ey, el)))))) = subst (λ (a : ℕ). Settled w r v qs a j) ex (subst (λ (b : ℕ). Settled w r v qs x.asker b) ey (seen.2 x y hx hy el))
+  looked : (v : Table) (qs : List Pair) → Seen v qs → Listed → Settled (rows sides) (columns sides) v qs i j
+  looked v qs seen (inl (e, s)) = subst (λ (y : ℕ). Settled (rows sides) (columns sides) v qs i y) (sym e) (All-contains (λ x. Settled (rows sides) (columns sides) v qs x q) (list_at above.unions.items p) i seen.0 s)
+  looked v qs seen (inr (inl (e, s))) = subst (λ (x : ℕ). Settled (rows sides) (columns sides) v qs x j) (sym e) (All-contains (Settled (rows sides) (columns sides) v qs p) (list_at beside.unions.items q) j seen.1 s)
+  looked v qs seen (inr (inr (x, hx, (ex, (y, hy, (ey, both)))))) = subst (λ (a : ℕ). Settled (rows sides) (columns sides) v qs a j) ex (subst (λ (b : ℕ). Settled (rows sides) (columns sides) v qs x.asker b) ey (seen.2 x y hx hy both.0 both.1))
 
-  told_one : (v : Table) (qs : List Pair) → i < length w → j < length r → Settled w r v (qs ++ (p, q) ∷ []) i j → Seen v qs → Settled w r v qs i j
+  told_one : (v : Table) (qs : List Pair) → i < length (rows sides) → j < length (columns sides) → Settled (rows sides) (columns sides) v (qs ++ (p, q) ∷ []) i j → Seen v qs → Settled (rows sides) (columns sides) v qs i j
   told_one v qs li lj before seen = elim is_listed [
     | inl h ↦ looked v qs seen h
     | inr n ↦ (
+        let w = rows sides in let r = columns sides in
         let d : NodeView = union [] in let a = get_or w i d in let b = get_or r j d in
         let ea : slice_get w i ≡ Some a = slice_get-get_or w i d li in let eb : slice_get r j ≡ Some b = slice_get-get_or r j d lj in
         settled_ignoring w r v qs i j p q (unasked w r i j p q a b ea eb (λ h. n (listed a b ea eb h))) before
@@ -199,10 +250,10 @@ module _ (t : Numbers) (w r : List NodeView) (rows columns : Askers) (hw : HasAs
   ]
 
 -- once all that is listed was looked at, all pairs are settled without the pair that was told
-pub told : (w r : List NodeView) (rows columns : Askers) → AreAskers w r rows columns → (p q : ℕ) (v : Table) (qs : List Pair) → AllSettled w r v (qs ++ (p, q) ∷ [])
-    → All (λ x. Settled w r v qs x q) (list_at rows.unions.items p) → All (Settled w r v qs p) (list_at columns.unions.items q)
-    → Joins (Settled w r v qs) (list_at rows.links.items p) (list_at columns.links.items q) → AllSettled w r v qs
-told w r rows columns askers p q v qs before unions others links i j li lj = told_one askers.numbers w r rows columns askers.rows askers.columns i j p q v qs li lj (before i j li lj) (unions, others, links)
+pub told : (sides : Sides) → IsSides sides → (above beside : Askers) (sources : List (Vec ℕ Global)) → AreAskers sides above beside sources → (p q : ℕ) (v : Table) (qs : List Pair) → AllSettled (rows sides) (columns sides) v (qs ++ (p, q) ∷ [])
+    → All (λ x. Settled (rows sides) (columns sides) v qs x q) (list_at above.unions.items p) → All (Settled (rows sides) (columns sides) v qs p) (list_at beside.unions.items q)
+    → Joins sources p (Settled (rows sides) (columns sides) v qs) (list_at above.links.lists.items p) (list_at beside.links.lists.items q) → AllSettled (rows sides) (columns sides) v qs
+told sides is above beside sources askers p q v qs before unions others links i j li lj = told_one sides is above beside sources askers i j p q v qs li lj (before i j li lj) (unions, others, links)
 
 -- nothing asks for what is no pair of places
 pub none_told : (w r : List NodeView) → IsWhole w → IsWhole r → (p q : ℕ) → ((p < length w) × (q < length r) → ⊥) → (v : Table) (qs : List Pair) → AllSettled w r v (qs ++ (p, q) ∷ []) → AllSettled w r v qs

@@ -12,10 +12,9 @@ use Rattle.avro_resolve.specs.Resolution.{Pairs, Supports, Readable, source}
 use Rattle.avro_resolve.specs.Witnesses.{Pair, member, without}
 use Rattle.avro_resolve.specs.Asking.{source_place, Asks, AsksFor}
 use Rattle.avro_resolve.specs.Inside.Asked.{Asked, AreAsked, IsSourceAsked}
-use Rattle.avro_resolve.specs.declared.pair_set.PairSet.{PairSet}
-use Rattle.avro_resolve.specs.Inside.Walking.{Marks, AreAgreed, Good, Grown, HasGrown, Ready, Tells}
+use Rattle.avro_resolve.specs.Inside.Walking.{Marks, Good, Grown, HasGrown, Ready, Tells}
 use Rattle.avro_resolve.proofs.Monotone.{Within}
-use Rattle.avro_resolve.proofs.SupportLemmas.{all_of}
+use Rattle.avro_resolve.proofs.ViewLemmas.{all_of}
 use Rattle.avro_resolve.proofs.WalkSteps.{grown_same, grown_then, more, opened_yes, opened_no, grown_no, bounded}
 use Rattle.avro_resolve.proofs.PairLists.{member_last, false_unless}
 
@@ -98,7 +97,7 @@ pub ask_yes : (w r : List NodeView) (d : ℕ) (s u v : Walk) (i j : ℕ) → Rea
     → Ready w r d v × HasGrown w r s v × IsTrue (member v.assumed.items i j)
 ask_yes w r d s u v i j ready e f after g h =
     let grown = from_opened w r s u v i j e f g in (
-      record { writer = ready.writer; reader = ready.reader; small = ready.small; low = ready.low; opened = (let o = after.opened in omega (arith, o)); good = after.good; assumed = after.assumed; failed = after.failed; agreed = after.agreed },
+      record { writer = ready.writer; reader = ready.reader; small = ready.small; low = ready.low; opened = (let o = after.opened in omega (arith, o)); good = after.good; assumed = after.assumed; failed = after.failed },
       opened_yes w r s.assumed.items s.failed.items v.assumed.items v.failed.items i j grown h,
       more w r (s.assumed.items ++ (i, j) ∷ []) s.failed.items v.assumed.items v.failed.items grown i j (member_last s.assumed.items i j),
     )
@@ -106,9 +105,9 @@ ask_yes w r d s u v i j ready e f after g h =
 -- one that isn't fails, and what was assumed since is taken back
 pub ask_no : (w r : List NodeView) (d : ℕ) (s u v x : Walk) (i j : ℕ) → Ready w r d s → Asked w r i j → member s.assumed.items i j ≡ false → u.assumed.items ≡ s.assumed.items ++ (i, j) ∷ [] → u.failed.items ≡ s.failed.items → Ready w r (d + 1) v → HasGrown w r u v → (Supports w r (without v.failed.items) i j → ⊥)
     → x.assumed.items ≡ take (length s.assumed.items) v.assumed.items → x.failed.items ≡ v.failed.items ++ (i, j) ∷ [] → x.visits ≡ v.visits
-    → Marks (length r) x.assumed_set x.assumed.items → Marks (length r) x.failed_set x.failed.items → x.agreed_set ≡ v.agreed_set
+    → Marks (length r) x.assumed_set x.assumed.items → Marks (length r) x.failed_set x.failed.items
     → Ready w r d x × HasGrown w r s x × ((x.assumed.items ≡ s.assumed.items) × IsTrue (member x.failed.items i j))
-ask_no w r d s u v x i j ready asked out e f after g never back fails visits marks marks2 same_set =
+ask_no w r d s u v x i j ready asked out e f after g never back fails visits marks marks2 =
     let grown = from_opened w r s u v i j e f g in
     let same : x.assumed.items ≡ s.assumed.items = back ∙ front_of s.assumed.items v.assumed.items i j grown.longer grown.front in
     let good = opened_no w r s.assumed.items s.failed.items v.assumed.items v.failed.items s.visits v.visits i j ready.good after.good grown asked out never in
@@ -122,7 +121,6 @@ ask_no w r d s u v x i j ready asked out e f after g never back fails visits mar
         good = subst (λ (y : List Pair). Good w r y x.failed.items x.visits) (sym same) (subst (λ (y : List Pair). Good w r s.assumed.items y x.visits) (sym fails) (subst (λ (n : ℕ). Good w r s.assumed.items (v.failed.items ++ (i, j) ∷ []) n) (sym visits) good));
         assumed = marks;
         failed = marks2;
-        agreed = subst (λ (set : PairSet). AreAgreed w r set) (sym same_set) after.agreed;
       },
       subst (λ (y : List Pair). Grown w r s.assumed.items s.failed.items y x.failed.items) (sym same) (subst (λ (y : List Pair). Grown w r s.assumed.items s.failed.items s.assumed.items y) (sym fails) next),
       (same, subst (λ (y : List Pair). member y i j ≡ true) (sym fails) (member_last v.failed.items i j)),

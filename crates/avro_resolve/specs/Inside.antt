@@ -3,11 +3,10 @@ pub mod Agreeing
 pub mod Askers
 pub mod Lists
 pub mod Left
-pub mod Lookups
-pub mod Numbers
+pub mod Laying
+pub mod Meeting
 pub mod PairSets
 pub mod Places
 pub mod Sides
 pub mod Sources
-pub mod FieldLists
 pub mod Walking

@@ -1,86 +1,82 @@
-//! What two nodes say of a pair by themselves: their kinds, names, sizes and symbols.
+//! What two nodes say of a pair by themselves: their kinds, names, sizes and symbols. Names are
+//! told by their ranks.
 
-ghost use Rattle.std.specs.Prelude.{◌≡◌, ◌↔◌, ◌⊎◌, IfSome, option_map, string_bytes, All, Contains, IsSome, IsTrue};
-ghost use Rattle.std.specs.List.{list_any, list_all};
-ghost use Rattle.std.specs.Str.{bytes_eq};
-ghost use Rattle.avro_nodes.specs.Names.{last_part};
-ghost use Rattle.avro_nodes.specs.Nodes.{named_view, node_view, texts_view};
+ghost use Rattle.std.specs.Prelude.{◌≡◌, ◌↔◌, ◌<◌, false, option_map, slice_get, All, Contains, IfOk, IsTrue, Some, length};
+ghost use Rattle.avro_nodes.specs.Nodes.{NamedView, NodeView, node_view};
+ghost use Rattle.avro_schema.specs.Index.{IsNamedRanked};
 ghost use Rattle.avro_resolve.specs.Resolution.{NameMatch};
-ghost use Rattle.avro_resolve.specs.Inside.Agreeing.{Agree, TellsSameLast};
-ghost use Rattle.avro_resolve.specs.Inside.Lookups.{FindsTexts, IsLookupOf};
+ghost use Rattle.avro_resolve.specs.Inside.Agreeing.{named_ranks, symbol_ranks, symbols_of, Agree, AreSymbolsMet, IsAlike, SymbolsFit, TellsMatch};
+ghost use Rattle.avro_resolve.specs.Inside.Left.{Agreed};
+ghost use Rattle.avro_resolve.specs.Inside.Sides.{columns, names_of, rows, IsSides};
 
 use crate::kinds::promotes;
-use crate::lookups::Lookup;
-use crate::names::{has_text, names_match};
-use avro_nodes::{Named, Node};
+use crate::merging::{has_all, has_number};
+use crate::met::met_ranks;
+use crate::sides::Sides;
+use avro_nodes::Node;
+use avro_schema::{NamedRanks, Ranks};
+use std::alloc::{AllocError, Global};
 
-/// Whether the text is one of a reader's symbols.
-fn is_known(known: &[String], lookup: Option<&Lookup>, symbol: &str) -> bool
-    requires { IfSome lookup (λ t. FindsTexts t.now known.now) }
-    ensures { result ≡ list_any (λ t. bytes_eq (string_bytes t) symbol.now) known.now }
+/// The names of a definition by their ranks, where these are a definition's.
+fn named_of(ranks: &Ranks) -> Option<&NamedRanks>
+    ensures { option_map (λ n. n.now) result ≡ named_ranks ranks.now }
 {
-    match lookup {
-        Some(lookup) => lookup.get(symbol).is_some(),
-        None => has_text(known, symbol),
+    match ranks {
+        Ranks::Fixed { named } => Some(named),
+        Ranks::Enum { named, .. } => Some(named),
+        Ranks::Rec { named, .. } => Some(named),
+        Ranks::Unnamed => None,
     }
 }
 
-/// Whether each of a writer's symbols is one of the reader's.
-fn all_known(symbols: &[String], known: &[String], lookup: Option<&Lookup>) -> bool
-    requires { IfSome lookup (λ t. FindsTexts t.now known.now) }
-    ensures { result ≡ list_all (λ s. list_any (λ t. bytes_eq (string_bytes t) (string_bytes s)) known.now) symbols.now }
+/// The symbols of an enum by their ranks, and none of another node.
+fn symbols_of(ranks: &Ranks) -> &[u32]
+    ensures { result.now ≡ symbol_ranks ranks.now }
 {
-    symbols.iter().all(|symbol| is_known(known, lookup, symbol))
+    match ranks {
+        Ranks::Enum { symbols, .. } => symbols,
+        Ranks::Unnamed | Ranks::Fixed { .. } | Ranks::Rec { .. } => &[],
+    }
 }
 
-/// Whether each of a writer's symbols may come: the reader has a default, or knows all of them.
-fn symbols_fit(
-    symbols: &[String],
-    known: &[String],
-    lookup: Option<&Lookup>,
-    fallback: &Option<String>,
-) -> bool
-    requires { IfSome lookup (λ t. FindsTexts t.now known.now) }
-    ensures { IsTrue result ↔ (IsSome (option_map string_bytes fallback.now)
-        ⊎ All (Contains (texts_view known.now)) (texts_view symbols.now)) }
+/// Whether the names of two definitions match: without their namespaces (Avro 1.11 specification,
+/// Schema Resolution), or by an alias of the reader's (Aliases).
+fn names_match(sides: &Sides, named: &NamedRanks, wanted: &NamedRanks) -> bool
+    requires { IsSides sides.now }
+    ensures { (n m : NamedView) → IsNamedRanked (names_of sides.now.writer) n named.now
+        → IsNamedRanked (names_of sides.now.reader) m wanted.now → IsTrue result ↔ NameMatch n m }
 {
-    fallback.is_some() || all_known(symbols, known, lookup)
+    if sides.met.is_met(named.last, wanted.last) {
+        return true;
+    }
+    match sides.met.rank(named.full) {
+        Some(rank) => has_number(&wanted.aliases, rank),
+        None => false,
+    }
 }
 
-/// Whether a writer's enum is read as the reader's: their names match, and each symbol may come.
-fn enums_fit(
-    named: &Named,
-    symbols: &[String],
-    wanted: &Named,
-    known: &[String],
-    lookup: Option<&Lookup>,
-    same: bool,
-    fallback: &Option<String>,
-) -> bool
-    requires known { IfSome lookup (λ t. FindsTexts t.now known.now) }
-    requires last { IsTrue same ↔ (last_part (string_bytes named.now.name) ≡ last_part (string_bytes wanted.now.name)) }
-    ensures { IsTrue result ↔ (NameMatch (named_view named.now) (named_view wanted.now)
-        × (IsSome (option_map string_bytes fallback.now)
-        ⊎ All (Contains (texts_view known.now)) (texts_view symbols.now))) }
+/// Whether the names of the nodes at these places match, where both have names.
+fn names_match_at(sides: &Sides, a: &Node, b: &Node, i: u32, j: u32) -> bool
+    requires sides { IsSides sides.now }
+    requires a_at { slice_get (rows sides.now) i ≡ Some (node_view a.now) }
+    requires b_at { slice_get (columns sides.now) j ≡ Some (node_view b.now) }
+    ensures { TellsMatch result (node_view a.now) (node_view b.now) }
 {
-    names_match(named, wanted, same) && symbols_fit(symbols, known, lookup, fallback)
+    let (_a, _b) = (a, b);
+    let Some(named) = named_of(sides.writer.ranks(i)) else {
+        return false;
+    };
+    let Some(wanted) = named_of(sides.reader.ranks(j)) else {
+        return false;
+    };
+    names_match(sides, named, wanted)
 }
 
-/// Whether a writer's fixed is read as the reader's: their names match, and their sizes are the
-/// same.
-fn fixed_fit(named: &Named, size: u32, wanted: &Named, wanted_size: u32, same: bool) -> bool
-    requires { IsTrue same ↔ (last_part (string_bytes named.now.name) ≡ last_part (string_bytes wanted.now.name)) }
-    ensures { IsTrue result ↔ (NameMatch (named_view named.now) (named_view wanted.now) × (size ≡ wanted_size)) }
-{
-    names_match(named, wanted, same) && size == wanted_size
-}
-
-/// Whether the nodes agree as far as they say by themselves. Whether their names have one last part
-/// is told. What they ask of other pairs isn't looked at.
-pub fn agree(a: &Node, b: &Node, symbols_known: Option<&Lookup>, same: bool) -> bool
-    requires known { IfSome symbols_known (λ t. IsLookupOf t.now b.now) }
-    requires last { TellsSameLast same (node_view a.now) (node_view b.now) }
-    ensures { IsTrue result ↔ Agree (node_view a.now) (node_view b.now) }
+/// Whether the nodes agree as far as they say by themselves, but for their symbols. Whether their
+/// names match is told.
+fn is_alike(a: &Node, b: &Node, matched: bool) -> bool
+    requires { TellsMatch matched (node_view a.now) (node_view b.now) }
+    ensures { IsTrue result ↔ IsAlike (node_view a.now) (node_view b.now) }
 {
     match (a, b) {
         (Node::Union { .. }, _) => true,
@@ -90,26 +86,98 @@ pub fn agree(a: &Node, b: &Node, symbols_known: Option<&Lookup>, same: bool) -> 
         }
         (Node::Array { .. }, Node::Array { .. }) => true,
         (Node::Map { .. }, Node::Map { .. }) => true,
-        (
-            Node::Enum { named, symbols, .. },
-            Node::Enum {
-                named: wanted,
-                symbols: known,
-                fallback,
-                ..
-            },
-        ) => enums_fit(named, symbols, wanted, known, symbols_known, same, fallback),
-        (
-            Node::Fixed { named, size, .. },
-            Node::Fixed {
-                named: wanted,
-                size: wanted_size,
-                ..
-            },
-        ) => fixed_fit(named, *size, wanted, *wanted_size, same),
-        (Node::Rec { named, .. }, Node::Rec { named: wanted, .. }) => {
-            names_match(named, wanted, same)
-        }
+        (Node::Enum { .. }, Node::Enum { .. }) => matched,
+        (Node::Fixed { size, .. }, Node::Fixed { size: wanted, .. }) => matched && size == wanted,
+        (Node::Rec { .. }, Node::Rec { .. }) => matched,
         _ => false,
     }
+}
+
+/// Whether the symbols of the nodes have to be compared: both are enums, and the reader's has no
+/// default.
+fn asks_symbols(a: &Node, b: &Node) -> bool
+    ensures asked { IsTrue result → SymbolsFit (node_view a.now) (node_view b.now)
+        ↔ All (Contains (symbols_of (node_view b.now))) (symbols_of (node_view a.now)) }
+    ensures not_asked { result ≡ false → SymbolsFit (node_view a.now) (node_view b.now) }
+{
+    match (a, b) {
+        (Node::Enum { .. }, Node::Enum { fallback, .. }) => fallback.is_none(),
+        _ => false,
+    }
+}
+
+/// The reader's ranks of the symbols at a writer's place, or none where the reader hasn't one of
+/// them.
+///
+/// # Errors
+///
+/// `AllocError` where memory for them is refused.
+pub fn met_symbols(alloc: Global, sides: &Sides, i: u32) -> Result<Option<Vec<u32>>, AllocError>
+    requires sides { IsSides sides.now }
+    requires i_in { i < length (rows sides.now) }
+    ensures { IfOk result (λ o. (a : NodeView) → slice_get (rows sides.now) i ≡ Some a
+        → AreSymbolsMet (names_of sides.now.reader) (symbols_of a) o) }
+{
+    let symbols = symbols_of(sides.writer.ranks(i));
+    Ok(met_ranks(alloc, &sides.met, symbols)?)
+}
+
+/// Whether each symbol of the first node is one of the second's.
+fn symbols_known(sides: &Sides, symbols: &Option<Vec<u32>>, a: &Node, b: &Node, j: u32) -> bool
+    requires sides { IsSides sides.now }
+    requires symbols { AreSymbolsMet (names_of sides.now.reader) (symbols_of (node_view a.now)) symbols.now }
+    requires b_at { slice_get (columns sides.now) j ≡ Some (node_view b.now) }
+    ensures { IsTrue result ↔ All (Contains (symbols_of (node_view b.now))) (symbols_of (node_view a.now)) }
+{
+    let (_a, _b) = (a, b);
+    match symbols {
+        Some(symbols) => has_all(symbols_of(sides.reader.ranks(j)), symbols),
+        None => false,
+    }
+}
+
+/// Whether the nodes at these places agree as far as they say by themselves.
+///
+/// # Errors
+///
+/// `AllocError` where memory for the ranks of their symbols is refused.
+pub fn agree(
+    alloc: Global,
+    sides: &Sides,
+    a: &Node,
+    b: &Node,
+    at: (u32, u32),
+) -> Result<bool, AllocError>
+    requires sides { IsSides sides.now }
+    requires a_at { slice_get (rows sides.now) at.0 ≡ Some (node_view a.now) }
+    requires b_at { slice_get (columns sides.now) at.1 ≡ Some (node_view b.now) }
+    ensures { IfOk result (λ yes. IsTrue yes ↔ Agree (node_view a.now) (node_view b.now)) }
+{
+    if !is_alike(a, b, names_match_at(sides, a, b, at.0, at.1)) {
+        return Ok(false);
+    }
+    if !asks_symbols(a, b) {
+        return Ok(true);
+    }
+    let symbols = met_symbols(alloc, sides, at.0)?;
+    Ok(symbols_known(sides, &symbols, a, b, at.1))
+}
+
+/// The same, where the reader's ranks of the symbols at the writer's place are told.
+pub fn agree_at(sides: &Sides, symbols: &Option<Vec<u32>>, i: u32, j: u32) -> bool
+    requires sides { IsSides sides.now }
+    requires symbols { (a : NodeView) → slice_get (rows sides.now) i ≡ Some a
+        → AreSymbolsMet (names_of sides.now.reader) (symbols_of a) symbols.now }
+    requires i_in { i < length sides.now.writer.schema.now }
+    requires j_in { j < length sides.now.reader.schema.now }
+    ensures { IsTrue result ↔ Agreed (rows sides.now) (columns sides.now) i j }
+{
+    let (a, b) = (sides.writer.node(i), sides.reader.node(j));
+    if !is_alike(a, b, names_match_at(sides, a, b, i, j)) {
+        return false;
+    }
+    if !asks_symbols(a, b) {
+        return true;
+    }
+    symbols_known(sides, symbols, a, b, j)
 }

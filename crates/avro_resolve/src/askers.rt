@@ -1,13 +1,10 @@
 //! What asks for the places of a side.
 
-ghost use Rattle.std.specs.Prelude.{IfOk, OnOk};
+ghost use Rattle.std.specs.Prelude.{IfOk};
 ghost use Rattle.avro_resolve.specs.Inside.Askers.{HasAskers};
-ghost use Rattle.avro_resolve.specs.Inside.Numbers.{IsNumbering, Keeps};
-ghost use Rattle.avro_resolve.specs.Inside.Places.{IsWhole};
-ghost use Rattle.avro_resolve.specs.Inside.Sides.{nodes_of};
+ghost use Rattle.avro_resolve.specs.Inside.Sides.{names_of, nodes_of, IsSide};
 
-use crate::links::{Link, links_of};
-use crate::numbers::Numbers;
+use crate::links::{Labels, Links, links_of};
 use crate::sides::Side;
 use crate::unions::unions_of;
 use std::alloc::{AllocError, Global};
@@ -18,26 +15,23 @@ pub struct Askers {
     /// the unions that have it as a branch
     pub unions: Vec<Vec<u32>>,
     /// the arrays, maps and records that refer to it, by their labels
-    pub links: Vec<Vec<Link>>,
+    pub links: Links,
 }
 
 impl Askers {
-    /// Those of a side. A reader's fields look for their aliases too.
-    pub fn of<'a>(
-        alloc: Global,
-        numbers: &mut Numbers<'a>,
-        side: &Side<'a>,
-        aliased: bool,
-    ) -> Result<Askers, AllocError>
-        requires numbering { IsNumbering numbers.old }
-        requires whole { IsWhole (nodes_of side.now) }
-        ensures numbering { OnOk result (IsNumbering numbers.new) }
-        ensures kept { OnOk result (Keeps numbers.old numbers.new) }
-        ensures askers { IfOk result (λ a. HasAskers numbers.new aliased (nodes_of side.now) a) }
+    /// Those of a side, whose fields have these labels.
+    ///
+    /// # Errors
+    ///
+    /// `AllocError` where memory for the lists is refused.
+    pub fn of(alloc: Global, side: &Side, labels: &Labels) -> Result<Askers, AllocError>
+        requires side { IsSide side.now }
+        ensures { IfOk result (λ a. HasAskers (names_of side.now) labels.now.met.now.ranks.items labels.now.aliased
+            (nodes_of side.now) a) }
     {
         Ok(Askers {
             unions: unions_of(alloc, side.schema)?,
-            links: links_of(alloc, numbers, side.schema, aliased)?,
+            links: links_of(alloc, side, labels)?,
         })
     }
 }

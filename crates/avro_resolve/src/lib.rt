@@ -4,32 +4,27 @@
 #![tactic(auto)]
 
 mod agreeing;
+mod aliased;
 mod askers;
-mod field_lists;
-mod field_names;
-mod fields;
-mod finding;
+mod desk;
 mod joining;
 mod kinds;
 mod links;
 mod lists;
 mod looking;
-mod lookups;
+mod looks;
 mod merging;
-mod names;
-mod numbered;
-mod numbers;
+mod met;
 mod pair_set;
+mod readable;
 mod recursion;
 mod resolving;
 mod roots;
 mod sides;
-mod sources;
 mod striking;
 mod support;
 mod sweeping;
 mod table;
-mod texts;
 mod unions;
 mod walk;
 

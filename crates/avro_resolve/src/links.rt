@@ -1,163 +1,231 @@
 //! Which arrays, maps and records refer to a place, and by what: a pair of two such asks for a pair
 //! of places only where they refer to these by one label.
 
-ghost use Rattle.std.specs.Prelude.{◌≡◌, ◌<◌, ℕ, All, IfOk, OnOk, length, map, string_bytes};
-ghost use Rattle.avro_nodes.specs.Nodes.{field_view, node_view, nodes_view, texts_view};
-ghost use Rattle.avro_resolve.specs.Inside.Lists.{Adds};
-ghost use Rattle.avro_resolve.specs.Inside.Numbers.{IsNumbering, Keeps};
-ghost use Rattle.avro_resolve.specs.Inside.Places.{IsWhole, Names};
-ghost use Rattle.avro_resolve.specs.Inside.Askers.{LinkedBy, IsLinked, IsFieldLinked, IsNodeLinked, HasLinks, AreSorted, SameLists};
+ghost use Rattle.std.specs.Prelude.{◌≡◌, ◌<◌, ℕ, All, IfOk, IfSome, None, OnOk, Some, length, map, slice_get};
+ghost use Rattle.avro_nodes.specs.Nodes.{NodeView, field_view, node_view};
+ghost use Rattle.avro_resolve.specs.Inside.Askers.{alias_labels, contained_of, own_label, AreFieldsLinked, AreSorted, HasLabel, HasLinks, IsAlias, IsFieldLinked, IsPlaceLinked, LinkedBy, Notes, SameLists};
+ghost use Rattle.avro_resolve.specs.Inside.Meeting.{met_at};
+ghost use Rattle.avro_resolve.specs.Inside.Sides.{names_of, nodes_of, IsSide};
 
+use crate::aliased::Aliased;
 use crate::lists::{empty_lists, note};
-use crate::numbers::Numbers;
-use avro_nodes::{Field, Node};
-use avro_schema::Schema;
+use crate::met::Met;
+use crate::sides::{Fields, Side};
+use avro_nodes::Node;
+use avro_schema::FieldRanks;
 use std::alloc::{AllocError, Global};
 
 /// How a place refers to another.
 #[derive(Clone, Copy, Debug, PartialEq, Eq)]
 pub struct Link {
-    /// the number of the name of the field that has the other's type, or 0 for items and values
-    pub label: usize,
+    /// the reader's rank of the name of the field that has the other's type, or 0 for items and values
+    pub label: u32,
     /// the place that refers
     pub asker: u32,
+    /// the number of the reader's field that has the name as an alias
+    pub alias: Option<usize>,
 }
 
-/// The label of an array's items and of a map's values. A name may have this number too, since
-/// what is looked at for nothing does no harm.
-const CONTAINED: usize = 0;
+/// The links to each place, and the fields whose aliases they are of, by their numbers.
+#[derive(Drop)]
+pub struct Links {
+    pub lists: Vec<Vec<Link>>,
+    pub aliased: Vec<Aliased>,
+}
 
-/// Notes that a place refers to another by a field's name.
-fn note_name<'a>(
-    lists: &mut Vec<Vec<Link>>,
-    numbers: &mut Numbers<'a>,
-    name: &'a str,
-    place: u32,
-    asker: u32,
-) -> Result<(), AllocError>
-    requires numbering { IsNumbering numbers.old }
-    requires within { place < length lists.old.items }
-    ensures numbering { OnOk result (IsNumbering numbers.new) }
-    ensures kept { OnOk result (Keeps numbers.old numbers.new) }
-    ensures adds { OnOk result (Adds (λ x. x.asker ≡ asker) lists.old.items lists.new.items) }
-    ensures there { OnOk result (IsLinked numbers.new lists.new.items asker place name.now) }
+/// How the fields of a side are labelled: a writer's by the ranks that the reader has for their
+/// names, a reader's by its own ranks of their names and aliases.
+#[derive(Clone, Copy)]
+pub struct Labels<'a> {
+    pub met: &'a Met,
+    pub aliased: bool,
+}
+
+impl<'a> Labels<'a> {
+    ghost use Rattle.std.specs.Prelude.{◌≡◌};
+    ghost use Rattle.avro_resolve.specs.Inside.Askers.{alias_labels, own_label};
+
+    /// The label of a field's own name, if it has one.
+    fn own(&self, rank: u32) -> Option<u32>
+        ensures { result ≡ own_label self.now.met.now.ranks.items self.now.aliased rank }
+    {
+        if self.aliased {
+            Some(rank)
+        } else {
+            self.met.rank(rank)
+        }
+    }
+
+    /// The labels of a field's aliases.
+    fn aliases<'b>(&self, ranks: &'b [u32]) -> &'b [u32]
+        ensures { result.now ≡ alias_labels self.now.aliased ranks.now }
+    {
+        if self.aliased { ranks } else { &[] }
+    }
+}
+
+/// The label of an array's items and of a map's values. A name may have this one too, since what
+/// is looked at for nothing does no harm.
+const CONTAINED: u32 = 0;
+
+/// Notes a link to a place.
+fn note_link(links: &mut Links, place: u32, link: Link) -> Result<(), AllocError>
+    requires { place < length links.old.lists.items }
+    ensures notes { OnOk result (Notes link.asker links.old links.new) }
+    ensures there { OnOk result (LinkedBy (HasLabel link.label link.alias) links.new.lists.items link.asker place) }
 {
-    let label = numbers.number(name)?;
-    note(lists, place, Link { label, asker })?;
+    note(&mut links.lists, place, link)?;
     Ok(())
 }
 
-/// Notes that a place refers to another by these aliases of a field.
-fn note_aliases<'a>(
-    lists: &mut Vec<Vec<Link>>,
-    numbers: &mut Numbers<'a>,
-    aliases: &'a [String],
+/// Notes that a place refers to another by a field's own name, if that has a label.
+fn note_own(links: &mut Links, label: Option<u32>, place: u32, asker: u32) -> Result<(), AllocError>
+    requires { place < length links.old.lists.items }
+    ensures notes { OnOk result (Notes asker links.old links.new) }
+    ensures there { OnOk result ((own : ℕ) → label ≡ Some own
+        → LinkedBy (HasLabel own None) links.new.lists.items asker place) }
+{
+    let Some(label) = label else {
+        return Ok(());
+    };
+    let link = Link {
+        label,
+        asker,
+        alias: None,
+    };
+    note_link(links, place, link)?;
+    Ok(())
+}
+
+/// Notes that a place refers to another by each of these aliases of the field that has the number.
+fn note_numbered(
+    links: &mut Links,
+    aliases: &[u32],
     place: u32,
     asker: u32,
+    number: usize,
 ) -> Result<(), AllocError>
-    requires numbering { IsNumbering numbers.old }
-    requires within { place < length lists.old.items }
-    ensures numbering { OnOk result (IsNumbering numbers.new) }
-    ensures kept { OnOk result (Keeps numbers.old numbers.new) }
-    ensures adds { OnOk result (Adds (λ x. x.asker ≡ asker) lists.old.items lists.new.items) }
-    ensures there { OnOk result (All (IsLinked numbers.new lists.new.items asker place)
-        (texts_view aliases.now)) }
+    requires { place < length links.old.lists.items }
+    ensures notes { OnOk result (Notes asker links.old links.new) }
+    ensures there { OnOk result (All (λ label. LinkedBy (HasLabel label (Some number)) links.new.lists.items asker place)
+        aliases.now) }
 {
     for alias in aliases {
-        note_name(lists, numbers, alias.as_str(), place, asker)?;
+        let link = Link {
+            label: *alias,
+            asker,
+            alias: Some(number),
+        };
+        note_link(links, place, link)?;
     }
     Ok(())
 }
 
-/// Notes that a place refers to the type of a field by its name, and by its aliases if those count.
-fn note_field<'a>(
-    lists: &mut Vec<Vec<Link>>,
-    numbers: &mut Numbers<'a>,
-    field: &'a Field,
-    aliased: bool,
+/// Notes that a place refers to another by the aliases of a field, which gets a number.
+fn note_aliases(
+    links: &mut Links,
+    aliases: &[u32],
+    place: u32,
     asker: u32,
+    index: usize,
 ) -> Result<(), AllocError>
-    requires numbering { IsNumbering numbers.old }
-    requires within { field.now.place < length lists.old.items }
-    ensures numbering { OnOk result (IsNumbering numbers.new) }
-    ensures kept { OnOk result (Keeps numbers.old numbers.new) }
-    ensures adds { OnOk result (Adds (λ x. x.asker ≡ asker) lists.old.items lists.new.items) }
-    ensures there { OnOk result (IsFieldLinked numbers.new lists.new.items aliased asker
-        (field_view field.now)) }
+    requires { place < length links.old.lists.items }
+    ensures notes { OnOk result (Notes asker links.old links.new) }
+    ensures there { OnOk result (All (λ label. LinkedBy (IsAlias links.new.aliased.items asker index label)
+        links.new.lists.items asker place) aliases.now) }
 {
-    note_name(lists, numbers, field.name.as_str(), field.place, asker)?;
-    if !aliased {
+    if aliases.is_empty() {
         return Ok(());
     }
-    note_aliases(lists, numbers, &field.aliases, field.place, asker)?;
+    let number = links.aliased.len();
+    let field = Aliased {
+        place: asker,
+        index,
+    };
+    links.aliased.push(field)?;
+    note_numbered(links, aliases, place, asker, number)?;
     Ok(())
 }
 
-/// Notes that a place refers to the types of these fields.
-fn note_fields<'a>(
-    lists: &mut Vec<Vec<Link>>,
-    numbers: &mut Numbers<'a>,
-    fields: &'a [Field],
-    aliased: bool,
+/// Notes that a place refers to the type of one of its fields.
+fn note_field(
+    links: &mut Links,
+    labels: &Labels,
+    ranks: &FieldRanks,
+    place: u32,
+    asker: u32,
+    index: usize,
+) -> Result<(), AllocError>
+    requires { place < length links.old.lists.items }
+    ensures notes { OnOk result (Notes asker links.old links.new) }
+    ensures there { OnOk result (IsFieldLinked labels.now.met.now.ranks.items labels.now.aliased links.new asker index place ranks.now) }
+{
+    note_own(links, labels.own(ranks.name), place, asker)?;
+    let aliases = labels.aliases(&ranks.aliases);
+    note_aliases(links, aliases, place, asker, index)?;
+    Ok(())
+}
+
+/// Notes that a place refers to the types of its fields.
+fn note_fields(
+    links: &mut Links,
+    labels: &Labels,
+    fields: Fields,
     asker: u32,
 ) -> Result<(), AllocError>
-    requires numbering { IsNumbering numbers.old }
-    requires within { All (λ f. f.place < length lists.old.items) (map field_view fields.now) }
-    ensures numbering { OnOk result (IsNumbering numbers.new) }
-    ensures kept { OnOk result (Keeps numbers.old numbers.new) }
-    ensures adds { OnOk result (Adds (λ x. x.asker ≡ asker) lists.old.items lists.new.items) }
-    ensures there { OnOk result (All (IsFieldLinked numbers.new lists.new.items aliased asker)
-        (map field_view fields.now)) }
+    requires long { length fields.ranks.now ≡ length fields.fields.now }
+    requires within { All (λ f. f.place < length links.old.lists.items) fields.fields.now }
+    ensures notes { OnOk result (Notes asker links.old links.new) }
+    ensures there { OnOk result (AreFieldsLinked labels.now.met.now.ranks.items labels.now.aliased links.new asker
+        (map field_view fields.entry.fields.now) fields.entry.ranks.now) }
 {
-    for field in fields {
-        note_field(lists, numbers, field, aliased, asker)?;
+    for index in 0..fields.fields.len() {
+        let place = fields.fields[index].place;
+        note_field(links, labels, &fields.ranks[index], place, asker, index)?;
     }
     Ok(())
 }
 
-/// Notes that a place refers to another as its items or values.
-fn note_contained(lists: &mut Vec<Vec<Link>>, place: u32, asker: u32) -> Result<(), AllocError>
-    requires { place < length lists.old.items }
-    ensures adds { OnOk result (Adds (λ x. x.asker ≡ asker) lists.old.items lists.new.items) }
-    ensures there { OnOk result (LinkedBy (λ k. k ≡ 0) lists.new.items asker place) }
-{
-    let link = Link {
-        label: CONTAINED,
-        asker,
-    };
-    note(lists, place, link)?;
-    Ok(())
-}
-
-/// Notes what a node refers to.
-fn note_node<'a>(
-    lists: &mut Vec<Vec<Link>>,
-    numbers: &mut Numbers<'a>,
-    node: &'a Node,
-    aliased: bool,
-    asker: u32,
-) -> Result<(), AllocError>
-    requires numbering { IsNumbering numbers.old }
-    requires within { Names (length lists.old.items) (node_view node.now) }
-    ensures numbering { OnOk result (IsNumbering numbers.new) }
-    ensures kept { OnOk result (Keeps numbers.old numbers.new) }
-    ensures adds { OnOk result (Adds (λ x. x.asker ≡ asker) lists.old.items lists.new.items) }
-    ensures there { OnOk result (IsNodeLinked numbers.new lists.new.items aliased asker (node_view node.now)) }
+/// The place of an array's items or of a map's values.
+fn contained(node: &Node) -> Option<u32>
+    ensures { result ≡ contained_of (node_view node.now) }
 {
     match node {
-        Node::Array { items, .. } => {
-            note_contained(lists, *items, asker)?;
-            Ok(())
-        }
-        Node::Map { values, .. } => {
-            note_contained(lists, *values, asker)?;
-            Ok(())
-        }
-        Node::Rec { fields, .. } => note_fields(lists, numbers, fields, aliased, asker),
-        Node::Primitive { .. } | Node::Union { .. } | Node::Enum { .. } | Node::Fixed { .. } => Ok(
-            (),
-        ),
+        Node::Array { items, .. } => Some(*items),
+        Node::Map { values, .. } => Some(*values),
+        Node::Primitive { .. }
+        | Node::Union { .. }
+        | Node::Enum { .. }
+        | Node::Fixed { .. }
+        | Node::Rec { .. } => None,
     }
+}
+
+/// Notes that a place refers to its items or values.
+fn note_contained(links: &mut Links, place: Option<u32>, asker: u32) -> Result<(), AllocError>
+    requires { IfSome place (λ p. p < length links.old.lists.items) }
+    ensures notes { OnOk result (Notes asker links.old links.new) }
+    ensures there { OnOk result ((p : ℕ) → place ≡ Some p → LinkedBy (HasLabel 0 None) links.new.lists.items asker p) }
+{
+    let Some(place) = place else {
+        return Ok(());
+    };
+    note_own(links, Some(CONTAINED), place, asker)?;
+    Ok(())
+}
+
+/// Notes what the node at a place refers to.
+fn note_node(links: &mut Links, labels: &Labels, side: &Side, asker: u32) -> Result<(), AllocError>
+    requires side { IsSide side.now }
+    requires asker_in { asker < length side.now.schema.now }
+    requires long { length links.old.lists.items ≡ length side.now.schema.now }
+    ensures notes { OnOk result (Notes asker links.old links.new) }
+    ensures there { OnOk result ((a : NodeView) → slice_get (nodes_of side.now) asker ≡ Some a
+        → IsPlaceLinked (names_of side.now) labels.now.met.now.ranks.items labels.now.aliased links.new asker a) }
+{
+    note_contained(links, contained(side.node(asker)), asker)?;
+    note_fields(links, labels, side.fields(asker), asker)?;
+    Ok(())
 }
 
 /// Sorts each list by the labels.
@@ -170,24 +238,23 @@ fn sort_lists(lists: &mut Vec<Vec<Link>>)
     }
 }
 
-/// For each place of a schema the links to it, sorted by their labels. A writer's fields are found
-/// by their names, a reader's look for theirs and for their aliases.
-pub fn links_of<'a>(
-    alloc: Global,
-    numbers: &mut Numbers<'a>,
-    schema: &'a Schema,
-    aliased: bool,
-) -> Result<Vec<Vec<Link>>, AllocError>
-    requires numbering { IsNumbering numbers.old }
-    requires whole { IsWhole (nodes_view schema.now) }
-    ensures numbering { OnOk result (IsNumbering numbers.new) }
-    ensures kept { OnOk result (Keeps numbers.old numbers.new) }
-    ensures links { IfOk result (λ v. HasLinks numbers.new aliased (nodes_view schema.now) v.items) }
+/// For each place of a side the links to it, sorted by their labels.
+///
+/// # Errors
+///
+/// `AllocError` where memory for the lists is refused.
+pub fn links_of(alloc: Global, side: &Side, labels: &Labels) -> Result<Links, AllocError>
+    requires { IsSide side.now }
+    ensures { IfOk result (λ v. HasLinks (names_of side.now) labels.now.met.now.ranks.items labels.now.aliased (nodes_of side.now) v) }
 {
-    let mut lists = empty_lists(alloc, schema.places())?;
-    for i in 0..schema.places() {
-        note_node(&mut lists, numbers, schema.node(i), aliased, i)?;
+    let lists = empty_lists(alloc, side.places())?;
+    let mut links = Links {
+        lists,
+        aliased: Vec::new(alloc),
+    };
+    for i in 0..side.places() {
+        note_node(&mut links, labels, side, i)?;
     }
-    sort_lists(&mut lists);
-    Ok(lists)
+    sort_lists(&mut links.lists);
+    Ok(links)
 }

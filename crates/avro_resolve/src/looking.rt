@@ -1,97 +1,98 @@
 //! Looks at pairs of places: one that the rest doesn't support is struck out and listed.
 
 ghost use Rattle.std.specs.Prelude.{ℕ, ◌<◌, length, OnOk, All, [], ◌∷◌, ◌++◌};
-ghost use Rattle.avro_resolve.specs.Inside.Sides.{nodes_of, IsSide};
-ghost use Rattle.avro_resolve.specs.Inside.Sources.{AreSourced};
+ghost use Rattle.avro_resolve.specs.Inside.Sides.{columns, rows, IsSides};
 ghost use Rattle.avro_resolve.specs.Inside.Left.{IsRest, Lists, Settled, AllSettled};
 
-use crate::sides::Side;
+use crate::desk::Desk;
+use crate::sides::Sides;
 use crate::support::{pair_asks, supports};
 use crate::table::Table;
 use std::alloc::AllocError;
 
+/// How far the striking out has come.
+#[derive(Drop)]
+pub struct Progress {
+    /// the pairs that are left
+    pub table: Table,
+    /// the pairs that were struck out and aren't yet told to those that ask for them
+    pub struck: Vec<(u16, u16)>,
+    /// where fields are laid
+    pub desk: Desk,
+}
+
 /// Strikes the pair out and lists it, if the rest doesn't support it.
-fn look(
-    writer: &Side,
-    reader: &Side,
-    i: u32,
-    j: u32,
-    table: &mut Table,
-    struck: &mut Vec<(u16, u16)>,
-) -> Result<(), AllocError>
-    requires writer { IsSide writer.now }
-    requires reader { IsSide reader.now }
-    requires sourced { AreSourced writer.now reader.now }
-    requires rest { IsRest (nodes_of writer.now) (nodes_of reader.now) table.old }
-    requires i_in { i < length writer.now.schema.now }
-    requires j_in { j < length reader.now.schema.now }
-    ensures rest { OnOk result (IsRest (nodes_of writer.now) (nodes_of reader.now) table.new) }
-    ensures lists { OnOk result (Lists table.old struck.old.items table.new struck.new.items) }
-    ensures settled { OnOk result (Settled (nodes_of writer.now) (nodes_of reader.now) table.new
-        struck.new.items i j) }
+fn look(sides: &Sides, i: u32, j: u32, progress: &mut Progress) -> Result<(), AllocError>
+    requires sides { IsSides sides.now }
+    requires rest { IsRest (rows sides.now) (columns sides.now) progress.old.table }
+    requires i_in { i < length sides.now.writer.schema.now }
+    requires j_in { j < length sides.now.reader.schema.now }
+    ensures rest { OnOk result (IsRest (rows sides.now) (columns sides.now) progress.new.table) }
+    ensures lists { OnOk result (Lists progress.old.table progress.old.struck.items progress.new.table progress.new.struck.items) }
+    ensures settled { OnOk result (Settled (rows sides.now) (columns sides.now) progress.new.table
+        progress.new.struck.items i j) }
 {
-    if table.has(i, j) && !supports(writer, reader, i, j, table) {
-        table.strike(i, j);
-        struck.push((i as u16, j as u16))?;
+    if !progress.table.has(i, j) {
+        return Ok(());
     }
+    let supported = supports(sides, i, j, &progress.table, &mut progress.desk)?;
+    if supported {
+        return Ok(());
+    }
+    progress.table.strike(i, j);
+    progress.struck.push((i as u16, j as u16))?;
     Ok(())
 }
 
 /// Looks again at a pair, if it may ask for the pair that is told.
 pub fn look_again(
-    writer: &Side,
-    reader: &Side,
-    i: u32,
-    j: u32,
+    sides: &Sides,
+    at: (u32, u32),
     told: (u32, u32),
-    table: &mut Table,
-    struck: &mut Vec<(u16, u16)>,
+    progress: &mut Progress,
 ) -> Result<(), AllocError>
-    requires writer { IsSide writer.now }
-    requires reader { IsSide reader.now }
-    requires sourced { AreSourced writer.now reader.now }
-    requires rest { IsRest (nodes_of writer.now) (nodes_of reader.now) table.old }
-    requires before { AllSettled (nodes_of writer.now) (nodes_of reader.now) table.old
-        (struck.old.items ++ told ∷ []) }
-    requires i_in { i < length writer.now.schema.now }
-    requires j_in { j < length reader.now.schema.now }
-    ensures rest { OnOk result (IsRest (nodes_of writer.now) (nodes_of reader.now) table.new) }
-    ensures lists { OnOk result (Lists table.old struck.old.items table.new struck.new.items) }
-    ensures settled { OnOk result (Settled (nodes_of writer.now) (nodes_of reader.now) table.new
-        struck.new.items i j) }
+    requires sides { IsSides sides.now }
+    requires rest { IsRest (rows sides.now) (columns sides.now) progress.old.table }
+    requires before { AllSettled (rows sides.now) (columns sides.now) progress.old.table
+        (progress.old.struck.items ++ told ∷ []) }
+    requires i_in { at.0 < length sides.now.writer.schema.now }
+    requires j_in { at.1 < length sides.now.reader.schema.now }
+    ensures rest { OnOk result (IsRest (rows sides.now) (columns sides.now) progress.new.table) }
+    ensures lists { OnOk result (Lists progress.old.table progress.old.struck.items progress.new.table progress.new.struck.items) }
+    ensures settled { OnOk result (Settled (rows sides.now) (columns sides.now) progress.new.table
+        progress.new.struck.items at.0 at.1) }
 {
-    if table.has(i, j) && pair_asks(writer, reader, i, j, told.0, told.1) {
-        look(writer, reader, i, j, table, struck)?;
+    if !progress.table.has(at.0, at.1) {
+        return Ok(());
     }
-    Ok(())
+    if !pair_asks(sides, at, told) {
+        return Ok(());
+    }
+    look(sides, at.0, at.1, progress)
 }
 
 /// Looks again at those pairs of a writer's place with these of the reader that may ask for the
 /// pair that is told.
 pub fn look_along(
-    writer: &Side,
-    reader: &Side,
+    sides: &Sides,
     i: u32,
-    columns: &[u32],
+    beside: &[u32],
     told: (u32, u32),
-    table: &mut Table,
-    struck: &mut Vec<(u16, u16)>,
+    progress: &mut Progress,
 ) -> Result<(), AllocError>
-    requires writer { IsSide writer.now }
-    requires reader { IsSide reader.now }
-    requires sourced { AreSourced writer.now reader.now }
-    requires rest { IsRest (nodes_of writer.now) (nodes_of reader.now) table.old }
-    requires before { AllSettled (nodes_of writer.now) (nodes_of reader.now) table.old
-        (struck.old.items ++ told ∷ []) }
-    requires i_in { i < length writer.now.schema.now }
-    requires columns_in { All (λ j. j < length reader.now.schema.now) columns.now }
-    ensures rest { OnOk result (IsRest (nodes_of writer.now) (nodes_of reader.now) table.new) }
-    ensures lists { OnOk result (Lists table.old struck.old.items table.new struck.new.items) }
-    ensures settled { OnOk result (All (Settled (nodes_of writer.now) (nodes_of reader.now) table.new
-        struck.new.items i) columns.now) }
+    requires sides { IsSides sides.now }
+    requires rest { IsRest (rows sides.now) (columns sides.now) progress.old.table }
+    requires before { AllSettled (rows sides.now) (columns sides.now) progress.old.table
+        (progress.old.struck.items ++ told ∷ []) }
+    requires i_in { i < length sides.now.writer.schema.now }
+    requires beside_in { All (λ j. j < length sides.now.reader.schema.now) beside.now }
+    ensures rest { OnOk result (IsRest (rows sides.now) (columns sides.now) progress.new.table) }
+    ensures lists { OnOk result (Lists progress.old.table progress.old.struck.items progress.new.table progress.new.struck.items) }
+    ensures settled { OnOk result (All (Settled (rows sides.now) (columns sides.now) progress.new.table
+        progress.new.struck.items i) beside.now) }
 {
-    for j in columns {
-        look_again(writer, reader, i, *j, told, table, struck)?;
+    for j in beside {
+        look_again(sides, (i, *j), told, progress)?;
     }
     Ok(())
 }
@@ -99,74 +100,55 @@ pub fn look_along(
 /// Looks again at those pairs of these places of the writer with one of the reader that may ask for
 /// the pair that is told.
 pub fn look_down(
-    writer: &Side,
-    reader: &Side,
-    rows: &[u32],
+    sides: &Sides,
+    above: &[u32],
     j: u32,
     told: (u32, u32),
-    table: &mut Table,
-    struck: &mut Vec<(u16, u16)>,
+    progress: &mut Progress,
 ) -> Result<(), AllocError>
-    requires writer { IsSide writer.now }
-    requires reader { IsSide reader.now }
-    requires sourced { AreSourced writer.now reader.now }
-    requires rest { IsRest (nodes_of writer.now) (nodes_of reader.now) table.old }
-    requires before { AllSettled (nodes_of writer.now) (nodes_of reader.now) table.old
-        (struck.old.items ++ told ∷ []) }
-    requires rows_in { All (λ i. i < length writer.now.schema.now) rows.now }
-    requires j_in { j < length reader.now.schema.now }
-    ensures rest { OnOk result (IsRest (nodes_of writer.now) (nodes_of reader.now) table.new) }
-    ensures lists { OnOk result (Lists table.old struck.old.items table.new struck.new.items) }
-    ensures settled { OnOk result (All (λ i. Settled (nodes_of writer.now) (nodes_of reader.now)
-        table.new struck.new.items i j) rows.now) }
+    requires sides { IsSides sides.now }
+    requires rest { IsRest (rows sides.now) (columns sides.now) progress.old.table }
+    requires before { AllSettled (rows sides.now) (columns sides.now) progress.old.table
+        (progress.old.struck.items ++ told ∷ []) }
+    requires above_in { All (λ i. i < length sides.now.writer.schema.now) above.now }
+    requires j_in { j < length sides.now.reader.schema.now }
+    ensures rest { OnOk result (IsRest (rows sides.now) (columns sides.now) progress.new.table) }
+    ensures lists { OnOk result (Lists progress.old.table progress.old.struck.items progress.new.table progress.new.struck.items) }
+    ensures settled { OnOk result (All (λ i. Settled (rows sides.now) (columns sides.now)
+        progress.new.table progress.new.struck.items i j) above.now) }
 {
-    for i in rows {
-        look_again(writer, reader, *i, j, told, table, struck)?;
+    for i in above {
+        look_again(sides, (*i, j), told, progress)?;
     }
     Ok(())
 }
 
 /// Looks at all pairs of a writer's place.
-fn look_row(
-    writer: &Side,
-    reader: &Side,
-    i: u32,
-    table: &mut Table,
-    struck: &mut Vec<(u16, u16)>,
-) -> Result<(), AllocError>
-    requires writer { IsSide writer.now }
-    requires reader { IsSide reader.now }
-    requires sourced { AreSourced writer.now reader.now }
-    requires rest { IsRest (nodes_of writer.now) (nodes_of reader.now) table.old }
-    requires i_in { i < length writer.now.schema.now }
-    ensures rest { OnOk result (IsRest (nodes_of writer.now) (nodes_of reader.now) table.new) }
-    ensures lists { OnOk result (Lists table.old struck.old.items table.new struck.new.items) }
-    ensures settled { OnOk result ((j : ℕ) → j < length reader.now.schema.now
-        → Settled (nodes_of writer.now) (nodes_of reader.now) table.new struck.new.items i j) }
+fn look_row(sides: &Sides, i: u32, progress: &mut Progress) -> Result<(), AllocError>
+    requires sides { IsSides sides.now }
+    requires rest { IsRest (rows sides.now) (columns sides.now) progress.old.table }
+    requires i_in { i < length sides.now.writer.schema.now }
+    ensures rest { OnOk result (IsRest (rows sides.now) (columns sides.now) progress.new.table) }
+    ensures lists { OnOk result (Lists progress.old.table progress.old.struck.items progress.new.table progress.new.struck.items) }
+    ensures settled { OnOk result ((j : ℕ) → j < length sides.now.reader.schema.now
+        → Settled (rows sides.now) (columns sides.now) progress.new.table progress.new.struck.items i j) }
 {
-    for j in (0..reader.places()).rev() {
-        look(writer, reader, i, j, table, struck)?;
+    for j in (0..sides.reader.places()).rev() {
+        look(sides, i, j, progress)?;
     }
     Ok(())
 }
 
 /// Looks at all pairs.
-pub fn look_everywhere(
-    writer: &Side,
-    reader: &Side,
-    table: &mut Table,
-    struck: &mut Vec<(u16, u16)>,
-) -> Result<(), AllocError>
-    requires writer { IsSide writer.now }
-    requires reader { IsSide reader.now }
-    requires sourced { AreSourced writer.now reader.now }
-    requires rest { IsRest (nodes_of writer.now) (nodes_of reader.now) table.old }
-    ensures rest { OnOk result (IsRest (nodes_of writer.now) (nodes_of reader.now) table.new) }
-    ensures settled { OnOk result (AllSettled (nodes_of writer.now) (nodes_of reader.now) table.new
-        struck.new.items) }
+pub fn look_everywhere(sides: &Sides, progress: &mut Progress) -> Result<(), AllocError>
+    requires sides { IsSides sides.now }
+    requires rest { IsRest (rows sides.now) (columns sides.now) progress.old.table }
+    ensures rest { OnOk result (IsRest (rows sides.now) (columns sides.now) progress.new.table) }
+    ensures settled { OnOk result (AllSettled (rows sides.now) (columns sides.now) progress.new.table
+        progress.new.struck.items) }
 {
-    for i in (0..writer.places()).rev() {
-        look_row(writer, reader, i, table, struck)?;
+    for i in (0..sides.writer.places()).rev() {
+        look_row(sides, i, progress)?;
     }
     Ok(())
 }

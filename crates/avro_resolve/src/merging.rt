@@ -5,7 +5,7 @@ ghost use Rattle.std.specs.List.Sorted.{IsStrictlyIncreasing};
 
 /// The first place from this one on at which the list has no less than the number, or else its
 /// length.
-fn first_from(list: &[usize], from: usize, number: usize) -> usize
+fn first_from(list: &[u32], from: usize, number: u32) -> usize
     ensures below { (k : ℕ) → from ≤ k → k < result → slice_index list.now k < number }
     ensures at { result < length list.now → number ≤ slice_index list.now result }
 {
@@ -18,22 +18,21 @@ fn first_from(list: &[usize], from: usize, number: usize) -> usize
 }
 
 /// Whether the number stands at this place of the list.
-fn is_at(list: &[usize], at: usize, number: usize) -> bool
+fn is_at(list: &[u32], at: usize, number: u32) -> bool
     ensures { IsTrue result ↔ (at < length list.now) × (slice_index list.now at ≡ number) }
 {
     at < list.len() && list[at] == number
 }
 
 /// Whether the number is one of the list's.
-pub fn has_number(list: &[usize], number: usize) -> bool
-    requires { IsStrictlyIncreasing list.now }
-    ensures { IsTrue result ↔ Contains list.now number }
+pub fn has_number(list: &[u32], number: u32) -> bool
+    ensures { IsStrictlyIncreasing list.now → IsTrue result ↔ Contains list.now number }
 {
     list.binary_search(&number).is_ok()
 }
 
 /// Whether each of the numbers is one of the list's. Both are walked once, side by side.
-pub fn has_all(list: &[usize], numbers: &[usize]) -> bool
+pub fn has_all(list: &[u32], numbers: &[u32]) -> bool
     requires list { IsStrictlyIncreasing list.now }
     requires numbers { IsStrictlyIncreasing numbers.now }
     ensures { IsTrue result ↔ All (Contains list.now) numbers.now }

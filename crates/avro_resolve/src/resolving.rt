@@ -40,8 +40,9 @@ pub fn resolves_plain(alloc: Global, writer: &Schema, reader: &Schema) -> Result
 /// Resolution), by opening the pair of the roots, and how many pairs were opened: at most the square
 /// of the number of those that the roots reach. A small number comes with a small witness: a closed
 /// set, or a list of pairs that refutes the roots. Where more than a thousand pairs would be open at
-/// once, or 250,000 have been opened, or four million names, aliases and symbols been looked up after
-/// the first thousand, the answer comes by striking out.
+/// once, the answer comes by striking out; so it does once a thousand were opened and the work adds up
+/// to four million, where each opened pair counts for eight, and the fields, aliases and symbols that
+/// are looked at for one each.
 ///
 /// # Errors
 ///

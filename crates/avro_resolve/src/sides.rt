@@ -1,38 +1,60 @@
-//! The two sides of a resolution: a writer's schema and a reader's.
+//! The two sides of a resolution: a writer's schema and a reader's, with their names met.
 
-ghost use Rattle.std.specs.Prelude.{◌≡◌, ◌<◌, IfSome, slice_get, length, vec_len, Some};
-ghost use Rattle.avro_nodes.specs.Nodes.{node_view};
-ghost use Rattle.avro_resolve.specs.Inside.Lists.{list_at};
-ghost use Rattle.avro_resolve.specs.Inside.FieldLists.{AreListsOf};
-ghost use Rattle.avro_resolve.specs.Inside.Lookups.{IsLookupOf};
-ghost use Rattle.avro_resolve.specs.Inside.Sides.{nodes_of, IsSide};
+ghost use Rattle.std.specs.Prelude.{◌≡◌, ◌<◌, All, slice_get, length, map, Some};
+ghost use Rattle.avro_nodes.specs.Nodes.{NodeView, field_view, node_view};
+ghost use Rattle.avro_schema.specs.Index.{AreFieldsRanked, IsRanked};
+ghost use Rattle.avro_resolve.specs.Inside.Agreeing.{field_ranks, fields_of};
+ghost use Rattle.avro_resolve.specs.Inside.Sides.{names_of, nodes_of, IsSide};
 
-use crate::field_lists::lists_at;
-use crate::lists::list_of;
-use crate::lookups::{Lookup, lookup_at};
-use crate::sources::Source;
-use avro_nodes::Node;
-use avro_schema::Schema;
+use crate::met::Met;
+use avro_nodes::{Field, Node};
+use avro_schema::{FieldRanks, Index, Ranks, Schema};
 
-/// A schema, with the tables of what is found by name at its places.
-#[derive(Drop)]
+/// A schema with its index.
+#[derive(Clone, Copy)]
 pub struct Side<'a> {
     pub schema: &'a Schema,
-    pub lookups: Vec<Option<Lookup<'a>>>,
-    /// the numbers of the last parts of the names at the places, where they are made
-    pub lasts: Vec<usize>,
-    /// the numbers of the full names at the places, where they are made
-    pub full_names: Vec<usize>,
-    /// the numbers of the aliases at the places, each place's in order, where they are made
-    pub aliases: Vec<Vec<usize>>,
-    /// the numbers of the symbols at the places, each place's in order, where they are made
-    pub symbols: Vec<Vec<usize>>,
-    /// a writer's fields at the places by the numbers of their names, where they are made
-    pub sources: Vec<Vec<Source>>,
-    /// the numbers of the names of a reader's fields at the places, where they are made
-    pub names: Vec<Vec<Vec<usize>>>,
-    /// the fields of wide records by the places of their types, where they are listed
-    pub field_lists: Vec<Option<Vec<Vec<u32>>>>,
+    pub index: &'a Index,
+}
+
+/// The writer's side and the reader's.
+#[derive(Drop)]
+pub struct Sides<'a> {
+    pub writer: Side<'a>,
+    pub reader: Side<'a>,
+    pub met: Met,
+}
+
+/// The fields of a record, and the ranks of their names.
+#[derive(Clone, Copy)]
+pub struct Fields<'a> {
+    pub fields: &'a [Field],
+    pub ranks: &'a [FieldRanks],
+}
+
+/// The fields of a record, and none of another node.
+fn record_fields(node: &Node) -> &[Field]
+    ensures { map field_view result.now ≡ fields_of (node_view node.now) }
+{
+    match node {
+        Node::Rec { fields, .. } => fields,
+        Node::Primitive { .. }
+        | Node::Array { .. }
+        | Node::Map { .. }
+        | Node::Union { .. }
+        | Node::Enum { .. }
+        | Node::Fixed { .. } => &[],
+    }
+}
+
+/// The same by the ranks of their names.
+pub fn record_ranks(ranks: &Ranks) -> &[FieldRanks]
+    ensures { result.now ≡ field_ranks ranks.now }
+{
+    match ranks {
+        Ranks::Rec { fields, .. } => fields,
+        Ranks::Unnamed | Ranks::Fixed { .. } | Ranks::Enum { .. } => &[],
+    }
 }
 
 impl<'a> Side<'a> {
@@ -52,67 +74,28 @@ impl<'a> Side<'a> {
         self.schema.node(place)
     }
 
-    /// The number of the last part of the name at a place.
-    pub fn last(&self, place: u32) -> usize
-        requires { place < vec_len self.now.lasts }
-        ensures { slice_get self.now.lasts.items place ≡ Some result }
-    {
-        self.lasts[place as usize]
-    }
-
-    /// The number of the full name at a place.
-    pub fn full_name(&self, place: u32) -> usize
-        requires { place < vec_len self.now.full_names }
-        ensures { slice_get self.now.full_names.items place ≡ Some result }
-    {
-        self.full_names[place as usize]
-    }
-
-    /// The numbers of the aliases at a place, in order.
-    pub fn aliases(&self, place: u32) -> &[usize]
-        requires { place < vec_len self.now.aliases }
-        ensures { result.now ≡ list_at self.now.aliases.items place }
-    {
-        &self.aliases[place as usize]
-    }
-
-    /// The numbers of the symbols at a place, in order.
-    pub fn symbols(&self, place: u32) -> &[usize]
-        requires { place < vec_len self.now.symbols }
-        ensures { result.now ≡ list_at self.now.symbols.items place }
-    {
-        &self.symbols[place as usize]
-    }
-
-    /// The fields at a place by the numbers of their names.
-    pub fn sources(&self, place: u32) -> &[Source]
-        ensures { result.now ≡ list_at self.now.sources.items place }
-    {
-        list_of(&self.sources, place as usize)
-    }
-
-    /// The numbers of the names of each of the fields at a place.
-    pub fn names(&self, place: u32) -> &[Vec<usize>]
-        ensures { result.now ≡ list_at self.now.names.items place }
-    {
-        list_of(&self.names, place as usize)
-    }
-
-    /// The table of the node at a place, where it has one.
-    pub fn lookup(&self, place: u32, node: &Node) -> Option<&Lookup<'a>>
+    /// The names of the node at a place, by their ranks.
+    pub fn ranks(&self, place: u32) -> &Ranks
         requires side { IsSide self.now }
-        requires node { slice_get self.now.schema.now place ≡ Some node.now }
-        ensures { IfSome result (λ t. IsLookupOf t.now node.now) }
+        requires within { place < length (nodes_of self.now) }
+        ensures { (a : NodeView) → slice_get (nodes_of self.now) place ≡ Some a
+            → IsRanked (names_of self.now) a result.now }
     {
-        lookup_at(&self.lookups, place, self.schema, node)
+        &self.index.ranks[place as usize]
     }
 
-    /// The fields of the node at a place by the places of their types, where they are listed.
-    pub fn lists(&self, place: u32, node: &Node) -> Option<&[Vec<u32>]>
+    /// The fields of the node at a place, if it is a record, and none otherwise.
+    pub fn fields(&self, place: u32) -> Fields<'_>
         requires side { IsSide self.now }
-        requires node { slice_get self.now.schema.now place ≡ Some node.now }
-        ensures { IfSome result (λ v. AreListsOf v.now node.now) }
+        requires within { place < length self.now.schema.now }
+        ensures are { (a : NodeView) → slice_get (nodes_of self.now) place ≡ Some a
+            → map field_view result.fields.now ≡ fields_of a }
+        ensures ranked { AreFieldsRanked (names_of self.now) (map field_view result.fields.now) result.ranks.now }
+        ensures long { length result.ranks.now ≡ length result.fields.now }
+        ensures in_schema { All (λ f. f.place < length self.now.schema.now) result.fields.now }
     {
-        lists_at(&self.field_lists, place, self.schema, node)
+        let fields = record_fields(self.node(place));
+        let ranks = record_ranks(self.ranks(place));
+        Fields { fields, ranks }
     }
 }

@@ -1,118 +1,141 @@
 //! Striking out the pairs that the rest doesn't support, until none is left to strike.
 
-ghost use Rattle.std.specs.Prelude.{◌<◌, IfOk, OnOk, [], ◌∷◌, ◌++◌, length};
+ghost use Rattle.std.specs.Prelude.{◌≡◌, ◌<◌, ◌≤◌, ◌++◌, ◌∷◌, [], IfOk, OnOk, length, take};
 ghost use Rattle.avro_nodes.specs.Nodes.{nodes_view};
 ghost use Rattle.avro_schema.specs.Texts.{IsSchema};
 ghost use Rattle.avro_resolve.specs.Resolution.{Closed};
-ghost use Rattle.avro_resolve.specs.Inside.Sides.{nodes_of, IsSide};
-ghost use Rattle.avro_resolve.specs.Inside.Sources.{AreSourced};
+ghost use Rattle.avro_resolve.specs.Inside.Sides.{columns, rows, IsSides};
+ghost use Rattle.avro_resolve.specs.Inside.Sources.{AreSources};
 ghost use Rattle.avro_resolve.specs.Inside.Left.{left, IsLeft, IsRest, Lists, AllSettled};
 ghost use Rattle.avro_resolve.specs.Inside.Askers.{AreAskers};
-ghost use Rattle.avro_resolve.specs.Inside.Numbers.{AreNumbered};
 
+use crate::aliased::Aliased;
 use crate::askers::Askers;
-use crate::field_lists::field_lists;
-use crate::field_names::field_names;
+use crate::desk::Desk;
 use crate::joining::look_joined;
+use crate::links::Labels;
 use crate::lists::list_of;
-use crate::looking::{look_along, look_down, look_everywhere};
-use crate::numbers::{Numbers, Part, name_numbers};
-use crate::sides::Side;
-use crate::sources::all_sources;
+use crate::looking::{Progress, look_along, look_down, look_everywhere};
+use crate::met::Met;
+use crate::sides::{Side, Sides};
 use crate::sweeping::sweep;
 use crate::table::Table;
-use crate::texts::{Texts, text_numbers};
 use avro_nodes::Node;
 use avro_schema::Schema;
 use std::alloc::{AllocError, Global};
+
+/// What asks for the places of both sides.
+#[derive(Drop)]
+struct Asking {
+    rows: Askers,
+    columns: Askers,
+    /// the sources of the reader's fields that have aliases, by the writer's places
+    sources: Vec<Vec<u16>>,
+}
 
 /// Looks again at the pairs that ask for the pair that is told: writers' unions with its reader's
 /// place, its writer's place with readers' unions, and what refers to its two places by one label.
 /// What is no pair of places isn't asked for.
 fn tell(
-    writer: &Side,
-    reader: &Side,
-    rows: &Askers,
-    columns: &Askers,
+    sides: &Sides,
+    asking: &Asking,
     told: (u32, u32),
-    table: &mut Table,
-    struck: &mut Vec<(u16, u16)>,
+    progress: &mut Progress,
 ) -> Result<(), AllocError>
-    requires writer { IsSide writer.now }
-    requires reader { IsSide reader.now }
-    requires sourced { AreSourced writer.now reader.now }
-    requires askers { AreAskers (nodes_of writer.now) (nodes_of reader.now) rows.now columns.now }
-    requires rest { IsRest (nodes_of writer.now) (nodes_of reader.now) table.old }
-    requires before { AllSettled (nodes_of writer.now) (nodes_of reader.now) table.old
-        (struck.old.items ++ told ∷ []) }
-    ensures rest { OnOk result (IsRest (nodes_of writer.now) (nodes_of reader.now) table.new) }
-    ensures lists { OnOk result (Lists table.old struck.old.items table.new struck.new.items) }
-    ensures settled { OnOk result (AllSettled (nodes_of writer.now) (nodes_of reader.now) table.new
-        struck.new.items) }
+    requires sides { IsSides sides.now }
+    requires askers { AreAskers sides.now asking.now.rows asking.now.columns asking.now.sources.items }
+    requires rest { IsRest (rows sides.now) (columns sides.now) progress.old.table }
+    requires before { AllSettled (rows sides.now) (columns sides.now) progress.old.table
+        (progress.old.struck.items ++ told ∷ []) }
+    ensures rest { OnOk result (IsRest (rows sides.now) (columns sides.now) progress.new.table) }
+    ensures lists { OnOk result (Lists progress.old.table progress.old.struck.items progress.new.table progress.new.struck.items) }
+    ensures settled { OnOk result (AllSettled (rows sides.now) (columns sides.now) progress.new.table
+        progress.new.struck.items) }
 {
     let (i, j) = told;
-    if i >= writer.places() || j >= reader.places() {
+    if i >= sides.writer.places() || j >= sides.reader.places() {
         return Ok(());
     }
-    let unions = list_of(&rows.unions, i as usize);
-    look_down(writer, reader, unions, j, told, table, struck)?;
-    let readers_unions = list_of(&columns.unions, j as usize);
-    look_along(writer, reader, i, readers_unions, told, table, struck)?;
-    let links = list_of(&rows.links, i as usize);
-    let readers_links = list_of(&columns.links, j as usize);
-    look_joined(writer, reader, links, readers_links, told, table, struck)?;
+    let unions = list_of(&asking.rows.unions, i as usize);
+    look_down(sides, unions, j, told, progress)?;
+    let readers_unions = list_of(&asking.columns.unions, j as usize);
+    look_along(sides, i, readers_unions, told, progress)?;
+    let links = list_of(&asking.rows.links.lists, i as usize);
+    let readers_links = list_of(&asking.columns.links.lists, j as usize);
+    look_joined(sides, &asking.sources, links, readers_links, told, progress)?;
     Ok(())
 }
 
 /// Looks again at the pairs that ask for a listed one, until none is listed.
-fn tell_listed(
-    writer: &Side,
-    reader: &Side,
-    rows: &Askers,
-    columns: &Askers,
-    table: &mut Table,
-    mut struck: Vec<(u16, u16)>,
-) -> Result<(), AllocError>
-    requires writer { IsSide writer.now }
-    requires reader { IsSide reader.now }
-    requires sourced { AreSourced writer.now reader.now }
-    requires askers { AreAskers (nodes_of writer.now) (nodes_of reader.now) rows.now columns.now }
-    requires rest { IsRest (nodes_of writer.now) (nodes_of reader.now) table.old }
-    requires settled { AllSettled (nodes_of writer.now) (nodes_of reader.now) table.old struck.items }
-    ensures rest { OnOk result (IsRest (nodes_of writer.now) (nodes_of reader.now) table.new) }
-    ensures closed { OnOk result (AllSettled (nodes_of writer.now) (nodes_of reader.now) table.new []) }
+fn tell_listed(sides: &Sides, asking: &Asking, progress: &mut Progress) -> Result<(), AllocError>
+    requires sides { IsSides sides.now }
+    requires askers { AreAskers sides.now asking.now.rows asking.now.columns asking.now.sources.items }
+    requires rest { IsRest (rows sides.now) (columns sides.now) progress.old.table }
+    requires settled { AllSettled (rows sides.now) (columns sides.now) progress.old.table progress.old.struck.items }
+    ensures rest { OnOk result (IsRest (rows sides.now) (columns sides.now) progress.new.table) }
+    ensures closed { OnOk result (AllSettled (rows sides.now) (columns sides.now) progress.new.table []) }
 {
-    while let Some((i, j)) = struck.pop() {
+    while let Some((i, j)) = progress.struck.pop() {
         let told = (i as u32, j as u32);
-        tell(writer, reader, rows, columns, told, table, &mut struck)?;
+        tell(sides, asking, told, progress)?;
     }
     Ok(())
 }
 
+/// The sources of these fields of the reader's, by the writer's places.
+fn sources_of(
+    alloc: Global,
+    sides: &Sides,
+    aliased: &[Aliased],
+    desk: &mut Desk,
+) -> Result<Vec<Vec<u16>>, AllocError>
+    requires { IsSides sides.now }
+    ensures { IfOk result (λ v. AreSources (rows sides.now) (columns sides.now) aliased.now v.items) }
+{
+    let mut sources = Vec::with_capacity(alloc, sides.writer.places() as usize)?;
+    for i in 0..sides.writer.places() {
+        sources.push(desk.row(alloc, sides, sides.writer.fields(i), aliased)?)?;
+    }
+    Ok(sources)
+}
+
+/// What asks for the places of both sides.
+fn asking_of(alloc: Global, sides: &Sides, desk: &mut Desk) -> Result<Asking, AllocError>
+    requires { IsSides sides.now }
+    ensures { IfOk result (λ v. AreAskers sides.now v.rows v.columns v.sources.items) }
+{
+    let met = &sides.met;
+    let rows = Askers::of(
+        alloc,
+        &sides.writer,
+        &Labels {
+            met,
+            aliased: false,
+        },
+    )?;
+    let columns = Askers::of(alloc, &sides.reader, &Labels { met, aliased: true })?;
+    let sources = sources_of(alloc, sides, &columns.links.aliased, desk)?;
+    Ok(Asking {
+        rows,
+        columns,
+        sources,
+    })
+}
+
 /// Strikes out what the rest doesn't support, until each pair that is left is supported: after the
 /// pairs whose nodes don't agree, a pair is looked at once, and again only where one was struck out
-/// that it asks for.
-fn strike_out<'a>(
-    alloc: Global,
-    writer: &Side<'a>,
-    reader: &Side<'a>,
-    table: &mut Table,
-) -> Result<(), AllocError>
-    requires writer { IsSide writer.now }
-    requires reader { IsSide reader.now }
-    requires sourced { AreSourced writer.now reader.now }
-    requires numbers { AreNumbered writer.now reader.now }
-    requires rest { IsLeft (nodes_of writer.now) (nodes_of reader.now) table.old }
-    ensures rest { OnOk result (IsLeft (nodes_of writer.now) (nodes_of reader.now) table.new) }
-    ensures closed { OnOk result (Closed (nodes_of writer.now) (nodes_of reader.now) (left table.new)) }
+/// that it may ask for.
+fn strike_out(alloc: Global, sides: &Sides, progress: &mut Progress) -> Result<(), AllocError>
+    requires sides { IsSides sides.now }
+    requires rest { IsLeft (rows sides.now) (columns sides.now) progress.old.table }
+    requires none { progress.old.struck.items ≡ [] }
+    ensures rest { OnOk result (IsLeft (rows sides.now) (columns sides.now) progress.new.table) }
+    ensures closed { OnOk result (Closed (rows sides.now) (columns sides.now) (left progress.new.table)) }
 {
-    sweep(writer, reader, table);
-    let mut numbers = Numbers::none(alloc);
-    let rows = Askers::of(alloc, &mut numbers, writer, false)?;
-    let columns = Askers::of(alloc, &mut numbers, reader, true)?;
-    let mut struck: Vec<(u16, u16)> = Vec::new(alloc);
-    look_everywhere(writer, reader, table, &mut struck)?;
-    tell_listed(writer, reader, &rows, &columns, table, struck)?;
+    sweep(alloc, sides, &mut progress.table)?;
+    let asking = asking_of(alloc, sides, &mut progress.desk)?;
+    look_everywhere(sides, progress)?;
+    tell_listed(sides, &asking, progress)?;
     Ok(())
 }
 
@@ -129,42 +152,26 @@ pub fn largest_closed(alloc: Global, writer: &Schema, reader: &Schema) -> Result
     ensures reader { IfOk result (λ _. IsSchema (nodes_view reader.now)) }
 {
     let (rows, columns) = (writer.places() as usize, reader.places() as usize);
-    let mut table = Table::all(alloc, rows, columns, has_union(reader))?;
-    let mut numbers = Numbers::none(alloc);
-    let rows_lasts = name_numbers(alloc, &mut numbers, Part::Last, writer)?;
-    let columns_lasts = name_numbers(alloc, &mut numbers, Part::Last, reader)?;
-    let mut numbers = Numbers::none(alloc);
-    let rows_names = name_numbers(alloc, &mut numbers, Part::Whole, writer)?;
-    let columns_aliases = text_numbers(alloc, &mut numbers, Texts::Aliases, reader)?;
-    let mut numbers = Numbers::none(alloc);
-    let rows_symbols = text_numbers(alloc, &mut numbers, Texts::Symbols, writer)?;
-    let columns_symbols = text_numbers(alloc, &mut numbers, Texts::Symbols, reader)?;
-    let mut numbers = Numbers::none(alloc);
-    let sources = all_sources(alloc, &mut numbers, writer)?;
-    let names = field_names(alloc, &mut numbers, reader)?;
-    let written = Side {
-        schema: writer,
-        lookups: Vec::new(alloc),
-        lasts: rows_lasts,
-        full_names: rows_names,
-        aliases: Vec::new(alloc),
-        symbols: rows_symbols,
-        sources,
-        names: Vec::new(alloc),
-        field_lists: Vec::new(alloc),
+    let table = Table::all(alloc, rows, columns, has_union(reader))?;
+    let (written, read) = (writer.index(), reader.index());
+    let met = Met::of(alloc, &written.names, &read.names)?;
+    let sides = Sides {
+        writer: Side {
+            schema: writer,
+            index: written,
+        },
+        reader: Side {
+            schema: reader,
+            index: read,
+        },
+        met,
     };
-    let lists = field_lists(alloc, reader)?;
-    let read = Side {
-        schema: reader,
-        lookups: Vec::new(alloc),
-        lasts: columns_lasts,
-        full_names: Vec::new(alloc),
-        aliases: columns_aliases,
-        symbols: columns_symbols,
-        sources: Vec::new(alloc),
-        names,
-        field_lists: lists,
+    let mut progress = Progress {
+        table,
+        struck: Vec::new(alloc),
+        desk: Desk::none(alloc),
     };
-    strike_out(alloc, &written, &read, &mut table)?;
+    strike_out(alloc, &sides, &mut progress)?;
+    let Progress { table, .. } = progress;
     Ok(table)
 }

@@ -23,3 +23,6 @@ pub mod Sizes
 pub mod WeightLemmas
 pub mod RoundTrip
 pub mod RoundText
+pub mod Rising
+pub mod RankLemmas
+pub mod IndexLemmas

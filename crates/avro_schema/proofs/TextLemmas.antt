@@ -20,7 +20,8 @@ use Rattle.avro_schema.specs.Inside.Fitting.{node_defaults_fit}
 use Rattle.avro_schema.specs.Kinds.{BranchKind}
 use Rattle.avro_schema.specs.Denotes.{Denotes, a_primitive, a_reference, primitive_type, reference_type, array_type, map_type, fixed_type, enum_type, record_type, union_type, Branches, no_branch, branch, Fields, no_field, field}
 use Rattle.avro_schema.specs.Texts.{TextDenotes, IsSchema}
-use Rattle.avro_schema.specs.Inside.DenotedNodes.{value_in, root_in, declared_nodes, nodes_that_fit, denoted_nodes}
+use Rattle.avro_schema.specs.DenotedNodes.{denoted_nodes}
+use Rattle.avro_schema.specs.Inside.DeclaredNodes.{value_in, root_in, declared_nodes, nodes_that_fit}
 use Rattle.avro_schema.specs.Inside.Weight.{weight}
 use Rattle.avro_schema.specs.Inside.Mentions.{mentions}
 use Rattle.avro_schema.specs.Inside.ReaderAnswers.{Fails, Adds}
@@ -191,14 +192,6 @@ computed_denotes text nodes e =
 -- a text denotes at most one schema
 pub one_schema : (text : List ℕ) (xs ys : List NodeView) → TextDenotes text xs → TextDenotes text ys → xs ≡ ys
 one_schema text xs ys t u = same_Some _ _ (sym (denotes_typed text xs t) ∙ denotes_typed text ys u)
-
--- where nothing is denoted, nothing is computed
-none_computed_of : (text : List ℕ) (o : Option (List NodeView)) → denoted_nodes text ≡ o → ((nodes : List NodeView) → ¬ TextDenotes text nodes) → o ≡ None
-none_computed_of text None e none = refl
-none_computed_of text (Some nodes) e none = absurd (none nodes (computed_denotes text nodes e))
-
-pub none_computed : (text : List ℕ) → ((nodes : List NodeView) → ¬ TextDenotes text nodes) → denoted_nodes text ≡ None
-none_computed text none = none_computed_of text (denoted_nodes text) refl none
 
 -- where no types are computed, nothing is denoted
 pub none_typed : (text : List ℕ) → declared_nodes text ≡ None → (nodes : List NodeView) → ¬ TextDenotes text nodes

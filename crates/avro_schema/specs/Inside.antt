@@ -1,4 +1,4 @@
-pub mod DenotedNodes
+pub mod DeclaredNodes
 pub mod KindNumbers
 pub mod Types
 pub mod Declarations
@@ -10,3 +10,4 @@ pub mod Weight
 pub mod Mentions
 pub mod NameTables
 pub mod ReaderAnswers
+pub mod NodeTexts

@@ -5,4 +5,6 @@ pub mod Kinds
 pub mod Denotes
 pub mod Defaults
 pub mod Texts
+pub mod DenotedNodes
+pub mod Index
 pub mod Inside

@@ -5,12 +5,16 @@ ghost use Rattle.serde_json.specs.View.{view};
 ghost use Rattle.avro_nodes.specs.Identity.{identity};
 ghost use Rattle.avro_nodes.specs.Limits.{max_places};
 ghost use Rattle.avro_nodes.specs.Nodes.{NodeView, nodes_view};
+ghost use Rattle.avro_schema.specs.Index.{IsIndex};
 ghost use Rattle.avro_schema.specs.Texts.{TextDenotes, IsSchema};
-ghost use Rattle.avro_schema.specs.Inside.DenotedNodes.{value_in, declared_nodes, denoted_nodes};
+ghost use Rattle.avro_schema.specs.DenotedNodes.{denoted_nodes};
+ghost use Rattle.avro_schema.specs.Inside.DeclaredNodes.{value_in, declared_nodes};
 ghost use Rattle.avro_schema.specs.Inside.ReaderAnswers.{Gives};
 
 use crate::defaults::defaults_fit;
 use crate::error::SchemaError;
+use crate::index::Index;
+use crate::indexing::index_of;
 use crate::mentions::mentions_fit;
 use crate::places::{Places, Space};
 use crate::reading::type_at;
@@ -26,6 +30,7 @@ use std::marker::Model;
 pub struct Schema {
     nodes: Vec<Node>,
     text: String,
+    index: Index,
 }
 
 impl Model for Schema {
@@ -39,15 +44,17 @@ impl Model for Schema {
     ghost coded = { coded_list the_row.coded };
 
     ghost use Rattle.avro_nodes.specs.Nodes.{nodes_view};
+    ghost use Rattle.avro_schema.specs.Index.{IsIndex};
     ghost use Rattle.avro_schema.specs.Texts.{Keeps};
 
     ghost view = { λ s. s.nodes.items };
 
-    ghost invariant = { λ s. Keeps (nodes_view s.nodes.items) (string_bytes s.text) };
+    ghost invariant = { λ s. Keeps (nodes_view s.nodes.items) (string_bytes s.text)
+        × IsIndex (nodes_view s.nodes.items) s.index };
 }
 
 /// The JSON value of a text whose numbers are whole.
-#[tactic(auto, unfolding(crate::specs::Inside::DenotedNodes::value_in))]
+#[tactic(auto, unfolding(crate::specs::Inside::DeclaredNodes::value_in))]
 fn value_of(alloc: Global, text: &str) -> Result<Value, SchemaError>
     ensures { Gives view result (value_in text.now) }
 {
@@ -67,7 +74,7 @@ fn value_of(alloc: Global, text: &str) -> Result<Value, SchemaError>
 }
 
 /// The nodes of a text, before their defaults and their identity text are looked at.
-#[tactic(auto, unfolding(crate::specs::Inside::DenotedNodes::declared_nodes, crate::specs::Inside::DenotedNodes::root_in))]
+#[tactic(auto, unfolding(crate::specs::Inside::DeclaredNodes::declared_nodes, crate::specs::Inside::DeclaredNodes::root_in))]
 fn nodes_of(alloc: Global, text: &str) -> Result<Vec<Node>, SchemaError>
     ensures { Gives (λ v. nodes_view v.items) result (declared_nodes text.now) }
 {
@@ -103,8 +110,6 @@ impl Schema {
             → nodes ≡ nodes_view s) }
         ensures err { IfErr result (λ e. e ≢ SchemaError.OutOfMemory
             → (nodes : List NodeView) → ¬ TextDenotes text.now nodes) }
-        // the same by the function that computes what a text denotes: but where memory is refused
-        ensures computed { Gives nodes_view result (denoted_nodes text.now) }
     {
         let nodes = nodes_of(alloc, text)?;
         if !mentions_fit(&nodes) {
@@ -117,7 +122,8 @@ impl Schema {
         if text.len() > MAX_TEXT {
             return Err(SchemaError::TooLarge);
         }
-        Ok(Schema { nodes, text })
+        let index = index_of(alloc, &nodes)?;
+        Ok(Schema { nodes, text, index })
     }
 
     /// The identity text: one JSON text for the schema, compact and with its members in byte
@@ -160,6 +166,13 @@ impl Schema {
         ensures { slice_get self.now place ≡ Some result.now }
     {
         &self.nodes[place as usize]
+    }
+
+    /// The names of the nodes by their ranks.
+    pub fn index(&self) -> &Index
+        ensures { IsIndex (nodes_view self.now) result.now }
+    {
+        &self.index
     }
 }
 

@@ -1,22 +1,50 @@
 -- What two nodes say of a pair by themselves.
-use Rattle.std.specs.Prelude.{◌≡◌, ◌⊎◌, ◌↔◌, ℕ, List, [], Bool, Option, Some, None, IsSome, IsTrue, MatchOption, All, Contains, option_map, unwrap_or}
-use Rattle.std.specs.List.Sorted.{IsStrictlyIncreasing}
-use Rattle.avro_nodes.specs.Names.{last_part}
-use Rattle.avro_nodes.specs.Nodes.{NamedView, NodeView, primitive, array, mapping, union, enumeration, fixed, rec}
+use Rattle.std.specs.Prelude.{◌≡◌, ◌⊎◌, ◌↔◌, ℕ, List, [], Bool, Option, Some, None, IsSome, IsTrue, MatchOption, All, Contains, Vec}
+use Rattle.std.specs.declared.alloc.Global.{Global}
+use Rattle.avro_nodes.specs.Nodes.{FieldView, NamedView, NodeView, primitive, array, mapping, union, enumeration, fixed, rec}
+use Rattle.avro_schema.specs.declared.index.FieldRanks.{FieldRanks}
+use Rattle.avro_schema.specs.declared.index.NamedRanks.{NamedRanks}
+use Rattle.avro_schema.specs.declared.index.Ranks.{Ranks}
+use Rattle.avro_schema.specs.declared.index.Ranks.TheVariants.{Unnamed, Fixed, Enum, Rec}
+use Rattle.avro_schema.specs.Index.{AreRisingRanks}
 use Rattle.avro_resolve.specs.Resolution.{NameMatch, Promotes}
 
--- The nodes agree in their kinds, names, sizes and symbols, as far as a pair of them asks for that (Avro 1.11 specification, Schema Resolution).
--- Of a union nothing is asked.
+-- The nodes agree in their kinds, names and sizes, as far as a pair of them asks for that (Avro 1.11 specification, Schema Resolution). Of a
+-- union nothing is asked.
+abbrev pub IsAlike : NodeView → NodeView → Type 0
+IsAlike (union _) b = Unit {0}
+IsAlike a (union _) = Unit {0}
+IsAlike (primitive k _) (primitive l _) = Promotes k l
+IsAlike (array _ _) (array _ _) = Unit {0}
+IsAlike (mapping _ _) (mapping _ _) = Unit {0}
+IsAlike (enumeration n _ _ _) (enumeration m _ _ _) = NameMatch n m
+IsAlike (fixed n size _) (fixed m wanted _) = NameMatch n m × (size ≡ wanted)
+IsAlike (rec n _ _) (rec m _ _) = NameMatch n m
+IsAlike _ _ = ⊥
+
+-- an enum has a default or each of these symbols
+abbrev pub MayCome : List (List ℕ) → NodeView → Type 0
+MayCome symbols (primitive kind _) = Unit {0}
+MayCome symbols (array place _) = Unit {0}
+MayCome symbols (mapping place _) = Unit {0}
+MayCome symbols (union places) = Unit {0}
+MayCome symbols (enumeration named known fallback _) = IsSome fallback ⊎ All (Contains known) symbols
+MayCome symbols (fixed named size _) = Unit {0}
+MayCome symbols (rec named fields _) = Unit {0}
+
+-- of two enums, the second has a default or each symbol of the first
+abbrev pub SymbolsFit : NodeView → NodeView → Type 0
+SymbolsFit (primitive kind _) b = Unit {0}
+SymbolsFit (array place _) b = Unit {0}
+SymbolsFit (mapping place _) b = Unit {0}
+SymbolsFit (union places) b = Unit {0}
+SymbolsFit (enumeration named symbols fallback _) b = MayCome symbols b
+SymbolsFit (fixed named size _) b = Unit {0}
+SymbolsFit (rec named fields _) b = Unit {0}
+
+-- the nodes agree in their kinds, names, sizes and symbols
 abbrev pub Agree : NodeView → NodeView → Type 0
-Agree (union _) b = Unit {0}
-Agree a (union _) = Unit {0}
-Agree (primitive k _) (primitive l _) = Promotes k l
-Agree (array _ _) (array _ _) = Unit {0}
-Agree (mapping _ _) (mapping _ _) = Unit {0}
-Agree (enumeration n symbols _ _) (enumeration m known fallback _) = NameMatch n m × (IsSome fallback ⊎ All (Contains known) symbols)
-Agree (fixed n size _) (fixed m wanted _) = NameMatch n m × (size ≡ wanted)
-Agree (rec n _ _) (rec m _ _) = NameMatch n m
-Agree _ _ = ⊥
+Agree a b = IsAlike a b × SymbolsFit a b
 
 -- the names of a node that has such
 abbrev pub named_of : NodeView → Option NamedView
@@ -28,17 +56,16 @@ named_of (enumeration named symbols fallback _) = Some named
 named_of (fixed named size _) = Some named
 named_of (rec named fields _) = Some named
 
--- the test says whether the names of two nodes, where both have names, have one last part
-abbrev pub TellsSameLast : Bool → NodeView → NodeView → Type 0
-TellsSameLast same a b = MatchOption (named_of a) (Unit {0}) (λ n. MatchOption (named_of b) (Unit {0}) (λ m. IsTrue same ↔ (last_part n.name ≡ last_part m.name)))
+-- the same by their ranks
+abbrev pub named_ranks : Ranks → Option NamedRanks
+named_ranks Unnamed = None
+named_ranks (Fixed named) = Some named
+named_ranks (Enum named symbols) = Some named
+named_ranks (Rec named fields) = Some named
 
--- the test says whether the full name of the first node, where both have names, is an alias of the second
-abbrev pub TellsAliased : Bool → NodeView → NodeView → Type 0
-TellsAliased aliased a b = MatchOption (named_of a) (Unit {0}) (λ n. MatchOption (named_of b) (Unit {0}) (λ m. IsTrue aliased ↔ Contains m.aliases n.name))
-
--- the aliases of a node that has names, and none of another
-abbrev pub aliases_of : NodeView → List (List ℕ)
-aliases_of a = unwrap_or (option_map (λ n. n.aliases) (named_of a)) []
+-- the test says whether the names of two nodes, where both have names, match
+abbrev pub TellsMatch : Bool → NodeView → NodeView → Type 0
+TellsMatch matched a b = MatchOption (named_of a) (Unit {0}) (λ n. MatchOption (named_of b) (Unit {0}) (λ m. IsTrue matched ↔ NameMatch n m))
 
 -- the symbols of an enum, and none of another node
 abbrev pub symbols_of : NodeView → List (List ℕ)
@@ -50,8 +77,30 @@ symbols_of (enumeration named symbols fallback _) = symbols
 symbols_of (fixed named size _) = []
 symbols_of (rec named fields _) = []
 
--- the lists of numbers, both in order and with each number once, tell whether each symbol of the one node is one of the other's
-pub record TellSymbols (symbols known : List ℕ) (a b : NodeView) : Type 0 where
-  pub symbols_ordered : IsStrictlyIncreasing symbols
-  pub known_ordered : IsStrictlyIncreasing known
-  pub tell : All (Contains known) symbols ↔ All (Contains (symbols_of b)) (symbols_of a)
+-- the same by their ranks
+abbrev pub symbol_ranks : Ranks → List ℕ
+symbol_ranks Unnamed = []
+symbol_ranks (Fixed named) = []
+symbol_ranks (Enum named symbols) = symbols.items
+symbol_ranks (Rec named fields) = []
+
+-- the ranks of the symbols among a reader's names, or none where these haven't one of them
+abbrev pub AreSymbolsMet : List (List ℕ) → List (List ℕ) → Option (Vec ℕ Global) → Type 0
+AreSymbolsMet names symbols found = MatchOption found (All (Contains names) symbols → ⊥) (λ v. AreRisingRanks names symbols v.items)
+
+-- the fields of a node, where it has such
+abbrev pub fields_of : NodeView → List FieldView
+fields_of (rec named fields extra) = fields
+fields_of (primitive kind extra) = []
+fields_of (array place extra) = []
+fields_of (mapping place extra) = []
+fields_of (union places) = []
+fields_of (enumeration named symbols fallback extra) = []
+fields_of (fixed named size extra) = []
+
+-- the same by the ranks of their names
+abbrev pub field_ranks : Ranks → List FieldRanks
+field_ranks Unnamed = []
+field_ranks (Fixed named) = []
+field_ranks (Enum named symbols) = []
+field_ranks (Rec named fields) = fields.items

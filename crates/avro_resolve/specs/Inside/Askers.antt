@@ -1,13 +1,20 @@
 -- What asks for a place: unions for their branches, and what refers to it by a label.
-use Rattle.std.specs.Prelude.{◌≡◌, ℕ, ◌<◌, List, [], ◌∷◌, Bool, true, false, All, Contains, Some, length, slice_get, Vec}
+use Rattle.std.specs.Prelude.{◌≡◌, ℕ, ◌+◌, ◌<◌, List, [], Bool, true, false, All, Contains, MatchOption, Option, None, Some, length, slice_get, Vec}
 use Rattle.std.specs.List.Sorted.{IsNonDecreasingBy}
 use Rattle.std.specs.declared.alloc.Global.{Global}
 use Rattle.avro_nodes.specs.Nodes.{FieldView, NodeView, primitive, array, mapping, union, enumeration, fixed, rec}
-use Rattle.avro_resolve.specs.declared.links.Link.{Link}
+use Rattle.avro_schema.specs.declared.index.FieldRanks.{FieldRanks}
+use Rattle.avro_schema.specs.Index.{AreFieldsRanked}
+use Rattle.avro_resolve.specs.declared.aliased.Aliased.{Aliased}
 use Rattle.avro_resolve.specs.declared.askers.Askers.{Askers}
-use Rattle.avro_resolve.specs.declared.numbers.Numbers.{Numbers}
-use Rattle.avro_resolve.specs.Inside.Lists.{list_at, StandsAt}
-use Rattle.avro_resolve.specs.Inside.Numbers.{number_in}
+use Rattle.avro_resolve.specs.declared.links.Link.{Link}
+use Rattle.avro_resolve.specs.declared.links.Links.{Links}
+use Rattle.avro_resolve.specs.declared.sides.Sides.{Sides}
+use Rattle.avro_resolve.specs.Inside.Agreeing.{fields_of}
+use Rattle.avro_resolve.specs.Inside.Lists.{list_at, Adds, StandsAt}
+use Rattle.avro_resolve.specs.Inside.Meeting.{met_at}
+use Rattle.avro_resolve.specs.Inside.Sides.{columns, names_of, rows}
+use Rattle.avro_resolve.specs.Inside.Sources.{code_at, AreSources}
 
 -- where the node is a union, its place stands in the list of each branch
 abbrev pub IsUnionListed : List (Vec ℕ Global) → ℕ → NodeView → Type 0
@@ -24,32 +31,62 @@ pub record HasUnions (nodes : List NodeView) (lists : List (Vec ℕ Global)) : T
   pub within : (i place : ℕ) → StandsAt lists i place → i < length nodes
   pub named : (i : ℕ) (a : NodeView) → slice_get nodes i ≡ Some a → IsUnionListed lists i a
 
--- the asker refers to the place by such a label
-abbrev pub LinkedBy : (ℕ → Type 0) → List (Vec Link Global) → ℕ → ℕ → Type 0
-LinkedBy Such lists asker place = (x : Link) × Such x.label × (x.asker ≡ asker) × StandsAt lists x place
+-- the link has the label, and is of the alias of a field that has this number, or of no alias
+abbrev pub HasLabel : ℕ → Option ℕ → Link → Type 0
+HasLabel label alias x = (x.label ≡ label) × (x.alias ≡ alias)
 
--- the asker refers to the place by the number of the name
-abbrev pub IsLinked : Numbers → List (Vec Link Global) → ℕ → ℕ → List ℕ → Type 0
-IsLinked t lists asker place name = LinkedBy (λ k. number_in t name ≡ Some k) lists asker place
+-- the link has the label, and is of an alias of the record's field of this index
+abbrev pub IsAlias : List Aliased → ℕ → ℕ → ℕ → Link → Type 0
+IsAlias aliased asker index label x = (number : ℕ) × HasLabel label (Some number) x × (slice_get aliased number ≡ Some (record { place = asker; index = index }))
 
--- the names by which the type of a field is referred to: its own name, and its aliases if those count
-abbrev pub names_by : Bool → FieldView → List (List ℕ)
-names_by true f = f.name ∷ f.aliases
-names_by false f = f.name ∷ []
+-- the asker refers to the place by such a link
+abbrev pub LinkedBy : (Link → Type 0) → List (Vec Link Global) → ℕ → ℕ → Type 0
+LinkedBy Such lists asker place = (x : Link) × Such x × (x.asker ≡ asker) × StandsAt lists x place
 
--- the asker refers to the type of the field by each of its names
-abbrev pub IsFieldLinked : Numbers → List (Vec Link Global) → Bool → ℕ → FieldView → Type 0
-IsFieldLinked t lists aliased asker f = All (IsLinked t lists asker f.place) (names_by aliased f)
+-- The label of a field's own name: of a writer's field the rank that the reader has for it, if it has one, of a reader's its own rank.
+abbrev pub own_label : List (Option ℕ) → Bool → ℕ → Option ℕ
+own_label met true rank = Some rank
+own_label met false rank = met_at met rank
 
--- the asker refers to what its node is made of: to items and values by the label 0, to the types of fields by their names
-abbrev pub IsNodeLinked : Numbers → List (Vec Link Global) → Bool → ℕ → NodeView → Type 0
-IsNodeLinked t lists aliased asker (array place _) = LinkedBy (λ k. k ≡ 0) lists asker place
-IsNodeLinked t lists aliased asker (mapping place _) = LinkedBy (λ k. k ≡ 0) lists asker place
-IsNodeLinked t lists aliased asker (rec named fields _) = All (IsFieldLinked t lists aliased asker) fields
-IsNodeLinked t lists aliased asker (primitive kind _) = Unit {0}
-IsNodeLinked t lists aliased asker (union branches) = Unit {0}
-IsNodeLinked t lists aliased asker (enumeration named symbols fallback _) = Unit {0}
-IsNodeLinked t lists aliased asker (fixed named size _) = Unit {0}
+-- the labels of its aliases, for which a reader's field looks too
+abbrev pub alias_labels : Bool → List ℕ → List ℕ
+alias_labels true ranks = ranks
+alias_labels false ranks = []
+
+-- the asker refers to the type of its field by each label of the field
+pub record IsFieldLinked (met : List (Option ℕ)) (aliased : Bool) (links : Links) (asker index place : ℕ) (ranks : FieldRanks) : Type 0 where
+  pub own : (label : ℕ) → own_label met aliased ranks.name ≡ Some label → LinkedBy (HasLabel label None) links.lists.items asker place
+  pub aliases : All (λ label. LinkedBy (IsAlias links.aliased.items asker index label) links.lists.items asker place) (alias_labels aliased ranks.aliases.items)
+
+-- the same for each of its fields
+abbrev pub AreFieldsLinked : List (Option ℕ) → Bool → Links → ℕ → List FieldView → List FieldRanks → Type 0
+AreFieldsLinked met aliased links asker fields ranks = (index : ℕ) (f : FieldView) (x : FieldRanks) → slice_get fields index ≡ Some f → slice_get ranks index ≡ Some x → IsFieldLinked met aliased links asker index f.place x
+
+-- the place of an array's items or of a map's values
+abbrev pub contained_of : NodeView → Option ℕ
+contained_of (primitive kind _) = None
+contained_of (array place _) = Some place
+contained_of (mapping place _) = Some place
+contained_of (union branches) = None
+contained_of (enumeration named symbols fallback _) = None
+contained_of (fixed named size _) = None
+contained_of (rec named fields _) = None
+
+-- The asker refers to what its node is made of: to items and values by the label 0, to the types of fields by their names, of which these are the
+-- ranks.
+pub record IsNodeLinked (names : List (List ℕ)) (met : List (Option ℕ)) (aliased : Bool) (links : Links) (asker : ℕ) (a : NodeView) (ranks : List FieldRanks) : Type 0 where
+  pub contained : (place : ℕ) → contained_of a ≡ Some place → LinkedBy (HasLabel 0 None) links.lists.items asker place
+  pub ranked : AreFieldsRanked names (fields_of a) ranks
+  pub fields : AreFieldsLinked met aliased links asker (fields_of a) ranks
+
+-- the same for a node
+abbrev pub IsPlaceLinked : List (List ℕ) → List (Option ℕ) → Bool → Links → ℕ → NodeView → Type 0
+IsPlaceLinked names met aliased links asker a = (ranks : List FieldRanks) × IsNodeLinked names met aliased links asker a ranks
+
+-- only links of the asker were added, and each field that has a number keeps it
+pub record Notes (asker : ℕ) (old new : Links) : Type 0 where
+  pub adds : Adds (λ x. x.asker ≡ asker) old.lists.items new.lists.items
+  pub kept : (number : ℕ) (field : Aliased) → slice_get old.aliased.items number ≡ Some field → slice_get new.aliased.items number ≡ Some field
 
 -- the labels of each list don't fall
 abbrev pub AreSorted : List (Vec Link Global) → Type 0
@@ -61,22 +98,26 @@ pub record SameLists (old new : List (Vec Link Global)) : Type 0 where
   pub back : (x : Link) (place : ℕ) → StandsAt new x place → StandsAt old x place
 
 -- the lists have each asker for each place that it refers to, by each label
-pub record HasLinks (t : Numbers) (aliased : Bool) (nodes : List NodeView) (lists : List (Vec Link Global)) : Type 0 where
-  pub within : (x : Link) (place : ℕ) → StandsAt lists x place → x.asker < length nodes
-  pub sorted : AreSorted lists
-  pub named : (i : ℕ) (a : NodeView) → slice_get nodes i ≡ Some a → IsNodeLinked t lists aliased i a
+pub record HasLinks (names : List (List ℕ)) (met : List (Option ℕ)) (aliased : Bool) (nodes : List NodeView) (links : Links) : Type 0 where
+  pub within : (x : Link) (place : ℕ) → StandsAt links.lists.items x place → x.asker < length nodes
+  pub sorted : AreSorted links.lists.items
+  pub named : (i : ℕ) (a : NodeView) → slice_get nodes i ≡ Some a → IsPlaceLinked names met aliased links i a
 
 -- both for a side
-pub record HasAskers (t : Numbers) (aliased : Bool) (nodes : List NodeView) (askers : Askers) : Type 0 where
+pub record HasAskers (names : List (List ℕ)) (met : List (Option ℕ)) (aliased : Bool) (nodes : List NodeView) (askers : Askers) : Type 0 where
   pub unions : HasUnions nodes askers.unions.items
-  pub links : HasLinks t aliased nodes askers.links.items
+  pub links : HasLinks names met aliased nodes askers.links
 
--- of a writer and a reader, whose fields look for their aliases too
-pub record AreAskers (w r : List NodeView) (above beside : Askers) : Type 0 where
-  pub numbers : Numbers
-  pub rows : HasAskers numbers false w above
-  pub columns : HasAskers numbers true r beside
+-- of a writer and of a reader, whose fields look for their aliases too, with the sources of those that have aliases
+pub record AreAskers (sides : Sides) (above beside : Askers) (table : List (Vec ℕ Global)) : Type 0 where
+  pub writer : HasAskers (names_of sides.writer) sides.met.ranks.items false (rows sides) above
+  pub reader : HasAskers (names_of sides.reader) sides.met.ranks.items true (columns sides) beside
+  pub sources : AreSources (rows sides) (columns sides) beside.links.aliased.items table
 
--- the relation has the askers of each two links of one label
-abbrev pub Joins : (ℕ → ℕ → Type 0) → List Link → List Link → Type 0
-Joins Looked xs ys = (x y : Link) → Contains xs x → Contains ys y → x.label ≡ y.label → Looked x.asker y.asker
+-- the reader's link is of no alias, or of one by which its field is read from the writer's place
+abbrev pub MayAsk : List (Vec ℕ Global) → ℕ → Link → Link → Type 0
+MayAsk sources place x y = MatchOption y.alias (Unit {0}) (λ number. code_at sources x.asker number ≡ place + 1)
+
+-- the relation has the askers of each two such links of one label
+abbrev pub Joins : List (Vec ℕ Global) → ℕ → (ℕ → ℕ → Type 0) → List Link → List Link → Type 0
+Joins sources place Looked xs ys = (x y : Link) → Contains xs x → Contains ys y → x.label ≡ y.label → MayAsk sources place x y → Looked x.asker y.asker

@@ -1,18 +1,35 @@
--- A schema of a resolution, with the tables of what is found by name at its places.
-use Rattle.std.specs.Prelude.{List, length, ◌<◌}
-use Rattle.avro_nodes.specs.Nodes.{NodeView, nodes_view}
+-- The two schemas of a resolution.
+use Rattle.std.specs.Prelude.{ℕ, List, length, ◌<◌}
+use Rattle.avro_nodes.specs.Nodes.{NodeView, nodes_view, texts_view}
+use Rattle.avro_schema.specs.Index.{IsIndex}
 use Rattle.avro_resolve.specs.declared.sides.Side.{Side}
+use Rattle.avro_resolve.specs.declared.sides.Sides.{Sides}
 use Rattle.avro_resolve.specs.Inside.Places.{IsWhole}
-use Rattle.avro_resolve.specs.Inside.FieldLists.{AreFieldLists}
-use Rattle.avro_resolve.specs.Inside.Lookups.{AreLookups}
+use Rattle.avro_resolve.specs.Inside.Meeting.{AreMet}
 
 -- the nodes of the schema
 abbrev pub nodes_of : Side → List NodeView
 nodes_of side = nodes_view side.schema.now
 
--- each named place is a node's, each table and each list of fields is that of its node, and a place fits 16 bits
+-- its names, by their ranks
+abbrev pub names_of : Side → List (List ℕ)
+names_of side = texts_view side.index.now.names.items
+
+-- each named place is a node's, the index is that of the nodes, and a place and one fit 16 bits
 pub record IsSide (side : Side) : Type 0 where
   pub whole : IsWhole (nodes_of side)
-  pub lookups : AreLookups side.schema.now side.lookups.items
-  pub field_lists : AreFieldLists side.schema.now side.field_lists.items
+  pub index : IsIndex (nodes_of side) side.index.now
   pub few : length side.schema.now < 65536
+
+-- the nodes of the writer and those of the reader
+abbrev pub rows : Sides → List NodeView
+rows sides = nodes_of sides.writer
+
+abbrev pub columns : Sides → List NodeView
+columns sides = nodes_of sides.reader
+
+-- both are such, and their names are met
+pub record IsSides (sides : Sides) : Type 0 where
+  pub writer : IsSide sides.writer
+  pub reader : IsSide sides.reader
+  pub met : AreMet (names_of sides.writer) (names_of sides.reader) sides.met.ranks.items

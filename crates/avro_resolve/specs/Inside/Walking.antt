@@ -1,5 +1,5 @@
 -- What the recursion keeps: the assumed pairs, the failed ones in their order, and how many visits it counted.
-use Rattle.std.specs.Prelude.{◌≡◌, ℕ, ◌+◌, ◌*◌, ◌<◌, ◌≤◌, ◌⊎◌, [], List, take, length, IsTrue, true, Some, slice_get}
+use Rattle.std.specs.Prelude.{◌≡◌, ℕ, ◌+◌, ◌*◌, ◌<◌, ◌≤◌, ◌⊎◌, [], List, take, length, IsTrue}
 use Rattle.avro_nodes.specs.Nodes.{NodeView}
 use Rattle.avro_resolve.specs.declared.pair_set.PairSet.{PairSet}
 use Rattle.avro_resolve.specs.declared.walk.Walk.{Walk}
@@ -9,7 +9,6 @@ use Rattle.avro_resolve.specs.Resolution.{Supports, Resolves}
 use Rattle.avro_resolve.specs.Inside.Places.{IsWhole}
 use Rattle.avro_resolve.specs.Witnesses.{Pair, member, RefutesAfter, Differ, HasClosedSet, HasRefutation}
 use Rattle.avro_resolve.specs.Inside.PairSets.{has}
-use Rattle.avro_resolve.specs.Inside.Agreeing.{Agree}
 use Rattle.avro_resolve.specs.Asking.{HoldsAsked}
 use Rattle.avro_resolve.specs.Inside.Asked.{Asked, IsSmall}
 
@@ -18,11 +17,6 @@ pub record Marks (m : ℕ) (s : PairSet) (ps : List Pair) : Type 0 where
   pub readers : s.readers ≡ m
   pub within : (i j : ℕ) → IsTrue (member ps i j) → j < m
   pub exact : (i j : ℕ) → j < m → has s i j ≡ member ps i j
-
--- the nodes of each pair of the set agree, of a reader with so many places
-pub record AreAgreed (w r : List NodeView) (s : PairSet) : Type 0 where
-  pub readers : s.readers ≡ length r
-  pub agree : (i j : ℕ) (a b : NodeView) → j < length r → has s i j ≡ true → slice_get w i ≡ Some a → slice_get r j ≡ Some b → Agree a b
 
 pub record Good (w r : List NodeView) (assumed failed : List Pair) (visits : ℕ) : Type 0 where
   pub assumed_asked : (i j : ℕ) → IsTrue (member assumed i j) → Asked w r i j
@@ -57,7 +51,6 @@ pub record Ready (w r : List NodeView) (depth : ℕ) (s : Walk) : Type 0 where
   pub good : IsGood w r s
   pub assumed : Marks (length r) s.assumed_set s.assumed.items
   pub failed : Marks (length r) s.failed_set s.failed.items
-  pub agreed : AreAgreed w r s.agreed_set
 
 -- Yes and no hold at their answers. The third comes only after a thousand visits.
 abbrev pub Tells : List NodeView → List NodeView → ℕ → Walk → Walk → Type 0 → Type 0 → Answer → Type 0

@@ -1,12 +1,13 @@
 use Rattle.std.proofs.Common.{ℕ, ◌<◌, ◌≤◌, get_or}
-use Rattle.avro_nodes.specs.Nodes.{nodes_view}
+use Rattle.avro_resolve.specs.Inside.Sides.{columns, rows}
 use Rattle.avro_resolve.specs.declared.links.Link.{Link}
+use Rattle.avro_resolve.specs.Inside.Askers.{MayAsk}
 use Rattle.avro_resolve.specs.Inside.Left.{IsRest, Lists, Settled}
 use Rattle.avro_resolve.proofs.joining.look_at_label.Given as goal
 
 abbrev pub invariant-loop-at : goal.invariant-loop-at
 invariant-loop-at l = record {
-  rest : IsRest (nodes_view l.writer.schema.now) (nodes_view l.reader.schema.now) l.table;
-  lists : Lists l.initial.table l.initial.struck.items l.table l.struck.items;
-  settled : (k : ℕ) (d : Link) → l.from ≤ k → k < l.at → Settled (nodes_view l.writer.schema.now) (nodes_view l.reader.schema.now) l.table l.struck.items l.link.asker (get_or l.columns k d).asker;
+  rest : IsRest (rows l.sides) (columns l.sides) l.progress.table;
+  lists : Lists l.initial.progress.table l.initial.progress.struck.items l.progress.table l.progress.struck.items;
+  settled : (k : ℕ) (d : Link) → l.from ≤ k → k < l.at → MayAsk l.sources l.told.0 l.link (get_or l.beside k d) → Settled (rows l.sides) (columns l.sides) l.progress.table l.progress.struck.items l.link.asker (get_or l.beside k d).asker;
 }

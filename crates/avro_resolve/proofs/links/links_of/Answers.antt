@@ -1,61 +1,50 @@
-use Rattle.std.proofs.Common.{◌≡◌, ◌<◌, ◌≤◌, ℕ, length, sym, subst, ◌∙◌, inl, inr, arith, Some}
+use Rattle.std.proofs.Common.{◌≡◌, ◌<◌, ◌≤◌, ℕ, Some, length, sym, subst, ◌∙◌, inl, inr, arith}
 use Rattle.std.specs.Prelude.{slice_get}
 use Rattle.std.proofs.lemmas.Bool.{cases_lt}
 use Rattle.std.proofs.lemmas.List.{length-map}
 use Rattle.std.proofs.lemmas.Option.{slice_get_within}
-use Rattle.avro_nodes.specs.Nodes.{NodeView, node_view, nodes_view}
-use Rattle.avro_resolve.specs.Inside.Places.{Names}
-use Rattle.avro_resolve.specs.Inside.Askers.{IsNodeLinked}
-use Rattle.avro_resolve.proofs.Monotone.{at_place}
-use Rattle.avro_resolve.proofs.LinkLemmas.{node_linked_on}
-use Rattle.avro_resolve.proofs.NumberLemmas.{keeps_same, keeps_then, node_got}
+use Rattle.avro_nodes.specs.Nodes.{node_view}
+use Rattle.avro_resolve.specs.declared.links.Links.{Links}
+use Rattle.avro_resolve.specs.Inside.Askers.{IsPlaceLinked}
+use Rattle.avro_resolve.specs.Inside.Sides.{names_of, nodes_of}
+use Rattle.avro_resolve.proofs.LinkLemmas.{place_on}
 use Rattle.avro_resolve.proofs.links.links_of.Goals as goal
 
 pub loop-i-init : goal.loop-i-init
 loop-i-init c = record {
-  numbering = c.requires.numbering;
-  kept = keeps_same c.args.numbers.now;
   long = c.in_ok-lists.ensures.long ∙ c.places.ensures.places;
   within = λ x p h. absurd (c.in_ok-lists.ensures.empty x p h);
   named = λ i a l e. absurd (omega arith);
 }
 
-pub note_node-requires-clause-within : goal.note_node-requires-clause-within
-note_node-requires-clause-within c =
-    let nodes = nodes_view c.args.schema.now in let v = node_view c.node.result.now in
-    let long : length c.loop-i.lists.items ≡ length nodes = c.loop-i.invariant.long ∙ sym (length-map c.args.schema.now node_view) in
-    subst (λ (n : ℕ). Names n v) (sym long) (at_place nodes (Names (length nodes)) c.loop-i.i v c.requires.whole (node_got c.args.schema.now c.loop-i.i c.node.result.now c.node.ensures))
-
 pub loop-i-preserved : goal.loop-i-preserved
 loop-i-preserved c =
-    let inv = c.loop-i.invariant in let at = c.loop-i.i in let nodes = c.args.schema.now in let node = node_view c.node.result.now in
-    let t = c.loop-i.numbers in let u = c.note_node.new.numbers in let xs = c.loop-i.lists.items in let ys = c.note_node.new.lists.items in
-    let more = c.in_ok-note_node.ensures.adds in let keeps = c.in_ok-note_node.ensures.kept in
+    let inv = c.loop-i.invariant in let at = c.loop-i.i in let side = c.args.side.now in let nodes = side.schema.now in
+    let xs = c.loop-i.links in let ys = c.note_node.new.links in let more = c.in_ok-note_node.ensures.notes in
+    let names = names_of side in let met = c.args.labels.now.met.now.ranks.items in let aliased = c.args.labels.now.aliased in
+    let view : length (nodes_of side) ≡ length nodes = length-map nodes node_view in
     let below : at < length nodes = omega (arith, c.loop-i-test.true, c.places-i-end.ensures.places) in
     record {
-      numbering = c.in_ok-note_node.ensures.numbering;
-      kept = keeps_then c.args.numbers.now t u inv.kept keeps;
-      long = more.long ∙ inv.long;
-      within = λ x p l. elim (more.only x p l) [ inl m ↦ inv.within x p m | inr e ↦ subst (λ (i : ℕ). i < length nodes) (sym e) below ];
+      long = more.adds.long ∙ inv.long;
+      within = λ x p l. elim (more.adds.only x p l) [ inl m ↦ inv.within x p m | inr e ↦ subst (λ (i : ℕ). i < length nodes) (sym e) below ];
       named = λ i a l e. elim (cases_lt i at) [
-        | inl g ↦ node_linked_on t u xs ys keeps more.kept c.args.aliased i a (inv.named i a g e)
-        | inr g ↦ (let s : at ≡ i = omega arith in
-            let known : slice_get (nodes_view nodes) i ≡ Some node = subst (λ (x : ℕ). slice_get (nodes_view nodes) x ≡ Some node) s (node_got nodes at c.node.result.now c.node.ensures) in
-            let same : node ≡ a = cc in
-            subst (λ (b : NodeView). IsNodeLinked u ys c.args.aliased i b) same (subst (λ (x : ℕ). IsNodeLinked u ys c.args.aliased x node) s c.in_ok-note_node.ensures.there))
+        | inl g ↦ place_on xs ys more.adds.kept more.kept names met aliased i a (inv.named i a g e)
+        | inr g ↦ (let s : i ≡ at = omega arith in
+            subst (λ (x : ℕ). IsPlaceLinked names met aliased ys x a) (sym s) (c.in_ok-note_node.ensures.there a (subst (λ (x : ℕ). slice_get (nodes_of side) x ≡ Some a) s e)))
       ];
     }
 
-pub returns-clause-links : goal.returns-clause-links
-returns-clause-links c =
-    let inv = c.loop-i.invariant in let nodes = c.args.schema.now in let t = c.loop-i.numbers in let same = c.sort_lists.ensures.same in
-    let long : length (nodes_view nodes) ≡ length nodes = length-map nodes node_view in
+pub returns : goal.returns
+returns c =
+    let inv = c.loop-i.invariant in let side = c.args.side.now in let nodes = side.schema.now in let same = c.sort_lists.ensures.same in
+    let view : length (nodes_of side) ≡ length nodes = length-map nodes node_view in
     let past : length nodes ≤ c.loop-i.i = omega (arith, c.loop-i-test.false, c.places-i-end.ensures.places) in
+    let sorted : Links = record { lists = c.sort_lists.new.lists; aliased = c.loop-i.links.aliased } in
     record {
-      within = λ x p h. subst (λ (n : ℕ). x.asker < n) (sym long) (inv.within x p (same.back x p h));
+      within = λ x p h. subst (λ (n : ℕ). x.asker < n) (sym view) (inv.within x p (same.back x p h));
       sorted = c.sort_lists.ensures.sorted;
       named = λ i a e. (
-          let l : i < length (nodes_view nodes) = slice_get_within (nodes_view nodes) i a e in
-          node_linked_on t t c.loop-i.lists.items c.sort_lists.new.lists.items (keeps_same t) same.there c.args.aliased i a (inv.named i a (omega (arith, long)) e)
+          let l : i < length (nodes_of side) = slice_get_within (nodes_of side) i a e in
+          place_on c.loop-i.links sorted same.there (λ number field g. g) (names_of side) c.args.labels.now.met.now.ranks.items c.args.labels.now.aliased i a (inv.named i a (omega arith) e)
           );
     }

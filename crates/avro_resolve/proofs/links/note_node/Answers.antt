@@ -1,33 +1,44 @@
-use Rattle.std.proofs.Common.{◌<◌, List, length, map, sym, subst}
-use Rattle.std.specs.Prelude.{All, OnOk}
-use Rattle.avro_nodes.specs.declared.node.Field.{Field}
-use Rattle.avro_nodes.specs.Nodes.{field_view}
-use Rattle.avro_resolve.specs.Inside.Askers.{IsFieldLinked}
-use Rattle.avro_resolve.proofs.NumberLemmas.{keeps_same}
+use Rattle.std.proofs.Common.{◌≡◌, ◌<◌, ℕ, List, Option, None, length, sym, ap, subst, ◌∙◌}
+use Rattle.std.specs.Prelude.{IfSome}
+use Rattle.std.proofs.lemmas.List.{length-map}
+use Rattle.std.proofs.lemmas.Option.{same_Some}
+use Rattle.avro_nodes.specs.Nodes.{FieldView, NodeView, primitive, array, mapping, union, enumeration, fixed, rec, node_view}
+use Rattle.avro_schema.specs.Index.{AreFieldsRanked}
+use Rattle.avro_resolve.specs.Inside.Askers.{contained_of, AreFieldsLinked, HasLabel}
+use Rattle.avro_resolve.specs.Inside.Places.{Names}
+use Rattle.avro_resolve.specs.Inside.Sides.{names_of, nodes_of}
+use Rattle.avro_resolve.proofs.LinkLemmas.{linked_on, notes_then}
+use Rattle.avro_resolve.proofs.Monotone.{at_place}
 use Rattle.avro_resolve.proofs.links.note_node.Goals as goal
 
-pub returns-in-Primitive-clause-kept : goal.returns-in-Primitive-clause-kept
-returns-in-Primitive-clause-kept c = keeps_same c.args.numbers.now
+contained_in : (n : ℕ) (a : NodeView) → Names n a → IfSome (contained_of a) (λ p. p < n)
+contained_in n (primitive k x) h = tt
+contained_in n (array p x) h = h
+contained_in n (mapping p x) h = h
+contained_in n (union ps) h = tt
+contained_in n (enumeration k s f x) h = tt
+contained_in n (fixed k s x) h = tt
+contained_in n (rec k fs x) h = tt
 
-pub returns-in-Primitive-2-clause-kept : goal.returns-in-Primitive-2-clause-kept
-returns-in-Primitive-2-clause-kept c = keeps_same c.args.numbers.now
+pub note_contained-requires : goal.note_contained-requires
+note_contained-requires c =
+    let nodes = nodes_of c.args.side.now in let a = node_view c.node.result.now in let view = length-map c.args.side.now.schema.now node_view in
+    let same : length nodes ≡ length c.args.links.now.lists.items = view ∙ sym c.requires.long in
+    let within = contained_in (length c.args.links.now.lists.items) a (subst (λ n. Names n a) same (at_place nodes (Names (length nodes)) c.args.asker a c.requires.side.whole c.node.ensures.node)) in
+    subst (λ (o : Option ℕ). IfSome o (λ p. p < length c.args.links.now.lists.items)) (sym c.contained.ensures) within
 
-pub returns-in-Primitive-3-clause-kept : goal.returns-in-Primitive-3-clause-kept
-returns-in-Primitive-3-clause-kept c = keeps_same c.args.numbers.now
+pub returns-clause-notes : goal.returns-clause-notes
+returns-clause-notes c = notes_then c.args.asker c.args.links.now c.note_contained.new.links c.note_fields.new.links c.in_ok-note_contained.ensures.notes c.in_ok-note_fields.ensures.notes
 
-pub returns-in-Primitive-4-clause-kept : goal.returns-in-Primitive-4-clause-kept
-returns-in-Primitive-4-clause-kept c = keeps_same c.args.numbers.now
-
-pub note_fields-requires-clause-within : goal.note_fields-requires-clause-within
-note_fields-requires-clause-within c =
-    let names = rw c.in-Rec.is at c.requires.within in
-    subst (λ (fs : List Field). All (λ f. f.place < length c.args.lists.now.items) (map field_view fs)) (sym c.deref.ensures.value) names
-
-pub returns-in-Rec-clause-there : goal.returns-in-Rec-clause-there
-returns-in-Rec-clause-there c = rw c.in-Rec.is (subst (λ (fs : List Field). OnOk c.note_fields.result (All (IsFieldLinked c.note_fields.new.numbers c.note_fields.new.lists.items c.args.aliased c.args.asker) (map field_view fs))) c.deref.ensures.value c.note_fields.ensures.there)
-
-pub returns-in_ok-note_contained-in-Array-clause-kept : goal.returns-in_ok-note_contained-in-Array-clause-kept
-returns-in_ok-note_contained-in-Array-clause-kept c = keeps_same c.args.numbers.now
-
-pub returns-in_ok-note_contained-in-Map-clause-kept : goal.returns-in_ok-note_contained-in-Map-clause-kept
-returns-in_ok-note_contained-in-Map-clause-kept c = keeps_same c.args.numbers.now
+pub returns-clause-there : goal.returns-clause-there
+returns-clause-there c = λ a ea.
+    let xs = c.note_contained.new.links in let ys = c.note_fields.new.links in let more = c.in_ok-note_fields.ensures.notes in let i = c.args.asker in
+    let same : node_view c.node.result.now ≡ a = same_Some (node_view c.node.result.now) a (sym c.node.ensures.node ∙ ea) in
+    let are = c.fields.ensures.are a ea in let ranks = c.fields.result.ranks.now in (
+      ranks,
+      record {
+        contained = λ p e. linked_on xs ys more.adds.kept more.kept (HasLabel 0 None) i p (c.in_ok-note_contained.ensures.there p (c.contained.ensures ∙ ap contained_of same ∙ e));
+        ranked = subst (λ (fs : List FieldView). AreFieldsRanked (names_of c.args.side.now) fs ranks) are c.fields.ensures.ranked;
+        fields = subst (λ (fs : List FieldView). AreFieldsLinked c.args.labels.now.met.now.ranks.items c.args.labels.now.aliased ys i fs ranks) are c.in_ok-note_fields.ensures.there;
+      },
+    )

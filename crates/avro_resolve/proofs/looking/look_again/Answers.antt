@@ -1,15 +1,10 @@
-use Rattle.std.proofs.Common.{sym, ◌∙◌}
 use Rattle.std.proofs.lemmas.List.{length-map}
-use Rattle.avro_nodes.specs.Nodes.{nodes_view}
-use Rattle.avro_resolve.proofs.Settling.{settled_gone, settled_ignoring}
-use Rattle.avro_resolve.proofs.looking.look_again.Goals.{else-has-via-then-has+else-pair_asks, else-has-via-else-has}
+use Rattle.avro_resolve.specs.Inside.Sides.{columns, rows}
+use Rattle.avro_resolve.proofs.Settling.{settled_ignoring}
 use Rattle.avro_resolve.proofs.looking.look_again.Goals as goal
 
-pub returns-else-has-clause-settled : goal.returns-else-has-clause-settled
-returns-else-has-clause-settled c =
-    let w = nodes_view c.args.writer.now.schema.now in let r = nodes_view c.args.reader.now.schema.now in let t = c.args.table.now in let ps = c.args.struck.now.items in
-    let i = c.args.i in let j = c.args.j in
-    elim c.else-has.branch [
-      | else-has-via-then-has+else-pair_asks b ↦ settled_ignoring w r t ps i j c.args.told.0 c.args.told.1 (b.pair_asks.ensures b.if-pair_asks.false) (c.requires.before i j (rw length-map c.requires.i_in) (rw length-map c.requires.j_in))
-      | else-has-via-else-has b ↦ settled_gone w r t ps i j (sym c.has.ensures ∙ b.if-has.false)
-    ]
+pub returns-then-not-pair_asks-clause-settled : goal.returns-then-not-pair_asks-clause-settled
+returns-then-not-pair_asks-clause-settled c =
+    let at = c.args.at in
+    settled_ignoring (rows c.args.sides.now) (columns c.args.sides.now) c.args.progress.now.table c.args.progress.now.struck.items at.0 at.1 c.args.told.0 c.args.told.1 (c.pair_asks.ensures c.if-not-pair_asks.true)
+    (c.requires.before at.0 at.1 (rw length-map c.requires.i_in) (rw length-map c.requires.j_in))

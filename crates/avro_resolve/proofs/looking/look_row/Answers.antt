@@ -1,19 +1,19 @@
 use Rattle.std.proofs.Common.{◌≡◌, ◌-◌, ℕ, subst, inl, inr, arith}
 use Rattle.std.proofs.lemmas.Bool.{cases_lt}
-use Rattle.avro_nodes.specs.Nodes.{nodes_view}
+use Rattle.avro_resolve.specs.Inside.Sides.{columns, rows}
 use Rattle.avro_resolve.specs.Inside.Left.{Settled}
 use Rattle.avro_resolve.proofs.Settling.{lists_then, settled_on}
 use Rattle.avro_resolve.proofs.looking.look_row.Goals as goal
 
 pub loop-j-preserved : goal.loop-j-preserved
 loop-j-preserved c =
-    let w = nodes_view c.args.writer.now.schema.now in let r = nodes_view c.args.reader.now.schema.now in let i = c.args.i in let j = c.loop-j.j in
-    let u = c.loop-j.table in let v = c.look.new.table in let qs = c.loop-j.struck.items in let rs = c.look.new.struck.items in
+    let w = rows c.args.sides.now in let r = columns c.args.sides.now in let i = c.args.i in let j = c.loop-j.j in
+    let u = c.loop-j.progress.table in let v = c.look.new.progress.table in let qs = c.loop-j.progress.struck.items in let rs = c.look.new.progress.struck.items in
     record {
       rest = c.in_ok-look.ensures.rest;
-      lists = lists_then c.args.table.now u v c.args.struck.now.items qs rs c.loop-j.invariant.lists c.in_ok-look.ensures.lists;
+      lists = lists_then c.args.progress.now.table u v c.args.progress.now.struck.items qs rs c.loop-j.invariant.lists c.in_ok-look.ensures.lists;
       settled = λ b lo hi. elim (cases_lt b j) [
         | inl g ↦ (let e : j - 1 ≡ b = omega arith in subst (λ (x : ℕ). Settled w r v rs i x) e c.in_ok-look.ensures.settled)
-        | inr g ↦ settled_on w r u v qs rs i b c.requires.writer.whole c.requires.reader.whole c.in_ok-look.ensures.lists (c.loop-j.invariant.settled b g hi)
+        | inr g ↦ settled_on w r u v qs rs i b c.requires.sides.writer.whole c.requires.sides.reader.whole c.in_ok-look.ensures.lists (c.loop-j.invariant.settled b g hi)
       ];
     }

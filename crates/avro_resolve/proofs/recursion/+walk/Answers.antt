@@ -1,50 +1,44 @@
 use Rattle.std.proofs.Common.{rules, ◌≡◌, ℕ, ◌+◌, ◌<◌, ◌≤◌, List, Some, false, not, true≢false, length, map, take, take_all, get_or, All, IsTrue, sym, subst, ap, ◌∙◌, arith}
 use Rattle.std.proofs.lemmas.List.{get_or_default}
-use Rattle.std.specs.Prelude.{IfSome, Vec, slice_get}
-use Rattle.std.specs.declared.alloc.Global.{Global}
+use Rattle.std.specs.Prelude.{Option, slice_get}
 use Rattle.std.proofs.lemmas.Option.{slice_get-get_or}
 use Rattle.std.proofs.lemmas.List.Elements.{All-map, All-more, All-weaker}
 use Rattle.serde_json.specs.View.{view}
 use Rattle.avro_nodes.specs.declared.node.Field.{Field}
 use Rattle.avro_nodes.specs.Nodes.{FieldView, node_view, nodes_view, field_view}
+use Rattle.avro_resolve.specs.Asking.{source_place}
 use Rattle.avro_resolve.specs.Resolution.{Readable}
-use Rattle.avro_resolve.specs.Inside.Lookups.{FindsFields}
-use Rattle.avro_resolve.specs.declared.sources.Source.{Source}
 use Rattle.avro_resolve.specs.Inside.Asked.{IsSourceAsked}
-use Rattle.avro_resolve.specs.Inside.Lists.{list_at}
-use Rattle.avro_resolve.specs.Inside.Sources.{fields_of, TellAnySources}
 use Rattle.avro_resolve.specs.Witnesses.{Pair, member, without}
-use Rattle.avro_resolve.proofs.Agreement.{fits_agree}
-use Rattle.avro_resolve.proofs.EachLemmas.{view_got}
-use Rattle.avro_resolve.proofs.NumberLemmas.{node_got}
+use Rattle.avro_resolve.proofs.ViewLemmas.{view_got}
 use Rattle.avro_resolve.proofs.MarkLemmas.{marks_at}
 use Rattle.avro_resolve.proofs.Monotone.{supports_at}
-use Rattle.avro_resolve.proofs.SupportLemmas.{all_of}
-use Rattle.avro_resolve.proofs.WalkLemmas.{asked_on, grown0, grown2, within2, readable_source, readable_default, held_more, ask_yes, ask_no, not_failed, not_without, tells_on, tells_from, grown_from, told_ok, any_never, fields_asked, some_mapped}
+use Rattle.avro_resolve.proofs.ViewLemmas.{all_of}
+use Rattle.avro_resolve.proofs.WalkLemmas.{asked_on, grown2, within2, readable_source, readable_default, held_more, ask_yes, ask_no, not_failed, not_without, tells_on, told_ok, any_never, fields_asked, some_mapped}
 use Rattle.avro_resolve.proofs.recursion.+walk.Goals as goal
 use Rattle.avro_resolve.proofs.recursion.+walk.Goals.{all_readable-in-Some+in_ok-ask-in-Some+in-Yes, all_readable-in-None+else-is_none}
 
 pub ask-fits-requires : goal.ask-fits-requires
 ask-fits-requires t c =
-    let a = asked_on (nodes_view c.args.writer.now.schema.now) (nodes_view c.args.reader.now.schema.now) c.args.i c.args.j (node_view c.node_in-a.result.now) (node_view c.node_in-b.result.now) c.node_in-a.ensures.at c.node_in-b.ensures.at c.requires.asked in
+    let a = asked_on (nodes_view c.args.sides.now.writer.schema.now) (nodes_view c.args.sides.now.reader.schema.now) c.args.i c.args.j (node_view c.node_in-a.result.now) (node_view c.node_in-b.result.now) c.node_in-a.ensures.at c.node_in-b.ensures.at c.requires.asked in
     search rules
 
 pub ask-fail_pair-requires-clause-not_failed : goal.ask-fail_pair-requires-clause-not_failed
 ask-fail_pair-requires-clause-not_failed t c =
-    let w = nodes_view c.args.writer.now.schema.now in let r = nodes_view c.args.reader.now.schema.now in
+    let w = nodes_view c.args.sides.now.writer.schema.now in let r = nodes_view c.args.sides.now.reader.schema.now in
     let told = rw c.in-No.is at c.in_ok-fits.ensures in
     not_failed w r (c.args.depth + 1) c.args.walk.now c.open_pair.new.walk c.fits.new.walk c.args.i c.args.j c.in_ok-open_pair.ensures.assumed told.0 told.1
 
 pub ask-returns-in-Yes : goal.ask-returns-in-Yes
 ask-returns-in-Yes t c =
-    let w = nodes_view c.args.writer.now.schema.now in let r = nodes_view c.args.reader.now.schema.now in let v = c.fits.new.walk in
+    let w = nodes_view c.args.sides.now.writer.schema.now in let r = nodes_view c.args.sides.now.reader.schema.now in let v = c.fits.new.walk in
     let told = rw c.in-Yes.is at c.in_ok-fits.ensures in
     ask_yes w r c.args.depth c.args.walk.now c.open_pair.new.walk v c.args.i c.args.j c.requires.ready c.in_ok-open_pair.ensures.assumed c.in_ok-open_pair.ensures.failed told.0 told.1
     ((supports_at w r (member v.assumed.items) c.args.i c.args.j (node_view c.node_in-a.result.now) (node_view c.node_in-b.result.now) c.node_in-a.ensures.at c.node_in-b.ensures.at).1 told.2)
 
 pub ask-returns-in_ok-fail_pair-in-No : goal.ask-returns-in_ok-fail_pair-in-No
 ask-returns-in_ok-fail_pair-in-No t c =
-    let w = nodes_view c.args.writer.now.schema.now in let r = nodes_view c.args.reader.now.schema.now in let s = c.args.walk.now in let v = c.fits.new.walk in let x = c.fail_pair.new.walk in
+    let w = nodes_view c.args.sides.now.writer.schema.now in let r = nodes_view c.args.sides.now.reader.schema.now in let s = c.args.walk.now in let v = c.fits.new.walk in let x = c.fail_pair.new.walk in
     let told = rw c.in-No.is at c.in_ok-fits.ensures in
     let out : member s.assumed.items c.args.i c.args.j ≡ false = sym (ap (λ (ps : List Pair). member ps c.args.i c.args.j) c.deref.ensures.value) ∙ sym c.is_marked.ensures ∙ c.if-is_marked.false in
     let mark : c.len-mark.result ≡ length s.assumed.items = omega (arith, s.assumed.ok.0) in
@@ -53,51 +47,34 @@ ask-returns-in_ok-fail_pair-in-No t c =
     (λ h. told.2 ((supports_at w r (without v.failed.items) c.args.i c.args.j (node_view c.node_in-a.result.now) (node_view c.node_in-b.result.now) c.node_in-a.ensures.at c.node_in-b.ensures.at).0 h))
     (subst (λ (n : ℕ). x.assumed.items ≡ take n v.assumed.items) mark after.assumed) after.failed after.visits
     (marks_at _ (length r) x.assumed_set x.assumed.items after.assumed_marks told.0.assumed.readers)
-    (marks_at _ (length r) x.failed_set x.failed.items after.failed_marks told.0.failed.readers) after.agreed
+    (marks_at _ (length r) x.failed_set x.failed.items after.failed_marks told.0.failed.readers)
 
 pub parts_fit-all_readable-requires : goal.parts_fit-all_readable-requires
 parts_fit-all_readable-requires t c =
-    let w = nodes_view c.args.writer.now.schema.now in let r = nodes_view c.args.reader.now.schema.now in let fs = c.in-Rec-Rec.fields.items in let gs = c.in-Rec-Rec.wanted.items in
-    let e = sym c.deref-in-Rec-Rec.ensures.value in let e2 = sym c.deref-in-Rec-Rec-2.ensures.value in
-    let told0 : TellAnySources c.sources-by_number.result.now c.names-names.result.now (fields_of (node_view c.args.a.now)) (fields_of (node_view c.args.b.now)) =
-    subst (λ (xs : List Source). TellAnySources xs c.names-names.result.now (fields_of (node_view c.args.a.now)) (fields_of (node_view c.args.b.now))) (sym c.sources-by_number.ensures)
-    (subst (λ (ns : List (Vec ℕ Global)). TellAnySources (list_at c.args.writer.now.sources.items c.args.at.0) ns (fields_of (node_view c.args.a.now)) (fields_of (node_view c.args.b.now))) (sym c.names-names.ensures)
-    (c.requires.tells.tell c.args.at.0 c.args.at.1 (node_view c.args.a.now) (node_view c.args.b.now) (node_got c.args.writer.now.schema.now c.args.at.0 c.args.a.now c.requires.a_at) (node_got c.args.reader.now.schema.now c.args.at.1 c.args.b.now c.requires.b_at))) in
-    let told1 : TellAnySources c.sources-by_number.result.now c.names-names.result.now (map field_view fs) (map field_view gs) = rw (c.in-Rec-Rec.is-0, c.in-Rec-Rec.is-1) at told0 in
-    let told : TellAnySources c.sources-by_number.result.now c.names-names.result.now (map field_view c.deref-in-Rec-Rec.result.now) (map field_view c.deref-in-Rec-Rec-2.result.now) =
-    subst (λ (xs : List Field). TellAnySources c.sources-by_number.result.now c.names-names.result.now (map field_view xs) (map field_view c.deref-in-Rec-Rec-2.result.now)) e
-    (subst (λ (ys : List Field). TellAnySources c.sources-by_number.result.now c.names-names.result.now (map field_view fs) (map field_view ys)) e2 told1) in
-    let sources : IfSome c.lookup-sources.result (λ t. FindsFields t.now c.deref-in-Rec-Rec.result.now) = subst (λ (xs : List Field). IfSome c.lookup-sources.result (λ t. FindsFields t.now xs)) e (rw c.in-Rec-Rec.is-0 at c.lookup-sources.ensures) in
-    let fields_in : All (λ f. f.place < length w) (map field_view c.deref-in-Rec-Rec.result.now) = subst (λ (xs : List Field). All (λ f. f.place < length w) (map field_view xs)) e (rw c.in-Rec-Rec.is-0 at c.requires.a_in) in
-    let wanted_in : All (λ (f : Field). f.place < length r) c.deref-in-Rec-Rec-2.result.now = subst (λ (xs : List Field). All (λ (f : Field). f.place < length r) xs) e2 (all_of (λ (f : FieldView). f.place < length r) field_view gs (rw c.in-Rec-Rec.is-1 at c.requires.b_in)) in
+    let w = nodes_view c.args.sides.now.writer.schema.now in let r = nodes_view c.args.sides.now.reader.schema.now in let fs = c.in-Rec-Rec.fields.items in let gs = c.in-Rec-Rec.wanted.items in
+    let e = sym c.deref-in-Rec-Rec-3.ensures.value in let e2 = sym c.deref-in-Rec-Rec-5.ensures.value in
+    let read : c.in_ok-sources-in-Rec-Rec.sources.items ≡ map (λ (f : Field). source_place (map field_view fs) (field_view f)) gs = rw (c.deref-in-Rec-Rec.ensures.value, c.deref-in-Rec-Rec-2.ensures.value) at c.in_ok-sources-in-Rec-Rec.ensures in
+    let told : c.deref-in-Rec-Rec-4.result.now ≡ map (λ (f : Field). source_place (map field_view c.deref-in-Rec-Rec-3.result.now) (field_view f)) c.deref-in-Rec-Rec-5.result.now =
+    c.deref-in-Rec-Rec-4.ensures.value ∙ subst (λ (xs : List Field). c.in_ok-sources-in-Rec-Rec.sources.items ≡ map (λ (f : Field). source_place (map field_view xs) (field_view f)) c.deref-in-Rec-Rec-5.result.now) e
+    (subst (λ (ys : List Field). c.in_ok-sources-in-Rec-Rec.sources.items ≡ map (λ (f : Field). source_place (map field_view fs) (field_view f)) ys) e2 read) in
+    let fields_in : All (λ f. f.place < length w) (map field_view c.deref-in-Rec-Rec-3.result.now) = subst (λ (xs : List Field). All (λ f. f.place < length w) (map field_view xs)) e (rw c.in-Rec-Rec.is-0 at c.requires.a_in) in
+    let wanted_in : All (λ (f : Field). f.place < length r) c.deref-in-Rec-Rec-5.result.now = subst (λ (xs : List Field). All (λ (f : Field). f.place < length r) xs) e2 (all_of (λ (f : FieldView). f.place < length r) field_view gs (rw c.in-Rec-Rec.is-1 at c.requires.b_in)) in
     let asked0 : All (λ (f : Field). IsSourceAsked w r (map field_view fs) (field_view f)) gs = fields_asked w r (map field_view fs) gs (rw (c.in-Rec-Rec.is-0, c.in-Rec-Rec.is-1) at c.requires.asked) in
-    let asked : All (λ (f : Field). IsSourceAsked w r (map field_view c.deref-in-Rec-Rec.result.now) (field_view f)) c.deref-in-Rec-Rec-2.result.now =
-    subst (λ (xs : List Field). All (λ (f : Field). IsSourceAsked w r (map field_view xs) (field_view f)) c.deref-in-Rec-Rec-2.result.now) e (subst (λ (ys : List Field). All (λ (f : Field). IsSourceAsked w r (map field_view fs) (field_view f)) ys) e2 asked0) in
+    let asked : All (λ (f : Field). IsSourceAsked w r (map field_view c.deref-in-Rec-Rec-3.result.now) (field_view f)) c.deref-in-Rec-Rec-5.result.now =
+    subst (λ (xs : List Field). All (λ (f : Field). IsSourceAsked w r (map field_view xs) (field_view f)) c.deref-in-Rec-Rec-5.result.now) e (subst (λ (ys : List Field). All (λ (f : Field). IsSourceAsked w r (map field_view fs) (field_view f)) ys) e2 asked0) in
     search rules
 
-pub fits-returns-then-not-branch : goal.fits-returns-then-not-branch
-fits-returns-then-not-branch t c =
-    let w = nodes_view c.args.writer.now.schema.now in let r = nodes_view c.args.reader.now.schema.now in let s = c.args.walk.now in let u = c.agree_once.new.walk in
-    let told = c.in_ok-agree_once.ensures in
-    (told.ready, grown_from w r s u u told.assumed told.failed (grown0 w r u), (λ h. true≢false (sym (told.agree.1 (fits_agree (without u.failed.items) c.args.at.0 c.args.at.1 (node_view c.args.a.now) (node_view c.args.b.now) h)) ∙ c.if-not-branch.true)))
-
-pub fits-returns : goal.fits-returns
-fits-returns t c =
-    let w = nodes_view c.args.writer.now.schema.now in let r = nodes_view c.args.reader.now.schema.now in let s = c.args.walk.now in let u = c.agree_once.new.walk in let v = c.parts_fit.new.walk in
-    let told = c.in_ok-agree_once.ensures in
-    told_ok c.parts_fit.result _ _ (λ answer. tells_from w r c.args.depth s u v _ _ told.assumed told.failed answer) c.parts_fit.ensures
-
-pub parts_fit-returns-in-Rec-Rec : goal.parts_fit-returns-in-Rec-Rec
-parts_fit-returns-in-Rec-Rec t c =
-    let w = nodes_view c.args.writer.now.schema.now in let r = nodes_view c.args.reader.now.schema.now in let s = c.args.walk.now in let v = c.all_readable.new.walk in
+pub parts_fit-returns-in_ok-sources-in-Rec-Rec : goal.parts_fit-returns-in_ok-sources-in-Rec-Rec
+parts_fit-returns-in_ok-sources-in-Rec-Rec t c =
+    let w = nodes_view c.args.sides.now.writer.schema.now in let r = nodes_view c.args.sides.now.reader.schema.now in let s = c.args.walk.now in let v = c.all_readable.new.walk in
     let fs = map field_view c.in-Rec-Rec.fields.items in let gs = c.in-Rec-Rec.wanted.items in
-    let names = rw (c.in-Rec-Rec.is-0, c.in-Rec-Rec.is-1) at c.requires.agreed in
-    let told = rw (c.deref-in-Rec-Rec.ensures.value, c.deref-in-Rec-Rec-2.ensures.value) at c.all_readable.ensures in
+    let names = (rw (c.in-Rec-Rec.is-0, c.in-Rec-Rec.is-1) at c.requires.agreed).0 in
+    let told = rw (c.deref-in-Rec-Rec-3.ensures.value, c.deref-in-Rec-Rec-5.ensures.value) at c.all_readable.ensures in
     rw (c.in-Rec-Rec.is-0, c.in-Rec-Rec.is-1) (told_ok c.all_readable.result _ _ (λ answer. tells_on w r c.args.depth s v _ _ _ _ (λ h. (names, All-map (Readable (member v.assumed.items) fs) field_view gs h)) (λ l h. any_never (Readable (without v.failed.items) fs) gs l h.1) answer) told)
 
 pub all_asked-loop-p-preserved : goal.all_asked-loop-p-preserved
 all_asked-loop-p-preserved t c =
-    let w = nodes_view c.args.writer.now.schema.now in let r = nodes_view c.args.reader.now.schema.now in let s = c.args.walk.now in let u = c.loop-p.walk in let v = c.ask.new.walk in
+    let w = nodes_view c.args.sides.now.writer.schema.now in let r = nodes_view c.args.sides.now.reader.schema.now in let s = c.args.walk.now in let u = c.loop-p.walk in let v = c.ask.new.walk in
     let told = rw c.in-Yes.is at c.in_ok-ask.ensures in
     let l : c.loop-p.p-index < length c.args.places.now = omega arith in
     record {
@@ -114,7 +91,7 @@ all_asked-returns t c =
 
 pub any_asked-loop-p-preserved : goal.any_asked-loop-p-preserved
 any_asked-loop-p-preserved t c =
-    let w = nodes_view c.args.writer.now.schema.now in let r = nodes_view c.args.reader.now.schema.now in let s = c.args.walk.now in let u = c.loop-p.walk in let v = c.ask.new.walk in
+    let w = nodes_view c.args.sides.now.writer.schema.now in let r = nodes_view c.args.sides.now.reader.schema.now in let s = c.args.walk.now in let u = c.loop-p.walk in let v = c.ask.new.walk in
     let told = rw c.in-No.is at c.in_ok-ask.ensures in
     let l : c.loop-p.p-index < length c.args.places.now = omega arith in
     record {
@@ -131,14 +108,14 @@ any_asked-returns t c =
 
 pub any_asked-returns-in-Yes : goal.any_asked-returns-in-Yes
 any_asked-returns-in-Yes t c =
-    let w = nodes_view c.args.writer.now.schema.now in let r = nodes_view c.args.reader.now.schema.now in let s = c.args.walk.now in let u = c.loop-p.walk in let v = c.ask.new.walk in
+    let w = nodes_view c.args.sides.now.writer.schema.now in let r = nodes_view c.args.sides.now.reader.schema.now in let s = c.args.walk.now in let u = c.loop-p.walk in let v = c.ask.new.walk in
     let told = rw c.in-Yes.is at c.in_ok-ask.ensures in
     let l : c.loop-p.p-index < length c.args.places.now = omega arith in
     (told.0, grown2 w r s u v c.loop-p.invariant.grown told.1, (c.loop-p.p-index, get_or c.args.places.now c.loop-p.p-index 0, l, get_or_default c.args.places.now c.loop-p.p-index (get_or c.args.places.now c.loop-p.p-index 0) 0 l, told.2))
 
 pub all_readable-returns-in-No : goal.all_readable-returns-in-No
 all_readable-returns-in-No t c =
-    let w = nodes_view c.args.writer.now.schema.now in let r = nodes_view c.args.reader.now.schema.now in let s = c.args.walk.now in let u = c.loop-index.walk in let v = c.ask.new.walk in
+    let w = nodes_view c.args.sides.now.writer.schema.now in let r = nodes_view c.args.sides.now.reader.schema.now in let s = c.args.walk.now in let u = c.loop-index.walk in let v = c.ask.new.walk in
     let told = rw c.in-No.is at c.in_ok-ask-in-Some.ensures in let f = c.index-wanted-index.result in (
       told.0,
       grown2 w r s u v c.loop-index.invariant.grown told.1,
@@ -167,13 +144,13 @@ all_readable-returns-then-is_none t c =
 
 pub all_readable-source_in-requires-clause-told : goal.all_readable-source_in-requires-clause-told
 all_readable-source_in-requires-clause-told t c =
-    let gs = c.args.wanted.now in let n = c.loop-index.index in let f = c.index-wanted-index.result in
+    let gs = c.args.wanted.now in let n = c.loop-index.index in let f = c.index-wanted-index.result in let fs = map field_view c.args.fields.now in
     let here : slice_get gs n ≡ Some f = slice_get-get_or gs n f c.loop-index-test.true ∙ ap Some (sym c.index-wanted-index.is) in
-    c.requires.told n (field_view f) (view_got field_view gs n f here)
+    ap (λ (xs : List (Option ℕ)). slice_get xs n) c.requires.told ∙ view_got (λ (g : Field). source_place fs (field_view g)) gs n f here
 
 pub all_readable-loop-index-preserved : goal.all_readable-loop-index-preserved
 all_readable-loop-index-preserved t c =
-    let w' = nodes_view c.args.writer.now.schema.now in let r' = nodes_view c.args.reader.now.schema.now in let s = c.args.walk.now in let u = c.loop-index.walk in
+    let w' = nodes_view c.args.sides.now.writer.schema.now in let r' = nodes_view c.args.sides.now.reader.schema.now in let s = c.args.walk.now in let u = c.loop-index.walk in
     let fs = map field_view c.args.fields.now in let gs = c.args.wanted.now in let f = c.index-wanted-index.result in
     elim c.match-source_in.branch [
       | all_readable-in-Some+in_ok-ask-in-Some+in-Yes w ↦ (

@@ -25,21 +25,21 @@ decreases-all_readable l = 4 * (1000 - l.depth) + 1
 
 abbrev pub invariant-all_asked-loop-p : goal.invariant-all_asked-loop-p
 invariant-all_asked-loop-p l = record {
-  ready : Ready (nodes_view l.writer.schema.now) (nodes_view l.reader.schema.now) l.depth l.walk;
-  grown : HasGrown (nodes_view l.writer.schema.now) (nodes_view l.reader.schema.now) l.initial.walk l.walk;
+  ready : Ready (nodes_view l.sides.writer.schema.now) (nodes_view l.sides.reader.schema.now) l.depth l.walk;
+  grown : HasGrown (nodes_view l.sides.writer.schema.now) (nodes_view l.sides.reader.schema.now) l.initial.walk l.walk;
   held : All (λ p. IsTrue (member l.walk.assumed.items p l.j)) (take l.p-index l.places);
 }
 
 abbrev pub invariant-any_asked-loop-p : goal.invariant-any_asked-loop-p
 invariant-any_asked-loop-p l = record {
-  ready : Ready (nodes_view l.writer.schema.now) (nodes_view l.reader.schema.now) l.depth l.walk;
-  grown : HasGrown (nodes_view l.writer.schema.now) (nodes_view l.reader.schema.now) l.initial.walk l.walk;
+  ready : Ready (nodes_view l.sides.writer.schema.now) (nodes_view l.sides.reader.schema.now) l.depth l.walk;
+  grown : HasGrown (nodes_view l.sides.writer.schema.now) (nodes_view l.sides.reader.schema.now) l.initial.walk l.walk;
   lost : All (λ p. IsTrue (member l.walk.failed.items l.i p)) (take l.p-index l.places);
 }
 
 abbrev pub invariant-all_readable-loop-index : goal.invariant-all_readable-loop-index
 invariant-all_readable-loop-index l = record {
-  ready : Ready (nodes_view l.writer.schema.now) (nodes_view l.reader.schema.now) l.depth l.walk;
-  grown : HasGrown (nodes_view l.writer.schema.now) (nodes_view l.reader.schema.now) l.initial.walk l.walk;
+  ready : Ready (nodes_view l.sides.writer.schema.now) (nodes_view l.sides.reader.schema.now) l.depth l.walk;
+  grown : HasGrown (nodes_view l.sides.writer.schema.now) (nodes_view l.sides.reader.schema.now) l.initial.walk l.walk;
   held : All (λ f. Readable (member l.walk.assumed.items) (map field_view l.fields) (field_view f)) (take l.index l.wanted);
 }

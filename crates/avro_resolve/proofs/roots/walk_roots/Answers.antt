@@ -1,9 +1,8 @@
-use Rattle.std.proofs.Common.{◌≡◌, ◌<◌, [], List, length, sym, subst, ◌∙◌, true≢false, arith}
+use Rattle.std.proofs.Common.{◌≡◌, ◌<◌, [], List, length, sym, subst, ◌∙◌, arith}
 use Rattle.std.proofs.lemmas.List.{length-map}
 use Rattle.avro_nodes.specs.Nodes.{node_view, nodes_view}
 use Rattle.avro_resolve.specs.Witnesses.{Pair}
 use Rattle.avro_resolve.specs.Inside.Walking.{Good, Marks}
-use Rattle.avro_resolve.proofs.FieldListLemmas.{no_lists}
 use Rattle.avro_resolve.proofs.Denoted.{some_node, is_whole}
 use Rattle.avro_resolve.proofs.MarkLemmas.{marks_none}
 use Rattle.avro_resolve.proofs.Reaching.{is_small}
@@ -11,24 +10,26 @@ use Rattle.avro_resolve.proofs.WalkLemmas.{roots_asked}
 use Rattle.avro_resolve.proofs.WalkEnds.{good_start, shown, at_most, at_least}
 use Rattle.avro_resolve.proofs.roots.walk_roots.Goals as goal
 
-pub ask-requires-clause-writer : goal.ask-requires-clause-writer
-ask-requires-clause-writer c = record {
-  whole = is_whole (nodes_view c.args.writer.now) c.places-rows.ensures.schema;
-  lookups = c.in_ok-lookups.ensures;
-  field_lists = rw c.new-8.ensures.items (no_lists _);
-  few = omega (arith, c.places-rows.ensures.places, c.places-rows.ensures.few);
-}
+pub of-requires-clause-writer : goal.of-requires-clause-writer
+of-requires-clause-writer c = rw c.deref.ensures.value c.index-written.ensures.names
 
-pub ask-requires-clause-reader : goal.ask-requires-clause-reader
-ask-requires-clause-reader c = record {
-  whole = is_whole (nodes_view c.args.reader.now) c.places-columns.ensures.schema;
-  lookups = c.in_ok-lookups-2.ensures;
-  field_lists = rw c.new-14.ensures.items (no_lists _);
-  few = omega (arith, c.places-columns.ensures.places, c.places-columns.ensures.few);
-}
+pub of-requires-clause-reader : goal.of-requires-clause-reader
+of-requires-clause-reader c = rw c.deref-2.ensures.value c.index-read.ensures.names
 
-pub ask-requires-clause-tells : goal.ask-requires-clause-tells
-ask-requires-clause-tells c = c.in_ok-sources.ensures
+pub ask-requires-clause-sides : goal.ask-requires-clause-sides
+ask-requires-clause-sides c = record {
+  writer = record {
+    whole = is_whole (nodes_view c.args.writer.now) c.places-rows.ensures.schema;
+    index = c.index-written.ensures;
+    few = omega (arith, c.places-rows.ensures.places, c.places-rows.ensures.few);
+  };
+  reader = record {
+    whole = is_whole (nodes_view c.args.reader.now) c.places-columns.ensures.schema;
+    index = c.index-read.ensures;
+    few = omega (arith, c.places-columns.ensures.places, c.places-columns.ensures.few);
+  };
+  met = rw (c.deref.ensures.value, c.deref-2.ensures.value) at c.in_ok-met.ensures;
+}
 
 pub ask-requires-clause-ready : goal.ask-requires-clause-ready
 ask-requires-clause-ready c =
@@ -48,7 +49,6 @@ ask-requires-clause-ready c =
       good = subst (λ (x : List Pair). Good w r x c.new-2.result.items 0) (sym c.new.ensures.items) (subst (λ (x : List Pair). Good w r [] x 0) (sym c.new-2.ensures.items) (good_start w r));
       assumed = subst (λ (x : List Pair). Marks (length r) c.none.result x) (sym c.new.ensures.items) (marks_none (length r) c.none.result (c.none.ensures.readers ∙ m) c.none.ensures.empty);
       failed = subst (λ (x : List Pair). Marks (length r) c.none-2.result x) (sym c.new-2.ensures.items) (marks_none (length r) c.none-2.result (c.none-2.ensures.readers ∙ m) c.none-2.ensures.empty);
-      agreed = record { readers = c.none-3.ensures.readers ∙ m; agree = λ i j a b l h at at2. absurd (true≢false (sym h ∙ c.none-3.ensures.empty i j)) };
     }
 
 pub ask-requires-clause-i_in : goal.ask-requires-clause-i_in
@@ -61,10 +61,10 @@ pub ask-requires-clause-asked : goal.ask-requires-clause-asked
 ask-requires-clause-asked c = roots_asked (nodes_view c.args.writer.now) (nodes_view c.args.reader.now)
 
 pub returns-clause-shows : goal.returns-clause-shows
-returns-clause-shows c = shown (nodes_view c.args.writer.now) (nodes_view c.args.reader.now) (record { assumed = c.new.result; failed = c.new-2.result; assumed_set = c.none.result; failed_set = c.none-2.result; agreed_set = c.none-3.result; visits = 0 }) c.ask.new.walk c.new.ensures.items c.new-2.ensures.items c.in_ok-answer.answer c.in_ok-answer.ensures
+returns-clause-shows c = shown (nodes_view c.args.writer.now) (nodes_view c.args.reader.now) (record { assumed = c.new.result; failed = c.new-2.result; assumed_set = c.none.result; failed_set = c.none-2.result; visits = 0 }) c.ask.new.walk c.new.ensures.items c.new-2.ensures.items c.in_ok-answer.answer c.in_ok-answer.ensures
 
 pub returns-clause-at_most : goal.returns-clause-at_most
-returns-clause-at_most c = at_most (nodes_view c.args.writer.now) (nodes_view c.args.reader.now) (record { assumed = c.new.result; failed = c.new-2.result; assumed_set = c.none.result; failed_set = c.none-2.result; agreed_set = c.none-3.result; visits = 0 }) c.ask.new.walk c.new.ensures.items c.new-2.ensures.items c.in_ok-answer.answer c.in_ok-answer.ensures
+returns-clause-at_most c = at_most (nodes_view c.args.writer.now) (nodes_view c.args.reader.now) (record { assumed = c.new.result; failed = c.new-2.result; assumed_set = c.none.result; failed_set = c.none-2.result; visits = 0 }) c.ask.new.walk c.new.ensures.items c.new-2.ensures.items c.in_ok-answer.answer c.in_ok-answer.ensures
 
 pub returns-clause-at_least : goal.returns-clause-at_least
-returns-clause-at_least c = at_least (nodes_view c.args.writer.now) (nodes_view c.args.reader.now) (record { assumed = c.new.result; failed = c.new-2.result; assumed_set = c.none.result; failed_set = c.none-2.result; agreed_set = c.none-3.result; visits = 0 }) c.ask.new.walk c.new.ensures.items c.new-2.ensures.items c.in_ok-answer.answer c.in_ok-answer.ensures
+returns-clause-at_least c = at_least (nodes_view c.args.writer.now) (nodes_view c.args.reader.now) (record { assumed = c.new.result; failed = c.new-2.result; assumed_set = c.none.result; failed_set = c.none-2.result; visits = 0 }) c.ask.new.walk c.new.ensures.items c.new-2.ensures.items c.in_ok-answer.answer c.in_ok-answer.ensures

@@ -3,11 +3,12 @@ use Rattle.std.specs.Prelude.{All, Contains, Vec}
 use Rattle.std.specs.declared.alloc.Global.{Global}
 use Rattle.std.proofs.lemmas.List.{length-map}
 use Rattle.std.proofs.lemmas.List.Elements.{Contains-get_or}
-use Rattle.avro_nodes.specs.Nodes.{node_view, nodes_view}
+use Rattle.avro_nodes.specs.Nodes.{node_view}
 use Rattle.avro_resolve.specs.declared.links.Link.{Link}
 use Rattle.avro_resolve.specs.Inside.Askers.{Joins}
 use Rattle.avro_resolve.specs.Inside.Left.{Lists, Settled}
 use Rattle.avro_resolve.specs.Inside.Lists.{list_at}
+use Rattle.avro_resolve.specs.Inside.Sides.{columns, rows}
 use Rattle.avro_resolve.proofs.Settling.{lists_then, settled_on, all_settled_on}
 use Rattle.avro_resolve.proofs.Telling.{told, none_told}
 use Rattle.avro_resolve.proofs.striking.tell.Goals.{then-i-places-via-then-i-places, then-i-places-via-else-i-places+then-j-places}
@@ -15,67 +16,67 @@ use Rattle.avro_resolve.proofs.striking.tell.Goals as goal
 
 pub returns-then-i-places-clause-settled : goal.returns-then-i-places-clause-settled
 returns-then-i-places-clause-settled c =
-    let s = c.args.writer.now.schema.now in let z = c.args.reader.now.schema.now in let w = nodes_view s in let r = nodes_view z in
+    let s = c.args.sides.now.writer.schema.now in let z = c.args.sides.now.reader.schema.now in let w = rows c.args.sides.now in let r = columns c.args.sides.now in
     let lw : length w ≡ length s = length-map s node_view in let lr : length r ≡ length z = length-map z node_view in
-    none_told w r c.requires.writer.whole c.requires.reader.whole c.args.told.0 c.args.told.1
+    none_told w r c.requires.sides.writer.whole c.requires.sides.reader.whole c.args.told.0 c.args.told.1
     (λ h. elim c.then-i-places.branch [
       | then-i-places-via-then-i-places b ↦ (let l = h.0 in absurd (omega (arith, l, lw, b.if-i-places.true, c.places.ensures.places)))
       | then-i-places-via-else-i-places+then-j-places b ↦ (let l = h.1 in absurd (omega (arith, l, lr, b.if-j-places.true, b.places-else-i-places.ensures.places)))
     ])
-    c.args.table.now c.args.struck.now.items c.requires.before
+    c.args.progress.now.table c.args.progress.now.struck.items c.requires.before
 
-pub look_down-requires-clause-rows_in : goal.look_down-requires-clause-rows_in
-look_down-requires-clause-rows_in c = λ k d l.
+pub look_down-requires-clause-above_in : goal.look_down-requires-clause-above_in
+look_down-requires-clause-above_in c = λ k d l.
     let xs = c.list_of-unions.result.now in
     let there = c.list_of-unions.ensures ∙ ap (λ (ls : List (Vec ℕ Global)). list_at ls c.args.told.0) c.deref.ensures.value in
-    let m = c.requires.askers.rows.unions.within (get_or xs k d) c.args.told.0 (subst (λ (ys : List ℕ). Contains ys (get_or xs k d)) there (Contains-get_or xs k d l)) in
-    subst (λ (n : ℕ). get_or xs k d < n) (length-map c.args.writer.now.schema.now node_view) m
+    let m = c.requires.askers.writer.unions.within (get_or xs k d) c.args.told.0 (subst (λ (ys : List ℕ). Contains ys (get_or xs k d)) there (Contains-get_or xs k d l)) in
+    subst (λ (n : ℕ). get_or xs k d < n) (length-map c.args.sides.now.writer.schema.now node_view) m
 
 pub look_along-requires-clause-before : goal.look_along-requires-clause-before
 look_along-requires-clause-before c =
-    all_settled_on (nodes_view c.args.writer.now.schema.now) (nodes_view c.args.reader.now.schema.now) c.args.table.now c.look_down.new.table c.args.struck.now.items c.look_down.new.struck.items (c.args.told ∷ [])
-    c.requires.writer.whole c.requires.reader.whole c.in_ok-look_down.ensures.lists c.requires.before
+    all_settled_on (rows c.args.sides.now) (columns c.args.sides.now) c.args.progress.now.table c.look_down.new.progress.table c.args.progress.now.struck.items c.look_down.new.progress.struck.items (c.args.told ∷ [])
+    c.requires.sides.writer.whole c.requires.sides.reader.whole c.in_ok-look_down.ensures.lists c.requires.before
 
-pub look_along-requires-clause-columns_in : goal.look_along-requires-clause-columns_in
-look_along-requires-clause-columns_in c = λ k d l.
+pub look_along-requires-clause-beside_in : goal.look_along-requires-clause-beside_in
+look_along-requires-clause-beside_in c = λ k d l.
     let xs = c.list_of-readers_unions.result.now in
     let there = c.list_of-readers_unions.ensures ∙ ap (λ (ls : List (Vec ℕ Global)). list_at ls c.args.told.1) c.deref-2.ensures.value in
-    let m = c.requires.askers.columns.unions.within (get_or xs k d) c.args.told.1 (subst (λ (ys : List ℕ). Contains ys (get_or xs k d)) there (Contains-get_or xs k d l)) in
-    subst (λ (n : ℕ). get_or xs k d < n) (length-map c.args.reader.now.schema.now node_view) m
+    let m = c.requires.askers.reader.unions.within (get_or xs k d) c.args.told.1 (subst (λ (ys : List ℕ). Contains ys (get_or xs k d)) there (Contains-get_or xs k d l)) in
+    subst (λ (n : ℕ). get_or xs k d < n) (length-map c.args.sides.now.reader.schema.now node_view) m
 
 pub look_joined-requires-clause-before : goal.look_joined-requires-clause-before
 look_joined-requires-clause-before c =
-    let t = c.args.table.now in let u = c.look_down.new.table in let v = c.look_along.new.table in
-    let ps = c.args.struck.now.items in let qs = c.look_down.new.struck.items in let rs = c.look_along.new.struck.items in
-    all_settled_on (nodes_view c.args.writer.now.schema.now) (nodes_view c.args.reader.now.schema.now) t v ps rs (c.args.told ∷ [])
-    c.requires.writer.whole c.requires.reader.whole (lists_then t u v ps qs rs c.in_ok-look_down.ensures.lists c.in_ok-look_along.ensures.lists) c.requires.before
+    let t = c.args.progress.now.table in let u = c.look_down.new.progress.table in let v = c.look_along.new.progress.table in
+    let ps = c.args.progress.now.struck.items in let qs = c.look_down.new.progress.struck.items in let rs = c.look_along.new.progress.struck.items in
+    all_settled_on (rows c.args.sides.now) (columns c.args.sides.now) t v ps rs (c.args.told ∷ [])
+    c.requires.sides.writer.whole c.requires.sides.reader.whole (lists_then t u v ps qs rs c.in_ok-look_down.ensures.lists c.in_ok-look_along.ensures.lists) c.requires.before
 
-pub look_joined-requires-clause-rows_in : goal.look_joined-requires-clause-rows_in
-look_joined-requires-clause-rows_in c = λ k d l.
+pub look_joined-requires-clause-above_in : goal.look_joined-requires-clause-above_in
+look_joined-requires-clause-above_in c = λ k d l.
     let xs = c.list_of-links.result.now in
     let there = c.list_of-links.ensures ∙ ap (λ (ls : List (Vec Link Global)). list_at ls c.args.told.0) c.deref-3.ensures.value in
-    let m = c.requires.askers.rows.links.within (get_or xs k d) c.args.told.0 (subst (λ (ys : List Link). Contains ys (get_or xs k d)) there (Contains-get_or xs k d l)) in
-    subst (λ (n : ℕ). (get_or xs k d).asker < n) (length-map c.args.writer.now.schema.now node_view) m
+    let m = c.requires.askers.writer.links.within (get_or xs k d) c.args.told.0 (subst (λ (ys : List Link). Contains ys (get_or xs k d)) there (Contains-get_or xs k d l)) in
+    subst (λ (n : ℕ). (get_or xs k d).asker < n) (length-map c.args.sides.now.writer.schema.now node_view) m
 
-pub look_joined-requires-clause-columns_in : goal.look_joined-requires-clause-columns_in
-look_joined-requires-clause-columns_in c = λ k d l.
+pub look_joined-requires-clause-beside_in : goal.look_joined-requires-clause-beside_in
+look_joined-requires-clause-beside_in c = λ k d l.
     let xs = c.list_of-readers_links.result.now in
     let there = c.list_of-readers_links.ensures ∙ ap (λ (ls : List (Vec Link Global)). list_at ls c.args.told.1) c.deref-4.ensures.value in
-    let m = c.requires.askers.columns.links.within (get_or xs k d) c.args.told.1 (subst (λ (ys : List Link). Contains ys (get_or xs k d)) there (Contains-get_or xs k d l)) in
-    subst (λ (n : ℕ). (get_or xs k d).asker < n) (length-map c.args.reader.now.schema.now node_view) m
+    let m = c.requires.askers.reader.links.within (get_or xs k d) c.args.told.1 (subst (λ (ys : List Link). Contains ys (get_or xs k d)) there (Contains-get_or xs k d l)) in
+    subst (λ (n : ℕ). (get_or xs k d).asker < n) (length-map c.args.sides.now.reader.schema.now node_view) m
 
 pub returns-clause-lists : goal.returns-clause-lists
 returns-clause-lists c =
-    let t = c.args.table.now in let u = c.look_down.new.table in let v = c.look_along.new.table in let x = c.look_joined.new.table in
-    let ps = c.args.struck.now.items in let qs = c.look_down.new.struck.items in let rs = c.look_along.new.struck.items in let ss = c.look_joined.new.struck.items in
+    let t = c.args.progress.now.table in let u = c.look_down.new.progress.table in let v = c.look_along.new.progress.table in let x = c.look_joined.new.progress.table in
+    let ps = c.args.progress.now.struck.items in let qs = c.look_down.new.progress.struck.items in let rs = c.look_along.new.progress.struck.items in let ss = c.look_joined.new.progress.struck.items in
     lists_then t u x ps qs ss c.in_ok-look_down.ensures.lists (lists_then u v x qs rs ss c.in_ok-look_along.ensures.lists c.in_ok-look_joined.ensures.lists)
 
 pub returns-clause-settled : goal.returns-clause-settled
 returns-clause-settled c =
-    let w = nodes_view c.args.writer.now.schema.now in let r = nodes_view c.args.reader.now.schema.now in let p = c.args.told.0 in let q = c.args.told.1 in
-    let ww = c.requires.writer.whole in let wr = c.requires.reader.whole in
-    let t = c.args.table.now in let u = c.look_down.new.table in let v = c.look_along.new.table in let x = c.look_joined.new.table in
-    let ps = c.args.struck.now.items in let qs = c.look_down.new.struck.items in let rs = c.look_along.new.struck.items in let ss = c.look_joined.new.struck.items in
+    let w = rows c.args.sides.now in let r = columns c.args.sides.now in let p = c.args.told.0 in let q = c.args.told.1 in
+    let ww = c.requires.sides.writer.whole in let wr = c.requires.sides.reader.whole in
+    let t = c.args.progress.now.table in let u = c.look_down.new.progress.table in let v = c.look_along.new.progress.table in let x = c.look_joined.new.progress.table in
+    let ps = c.args.progress.now.struck.items in let qs = c.look_down.new.progress.struck.items in let rs = c.look_along.new.progress.struck.items in let ss = c.look_joined.new.progress.struck.items in
     let last = c.in_ok-look_joined.ensures.lists in
     let later : Lists u qs x ss = lists_then u v x qs rs ss c.in_ok-look_along.ensures.lists last in
     let all : Lists t ps x ss = lists_then t u x ps qs ss c.in_ok-look_down.ensures.lists later in
@@ -86,6 +87,8 @@ returns-clause-settled c =
     let beside_is = c.list_of-readers_unions.ensures ∙ ap (λ (ls : List (Vec ℕ Global)). list_at ls q) c.deref-2.ensures.value in
     let links_are = c.list_of-links.ensures ∙ ap (λ (ls : List (Vec Link Global)). list_at ls p) c.deref-3.ensures.value in
     let readers_are = c.list_of-readers_links.ensures ∙ ap (λ (ls : List (Vec Link Global)). list_at ls q) c.deref-4.ensures.value in
-    let joins = subst (λ (ls : List Link). Joins (Settled w r x ss) ls (list_at c.args.columns.now.links.items q)) links_are (subst (λ (ls : List Link). Joins (Settled w r x ss) c.list_of-links.result.now ls) readers_are c.in_ok-look_joined.ensures.settled) in
-    told w r c.args.rows.now c.args.columns.now c.requires.askers p q x ss (all_settled_on w r t x ps ss (c.args.told ∷ []) ww wr all c.requires.before)
+    let sources_are = c.deref-5.ensures.value in
+    let joins = subst (λ (ls : List Link). Joins c.args.asking.now.sources.items p (Settled w r x ss) ls (list_at c.args.asking.now.columns.links.lists.items q)) links_are (subst (λ (ls : List Link). Joins c.args.asking.now.sources.items p (Settled w r x ss) c.list_of-links.result.now ls) readers_are
+    (subst (λ (table : List (Vec ℕ Global)). Joins table p (Settled w r x ss) c.list_of-links.result.now c.list_of-readers_links.result.now) sources_are c.in_ok-look_joined.ensures.settled)) in
+    told c.args.sides.now c.requires.sides c.args.asking.now.rows c.args.asking.now.columns c.args.asking.now.sources.items c.requires.askers p q x ss (all_settled_on w r t x ps ss (c.args.told ∷ []) ww wr all c.requires.before)
     (subst (λ (is : List ℕ). All (λ i. Settled w r x ss i q) is) above_is down) (subst (λ (js : List ℕ). All (Settled w r x ss p) js) beside_is along) joins

@@ -1,13 +1,13 @@
 use Rattle.std.proofs.Common.{◌+◌, length}
-use Rattle.avro_nodes.specs.Nodes.{nodes_view}
+use Rattle.avro_resolve.specs.Inside.Sides.{columns, rows}
 use Rattle.avro_resolve.specs.Inside.Left.{IsRest, AllSettled, count_left}
 use Rattle.avro_resolve.proofs.striking.tell_listed.Given as goal
 
 abbrev pub invariant-loop-i : goal.invariant-loop-i
 invariant-loop-i l = record {
-  rest : IsRest (nodes_view l.writer.schema.now) (nodes_view l.reader.schema.now) l.table;
-  settled : AllSettled (nodes_view l.writer.schema.now) (nodes_view l.reader.schema.now) l.table l.struck.items;
+  rest : IsRest (rows l.sides) (columns l.sides) l.progress.table;
+  settled : AllSettled (rows l.sides) (columns l.sides) l.progress.table l.progress.struck.items;
 }
 
 abbrev pub decreases-loop-i : goal.decreases-loop-i
-decreases-loop-i l = count_left l.table + length l.struck.items
+decreases-loop-i l = count_left l.progress.table + length l.progress.struck.items

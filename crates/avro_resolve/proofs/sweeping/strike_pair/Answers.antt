@@ -10,8 +10,8 @@ use Rattle.avro_resolve.proofs.sweeping.strike_pair.Goals as goal
 
 pub returns-then-not-agree_at-clause-rest : goal.returns-then-not-agree_at-clause-rest
 returns-then-not-agree_at-clause-rest c =
-    let w = nodes_view c.args.writer.now.schema.now in let r = nodes_view c.args.reader.now.schema.now in let t = c.args.table.now in
-    struck_pair w r t c.strike.new.self c.args.i c.args.j c.requires.writer.whole c.requires.reader.whole c.requires.rest
+    let w = nodes_view c.args.sides.now.writer.schema.now in let r = nodes_view c.args.sides.now.reader.schema.now in let t = c.args.table.now in
+    struck_pair w r t c.strike.new.self c.args.i c.args.j c.requires.sides.writer.whole c.requires.sides.reader.whole c.requires.rest
     (rw length-map c.requires.i_in) (rw length-map c.requires.j_in) (sym c.has.ensures ∙ c.if-has.true)
     (λ s. true≢false (sym (c.agree_at.ensures.1 (supports_agreed w r (left t) c.args.i c.args.j s)) ∙ c.if-not-agree_at.true)) c.strike.ensures.shape c.strike.ensures.others c.strike.ensures.fewer
 

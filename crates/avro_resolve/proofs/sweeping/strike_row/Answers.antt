@@ -6,7 +6,7 @@ use Rattle.avro_resolve.proofs.sweeping.strike_row.Goals as goal
 
 pub loop-j-preserved : goal.loop-j-preserved
 loop-j-preserved c =
-    let w = nodes_view c.args.writer.now.schema.now in let r = nodes_view c.args.reader.now.schema.now in let i = c.args.i in let j = c.loop-j.j in let v = c.strike_pair.new.table in
+    let w = nodes_view c.args.sides.now.writer.schema.now in let r = nodes_view c.args.sides.now.reader.schema.now in let i = c.args.i in let j = c.loop-j.j in let v = c.strike_pair.new.table in
     record {
       rest = c.strike_pair.ensures.rest;
       fewer = λ a b h. c.loop-j.invariant.fewer a b (c.strike_pair.ensures.fewer a b h);

@@ -5,7 +5,7 @@ use Rattle.avro_resolve.proofs.sweeping.strike_row.Given as goal
 
 abbrev pub invariant-loop-j : goal.invariant-loop-j
 invariant-loop-j l = record {
-  rest : IsLeft (nodes_view l.writer.schema.now) (nodes_view l.reader.schema.now) l.table;
+  rest : IsLeft (nodes_view l.sides.writer.schema.now) (nodes_view l.sides.reader.schema.now) l.table;
   fewer : (a b : ℕ) → IsTrue (left l.table a b) → IsTrue (left l.initial.table a b);
-  agreed : (b : ℕ) → b < l.j → IsTrue (left l.table l.i b) → Agreed (nodes_view l.writer.schema.now) (nodes_view l.reader.schema.now) l.i b;
+  agreed : (b : ℕ) → b < l.j → IsTrue (left l.table l.i b) → Agreed (nodes_view l.sides.writer.schema.now) (nodes_view l.sides.reader.schema.now) l.i b;
 }

@@ -5,6 +5,6 @@ use Rattle.avro_resolve.proofs.sweeping.sweep.Given as goal
 
 abbrev pub invariant-loop-i : goal.invariant-loop-i
 invariant-loop-i l = record {
-  rest : IsLeft (nodes_view l.writer.schema.now) (nodes_view l.reader.schema.now) l.table;
-  agreed : (a b : ℕ) → a < l.i → b < length l.reader.schema.now → IsTrue (left l.table a b) → Agreed (nodes_view l.writer.schema.now) (nodes_view l.reader.schema.now) a b;
+  rest : IsLeft (nodes_view l.sides.writer.schema.now) (nodes_view l.sides.reader.schema.now) l.table;
+  agreed : (a b : ℕ) → a < l.i → b < length l.sides.reader.schema.now → IsTrue (left l.table a b) → Agreed (nodes_view l.sides.writer.schema.now) (nodes_view l.sides.reader.schema.now) a b;
 }

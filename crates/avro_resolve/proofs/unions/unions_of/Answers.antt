@@ -8,7 +8,7 @@ use Rattle.avro_resolve.specs.Inside.Places.{Names}
 use Rattle.avro_resolve.specs.Inside.Askers.{IsUnionListed}
 use Rattle.avro_resolve.proofs.Monotone.{at_place}
 use Rattle.avro_resolve.proofs.LinkLemmas.{union_listed_on}
-use Rattle.avro_resolve.proofs.NumberLemmas.{node_got}
+use Rattle.avro_resolve.proofs.ViewLemmas.{view_got}
 use Rattle.avro_resolve.proofs.unions.unions_of.Goals as goal
 
 pub loop-i-init : goal.loop-i-init
@@ -22,7 +22,7 @@ pub note_node-requires : goal.note_node-requires
 note_node-requires c =
     let nodes = nodes_view c.args.schema.now in let v = node_view c.node.result.now in
     let long : length c.loop-i.lists.items ≡ length nodes = c.loop-i.invariant.long ∙ sym (length-map c.args.schema.now node_view) in
-    subst (λ (n : ℕ). Names n v) (sym long) (at_place nodes (Names (length nodes)) c.loop-i.i v c.requires (node_got c.args.schema.now c.loop-i.i c.node.result.now c.node.ensures))
+    subst (λ (n : ℕ). Names n v) (sym long) (at_place nodes (Names (length nodes)) c.loop-i.i v c.requires (view_got node_view c.args.schema.now c.loop-i.i c.node.result.now c.node.ensures))
 
 pub loop-i-preserved : goal.loop-i-preserved
 loop-i-preserved c =
@@ -35,7 +35,7 @@ loop-i-preserved c =
       named = λ i a l e. elim (cases_lt i at) [
         | inl g ↦ union_listed_on xs ys i more.kept a (inv.named i a g e)
         | inr g ↦ (let s : at ≡ i = omega arith in
-            let known : slice_get (nodes_view nodes) i ≡ Some node = subst (λ (x : ℕ). slice_get (nodes_view nodes) x ≡ Some node) s (node_got nodes at c.node.result.now c.node.ensures) in
+            let known : slice_get (nodes_view nodes) i ≡ Some node = subst (λ (x : ℕ). slice_get (nodes_view nodes) x ≡ Some node) s (view_got node_view nodes at c.node.result.now c.node.ensures) in
             let same : node ≡ a = cc in
             subst (λ (b : NodeView). IsUnionListed ys i b) same (subst (λ (x : ℕ). IsUnionListed ys x node) s c.in_ok-note_node.ensures.there))
       ];

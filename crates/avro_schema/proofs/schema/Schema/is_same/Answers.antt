@@ -5,8 +5,8 @@ use Rattle.avro_schema.proofs.schema.Schema.is_same.Goals as goal
 
 pub returns : goal.returns
 returns c =
-    let kept = c.self.invariant in
-    let other = c.other.invariant in
+    let kept = c.self.invariant.0 in
+    let other = c.other.invariant.0 in
     let tells = bytes_eq-Decides (string_bytes c.self.inside.text) (string_bytes c.other.inside.text) in
     rw (c.eq.ensures, ← c.self.view_is, ← c.other.view_is)
     (record {

@@ -6,7 +6,7 @@ use Rattle.avro_schema.proofs.schema.Schema.places.Goals as goal
 
 pub overflow_cast-result : goal.overflow_cast-result
 overflow_cast-result c =
-    let few = few_places _ c.self.invariant.schema in
+    let few = few_places _ c.self.invariant.0.schema in
     let same = length-map c.self.inside.nodes.items node_view in
     let here = c.len.ensures in
     let vec = c.self.inside.nodes.ok.0 in
@@ -14,11 +14,11 @@ overflow_cast-result c =
 
 pub returns-clause-few : goal.returns-clause-few
 returns-clause-few c =
-    let few = few_places _ c.self.invariant.schema in
+    let few = few_places _ c.self.invariant.0.schema in
     let same = length-map c.self.inside.nodes.items node_view in
     let here = c.len.ensures in
     let vec = c.self.inside.nodes.ok.0 in
     omega arith
 
 pub returns-clause-schema : goal.returns-clause-schema
-returns-clause-schema c = rw (← c.self.view_is) c.self.invariant.schema
+returns-clause-schema c = rw (← c.self.view_is) c.self.invariant.0.schema

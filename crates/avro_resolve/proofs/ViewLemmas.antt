@@ -1,0 +1,19 @@
+-- What stands in a list, and what contracts see of it.
+use Rattle.std.proofs.Common.{◌≡◌, ℕ, zero, suc, List, [], ◌∷◌, ◌++◌, length, map, Some, refl, ap, subst}
+use Rattle.std.specs.Prelude.{All, option_map, slice_get}
+use Rattle.std.proofs.Math.ListN.{get_or-map}
+use Rattle.std.proofs.lemmas.List.{length-map}
+
+pub view_got : {X Y : Type 0} (f : X → Y) (xs : List X) (k : ℕ) (x : X) → slice_get xs k ≡ Some x → slice_get (map f xs) k ≡ Some (f x)
+view_got f [] k x e = absurd cc
+view_got f (y ∷ ys) zero x e = ap (option_map f) e
+view_got f (y ∷ ys) (suc k) x e = view_got f ys k x e
+
+-- what holds of each element's view
+pub all_of : {X Y : Type 0} (P : Y → Type 0) (f : X → Y) (xs : List X) → All P (map f xs) → All (λ x. P (f x)) xs
+all_of P f xs h k d l = subst P (get_or-map f xs k d) (h k (f d) (rw length-map l))
+
+-- what was put last into a list
+pub got_last : {X : Type 0} (xs : List X) (y : X) → slice_get (xs ++ y ∷ []) (length xs) ≡ Some y
+got_last [] y = refl
+got_last (x ∷ xs) y = got_last xs y

@@ -1,0 +1,28 @@
+use Rattle.std.proofs.Common.{◌≡◌, ◌+◌, ◌-◌, ◌<◌, length, sym, ◌∙◌, arith}
+use Rattle.std.specs.Prelude.{slice_get, Some}
+use Rattle.std.proofs.lemmas.List.{length-map}
+use Rattle.avro_resolve.specs.Inside.Laying.{names_in}
+use Rattle.avro_resolve.proofs.Laying.{laid_more, laid_past, none_laid}
+use Rattle.avro_resolve.proofs.Sourcing.{names_at}
+use Rattle.avro_resolve.proofs.desk.lay.Goals as goal
+
+pub loop-k-init : goal.loop-k-init
+loop-k-init c =
+    let fields = c.args.fields.now in
+    none_laid c.args.met.now.ranks.items (names_in fields) c.args.boxes.now (length fields) (let e = length-map fields (λ f. f.name) in omega arith) c.requires.clear
+
+pub loop-k-preserved-in-Some : goal.loop-k-preserved-in-Some
+loop-k-preserved-in-Some c =
+    let met = c.args.met.now.ranks.items in let fields = c.args.fields.now in let n = c.loop-k.k in let f = c.index-fields-k.result in
+    let l : n - 1 < length fields = omega arith in
+    let next : n ≡ (n - 1) + 1 = omega arith in
+    let ek : slice_get (names_in fields) (n - 1) ≡ Some f.name = names_at fields (n - 1) f l c.index-fields-k.is in
+    laid_more met (names_in fields) n (n - 1) f.name next ek c.in-Some.rank (sym c.rank.ensures ∙ c.in-Some.is) c.loop-k.boxes c.put.new.boxes c.put.auto.boxes c.put.ensures.others c.put.ensures.there c.loop-k.invariant
+
+pub loop-k-preserved : goal.loop-k-preserved
+loop-k-preserved c =
+    let met = c.args.met.now.ranks.items in let fields = c.args.fields.now in let n = c.loop-k.k in let f = c.index-fields-k.result in
+    let l : n - 1 < length fields = omega arith in
+    let next : n ≡ (n - 1) + 1 = omega arith in
+    let ek : slice_get (names_in fields) (n - 1) ≡ Some f.name = names_at fields (n - 1) f l c.index-fields-k.is in
+    laid_past met (names_in fields) n (n - 1) f.name next ek c.loop-k.boxes (sym c.rank.ensures ∙ c.in_default.is) c.loop-k.invariant

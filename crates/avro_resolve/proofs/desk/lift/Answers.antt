@@ -1,0 +1,23 @@
+use Rattle.std.proofs.Common.{◌≡◌, ◌<◌, length, sym, ◌∙◌, arith}
+use Rattle.std.specs.Prelude.{slice_get, Some}
+use Rattle.std.proofs.lemmas.List.{length-map}
+use Rattle.avro_resolve.specs.Inside.Laying.{names_in}
+use Rattle.avro_resolve.proofs.Laying.{left_less, left_past, none_left}
+use Rattle.avro_resolve.proofs.Sourcing.{names_at}
+use Rattle.avro_resolve.proofs.desk.lift.Goals as goal
+use Rattle.avro_resolve.proofs.desk.lift.Goals.{in-Some, in_default}
+
+pub loop-k-preserved : goal.loop-k-preserved
+loop-k-preserved c =
+    let met = c.args.met.now.ranks.items in let fields = c.args.fields.now in let k = c.loop-k.k in let f = c.index-fields-k.result in
+    let l : k < length fields = omega arith in
+    let ek : slice_get (names_in fields) k ≡ Some f.name = names_at fields k f l c.index-fields-k.is in
+    elim c.match-rank.branch [
+      | in-Some w ↦ rw w.boxes-is (left_less met (names_in fields) k f.name ek w.in-Some.rank (sym c.rank.ensures ∙ w.in-Some.is) c.loop-k.boxes w.put.new.boxes w.put.ensures.others w.put.ensures.there c.loop-k.invariant)
+      | in_default w ↦ rw w.boxes-is (left_past met (names_in fields) k f.name ek c.loop-k.boxes (sym c.rank.ensures ∙ w.in_default.is) c.loop-k.invariant)
+    ]
+
+pub returns : goal.returns
+returns c =
+    let fields = c.args.fields.now in
+    none_left c.args.met.now.ranks.items (names_in fields) c.loop-k.boxes c.loop-k.k (let e = length-map fields (λ f. f.name) in omega arith) c.loop-k.invariant

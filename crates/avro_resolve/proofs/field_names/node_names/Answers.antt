@@ -1,9 +1,0 @@
-use Rattle.std.proofs.Common.{List, map, subst}
-use Rattle.std.specs.Prelude.{IfOk}
-use Rattle.avro_nodes.specs.declared.node.Field.{Field}
-use Rattle.avro_nodes.specs.Nodes.{field_view}
-use Rattle.avro_resolve.specs.Inside.Sources.{AreNamed}
-use Rattle.avro_resolve.proofs.field_names.node_names.Goals as goal
-
-pub returns-in-Rec-clause-there : goal.returns-in-Rec-clause-there
-returns-in-Rec-clause-there c = rw c.in-Rec.is (subst (λ (fs : List Field). IfOk c.names_of_fields.result (λ v. AreNamed c.names_of_fields.new.numbers (map field_view fs) v.items)) c.deref.ensures.value c.names_of_fields.ensures.there)

@@ -1,0 +1,108 @@
+//! The sources of a reader's fields that have aliases, by the writer's places: one look tells
+//! whether a field is read from a type.
+
+ghost use Rattle.std.specs.Prelude.{◌≡◌, ◌<◌, ◌≤◌, ◌+◌, ◌↔◌, ℕ, All, IfOk, IfSome, IsTrue, MatchOption, Some, length, map, slice_get};
+ghost use Rattle.std.specs.List.{AllZip};
+ghost use Rattle.std.specs.Option.{ForSome};
+ghost use Rattle.avro_nodes.specs.Nodes.{FieldView, NodeView, field_view};
+ghost use Rattle.avro_schema.specs.Index.{AreFieldsRanked, IsFieldRanked};
+ghost use Rattle.avro_resolve.specs.Inside.Agreeing.{fields_of};
+ghost use Rattle.avro_resolve.specs.Inside.Laying.{names_in, AreLaid};
+ghost use Rattle.avro_resolve.specs.Inside.Sides.{columns, names_of, nodes_of, rows, IsSide, IsSides};
+ghost use Rattle.avro_resolve.specs.Inside.Sources.{code, code_at, field_at, IsEntry};
+
+use crate::desk::place_of;
+use crate::lists::list_of;
+use crate::sides::{Fields, Side, Sides};
+use avro_schema::FieldRanks;
+use std::alloc::{AllocError, Global};
+
+/// A reader's field that has aliases.
+#[derive(Clone, Copy, Debug, PartialEq, Eq)]
+pub struct Aliased {
+    /// the place of its record
+    pub place: u32,
+    /// its index among the record's fields
+    pub index: usize,
+}
+
+/// A place and one, or 0 for none.
+fn code_of(place: Option<u32>) -> u16
+    requires { ForSome place (λ p. p < 65535) }
+    ensures { result ≡ code place }
+{
+    match place {
+        Some(place) => place as u16 + 1,
+        None => 0,
+    }
+}
+
+/// The names of the field, by their ranks.
+fn names_at<'a>(side: &'a Side, aliased: Aliased) -> Option<&'a FieldRanks>
+    requires side { IsSide side.now }
+    ensures ranked { IfSome result (λ x. (f : FieldView) × IsFieldRanked (names_of side.now) f x.now) }
+    ensures found { (f : FieldView) → field_at (nodes_of side.now) aliased ≡ Some f
+        → MatchOption result ⊥ (λ x. IsFieldRanked (names_of side.now) f x.now) }
+{
+    if aliased.place >= side.places() {
+        return None;
+    }
+    let ranks = side.fields(aliased.place).ranks;
+    if aliased.index >= ranks.len() {
+        return None;
+    }
+    Some(&ranks[aliased.index])
+}
+
+/// Whence the field is read of a record whose fields are laid.
+fn entry_of(boxes: &[Option<usize>], sides: &Sides, fields: Fields, aliased: Aliased) -> u16
+    requires sides { IsSides sides.now }
+    requires ranked { AreFieldsRanked (names_of sides.now.writer) (map field_view fields.fields.now) fields.ranks.now }
+    requires laid { AreLaid sides.now.met.ranks.items (names_in fields.ranks.now) 0 boxes.now }
+    requires room { length (names_of sides.now.reader) ≤ length boxes.now }
+    requires fields_in { All (λ g. g.place < 65535) fields.fields.now }
+    ensures { IsEntry (columns sides.now) (map field_view fields.entry.fields.now) aliased result }
+{
+    match names_at(&sides.reader, aliased) {
+        Some(names) => code_of(place_of(boxes, sides, fields.fields, fields.ranks, names)),
+        None => 0,
+    }
+}
+
+/// The same for each of these fields.
+///
+/// # Errors
+///
+/// `AllocError` where memory for them is refused.
+pub fn row_of(
+    alloc: Global,
+    boxes: &[Option<usize>],
+    sides: &Sides,
+    fields: Fields,
+    aliased: &[Aliased],
+) -> Result<Vec<u16>, AllocError>
+    requires sides { IsSides sides.now }
+    requires ranked { AreFieldsRanked (names_of sides.now.writer) (map field_view fields.fields.now) fields.ranks.now }
+    requires laid { AreLaid sides.now.met.ranks.items (names_in fields.ranks.now) 0 boxes.now }
+    requires room { length (names_of sides.now.reader) ≤ length boxes.now }
+    requires fields_in { All (λ g. g.place < 65535) fields.fields.now }
+    ensures { IfOk result (λ v. AllZip (IsEntry (columns sides.now) (map field_view fields.entry.fields.now))
+        aliased.now v.items) }
+{
+    let mut row = Vec::with_capacity(alloc, aliased.len())?;
+    for field in aliased {
+        row.push(entry_of(boxes, sides, fields, *field))?;
+    }
+    Ok(row)
+}
+
+/// Whether the field of this number is read from the type at the place, where the record is the
+/// writer's at i.
+pub fn is_source(rows: &[Vec<u16>], i: u32, number: usize, place: u32) -> bool
+    ensures { IsTrue result ↔ (code_at rows.now i number ≡ place + 1) }
+{
+    match list_of(rows, i as usize).get(number) {
+        Some(code) => u64::from(*code) == u64::from(place) + 1,
+        None => false,
+    }
+}

@@ -1,0 +1,186 @@
+//! The index of a list of nodes: their names are listed, sorted, and then looked for.
+
+ghost use Rattle.std.specs.Prelude.{◌≡◌, ◌++◌, All, Contains, IfOk, OnOk, map};
+ghost use Rattle.avro_nodes.specs.Nodes.{field_view, named_view, node_view, nodes_view, texts_view};
+ghost use Rattle.avro_schema.specs.Index.{AreFieldsRanked, AreNames, AreRanked, IsFieldRanked, IsIndex, IsNamedRanked, IsRanked};
+ghost use Rattle.avro_schema.specs.Inside.NodeTexts.{borrowed, named_texts, field_texts, fields_texts, node_texts, nodes_texts};
+
+use crate::index::{FieldRanks, Index, NamedRanks, Ranks};
+use crate::ranking::{owned, rank_of, ranks_of, rising_ranks_of, sorted_once};
+use avro_nodes::{Field, Named, Node, last_part};
+use std::alloc::{AllocError, Global};
+
+/// The most names that ranks can count. No schema has so many, since each takes a byte of its
+/// text.
+const MAX_NAMES: usize = 4294967295;
+
+fn push_texts<'a>(list: &mut Vec<&'a str>, texts: &'a [String]) -> Result<(), AllocError>
+    ensures { OnOk result (borrowed list.new.items
+        ≡ borrowed list.old.items ++ texts_view texts.now) }
+{
+    for text in texts {
+        list.push(text.as_str())?;
+    }
+    Ok(())
+}
+
+fn push_named<'a>(list: &mut Vec<&'a str>, named: &'a Named) -> Result<(), AllocError>
+    ensures { OnOk result (borrowed list.new.items
+        ≡ borrowed list.old.items ++ named_texts (named_view named.now)) }
+{
+    let full = named.name.as_str();
+    list.push(last_part(full))?;
+    list.push(full)?;
+    push_texts(list, &named.aliases)?;
+    Ok(())
+}
+
+fn push_field<'a>(list: &mut Vec<&'a str>, field: &'a Field) -> Result<(), AllocError>
+    ensures { OnOk result (borrowed list.new.items
+        ≡ borrowed list.old.items ++ field_texts (field_view field.now)) }
+{
+    list.push(field.name.as_str())?;
+    push_texts(list, &field.aliases)?;
+    Ok(())
+}
+
+fn push_fields<'a>(list: &mut Vec<&'a str>, fields: &'a [Field]) -> Result<(), AllocError>
+    ensures { OnOk result (borrowed list.new.items
+        ≡ borrowed list.old.items ++ fields_texts (map field_view fields.now)) }
+{
+    for field in fields {
+        push_field(list, field)?;
+    }
+    Ok(())
+}
+
+fn push_node<'a>(list: &mut Vec<&'a str>, node: &'a Node) -> Result<(), AllocError>
+    ensures { OnOk result (borrowed list.new.items
+        ≡ borrowed list.old.items ++ node_texts (node_view node.now)) }
+{
+    match node {
+        Node::Enum { named, symbols, .. } => {
+            push_named(list, named)?;
+            push_texts(list, symbols)?;
+        }
+        Node::Fixed { named, .. } => {
+            push_named(list, named)?;
+        }
+        Node::Rec { named, fields, .. } => {
+            push_named(list, named)?;
+            push_fields(list, fields)?;
+        }
+        Node::Primitive { .. } | Node::Array { .. } | Node::Map { .. } | Node::Union { .. } => {}
+    }
+    Ok(())
+}
+
+/// The names of the nodes, as they come.
+fn texts_of(alloc: Global, nodes: &[Node]) -> Result<Vec<&str>, AllocError>
+    ensures { IfOk result (λ v. borrowed v.items ≡ nodes_texts (nodes_view nodes.now)) }
+{
+    let mut list = Vec::new(alloc);
+    for node in nodes {
+        push_node(&mut list, node)?;
+    }
+    Ok(list)
+}
+
+fn named_ranks(alloc: Global, names: &[&str], named: &Named) -> Result<NamedRanks, AllocError>
+    requires names { AreNames (borrowed names.now) }
+    requires known { All (Contains (borrowed names.now)) (named_texts (named_view named.now)) }
+    ensures { IfOk result (IsNamedRanked (borrowed names.now) (named_view named.now)) }
+{
+    let full = named.name.as_str();
+    let aliases = rising_ranks_of(alloc, names, &named.aliases)?;
+    Ok(NamedRanks {
+        last: rank_of(names, last_part(full)),
+        full: rank_of(names, full),
+        aliases,
+    })
+}
+
+fn field_ranks(alloc: Global, names: &[&str], field: &Field) -> Result<FieldRanks, AllocError>
+    requires names { AreNames (borrowed names.now) }
+    requires known { All (Contains (borrowed names.now)) (field_texts (field_view field.now)) }
+    ensures { IfOk result (IsFieldRanked (borrowed names.now) (field_view field.now)) }
+{
+    let aliases = ranks_of(alloc, names, &field.aliases)?;
+    Ok(FieldRanks {
+        name: rank_of(names, field.name.as_str()),
+        aliases,
+    })
+}
+
+fn fields_ranks(
+    alloc: Global,
+    names: &[&str],
+    fields: &[Field],
+) -> Result<Vec<FieldRanks>, AllocError>
+    requires names { AreNames (borrowed names.now) }
+    requires known { All (Contains (borrowed names.now)) (fields_texts (map field_view fields.now)) }
+    ensures { IfOk result (λ v. AreFieldsRanked (borrowed names.now) (map field_view fields.now) v.items) }
+{
+    let mut ranks = Vec::with_capacity(alloc, fields.len())?;
+    for field in fields {
+        ranks.push(field_ranks(alloc, names, field)?)?;
+    }
+    Ok(ranks)
+}
+
+fn node_ranks(alloc: Global, names: &[&str], node: &Node) -> Result<Ranks, AllocError>
+    requires names { AreNames (borrowed names.now) }
+    requires known { All (Contains (borrowed names.now)) (node_texts (node_view node.now)) }
+    ensures { IfOk result (IsRanked (borrowed names.now) (node_view node.now)) }
+{
+    match node {
+        Node::Enum { named, symbols, .. } => {
+            let named = named_ranks(alloc, names, named)?;
+            let symbols = rising_ranks_of(alloc, names, symbols)?;
+            Ok(Ranks::Enum { named, symbols })
+        }
+        Node::Fixed { named, .. } => {
+            let named = named_ranks(alloc, names, named)?;
+            Ok(Ranks::Fixed { named })
+        }
+        Node::Rec { named, fields, .. } => {
+            let named = named_ranks(alloc, names, named)?;
+            let fields = fields_ranks(alloc, names, fields)?;
+            Ok(Ranks::Rec { named, fields })
+        }
+        Node::Primitive { .. } | Node::Array { .. } | Node::Map { .. } | Node::Union { .. } => {
+            Ok(Ranks::Unnamed)
+        }
+    }
+}
+
+/// The ranks of each node.
+fn nodes_ranks(alloc: Global, names: &[&str], nodes: &[Node]) -> Result<Vec<Ranks>, AllocError>
+    requires names { AreNames (borrowed names.now) }
+    requires known { All (Contains (borrowed names.now)) (nodes_texts (nodes_view nodes.now)) }
+    ensures { IfOk result (λ v. AreRanked (borrowed names.now) (nodes_view nodes.now) v.items) }
+{
+    let mut ranks = Vec::with_capacity(alloc, nodes.len())?;
+    for node in nodes {
+        ranks.push(node_ranks(alloc, names, node)?)?;
+    }
+    Ok(ranks)
+}
+
+/// The index of the nodes.
+///
+/// # Errors
+///
+/// `AllocError` where memory for it is refused.
+pub fn index_of(alloc: Global, nodes: &[Node]) -> Result<Index, AllocError>
+    ensures { IfOk result (IsIndex (nodes_view nodes.now)) }
+{
+    let texts = texts_of(alloc, nodes)?;
+    let sorted = sorted_once(texts);
+    if sorted.len() > MAX_NAMES {
+        return Err(AllocError);
+    }
+    let ranks = nodes_ranks(alloc, &sorted, nodes)?;
+    let names = owned(alloc, &sorted)?;
+    Ok(Index { names, ranks })
+}
