@@ -1,36 +1,43 @@
 //! Measures how long schemas take to be read and resolved.
 //!
-//! Its words are `read` or `resolve`, the name of a shape or `all`, and a count of the shape's
-//! parts, where only that one is wanted. `read` has a text of the shape read by `Schema::read`,
-//! which makes its identity text, and by `serde_json` into a `Value`, and prints its bytes, the
-//! times, and their ratio. `resolve` has a writer's and a reader's text of the shape resolved by
-//! `resolves` and by `resolves_plain`, and prints the numbers of their places, the verdicts and
-//! the times. The shortest of many calls counts. Behind them it prints the most memory that the
-//! process held so far.
+//! Its words are `read`, `resolve` or `behind`, the name of a shape or `all`, and a count of the
+//! shape's parts, where only that one is wanted. `read` has a text of the shape read by
+//! `Schema::read`, which makes its identity text, and by `serde_json` into a `Value`, and prints
+//! its bytes, the times, and their ratio. `resolve` has a writer's and a reader's text of the shape
+//! resolved by `resolves` and by `resolves_plain`, and prints the numbers of their places, the
+//! verdicts and the times. `behind` does the same where each text stands behind a cycle of records
+//! that makes `resolves` give up and strike out. The shortest of many calls counts. Behind them it
+//! prints the most memory that the process held so far.
 //!
 //! The word `random` has 2,000 pairs made at random, always the same ones, and tells whether both
 //! ways to resolve answer each of them alike. Without words it does nothing.
 
 #![tactic(auto)]
 
-mod random;
 mod reading;
 mod resolution;
 mod shape;
-mod text;
 mod times;
 
 use anyhow::{Context, Result, bail, ensure};
 use avro_resolve::{resolves, resolves_plain};
 use avro_schema::Schema;
-use random::random_text;
+use avro_testing::random_text;
 use reading::reading;
 use resolution::resolution;
-use shape::Shape;
-use std::alloc::Global;
+use shape::{Shape, behind_cycle, shape_text};
+use std::alloc::{AllocError, Global};
 use std::{env, fs};
-use text::text_of;
 use times::{Least, Work, times};
+
+/// What is measured.
+#[derive(Clone, Copy)]
+enum Measured {
+    Reading,
+    Resolution,
+    /// of texts behind a cycle
+    Behind,
+}
 
 /// How many pairs are made at random.
 const RANDOM_PAIRS: u64 = 2000;
@@ -48,7 +55,7 @@ fn print_memory(rt: &HostRuntime) -> Result<()> {
 
 /// Measures how long the text of a shape takes to read.
 fn read(rt: &HostRuntime, shape: &Shape, count: u32) -> Result<()> {
-    let text = text_of(rt.alloc(), shape, &shape.writer, count)?;
+    let text = shape_text(rt.alloc(), shape, shape.writer, count)?;
     let text = text.as_str();
     let (schema, json) = times(rt, Work::Schema(text), Work::Json(text))?;
     ensure!(json.told.yes, "the text is not JSON");
@@ -70,11 +77,27 @@ fn print_time(rt: &HostRuntime, way: &str, least: Least) -> Result<()> {
     Ok(())
 }
 
+/// The writer's and the reader's text of a shape.
+fn pair_of(
+    alloc: Global,
+    shape: &Shape,
+    count: u32,
+    is_behind: bool,
+) -> Result<(String, String), AllocError> {
+    let writer = shape_text(alloc, shape, shape.writer, count)?;
+    let reader = shape_text(alloc, shape, shape.reader, count)?;
+    if !is_behind {
+        return Ok((writer, reader));
+    }
+    let writer = behind_cycle(alloc, writer.as_str(), "written")?;
+    let reader = behind_cycle(alloc, reader.as_str(), "read")?;
+    Ok((writer, reader))
+}
+
 /// Measures how long the pair of a shape takes to resolve.
-fn resolve(rt: &HostRuntime, shape: &Shape, count: u32) -> Result<()> {
+fn resolve(rt: &HostRuntime, shape: &Shape, count: u32, is_behind: bool) -> Result<()> {
     let alloc = rt.alloc();
-    let writer = text_of(alloc, shape, &shape.writer, count)?;
-    let reader = text_of(alloc, shape, &shape.reader, count)?;
+    let (writer, reader) = pair_of(alloc, shape, count, is_behind)?;
     let writer = Schema::read(alloc, writer.as_str())?;
     let reader = Schema::read(alloc, reader.as_str())?;
     let (opening, striking) = times(
@@ -119,29 +142,45 @@ fn answer_random(rt: &HostRuntime) -> Result<()> {
     Ok(())
 }
 
-/// Measures a shape with each of the counts.
-fn measure(rt: &HostRuntime, is_read: bool, shape: &Shape, counts: &[u32]) -> Result<()> {
-    for count in counts {
-        if is_read {
-            read(rt, shape, *count)?;
-        } else {
-            resolve(rt, shape, *count)?;
-        }
+/// Measures a shape with a count.
+fn measure(rt: &HostRuntime, measured: Measured, shape: &Shape, count: u32) -> Result<()> {
+    match measured {
+        Measured::Reading => read(rt, shape, count),
+        Measured::Resolution => resolve(rt, shape, count, false),
+        Measured::Behind => resolve(rt, shape, count, true),
+    }
+}
+
+/// Measures a shape with this count, or with each of its own.
+fn measure_shape(
+    rt: &HostRuntime,
+    measured: Measured,
+    shape: &Shape,
+    count: Option<u32>,
+) -> Result<()> {
+    if let Some(count) = count {
+        return measure(rt, measured, shape, count);
+    }
+    if let Measured::Behind = measured {
+        return measure(rt, measured, shape, shape.behind);
+    }
+    for count in shape.counts {
+        measure(rt, measured, shape, *count)?;
     }
     Ok(())
 }
 
-/// Measures the shapes of this name, with this count or with each of their own.
-fn measure_all(rt: &HostRuntime, is_read: bool, name: &str, count: Option<u32>) -> Result<()> {
-    let shapes = if is_read { reading() } else { resolution() };
+/// Measures the shapes of this name.
+fn measure_all(rt: &HostRuntime, measured: Measured, name: &str, count: Option<u32>) -> Result<()> {
+    let shapes = match measured {
+        Measured::Reading => reading(),
+        Measured::Resolution | Measured::Behind => resolution(),
+    };
     let mut found = false;
     for shape in shapes {
         if name == "all" || name == shape.name {
             found = true;
-            match count {
-                Some(count) => measure(rt, is_read, shape, &[count])?,
-                None => measure(rt, is_read, shape, shape.counts)?,
-            }
+            measure_shape(rt, measured, shape, count)?;
         }
     }
     ensure!(found, "no shape is named {name}");
@@ -165,13 +204,14 @@ fn measure_by(rt: &HostRuntime, words: &[String]) -> Result<()> {
     if word == "random" {
         return answer_random(rt);
     }
-    let is_read = word == "read";
-    ensure!(
-        is_read || word == "resolve",
-        "no measurement is named {word}"
-    );
+    let measured = match word {
+        "read" => Measured::Reading,
+        "resolve" => Measured::Resolution,
+        "behind" => Measured::Behind,
+        _ => bail!("no measurement is named {word}"),
+    };
     let name = words.get(1).context("the name of a shape is wanted")?;
-    measure_all(rt, is_read, name.as_str(), count_of(words.get(2))?)
+    measure_all(rt, measured, name.as_str(), count_of(words.get(2))?)
 }
 
 fn main(rt: HostRuntime) -> Result<()> {

@@ -1,6 +1,7 @@
 //! The texts that are read.
 
-use crate::shape::{NO_TEXT, Shape, Text};
+use crate::shape::{NO_TEXT, Shape};
+use avro_testing::Text;
 
 /// What is measured by reading.
 static READING: [Shape; 11] = [
@@ -8,6 +9,7 @@ static READING: [Shape; 11] = [
     Shape {
         name: "fields",
         counts: &[1, 3, 33, 333, 1333],
+        behind: 0,
         inner: "",
         writer: Text {
             word: "",
@@ -21,6 +23,7 @@ once ]}"##,
     Shape {
         name: "nested",
         counts: &[1, 10, 100],
+        behind: 0,
         inner: r##"1..20 {"type":"record","name":"Nested_#","fields":[{"name":"inner","type":"##,
         writer: Text {
             word: "",
@@ -34,6 +37,7 @@ once ]}"##,
     Shape {
         name: "aliased",
         counts: &[1, 10, 100, 1000],
+        behind: 0,
         inner: "",
         writer: Text {
             word: "",
@@ -47,6 +51,7 @@ once ]}"##,
     Shape {
         name: "union",
         counts: &[1, 3, 33, 333],
+        behind: 0,
         inner: "",
         writer: Text {
             word: "",
@@ -60,6 +65,7 @@ once ]"##,
     Shape {
         name: "defaults",
         counts: &[3, 10, 100, 1000],
+        behind: 0,
         inner: "",
         writer: Text {
             word: "",
@@ -75,6 +81,7 @@ once ]}]}"##,
     Shape {
         name: "symbols",
         counts: &[10, 1000, 60000],
+        behind: 0,
         inner: "",
         writer: Text {
             word: "",
@@ -88,6 +95,7 @@ once ]}"##,
     Shape {
         name: "parts",
         counts: &[10, 1000, 500000],
+        behind: 0,
         inner: "",
         writer: Text {
             word: "",
@@ -101,6 +109,7 @@ once "}"##,
     Shape {
         name: "references",
         counts: &[1000, 4000, 15000, 25000],
+        behind: 0,
         inner: "",
         writer: Text {
             word: "",
@@ -117,6 +126,7 @@ once ]}]"##,
     Shape {
         name: "branches",
         counts: &[100, 1000, 10000, 100000, 187000],
+        behind: 0,
         inner: "",
         writer: Text {
             word: "",
@@ -132,6 +142,7 @@ once ]}]}"##,
     Shape {
         name: "objects",
         counts: &[10, 1000, 140000],
+        behind: 0,
         inner: "",
         writer: Text {
             word: "",
@@ -145,6 +156,7 @@ once ]}"##,
     Shape {
         name: "chains",
         counts: &[1, 100, 9000],
+        behind: 0,
         inner: "",
         writer: Text {
             word: "",

@@ -1,6 +1,7 @@
 //! The pairs of texts that are resolved.
 
-use crate::shape::{Shape, Text};
+use crate::shape::Shape;
+use avro_testing::Text;
 
 /// A record of fields of one type.
 const FIELDS: &str = r##"once {"type":"record","name":"R","fields":[
@@ -81,6 +82,24 @@ once ],"default":null}
 0..11 ,{"name":"u#","type":[@]}
 once ]}"##;
 
+/// Records of one last name with a field of one record, and nineteen fields of the union of them.
+const MANY_UNIONS: &str =
+    r##"once {"type":"record","name":"R","fields":[{"name":"d","type":["null",{"type":"record","name":"n.Z","fields":[{"name":"f","type":$}]}
+each ,{"type":"record","name":"n#.A","fields":[{"name":"f","type":"n.Z"}]}
+once ],"default":null}
+0..19 ,{"name":"u#","type":[@]}
+once ]}"##;
+
+/// Records of eight fields, and the types of these: each has a field of the one before it, but for
+/// the fourth, which has a string.
+const CROWD: &str = r##"once [{"type":"record","name":"p0.P","fields":[{"name":"f","type":"int"}]}
+1..3 ,{"type":"record","name":"p#.P","fields":[{"name":"f","type":"p<.P"}]}
+once ,{"type":"record","name":"p3.P","fields":[{"name":"f","type":"string"}]}
+once ,{"type":"record","name":"p4.P","fields":[{"name":"f","type":"p2.P"}]}
+5..8 ,{"type":"record","name":"p#.P","fields":[{"name":"f","type":"p<.P"}]}
+each ,{"type":"record","name":"n#.A","fields":[{"name":"x0","type":"p0.P"},{"name":"x1","type":"p1.P"},{"name":"x2","type":"p2.P"},{"name":"x3","type":"p3.P"},{"name":"x4","type":"p4.P"},{"name":"x5","type":"p5.P"},{"name":"x6","type":"p6.P"},{"name":"x7","type":"p7.P"}]}
+once ]"##;
+
 /// Records of one last name, and eleven with a field for each of them.
 const WIDE: &str = r##"once [
 each ;{"type":"record","name":"n#.A","fields":[{"name":"f#","type":"int"}]}
@@ -88,11 +107,12 @@ each ;{"type":"record","name":"n#.A","fields":[{"name":"f#","type":"int"}]}
 once ]"##;
 
 /// What is measured by resolving.
-static RESOLUTION: [Shape; 23] = [
+static RESOLUTION: [Shape; 26] = [
     // a record of fields of type int, with itself
     Shape {
         name: "fields",
         counts: &[10, 100, 1000, 4095],
+        behind: 3040,
         inner: "",
         writer: Text {
             word: r#""int""#,
@@ -107,6 +127,7 @@ static RESOLUTION: [Shape; 23] = [
     Shape {
         name: "reversed",
         counts: &[10, 100, 1000, 4095],
+        behind: 3040,
         inner: "",
         writer: Text {
             word: r#""int""#,
@@ -123,6 +144,7 @@ once {"name":"f0","type":$}]}"##,
     Shape {
         name: "other-types",
         counts: &[10, 100, 1000, 4095],
+        behind: 3040,
         inner: "",
         writer: Text {
             word: r#""int""#,
@@ -137,6 +159,7 @@ once {"name":"f0","type":$}]}"##,
     Shape {
         name: "nested",
         counts: &[1, 10, 100],
+        behind: 100,
         inner: r##"each {"name":"f#","type":"int"},"##,
         writer: Text {
             word: "",
@@ -151,6 +174,7 @@ once {"name":"f0","type":$}]}"##,
     Shape {
         name: "tree",
         counts: &[1, 100],
+        behind: 100,
         inner: "",
         writer: Text {
             word: "",
@@ -164,7 +188,8 @@ once {"name":"f0","type":$}]}"##,
     // a union of records, with itself
     Shape {
         name: "union",
-        counts: &[100, 680],
+        counts: &[100, 680, 2000],
+        behind: 1500,
         inner: "",
         writer: Text {
             word: "",
@@ -178,7 +203,8 @@ once {"name":"f0","type":$}]}"##,
     // an enum of so many symbols, with itself
     Shape {
         name: "enum",
-        counts: &[100, 1000, 10000, 140000],
+        counts: &[100, 1000, 10000, 110000, 140000],
+        behind: 130000,
         inner: "",
         writer: Text {
             word: "",
@@ -193,6 +219,7 @@ once {"name":"f0","type":$}]}"##,
     Shape {
         name: "enums",
         counts: &[100, 1000, 3500],
+        behind: 3000,
         inner: r##"1..60 "~","##,
         writer: Text {
             word: "a",
@@ -208,6 +235,7 @@ once {"name":"f0","type":$}]}"##,
     Shape {
         name: "last-symbols",
         counts: &[100, 499],
+        behind: 460,
         inner: r##"1..340 "~","##,
         writer: Text {
             word: "Guh",
@@ -224,6 +252,7 @@ once ,{"type":"enum","name":"z.A","symbols":["other"],"default":"other"}]"##,
     Shape {
         name: "chain",
         counts: &[100, 1000, 4000],
+        behind: 3000,
         inner: "",
         writer: Text {
             word: r#""int""#,
@@ -238,6 +267,7 @@ once ,{"type":"enum","name":"z.A","symbols":["other"],"default":"other"}]"##,
     Shape {
         name: "broken-chain",
         counts: &[100, 1000, 4000],
+        behind: 3000,
         inner: "",
         writer: Text {
             word: r#""int""#,
@@ -252,6 +282,7 @@ once ,{"type":"enum","name":"z.A","symbols":["other"],"default":"other"}]"##,
     Shape {
         name: "one-name",
         counts: &[100, 1000, 4000],
+        behind: 3000,
         inner: "",
         writer: Text {
             word: r#""int""#,
@@ -266,6 +297,7 @@ once ,{"type":"enum","name":"z.A","symbols":["other"],"default":"other"}]"##,
     Shape {
         name: "fan",
         counts: &[100, 1000, 4000],
+        behind: 3000,
         inner: "",
         writer: Text {
             word: r#""int""#,
@@ -280,6 +312,7 @@ once ,{"type":"enum","name":"z.A","symbols":["other"],"default":"other"}]"##,
     Shape {
         name: "cycles",
         counts: &[40, 400, 4000],
+        behind: 3000,
         inner: "",
         writer: Text {
             word: r#""c.A""#,
@@ -298,6 +331,7 @@ once ],"default":null},{"name":"f","type":"n1.A"}]}"##,
     Shape {
         name: "open-cycles",
         counts: &[400, 4000],
+        behind: 3000,
         inner: "",
         writer: Text {
             word: r#""int""#,
@@ -313,6 +347,7 @@ once ],"default":null},{"name":"f","type":"n1.A"}]}"##,
     Shape {
         name: "references",
         counts: &[200, 2000],
+        behind: 1500,
         inner: "",
         writer: Text {
             word: "",
@@ -328,6 +363,7 @@ once ],"default":null},{"name":"f","type":"n1.A"}]}"##,
     Shape {
         name: "retaken",
         counts: &[200, 2000],
+        behind: 1500,
         inner: "",
         writer: Text {
             word: r#""int""#,
@@ -342,6 +378,7 @@ once ],"default":null},{"name":"f","type":"n1.A"}]}"##,
     Shape {
         name: "ladder",
         counts: &[30, 300],
+        behind: 200,
         inner: "",
         writer: Text {
             word: r#""int""#,
@@ -362,6 +399,7 @@ once ],"default":null},{"name":"f","type":["x.A1","y.A1"]}]}"##,
     Shape {
         name: "beside",
         counts: &[200],
+        behind: 200,
         inner: "",
         writer: Text {
             word: r#""int""#,
@@ -377,6 +415,7 @@ once ],"default":null},{"name":"f","type":["x.A1","y.A1"]}]}"##,
     Shape {
         name: "unions",
         counts: &[200, 2000],
+        behind: 1500,
         inner: r##"each ;"n#.A""##,
         writer: Text {
             word: r#""int""#,
@@ -392,6 +431,7 @@ once ],"default":null},{"name":"f","type":["x.A1","y.A1"]}]}"##,
     Shape {
         name: "wide",
         counts: &[200, 2000],
+        behind: 1500,
         inner: r##"each ;{"name":"g#","type":"n#.A"}"##,
         writer: Text {
             word: "",
@@ -406,6 +446,7 @@ once ],"default":null},{"name":"f","type":["x.A1","y.A1"]}]}"##,
     Shape {
         name: "aliases",
         counts: &[200, 2000],
+        behind: 1400,
         inner: "",
         writer: Text {
             word: "",
@@ -424,6 +465,7 @@ once ]"##,
     Shape {
         name: "field-aliases",
         counts: &[200, 2000],
+        behind: 1500,
         inner: "",
         writer: Text {
             word: "",
@@ -436,6 +478,61 @@ once ]"##,
             parts: r##"once {"type":"record","name":"r.A","fields":[{"name":"g","type":"int","default":0,"aliases":[
 52..100052 ;"~"
 once ]}]}"##,
+        },
+    },
+    // nineteen unions of the same records of one last name, as many as a text has room for, with a
+    // field of a record that has an int, and the reader's a string
+    Shape {
+        name: "many-unions",
+        counts: &[2000, 3900],
+        behind: 3000,
+        inner: r##"each ;"n#.A""##,
+        writer: Text {
+            word: r#""int""#,
+            parts: MANY_UNIONS,
+        },
+        reader: Text {
+            word: r#""string""#,
+            parts: MANY_UNIONS,
+        },
+    },
+    // records of one last name with eight fields, x0 to x7, whose types fail one after the other,
+    // but for the fourth's; with records of a field that has 37 aliases that name none of them, and
+    // then these eight, the fourth first
+    Shape {
+        name: "crowd",
+        counts: &[400, 1500, 3100],
+        behind: 2900,
+        inner: r##"52..89 "~","##,
+        writer: Text {
+            word: "",
+            parts: CROWD,
+        },
+        reader: Text {
+            word: "",
+            parts: r##"once [{"type":"record","name":"p.P","fields":[{"name":"f","type":"string"}]}
+each ,{"type":"record","name":"n#.A","fields":[{"name":"z","type":"p.P","default":{"f":""},"aliases":[@"x3","x0","x1","x2","x4","x5","x6","x7"]}]}
+once ]"##,
+        },
+    },
+    // records of one last name with a field of their own type, with a thousand records of twenty
+    // fields of their own type that have its name as an alias
+    Shape {
+        name: "aliased",
+        counts: &[400, 4090],
+        behind: 3000,
+        inner: r##"0..20 ;{"name":"~","type":"A","aliases":["x"]}"##,
+        writer: Text {
+            word: "",
+            parts: r##"once [
+each ;{"type":"record","name":"n#.A","fields":[{"name":"x","type":"A"}]}
+once ]"##,
+        },
+        reader: Text {
+            word: "",
+            parts: r##"once [
+0..1000 ;{"type":"record","name":"n#.A","fields":[@]}
+once ]"##,
         },
     },
 ];

@@ -1,28 +1,15 @@
-//! How texts are described.
-//!
-//! Each line is a part: for which numbers it is written, and behind a space its template, in which
-//! marks stand for numbers and for other texts (`text.rt`). The numbers are
-//!
-//! - `once`: one;
-//! - `each`: from 0 up to the count;
-//! - `later`: from 1 up to the count, and `down` the same from the last to the first;
-//! - `last`: the count alone;
-//! - `A..B`: from A up to B;
-//! - `N`: as many as fill the text, where each number of the count takes N bytes elsewhere.
+//! What is measured: texts by their parts.
 
-/// A text of a shape.
-#[derive(Clone, Copy)]
-pub struct Text {
-    /// what the mark of a word stands for
-    pub word: &'static str,
-    pub parts: &'static str,
-}
+use avro_testing::{Text, text_of};
+use std::alloc::{AllocError, Global};
 
-/// What is measured: texts of one form, from a small one on, which shows how its time grows.
+/// Texts of one form, from a small one on, which shows how its time grows.
 #[derive(Clone, Copy)]
 pub struct Shape {
     pub name: &'static str,
     pub counts: &'static [u32],
+    /// a large count that has room behind a cycle
+    pub behind: u32,
     /// the parts that the mark of an inner text stands for
     pub inner: &'static str,
     /// the text that is read, or the writer's
@@ -35,3 +22,31 @@ pub const NO_TEXT: Text = Text {
     word: "",
     parts: "",
 };
+
+/// A record that stands first in a cycle of 1,050, more than pairs may be open at once: the others are defined in the union
+/// beside it, and another text is its last field. A reader's looks for no union, since the word is another one.
+const LINKS: &str =
+    r##"once {"type":"record","name":"Link0","fields":[{"name":"$","default":null,"type":["null",{"type":"record","name":"Link1049","fields":[{"name":"next","type":"Link0"}]}
+1048..0 ,{"type":"record","name":"Link#","fields":[{"name":"next","type":"Link>"}]}
+once ]},{"name":"next","type":"Link1"},{"name":"behind","type":@}]}"##;
+
+/// The text of a shape, with this count.
+pub fn shape_text(
+    alloc: Global,
+    shape: &Shape,
+    made: Text,
+    count: u32,
+) -> Result<String, AllocError> {
+    let repeated = Text {
+        word: "",
+        parts: shape.inner,
+    };
+    let inner = text_of(alloc, repeated, "", count)?;
+    text_of(alloc, made, inner.as_str(), count)
+}
+
+/// A text behind a cycle. The word is another one for the reader's.
+pub fn behind_cycle(alloc: Global, text: &str, word: &'static str) -> Result<String, AllocError> {
+    let links = Text { word, parts: LINKS };
+    text_of(alloc, links, text, 0)
+}

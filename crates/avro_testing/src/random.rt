@@ -111,6 +111,10 @@ fn open_record(alloc: Global, draft: &mut Draft, level: u32) -> Result<(), Alloc
 }
 
 /// The text of a pair's schema, which the stream tells from its other one.
+///
+/// # Errors
+///
+/// `AllocError` where memory for it is refused.
 pub fn random_text(alloc: Global, pair: u64, stream: u64) -> Result<String, AllocError> {
     let mut draft = Draft {
         text: String::new(alloc),

@@ -1,7 +1,24 @@
-//! The texts of shapes.
+//! Texts that are described by their parts.
+//!
+//! Each line of a description is a part: for which numbers it is written, and behind a space its template, in which marks
+//! stand for numbers and for other texts (`Marks`). The numbers are
+//!
+//! - `once`: one;
+//! - `each`: from 0 up to the count;
+//! - `later`: from 1 up to the count, and `down` the same from the last to the first;
+//! - `last`: the count alone;
+//! - `A..B`: from A up to B, and where B is less from A down to B, without B either way;
+//! - `N`: as many as fill the text, where each number of the count takes N bytes elsewhere.
 
-use crate::shape::{Shape, Text};
 use std::alloc::{AllocError, Global};
+
+/// A text by its parts.
+#[derive(Clone, Copy)]
+pub struct Text {
+    /// what the mark of a word stands for
+    pub word: &'static str,
+    pub parts: &'static str,
+}
 
 /// The most bytes of a schema's text.
 const MAX_TEXT: u32 = 1_048_576;
@@ -72,7 +89,17 @@ pub fn push_template(text: &mut String, template: &str, marks: &Marks) -> Result
     Ok(())
 }
 
-/// The first of a part's numbers, the one behind the last, and whether they go down.
+/// The least of the numbers from one up or down to another, which isn't among them, the one behind the greatest, and
+/// whether they go down.
+fn range(from: u32, to: u32) -> (u32, u32, bool) {
+    if to < from {
+        (to.saturating_add(1), from.saturating_add(1), true)
+    } else {
+        (from, to, false)
+    }
+}
+
+/// The least of a part's numbers, the one behind the greatest, and whether they go down.
 fn bounds(numbers: &str, count: u32) -> (u32, u32, bool) {
     match numbers {
         "once" => (0, 1, false),
@@ -81,7 +108,7 @@ fn bounds(numbers: &str, count: u32) -> (u32, u32, bool) {
         "down" => (1, count, true),
         "last" => (count, count.saturating_add(1), false),
         _ => match numbers.split_once("..") {
-            Some((from, to)) => (from.parse().unwrap_or(0), to.parse().unwrap_or(0), false),
+            Some((from, to)) => range(from.parse().unwrap_or(0), to.parse().unwrap_or(0)),
             None => {
                 let bytes: u32 = numbers.parse().unwrap_or(0);
                 let filled = AROUND.saturating_add(bytes.saturating_mul(count));
@@ -105,7 +132,7 @@ fn push_part(
     let (from, to, is_down) = bounds(numbers, count);
     for at in from..to {
         let marks = Marks {
-            number: if is_down { to - at } else { at },
+            number: if is_down { from + (to - 1 - at) } else { at },
             is_first: at == from,
             inner,
             word,
@@ -115,18 +142,20 @@ fn push_part(
     Ok(())
 }
 
-/// The text of a shape, with this count.
+/// The text of these parts, with this count. The mark of an inner text stands for the one that is given.
+///
+/// # Errors
+///
+/// `AllocError` where memory for it is refused.
 pub fn text_of(
     alloc: Global,
-    shape: &Shape,
-    made: &Text,
+    described: Text,
+    inner: &str,
     count: u32,
 ) -> Result<String, AllocError> {
-    let mut inner = String::new(alloc);
-    push_part(&mut inner, shape.inner, count, "", "")?;
     let mut text = String::new(alloc);
-    for line in made.parts.lines() {
-        push_part(&mut text, line, count, inner.as_str(), made.word)?;
+    for line in described.parts.lines() {
+        push_part(&mut text, line, count, inner, described.word)?;
     }
     Ok(text)
 }
