@@ -5,7 +5,7 @@ use Rattle.std.specs.FinMap.{get}
 use Rattle.std.specs.List.{AllZip, cons_option}
 use Rattle.std.proofs.lemmas.List.Elements.{All-head, All-tail}
 use Rattle.avro_nodes.specs.Nodes.{NodeView}
-use Rattle.avro_nodes.specs.Identity.{identity}
+use Rattle.avro_schema.specs.Texts.{TextDenotes}
 use Rattle.reg_core.specs.declared.level.Level.{Level}
 use Rattle.reg_core.specs.declared.command.Command.{Command}
 use Rattle.reg_core.specs.declared.command.Command.TheVariants.{SetGlobal, SetLevel, Register, DeleteVersion, DeleteSubject, Global, LevelOf, Lookup, Subjects, Versions, Version, Text, ById, VersionsOfId, Types, Check, CheckAll}
@@ -13,15 +13,16 @@ use Rattle.reg_core.specs.Levels.{level_of}
 use Rattle.reg_core.specs.Registry.{Registry, Schemas, Row, RowKey, IsRow, IsRegistry, schema_at}
 use Rattle.reg_core.specs.Registry as registry
 use Rattle.reg_core.specs.Numbers.{choice_in}
-use Rattle.reg_core.specs.Rows.{rows_of, live_rows, schemas_of, id_of}
-use Rattle.reg_core.specs.LevelCommands.{set_level}
-use Rattle.reg_core.specs.RegisterCommands.{schema_in, registered, register, is_among, is_admitted_after, has_numbers, level_in}
-use Rattle.reg_core.specs.Machine.{step}
-use Rattle.reg_core.specs.Additions.{WasAdmitted, WasThere, AddsAdmitted}
+use Rattle.reg_core.specs.Rows.{rows_of, live_rows, next_number, schemas_of}
+use Rattle.reg_core.specs.Settings.{Setting, level_setting, set, with_level}
+use Rattle.reg_core.specs.RegisterCommands.{schema_in, id_for, with_version, registered, register, is_admitted_after, level_in}
+use Rattle.reg_core.specs.Machine.{carried_out}
+use Rattle.reg_core.specs.Additions.{WasAdmitted, WasThere, IsAddition, Adds, AddsAdmitted}
 use Rattle.reg_core.proofs.DeletionLemmas.{itself, delete_version-were, delete_subject-were}
+use Rattle.reg_core.proofs.ModeLemmas.{step-either}
 use Rattle.reg_core.proofs.VerdictLemmas.{admits_decided}
-use Rattle.reg_core.proofs.RowLemmas.{row_schema, rows_of-IsRow, All-live_rows}
-use Rattle.reg_core.proofs.RegistryLemmas.{schema_in-denotes}
+use Rattle.reg_core.proofs.RowLemmas.{row_schema, rows_of-IsRow, All-live_rows, get_inserted, next_number-absent}
+use Rattle.reg_core.proofs.RegistryLemmas.{schema_in-denotes, with_version-has_schema}
 
 one_more : (schemas : Schemas) (row : Row) (rows : List Row) (live : List (List NodeView)) (o : Option (List NodeView)) (nodes : List NodeView) → schema_at schemas row.1.id ≡ Some nodes → o ≡ Some nodes
     → AllZip (λ (r : Row) found. schema_at schemas r.1.id ≡ Some found) rows live → AllZip (λ (r : Row) found. schema_at schemas r.1.id ≡ Some found) (row ∷ rows) (cons_option o live)
@@ -40,58 +41,78 @@ schemas_of-each schemas (row ∷ rows) h =
 pub live_schemas-each : (g : Registry) → IsRegistry g → (subject : List ℕ) → AllZip (λ (row : Row) nodes. schema_at g.schemas row.1.id ≡ Some nodes) (live_rows (rows_of g subject)) (schemas_of g.schemas (live_rows (rows_of g subject)))
 live_schemas-each g ok subject = schemas_of-each g.schemas (live_rows (rows_of g subject)) (All-live_rows (λ (row : Row). IsRow g.schemas row.0 row.1) (rows_of g subject) (rows_of-IsRow g ok subject))
 
--- a version that registering adds is one that the level's test passed
-registered_adds : (g : Registry) (subject : List ℕ) (new : List NodeView) (is_there admitted left : Bool) (key : RowKey) (version : registry.Version) → get (registered g subject new is_there admitted left).0.rows key ≡ Some version
-    → WasThere g.rows key version ⊎ (admitted ≡ true)
-registered_adds g subject new true admitted left key version e = inl (itself g.rows key version e)
-registered_adds g subject new false false left key version e = inl (itself g.rows key version e)
-registered_adds g subject new false true left key version e = inr refl
+-- a registry that stays as it is adds none
+itself_adds : (g : Registry) (c : Command) → Adds g c g
+itself_adds g c key version e = inl (itself g.rows key version e)
 
-register_adds : (g : Registry) → IsRegistry g → (subject text : List ℕ) (supported : Bool) (schema : Option (List NodeView)) → schema_in text supported ≡ schema → (key : RowKey) (version : registry.Version) → get (register g subject schema).0.rows key ≡ Some version
-    → WasThere g.rows key version ⊎ WasAdmitted g subject text
-register_adds g ok subject text supported None e key version there = inl (itself g.rows key version there)
-register_adds g ok subject text supported (Some new) e key version there =
-    let rows = live_rows (rows_of g subject) in
-    let live = schemas_of g.schemas rows in
-    elim (registered_adds g subject new (is_among (id_of g.schemas (identity new)) rows) (is_admitted_after g.schemas (level_in g subject) rows new) (has_numbers g subject new) key version there) [
-      | inl was ↦ inl was
-      | inr passed ↦ inr (record {
-        new = new;
-        denotes = schema_in-denotes text supported new e;
-        live = live;
-        are = live_schemas-each g ok subject;
-        admits = (admits_decided (level_in g subject) live new).0 passed;
-      })
-    ]
+-- a schema that the level's test passes is admitted
+was_admitted : (g : Registry) → IsRegistry g → (subject text : List ℕ) (new : List NodeView) → TextDenotes text new → is_admitted_after g.schemas (level_in g subject) (live_rows (rows_of g subject)) new ≡ true → WasAdmitted g subject text
+was_admitted g ok subject text new denotes passed =
+    let live = schemas_of g.schemas (live_rows (rows_of g subject)) in
+    record { new = new; denotes = denotes; live = live; are = live_schemas-each g ok subject; admits = (admits_decided (level_in g subject) live new).0 passed }
 
-set_level_adds_none : (g : Registry) (subject : Option (List ℕ)) (level : Option Level) → (set_level g subject level).0.rows ≡ g.rows
-set_level_adds_none g subject None = refl
-set_level_adds_none g None (Some level) = refl
-set_level_adds_none g (Some subject) (Some level) = refl
+-- what registering adds is the subject's next version, with the schema that was admitted
+registered_adds : (g : Registry) → IsRegistry g → (subject text : List ℕ) (supported : Bool) (new : List NodeView) → TextDenotes text new → (is_there admitted left : Bool)
+    → is_admitted_after g.schemas (level_in g subject) (live_rows (rows_of g subject)) new ≡ admitted → Adds g (Register subject text supported) (registered g subject new is_there admitted left).0
+unfolding was_admitted
+registered_adds g ok subject text supported new denotes true admitted left e = itself_adds g (Register subject text supported)
+registered_adds g ok subject text supported new denotes false false left e = itself_adds g (Register subject text supported)
+registered_adds g ok subject text supported new denotes false true false e = itself_adds g (Register subject text supported)
+registered_adds g ok subject text supported new denotes false true true e =
+    let after = with_version g subject new in
+    let key : RowKey = (subject, next_number (rows_of g subject)) in
+    let added : registry.Version = record { id = id_for g.schemas new; deleted = false } in
+    get_inserted g.rows key added (λ k v. WasThere g.rows k v ⊎ IsAddition g (Register subject text supported) after k v)
+    (inr (record {
+      subject = subject;
+      text = text;
+      supported = supported;
+      is = refl;
+      admitted = was_admitted g ok subject text new denotes e;
+      next = refl;
+      absent = next_number-absent g subject;
+      has_schema = with_version-has_schema g subject new ok (text, denotes);
+      live = refl;
+    }))
+    (λ k v there. inl (itself g.rows k v there))
 
-level_leaves : (g : Registry) (subject : Option (List ℕ)) (level : Option Level) (key : RowKey) (version : registry.Version) → get (set_level g subject level).0.rows key ≡ Some version → WasThere g.rows key version
-level_leaves g subject level key version e = itself g.rows key version (ap (λ (rows : registry.Rows). get rows key) (sym (set_level_adds_none g subject level)) ∙ e)
+register_adds : (g : Registry) → IsRegistry g → (subject text : List ℕ) (supported : Bool) (schema : Option (List NodeView)) → schema_in text supported ≡ schema → Adds g (Register subject text supported) (register g subject schema).0
+register_adds g ok subject text supported None e = itself_adds g (Register subject text supported)
+register_adds g ok subject text supported (Some new) e = registered_adds g ok subject text supported new (schema_in-denotes text supported new e) _ _ _ refl
 
--- each version that stands after a command stood before, or was added by registering a schema that the level admits
+set_adds_none : {A : Type 0} (s : Setting A) (g : Registry) (subject : Option (List ℕ)) → ((value : A) → (s.put g subject value).rows ≡ g.rows) → (o : Option A) → (set s g subject o).0.rows ≡ g.rows
+set_adds_none s g subject puts None = refl
+set_adds_none s g subject puts (Some value) = puts value
+
+with_level_rows : (g : Registry) (subject : Option (List ℕ)) (level : Level) → (with_level g subject level).rows ≡ g.rows
+with_level_rows g None level = refl
+with_level_rows g (Some subject) level = refl
+
+set_leaves : {A : Type 0} (s : Setting A) (g : Registry) (subject : Option (List ℕ)) → ((value : A) → (s.put g subject value).rows ≡ g.rows) → (o : Option A) (key : RowKey) (version : registry.Version) → get (set s g subject o).0.rows key ≡ Some version
+    → WasThere g.rows key version
+set_leaves s g subject puts o key version e = itself g.rows key version (ap (λ (rows : registry.Rows). get rows key) (sym (set_adds_none s g subject puts o)) ∙ e)
+
+-- each version that stands after a command that is carried out stood before, or was added by registering a schema that the level admits
+pub carried_out_adds : (g : Registry) (c : Command) → IsRegistry g → Adds g c (carried_out g c).0
+unfolding carried_out
+carried_out_adds g (SetGlobal text) ok = λ key version e. inl (set_leaves level_setting g None (with_level_rows g None) (level_of text) key version e)
+carried_out_adds g (SetLevel subject text) ok = λ key version e. inl (set_leaves level_setting g (Some subject) (with_level_rows g (Some subject)) (level_of text) key version e)
+carried_out_adds g (Register subject text supported) ok = register_adds g ok subject text supported (schema_in text supported) refl
+carried_out_adds g (DeleteVersion subject version permanent) ok = λ key row e. inl (delete_version-were g subject (choice_in version) permanent key row e)
+carried_out_adds g (DeleteSubject subject permanent) ok = λ key row e. inl (delete_subject-were g subject permanent key row e)
+carried_out_adds g Global ok = itself_adds g Global
+carried_out_adds g (LevelOf subject default) ok = itself_adds g (LevelOf subject default)
+carried_out_adds g (Lookup subject text supported deleted) ok = itself_adds g (Lookup subject text supported deleted)
+carried_out_adds g (Subjects deleted) ok = itself_adds g (Subjects deleted)
+carried_out_adds g (Versions subject deleted) ok = itself_adds g (Versions subject deleted)
+carried_out_adds g (Version subject version deleted) ok = itself_adds g (Version subject version deleted)
+carried_out_adds g (Text subject version deleted) ok = itself_adds g (Text subject version deleted)
+carried_out_adds g (ById id) ok = itself_adds g (ById id)
+carried_out_adds g (VersionsOfId id deleted) ok = itself_adds g (VersionsOfId id deleted)
+carried_out_adds g Types ok = itself_adds g Types
+carried_out_adds g (Check subject version text supported) ok = itself_adds g (Check subject version text supported)
+carried_out_adds g (CheckAll subject text supported) ok = itself_adds g (CheckAll subject text supported)
+
+-- so does each that stands after a command
 pub step_adds_admitted : (g : Registry) (c : Command) → IsRegistry g → AddsAdmitted g c
-unfolding step
-step_adds_admitted g (SetGlobal text) ok key version e = inl (level_leaves g None (level_of text) key version e)
-step_adds_admitted g (SetLevel subject text) ok key version e = inl (level_leaves g (Some subject) (level_of text) key version e)
-step_adds_admitted g (Register subject text supported) ok key version e = elim (register_adds g ok subject text supported (schema_in text supported) refl key version e) [
-  | inl was ↦ inl was
-  | inr admitted ↦ inr (record { subject = subject; text = text; supported = supported; is = refl; admitted = admitted })
-]
-step_adds_admitted g (DeleteVersion subject version permanent) ok key row e = inl (delete_version-were g subject (choice_in version) permanent key row e)
-step_adds_admitted g (DeleteSubject subject permanent) ok key row e = inl (delete_subject-were g subject permanent key row e)
-step_adds_admitted g Global ok key row e = inl (itself g.rows key row e)
-step_adds_admitted g (LevelOf subject default) ok key row e = inl (itself g.rows key row e)
-step_adds_admitted g (Lookup subject text supported deleted) ok key row e = inl (itself g.rows key row e)
-step_adds_admitted g (Subjects deleted) ok key row e = inl (itself g.rows key row e)
-step_adds_admitted g (Versions subject deleted) ok key row e = inl (itself g.rows key row e)
-step_adds_admitted g (Version subject version deleted) ok key row e = inl (itself g.rows key row e)
-step_adds_admitted g (Text subject version deleted) ok key row e = inl (itself g.rows key row e)
-step_adds_admitted g (ById id) ok key row e = inl (itself g.rows key row e)
-step_adds_admitted g (VersionsOfId id deleted) ok key row e = inl (itself g.rows key row e)
-step_adds_admitted g Types ok key row e = inl (itself g.rows key row e)
-step_adds_admitted g (Check subject version text supported) ok key row e = inl (itself g.rows key row e)
-step_adds_admitted g (CheckAll subject text supported) ok key row e = inl (itself g.rows key row e)
+step_adds_admitted g c ok = step-either (λ after. Adds g c after.0) g c (itself_adds g c) (carried_out_adds g c ok)

@@ -11,7 +11,7 @@ use Rattle.reg_core.specs.declared.number.Choice.{Choice}
 use Rattle.reg_core.specs.Bodies.{verdict_body}
 use Rattle.reg_core.specs.Compatibility.{named_versions}
 use Rattle.reg_core.specs.Inside.Comparisons.{is_read_admitted}
-use Rattle.reg_core.specs.Machine.{step}
+use Rattle.reg_core.specs.Machine.{carried_out}
 use Rattle.reg_core.specs.Numbers.{choice_in}
 use Rattle.reg_core.specs.ReadCommands.{found_row}
 use Rattle.reg_core.specs.RegisterCommands.{schema_in, is_admitted_after, check_reply, verdict_reply, check_all_reply}
@@ -20,39 +20,38 @@ use Rattle.reg_core.specs.Replies.{answer, fault}
 use Rattle.reg_core.specs.Rows.{rows_of, live_rows}
 use Rattle.reg_core.specs.Views.{IsGround, level_of_view, row_found}
 use Rattle.reg_core.proofs.ChosenRows.{All-found}
-use Rattle.reg_core.proofs.RegisterLemmas.{HasSchema, ShowsText, admitted_shown, shown-HasSchema}
+use Rattle.reg_core.proofs.RegisterLemmas.{HasSchema, ShowsText, admitted_shown, admitted_as, live-HasSchema}
 
 -- ---- CheckAll and Check
 
 module _ (g : Registry) (subject text : List ℕ) (supported : Bool) (view : View) (schema : Option (List NodeView)) (ground : IsGround g (CheckAll subject text supported) schema view) where
-  pub check_all_none : schema ≡ None → step g (CheckAll subject text supported) ≡ (g, fault InvalidSchema)
-  unfolding step
+  pub check_all_none : schema ≡ None → carried_out g (CheckAll subject text supported) ≡ (g, fault InvalidSchema)
+  unfolding carried_out
   check_all_none e = ap (λ (s : Option (List NodeView)). (g, check_all_reply g subject s)) (sym ground.sent ∙ e)
 
   pub check_all_shown : (new : List NodeView) → schema ≡ Some new
-      → step g (CheckAll subject text supported) ≡ (g, answer (verdict_body (is_read_admitted view (level_of_view view) (live_rows view.rows.items) new)))
-  unfolding step
+      → carried_out g (CheckAll subject text supported) ≡ (g, answer (verdict_body (is_read_admitted view (level_of_view view) (live_rows view.rows.items) new)))
+  unfolding carried_out
   check_all_shown new e =
       let levels = ground.shows.levels refl in
-      let rows = ground.shows.rows in
-      let verdict : is_read_admitted view (level_of_view view) (live_rows view.rows.items) new ≡ is_admitted_after g.schemas (level_of_view view) (live_rows view.rows.items) new =
-      admitted_shown view g.schemas ground.registry.schemas (level_of_view view) (live_rows view.rows.items) new (shown-HasSchema g ground.registry subject view.rows.items rows) ground.shows.texts in
+      let verdict : is_read_admitted view (level_of_view view) (live_rows view.rows.items) new ≡ is_admitted_after g.schemas (level_of_view view) (live_rows (rows_of g subject)) new =
+      admitted_as view g.schemas ground.registry.schemas (level_of_view view) (live_rows view.rows.items) (live_rows (rows_of g subject)) new ground.shows.rows (live-HasSchema g ground.registry subject) ground.shows.texts in
       ap (λ (s : Option (List NodeView)). (g, check_all_reply g subject s)) (sym ground.sent ∙ e)
-      ∙ (rw (verdict, rows, levels.0, levels.1) refl)
+      ∙ (rw (verdict, levels.0, levels.1) refl)
 
 module _ (g : Registry) (subject version text : List ℕ) (supported : Bool) (view : View) (schema : Option (List NodeView)) (ground : IsGround g (Check subject version text supported) schema view) where
-  pub check_no_choice : choice_in version ≡ None → step g (Check subject version text supported) ≡ (g, fault InvalidVersion)
-  unfolding step
+  pub check_no_choice : choice_in version ≡ None → carried_out g (Check subject version text supported) ≡ (g, fault InvalidVersion)
+  unfolding carried_out
   check_no_choice none = ap (λ (choice : Option Choice). (g, check_reply g subject choice (schema_in text supported))) none
 
   module _ (choice : Choice) (chosen : choice_in version ≡ Some choice) where
-    check_chosen : (s : Option (List NodeView)) → schema ≡ s → step g (Check subject version text supported) ≡ (g, check_reply g subject (Some choice) s)
-    unfolding step
+    check_chosen : (s : Option (List NodeView)) → schema ≡ s → carried_out g (Check subject version text supported) ≡ (g, check_reply g subject (Some choice) s)
+    unfolding carried_out
     check_chosen s e =
         ap (λ (c : Option Choice). (g, check_reply g subject c (schema_in text supported))) chosen
         ∙ ap (λ (x : Option (List NodeView)). (g, check_reply g subject (Some choice) x)) (sym ground.sent ∙ e)
 
-    pub check_none : schema ≡ None → step g (Check subject version text supported) ≡ (g, fault InvalidSchema)
+    pub check_none : schema ≡ None → carried_out g (Check subject version text supported) ≡ (g, fault InvalidSchema)
     check_none e = check_chosen None e
 
     module _ (new : List NodeView) (e : schema ≡ Some new) where
@@ -60,16 +59,16 @@ module _ (g : Registry) (subject version text : List ℕ) (supported : Bool) (vi
       found_is found is =
           sym (subst (λ (c : Option Choice). found_row c (live_rows view.rows.items) ≡ found_row c (live_rows (rows_of g subject))) chosen ground.shows.rows) ∙ sym is
 
-      pub check_fault : (code : Code) → Err code ≡ found_row (Some choice) (live_rows view.rows.items) → step g (Check subject version text supported) ≡ (g, fault code)
+      pub check_fault : (code : Code) → Err code ≡ found_row (Some choice) (live_rows view.rows.items) → carried_out g (Check subject version text supported) ≡ (g, fault code)
       check_fault code is =
           check_chosen (Some new) e ∙ ap (λ (found : Result Row Code). (g, verdict_reply g subject new found)) (found_is (Err code) is)
 
       pub check_shown : (row : Row) → Ok row ≡ found_row (Some choice) (live_rows view.rows.items)
-          → step g (Check subject version text supported) ≡ (g, answer (verdict_body (is_read_admitted view (level_of_view view) (row ∷ []) new)))
+          → carried_out g (Check subject version text supported) ≡ (g, answer (verdict_body (is_read_admitted view (level_of_view view) (row ∷ []) new)))
       check_shown row is =
           let levels = ground.shows.levels refl in
           let has : HasSchema g.schemas row =
-          All-found (HasSchema g.schemas) choice (live_rows (rows_of g subject)) row (shown-HasSchema g ground.registry subject (rows_of g subject) refl) (found_is (Ok row) is) in
+          All-found (HasSchema g.schemas) choice (live_rows (rows_of g subject)) row (live-HasSchema g ground.registry subject) (found_is (Ok row) is) in
           let shows : All (ShowsText view g.schemas) (named_versions (level_of_view view) (row ∷ [])) =
           subst (λ (found : Result Row Code). All (ShowsText view g.schemas) (named_versions (level_of_view view) (row_found found))) (sym is)
           (subst (λ (c : Option Choice). All (ShowsText view g.schemas) (named_versions (level_of_view view) (row_found (found_row c (live_rows view.rows.items))))) chosen ground.shows.texts) in

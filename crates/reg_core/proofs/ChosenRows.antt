@@ -82,7 +82,7 @@ find_none p (row ∷ rows) h =
 abbrev HasNotNumber : ℕ → Row → Type 0
 HasNotNumber number row = (row.0.1 == number) ≡ false
 
-some_last : (row : Row) (rows : List Row) → latest (row ∷ rows) ≢ []
+pub some_last : (row : Row) (rows : List Row) → latest (row ∷ rows) ≢ []
 some_last row [] e = cc
 some_last row (next ∷ rows) e = some_last next rows e
 

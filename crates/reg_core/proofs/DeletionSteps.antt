@@ -8,10 +8,10 @@ use Rattle.reg_core.specs.declared.code.Code.TheVariants.{SubjectNotFound, Subje
 use Rattle.reg_core.specs.declared.command.Command.TheVariants.{DeleteVersion, DeleteSubject}
 use Rattle.reg_core.specs.declared.decision.View.{View}
 use Rattle.reg_core.specs.declared.decision.Change.TheVariants.{DropLevel}
-use Rattle.reg_core.specs.Inside.Deleting.{version_change, row_to_delete, subject_refusal}
-use Rattle.reg_core.specs.DeletionCommands.{with_deleted, without_row, version_deleted, delete_version, with_subject_deleted, without_subject, numbers_reply, soft_delete, remove_subject, delete_subject}
+use Rattle.reg_core.specs.Inside.Deleting.{version_change, subject_refusal}
+use Rattle.reg_core.specs.DeletionCommands.{row_to_delete, with_deleted, without_row, version_deleted, delete_version, with_subject_deleted, without_subject, numbers_reply, soft_delete, remove_subject, delete_subject}
 use Rattle.reg_core.specs.Bodies.{number_body}
-use Rattle.reg_core.specs.Machine.{step}
+use Rattle.reg_core.specs.Machine.{carried_out}
 use Rattle.reg_core.specs.Numbers.{choice_in}
 use Rattle.reg_core.specs.Replies.{Told, answer, fault}
 use Rattle.reg_core.specs.Registry.{Registry, Row}
@@ -28,9 +28,9 @@ all_shown rows = filter_all (λ (row : Row). true || not row.1.deleted) rows (λ
 
 module _ (g : Registry) (subject version : List ℕ) (permanent : Bool) (view : View) (schema : Option (List NodeView)) (ground : IsGround g (DeleteVersion subject version permanent) schema view) where
   -- a version that can't be deleted is refused
-  pub deletion_refused : (code : Code) → Err code ≡ row_to_delete permanent (choice_in version) view.rows.items → step g (DeleteVersion subject version permanent) ≡ (g, fault code)
-  unfolding step
-  deletion_refused code is = by permanent (is ∙ ap (row_to_delete permanent (choice_in version)) ground.shows.rows)
+  pub deletion_refused : (code : Code) → Err code ≡ row_to_delete permanent (choice_in version) view.rows.items → carried_out g (DeleteVersion subject version permanent) ≡ (g, fault code)
+  unfolding carried_out
+  deletion_refused code is = by permanent (is ∙ ground.shows.rows)
     where
       by : (b : Bool) → Err code ≡ row_to_delete b (choice_in version) (rows_of g subject) → delete_version g subject (choice_in version) b ≡ (g, fault code)
       by false e = ap (version_deleted with_deleted g) (sym e)
@@ -38,9 +38,9 @@ module _ (g : Registry) (subject version : List ℕ) (permanent : Bool) (view : 
 
   -- and one that can is deleted by its one change, and its number is answered
   pub version_gone : (row : Row) → Ok row ≡ row_to_delete permanent (choice_in version) view.rows.items
-      → step g (DeleteVersion subject version permanent) ≡ (after_changes (version_change permanent subject row.0.1 ∷ []) g, answer (number_body row.0.1))
-  unfolding step
-  version_gone row is = by permanent (is ∙ ap (row_to_delete permanent (choice_in version)) ground.shows.rows)
+      → carried_out g (DeleteVersion subject version permanent) ≡ (after_changes (version_change permanent subject row.0.1 ∷ []) g, answer (number_body row.0.1))
+  unfolding carried_out
+  version_gone row is = by permanent (is ∙ ground.shows.rows)
     where
       by : (b : Bool) → Ok row ≡ row_to_delete b (choice_in version) (rows_of g subject) → delete_version g subject (choice_in version) b ≡ (after_changes (version_change b subject row.0.1 ∷ []) g, answer (number_body row.0.1))
       by false e =
@@ -56,8 +56,8 @@ module _ (g : Registry) (subject : List ℕ) (permanent : Bool) (view : View) (s
   goes true rows live = remove_subject g subject rows live
 
   -- a subject that can't be deleted is refused
-  pub subject_refused : (code : Code) → Some code ≡ subject_refusal permanent view.rows.items (live_rows view.rows.items) → step g (DeleteSubject subject permanent) ≡ (g, fault code)
-  unfolding step
+  pub subject_refused : (code : Code) → Some code ≡ subject_refusal permanent view.rows.items (live_rows view.rows.items) → carried_out g (DeleteSubject subject permanent) ≡ (g, fault code)
+  unfolding carried_out
   subject_refused code is = start permanent (is ∙ ap (λ (rows : List Row). subject_refusal permanent rows (live_rows rows)) ground.shows.rows)
     where
       told : Code → Registry × Told
@@ -81,8 +81,8 @@ module _ (g : Registry) (subject : List ℕ) (permanent : Bool) (view : View) (s
 -- and one that can is deleted by these changes, and the numbers are answered
 module _ (g : Registry) (subject : List ℕ) (view : View) (schema : Option (List NodeView)) where
   pub subject_gone : IsGround g (DeleteSubject subject false) schema view → None ≡ subject_refusal false view.rows.items (live_rows view.rows.items)
-      → step g (DeleteSubject subject false) ≡ (after_changes (changes_of false subject (live_rows view.rows.items) ++ DropLevel subject ∷ []) g, numbers_reply (live_rows view.rows.items))
-  unfolding step
+      → carried_out g (DeleteSubject subject false) ≡ (after_changes (changes_of false subject (live_rows view.rows.items) ++ DropLevel subject ∷ []) g, numbers_reply (live_rows view.rows.items))
+  unfolding carried_out
   subject_gone ground is =
       by (rows_of g subject) (live_rows (rows_of g subject)) (is ∙ ap (λ (rows : List Row). subject_refusal false rows (live_rows rows)) ground.shows.rows)
       ∙ ap (λ (after : Registry). (after, numbers_reply (live_rows (rows_of g subject)))) (sym (subject_deleted_as g subject))
@@ -94,8 +94,8 @@ module _ (g : Registry) (subject : List ℕ) (view : View) (schema : Option (Lis
       by (row ∷ rows) (one ∷ live) e = refl
 
   pub subject_removed : IsGround g (DeleteSubject subject true) schema view → None ≡ subject_refusal true view.rows.items (live_rows view.rows.items)
-      → step g (DeleteSubject subject true) ≡ (after_changes (changes_of true subject view.rows.items ++ DropLevel subject ∷ []) g, numbers_reply view.rows.items)
-  unfolding step
+      → carried_out g (DeleteSubject subject true) ≡ (after_changes (changes_of true subject view.rows.items ++ DropLevel subject ∷ []) g, numbers_reply view.rows.items)
+  unfolding carried_out
   subject_removed ground is =
       by (rows_of g subject) (live_rows (rows_of g subject)) (is ∙ ap (λ (rows : List Row). subject_refusal true rows (live_rows rows)) ground.shows.rows)
       ∙ ap (λ (after : Registry). (after, numbers_reply (rows_of g subject))) (sym (subject_removed_as g subject))

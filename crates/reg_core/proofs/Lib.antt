@@ -2,6 +2,7 @@ pub mod Examples
 pub mod RegisterExamples
 pub mod Arrays
 pub mod OwnReplies
+pub mod ModeLemmas
 pub mod UnchangedRegistries
 pub mod CommandTextLemmas
 pub mod Versions
@@ -13,7 +14,10 @@ pub mod DeletionLemmas
 pub mod DeletionChanges
 pub mod DeletionSteps
 pub mod ChosenRows
+pub mod LastRows
+pub mod FewRows
 pub mod ViewLemmas
+pub mod ReadTexts
 pub mod RegisterLemmas
 pub mod CheckLemmas
 pub mod RegistryLemmas

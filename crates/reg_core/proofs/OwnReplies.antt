@@ -10,22 +10,16 @@ use Rattle.avro_nodes.specs.Nodes.{NodeView}
 use Rattle.reg_core.specs.declared.level.Level.{Level}
 use Rattle.reg_core.specs.declared.number.Choice.{Choice}
 use Rattle.reg_core.specs.declared.code.Code.{Code}
-use Rattle.reg_core.specs.declared.code.Code.TheVariants.{KeyReused, SubjectNotFound, SubjectSoftDeleted, SubjectNotSoftDeleted, VersionSoftDeleted, VersionNotSoftDeleted, VersionNotFound, SchemaNotFound, NoOwnLevel, Incompatible, InvalidSchema, InvalidVersion, InvalidLevel, NoNumberLeft}
-use Rattle.reg_core.specs.declared.command.Command.{Command}
-use Rattle.reg_core.specs.declared.command.Command.TheVariants.{SetGlobal, SetLevel, Register, DeleteVersion, DeleteSubject, Global, LevelOf, Lookup, Subjects, Versions, Version, Text, ById, VersionsOfId, Types, Check, CheckAll}
+use Rattle.reg_core.specs.declared.code.Code.TheVariants.{KeyReused, SubjectNotFound, SubjectSoftDeleted, SubjectNotSoftDeleted, VersionSoftDeleted, VersionNotSoftDeleted, VersionNotFound, SchemaNotFound, InvalidSchema, InvalidVersion, InvalidLevel, NotPermitted, NoNumberLeft}
 use Rattle.reg_core.specs.Codes.{fault_body}
-use Rattle.reg_core.specs.Levels.{level_of}
-use Rattle.reg_core.specs.Numbers.{id_in, choice_in}
 use Rattle.reg_core.specs.Replies.{Told, IsStatus, IsKeptStatus, answer, fault, IsOwnReply}
 use Rattle.reg_core.specs.Registry.{Registry, Row}
-use Rattle.reg_core.specs.Rows.{rows_of, shown_rows, live_rows, chosen_row, text_at}
-use Rattle.reg_core.specs.LevelCommands.{set_level, level_shown, shown_reply}
-use Rattle.reg_core.specs.ReadCommands.{Texts, versions_reply, found_row, looked_up, rows_with_id, text_reply, version_reply, version_text_reply, id_reply, id_versions_reply, lookup_reply}
+use Rattle.reg_core.specs.Rows.{live_rows, chosen_row}
+use Rattle.reg_core.specs.Settings.{Setting, level_setting, set}
+use Rattle.reg_core.specs.ReadCommands.{Texts, found_row, looked_up, rows_with_id, text_reply, version_reply, version_text_reply, id_reply, id_versions_reply, lookup_reply}
 use Rattle.reg_core.specs.declared.number.Choice.TheVariants.{Latest, Numbered}
-use Rattle.reg_core.specs.Inside.Deleting.{row_to_delete, subject_refusal}
-use Rattle.reg_core.specs.DeletionCommands.{if_live, if_deleted, found_and, row_to_mark, row_to_remove, with_deleted, without_row, version_deleted, delete_version, soft_delete, remove_subject, delete_subject}
-use Rattle.reg_core.specs.RegisterCommands.{schema_in, register, registered, check_reply, check_all_reply, verdict_reply}
-use Rattle.reg_core.specs.Machine.{step}
+use Rattle.reg_core.specs.Inside.Deleting.{subject_refusal}
+use Rattle.reg_core.specs.DeletionCommands.{if_live, if_deleted, found_and, row_to_mark, row_to_remove, row_to_delete}
 
 other_status : (m n : Told) → m.status ≢ n.status → m ≢ n
 other_status m n ne e = ne (ap (λ (t : Told). t.status) e)
@@ -66,9 +60,6 @@ version_not_found-IsOwnReply = not_found VersionNotFound refl
 pub schema_not_found-IsOwnReply : IsOwnReply (fault SchemaNotFound)
 schema_not_found-IsOwnReply = not_found SchemaNotFound refl
 
-no_own_level-IsOwnReply : IsOwnReply (fault NoOwnLevel)
-no_own_level-IsOwnReply = not_found NoOwnLevel refl
-
 invalid_level-IsOwnReply : IsOwnReply (fault InvalidLevel)
 unfolding fault_body digits
 invalid_level-IsOwnReply = unprocessable InvalidLevel 17 refl (eqb-false 48 57 refl)
@@ -81,29 +72,20 @@ pub invalid_version-IsOwnReply : IsOwnReply (fault InvalidVersion)
 unfolding fault_body digits
 invalid_version-IsOwnReply = unprocessable InvalidVersion 17 refl (eqb-false 48 57 refl)
 
+pub not_permitted-IsOwnReply : IsOwnReply (fault NotPermitted)
+unfolding fault_body digits
+not_permitted-IsOwnReply = unprocessable NotPermitted 17 refl (eqb-false 48 57 refl)
+
 pub no_number_left-IsOwnReply : IsOwnReply (fault NoNumberLeft)
 unfolding fault_body digits
 no_number_left-IsOwnReply = unprocessable NoNumberLeft 18 refl (eqb-false 50 48 refl)
 
-pub incompatible-IsOwnReply : IsOwnReply (fault Incompatible)
-incompatible-IsOwnReply = record {
-  status = refl;
-  kept = refl;
-  no_backend_fault = eqb-false 409 500 refl;
-  no_reused_key = other_status _ _ (eqb-false 409 422 refl);
-}
+pub set-IsOwnReply : {A : Type 0} (s : Setting A) → IsOwnReply (fault s.unknown) → (g : Registry) (subject : Option (List ℕ)) (o : Option A) → IsOwnReply (set s g subject o).1
+set-IsOwnReply s unknown g subject None = unknown
+set-IsOwnReply s unknown g subject (Some value) = answer-IsOwnReply _
 
-pub set_level-IsOwnReply : (g : Registry) (s : Option (List ℕ)) (o : Option Level) → IsOwnReply (set_level g s o).1
-set_level-IsOwnReply g s None = invalid_level-IsOwnReply
-set_level-IsOwnReply g s (Some level) = answer-IsOwnReply _
-
-pub shown_reply-IsOwnReply : (o : Option Level) → IsOwnReply (shown_reply o)
-shown_reply-IsOwnReply None = no_own_level-IsOwnReply
-shown_reply-IsOwnReply (Some level) = answer-IsOwnReply _
-
-pub versions_reply-IsOwnReply : (rows : List Row) → IsOwnReply (versions_reply rows)
-versions_reply-IsOwnReply [] = subject_not_found-IsOwnReply
-versions_reply-IsOwnReply (row ∷ rows) = answer-IsOwnReply _
+pub set_level-IsOwnReply : (g : Registry) (subject : Option (List ℕ)) (o : Option Level) → IsOwnReply (set level_setting g subject o).1
+set_level-IsOwnReply = set-IsOwnReply level_setting invalid_level-IsOwnReply
 
 pub text_reply-IsOwnReply : (body : List ℕ → List ℕ) (text : Option (List ℕ)) → IsOwnReply (text_reply body text)
 text_reply-IsOwnReply body None = schema_not_found-IsOwnReply
@@ -148,29 +130,6 @@ id_versions_reply-IsOwnReply (Some id) deleted (row ∷ rows) = answer-IsOwnRepl
 pub lookup_reply-IsOwnReply : (texts : Texts) (schema : Option (List NodeView)) (known : Option ℕ) (rows : List Row) → IsOwnReply (lookup_reply texts schema known rows)
 lookup_reply-IsOwnReply texts None known rows = invalid_schema-IsOwnReply
 lookup_reply-IsOwnReply texts (Some nodes) known rows = version_reply-IsOwnReply texts (looked_up known rows) (looked_up-fault known rows)
-
-pub check_all_reply-IsOwnReply : (g : Registry) (subject : List ℕ) (schema : Option (List NodeView)) → IsOwnReply (check_all_reply g subject schema)
-check_all_reply-IsOwnReply g subject None = invalid_schema-IsOwnReply
-check_all_reply-IsOwnReply g subject (Some new) = answer-IsOwnReply _
-
-verdict_reply-IsOwnReply : (g : Registry) (subject : List ℕ) (new : List NodeView) (found : Result Row Code) → HasOwnFault found → IsOwnReply (verdict_reply g subject new found)
-verdict_reply-IsOwnReply g subject new (Err code) own = own
-verdict_reply-IsOwnReply g subject new (Ok row) own = answer-IsOwnReply _
-
-pub check_reply-IsOwnReply : (g : Registry) (subject : List ℕ) (choice : Option Choice) (schema : Option (List NodeView)) → IsOwnReply (check_reply g subject choice schema)
-check_reply-IsOwnReply g subject None schema = invalid_version-IsOwnReply
-check_reply-IsOwnReply g subject (Some choice) None = invalid_schema-IsOwnReply
-check_reply-IsOwnReply g subject (Some choice) (Some new) = verdict_reply-IsOwnReply g subject new _ (found_row-fault (Some choice) (live_rows (rows_of g subject)))
-
-registered-IsOwnReply : (g : Registry) (subject : List ℕ) (new : List NodeView) (is_there admitted left : Bool) → IsOwnReply (registered g subject new is_there admitted left).1
-registered-IsOwnReply g subject new true admitted left = answer-IsOwnReply _
-registered-IsOwnReply g subject new false false left = incompatible-IsOwnReply
-registered-IsOwnReply g subject new false true false = no_number_left-IsOwnReply
-registered-IsOwnReply g subject new false true true = answer-IsOwnReply _
-
-pub register-IsOwnReply : (g : Registry) (subject : List ℕ) (schema : Option (List NodeView)) → IsOwnReply (register g subject schema).1
-register-IsOwnReply g subject None = invalid_schema-IsOwnReply
-register-IsOwnReply g subject (Some new) = registered-IsOwnReply g subject new _ _ _
 
 -- why no version is deleted is a reply of the registry's own too
 found_and-fault : (test : Row → Result Row Code) → ((row : Row) → HasOwnFault (test row)) → (found : Result Row Code) → HasOwnFault found → HasOwnFault (found_and test found)
@@ -218,53 +177,3 @@ subject_refusal-fault permanent rows live code e = by permanent rows live e
     by true [] live e = refused SubjectNotFound e subject_not_found-IsOwnReply
     by true (row ∷ rows) [] e = absurd (none-some code (sym e))
     by true (row ∷ rows) (one ∷ live) e = refused SubjectNotSoftDeleted e (not_found SubjectNotSoftDeleted refl)
-
-version_deleted-IsOwnReply : (change : Registry → Row → Registry) (g : Registry) (found : Result Row Code) → HasOwnFault found → IsOwnReply (version_deleted change g found).1
-version_deleted-IsOwnReply change g (Err code) own = own
-version_deleted-IsOwnReply change g (Ok row) own = answer-IsOwnReply _
-
-pub delete_version-IsOwnReply : (g : Registry) (subject : List ℕ) (choice : Option Choice) (permanent : Bool) → IsOwnReply (delete_version g subject choice permanent).1
-delete_version-IsOwnReply g subject choice false = version_deleted-IsOwnReply with_deleted g (row_to_mark choice (rows_of g subject)) (row_to_mark-fault choice (rows_of g subject))
-delete_version-IsOwnReply g subject choice true = version_deleted-IsOwnReply without_row g (row_to_remove choice (rows_of g subject)) (row_to_remove-fault choice (rows_of g subject))
-
-soft_delete-IsOwnReply : (g : Registry) (subject : List ℕ) (rows live : List Row) → IsOwnReply (soft_delete g subject rows live).1
-soft_delete-IsOwnReply g subject [] live = subject_not_found-IsOwnReply
-soft_delete-IsOwnReply g subject (row ∷ rows) [] = not_found SubjectSoftDeleted refl
-soft_delete-IsOwnReply g subject (row ∷ rows) (one ∷ live) = answer-IsOwnReply _
-
-remove_subject-IsOwnReply : (g : Registry) (subject : List ℕ) (rows live : List Row) → IsOwnReply (remove_subject g subject rows live).1
-remove_subject-IsOwnReply g subject [] live = subject_not_found-IsOwnReply
-remove_subject-IsOwnReply g subject (row ∷ rows) (one ∷ live) = not_found SubjectNotSoftDeleted refl
-remove_subject-IsOwnReply g subject (row ∷ rows) [] = answer-IsOwnReply _
-
-pub delete_subject-IsOwnReply : (g : Registry) (subject : List ℕ) (permanent : Bool) → IsOwnReply (delete_subject g subject permanent).1
-delete_subject-IsOwnReply g subject false = soft_delete-IsOwnReply g subject (rows_of g subject) (live_rows (rows_of g subject))
-delete_subject-IsOwnReply g subject true = remove_subject-IsOwnReply g subject (rows_of g subject) (live_rows (rows_of g subject))
-
-pub step-IsOwnReply : (g : Registry) (c : Command) → IsOwnReply (step g c).1
-unfolding step
-step-IsOwnReply g (SetGlobal text) = set_level-IsOwnReply g None (level_of text)
-step-IsOwnReply g (SetLevel subject text) = set_level-IsOwnReply g (Some subject) (level_of text)
-step-IsOwnReply g (Register subject text supported) = register-IsOwnReply g subject (schema_in text supported)
-step-IsOwnReply g (DeleteVersion subject version permanent) = delete_version-IsOwnReply g subject (choice_in version) permanent
-step-IsOwnReply g (DeleteSubject subject permanent) = delete_subject-IsOwnReply g subject permanent
-step-IsOwnReply g Global = answer-IsOwnReply _
-step-IsOwnReply g (LevelOf subject default) = shown_reply-IsOwnReply (level_shown (g.own subject) g.global default)
-step-IsOwnReply g (Lookup subject text supported deleted) = lookup_reply-IsOwnReply (text_at g.schemas) (schema_in text supported) _ _
-step-IsOwnReply g (Subjects deleted) = answer-IsOwnReply _
-step-IsOwnReply g (Versions subject deleted) = versions_reply-IsOwnReply (shown_rows deleted (rows_of g subject))
-step-IsOwnReply g (Version subject version deleted) = version_reply-IsOwnReply (text_at g.schemas) _ (found_row-fault (choice_in version) (shown_rows deleted (rows_of g subject)))
-step-IsOwnReply g (Text subject version deleted) = version_text_reply-IsOwnReply (text_at g.schemas) _ (found_row-fault (choice_in version) (shown_rows deleted (rows_of g subject)))
-step-IsOwnReply g (ById id) = id_reply-IsOwnReply (text_at g.schemas) (id_in id) _
-step-IsOwnReply g (VersionsOfId id deleted) = id_versions_reply-IsOwnReply (id_in id) deleted _
-step-IsOwnReply g Types = answer-IsOwnReply _
-step-IsOwnReply g (Check subject version text supported) = check_reply-IsOwnReply g subject (choice_in version) (schema_in text supported)
-step-IsOwnReply g (CheckAll subject text supported) = check_all_reply-IsOwnReply g subject (schema_in text supported)
-
--- no reply is a fault of the backend
-pub step-never_backend : (g : Registry) (c : Command) → (step g c).1.status ≢ 500
-step-never_backend g c = (step-IsOwnReply g c).no_backend_fault
-
--- no reply says that a key was used for another request
-pub step-never_reused : (g : Registry) (c : Command) → (step g c).1 ≢ fault KeyReused
-step-never_reused g c = (step-IsOwnReply g c).no_reused_key

@@ -1,18 +1,16 @@
 -- What a view shows of the registry, for commands that compare and register schemas.
-use Rattle.std.proofs.Common.{◌≡◌, ℕ, zero, suc, ◌+◌, ◌≤◌, List, [], ◌∷◌, ◌++◌, Bool, true, false, Option, Some, None, refl, sym, ◌∙◌, ap, subst, map, length, length-append, arith}
+use Rattle.std.proofs.Common.{◌≡◌, ℕ, ◌+◌, ◌≤◌, List, [], ◌∷◌, ◌++◌, Bool, true, false, Option, Some, None, refl, sym, ◌∙◌, ap, subst, map, length, length-append, arith}
 use Rattle.std.specs.Prelude.{All, bytes_eq, unwrap_or, option_map, option_to_list, is_some, if◌then◌else◌, nat_le}
 use Rattle.std.specs.List.{list_all}
 use Rattle.std.specs.FinMap.{entries}
 use Rattle.std.proofs.lemmas.Bool.{and_parts, leb-true}
 use Rattle.std.proofs.lemmas.List.Folds.{list_all-map}
 use Rattle.std.proofs.lemmas.List.Elements.{All-nil, All-head, All-tail, All-filter}
-use Rattle.std.proofs.lemmas.Option.{none-some, same_Some, slice_get_within, get_or_from_slice_get}
+use Rattle.std.proofs.lemmas.Option.{none-some, same_Some}
 use Rattle.avro_nodes.specs.Nodes.{NodeView}
 use Rattle.avro_nodes.specs.Identity.{identity}
 use Rattle.avro_schema.specs.Texts.{IsSchema}
-use Rattle.avro_schema.specs.Inside.DenotedNodes.{denoted_nodes}
-use Rattle.avro_schema.proofs.TextLemmas.{denotes_computes, computed_denotes}
-use Rattle.avro_schema.proofs.RoundText.{identity_text_denotes}
+use Rattle.avro_schema.specs.DenotedNodes.{denoted_nodes}
 use Rattle.reg_core.specs.declared.level.Level.{Level}
 use Rattle.reg_core.specs.declared.level.Level.TheVariants.{Backward, BackwardTransitive, Forward, ForwardTransitive, Full, FullTransitive, Off}
 use Rattle.reg_core.specs.declared.code.Code.TheVariants.{InvalidSchema, Incompatible, NoNumberLeft}
@@ -21,9 +19,9 @@ use Rattle.reg_core.specs.declared.decision.View.{View}
 use Rattle.reg_core.specs.Bodies.{id_body}
 use Rattle.reg_core.specs.Compatibility.{named_versions}
 use Rattle.reg_core.specs.Inside.Comparisons.{is_read_compatible, is_read_admitted}
-use Rattle.reg_core.specs.Machine.{step}
+use Rattle.reg_core.specs.Machine.{carried_out}
 use Rattle.reg_core.specs.Inside.Registering.{id_among, id_shown, has_numbers_shown, row_shown, version_added}
-use Rattle.reg_core.specs.RegisterCommands.{schema_in, register, registered, is_among, is_admitted_after, id_for, with_version}
+use Rattle.reg_core.specs.RegisterCommands.{register, registered, is_among, is_admitted_after, id_for, has_numbers, with_version}
 use Rattle.reg_core.specs.Registry.{Registry, IsRegistry, Row, Schemas, max_number, schema_at}
 use Rattle.reg_core.specs.Replies.{answer, fault}
 use Rattle.reg_core.specs.Rows.{rows_of, live_rows, next_number, id_of, known_id, text_at, schemas_of}
@@ -31,6 +29,7 @@ use Rattle.reg_core.specs.Verdicts.{is_compatible, is_admitted}
 use Rattle.reg_core.specs.Views.{IsGround, ChangesFit, after_changes, level_of_view, text_in}
 use Rattle.reg_core.proofs.ChosenRows.{All-latest}
 use Rattle.reg_core.proofs.IdLemmas.{id_of-schema, schema_within}
+use Rattle.reg_core.proofs.RegistryLemmas.{identity_denoted, schema_at-denoted, schema_in-denotes}
 use Rattle.reg_core.proofs.RowLemmas.{each-schema, next_number-absent, All-live_rows}
 use Rattle.reg_core.proofs.Versions.{named-map}
 
@@ -93,20 +92,13 @@ same_tests p q (x ∷ xs) h =
     let rest : list_all p xs ≡ list_all q xs = same_tests p q xs (All-tail (λ y. p y ≡ q y) x xs h) in
     rw (here, rest) refl
 
-at_schema : (schemas : Schemas) → All IsSchema schemas → (id : ℕ) (nodes : List NodeView) → schema_at schemas id ≡ Some nodes → IsSchema nodes
-at_schema schemas h zero nodes e = absurd (none-some nodes e)
-at_schema schemas h (suc n) nodes e = subst IsSchema (get_or_from_slice_get schemas n nodes nodes e) (h n nodes (slice_get_within schemas n nodes e))
-
-identity_denoted : (nodes : List NodeView) → IsSchema nodes → denoted_nodes (identity nodes) ≡ Some nodes
-identity_denoted nodes s = denotes_computes (identity nodes) nodes (identity_text_denotes nodes s)
-
 row_compatible : (view : View) (schemas : Schemas) → All IsSchema schemas → (level : Level) (new : List NodeView) (row : Row) → HasSchema schemas row → ShowsText view schemas row
     → is_read_compatible view level new row ≡ is_compatible level (schema_or schemas row) new
 unfolding schema_or
 row_compatible view schemas ok level new row (nodes, e) shows =
     let text : text_in view row.1.id ≡ Some (identity nodes) = shows ∙ ap (option_map identity) e in
     let is : nodes ≡ unwrap_or (schema_at schemas row.1.id) [] = sym (ap (λ (o : Option (List NodeView)). unwrap_or o []) e) in
-    read_compatible view level new row (identity nodes) nodes text (identity_denoted nodes (at_schema schemas ok row.1.id nodes e)) ∙ ap (λ (x : List NodeView). is_compatible level x new) is
+    read_compatible view level new row (identity nodes) nodes text (schema_at-denoted schemas ok row.1.id nodes e) ∙ ap (λ (x : List NodeView). is_compatible level x new) is
 
 -- The verdict on versions by the texts of a view is the one by their schemas, where the view has the texts of those that the level names
 pub admitted_shown : (view : View) (schemas : Schemas) → All IsSchema schemas → (level : Level) (rows : List Row) (new : List NodeView) → All (HasSchema schemas) rows → All (ShowsText view schemas) (named_versions level rows)
@@ -121,24 +113,22 @@ admitted_shown view schemas ok level rows new has shows =
     ∙ (ap (list_all p) (sym (named-map (schema_or schemas) level rows))
     ∙ ap (λ (live : List (List NodeView)). list_all p (named_versions level live)) (sym (schemas_mapped schemas rows has))))
 
+-- the same, where the view has the versions that the level names, and perhaps no others
+pub admitted_as : (view : View) (schemas : Schemas) → All IsSchema schemas → (level : Level) (seen rows : List Row) (new : List NodeView) → named_versions level seen ≡ named_versions level rows → All (HasSchema schemas) rows
+    → All (ShowsText view schemas) (named_versions level seen) → is_read_admitted view level seen new ≡ is_admitted_after schemas level rows new
+admitted_as view schemas ok level seen rows new named has shows =
+    ap (list_all (is_read_compatible view level new)) named ∙ admitted_shown view schemas ok level rows new has (subst (All (ShowsText view schemas)) named shows)
+
 -- the verdict at the level in force and the versions that are known to be these
 pub verdict_of : (view : View) (new : List NodeView) (level : Level) (rows others : List Row) → level ≡ level_of_view view → rows ≡ others → (b : Bool) → b ≡ is_read_admitted view level rows new → b ≡ is_read_admitted view (level_of_view view) others new
 verdict_of view new level rows others l r b e = e ∙ (rw (l, r) refl)
 
--- ---- the rows of a view
-
-module _ (g : Registry) (ok : IsRegistry g) (subject : List ℕ) (rows : List Row) (is : rows ≡ rows_of g subject) where
-  pub shown-HasSchema : All (HasSchema g.schemas) (live_rows rows)
-  shown-HasSchema =
-      All-live_rows (HasSchema g.schemas) rows (subst (All (HasSchema g.schemas)) (sym is)
-      (All-filter (λ (row : Row). bytes_eq row.0.0 subject) (HasSchema g.schemas) (entries g.rows) (each-schema g ok)))
+-- each live version of a subject has a schema
+pub live-HasSchema : (g : Registry) → IsRegistry g → (subject : List ℕ) → All (HasSchema g.schemas) (live_rows (rows_of g subject))
+live-HasSchema g ok subject =
+    All-live_rows (HasSchema g.schemas) (rows_of g subject) (All-filter (λ (row : Row). bytes_eq row.0.0 subject) (HasSchema g.schemas) (entries g.rows) (each-schema g ok))
 
 -- ---- Register
-
-schema_says : (text : List ℕ) (supported : Bool) (new : List NodeView) → schema_in text supported ≡ Some new → IsSchema new
-unfolding schema_in
-schema_says text true new e = (text, computed_denotes text new e)
-schema_says text false new e = absurd (none-some new e)
 
 if_some : (b : Bool) (o : Option ℕ) (id : ℕ) → (if b then o else None) ≡ Some id → (b ≡ true) × (o ≡ Some id)
 if_some true o id e = (refl, e)
@@ -192,8 +182,8 @@ changes_fit g subject new s (Some id) e number within =
     (record { absent = next_number-absent g subject; fits = record { within = (omega arith, number); has_schema = (omega arith, omega arith) } }, tt)
 
 module _ (g : Registry) (subject text : List ℕ) (supported : Bool) (view : View) (schema : Option (List NodeView)) (ground : IsGround g (Register subject text supported) schema view) where
-  pub register_none : schema ≡ None → step g (Register subject text supported) ≡ (g, fault InvalidSchema)
-  unfolding step
+  pub register_none : schema ≡ None → carried_out g (Register subject text supported) ≡ (g, fault InvalidSchema)
+  unfolding carried_out
   register_none e = ap (register g subject) (sym ground.sent ∙ e)
 
   module _ (new : List NodeView) (e : schema ≡ Some new) where
@@ -203,57 +193,73 @@ module _ (g : Registry) (subject text : List ℕ) (supported : Bool) (view : Vie
     abbrev live : List Row
     live = live_rows view.rows.items
 
-    register_as : step g (Register subject text supported)
-        ≡ registered g subject new (is_among view.known live) (is_admitted_after g.schemas (level_of_view view) live new) (has_numbers_shown view)
-    unfolding step
+    -- the live versions of the registry
+    abbrev all : List Row
+    all = live_rows (rows_of g subject)
+
+    among : is_among view.known live ≡ is_among view.known all
+    among = ground.shows.rows.among
+
+    register_as : carried_out g (Register subject text supported)
+        ≡ registered g subject new (is_among view.known live) (is_admitted_after g.schemas (level_of_view view) all new) (has_numbers g subject new)
+    unfolding carried_out
     register_as =
         let levels = ground.shows.levels refl in
         let known = known_shown in
-        let rows = ground.shows.rows in
-        let count = ground.shows.count refl in
-        ap (register g subject) (sym ground.sent ∙ e) ∙ (rw (known, rows, levels.0, levels.1, count) refl)
+        let same = among in
+        ap (register g subject) (sym ground.sent ∙ e) ∙ (rw (same, known, levels.0, levels.1) refl)
 
-    pub register_known : (id : ℕ) → Some id ≡ id_among view.known live → step g (Register subject text supported) ≡ (g, answer (id_body id))
+    pub register_known : (id : ℕ) → Some id ≡ id_among view.known live → carried_out g (Register subject text supported) ≡ (g, answer (id_body id))
     register_known id among =
         let parts = if_some (is_among view.known live) view.known id (sym among) in
         let known : id_of g.schemas (identity new) ≡ Some id = sym known_shown ∙ parts.1 in
         register_as ∙ (rw (parts.0, known) refl)
 
-    register_admits : is_among view.known live ≡ false → is_read_admitted view (level_of_view view) live new ≡ is_admitted_after g.schemas (level_of_view view) live new
+    register_admits : is_among view.known live ≡ false → is_read_admitted view (level_of_view view) live new ≡ is_admitted_after g.schemas (level_of_view view) all new
     register_admits unknown =
-        admitted_shown view g.schemas ground.registry.schemas (level_of_view view) live new
-        (shown-HasSchema g ground.registry subject view.rows.items ground.shows.rows)
+        admitted_as view g.schemas ground.registry.schemas (level_of_view view) live all new
+        (ground.shows.rows.named (sym among ∙ unknown))
+        (live-HasSchema g ground.registry subject)
         (subst (λ (b : Bool). All (ShowsText view g.schemas) (if b then [] else named_versions (level_of_view view) live)) unknown ground.shows.texts)
 
-    pub register_refused : is_among view.known live ≡ false → false ≡ is_read_admitted view (level_of_view view) live new → step g (Register subject text supported) ≡ (g, fault Incompatible)
+    pub register_refused : is_among view.known live ≡ false → false ≡ is_read_admitted view (level_of_view view) live new → carried_out g (Register subject text supported) ≡ (g, fault Incompatible)
     register_refused unknown refused =
-        let verdict : is_admitted_after g.schemas (level_of_view view) live new ≡ false = sym (refused ∙ register_admits unknown) in
+        let verdict : is_admitted_after g.schemas (level_of_view view) all new ≡ false = sym (refused ∙ register_admits unknown) in
         register_as ∙ (rw (unknown, verdict) refl)
 
     module _ (unknown : is_among view.known live ≡ false) (admitted : true ≡ is_read_admitted view (level_of_view view) live new) where
-      verdict : is_admitted_after g.schemas (level_of_view view) live new ≡ true
+      verdict : is_admitted_after g.schemas (level_of_view view) all new ≡ true
       verdict = sym (admitted ∙ register_admits unknown)
-
-      pub register_full : has_numbers_shown view ≡ false → step g (Register subject text supported) ≡ (g, fault NoNumberLeft)
-      register_full full = register_as ∙ (rw (unknown, verdict, full) refl)
 
       id_is : id_shown view ≡ id_for g.schemas new
       id_is = let known = known_shown in let count = ground.shows.count refl in rw (known, count) refl
 
-      pub register_added : has_numbers_shown view ≡ true → step g (Register subject text supported) ≡ (with_version g subject new, answer (id_body (id_shown view)))
-      register_added left = register_as ∙ (rw (unknown, verdict, left, id_is) refl)
+      next_is : next_number view.rows.items ≡ next_number (rows_of g subject)
+      next_is = ground.shows.rows.next (sym among ∙ unknown)
+
+      numbers_are : has_numbers g subject new ≡ has_numbers_shown view
+      numbers_are = let next = next_is in let id = id_is in rw (next, id) refl
+
+      pub register_full : has_numbers_shown view ≡ false → carried_out g (Register subject text supported) ≡ (g, fault NoNumberLeft)
+      register_full full = let left = numbers_are ∙ full in register_as ∙ (rw (unknown, verdict, left) refl)
+
+      pub register_added : has_numbers_shown view ≡ true → carried_out g (Register subject text supported) ≡ (with_version g subject new, answer (id_body (id_shown view)))
+      register_added shown =
+          let left = numbers_are ∙ shown in
+          let id = id_is in
+          register_as ∙ (rw (unknown, verdict, left, id) refl)
 
       new_schema : IsSchema new
-      new_schema = schema_says text supported new (sym ground.sent ∙ e)
+      new_schema = (text, schema_in-denotes text supported new (sym ground.sent ∙ e))
 
       row_is : row_shown view subject ≡ ((subject, next_number (rows_of g subject)), record { id = id_for g.schemas new; deleted = false })
-      row_is = let id = id_is in let rows = ground.shows.rows in rw (id, rows) refl
+      row_is = let id = id_is in let next = next_is in rw (id, next) refl
 
       -- the version's number and id are within the limit
       numbers_within : has_numbers_shown view ≡ true → (next_number (rows_of g subject) ≤ max_number) × (id_for g.schemas new ≤ max_number)
       numbers_within left =
           let parts = and_parts (nat_le (next_number view.rows.items) max_number) (nat_le (id_shown view) max_number) left in (
-            subst (λ (rows : List Row). next_number rows ≤ max_number) ground.shows.rows (leb-true (next_number view.rows.items) max_number parts.0),
+            subst (λ (n : ℕ). n ≤ max_number) next_is (leb-true (next_number view.rows.items) max_number parts.0),
             subst (λ (id : ℕ). id ≤ max_number) id_is (leb-true (id_shown view) max_number parts.1),
           )
 

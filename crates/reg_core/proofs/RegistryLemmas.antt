@@ -1,15 +1,15 @@
 -- A registry stays one, whatever changes it can have and whatever commands come.
-use Rattle.std.proofs.Common.{◌≡◌, ℕ, ◌+◌, ◌<◌, ◌≤◌, ◌⊎◌, inl, inr, List, [], ◌∷◌, ◌++◌, length, Bool, true, false, refl, sym, ap, subst, ◌∙◌, arith, length-append}
-use Rattle.std.specs.Prelude.{Option, Some, None, Result, Ok, Err, option_to_list, if◌then◌else◌, is_some, unwrap_or, nat_le}
+use Rattle.std.proofs.Common.{◌≡◌, ℕ, zero, suc, ◌+◌, ◌<◌, ◌≤◌, ◌⊎◌, inl, inr, List, [], ◌∷◌, ◌++◌, length, Bool, true, false, refl, sym, ap, subst, ◌∙◌, arith, length-append}
+use Rattle.std.specs.Prelude.{All, Option, Some, None, Result, Ok, Err, option_to_list, if◌then◌else◌, is_some, unwrap_or, nat_le}
 use Rattle.std.specs.FinMap.{insert, remove, get, get-empty}
 use Rattle.std.proofs.lemmas.Bool.{and_parts}
 use Rattle.std.proofs.lemmas.Bool.Decides.{nat_tests}
 use Rattle.std.proofs.lemmas.List.Elements.{All-nil, All-push}
-use Rattle.std.proofs.lemmas.Option.{none-some}
+use Rattle.std.proofs.lemmas.Option.{none-some, get_or_from_slice_get, slice_get_within}
 use Rattle.avro_nodes.specs.Nodes.{NodeView}
 use Rattle.avro_nodes.specs.Identity.{identity}
 use Rattle.avro_schema.specs.Texts.{TextDenotes, IsSchema}
-use Rattle.avro_schema.specs.Inside.DenotedNodes.{denoted_nodes}
+use Rattle.avro_schema.specs.DenotedNodes.{denoted_nodes}
 use Rattle.avro_schema.proofs.RoundText.{identity_text_denotes}
 use Rattle.avro_schema.proofs.TextLemmas.{computed_denotes, denotes_computes}
 use Rattle.reg_core.specs.declared.level.Level.{Level}
@@ -26,11 +26,12 @@ use Rattle.reg_core.specs.Numbers.{choice_in}
 use Rattle.reg_core.specs.Registry.{Registry, Schemas, RowKey, Row, IsRow, IsRegistry, max_number, schema_at, new_registry, own_with, own_without}
 use Rattle.reg_core.specs.Registry as registry
 use Rattle.reg_core.specs.Rows.{rows_of, live_rows, next_number, id_of, text_at}
-use Rattle.reg_core.specs.LevelCommands.{set_level}
+use Rattle.reg_core.specs.Settings.{Setting, level_setting, set, with_level}
 use Rattle.reg_core.specs.RegisterCommands.{schema_in, id_for, schemas_with, with_version, registered, has_numbers, register}
-use Rattle.reg_core.specs.Machine.{step, run_commands}
+use Rattle.reg_core.specs.Machine.{carried_out, step, run_commands}
 use Rattle.reg_core.specs.Views.{altered, after_change, after_changes, ChangeFits, ChangesFit}
-use Rattle.reg_core.proofs.IdLemmas.{schema_within, schema_grown, id_of-schema, id_of-none, text_at-schema}
+use Rattle.reg_core.proofs.ModeLemmas.{step-either}
+use Rattle.reg_core.proofs.IdLemmas.{schema_within, schema_last, schema_grown, id_of-schema, id_of-none, text_at-schema}
 use Rattle.reg_core.proofs.DeletionLemmas.{altered_was, removed_was, deleted_were, row_to_mark-got, subject_deleted_was, remove_subject-were}
 use Rattle.reg_core.proofs.RowLemmas.{get_inserted}
 
@@ -83,11 +84,18 @@ fewer-IsRegistry g rows own ok were = record {
       record { within = row.within; has_schema = subst (λ id. (0 < id) × (id ≤ length g.schemas)) (sym was.same) row.has_schema };
 }
 
--- ---- changes
+-- ---- identity texts
 
--- the text of a new schema denotes it
+-- the identity text of a schema denotes it
 pub identity_denoted : (nodes : List NodeView) → IsSchema nodes → denoted_nodes (identity nodes) ≡ Some nodes
 identity_denoted nodes schema = denotes_computes (identity nodes) nodes (identity_text_denotes nodes schema)
+
+-- so does that of each id's schema
+pub schema_at-denoted : (schemas : Schemas) → All IsSchema schemas → (id : ℕ) (nodes : List NodeView) → schema_at schemas id ≡ Some nodes → denoted_nodes (identity nodes) ≡ Some nodes
+schema_at-denoted schemas are zero nodes e = absurd (none-some nodes e)
+schema_at-denoted schemas are (suc n) nodes e = identity_denoted nodes (subst IsSchema (get_or_from_slice_get schemas n nodes nodes e) (are n nodes (slice_get_within schemas n nodes e)))
+
+-- ---- changes
 
 -- a change that a registry can have leaves a registry
 pub change_fits-IsRegistry : (change : Change) (g : Registry) → IsRegistry g → ChangeFits change g → IsRegistry (after_change change g)
@@ -119,6 +127,16 @@ schema_in-denotes text false new e = absurd (none-some new e)
 -- the schemas with a new one, where its identity text has this id or none
 abbrev schemas_by : Schemas → List NodeView → Option ℕ → Schemas
 schemas_by schemas new known = if is_some known then schemas else schemas ++ new ∷ []
+
+-- the schemas with a new one have it at its id
+schema_with : (g : Registry) (new : List NodeView) → IsRegistry g → IsSchema new → (known : Option ℕ) → id_of g.schemas (identity new) ≡ known → schema_at (schemas_by g.schemas new known) (unwrap_or known (length g.schemas + 1)) ≡ Some new
+schema_with g new ok schema None e = schema_last g.schemas new
+schema_with g new ok schema (Some id) e =
+    let (nodes, is, same) = id_of-schema g.schemas (identity new) id e in
+    is ∙ (sym (schema_at-denoted g.schemas ok.schemas id nodes is) ∙ (ap denoted_nodes same ∙ identity_denoted new schema))
+
+pub with_version-has_schema : (g : Registry) (subject : List ℕ) (new : List NodeView) → IsRegistry g → IsSchema new → schema_at (with_version g subject new).schemas (id_for g.schemas new) ≡ Some new
+with_version-has_schema g subject new ok schema = schema_with g new ok schema (id_of g.schemas (identity new)) refl
 
 -- the id that goes with the schema is within those with it
 id_within : (schemas : Schemas) (new : List NodeView) (known : Option ℕ) → id_of schemas (identity new) ≡ known → (0 < unwrap_or known (length schemas + 1)) × (unwrap_or known (length schemas + 1) ≤ length (schemas_by schemas new known))
@@ -153,10 +171,14 @@ register-IsRegistry : (g : Registry) (subject text : List ℕ) (supported : Bool
 register-IsRegistry g subject text supported None e ok = ok
 register-IsRegistry g subject text supported (Some new) e ok = registered-IsRegistry g subject new ok (text, schema_in-denotes text supported new e) _ _ _ refl
 
-set_level-IsRegistry : (g : Registry) (subject : Option (List ℕ)) (level : Option Level) → IsRegistry g → IsRegistry (set_level g subject level).0
-set_level-IsRegistry g subject None ok = ok
-set_level-IsRegistry g None (Some level) ok = levels-IsRegistry g level g.own ok
-set_level-IsRegistry g (Some subject) (Some level) ok = levels-IsRegistry g g.global (own_with g.own subject level) ok
+-- a registry with a value is one
+set-IsRegistry : {A : Type 0} (s : Setting A) (g : Registry) (subject : Option (List ℕ)) → ((value : A) → IsRegistry (s.put g subject value)) → (o : Option A) → IsRegistry g → IsRegistry (set s g subject o).0
+set-IsRegistry s g subject puts None ok = ok
+set-IsRegistry s g subject puts (Some value) ok = puts value
+
+with_level-IsRegistry : (g : Registry) (subject : Option (List ℕ)) → IsRegistry g → (level : Level) → IsRegistry (with_level g subject level)
+with_level-IsRegistry g None ok level = levels-IsRegistry g level g.own ok
+with_level-IsRegistry g (Some subject) ok level = levels-IsRegistry g g.global (own_with g.own subject level) ok
 
 version_deleted-IsRegistry : (g : Registry) (change : Registry → Row → Registry) (found : Result Row Code) → IsRegistry g → ((row : Row) → found ≡ Ok row → IsRegistry (change g row)) → IsRegistry (version_deleted change g found).0
 version_deleted-IsRegistry g change (Err code) ok changed = ok
@@ -183,26 +205,30 @@ delete_subject-IsRegistry : (g : Registry) (subject : List ℕ) (permanent : Boo
 delete_subject-IsRegistry g subject false ok = soft_delete-IsRegistry g subject (rows_of g subject) (live_rows (rows_of g subject)) ok
 delete_subject-IsRegistry g subject true ok = remove_subject-IsRegistry g subject (rows_of g subject) (live_rows (rows_of g subject)) ok
 
--- a registry is one after each command
+-- a registry is one after each command that is carried out
+pub carried_out-IsRegistry : (g : Registry) (c : Command) → IsRegistry g → IsRegistry (carried_out g c).0
+unfolding carried_out
+carried_out-IsRegistry g (SetGlobal text) ok = set-IsRegistry level_setting g None (with_level-IsRegistry g None ok) (level_of text) ok
+carried_out-IsRegistry g (SetLevel subject text) ok = set-IsRegistry level_setting g (Some subject) (with_level-IsRegistry g (Some subject) ok) (level_of text) ok
+carried_out-IsRegistry g (Register subject text supported) ok = register-IsRegistry g subject text supported (schema_in text supported) refl ok
+carried_out-IsRegistry g (DeleteVersion subject version permanent) ok = delete_version-IsRegistry g subject (choice_in version) permanent ok
+carried_out-IsRegistry g (DeleteSubject subject permanent) ok = delete_subject-IsRegistry g subject permanent ok
+carried_out-IsRegistry g Global ok = ok
+carried_out-IsRegistry g (LevelOf subject default) ok = ok
+carried_out-IsRegistry g (Lookup subject text supported deleted) ok = ok
+carried_out-IsRegistry g (Subjects deleted) ok = ok
+carried_out-IsRegistry g (Versions subject deleted) ok = ok
+carried_out-IsRegistry g (Version subject version deleted) ok = ok
+carried_out-IsRegistry g (Text subject version deleted) ok = ok
+carried_out-IsRegistry g (ById id) ok = ok
+carried_out-IsRegistry g (VersionsOfId id deleted) ok = ok
+carried_out-IsRegistry g Types ok = ok
+carried_out-IsRegistry g (Check subject version text supported) ok = ok
+carried_out-IsRegistry g (CheckAll subject text supported) ok = ok
+
+-- and after each command
 pub step-IsRegistry : (g : Registry) (c : Command) → IsRegistry g → IsRegistry (step g c).0
-unfolding step
-step-IsRegistry g (SetGlobal text) ok = set_level-IsRegistry g None (level_of text) ok
-step-IsRegistry g (SetLevel subject text) ok = set_level-IsRegistry g (Some subject) (level_of text) ok
-step-IsRegistry g (Register subject text supported) ok = register-IsRegistry g subject text supported (schema_in text supported) refl ok
-step-IsRegistry g (DeleteVersion subject version permanent) ok = delete_version-IsRegistry g subject (choice_in version) permanent ok
-step-IsRegistry g (DeleteSubject subject permanent) ok = delete_subject-IsRegistry g subject permanent ok
-step-IsRegistry g Global ok = ok
-step-IsRegistry g (LevelOf subject default) ok = ok
-step-IsRegistry g (Lookup subject text supported deleted) ok = ok
-step-IsRegistry g (Subjects deleted) ok = ok
-step-IsRegistry g (Versions subject deleted) ok = ok
-step-IsRegistry g (Version subject version deleted) ok = ok
-step-IsRegistry g (Text subject version deleted) ok = ok
-step-IsRegistry g (ById id) ok = ok
-step-IsRegistry g (VersionsOfId id deleted) ok = ok
-step-IsRegistry g Types ok = ok
-step-IsRegistry g (Check subject version text supported) ok = ok
-step-IsRegistry g (CheckAll subject text supported) ok = ok
+step-IsRegistry g c ok = step-either (λ after. IsRegistry after.0) g c ok (carried_out-IsRegistry g c ok)
 
 -- and after any number of them
 pub run_commands-IsRegistry : (g : Registry) (commands : List Command) → IsRegistry g → IsRegistry (run_commands g commands)

@@ -143,7 +143,7 @@ greatest_grows : (rows : List Row) (most : ℕ) → most ≤ fold (λ greatest (
 greatest_grows [] most = omega arith
 greatest_grows (row ∷ rows) most = let rest = greatest_grows rows (max most row.0.1) in omega arith
 
-greatest_of : (rows : List Row) (most : ℕ) → All (λ (row : Row). row.0.1 ≤ fold (λ greatest (r : Row). max greatest r.0.1) most rows) rows
+pub greatest_of : (rows : List Row) (most : ℕ) → All (λ (row : Row). row.0.1 ≤ fold (λ greatest (r : Row). max greatest r.0.1) most rows) rows
 greatest_of [] most = All-nil (λ (row : Row). row.0.1 ≤ most)
 greatest_of (row ∷ rows) most =
     let grows = greatest_grows rows (max most row.0.1) in

@@ -6,19 +6,19 @@ use Rattle.std.proofs.lemmas.List.Elements.{All-map}
 use Rattle.avro_nodes.specs.Nodes.{NodeView}
 use Rattle.reg_core.specs.declared.code.Code.{Code}
 use Rattle.reg_core.specs.declared.command.Command.{Command}
-use Rattle.reg_core.specs.declared.command.Command.TheVariants.{Lookup, Version, Text, ById}
+use Rattle.reg_core.specs.declared.command.Command.TheVariants.{SetGlobal, SetLevel, Register, DeleteVersion, DeleteSubject, Global, LevelOf, Lookup, Subjects, Versions, Version, Text, ById, VersionsOfId, Types, Check, CheckAll}
 use Rattle.reg_core.specs.declared.decision.View.{View}
 use Rattle.reg_core.specs.Bodies.{version_body, schema_body}
 use Rattle.reg_core.specs.Compatibility.{latest}
 use Rattle.reg_core.specs.Numbers.{id_in, choice_in}
 use Rattle.reg_core.specs.Registry.{Registry, Row}
-use Rattle.reg_core.specs.Rows.{rows_with, shown_rows, text_at, known_id}
+use Rattle.reg_core.specs.Rows.{rows_of, rows_with, shown_rows, text_at}
 use Rattle.reg_core.specs.ReadCommands.{Texts, found_row, looked_up, rows_with_id, text_reply, version_reply, version_text_reply, id_reply, lookup_reply}
 use Rattle.reg_core.specs.Replies.{Told}
 use Rattle.reg_core.specs.RegisterCommands.{schema_in}
-use Rattle.reg_core.specs.Machine.{step}
+use Rattle.reg_core.specs.Machine.{schema_sent, carried_out}
 use Rattle.reg_core.proofs.RowLemmas.{All-mapped}
-use Rattle.reg_core.specs.Views.{IsViewOf, IsGround, row_found, text_in}
+use Rattle.reg_core.specs.Views.{IsViewOf, IsGround, row_found, schema_taken, text_in}
 
 -- ---- texts that agree
 
@@ -90,33 +90,63 @@ same_id one other (Some id) all seen ids same =
 
 -- what is told of a command is told of what it is
 pub at_command : (g : Registry) (schema : Option (List NodeView)) (view : View) (told : Told) (command variant : Command) → command ≡ variant
-    → (IsGround g variant schema view → told ≡ (step g variant).1) → IsGround g command schema view → told ≡ (step g command).1
+    → (IsGround g variant schema view → told ≡ (carried_out g variant).1) → IsGround g command schema view → told ≡ (carried_out g command).1
 at_command g schema view told command variant is tells ground =
-    tells (subst (λ (c : Command). IsGround g c schema view) is ground) ∙ ap (λ (c : Command). (step g c).1) (sym is)
+    tells (subst (λ (c : Command). IsGround g c schema view) is ground) ∙ ap (λ (c : Command). (carried_out g c).1) (sym is)
 
 pub told_version : (g : Registry) (view : View) (subject version : List ℕ) (deleted : Bool) → IsViewOf view g (Version subject version deleted)
-    → version_reply (text_in view) (found_row (choice_in version) (shown_rows deleted view.rows.items)) ≡ (step g (Version subject version deleted)).1
-unfolding step
+    → version_reply (text_in view) (found_row (choice_in version) (shown_rows deleted view.rows.items)) ≡ (carried_out g (Version subject version deleted)).1
+unfolding carried_out
 told_version g view subject version deleted shows =
     same_version (text_in view) (text_at g.schemas) (found_row (choice_in version) (shown_rows deleted view.rows.items)) shows.texts
     ∙ ap (version_reply (text_at g.schemas)) shows.rows
 
 pub told_text : (g : Registry) (view : View) (subject version : List ℕ) (deleted : Bool) → IsViewOf view g (Text subject version deleted)
-    → version_text_reply (text_in view) (found_row (choice_in version) (shown_rows deleted view.rows.items)) ≡ (step g (Text subject version deleted)).1
-unfolding step
+    → version_text_reply (text_in view) (found_row (choice_in version) (shown_rows deleted view.rows.items)) ≡ (carried_out g (Text subject version deleted)).1
+unfolding carried_out
 told_text g view subject version deleted shows =
     same_version_text (text_in view) (text_at g.schemas) (found_row (choice_in version) (shown_rows deleted view.rows.items)) shows.texts
     ∙ ap (version_text_reply (text_at g.schemas)) shows.rows
 
-pub told_id : (g : Registry) (view : View) (id : List ℕ) → IsViewOf view g (ById id) → id_reply (text_in view) (id_in id) view.rows.items ≡ (step g (ById id)).1
-unfolding step
+pub told_id : (g : Registry) (view : View) (id : List ℕ) → IsViewOf view g (ById id) → id_reply (text_in view) (id_in id) view.rows.items ≡ (carried_out g (ById id)).1
+unfolding carried_out
 told_id g view id shows = same_id (text_in view) (text_at g.schemas) (id_in id) (entries g.rows) view.rows.items shows.rows shows.texts
 
+-- a version that is looked up among some is told as among others where it is the same
+lookup_as : (texts : Texts) (schema : Option (List NodeView)) (known : Option ℕ) (seen rows : List Row) → looked_up known seen ≡ looked_up known rows → lookup_reply texts schema known seen ≡ lookup_reply texts schema known rows
+lookup_as texts None known seen rows same = refl
+lookup_as texts (Some nodes) known seen rows same = ap (version_reply texts) same
+
 pub told_lookup : (g : Registry) (view : View) (schema : Option (List NodeView)) (subject text : List ℕ) (supported deleted : Bool) → schema ≡ schema_in text supported → IsViewOf view g (Lookup subject text supported deleted)
-    → lookup_reply (text_in view) schema view.known (shown_rows deleted view.rows.items) ≡ (step g (Lookup subject text supported deleted)).1
-unfolding step
+    → lookup_reply (text_in view) schema view.known (shown_rows deleted view.rows.items) ≡ (carried_out g (Lookup subject text supported deleted)).1
+unfolding carried_out
 told_lookup g view schema subject text supported deleted sent shows =
     same_lookup (text_in view) (text_at g.schemas) schema view.known (shown_rows deleted view.rows.items) shows.texts
     ∙ (ap (λ s. lookup_reply (text_at g.schemas) s view.known (shown_rows deleted view.rows.items)) sent
-    ∙ (ap (λ known. lookup_reply (text_at g.schemas) (schema_in text supported) known (shown_rows deleted view.rows.items)) shows.known
-    ∙ ap (λ rows. lookup_reply (text_at g.schemas) (schema_in text supported) (known_id g.schemas (schema_in text supported)) (shown_rows deleted rows)) shows.rows))
+    ∙ (lookup_as (text_at g.schemas) (schema_in text supported) view.known (shown_rows deleted view.rows.items) (shown_rows deleted (rows_of g subject)) shows.rows
+    ∙ ap (λ known. lookup_reply (text_at g.schemas) (schema_in text supported) known (shown_rows deleted (rows_of g subject))) shows.known))
+
+-- a command takes the schema that it sends
+pub taken-sent : (c : Command) → schema_taken c (schema_sent c) ≡ schema_sent c
+unfolding schema_in
+taken-sent (SetGlobal level) = refl
+taken-sent (SetLevel subject level) = refl
+taken-sent (Register subject text true) = refl
+taken-sent (Register subject text false) = refl
+taken-sent (DeleteVersion subject version permanent) = refl
+taken-sent (DeleteSubject subject permanent) = refl
+taken-sent Global = refl
+taken-sent (LevelOf subject default) = refl
+taken-sent (Lookup subject text true deleted) = refl
+taken-sent (Lookup subject text false deleted) = refl
+taken-sent (Subjects deleted) = refl
+taken-sent (Versions subject deleted) = refl
+taken-sent (Version subject version deleted) = refl
+taken-sent (Text subject version deleted) = refl
+taken-sent (ById id) = refl
+taken-sent (VersionsOfId id deleted) = refl
+taken-sent Types = refl
+taken-sent (Check subject version text true) = refl
+taken-sent (Check subject version text false) = refl
+taken-sent (CheckAll subject text true) = refl
+taken-sent (CheckAll subject text false) = refl

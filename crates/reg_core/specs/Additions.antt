@@ -1,5 +1,5 @@
 -- Each version that was accepted was admitted by its subject's level.
-use Rattle.std.specs.Prelude.{◌≡◌, ◌⊎◌, ℕ, Bool, true, List, Some}
+use Rattle.std.specs.Prelude.{◌≡◌, ◌⊎◌, ℕ, Bool, true, false, List, None, Some}
 use Rattle.std.specs.FinMap.{get}
 use Rattle.std.specs.List.{AllZip}
 use Rattle.avro_nodes.specs.Nodes.{NodeView}
@@ -8,7 +8,7 @@ use Rattle.reg_core.specs.declared.command.Command.{Command}
 use Rattle.reg_core.specs.declared.command.Command.TheVariants.{Register}
 use Rattle.reg_core.specs.Compatibility.{Admits}
 use Rattle.reg_core.specs.Registry.{Registry, RowKey, Rows, Version, schema_at}
-use Rattle.reg_core.specs.Rows.{rows_of, live_rows}
+use Rattle.reg_core.specs.Rows.{rows_of, live_rows, next_number}
 use Rattle.reg_core.specs.RegisterCommands.{level_in}
 use Rattle.reg_core.specs.Machine.{step}
 
@@ -21,13 +21,18 @@ pub record WasAdmitted (g : Registry) (subject text : List ℕ) : Type 0 where
   pub are : AllZip (λ row nodes. schema_at g.schemas row.1.id ≡ Some nodes) (live_rows (rows_of g subject)) live
   pub admits : Admits (level_in g subject) live new
 
--- Schema Registry API reference, POST /subjects/{subject}/versions: where a command adds a version, it registers a schema that the level admits
-pub record IsAddition (g : Registry) (command : Command) : Type 0 where
+-- Schema Registry API reference, POST /subjects/{subject}/versions: a command that adds a version registers a schema that the level admits. The
+-- version is the subject's next one, where none stood; it has this schema in the registry after the command, and isn't soft-deleted.
+pub record IsAddition (g : Registry) (command : Command) (after : Registry) (key : RowKey) (version : Version) : Type 0 where
   pub subject : List ℕ
   pub text : List ℕ
   pub supported : Bool
   pub is : command ≡ Register subject text supported
   pub admitted : WasAdmitted g subject text
+  pub next : key ≡ (subject, next_number (rows_of g subject))
+  pub absent : get g.rows key ≡ None
+  pub has_schema : schema_at after.schemas version.id ≡ Some admitted.new
+  pub live : version.deleted ≡ false
 
 -- Schema Registry API reference, Subjects: the version stood among these under its key, with its schema; it is soft-deleted if it was
 pub record WasThere (rows : Rows) (key : RowKey) (version : Version) : Type 0 where
@@ -36,7 +41,10 @@ pub record WasThere (rows : Rows) (key : RowKey) (version : Version) : Type 0 wh
   pub same : version.id ≡ old.id
   pub stays_deleted : old.deleted ≡ true → version.deleted ≡ true
 
--- Schema Registry API reference, POST /subjects/{subject}/versions: each version that stands after a command stood before, or the command is such an
--- addition
+-- Schema Registry API reference, POST /subjects/{subject}/versions: each version of the second registry stood in the first, or the command added it
+abbrev pub Adds : Registry → Command → Registry → Type 0
+Adds g command after = (key : RowKey) (version : Version) → get after.rows key ≡ Some version → WasThere g.rows key version ⊎ IsAddition g command after key version
+
+-- so it is of a registry and the one after the command
 abbrev pub AddsAdmitted : Registry → Command → Type 0
-AddsAdmitted g command = (key : RowKey) (version : Version) → get (step g command).0.rows key ≡ Some version → WasThere g.rows key version ⊎ IsAddition g command
+AddsAdmitted g command = Adds g command (step g command).0

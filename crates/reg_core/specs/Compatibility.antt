@@ -1,5 +1,5 @@
 -- Which earlier versions a level compares a new schema with, and which schemas it admits.
-use Rattle.std.specs.Prelude.{List, [], All, None, option_to_list}
+use Rattle.std.specs.Prelude.{Bool, true, false, List, [], All, None, option_to_list}
 use Rattle.std.specs.List.{last_or}
 use Rattle.avro_nodes.specs.Nodes.{NodeView}
 use Rattle.avro_resolve.specs.Resolution.{Resolves}
@@ -20,6 +20,16 @@ named_versions ForwardTransitive live = live
 named_versions Full live = latest live
 named_versions FullTransitive live = live
 named_versions Off live = []
+
+-- Schema Registry API reference, Compatibility: whether a level compares with all live versions
+abbrev pub names_all : Level → Bool
+names_all BackwardTransitive = true
+names_all ForwardTransitive = true
+names_all FullTransitive = true
+names_all Backward = false
+names_all Forward = false
+names_all Full = false
+names_all Off = false
 
 -- Schema Evolution and Compatibility, Compatibility Types: the new schema reads what the earlier one wrote (backward), the earlier one reads what
 -- the new one writes (forward), or both (full)

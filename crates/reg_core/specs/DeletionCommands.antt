@@ -40,6 +40,11 @@ row_to_mark (Some (Numbered number)) (row ∷ rows) = found_and if_live (ok_or (
 abbrev pub row_to_remove : Option Choice → List Row → Result Row Code
 row_to_remove choice rows = found_and if_deleted (found_row choice rows)
 
+-- the version to soft-delete, or with `permanent` to remove, or why there is none
+abbrev pub row_to_delete : Bool → Option Choice → List Row → Result Row Code
+row_to_delete false choice rows = row_to_mark choice rows
+row_to_delete true choice rows = row_to_remove choice rows
+
 -- Schema Registry API reference, Subjects: the version, soft-deleted
 abbrev pub as_deleted : Version → Version
 as_deleted version = record version { deleted = true }

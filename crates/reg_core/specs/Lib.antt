@@ -1,4 +1,5 @@
 pub mod Levels
+pub mod Modes
 pub mod Codes
 pub mod Replies
 pub mod KeptReplies
@@ -9,12 +10,13 @@ pub mod Registry
 pub mod Numbers
 pub mod Rows
 pub mod Bodies
-pub mod LevelCommands
+pub mod Settings
 pub mod ReadCommands
 pub mod RegisterCommands
 pub mod DeletionCommands
 pub mod Machine
 pub mod CommandTexts
+pub mod Needs
 pub mod Views
 pub mod Compatibility
 pub mod Verdicts

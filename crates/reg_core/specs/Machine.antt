@@ -1,15 +1,18 @@
 -- The plain registry: what each command does and answers, family by family. It knows nothing of retry keys and connections.
-use Rattle.std.specs.Prelude.{ℕ, Bool, true, false, List, [], ◌∷◌, codes, Option, None, Some}
+use Rattle.std.specs.Prelude.{ℕ, Bool, true, false, List, [], ◌∷◌, unwrap_or, if◌then◌else◌, Option, None, Some, option_and_then}
 use Rattle.std.specs.FinMap.{entries}
 use Rattle.avro_nodes.specs.Nodes.{NodeView}
 use Rattle.reg_core.specs.declared.command.Command.{Command}
 use Rattle.reg_core.specs.declared.command.Command.TheVariants.{SetGlobal, SetLevel, Register, DeleteVersion, DeleteSubject, Global, LevelOf, Lookup, Subjects, Versions, Version, Text, ById, VersionsOfId, Types, Check, CheckAll}
+use Rattle.reg_core.specs.declared.code.Code.TheVariants.{NotPermitted}
+use Rattle.reg_core.specs.declared.mode.Mode.{Mode}
 use Rattle.reg_core.specs.Levels.{level_of}
+use Rattle.reg_core.specs.Modes.{is_frozen}
 use Rattle.reg_core.specs.Numbers.{id_in, choice_in}
-use Rattle.reg_core.specs.Replies.{Told, answer}
+use Rattle.reg_core.specs.Replies.{Told, fault}
 use Rattle.reg_core.specs.Registry.{Registry}
 use Rattle.reg_core.specs.Rows.{rows_of, shown_rows, text_at, known_id}
-use Rattle.reg_core.specs.LevelCommands.{level_object, set_level, level_shown, shown_reply}
+use Rattle.reg_core.specs.Settings.{level_setting, set, value_shown, shown_answer, shown_reply}
 use Rattle.reg_core.specs.ReadCommands.{types_reply, subjects_reply, versions_reply, found_row, version_reply, version_text_reply, id_reply, id_versions_reply, lookup_reply, rows_with_id}
 use Rattle.reg_core.specs.DeletionCommands.{delete_version, delete_subject}
 use Rattle.reg_core.specs.RegisterCommands.{schema_in, register, check_reply, check_all_reply}
@@ -43,6 +46,14 @@ subject_of Types = None
 subject_of (Check subject version text supported) = Some subject
 subject_of (CheckAll subject text supported) = Some subject
 
+-- Schema Registry API reference, Subjects and Compatibility: whether a command sends a text of a type that is supported
+abbrev pub sends_schema : Command → Bool
+sends_schema (Register subject text supported) = supported
+sends_schema (Lookup subject text supported deleted) = supported
+sends_schema (Check subject version text supported) = supported
+sends_schema (CheckAll subject text supported) = supported
+sends_schema _ = false
+
 -- Schema Registry API reference, Subjects and Compatibility: the schema that a command sends, if it sends one
 abbrev pub schema_sent : Command → Option (List NodeView)
 schema_sent (Register subject text supported) = schema_in text supported
@@ -51,25 +62,43 @@ schema_sent (Check subject version text supported) = schema_in text supported
 schema_sent (CheckAll subject text supported) = schema_in text supported
 schema_sent _ = None
 
--- Schema Registry API reference: the registry after a command, and the reply
+-- This project's choice: the mode that a command looks at, if it looks at one, by its subject's own mode and the global one. A write of a subject
+-- looks at the subject's own mode, else at the global one; the global level is guarded by the global mode alone.
+abbrev pub mode_by : Command → Option Mode → Mode → Option Mode
+mode_by (SetGlobal level) own global = Some global
+mode_by (SetLevel subject level) own global = Some (unwrap_or own global)
+mode_by (Register subject text supported) own global = Some (unwrap_or own global)
+mode_by (DeleteVersion subject version permanent) own global = Some (unwrap_or own global)
+mode_by (DeleteSubject subject permanent) own global = Some (unwrap_or own global)
+mode_by _ own global = None
+
+-- this project's choice: the mode that a command looks at in a registry, if it looks at one
+abbrev pub mode_for : Registry → Command → Option Mode
+mode_for g command = mode_by command (option_and_then g.own_modes (subject_of command)) g.global_mode
+
+-- Schema Registry API reference: the registry after a command that is carried out, and the reply
+unfoldable pub carried_out : Registry → Command → Registry × Told
+carried_out g (SetGlobal level) = set level_setting g None (level_of level)
+carried_out g (SetLevel subject level) = set level_setting g (Some subject) (level_of level)
+carried_out g (Register subject text supported) = register g subject (schema_in text supported)
+carried_out g (DeleteVersion subject version permanent) = delete_version g subject (choice_in version) permanent
+carried_out g (DeleteSubject subject permanent) = delete_subject g subject permanent
+carried_out g Global = (g, shown_answer level_setting g.global)
+carried_out g (LevelOf subject default_to_global) = (g, shown_reply level_setting (value_shown (g.own subject) g.global default_to_global))
+carried_out g (Lookup subject text supported deleted) = (g, lookup_reply (text_at g.schemas) (schema_in text supported) (known_id g.schemas (schema_in text supported)) (shown_rows deleted (rows_of g subject)))
+carried_out g (Subjects deleted) = (g, subjects_reply (shown_rows deleted (entries g.rows)))
+carried_out g (Versions subject deleted) = (g, versions_reply (shown_rows deleted (rows_of g subject)))
+carried_out g (Version subject version deleted) = (g, version_reply (text_at g.schemas) (found_row (choice_in version) (shown_rows deleted (rows_of g subject))))
+carried_out g (Text subject version deleted) = (g, version_text_reply (text_at g.schemas) (found_row (choice_in version) (shown_rows deleted (rows_of g subject))))
+carried_out g (ById id) = (g, id_reply (text_at g.schemas) (id_in id) (rows_with_id (id_in id) (entries g.rows)))
+carried_out g (VersionsOfId id deleted) = (g, id_versions_reply (id_in id) deleted (rows_with_id (id_in id) (entries g.rows)))
+carried_out g Types = (g, types_reply)
+carried_out g (Check subject version text supported) = (g, check_reply g subject (choice_in version) (schema_in text supported))
+carried_out g (CheckAll subject text supported) = (g, check_all_reply g subject (schema_in text supported))
+
+-- Schema Registry API reference: the registry after a command, and the reply. (This project's choice: a mode forbids a command before anything else.)
 unfoldable pub step : Registry → Command → Registry × Told
-step g (SetGlobal level) = set_level g None (level_of level)
-step g (SetLevel subject level) = set_level g (Some subject) (level_of level)
-step g (Register subject text supported) = register g subject (schema_in text supported)
-step g (DeleteVersion subject version permanent) = delete_version g subject (choice_in version) permanent
-step g (DeleteSubject subject permanent) = delete_subject g subject permanent
-step g Global = (g, answer (level_object (codes "compatibilityLevel") g.global))
-step g (LevelOf subject default_to_global) = (g, shown_reply (level_shown (g.own subject) g.global default_to_global))
-step g (Lookup subject text supported deleted) = (g, lookup_reply (text_at g.schemas) (schema_in text supported) (known_id g.schemas (schema_in text supported)) (shown_rows deleted (rows_of g subject)))
-step g (Subjects deleted) = (g, subjects_reply (shown_rows deleted (entries g.rows)))
-step g (Versions subject deleted) = (g, versions_reply (shown_rows deleted (rows_of g subject)))
-step g (Version subject version deleted) = (g, version_reply (text_at g.schemas) (found_row (choice_in version) (shown_rows deleted (rows_of g subject))))
-step g (Text subject version deleted) = (g, version_text_reply (text_at g.schemas) (found_row (choice_in version) (shown_rows deleted (rows_of g subject))))
-step g (ById id) = (g, id_reply (text_at g.schemas) (id_in id) (rows_with_id (id_in id) (entries g.rows)))
-step g (VersionsOfId id deleted) = (g, id_versions_reply (id_in id) deleted (rows_with_id (id_in id) (entries g.rows)))
-step g Types = (g, types_reply)
-step g (Check subject version text supported) = (g, check_reply g subject (choice_in version) (schema_in text supported))
-step g (CheckAll subject text supported) = (g, check_all_reply g subject (schema_in text supported))
+step g command = if is_frozen (mode_for g command) then (g, fault NotPermitted) else carried_out g command
 
 -- this project's choice: the registry after the commands, one after the other
 abbrev pub run_commands : Registry → List Command → Registry

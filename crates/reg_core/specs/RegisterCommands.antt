@@ -3,7 +3,7 @@ use Rattle.std.specs.Prelude.{ℕ, ◌+◌, ◌++◌, nat_lt, nat_le, ◌&&◌, 
 use Rattle.std.specs.FinMap.{insert}
 use Rattle.avro_nodes.specs.Nodes.{NodeView}
 use Rattle.avro_nodes.specs.Identity.{identity}
-use Rattle.avro_schema.specs.Inside.DenotedNodes.{denoted_nodes}
+use Rattle.avro_schema.specs.DenotedNodes.{denoted_nodes}
 use Rattle.reg_core.specs.declared.level.Level.{Level}
 use Rattle.reg_core.specs.declared.code.Code.{Code}
 use Rattle.reg_core.specs.declared.code.Code.TheVariants.{InvalidSchema, InvalidVersion, Incompatible, NoNumberLeft}

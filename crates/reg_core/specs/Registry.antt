@@ -9,24 +9,34 @@ use Rattle.avro_nodes.specs.Identity.{identity}
 use Rattle.avro_schema.specs.Texts.{IsSchema}
 use Rattle.reg_core.specs.declared.level.Level.{Level}
 use Rattle.reg_core.specs.declared.level.Level.TheVariants.{Backward}
+use Rattle.reg_core.specs.declared.mode.Mode.{Mode}
+use Rattle.reg_core.specs.declared.mode.Mode.TheVariants.{Readwrite}
 
--- ---- levels
+-- ---- what subjects have of their own
 
--- Schema Registry API reference, Config: the levels of subjects that have one of their own, by subject
-abbrev pub OwnLevels : Type 0
-OwnLevels = List ℕ → Option Level
+-- Schema Registry API reference, Config and Mode: the values of subjects that have one of their own, by subject
+abbrev pub Own : Type 0 → Type 0
+Own A = List ℕ → Option A
 
--- Schema Registry API reference, Config: no subject has a level of its own
-abbrev pub no_own_levels : OwnLevels
-no_own_levels subject = None
+-- Schema Registry API reference, Config and Mode: no subject has one of its own
+abbrev pub no_own : {A : Type 0} → Own A
+no_own subject = None
 
--- Schema Registry API reference, PUT /config/{subject}: the subject has this level, and each other one what it had
-abbrev pub own_with : OwnLevels → List ℕ → Level → OwnLevels
-own_with own subject level other = if bytes_eq subject other then Some level else own other
+-- Schema Registry API reference, PUT /config/{subject} and PUT /mode/{subject}: the subject has this value, and each other one what it had
+abbrev pub own_with : {A : Type 0} → Own A → List ℕ → A → Own A
+own_with own subject value other = if bytes_eq subject other then Some value else own other
 
--- Schema Registry API reference, DELETE /subjects/{subject}: the subject has no level, and each other one what it had
-abbrev pub own_without : OwnLevels → List ℕ → OwnLevels
+-- Schema Registry API reference, DELETE /subjects/{subject}: the subject has none, and each other one what it had
+abbrev pub own_without : {A : Type 0} → Own A → List ℕ → Own A
 own_without own subject other = if bytes_eq subject other then None else own other
+
+-- Schema Registry API reference, Config: the levels of subjects
+abbrev pub OwnLevels : Type 0
+OwnLevels = Own Level
+
+-- Schema Registry API reference, Mode: the modes of subjects
+abbrev pub OwnModes : Type 0
+OwnModes = Own Mode
 
 -- ---- schemas
 
@@ -68,16 +78,19 @@ Rows = FinMap row_cmp Version
 
 -- ---- the registry
 
--- Schema Registry API reference, Schemas, Subjects and Config: the schemas, the versions of subjects, the global level, and the own levels
+-- Schema Registry API reference, Schemas, Subjects, Config and Mode: the schemas, the versions of subjects, the global level, the own levels, and the
+-- same of modes
 pub record Registry : Type 0 where
   pub schemas : Schemas
   pub rows : Rows
   pub global : Level
   pub own : OwnLevels
+  pub global_mode : Mode
+  pub own_modes : OwnModes
 
--- Schema Registry API reference, Config: a new registry's level is BACKWARD, and no subject has another one
+-- Schema Registry API reference, Config and Mode: a new registry's level is BACKWARD and its mode READWRITE, and no subject has others
 abbrev pub new_registry : Registry
-new_registry = record { schemas = []; rows = empty; global = Backward; own = no_own_levels }
+new_registry = record { schemas = []; rows = empty; global = Backward; own = no_own; global_mode = Readwrite; own_modes = no_own }
 
 -- this project's choice: the number of a version is within the limits, and a schema has its id
 pub record IsRow (schemas : Schemas) (key : RowKey) (version : Version) : Type 0 where

@@ -1,72 +1,41 @@
 -- What a decision looks at, and what it changes.
-use Rattle.std.specs.Prelude.{◌≡◌, ◌≤◌, ◌+◌, ⊤, ℕ, Bool, true, false, IsTrue, All, List, [], ◌∷◌, ◌++◌, length, string_bytes, if◌then◌else◌, unwrap_or, map, Option, None, Some, IfSome, option_map, option_and_then, option_to_list, Result, Ok, Err}
+use Rattle.std.specs.Prelude.{◌≡◌, ◌≢◌, ◌≤◌, ◌+◌, ⊤, ℕ, false, IsTrue, All, List, [], ◌∷◌, ◌++◌, length, string_bytes, if◌then◌else◌, unwrap_or, Option, None, Some, option_map, option_and_then, option_to_list, Result, Ok, Err}
 use Rattle.std.specs.BTreeMap as tree
 use Rattle.std.specs.Ordering.{nat_cmp}
-use Rattle.std.specs.FinMap.{get, insert, remove, entries}
+use Rattle.std.specs.FinMap.{get, insert, remove}
 use Rattle.avro_nodes.specs.Nodes.{NodeView}
 use Rattle.avro_nodes.specs.Identity.{identity}
 use Rattle.avro_schema.specs.Texts.{IsSchema}
-use Rattle.avro_schema.specs.Inside.DenotedNodes.{denoted_nodes}
+use Rattle.avro_schema.specs.DenotedNodes.{denoted_nodes}
 use Rattle.reg_core.specs.declared.level.Level.{Level}
+use Rattle.reg_core.specs.declared.mode.Mode.{Mode}
 use Rattle.reg_core.specs.declared.command.Command.{Command}
-use Rattle.reg_core.specs.declared.command.Command.TheVariants.{Register, DeleteVersion, DeleteSubject, Global, LevelOf, Lookup, Subjects, Versions, Version, Text, ById, VersionsOfId, Check, CheckAll}
+use Rattle.reg_core.specs.declared.command.Command.TheVariants.{Register, Lookup, Version, Text, ById, Check, CheckAll}
 use Rattle.reg_core.specs.declared.decision.View.{View}
+use Rattle.reg_core.specs.declared.decision.Decision.{Decision}
 use Rattle.reg_core.specs.declared.decision.Change.{Change}
 use Rattle.reg_core.specs.declared.decision.Change.TheVariants as change
-use Rattle.reg_core.specs.Numbers.{id_in, choice_in}
+use Rattle.reg_core.specs.Numbers.{choice_in}
 use Rattle.reg_core.specs.Registry.{Registry, IsRegistry, Row, RowKey, Rows, IsRow, Schemas, max_number, own_with, own_without}
 use Rattle.reg_core.specs.Registry as registry
 use Rattle.reg_core.specs.DeletionCommands.{as_deleted}
-use Rattle.reg_core.specs.Rows.{rows_of, shown_rows, live_rows, known_id, id_of, text_at}
-use Rattle.reg_core.specs.ReadCommands.{found_row, looked_up, rows_with_id}
+use Rattle.reg_core.specs.Rows.{shown_rows, live_rows, known_id, id_of, text_at}
+use Rattle.reg_core.specs.ReadCommands.{found_row, looked_up}
 use Rattle.reg_core.specs.RegisterCommands.{is_among}
+use Rattle.reg_core.specs.Replies.{IsOwnReply}
 use Rattle.reg_core.specs.Compatibility.{latest, named_versions}
-use Rattle.reg_core.specs.Machine.{subject_of, schema_sent}
+use Rattle.reg_core.specs.Needs.{rows_asked, rows_needed, needs_levels, needs_count, AnswerAs}
+use Rattle.reg_core.specs.Machine.{is_write, subject_of, sends_schema, schema_sent, mode_by, mode_for, step}
 
--- ---- what a command needs to know
-
--- Schema Registry API reference: the versions that a command looks at, deleted ones too: those of its subject, those of its id, or all
-abbrev pub rows_needed : Registry → Command → Option (List Row)
-rows_needed g (Register subject text supported) = Some (rows_of g subject)
-rows_needed g (DeleteVersion subject version permanent) = Some (rows_of g subject)
-rows_needed g (DeleteSubject subject permanent) = Some (rows_of g subject)
-rows_needed g (Lookup subject text supported deleted) = Some (rows_of g subject)
-rows_needed g (Subjects deleted) = Some (entries g.rows)
-rows_needed g (Versions subject deleted) = Some (rows_of g subject)
-rows_needed g (Version subject version deleted) = Some (rows_of g subject)
-rows_needed g (Text subject version deleted) = Some (rows_of g subject)
-rows_needed g (ById id) = Some (rows_with_id (id_in id) (entries g.rows))
-rows_needed g (VersionsOfId id deleted) = Some (rows_with_id (id_in id) (entries g.rows))
-rows_needed g (Check subject version text supported) = Some (rows_of g subject)
-rows_needed g (CheckAll subject text supported) = Some (rows_of g subject)
-rows_needed g _ = None
-
--- This project's choice: these versions give the command's answer as all that it looks at do. Where one version answers it,
--- they may leave out the others: where a version is chosen, and where the schema of an id is shown.
-abbrev pub AnswerAs : Command → List Row → List Row → Type 0
-AnswerAs (Version subject version deleted) seen all = found_row (choice_in version) (shown_rows deleted seen) ≡ found_row (choice_in version) (shown_rows deleted all)
-AnswerAs (Text subject version deleted) seen all = found_row (choice_in version) (shown_rows deleted seen) ≡ found_row (choice_in version) (shown_rows deleted all)
-AnswerAs (ById id) seen all = map (λ (row : Row). row.1.id) (latest seen) ≡ map (λ (row : Row). row.1.id) (latest all)
-AnswerAs (Check subject version text supported) seen all = found_row (choice_in version) (live_rows seen) ≡ found_row (choice_in version) (live_rows all)
-AnswerAs _ seen all = seen ≡ all
-
--- Schema Registry API reference, Config and Compatibility: whether a command looks at levels
-abbrev pub needs_levels : Command → Bool
-needs_levels (Register subject text supported) = true
-needs_levels Global = true
-needs_levels (LevelOf subject default_to_global) = true
-needs_levels (Check subject version text supported) = true
-needs_levels (CheckAll subject text supported) = true
-needs_levels _ = false
-
--- Schema Registry API reference, Schemas: whether a command looks at the number of schemas, after which new ids come
-abbrev pub needs_count : Command → Bool
-needs_count (Register subject text supported) = true
-needs_count _ = false
+-- ---- views
 
 -- Schema Registry API reference, Compatibility: the level in force, as a view has it
 abbrev pub level_of_view : View → Level
 level_of_view view = unwrap_or view.own view.global
+
+-- this project's choice: the mode that a command looks at, as a view has it
+abbrev pub mode_seen : View → Command → Option Mode
+mode_seen view command = mode_by command view.own_mode view.global_mode
 
 -- the version that was found, if one was
 abbrev pub row_found : {E : Type 0} → Result Row E → List Row
@@ -92,8 +61,9 @@ text_in view id = option_map string_bytes (tree.get nat_cmp view.texts id)
 
 -- This project's choice: the view shows what the command needs of the registry. More may be there, but no text that isn't the id's.
 pub record IsViewOf (view : View) (g : Registry) (command : Command) : Type 0 where
-  pub rows : IfSome (rows_needed g command) (AnswerAs command view.rows.items)
+  pub rows : AnswerAs (level_of_view view) view.known (rows_asked command) view.rows.items (rows_needed g (subject_of command) (rows_asked command))
   pub levels : IsTrue (needs_levels command) → (view.own ≡ option_and_then g.own (subject_of command)) × (view.global ≡ g.global)
+  pub mode : mode_seen view command ≡ mode_for g command
   pub known : view.known ≡ known_id g.schemas (schema_sent command)
   pub count : IsTrue (needs_count command) → view.count ≡ length g.schemas
   pub texts : All (λ (row : Row). text_in view row.1.id ≡ text_at g.schemas row.1.id) (rows_read command view)
@@ -104,6 +74,10 @@ pub record IsGround (g : Registry) (command : Command) (schema : Option (List No
   pub registry : IsRegistry g
   pub sent : schema ≡ schema_sent command
   pub shows : IsViewOf view g command
+
+-- this project's choice: what a command takes of the schema that is lent beside it: none where it sends none of a type that is supported
+abbrev pub schema_taken : Command → Option (List NodeView) → Option (List NodeView)
+schema_taken command schema = if sends_schema command then schema else None
 
 -- ---- changes
 
@@ -154,3 +128,15 @@ ChangeFits (change.DropLevel subject) g = ⊤
 abbrev pub ChangesFit : List Change → Registry → Type 0
 ChangesFit [] g = ⊤
 ChangesFit (change ∷ changes) g = ChangeFits change g × ChangesFit changes (after_change change g)
+
+-- ---- decisions
+
+-- This project's choice: on each ground a decision tells and changes what the plain machine does, and the registry can have each change, at its turn.
+-- A read changes nothing, and a refusal neither. The reply is no fault of the backend, and doesn't say that a key was used for another request.
+pub record Decides (command : Command) (schema : Option (List NodeView)) (view : View) (decision : Decision) : Type 0 where
+  pub reply : (g : Registry) → IsGround g command (schema_taken command schema) view → decision.reply ≡ (step g command).1
+  pub changes : (g : Registry) → IsGround g command (schema_taken command schema) view → after_changes decision.changes.items g ≡ (step g command).0
+  pub fit : (g : Registry) → IsGround g command (schema_taken command schema) view → ChangesFit decision.changes.items g
+  pub read : is_write command ≡ false → decision.changes.items ≡ []
+  pub refusal : decision.reply.status ≢ 200 → decision.changes.items ≡ []
+  pub own : IsOwnReply decision.reply

@@ -1,10 +1,9 @@
 //! Commands, and the text by which a write is kept and compared.
 
 ghost use Rattle.std.specs.Prelude.{◌≡◌, true, IfOk, option_and_then, option_copied, string_bytes};
-ghost use Rattle.avro_schema.specs.Inside.DenotedNodes.{denoted_nodes};
+ghost use Rattle.avro_schema.specs.DenotedNodes.{denoted_nodes};
 ghost use Rattle.reg_core.specs.CommandTexts.{command_text};
-ghost use Rattle.reg_core.specs.Machine.{is_write, schema_sent, subject_of};
-ghost use Rattle.reg_core.specs.Views.{needs_count, needs_levels};
+ghost use Rattle.reg_core.specs.Machine.{is_write, schema_sent, sends_schema, subject_of};
 
 use crate::subject::Subject;
 use crate::text::Text;
@@ -152,6 +151,19 @@ impl Command {
         }
     }
 
+    /// Whether the command sends a text of a type that is supported.
+    pub(crate) fn sends_schema(&self) -> bool
+        ensures { result ≡ sends_schema self.now }
+    {
+        match self {
+            Command::Register { supported, .. }
+            | Command::Lookup { supported, .. }
+            | Command::Check { supported, .. }
+            | Command::CheckAll { supported, .. } => *supported,
+            _ => false,
+        }
+    }
+
     /// The text of the schema that the command sends, if it sends one that is supported.
     #[tactic(auto, unfolding(crate::specs::RegisterCommands::schema_in))]
     pub fn schema_text(&self) -> Option<&Text>
@@ -179,30 +191,6 @@ impl Command {
                 ..
             } => { if *supported { Some(text) } else { None } }
             _ => None,
-        }
-    }
-
-    /// Whether the command looks at levels.
-    pub fn needs_levels(&self) -> bool
-        ensures { result ≡ needs_levels self.now }
-    {
-        match self {
-            Command::Register { .. }
-            | Command::Global
-            | Command::LevelOf { .. }
-            | Command::Check { .. }
-            | Command::CheckAll { .. } => true,
-            _ => false,
-        }
-    }
-
-    /// Whether the command looks at the number of schemas.
-    pub fn needs_count(&self) -> bool
-        ensures { result ≡ needs_count self.now }
-    {
-        match self {
-            Command::Register { .. } => true,
-            _ => false,
         }
     }
 }

@@ -2,36 +2,41 @@
 
 ghost use Rattle.std.specs.Prelude.{◌≡◌, ◌≢◌, [], false, IfOk, option_copied, option_map};
 ghost use Rattle.avro_nodes.specs.Nodes.{nodes_view};
-ghost use Rattle.reg_core.specs.Machine.{is_write, step};
+ghost use Rattle.reg_core.specs.Machine.{carried_out, is_write};
 ghost use Rattle.reg_core.specs.Registry.{Registry};
 ghost use Rattle.reg_core.specs.Replies.{IsOwnReply};
-ghost use Rattle.reg_core.specs.Views.{ChangesFit, IsGround, after_changes};
+ghost use Rattle.reg_core.specs.Views.{ChangesFit, Decides, IsGround, after_changes, schema_taken};
 
+use crate::code::Code;
 use crate::command::Command;
 use crate::decision::deleting::{delete_subject, delete_version};
-use crate::decision::levels::{level_reply, level_shown, set_level, shown_reply};
+use crate::decision::modes::is_frozen;
 use crate::decision::reading::{
     by_id, lookup, subjects, types, version, version_text, versions, versions_of_id,
 };
 use crate::decision::registering::{check, check_all, register};
+use crate::decision::settings::{set, shown_answer, shown_reply, value_shown};
 use crate::level::Level;
+use crate::mode::Mode;
 use crate::reply::Reply;
 use crate::row::Row;
 use crate::subject::Subject;
 use crate::text::Text;
 use avro_nodes::OutOfMemory;
 use avro_schema::Schema;
+use schema_memory::Memory;
 use std::alloc::Global;
 use std::collections::BTreeMap;
 
 mod bodies;
 mod comparing;
 mod deleting;
-mod levels;
+mod modes;
 mod needs;
 mod reading;
 mod registering;
 mod rows;
+mod settings;
 
 pub use comparing::schema_of;
 pub use needs::ids_read;
@@ -40,8 +45,8 @@ pub use needs::ids_read;
 #[derive(Drop)]
 pub struct View {
     /// The versions of the command's subject or id, or of all subjects, deleted ones too, in the
-    /// order of the bytes of their subjects, and then of their numbers. Where one of them gives the
-    /// answer, as where a version is chosen, the others may be left out.
+    /// order of the bytes of their subjects, and then of their numbers. Those that change neither
+    /// the answer nor the changes may be left out.
     pub rows: Vec<Row>,
     /// The identity texts of ids: of those that the command shows or compares with.
     pub texts: BTreeMap<u32, String>,
@@ -49,6 +54,10 @@ pub struct View {
     pub own: Option<Level>,
     /// The global compatibility level.
     pub global: Level,
+    /// The mode that the command's subject has of its own, if it has one.
+    pub own_mode: Option<Mode>,
+    /// The global mode.
+    pub global_mode: Mode,
     /// The id of the schema that the command sends, if it has one.
     pub known: Option<u32>,
     /// The number of schemas, which is the greatest id.
@@ -84,24 +93,67 @@ pub struct Decision {
 }
 
 /// What the command does to the registry that the view is of, and its reply. The schema is the one
-/// that the command sends, if its text denotes one and its type is supported. It is pure.
+/// that the command's text denotes, if it denotes one. Where the command's type isn't supported, the
+/// schema isn't looked at. It is pure.
 ///
 /// # Errors
 ///
 /// `OutOfMemory` where memory for the changes, for the reply or for a comparison is refused.
-#[tactic(auto, unfolding(crate::specs::Machine::step))]
 pub fn decide(
     alloc: Global,
     view: &View,
     command: &Command,
     schema: Option<&Schema>,
 ) -> Result<Decision, OutOfMemory>
+    ensures { IfOk result (Decides command.now (option_map nodes_view (option_copied schema.entry)) view.now) }
+{
+    decide_with(alloc, view, command, schema, None)
+}
+
+/// The same, where schemas that are remembered aren't read again. The memory changes nothing of the
+/// answer.
+///
+/// # Errors
+///
+/// `OutOfMemory` where memory for the changes, for the reply or for a comparison is refused.
+pub fn decide_with(
+    alloc: Global,
+    view: &View,
+    command: &Command,
+    schema: Option<&Schema>,
+    memory: Option<&mut Memory>,
+) -> Result<Decision, OutOfMemory>
+    ensures { IfOk result (Decides command.now (option_map nodes_view (option_copied schema.entry)) view.now) }
+{
+    if is_frozen(view, command) {
+        return Ok(unchanged(alloc, Reply::fault(Code::NotPermitted)));
+    }
+    carry_out(alloc, view, command, taken(command, schema), memory)
+}
+
+/// The schema, if the command sends one of a type that is supported.
+fn taken<'a>(command: &Command, schema: Option<&'a Schema>) -> Option<&'a Schema>
+    ensures { option_map nodes_view (option_copied result)
+        ≡ schema_taken command.now (option_map nodes_view (option_copied schema.entry)) }
+{
+    if command.sends_schema() { schema } else { None }
+}
+
+/// What a command does that no mode forbids.
+#[tactic(auto, unfolding(crate::specs::Machine::carried_out))]
+fn carry_out(
+    alloc: Global,
+    view: &View,
+    command: &Command,
+    schema: Option<&Schema>,
+    memory: Option<&mut Memory>,
+) -> Result<Decision, OutOfMemory>
     ensures reply { IfOk result (λ decision. (g : Registry)
         → IsGround g command.now (option_map nodes_view (option_copied schema.entry)) view.now
-        → decision.reply ≡ (step g command.now).1) }
+        → decision.reply ≡ (carried_out g command.now).1) }
     ensures changes { IfOk result (λ decision. (g : Registry)
         → IsGround g command.now (option_map nodes_view (option_copied schema.entry)) view.now
-        → after_changes decision.changes.items g ≡ (step g command.now).0) }
+        → after_changes decision.changes.items g ≡ (carried_out g command.now).0) }
 
     // The registry can have each change, at its turn.
     ensures fit { IfOk result (λ decision. (g : Registry)
@@ -116,9 +168,9 @@ pub fn decide(
     ensures own { IfOk result (λ decision. IsOwnReply decision.reply) }
 {
     match command {
-        Command::SetGlobal { level } => set_level(alloc, None, level.as_str()),
-        Command::SetLevel { subject, level } => set_level(alloc, Some(subject), level.as_str()),
-        Command::Register { subject, .. } => register(alloc, view, subject, schema),
+        Command::SetGlobal { level } => set::<Level>(alloc, None, level.as_str()),
+        Command::SetLevel { subject, level } => set::<Level>(alloc, Some(subject), level.as_str()),
+        Command::Register { subject, .. } => register(alloc, view, subject, schema, memory),
         Command::DeleteVersion {
             subject,
             version: chosen,
@@ -128,32 +180,36 @@ pub fn decide(
             delete_subject(alloc, view, subject, *permanent)
         }
         _ => {
-            let reply = reply_to_read(alloc, view, command, schema)?;
+            let reply = reply_to_read(alloc, view, command, schema, memory)?;
             Ok(unchanged(alloc, reply))
         }
     }
 }
 
 /// The reply to a read.
-#[tactic(auto, unfolding(crate::specs::Machine::step))]
+#[tactic(auto, unfolding(crate::specs::Machine::carried_out))]
 fn reply_to_read(
     alloc: Global,
     view: &View,
     command: &Command,
     schema: Option<&Schema>,
+    memory: Option<&mut Memory>,
 ) -> Result<Reply, OutOfMemory>
     requires { is_write command.now ≡ false }
     ensures reply { IfOk result (λ reply. (g : Registry)
         → IsGround g command.now (option_map nodes_view (option_copied schema.entry)) view.now
-        → reply ≡ (step g command.now).1) }
+        → reply ≡ (carried_out g command.now).1) }
     ensures own { IfOk result (λ reply. IsOwnReply reply) }
 {
     match command {
-        Command::Global => level_reply(alloc, "compatibilityLevel", view.global),
+        Command::Global => shown_answer(alloc, view.global),
         Command::LevelOf {
             default_to_global,
             ..
-        } => shown_reply(alloc, level_shown(view, *default_to_global)),
+        } => shown_reply(
+            alloc,
+            value_shown(view.own, view.global, *default_to_global),
+        ),
         Command::Lookup { deleted, .. } => lookup(alloc, view, schema, *deleted),
         Command::Subjects { deleted } => subjects(alloc, *deleted, view.rows.as_slice()),
         Command::Versions { deleted, .. } => versions(alloc, *deleted, view.rows.as_slice()),
@@ -172,8 +228,8 @@ fn reply_to_read(
             versions_of_id(alloc, *deleted, view.rows.as_slice(), id.as_str())
         }
         Command::Types => types(alloc),
-        Command::Check { version, .. } => check(alloc, view, version.as_str(), schema),
-        Command::CheckAll { .. } => check_all(alloc, view, schema),
+        Command::Check { version, .. } => check(alloc, view, version.as_str(), schema, memory),
+        Command::CheckAll { .. } => check_all(alloc, view, schema, memory),
         _ => unreachable!(),
     }
 }

@@ -1,6 +1,7 @@
 //! Compatibility levels.
 
 ghost use Rattle.std.specs.Prelude.{◌≡◌, IfSome, Some};
+ghost use Rattle.reg_core.specs.Compatibility.{names_all};
 ghost use Rattle.reg_core.specs.Levels.{level_of, level_text};
 
 /// A compatibility level: which earlier schemas of a subject a new one has to resolve with, and
@@ -61,6 +62,16 @@ impl Level {
             Level::Full => "FULL",
             Level::FullTransitive => "FULL_TRANSITIVE",
             Level::Off => "NONE",
+        }
+    }
+
+    /// Whether a new schema is compared with all live versions of its subject.
+    pub fn names_all(self) -> bool
+        ensures { result ≡ names_all self }
+    {
+        match self {
+            Level::BackwardTransitive | Level::ForwardTransitive | Level::FullTransitive => true,
+            Level::Backward | Level::Forward | Level::Full | Level::Off => false,
         }
     }
 }

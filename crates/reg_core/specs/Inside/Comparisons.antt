@@ -3,7 +3,7 @@ use Rattle.std.specs.Prelude.{Bool, false, List, Option, option_and_then}
 use Rattle.std.specs.List.{list_all}
 use Rattle.std.specs.Option.{option_map_or}
 use Rattle.avro_nodes.specs.Nodes.{NodeView}
-use Rattle.avro_schema.specs.Inside.DenotedNodes.{denoted_nodes}
+use Rattle.avro_schema.specs.DenotedNodes.{denoted_nodes}
 use Rattle.reg_core.specs.declared.level.Level.{Level}
 use Rattle.reg_core.specs.declared.decision.View.{View}
 use Rattle.reg_core.specs.Registry.{Row}

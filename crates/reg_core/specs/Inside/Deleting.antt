@@ -1,9 +1,7 @@
 -- What deletions change.
-use Rattle.std.specs.Prelude.{ℕ, Bool, true, false, List, [], ◌∷◌, Option, None, Some, Result}
+use Rattle.std.specs.Prelude.{ℕ, Bool, true, false, List, [], ◌∷◌, Option, None, Some}
 use Rattle.reg_core.specs.declared.code.Code.{Code}
 use Rattle.reg_core.specs.declared.code.Code.TheVariants.{SubjectNotFound, SubjectSoftDeleted, SubjectNotSoftDeleted}
-use Rattle.reg_core.specs.declared.number.Choice.{Choice}
-use Rattle.reg_core.specs.DeletionCommands.{row_to_mark, row_to_remove}
 use Rattle.reg_core.specs.Registry.{Row}
 use Rattle.reg_core.specs.declared.decision.Change.{Change}
 use Rattle.reg_core.specs.declared.decision.Change.TheVariants.{MarkDeleted, Remove}
@@ -12,11 +10,6 @@ use Rattle.reg_core.specs.declared.decision.Change.TheVariants.{MarkDeleted, Rem
 abbrev pub version_change : Bool → List ℕ → ℕ → Change
 version_change false subject version = MarkDeleted subject version
 version_change true subject version = Remove subject version
-
--- the version to soft-delete, or with `permanent` to remove, or why there is none
-abbrev pub row_to_delete : Bool → Option Choice → List Row → Result Row Code
-row_to_delete false choice rows = row_to_mark choice rows
-row_to_delete true choice rows = row_to_remove choice rows
 
 -- why a subject with these versions, of which these are live, can't be soft-deleted, or with `permanent` removed
 abbrev pub subject_refusal : Bool → List Row → List Row → Option Code

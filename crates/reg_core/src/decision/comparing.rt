@@ -1,8 +1,10 @@
 //! The comparison of a new schema with earlier versions, whose texts a view has.
 
-ghost use Rattle.std.specs.Prelude.{◌≡◌, IfOk, map, option_map};
-ghost use Rattle.avro_nodes.specs.Nodes.{nodes_view};
-ghost use Rattle.avro_schema.specs.Inside.DenotedNodes.{denoted_nodes};
+ghost use Rattle.std.specs.Prelude.{◌≡◌, IfOk, List, Option, map, option_map};
+ghost use Rattle.avro_nodes.specs.Nodes.{NodeView, nodes_view};
+ghost use Rattle.avro_schema.specs.DenotedNodes.{denoted_nodes};
+ghost use Rattle.avro_schema.specs.Inside.ReaderAnswers.{Gives};
+ghost use Rattle.schema_memory.specs.Answers.{schema_in};
 ghost use Rattle.reg_core.specs.Inside.Comparisons.{is_read_admitted, is_read_compatible};
 
 use crate::compatibility::{is_compatible, named};
@@ -11,17 +13,45 @@ use crate::level::Level;
 use crate::row::Row;
 use avro_nodes::OutOfMemory;
 use avro_schema::{Schema, SchemaError};
+use schema_memory::{Found, Memory, WhenFull};
 use std::alloc::Global;
 
 /// The schema that the text denotes, if it denotes one.
 pub fn schema_of(alloc: Global, text: &str) -> Result<Option<Schema>, OutOfMemory>
     ensures { IfOk result (λ found. option_map nodes_view found ≡ denoted_nodes text.now) }
 {
-    match Schema::read(alloc, text) {
-        Ok(schema) => Ok(Some(schema)),
+    if_denoted(Schema::read(alloc, text))
+}
+
+/// What was read, if the text denotes a schema.
+fn if_denoted<T>(read: Result<T, SchemaError>) -> Result<Option<T>, OutOfMemory>
+    ensures { (shown : T → List NodeView) (denoted : Option (List NodeView)) → Gives shown read denoted
+        → IfOk result (λ found. option_map shown found ≡ denoted) }
+{
+    match read {
+        Ok(found) => Ok(Some(found)),
         Err(error) => match error {
             SchemaError::OutOfMemory => Err(OutOfMemory),
             _ => Ok(None),
+        },
+    }
+}
+
+/// The schema that the text of an id denotes. It isn't read where the memory has it.
+fn read_earlier<'a>(
+    alloc: Global,
+    id: u32,
+    text: &str,
+    memory: &'a mut Option<&mut Memory>,
+    when_full: WhenFull,
+) -> Result<Found<'a>, SchemaError>
+    ensures { Gives (λ found. nodes_view (schema_in found)) result (denoted_nodes text.now) }
+{
+    match memory {
+        Some(memory) => memory.read(alloc, id, text, when_full),
+        None => match Schema::read(alloc, text) {
+            Ok(schema) => Ok(Found::Read(schema)),
+            Err(error) => Err(error),
         },
     }
 }
@@ -38,16 +68,30 @@ pub fn admits_after(
     level: Level,
     rows: &[&Row],
     new: &Schema,
+    mut memory: Option<&mut Memory>,
 ) -> Result<bool, OutOfMemory>
     ensures { IfOk result (λ yes. yes
         ≡ is_read_admitted view.now level (map (λ row. row.now) rows.now) (nodes_view new.now)) }
 {
-    for row in named(level, rows) {
-        if !fits_version(alloc, view, level, row, new)? {
+    let versions = named(level, rows);
+    let when_full = when_full(view, versions);
+    for row in versions {
+        if !fits_version(alloc, view, level, row, new, &mut memory, when_full)? {
             return Ok(false);
         }
     }
     Ok(true)
+}
+
+/// What a memory that is full does while these versions are compared.
+fn when_full(view: &View, rows: &[&Row]) -> WhenFull {
+    let mut bytes = 0usize;
+    for row in rows {
+        if let Some(text) = view.texts.get(&row.id()) {
+            bytes = bytes.saturating_add(text.len());
+        }
+    }
+    WhenFull::of_scan(rows.len(), bytes)
 }
 
 /// Whether the version's schema and the new one are compatible, as the level asks. They aren't
@@ -58,6 +102,8 @@ fn fits_version(
     level: Level,
     row: &Row,
     new: &Schema,
+    memory: &mut Option<&mut Memory>,
+    when_full: WhenFull,
 ) -> Result<bool, OutOfMemory>
     ensures { IfOk result (λ yes. yes
         ≡ is_read_compatible view.now level (nodes_view new.now) row.now) }
@@ -65,8 +111,9 @@ fn fits_version(
     let Some(text) = view.texts.get(&row.id()) else {
         return Ok(false);
     };
-    match schema_of(alloc, text.as_str())? {
-        Some(earlier) => is_compatible(alloc, level, &earlier, new),
+    let earlier = read_earlier(alloc, row.id(), text.as_str(), memory, when_full);
+    match if_denoted(earlier)? {
+        Some(earlier) => is_compatible(alloc, level, earlier.schema(), new),
         None => Ok(false),
     }
 }

@@ -5,9 +5,9 @@ ghost use Rattle.std.specs.Result.{result_map_both};
 ghost use Rattle.avro_nodes.specs.Nodes.{NodeView};
 ghost use Rattle.reg_core.specs.declared.command.Command.TheVariants.{DeleteSubject, DeleteVersion};
 ghost use Rattle.reg_core.specs.Bodies.{number_body};
-ghost use Rattle.reg_core.specs.DeletionCommands.{numbers_reply, row_to_mark, row_to_remove};
-ghost use Rattle.reg_core.specs.Inside.Deleting.{row_to_delete, subject_refusal, version_change};
-ghost use Rattle.reg_core.specs.Machine.{step};
+ghost use Rattle.reg_core.specs.DeletionCommands.{numbers_reply, row_to_delete, row_to_mark, row_to_remove};
+ghost use Rattle.reg_core.specs.Inside.Deleting.{subject_refusal, version_change};
+ghost use Rattle.reg_core.specs.Machine.{carried_out};
 ghost use Rattle.reg_core.specs.Registry.{Registry};
 ghost use Rattle.reg_core.specs.Replies.{IsOwnReply, answer};
 ghost use Rattle.reg_core.specs.Rows.{live_rows};
@@ -34,10 +34,10 @@ pub fn delete_version(
 ) -> Result<Decision, OutOfMemory>
     ensures reply { IfOk result (λ decision. (g : Registry) (schema : Option (List NodeView))
         → IsGround g (DeleteVersion subject.now version.now permanent) schema view.now
-        → decision.reply ≡ (step g (DeleteVersion subject.now version.now permanent)).1) }
+        → decision.reply ≡ (carried_out g (DeleteVersion subject.now version.now permanent)).1) }
     ensures changes { IfOk result (λ decision. (g : Registry) (schema : Option (List NodeView))
         → IsGround g (DeleteVersion subject.now version.now permanent) schema view.now
-        → after_changes decision.changes.items g ≡ (step g (DeleteVersion subject.now version.now permanent)).0) }
+        → after_changes decision.changes.items g ≡ (carried_out g (DeleteVersion subject.now version.now permanent)).0) }
     ensures fit { IfOk result (λ decision. (g : Registry) → ChangesFit decision.changes.items g) }
     ensures refusal { IfOk result (λ decision. decision.reply.status ≢ 200 → decision.changes.items ≡ []) }
     ensures own { IfOk result (λ decision. IsOwnReply decision.reply) }
@@ -138,10 +138,10 @@ pub fn delete_subject(
 ) -> Result<Decision, OutOfMemory>
     ensures reply { IfOk result (λ decision. (g : Registry) (schema : Option (List NodeView))
         → IsGround g (DeleteSubject subject.now permanent) schema view.now
-        → decision.reply ≡ (step g (DeleteSubject subject.now permanent)).1) }
+        → decision.reply ≡ (carried_out g (DeleteSubject subject.now permanent)).1) }
     ensures changes { IfOk result (λ decision. (g : Registry) (schema : Option (List NodeView))
         → IsGround g (DeleteSubject subject.now permanent) schema view.now
-        → after_changes decision.changes.items g ≡ (step g (DeleteSubject subject.now permanent)).0) }
+        → after_changes decision.changes.items g ≡ (carried_out g (DeleteSubject subject.now permanent)).0) }
     ensures fit { IfOk result (λ decision. (g : Registry) → ChangesFit decision.changes.items g) }
     ensures refusal { IfOk result (λ decision. decision.reply.status ≢ 200 → decision.changes.items ≡ []) }
     ensures own { IfOk result (λ decision. IsOwnReply decision.reply) }

@@ -4,7 +4,7 @@ ghost use Rattle.std.specs.Prelude.{◌≡◌, ◌≢◌, ℕ, Bool, List, [], N
 ghost use Rattle.avro_nodes.specs.Nodes.{nodes_view};
 ghost use Rattle.reg_core.specs.declared.command.Command.TheVariants.{Check, CheckAll, Register};
 ghost use Rattle.reg_core.specs.Bodies.{id_body, verdict_body};
-ghost use Rattle.reg_core.specs.Machine.{step};
+ghost use Rattle.reg_core.specs.Machine.{carried_out};
 ghost use Rattle.reg_core.specs.Inside.Registering.{has_numbers_shown, id_among, id_shown, row_shown, version_added};
 ghost use Rattle.reg_core.specs.Registry.{Registry};
 ghost use Rattle.reg_core.specs.Replies.{IsOwnReply, answer};
@@ -23,6 +23,7 @@ use crate::subject::Subject;
 use crate::text::Text;
 use avro_nodes::OutOfMemory;
 use avro_schema::Schema;
+use schema_memory::Memory;
 use serde_json::json;
 use std::alloc::Global;
 
@@ -33,13 +34,14 @@ pub fn register(
     view: &View,
     subject: &Subject,
     schema: Option<&Schema>,
+    memory: Option<&mut Memory>,
 ) -> Result<Decision, OutOfMemory>
     ensures reply { IfOk result (λ decision. (g : Registry) (text : List ℕ) (supported : Bool)
         → IsGround g (Register subject.now text supported) (option_map nodes_view (option_copied schema.entry)) view.now
-        → decision.reply ≡ (step g (Register subject.now text supported)).1) }
+        → decision.reply ≡ (carried_out g (Register subject.now text supported)).1) }
     ensures changes { IfOk result (λ decision. (g : Registry) (text : List ℕ) (supported : Bool)
         → IsGround g (Register subject.now text supported) (option_map nodes_view (option_copied schema.entry)) view.now
-        → after_changes decision.changes.items g ≡ (step g (Register subject.now text supported)).0) }
+        → after_changes decision.changes.items g ≡ (carried_out g (Register subject.now text supported)).0) }
     ensures fit { IfOk result (λ decision. (g : Registry) (text : List ℕ) (supported : Bool)
         → IsGround g (Register subject.now text supported) (option_map nodes_view (option_copied schema.entry)) view.now
         → ChangesFit decision.changes.items g) }
@@ -54,7 +56,7 @@ pub fn register(
         let reply = id_reply(alloc, id)?;
         return Ok(unchanged(alloc, reply));
     }
-    if !admits_after(alloc, view, level_in_force(view), &live, new)? {
+    if !admits_after(alloc, view, level_in_force(view), &live, new, memory)? {
         return Ok(unchanged(alloc, Reply::fault(Code::Incompatible)));
     }
     let Some(row) = next_row(view, subject)? else {
@@ -66,17 +68,22 @@ pub fn register(
 }
 
 /// The reply to whether the subject's level would admit the schema.
-pub fn check_all(alloc: Global, view: &View, schema: Option<&Schema>) -> Result<Reply, OutOfMemory>
+pub fn check_all(
+    alloc: Global,
+    view: &View,
+    schema: Option<&Schema>,
+    memory: Option<&mut Memory>,
+) -> Result<Reply, OutOfMemory>
     ensures reply { IfOk result (λ reply. (g : Registry) (subject text : List ℕ) (supported : Bool)
         → IsGround g (CheckAll subject text supported) (option_map nodes_view (option_copied schema.entry)) view.now
-        → reply ≡ (step g (CheckAll subject text supported)).1) }
+        → reply ≡ (carried_out g (CheckAll subject text supported)).1) }
     ensures own { IfOk result (λ reply. IsOwnReply reply) }
 {
     let Some(new) = schema else {
         return Ok(Reply::fault(Code::InvalidSchema));
     };
     let live = shown_rows(alloc, false, &view.rows)?;
-    let fits = admits_after(alloc, view, level_in_force(view), &live, new)?;
+    let fits = admits_after(alloc, view, level_in_force(view), &live, new, memory)?;
     verdict_reply(alloc, fits)
 }
 
@@ -87,10 +94,11 @@ pub fn check(
     view: &View,
     version: &str,
     schema: Option<&Schema>,
+    memory: Option<&mut Memory>,
 ) -> Result<Reply, OutOfMemory>
     ensures reply { IfOk result (λ reply. (g : Registry) (subject text : List ℕ) (supported : Bool)
         → IsGround g (Check subject version.now text supported) (option_map nodes_view (option_copied schema.entry)) view.now
-        → reply ≡ (step g (Check subject version.now text supported)).1) }
+        → reply ≡ (carried_out g (Check subject version.now text supported)).1) }
     ensures own { IfOk result (λ reply. IsOwnReply reply) }
 {
     let Some(choice) = choice_in(version) else {
@@ -102,7 +110,7 @@ pub fn check(
     let live = shown_rows(alloc, false, &view.rows)?;
     match found_row(Some(choice), &live) {
         Ok(row) => {
-            let fits = admits_after(alloc, view, level_in_force(view), &[row], new)?;
+            let fits = admits_after(alloc, view, level_in_force(view), &[row], new, memory)?;
             verdict_reply(alloc, fits)
         }
         Err(code) => Ok(Reply::fault(code)),

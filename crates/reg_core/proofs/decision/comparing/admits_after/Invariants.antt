@@ -5,4 +5,4 @@ use Rattle.reg_core.specs.Inside.Comparisons.{is_read_compatible}
 use Rattle.reg_core.proofs.decision.comparing.admits_after.Given as goal
 
 abbrev pub invariant-loop-row : goal.invariant-loop-row
-invariant-loop-row l = list_all (λ row. is_read_compatible l.view l.level (nodes_view l.new) row.now) (take l.row-index l.row-items) ≡ true
+invariant-loop-row l = list_all (λ row. is_read_compatible l.view l.level (nodes_view l.new) row.now) (take l.row-index l.versions) ≡ true

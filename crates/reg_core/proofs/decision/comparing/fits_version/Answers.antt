@@ -3,7 +3,9 @@ use Rattle.std.specs.Prelude.{option_map, string_bytes}
 use Rattle.std.proofs.lemmas.Result.{IfOk-weaker}
 use Rattle.std.proofs.lemmas.Bool.Decides.{same_from_decides}
 use Rattle.avro_nodes.specs.Nodes.{nodes_view}
-use Rattle.avro_schema.specs.Inside.DenotedNodes.{denoted_nodes}
+use Rattle.avro_schema.specs.DenotedNodes.{denoted_nodes}
+use Rattle.schema_memory.specs.declared.found.Found.{Found}
+use Rattle.schema_memory.specs.Answers.{schema_in}
 use Rattle.reg_core.specs.Views.{text_in}
 use Rattle.reg_core.specs.Verdicts.{is_compatible}
 use Rattle.reg_core.proofs.VerdictLemmas.{compatible_decides}
@@ -12,12 +14,14 @@ use Rattle.reg_core.proofs.decision.comparing.fits_version.Goals as goal
 
 pub returns-in-Some-2 : goal.returns-in-Some-2
 returns-in-Some-2 c =
-    let earlier = nodes_view c.in-Some-2.earlier in
+    let shown = λ (found : Found). nodes_view (schema_in found) in
+    let earlier = shown c.in-Some-2.earlier in
     let new = nodes_view c.args.new.now in
-    let read : denoted_nodes c.as_str.result.now ≡ Some earlier = sym c.in_ok-earlier.ensures ∙ ap (option_map nodes_view) c.in-Some-2.is in
+    let read : denoted_nodes c.as_str.result.now ≡ Some earlier =
+    sym (c.in_ok-earlier.ensures shown (denoted_nodes c.as_str.result.now) c.read_earlier-earlier.ensures) ∙ ap (option_map shown) c.in-Some-2.is in
     let there : text_in c.args.view.now c.args.row.now.1.id ≡ Some c.as_str.result.now =
     ap (text_in c.args.view.now) (sym c.id.ensures) ∙ (ap (option_map string_bytes) (sym c.in-Some.ensures.value) ∙ ap Some (sym c.as_str.ensures.value)) in
     let same = read_compatible c.args.view.now c.args.level new c.args.row.now c.as_str.result.now earlier there read in
     IfOk-weaker c.is_compatible.result _ _
     (λ yes h. same_from_decides yes (is_compatible c.args.level earlier new) h (compatible_decides c.args.level earlier new) ∙ sym same)
-    c.is_compatible.ensures
+    (rw c.schema.ensures at c.is_compatible.ensures)

@@ -6,7 +6,8 @@ use Rattle.reg_core.specs.declared.code.Code.{Code}
 use Rattle.reg_core.specs.declared.decision.Change.{Change}
 use Rattle.reg_core.specs.declared.number.Choice.{Choice}
 use Rattle.reg_core.specs.Bodies.{number_body}
-use Rattle.reg_core.specs.Inside.Deleting.{row_to_delete, version_change}
+use Rattle.reg_core.specs.DeletionCommands.{row_to_delete}
+use Rattle.reg_core.specs.Inside.Deleting.{version_change}
 use Rattle.reg_core.specs.Numbers.{choice_in}
 use Rattle.reg_core.specs.Registry.{Registry, Row}
 use Rattle.reg_core.specs.Replies.{Told, IsOwnReply, answer}

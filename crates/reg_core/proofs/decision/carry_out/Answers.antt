@@ -6,19 +6,19 @@ use Rattle.reg_core.specs.Levels.{level_of}
 use Rattle.reg_core.specs.Registry.{new_registry}
 use Rattle.reg_core.specs.Replies.{IsOwnReply}
 use Rattle.reg_core.proofs.OwnReplies.{set_level-IsOwnReply}
-use Rattle.reg_core.proofs.decision.decide.Goals as goal
+use Rattle.reg_core.proofs.decision.carry_out.Goals as goal
 
 pub returns-in-SetGlobal-clause-own : goal.returns-in-SetGlobal-clause-own
 returns-in-SetGlobal-clause-own c =
-    IfOk-weaker c.set_level.result _ _
+    IfOk-weaker c.set.result _ _
     (λ d h. subst IsOwnReply (sym (h new_registry)) (set_level-IsOwnReply new_registry None (level_of c.as_str.result.now)))
-    c.set_level.ensures.reply
+    c.set.ensures.reply
 
 pub returns-in-SetLevel-clause-own : goal.returns-in-SetLevel-clause-own
 returns-in-SetLevel-clause-own c =
-    IfOk-weaker c.set_level-in-SetLevel.result _ _
+    IfOk-weaker c.set-in-SetLevel.result _ _
     (λ d h. subst IsOwnReply (sym (h new_registry)) (set_level-IsOwnReply new_registry (Some c.in-SetLevel.subject) (level_of c.as_str-in-SetLevel.result.now)))
-    c.set_level-in-SetLevel.ensures.reply
+    c.set-in-SetLevel.ensures.reply
 
 pub returns-in-DeleteVersion-clause-reply : goal.returns-in-DeleteVersion-clause-reply
 returns-in-DeleteVersion-clause-reply c =

@@ -1,0 +1,23 @@
+-- Modes and their spellings.
+use Rattle.std.specs.Prelude.{ℕ, Bool, true, false, List, [], ◌∷◌, codes, find, bytes_eq, Option, Some, None}
+use Rattle.reg_core.specs.declared.mode.Mode.{Mode}
+use Rattle.reg_core.specs.declared.mode.Mode.TheVariants.{Readwrite, Readonly}
+
+-- Schema Registry API reference, Mode: how a mode is spelt
+abbrev pub mode_text : Mode → List ℕ
+mode_text Readwrite = codes "READWRITE"
+mode_text Readonly = codes "READONLY"
+
+-- this project's choice: the two modes
+abbrev pub modes : List Mode
+modes = Readwrite ∷ Readonly ∷ []
+
+-- The mode that is spelt exactly so, if there is one. (This project's choice: no other case, and no blanks.)
+abbrev pub mode_of : List ℕ → Option Mode
+mode_of text = find (λ mode. bytes_eq text (mode_text mode)) modes
+
+-- Schema Registry API reference, Mode: there is a mode, and it forbids writes
+abbrev pub is_frozen : Option Mode → Bool
+is_frozen (Some Readonly) = true
+is_frozen (Some Readwrite) = false
+is_frozen None = false

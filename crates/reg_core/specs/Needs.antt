@@ -1,0 +1,85 @@
+-- What a command needs to know of the registry.
+use Rattle.std.specs.Prelude.{◌≡◌, ⊤, ℕ, Bool, true, false, List, [], map, Option, None, Some}
+use Rattle.std.specs.FinMap.{entries}
+use Rattle.reg_core.specs.declared.level.Level.{Level}
+use Rattle.reg_core.specs.declared.command.Command.{Command}
+use Rattle.reg_core.specs.declared.command.Command.TheVariants.{Register, DeleteVersion, DeleteSubject, Global, LevelOf, Lookup, Subjects, Versions, Version, Text, ById, VersionsOfId, Check, CheckAll}
+use Rattle.reg_core.specs.declared.needs.RowsNeeded.{RowsNeeded}
+use Rattle.reg_core.specs.declared.needs.RowsNeeded.TheVariants.{Nothing, Everything, OfId, OneOfId, OfSubject}
+use Rattle.reg_core.specs.declared.needs.SubjectRows.{SubjectRows}
+use Rattle.reg_core.specs.declared.needs.SubjectRows.TheVariants.{Every, ToChoose, ToDelete, ToLookUp, ToCompare, ToRegister}
+use Rattle.reg_core.specs.Compatibility.{latest, named_versions}
+use Rattle.reg_core.specs.DeletionCommands.{row_to_delete}
+use Rattle.reg_core.specs.Numbers.{id_in, choice_in}
+use Rattle.reg_core.specs.ReadCommands.{found_row, looked_up, rows_with_id}
+use Rattle.reg_core.specs.RegisterCommands.{is_among}
+use Rattle.reg_core.specs.Registry.{Registry, Row}
+use Rattle.reg_core.specs.Rows.{rows_of, shown_rows, live_rows, next_number}
+
+-- Schema Registry API reference: which versions a command looks at, and of those of a subject what for
+abbrev pub rows_asked : Command → RowsNeeded
+rows_asked (Register subject text supported) = OfSubject ToRegister
+rows_asked (DeleteVersion subject version permanent) = OfSubject (ToDelete (choice_in version) permanent)
+rows_asked (DeleteSubject subject permanent) = OfSubject Every
+rows_asked (Lookup subject text supported deleted) = OfSubject (ToLookUp deleted)
+rows_asked (Subjects deleted) = Everything
+rows_asked (Versions subject deleted) = OfSubject Every
+rows_asked (Version subject version deleted) = OfSubject (ToChoose (choice_in version) deleted)
+rows_asked (Text subject version deleted) = OfSubject (ToChoose (choice_in version) deleted)
+rows_asked (ById id) = OneOfId (id_in id)
+rows_asked (VersionsOfId id deleted) = OfId (id_in id)
+rows_asked (Check subject version text supported) = OfSubject (ToChoose (choice_in version) false)
+rows_asked (CheckAll subject text supported) = OfSubject ToCompare
+rows_asked _ = Nothing
+
+-- the versions of the subject, deleted ones too, if there is one
+abbrev pub rows_of_any : Registry → Option (List ℕ) → List Row
+rows_of_any g None = []
+rows_of_any g (Some subject) = rows_of g subject
+
+-- Schema Registry API reference: these versions, deleted ones too: those of all subjects, those of the id, or those of the subject
+abbrev pub rows_needed : Registry → Option (List ℕ) → RowsNeeded → List Row
+rows_needed g subject Nothing = []
+rows_needed g subject Everything = entries g.rows
+rows_needed g subject (OfId id) = rows_with_id id (entries g.rows)
+rows_needed g subject (OneOfId id) = rows_with_id id (entries g.rows)
+rows_needed g subject (OfSubject asked) = rows_of_any g subject
+
+-- This project's choice: these versions of a subject tell of a schema with this id, if it has one, what all do: whether a live one has the id, and
+-- where none has it, the next number and the live ones that the level names
+pub record RegistersAs (level : Level) (known : Option ℕ) (seen all : List Row) : Type 0 where
+  pub among : is_among known (live_rows seen) ≡ is_among known (live_rows all)
+  pub next : is_among known (live_rows all) ≡ false → next_number seen ≡ next_number all
+  pub named : is_among known (live_rows all) ≡ false → named_versions level (live_rows seen) ≡ named_versions level (live_rows all)
+
+-- This project's choice: these versions of a subject tell what all do, under this level, where the schema that is sent has this id, if it has one.
+-- Where few versions tell it, they may leave out the others.
+abbrev pub TellAs : Level → Option ℕ → SubjectRows → List Row → List Row → Type 0
+TellAs level known Every seen all = seen ≡ all
+TellAs level known (ToChoose choice deleted) seen all = found_row choice (shown_rows deleted seen) ≡ found_row choice (shown_rows deleted all)
+TellAs level known (ToDelete choice permanent) seen all = row_to_delete permanent choice seen ≡ row_to_delete permanent choice all
+TellAs level known (ToLookUp deleted) seen all = looked_up known (shown_rows deleted seen) ≡ looked_up known (shown_rows deleted all)
+TellAs level known ToCompare seen all = named_versions level (live_rows seen) ≡ named_versions level (live_rows all)
+TellAs level known ToRegister seen all = RegistersAs level known seen all
+
+-- This project's choice: these versions give what a command answers and changes as all that it looks at do
+abbrev pub AnswerAs : Level → Option ℕ → RowsNeeded → List Row → List Row → Type 0
+AnswerAs level known Nothing seen all = ⊤
+AnswerAs level known Everything seen all = seen ≡ all
+AnswerAs level known (OfId id) seen all = seen ≡ all
+AnswerAs level known (OneOfId id) seen all = map (λ (row : Row). row.1.id) (latest seen) ≡ map (λ (row : Row). row.1.id) (latest all)
+AnswerAs level known (OfSubject asked) seen all = TellAs level known asked seen all
+
+-- Schema Registry API reference, Config and Compatibility: whether a command looks at levels
+abbrev pub needs_levels : Command → Bool
+needs_levels (Register subject text supported) = true
+needs_levels Global = true
+needs_levels (LevelOf subject default_to_global) = true
+needs_levels (Check subject version text supported) = true
+needs_levels (CheckAll subject text supported) = true
+needs_levels _ = false
+
+-- Schema Registry API reference, Schemas: whether a command looks at the number of schemas, after which new ids come
+abbrev pub needs_count : Command → Bool
+needs_count (Register subject text supported) = true
+needs_count _ = false

@@ -1,0 +1,65 @@
+-- Commands that set and show what holds of all subjects, or of one of its own: compatibility levels.
+use Rattle.std.specs.Prelude.{ℕ, Bool, List, codes, Option, None, Some, if◌then◌else◌}
+use Rattle.std.specs.Option.{option_or}
+use Rattle.serde_json.specs.Data.{string, object, member, no_members}
+use Rattle.serde_json.specs.Written.{compact_text}
+use Rattle.reg_core.specs.declared.level.Level.{Level}
+use Rattle.reg_core.specs.declared.code.Code.{Code}
+use Rattle.reg_core.specs.declared.code.Code.TheVariants.{InvalidLevel, NoOwnLevel}
+use Rattle.reg_core.specs.Levels.{level_of, level_text}
+use Rattle.reg_core.specs.Replies.{Told, answer, fault}
+use Rattle.reg_core.specs.Registry.{Registry, own_with}
+
+-- Schema Registry API reference, Config and Mode: how values are spelt, and which one a text spells; the registry with a value, of the subject's own
+-- if there is a subject, else global; the names under which a value is answered that was set, and one that is shown; and the codes where a text spells
+-- none, and where a subject has none of its own
+pub record Setting (A : Type 0) : Type 0 where
+  pub text_of : A → List ℕ
+  pub value_of : List ℕ → Option A
+  pub put : Registry → Option (List ℕ) → A → Registry
+  pub name_set : List ℕ
+  pub name_shown : List ℕ
+  pub unknown : Code
+  pub absent : Code
+
+-- RFC 8259, section 4: a compact object with one member, whose value is this text
+abbrev pub setting_object : List ℕ → List ℕ → List ℕ
+setting_object name text = compact_text (object (member name (string text) no_members))
+
+-- Schema Registry API reference, PUT /config and PUT /config/{subject}: a text that spells none is refused, else the value is set and answered
+abbrev pub set : {A : Type 0} → Setting A → Registry → Option (List ℕ) → Option A → Registry × Told
+set s g subject None = (g, fault s.unknown)
+set s g subject (Some value) = (s.put g subject value, answer (setting_object s.name_set (s.text_of value)))
+
+-- Schema Registry API reference, GET /config: the value is answered
+abbrev pub shown_answer : {A : Type 0} → Setting A → A → Told
+shown_answer s value = answer (setting_object s.name_shown (s.text_of value))
+
+-- Schema Registry API reference, GET /config/{subject}: the subject's own value, else the global one where `defaultToGlobal` asks for it
+abbrev pub value_shown : {A : Type 0} → Option A → A → Bool → Option A
+value_shown own global default_to_global = option_or own (if default_to_global then Some global else None)
+
+-- Schema Registry API reference, GET /config/{subject}: a value is answered; where there is none, that is a fault
+abbrev pub shown_reply : {A : Type 0} → Setting A → Option A → Told
+shown_reply s None = fault s.absent
+shown_reply s (Some value) = shown_answer s value
+
+-- ---- levels
+
+-- Schema Registry API reference, PUT /config and PUT /config/{subject}: the registry with this level, of the subject's own if there is a subject,
+-- else global
+abbrev pub with_level : Registry → Option (List ℕ) → Level → Registry
+with_level g None level = record g { global = level }
+with_level g (Some subject) level = record g { own = own_with g.own subject level }
+
+-- Schema Registry API reference, Config
+abbrev pub level_setting : Setting Level
+level_setting = record {
+  text_of = level_text;
+  value_of = level_of;
+  put = with_level;
+  name_set = codes "compatibility";
+  name_shown = codes "compatibilityLevel";
+  unknown = InvalidLevel;
+  absent = NoOwnLevel;
+}

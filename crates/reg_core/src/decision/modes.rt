@@ -1,0 +1,44 @@
+//! What the mode forbids.
+
+ghost use Rattle.std.specs.Prelude.{◌≡◌};
+ghost use Rattle.reg_core.specs.Modes.{is_frozen};
+ghost use Rattle.reg_core.specs.Views.{mode_seen};
+
+use crate::command::Command;
+use crate::decision::View;
+use crate::mode::Mode;
+
+/// Whether the mode that the command looks at, if it looks at one, forbids it.
+pub fn is_frozen(view: &View, command: &Command) -> bool
+    ensures { result ≡ is_frozen (mode_seen view.now command.now) }
+{
+    match mode_seen(view, command) {
+        Some(mode) => mode == Mode::Readonly,
+        None => false,
+    }
+}
+
+/// The mode that the command looks at, if it looks at one.
+fn mode_seen(view: &View, command: &Command) -> Option<Mode>
+    ensures { result ≡ mode_seen view.now command.now }
+{
+    match command {
+        Command::SetGlobal { .. } => Some(view.global_mode),
+        Command::SetLevel { .. }
+        | Command::Register { .. }
+        | Command::DeleteVersion { .. }
+        | Command::DeleteSubject { .. } => Some(view.own_mode.unwrap_or(view.global_mode)),
+        Command::Global
+        | Command::LevelOf { .. }
+        | Command::Lookup { .. }
+        | Command::Subjects { .. }
+        | Command::Versions { .. }
+        | Command::Version { .. }
+        | Command::Text { .. }
+        | Command::ById { .. }
+        | Command::VersionsOfId { .. }
+        | Command::Types
+        | Command::Check { .. }
+        | Command::CheckAll { .. } => None,
+    }
+}

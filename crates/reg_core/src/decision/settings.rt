@@ -1,0 +1,157 @@
+//! Commands that set and show what holds of all subjects, or of one of its own.
+
+ghost use Rattle.std.specs.Prelude.{◌≡◌, ◌≢◌, [], IfOk, Option, None, Some, option_copied};
+ghost use Rattle.reg_core.specs.Registry.{Registry};
+ghost use Rattle.reg_core.specs.Replies.{answer};
+ghost use Rattle.reg_core.specs.Settings.{set, setting_object, shown_answer, shown_reply, value_shown};
+ghost use Rattle.reg_core.specs.Views.{ChangesFit, after_changes};
+
+use crate::code::Code;
+use crate::decision::{Change, Decision, unchanged};
+use crate::level::Level;
+use crate::reply::Reply;
+use crate::subject::Subject;
+use avro_nodes::OutOfMemory;
+use serde_json::json;
+use std::alloc::Global;
+
+/// What is set for all subjects, or for one of its own.
+pub trait Setting: Copy {
+    ghost use Rattle.std.specs.Prelude.{◌≡◌, IfOk, option_copied};
+    ghost use Rattle.reg_core.specs.Registry.{Registry};
+    ghost use Rattle.reg_core.specs.Settings.{Setting};
+    ghost use Rattle.reg_core.specs.Views.{ChangeFits, after_change};
+
+    ghost setting: { Setting Self };
+
+    /// The value that the text spells.
+    fn read(text: &str) -> Option<Self>
+        ensures { result ≡ setting.value_of text.now };
+
+    /// How the value is spelt.
+    fn spelt(self) -> &'static str
+        ensures { result.now ≡ setting.text_of self };
+
+    /// The name under which a value is answered that was set.
+    fn name_set() -> &'static str
+        ensures { result.now ≡ setting.name_set };
+
+    /// The name under which a value is shown.
+    fn name_shown() -> &'static str
+        ensures { result.now ≡ setting.name_shown };
+
+    /// The refusal of a text that spells no value.
+    fn unknown() -> Code
+        ensures { result ≡ setting.unknown };
+
+    /// The refusal where a subject has no value of its own.
+    fn absent() -> Code
+        ensures { result ≡ setting.absent };
+
+    /// The change that sets the value, for the subject if there is one, else for all.
+    fn change(self, subject: Option<&Subject>) -> Result<Change, OutOfMemory>
+        ensures after { IfOk result (λ change. (g : Registry)
+            → after_change change g ≡ setting.put g (option_copied subject.entry) self) }
+        ensures fits { IfOk result (λ change. (g : Registry) → ChangeFits change g) };
+}
+
+impl Setting for Level {
+    ghost use Rattle.reg_core.specs.Settings.{level_setting};
+
+    ghost setting = { level_setting };
+
+    fn read(text: &str) -> Option<Level> {
+        Level::parse(text)
+    }
+
+    fn spelt(self) -> &'static str {
+        self.text()
+    }
+
+    fn name_set() -> &'static str {
+        "compatibility"
+    }
+
+    fn name_shown() -> &'static str {
+        "compatibilityLevel"
+    }
+
+    fn unknown() -> Code {
+        Code::InvalidLevel
+    }
+
+    fn absent() -> Code {
+        Code::NoOwnLevel
+    }
+
+    fn change(self, subject: Option<&Subject>) -> Result<Change, OutOfMemory> {
+        let change = match subject {
+            None => Change::SetGlobal { level: self },
+            Some(subject) => Change::SetLevel {
+                subject: subject.try_clone()?,
+                level: self,
+            },
+        };
+        Ok(change)
+    }
+}
+
+/// The subject's own value, or where there is no subject the global one, becomes the one that the
+/// text spells.
+pub fn set<S: Setting>(
+    alloc: Global,
+    subject: Option<&Subject>,
+    text: &str,
+) -> Result<Decision, OutOfMemory>
+    ensures reply { IfOk result (λ decision. (g : Registry)
+        → decision.reply ≡ (set S.setting g (option_copied subject.entry) (S.setting.value_of text.now)).1) }
+    ensures changes { IfOk result (λ decision. (g : Registry)
+        → after_changes decision.changes.items g ≡ (set S.setting g (option_copied subject.entry) (S.setting.value_of text.now)).0) }
+    ensures fit { IfOk result (λ decision. (g : Registry) → ChangesFit decision.changes.items g) }
+    ensures refusal { IfOk result (λ decision. decision.reply.status ≢ 200 → decision.changes.items ≡ []) }
+{
+    let Some(value) = S::read(text) else {
+        return Ok(unchanged(alloc, Reply::fault(S::unknown())));
+    };
+    let reply = setting_reply(alloc, S::name_set(), value.spelt())?;
+    let change = value.change(subject)?;
+    let mut changes = Vec::new(alloc);
+    changes.push(change)?;
+    Ok(Decision { changes, reply })
+}
+
+/// The value that is shown of a subject.
+pub fn value_shown<S: Copy>(own: Option<S>, global: S, default_to_global: bool) -> Option<S>
+    ensures { result ≡ value_shown own global default_to_global }
+{
+    match own {
+        Some(value) => Some(value),
+        None if default_to_global => Some(global),
+        None => None,
+    }
+}
+
+/// The reply that shows a subject's value.
+pub fn shown_reply<S: Setting>(alloc: Global, value: Option<S>) -> Result<Reply, OutOfMemory>
+    ensures { IfOk result (λ reply. reply ≡ shown_reply S.setting value) }
+{
+    match value {
+        Some(value) => shown_answer(alloc, value),
+        None => Ok(Reply::fault(S::absent())),
+    }
+}
+
+/// The reply that shows a value.
+pub fn shown_answer<S: Setting>(alloc: Global, value: S) -> Result<Reply, OutOfMemory>
+    ensures { IfOk result (λ reply. reply ≡ shown_answer S.setting value) }
+{
+    setting_reply(alloc, S::name_shown(), value.spelt())
+}
+
+/// An object with one member of this name, whose value is the text.
+fn setting_reply(alloc: Global, name: &str, text: &str) -> Result<Reply, OutOfMemory>
+    ensures { IfOk result (λ reply. reply ≡ answer (setting_object name.now text.now)) }
+{
+    let object = json!(in alloc; {name: text})?;
+    Ok(Reply::answer(object.to_string(alloc)?))
+}

@@ -1,0 +1,218 @@
+//! A memory of the schemas of stored texts.
+
+ghost use Rattle.std.specs.Prelude.{◌≡◌, ◌≢◌, ◌≤◌, length, List, [], None, Some, IfOk, IfErr, option_copied, nat_eq, IsTrue};
+ghost use Rattle.std.specs.Map.{lookup};
+ghost use Rattle.avro_nodes.specs.Nodes.{NodeView, nodes_view};
+ghost use Rattle.avro_schema.specs.Texts.{TextDenotes};
+ghost use Rattle.avro_schema.specs.DenotedNodes.{denoted_nodes};
+ghost use Rattle.schema_memory.specs.Answers.{IsOf, schema_in};
+ghost use Rattle.schema_memory.specs.Entries.{total, max_entries, max_remembered, max_total};
+
+use crate::entry::Entry;
+use crate::found::Found;
+use crate::shelf::{MAX_ENTRIES, MAX_TOTAL, Shelf};
+use avro_schema::{Schema, SchemaError};
+use std::alloc::Global;
+use std::marker::Model;
+
+/// The most bytes of a text that is remembered: 64 KiB.
+const MAX_REMEMBERED: usize = 65536;
+
+/// What is done where a memory has no room for another schema.
+#[derive(Clone, Copy, Debug, PartialEq, Eq)]
+pub enum WhenFull {
+    /// The least recently used ones go.
+    Replace,
+    /// Those that are there stay, and the other one isn't remembered.
+    Keep,
+}
+
+impl WhenFull {
+    /// What suits schemas that are read one after the other: so many, and so many bytes of texts in
+    /// all. If a memory can't hold them all it keeps those that it has: else each would go before it
+    /// comes again.
+    pub fn of_scan(schemas: usize, bytes: usize) -> WhenFull {
+        if schemas > MAX_ENTRIES || bytes > MAX_TOTAL {
+            WhenFull::Keep
+        } else {
+            WhenFull::Replace
+        }
+    }
+}
+
+/// A memory of schemas that were read, found by the ids of their texts. It has at most 256 of them,
+/// whose texts have at most 1 MiB in all and 64 KiB each.
+#[derive(Drop)]
+pub struct Memory {
+    shelf: Option<Shelf>,
+}
+
+impl Model for Memory {
+    ghost use Rattle.std.specs.Prelude.{ℕ, List};
+    ghost use Rattle.std.specs.Coded.{coded_list, coded×, coded_ℕ};
+    ghost use Rattle.schema_memory.specs.Entries.{Read, read_code};
+    ghost use Rattle.schema_memory.specs.Remembered.{entries_in};
+
+    ghost Value = { List (ℕ × Read) };
+
+    ghost coded = { coded_list (coded× coded_ℕ read_code) };
+
+    ghost view = { λ m. entries_in m.shelf };
+}
+
+impl Memory {
+    /// One that has nothing. It takes no memory before the first schema is read.
+    pub fn new() -> Memory
+        ensures { result ≡ [] }
+    {
+        Memory { shelf: None }
+    }
+
+    /// The number of schemas that are remembered, and the bytes of their texts.
+    pub fn sizes(&self) -> (usize, usize)
+        ensures schemas { result.0 ≡ length self.now }
+        ensures bytes { result.1 ≡ total self.now }
+        ensures few { result.0 ≤ max_entries }
+        ensures small { result.1 ≤ max_total }
+    {
+        match &self.shelf {
+            Some(shelf) => shelf.sizes(),
+            None => (0, 0),
+        }
+    }
+
+    /// Reads a schema text exactly as `Schema::read` does. The schema is remembered by the id, and
+    /// where the id comes again with the same text it isn't read again. A text of more than 64 KiB
+    /// isn't remembered, nor one for which memory is refused.
+    ///
+    /// # Errors
+    ///
+    /// Those of `Schema::read`.
+    pub fn read(
+        &mut self,
+        alloc: Global,
+        id: u32,
+        text: &str,
+        when_full: WhenFull,
+    ) -> Result<Found<'_>, SchemaError>
+        ensures ok { IfOk result (λ found. TextDenotes text.now (nodes_view (schema_in found))) }
+        // a text denotes at most one schema
+        ensures alone { IfOk result (λ found. (nodes : List NodeView) → TextDenotes text.now nodes
+            → nodes ≡ nodes_view (schema_in found)) }
+        ensures err { IfErr result (λ e. e ≢ SchemaError.OutOfMemory
+            → (nodes : List NodeView) → ¬ TextDenotes text.now nodes) }
+    {
+        match self.learn(alloc, id, text, when_full) {
+            Ok(Some(schema)) => Ok(Found::Read(schema)),
+            Ok(None) => match self.entry(id) {
+                Some(entry) => Ok(Found::Remembered(entry.schema())),
+                None => unreachable!(),
+            },
+            Err(e) => Err(e),
+        }
+    }
+
+    /// Reads the text unless the schema is remembered. It comes back where it can't be remembered.
+    fn learn(
+        &mut self,
+        alloc: Global,
+        id: u32,
+        text: &str,
+        when_full: WhenFull,
+    ) -> Result<Option<Schema>, SchemaError>
+        ensures ok { IfOk result (λ read. IsOf text.now read (lookup (nat_eq id) self.new)) }
+        ensures err { IfErr result (λ e. e ≢ SchemaError.OutOfMemory
+            → (nodes : List NodeView) → ¬ TextDenotes text.now nodes) }
+    {
+        if self.knows(id, text) {
+            self.promote(id);
+            return Ok(None);
+        }
+        match Schema::read(alloc, text) {
+            Ok(schema) => Ok(self.keep(alloc, id, text, schema, when_full)),
+            Err(e) => Err(e),
+        }
+    }
+
+    /// The entry of the id.
+    fn entry(&self, id: u32) -> Option<&Entry>
+        ensures { option_copied result ≡ lookup (nat_eq id) self.now }
+    {
+        match &self.shelf {
+            Some(shelf) => shelf.get(id),
+            None => None,
+        }
+    }
+
+    /// Whether the id has an entry with this text.
+    fn knows(&self, id: u32, text: &str) -> bool
+        ensures { IsTrue result → IsOf text.now None (lookup (nat_eq id) self.now) }
+    {
+        match self.entry(id) {
+            Some(entry) => entry.text() == text,
+            None => false,
+        }
+    }
+
+    /// Makes the entry of the id the most recently used.
+    fn promote(&mut self, id: u32)
+        ensures { lookup (nat_eq id) self.new ≡ lookup (nat_eq id) self.old }
+    {
+        if let Some(shelf) = &mut self.shelf {
+            shelf.promote(id);
+        }
+    }
+
+    /// Remembers the schema that was read from the text. It comes back where its text has no room,
+    /// and where memory is refused.
+    fn keep(
+        &mut self,
+        alloc: Global,
+        id: u32,
+        text: &str,
+        schema: Schema,
+        when_full: WhenFull,
+    ) -> Option<Schema>
+        requires { denoted_nodes text.now ≡ Some (nodes_view schema) }
+        ensures { IsOf text.now result (lookup (nat_eq id) self.new) }
+    {
+        if !self.has_room(text.len(), when_full) || !self.has_shelf(alloc) {
+            return Some(schema);
+        }
+        let entry = match Entry::new(alloc, text, schema) {
+            Ok(entry) => entry,
+            Err(schema) => return Some(schema),
+        };
+        let Some(shelf) = &mut self.shelf else {
+            return Some(entry.into_schema());
+        };
+        match shelf.add(id, entry) {
+            Ok(()) => None,
+            Err(entry) => Some(entry.into_schema()),
+        }
+    }
+
+    /// Whether a text of so many bytes can be remembered.
+    fn has_room(&self, bytes: usize, when_full: WhenFull) -> bool
+        ensures { IsTrue result → bytes ≤ max_remembered }
+    {
+        if bytes > MAX_REMEMBERED {
+            return false;
+        }
+        match (when_full, &self.shelf) {
+            (WhenFull::Keep, Some(shelf)) => shelf.has_room(bytes),
+            _ => true,
+        }
+    }
+
+    /// Makes room for entries where there is none yet, and tells whether there is.
+    fn has_shelf(&mut self, alloc: Global) -> bool {
+        if self.shelf.is_none() {
+            match Shelf::new(alloc) {
+                Ok(shelf) => self.shelf = Some(shelf),
+                Err(_) => return false,
+            }
+        }
+        true
+    }
+}
