@@ -7,7 +7,7 @@ use Rattle.std.proofs.lemmas.Option.{none-some}
 use Rattle.sqlite.specs.State.{State}
 use Rattle.avro_nodes.specs.Nodes.{NodeView}
 use Rattle.avro_nodes.specs.Identity.{identity}
-use Rattle.avro_schema.specs.Inside.DenotedNodes.{denoted_nodes}
+use Rattle.avro_schema.specs.DenotedNodes.{denoted_nodes}
 use Rattle.reg_core.specs.declared.decision.Change.TheVariants.{AddText, AddRow}
 use Rattle.reg_core.specs.Registry.{Schemas, Rows, RowKey, Row, Version, Registry, schema_at, row_cmp}
 use Rattle.reg_core.specs.Rows.{id_of}
@@ -59,6 +59,7 @@ module _ (contents : Contents) (g : Registry) (k : Kept) (s : IsSpelled contents
     versions = s.versions;
     registered = s.registered;
     meta = s.meta;
+    modes = record { global = s.modes.global; own = s.modes.own };
     levels = s.levels;
     subjects = s.subjects;
     kept = s.kept;
@@ -85,6 +86,7 @@ module _ (contents : Contents) (g : Registry) (k : Kept) (s : IsSpelled contents
     versions = versions_both contents.versions g.rows s.versions row.0 row.1;
     registered = get_inserted g.rows row.0 row.1 (λ key _. IsTrue (is_subject key.0)) within s.registered;
     meta = s.meta;
+    modes = record { global = s.modes.global; own = s.modes.own };
     levels = s.levels;
     subjects = s.subjects;
     kept = s.kept;

@@ -11,11 +11,12 @@ use Rattle.std.proofs.lemmas.Str.{IsUtf8-string_bytes}
 use Rattle.sqlite_rules.specs.Lists.{Has}
 use Rattle.sqlite_rules.proofs.ListLemmas.{all_has, all_from}
 use Rattle.reg_core.specs.declared.level.Level.{Level}
+use Rattle.reg_core.specs.declared.mode.Mode.TheVariants.{Readwrite}
 use Rattle.reg_core.specs.Levels.{level_text, level_of, levels}
 use Rattle.reg_core.specs.Replies.{IsKeptStatus}
 use Rattle.reg_core.specs.Subjects.{is_subject}
 use Rattle.avro_nodes.specs.Identity.{identity}
-use Rattle.reg_core.specs.Registry.{RowKey, Registry, OwnLevels, schema_at}
+use Rattle.reg_core.specs.Registry.{RowKey, Registry, OwnLevels, no_own, schema_at}
 use Rattle.reg_tables.specs.declared.lines.LevelLine.{LevelLine}
 use Rattle.reg_tables.specs.declared.lines.KeptLine.{KeptLine}
 use Rattle.reg_tables.specs.declared.lines.MetaLine.{MetaLine}
@@ -289,7 +290,7 @@ module _ (lines : Lines) (apart : HaveNoTwins lines) where
       let own = λ (subject : List ℕ). option_and_then level_of (get held.levels subject) in
       let kept = λ (key : List ℕ). option_map entry_in (get held.kept key) in
       let texts = texts_spelled lines.texts s.texts in (
-        record { schemas = schemas; rows = rows_in held.versions; global = meta.0; own = own },
+        record { schemas = schemas; rows = rows_in held.versions; global = meta.0; own = own; global_mode = Readwrite; own_modes = no_own },
         kept,
         record {
           registry = record {
@@ -307,6 +308,7 @@ module _ (lines : Lines) (apart : HaveNoTwins lines) where
           versions = versions_spelled held.versions;
           registered = λ key version there. let row = row_there held.versions key version there in (version_fits lines.versions s.versions key row.0 row.1).subject;
           meta = meta.1;
+          modes = record { global = refl; own = λ subject. refl };
           levels = λ subject. spelt_back (get held.levels subject) (λ v there. (level_fits lines.levels s.levels subject v there).level);
           subjects = λ subject level there. subject_fits subject level (get held.levels subject) refl there;
           kept = λ key. row_back (get held.kept key);

@@ -1,9 +1,11 @@
 -- The version of a subject that is chosen, and one of an id, as lines of `versions` tell it.
-use Rattle.std.proofs.Common.{◌≡◌, ◌≢◌, ◌∙◌, inl, inr, ℕ, ◌==◌, List, [], ◌∷◌, true, false, map, refl, sym, ap, eqb-true, arith}
+use Rattle.std.proofs.Common.{◌≡◌, ◌≢◌, ◌∙◌, inl, inr, ℕ, ◌==◌, List, [], ◌∷◌, true, false, map, length, Vec, Global, vec_len, refl, sym, ap, eqb-true, arith}
 use Rattle.std.specs.Prelude.{All, Bool, Option, None, Some, not, ◌||◌, filter, option_map, if◌then◌else◌}
 use Rattle.std.specs.FinMap.{get, entries}
 use Rattle.std.specs.List.{Contains, last_or}
-use Rattle.std.proofs.lemmas.Bool.{cases_Bool, eq-eqb}
+use Rattle.std.proofs.lemmas.Bool.{both_ways, cases_Bool, eq-eqb}
+use Rattle.std.proofs.lemmas.Bool.Decides.{nat_tests}
+use Rattle.std.proofs.lemmas.List.{nil_from_length}
 use Rattle.std.proofs.lemmas.List.Elements.{All-head, All-tail, All-weaker, filter_passes}
 use Rattle.sqlite_trees.proofs.ListLemmas.{filter-map}
 use Rattle.reg_core.specs.Compatibility.{latest}
@@ -19,6 +21,16 @@ use Rattle.reg_store.specs.Spells.{version_row}
 use Rattle.reg_store.specs.Inside.Viewing.{row_numbered}
 use Rattle.reg_store.proofs.RowLemmas.{subject_spelled}
 use Rattle.reg_store.proofs.Texts.{was_written}
+
+is_zero : (n : ℕ) → (n == 0) ≡ true → n ≡ 0
+is_zero n e = grind (arith, nat_tests)
+
+-- whether there are versions, by their count
+pub no_rows : (rows : Vec Row Global) → (vec_len rows == 0) ≡ true → rows.items ≡ []
+no_rows rows e = nil_from_length rows.items (sym rows.ok.0 ∙ is_zero rows.len e)
+
+pub some_rows : (rows : Vec Row Global) → (vec_len rows == 0) ≡ false → rows.items ≢ []
+some_rows rows e none = both_ways _ e (ap (λ n. n == 0) (rows.ok.0 ∙ ap length none))
 
 map_map : {A B C : Type 0} (f : A → B) (h : B → C) (o : Option A) → option_map (λ x. h (f x)) o ≡ option_map h (option_map f o)
 map_map f h None = refl

@@ -72,6 +72,7 @@ spells_new now h = record {
     versions = λ key. get-empty version_cmp key ∙ sym (ap (option_map version_row) (get-empty row_cmp key));
     registered = λ key version there. absurd (let none = sym (get-empty row_cmp key) ∙ there in cc);
     meta = refl;
+    modes = record { global = refl; own = λ subject. refl };
     levels = λ subject. get-empty text_cmp subject;
     subjects = λ subject level some. absurd (cc);
     kept = λ key. get-empty text_cmp key;

@@ -56,6 +56,7 @@ module _ (contents : Contents) (g : Registry) (k : Kept) (s : IsSpelled contents
     versions = deleted_both contents.versions g.rows s.versions (subject, number);
     registered = λ key version there. let was = altered_was g.rows (subject, number) key version there in s.registered key was.old was.there;
     meta = s.meta;
+    modes = record { global = s.modes.global; own = s.modes.own };
     levels = s.levels;
     subjects = s.subjects;
     kept = s.kept;
@@ -70,6 +71,7 @@ module _ (contents : Contents) (g : Registry) (k : Kept) (s : IsSpelled contents
     versions = removed_both contents.versions g.rows s.versions (subject, number);
     registered = λ key version there. let was = removed_was g.rows (subject, number) key version there in s.registered key was.old was.there;
     meta = s.meta;
+    modes = record { global = s.modes.global; own = s.modes.own };
     levels = s.levels;
     subjects = s.subjects;
     kept = s.kept;
@@ -84,6 +86,7 @@ module _ (contents : Contents) (g : Registry) (k : Kept) (s : IsSpelled contents
     versions = s.versions;
     registered = s.registered;
     meta = s.meta;
+    modes = record { global = s.modes.global; own = s.modes.own };
     levels = remove_both level_text contents.levels g.own subject s.levels;
     subjects = λ other level there. s.subjects other level (left_level (bytes_eq subject other) (g.own other) level there);
     kept = s.kept;

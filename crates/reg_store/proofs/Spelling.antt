@@ -52,6 +52,7 @@ module _ (contents : Contents) (g : Registry) (k : Kept) (s : IsSpelled contents
     versions = s.versions;
     registered = s.registered;
     meta = ap (λ m. insert m (codes "global") (level_text level)) s.meta ∙ insert-insert _ (codes "global") (level_text g.global) (level_text level);
+    modes = record { global = s.modes.global; own = s.modes.own };
     levels = s.levels;
     subjects = s.subjects;
     kept = s.kept;
@@ -66,6 +67,7 @@ module _ (contents : Contents) (g : Registry) (k : Kept) (s : IsSpelled contents
     versions = s.versions;
     registered = s.registered;
     meta = s.meta;
+    modes = record { global = s.modes.global; own = s.modes.own };
     levels = insert_both level_text contents.levels g.own subject level s.levels;
     subjects = each_entry (λ q _. IsTrue (is_subject q)) g.own subject level within s.subjects;
     kept = s.kept;
@@ -80,6 +82,7 @@ module _ (contents : Contents) (g : Registry) (k : Kept) (s : IsSpelled contents
     versions = s.versions;
     registered = s.registered;
     meta = s.meta;
+    modes = record { global = s.modes.global; own = s.modes.own };
     levels = s.levels;
     subjects = s.subjects;
     kept = insert_both row_of contents.kept k key entry s.kept;

@@ -150,6 +150,7 @@ pub whole_view : (view : View) (texts : Texts) (g : Registry) (command : Command
 whole_view view texts g command ids shows is all true_texts = record {
   rows = shows.rows;
   levels = shows.levels;
+  mode = shows.mode;
   known = shows.known;
   count = shows.count;
   texts = subst (All (λ (row : Row). HasText texts g.schemas row.1.id)) (sym (reads_same command view texts)) (All-mapped (HasText texts g.schemas) (λ (row : Row). row.1.id) (rows_read command view) (subst (All (HasText texts g.schemas)) is all));

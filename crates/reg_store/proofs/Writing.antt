@@ -1,8 +1,7 @@
 -- Why a change of tables that spell a registry fails.
-use Rattle.std.proofs.Common.{◌≡◌, ◌≢◌, ◌⊎◌, ◌<◌, ◌≤◌, ℕ, zero, suc, get_or, List, [], ◌∷◌, length, arith, inl, inr, None, Some, Ok, Err, Result, IsTrue, true, sym, ap, subst, refl, ◌∙◌}
+use Rattle.std.proofs.Common.{◌≡◌, ◌≢◌, ◌⊎◌, ◌<◌, ◌≤◌, List, [], ◌∷◌, length, arith, inl, inr, None, Some, Ok, Err, Result, IsTrue, true, sym, ap, subst, refl, ◌∙◌}
 use Rattle.std.specs.Prelude.{IfErr, IsErrAnd, MatchResult, IsSome, option_map}
 use Rattle.std.specs.FinMap.{get}
-use Rattle.std.specs.List.{AllByRecursion}
 use Rattle.std.proofs.lemmas.Bool.{both_ways, cases_Bool}
 use Rattle.sqlite.specs.declared.error.Error.{Error}
 use Rattle.sqlite.specs.Steps.{FailsToCommit}
@@ -40,18 +39,6 @@ mapped_err Q (Err e) (Err d) is h = subst Q (sym is) h
 pub nonempty : {X : Type 0} (xs : List X) → xs ≢ [] → 0 < length xs
 nonempty [] some = absurd (some refl)
 nonempty (x ∷ xs) some = omega arith
-
--- what holds of each holds of the one at a position
-pub all_got : {X : Type 0} (P : X → Type 0) (xs : List X) (i : ℕ) (x d : X) → i < length xs → x ≡ get_or xs i d → AllByRecursion P xs → P x
-all_got P [] i x d low is all = absurd (omega (arith, low))
-all_got P (y ∷ ys) zero x d low is all = subst P (sym is) all.0
-all_got P (y ∷ ys) (suc i) x d low is all = all_got P ys i x d (omega (arith, low)) is all.1
-
--- a later write fails as one at the start does, since the transaction goes on
-pub write_later : (first later new : State) → Survives first later (λ _. ⊥) → HasCleanDisk later → later.faults ≤ new.faults → GoesOn first later → (e : Error) → IsWriteFault later new e → IsWriteFault first new e
-write_later first later new s clean up goes e (inl (inl store)) = inl (inl (store.0, store.1, reason_by later new first new (fault_since first later new (s.closes clean) s.counts up) store.0 store.2))
-write_later first later new s clean up goes e (inl (inr stopped)) = inl (inr (stopped.0, subst IsSome s.limit stopped.1))
-write_later first later new s clean up goes e (inr late) = inr (late.0, goes late.1)
 
 -- a later change fails as one at the start does, since the transaction goes on
 pub fault_later : (first later new : State) → Survives first later (λ _. ⊥) → HasCleanDisk later → later.faults ≤ new.faults → GoesOn first later → (e : Error) → IsInsertFault later new e → IsInsertFault first new e

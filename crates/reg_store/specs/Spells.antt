@@ -1,5 +1,5 @@
 -- What the tables say of a registry and of the replies that it keeps.
-use Rattle.std.specs.Prelude.{◌≡◌, ℕ, List, Some, IsTrue, IsUtf8, option_map}
+use Rattle.std.specs.Prelude.{◌≡◌, ℕ, List, None, Some, IsTrue, IsUtf8, option_map}
 use Rattle.std.specs.FinMap.{get}
 use Rattle.sqlite.specs.Tree.{Trees}
 use Rattle.sqlite.specs.Schema.{Schema}
@@ -8,6 +8,7 @@ use Rattle.sqlite.specs.State.{State}
 use Rattle.avro_nodes.specs.Nodes.{NodeView}
 use Rattle.avro_nodes.specs.Identity.{identity}
 use Rattle.reg_core.specs.declared.level.Level.{Level}
+use Rattle.reg_core.specs.declared.mode.Mode.TheVariants.{Readwrite}
 use Rattle.reg_core.specs.Levels.{level_text}
 use Rattle.reg_core.specs.Keys.{IsKey}
 use Rattle.reg_core.specs.Subjects.{is_subject}
@@ -33,6 +34,11 @@ pub record CanBeKept (key : List ℕ) (entry : Entry) : Type 0 where
   pub text : IsUtf8 entry.text
   pub body : IsUtf8 entry.reply.body
 
+-- this project's choice: the registry's mode is READWRITE, and no subject has one of its own
+pub record HasNoModes (g : Registry) : Type 0 where
+  pub global : g.global_mode ≡ Readwrite
+  pub own : (subject : List ℕ) → g.own_modes subject ≡ None
+
 -- this project's choice: what the tables hold spells this registry and these kept replies
 pub record IsSpelled (contents : Contents) (g : Registry) (k : Kept) : Type 0 where
   pub registry : IsRegistry g
@@ -43,6 +49,8 @@ pub record IsSpelled (contents : Contents) (g : Registry) (k : Kept) : Type 0 wh
   pub registered : (key : RowKey) (version : Version) → get g.rows key ≡ Some version → IsTrue (is_subject key.0)
   -- the format, the layout and the global level, and no more
   pub meta : contents.meta ≡ meta_of (level_text g.global)
+  -- layout 1 has no place for modes
+  pub modes : HasNoModes g
   pub levels : (subject : List ℕ) → get contents.levels subject ≡ option_map level_text (g.own subject)
   pub subjects : (subject : List ℕ) (level : Level) → g.own subject ≡ Some level → IsTrue (is_subject subject)
   pub kept : (key : List ℕ) → get contents.kept key ≡ option_map row_of (k key)

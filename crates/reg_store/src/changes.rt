@@ -1,14 +1,10 @@
 //! Changes of the tables, in a transaction. Whatever a call answers, nothing is committed.
 
-ghost use Rattle.std.specs.Prelude.{◌≢◌, ◌+◌, ℕ, length, [], OnOk, IfErr, IfSome, IsSome, IsTrue};
+ghost use Rattle.std.specs.Prelude.{◌≢◌, [], OnOk, IfErr, IfSome, IsSome, IsTrue};
 ghost use Rattle.sqlite.specs.State.{HasCleanDisk};
-ghost use Rattle.reg_core.specs.Views.{ChangeFits, ChangesFit};
 ghost use Rattle.reg_tables.specs.Frames.{state_in, StaysInside, KeepsInside};
-ghost use Rattle.reg_store.specs.Changes.{with_reply, IsNewTo, IsKeepable, SpellsInside, CanStoreChange, CanStoreReply, GoesOn};
+ghost use Rattle.reg_store.specs.Changes.{with_reply, IsNewTo, IsKeepable, GoesOn};
 ghost use Rattle.reg_store.specs.Inside.Making.{Makes, MakesAll, IsFaultOfChange, IsFaultOfChanges, IsFaultOfReply};
-ghost use Rattle.std.specs.List.{AllByRecursion};
-ghost use Rattle.reg_tables.specs.Rooms.{HasRooms};
-ghost use Rattle.reg_tables.specs.FailedCalls.{IsWriteFault};
 ghost use Rattle.reg_core.specs.KeptReplies.{Kept};
 ghost use Rattle.reg_store.specs.Spells.{Spells};
 ghost use Rattle.reg_core.specs.Registry.{Registry};
@@ -28,12 +24,6 @@ fn make<S: Alter>(tx: &mut Transaction<'_, S>, change: &Change) -> Result<(), Er
         → OnOk result (Makes (state_in S.Store tx.old) (state_in S.Store tx.new) change.now) }
     ensures fault { HasCleanDisk (state_in S.Store tx.new)
         → IfErr result (IsFaultOfChange (state_in S.Store tx.old) (state_in S.Store tx.new) change.now) }
-    ensures room { HasCleanDisk (state_in S.Store tx.new) → OnOk result ((g : Registry) (k : Kept)
-        → Spells (state_in S.Store tx.old).now g k → ChangeFits change.now g
-        → (n : ℕ) → HasRooms (state_in S.Store tx.old).now (n + 1) → HasRooms (state_in S.Store tx.new).now n) }
-    ensures fits { HasCleanDisk (state_in S.Store tx.new) → IfErr result (λ e. (g : Registry) (k : Kept)
-        → SpellsInside (state_in S.Store tx.old) g k → ChangeFits change.now g → (n : ℕ) → (IsTrue (state_in S.Store tx.old).is_open → HasRooms (state_in S.Store tx.old).now (n + 1))
-        → CanStoreChange change.now → IsWriteFault (state_in S.Store tx.old) (state_in S.Store tx.new) e) }
 {
     match change {
         Change::SetGlobal { level } => set_global(tx, level.text()),
@@ -66,13 +56,6 @@ pub(crate) fn make_all<S: Alter>(
         → OnOk result (MakesAll (state_in S.Store tx.old) (state_in S.Store tx.new) changes.now) }
     ensures fault { HasCleanDisk (state_in S.Store tx.new)
         → IfErr result (IsFaultOfChanges (state_in S.Store tx.old) (state_in S.Store tx.new) changes.now) }
-    ensures room { HasCleanDisk (state_in S.Store tx.new) → OnOk result ((g : Registry) (k : Kept)
-        → Spells (state_in S.Store tx.old).now g k → ChangesFit changes.now g → (n : ℕ) → HasRooms (state_in S.Store tx.old).now (length changes.now + n)
-        → HasRooms (state_in S.Store tx.new).now n) }
-    ensures fits { HasCleanDisk (state_in S.Store tx.new) → IfErr result (λ e. (g : Registry) (k : Kept)
-        → SpellsInside (state_in S.Store tx.old) g k → ChangesFit changes.now g → (n : ℕ)
-        → (IsTrue (state_in S.Store tx.old).is_open → HasRooms (state_in S.Store tx.old).now (length changes.now + n))
-        → AllByRecursion CanStoreChange changes.now → IsWriteFault (state_in S.Store tx.old) (state_in S.Store tx.new) e) }
 {
     for change in changes {
         make(tx, change)?;
@@ -97,10 +80,6 @@ pub(crate) fn keep_reply<S: Alter>(
         → Spells (state_in S.Store tx.new).now g (with_reply keep.entry k)) }
     ensures fault { HasCleanDisk (state_in S.Store tx.new)
         → IfErr result (IsFaultOfReply (state_in S.Store tx.old) (state_in S.Store tx.new) keep.entry) }
-    ensures fits { HasCleanDisk (state_in S.Store tx.new) → IfErr result (λ e. (g : Registry) (k : Kept)
-        → SpellsInside (state_in S.Store tx.old) g k → IsNewTo k keep.entry → (n : ℕ)
-        → (IsTrue (state_in S.Store tx.old).is_open → HasRooms (state_in S.Store tx.old).now (n + 1)) → CanStoreReply keep.entry
-        → IsWriteFault (state_in S.Store tx.old) (state_in S.Store tx.new) e) }
 {
     match keep {
         None => Ok(()),

@@ -8,6 +8,7 @@ mod applying;
 mod behind;
 mod chosen;
 mod cursor;
+mod few;
 mod lent;
 mod levels;
 mod lines;

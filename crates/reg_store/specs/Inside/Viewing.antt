@@ -1,5 +1,6 @@
 -- What a view is read by.
-use Rattle.std.specs.Prelude.{◌≡◌, ◌≢◌, ℕ, IsTrue, List, length, String, string_bytes, Option, None, Some, IfSome, option_map, option_and_then}
+use Rattle.std.specs.Prelude.{◌≡◌, ◌≢◌, ◌⊎◌, ℕ, Bool, IsTrue, List, [], ◌∷◌, length, String, string_bytes, Option, None, Some, option_map, option_and_then}
+use Rattle.std.specs.List.{last_or}
 use Rattle.std.specs.BTreeMap as tree
 use Rattle.std.specs.BTreeMap.{BTreeMap}
 use Rattle.std.specs.declared.alloc.Global.{Global}
@@ -8,9 +9,10 @@ use Rattle.reg_core.specs.declared.command.Command.{Command}
 use Rattle.reg_core.specs.declared.decision.View.{View}
 use Rattle.reg_core.specs.Subjects.{is_subject}
 use Rattle.reg_core.specs.Registry.{Registry, Row, Version, Schemas}
-use Rattle.reg_core.specs.Rows.{known_id, text_at}
-use Rattle.reg_core.specs.Machine.{subject_of, schema_sent}
-use Rattle.reg_core.specs.Views.{AnswerAs, rows_needed, needs_levels, needs_count}
+use Rattle.reg_core.specs.Rows.{shown_rows, known_id, text_at}
+use Rattle.reg_core.specs.Machine.{subject_of, schema_sent, mode_for}
+use Rattle.reg_core.specs.Needs.{AnswerAs, rows_asked, rows_needed, needs_levels, needs_count}
+use Rattle.reg_core.specs.Views.{level_of_view, mode_seen}
 use Rattle.reg_tables.specs.declared.listed.ListedVersion.{ListedVersion}
 use Rattle.reg_tables.specs.Contents.{VersionRow}
 use Rattle.reg_tables.specs.Entries.{NumberedVersion, KeyedVersion}
@@ -27,6 +29,10 @@ row_spelled entry = (entry.0, version_spelled entry.1)
 -- the same, where the subject is known
 abbrev pub row_numbered : List ℕ → NumberedVersion → Row
 row_numbered subject entry = ((subject, entry.0), version_spelled entry.1)
+
+-- all of these versions are there, or the last one of those that are shown, which has the id
+abbrev pub TellId : Bool → ℕ → List Row → List Row → Type 0
+TellId deleted id seen all = (seen ≡ all) ⊎ ((row : Row) × (seen ≡ row ∷ []) × (last_or None (shown_rows deleted all) ≡ Some row) × (row.1.id ≡ id))
 
 -- this project's choice: the text in the line's first column is a subject
 abbrev pub HasSubject : ListedVersion → Type 0
@@ -61,7 +67,8 @@ pub record PutsText (old new : BTreeMap ℕ (String Global)) (id : ℕ) (found :
 
 -- the view shows what the command needs of the registry, but for the texts
 pub record IsViewButTexts (view : View) (g : Registry) (command : Command) : Type 0 where
-  pub rows : IfSome (rows_needed g command) (AnswerAs command view.rows.items)
+  pub rows : AnswerAs (level_of_view view) view.known (rows_asked command) view.rows.items (rows_needed g (subject_of command) (rows_asked command))
   pub levels : IsTrue (needs_levels command) → (view.own ≡ option_and_then g.own (subject_of command)) × (view.global ≡ g.global)
+  pub mode : mode_seen view command ≡ mode_for g command
   pub known : view.known ≡ known_id g.schemas (schema_sent command)
   pub count : IsTrue (needs_count command) → view.count ≡ length g.schemas

@@ -1,15 +1,15 @@
 //! Changes of the registry, and the replies that are kept with them.
 
-ghost use Rattle.std.specs.Prelude.{◌≡◌, ◌⊎◌, IfSome, IfErr, OnOk, OnErr, Err, IsTrue, false};
+ghost use Rattle.std.specs.Prelude.{◌⊎◌, IfSome, IfErr, OnOk, OnErr, IsTrue};
 ghost use Rattle.sqlite.specs.Tree.{Trees};
 ghost use Rattle.sqlite.specs.State.{HasCleanDisk, Survives, KeepsCommit};
 ghost use Rattle.reg_core.specs.Registry.{Registry};
 ghost use Rattle.reg_core.specs.Views.{ChangesFit, after_changes};
 ghost use Rattle.reg_core.specs.KeptReplies.{Kept};
 ghost use Rattle.reg_store.specs.Spells.{Leaves, IsOpenOver, SpellsWhileOpen};
-ghost use Rattle.reg_store.specs.Changes.{with_reply, IsNewTo, IsKeepable, ActsOn, HasRoomFor};
-ghost use Rattle.reg_store.specs.Failures.{failure_of, is_fault, IsFaultBy};
-ghost use Rattle.reg_store.specs.Stores.{state_of, has_failed, KeepsStore};
+ghost use Rattle.reg_store.specs.Changes.{with_reply, IsNewTo, IsKeepable, ActsOn};
+ghost use Rattle.reg_store.specs.Failures.{failure_of, is_fault};
+ghost use Rattle.reg_store.specs.Stores.{state_of, KeepsStore};
 ghost use Rattle.reg_store.specs.Inside.Reads.{shown};
 
 use crate::changes::{keep_reply, make_all};
@@ -33,11 +33,6 @@ fn commit_all<S: Alter>(
     ensures fault { HasCleanDisk (shown db.new) → IfErr result (λ e.
         (g : Registry) (k : Kept) → SpellsWhileOpen (shown db.old) g k
         → IsNewTo k keep.entry → ChangesFit changes.now g → IsTrue (is_fault (failure_of e))) }
-    ensures fits { HasCleanDisk (shown db.new) → IfErr result (λ e.
-        (g : Registry) (k : Kept) → SpellsWhileOpen (shown db.old) g k
-        → IsNewTo k keep.entry → ChangesFit changes.now g
-        → HasRoomFor (shown db.old) changes.now keep.entry
-        → IsFaultBy (shown db.old) (shown db.new) (failure_of e)) }
     ensures was_open { HasCleanDisk (shown db.new)
         → OnOk result (IsTrue (shown db.old).is_open) }
     ensures nothing { HasCleanDisk (shown db.new)
@@ -73,13 +68,6 @@ impl<S: Alter> Store<S> {
         ensures fault { HasCleanDisk (state_of self.new) → IfErr result (λ e.
             (g : Registry) (k : Kept) → SpellsWhileOpen (state_of self.old) g k
             → IsNewTo k keep.entry → ChangesFit changes.now g → IsTrue (is_fault e)) }
-
-        // Where there is room for its rows, it answers `Disk` only for a fault of the disk.
-        ensures fits { HasCleanDisk (state_of self.new) → has_failed self.old ≡ false
-            → IfErr result (λ e. (g : Registry) (k : Kept) → SpellsWhileOpen (state_of self.old) g k
-            → IsNewTo k keep.entry → ChangesFit changes.now g
-            → HasRoomFor (state_of self.old) changes.now keep.entry
-            → IsFaultBy (state_of self.old) (state_of self.new) e) }
         ensures nothing { HasCleanDisk (state_of self.new) → OnErr result ((g : Registry) (k : Kept)
             → SpellsWhileOpen (state_of self.old) g k → SpellsWhileOpen (state_of self.new) g k) }
 

@@ -5,7 +5,6 @@ ghost use Rattle.std.specs.FinMap.{entries, get};
 ghost use Rattle.std.specs.List.{last_or};
 ghost use Rattle.reg_core.specs.declared.number.Choice.TheVariants.{Numbered};
 ghost use Rattle.reg_core.specs.Compatibility.{latest};
-ghost use Rattle.reg_core.specs.Numbers.{id_in};
 ghost use Rattle.reg_core.specs.Registry.{Version};
 ghost use Rattle.reg_core.specs.Rows.{rows_of, rows_with, shown_rows};
 ghost use Rattle.reg_core.specs.ReadCommands.{found_row, rows_with_id};
@@ -17,7 +16,7 @@ ghost use Rattle.reg_store.specs.Inside.Reads.{MayRead, Reads};
 use crate::error::StoreError;
 use crate::idle::Idle;
 use crate::store::rows::{push_row, row_in};
-use reg_core::{Choice, OutOfMemory, Row, Subject, id_in};
+use reg_core::{Choice, OutOfMemory, Row, Subject};
 use reg_tables::{
     ListedVersion, SubjectVersion, a_version_of_id, last_live_version_of, last_version_of,
     version_of,
@@ -48,7 +47,7 @@ pub(crate) fn chosen_rows<S: Alter>(
 }
 
 /// The version of the subject with the number, where it is shown. Else the last one that is.
-fn numbered_rows<S: Alter>(
+pub(crate) fn numbered_rows<S: Alter>(
     alloc: Global,
     db: &mut Idle<S>,
     subject: &Subject,
@@ -91,7 +90,7 @@ fn shown_line<S: Alter>(
 }
 
 /// The last version of the subject that is shown, if there is one.
-fn last_rows<S: Alter>(
+pub(crate) fn last_rows<S: Alter>(
     alloc: Global,
     db: &mut Idle<S>,
     subject: &Subject,
@@ -105,7 +104,7 @@ fn last_rows<S: Alter>(
 }
 
 /// The line of the last version of the subject that is shown, if there is one.
-fn last_line<S: Alter>(
+pub(crate) fn last_line<S: Alter>(
     db: &mut Idle<S>,
     subject: &Subject,
     deleted: bool,
@@ -122,7 +121,7 @@ fn last_line<S: Alter>(
 }
 
 /// The version of the subject that the line is of, if there is a line.
-fn row_list(
+pub(crate) fn row_list(
     alloc: Global,
     subject: &Subject,
     line: Option<SubjectVersion>,
@@ -138,17 +137,17 @@ fn row_list(
     Ok(rows)
 }
 
-/// A version of the id that a text spells, if it spells one and some version has it.
-pub(crate) fn spelt_row<S: Alter>(
+/// A version of the id, if there is one and some version has it.
+pub(crate) fn one_row_of<S: Alter>(
     alloc: Global,
     db: &mut Idle<S>,
-    id: &str,
+    id: Option<u32>,
 ) -> Result<Vec<Row>, StoreError>
     ensures { MayRead db.old db.new result (λ was rows.
         map (λ row. row.1.id) (latest rows.items)
-        ≡ map (λ row. row.1.id) (latest (rows_with_id (id_in id.now) (entries was.registry.rows)))) }
+        ≡ map (λ row. row.1.id) (latest (rows_with_id id (entries was.registry.rows)))) }
 {
-    match id_in(id) {
+    match id {
         None => Ok(Vec::new(alloc)),
         Some(id) => some_row(alloc, db, id),
     }

@@ -1,42 +1,45 @@
 //! Levels: the global one, and those of subjects.
 
-ghost use Rattle.std.specs.Prelude.{◌≡◌, None, Some, IfOk, OnErr, IsTrue, option_and_then};
+ghost use Rattle.std.specs.Prelude.{◌≡◌, None, Some, IfOk, OnErr, IsTrue, option_and_then, option_copied};
 ghost use Rattle.reg_core.specs.Levels.{level_of};
-ghost use Rattle.reg_core.specs.Machine.{subject_of};
-ghost use Rattle.reg_core.specs.Views.{needs_levels};
 ghost use Rattle.reg_store.specs.Inside.Reads.{MayRead, Reads};
+ghost use Rattle.reg_store.specs.Spells.{HasNoModes};
 
 use crate::error::StoreError;
 use crate::idle::Idle;
-use reg_core::{Command, Level, Subject};
+use reg_core::{Level, Subject};
 use reg_tables::{global_level, own_level};
 use sqlite::Alter;
 
-/// The level that the command's subject has of its own, if the command looks at it and there is
-/// one, and the global level.
+/// The level that the subject has of its own, if that is needed and there is one, and the global
+/// level. There are no modes beside them.
 pub(crate) fn levels_for<S: Alter>(
     db: &mut Idle<S>,
-    command: &Command,
+    subject: Option<&Subject>,
+    needed: bool,
 ) -> Result<(Option<Level>, Level), StoreError>
-    ensures { Reads db.old db.new result (λ was levels.
-        IsTrue (needs_levels command.now)
-        → (levels.0 ≡ option_and_then was.registry.own (subject_of command.now)) × (levels.1 ≡ was.registry.global)) }
+    ensures { Reads db.old db.new result (λ was levels. HasNoModes was.registry
+        × (IsTrue needed → (levels.0 ≡ option_and_then was.registry.own (option_copied subject.entry))
+        × (levels.1 ≡ was.registry.global))) }
 {
     let global = global(db)?;
-    let own = own_for(db, command)?;
+    let own = own_for(db, subject, needed)?;
     Ok((own, global))
 }
 
-/// The level that the command's subject has of its own, if the command looks at it and there is
-/// one.
-fn own_for<S: Alter>(db: &mut Idle<S>, command: &Command) -> Result<Option<Level>, StoreError>
+/// The level that the subject has of its own, if that is needed and there is one.
+fn own_for<S: Alter>(
+    db: &mut Idle<S>,
+    subject: Option<&Subject>,
+    needed: bool,
+) -> Result<Option<Level>, StoreError>
     ensures { MayRead db.old db.new result (λ was own.
-        IsTrue (needs_levels command.now) → own ≡ option_and_then was.registry.own (subject_of command.now)) }
+        IsTrue needed → own ≡ option_and_then was.registry.own (option_copied subject.entry)) }
 {
-    if !command.needs_levels() {
+    if !needed {
         return Ok(None);
     }
-    match command.subject() {
+    match subject {
         None => Ok(None),
         Some(subject) => own(db, subject),
     }
@@ -57,7 +60,7 @@ pub(crate) fn own<S: Alter>(
 
 /// The global level.
 fn global<S: Alter>(db: &mut Idle<S>) -> Result<Level, StoreError>
-    ensures { Reads db.old db.new result (λ was level. level ≡ was.registry.global) }
+    ensures { Reads db.old db.new result (λ was level. HasNoModes was.registry × (level ≡ was.registry.global)) }
 {
     match global_level(&mut db.conn)? {
         None => Err(StoreError::NotARegistry),

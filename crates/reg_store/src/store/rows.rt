@@ -1,11 +1,10 @@
 //! The versions of subjects and of ids.
 
-ghost use Rattle.std.specs.Prelude.{◌≡◌, ◌++◌, ◌∷◌, [], None, IfOk, IfErr, OnOk, OnErr, IfSome, All, false, map};
+ghost use Rattle.std.specs.Prelude.{◌≡◌, ◌++◌, ◌∷◌, [], None, IfOk, IfErr, OnOk, OnErr, All, false, map, option_copied};
 ghost use Rattle.std.specs.FinMap.{entries};
-ghost use Rattle.reg_core.specs.Numbers.{id_in};
 ghost use Rattle.reg_core.specs.Rows.{rows_of, rows_with};
 ghost use Rattle.reg_core.specs.ReadCommands.{rows_with_id};
-ghost use Rattle.reg_core.specs.Views.{AnswerAs, rows_needed};
+ghost use Rattle.reg_core.specs.Needs.{AnswerAs, TellAs, rows_needed};
 ghost use Rattle.reg_tables.specs.Entries.{numbered, keyed};
 ghost use Rattle.reg_store.specs.declared.error.StoreError.TheVariants.{Memory};
 ghost use Rattle.reg_store.specs.Inside.Viewing.{row_spelled, row_numbered, HasSubject};
@@ -13,61 +12,75 @@ ghost use Rattle.reg_store.specs.Inside.Reads.{MayRead, Reads};
 
 use crate::error::StoreError;
 use crate::idle::Idle;
-use crate::store::chosen::{chosen_rows, spelt_row};
-use reg_core::{Command, OutOfMemory, Row, Subject, choice_in, id_in};
+use crate::store::chosen::{chosen_rows, one_row_of};
+use crate::store::few::{compared_rows, deleted_rows, looked_up_rows, registered_rows};
+use reg_core::{Level, OutOfMemory, Row, RowsNeeded, Subject, SubjectRows};
 use reg_tables::{ListedVersion, SubjectVersion, all_versions, versions_of, versions_of_id};
 use sqlite::Alter;
 use std::alloc::Global;
 
-/// The versions that give the command's answer, in the order of subjects and numbers: all that it
-/// looks at, deleted ones too, or where one is chosen that one.
+/// The versions that tell a command's answer and its changes, in the order of subjects and numbers:
+/// all that it looks at, deleted ones too, or few that tell the same. The level is the one in force,
+/// and the id that of the schema that the command sends.
 pub(crate) fn rows_for<S: Alter>(
     alloc: Global,
     db: &mut Idle<S>,
-    command: &Command,
+    subject: Option<&Subject>,
+    needed: RowsNeeded,
+    level: Level,
+    known: Option<u32>,
 ) -> Result<Vec<Row>, StoreError>
-    ensures { MayRead db.old db.new result (λ was rows.
-        IfSome (rows_needed was.registry command.now) (AnswerAs command.now rows.items)) }
+    ensures { MayRead db.old db.new result (λ was rows. AnswerAs level known needed rows.items
+        (rows_needed was.registry (option_copied subject.entry) needed)) }
 {
-    match command {
-        Command::Register { subject, .. }
-        | Command::DeleteVersion { subject, .. }
-        | Command::DeleteSubject { subject, .. }
-        | Command::Lookup { subject, .. }
-        | Command::Versions { subject, .. }
-        | Command::CheckAll { subject, .. } => subject_rows(alloc, db, subject),
-        Command::Version {
-            subject,
-            version,
-            deleted,
-        }
-        | Command::Text {
-            subject,
-            version,
-            deleted,
-        } => chosen_rows(alloc, db, subject, choice_in(version.as_str()), *deleted),
-        Command::Check {
-            subject,
-            version,
-            ..
-        } => chosen_rows(alloc, db, subject, choice_in(version.as_str()), false),
-        Command::Subjects { .. } => all_rows(alloc, db),
-        Command::ById { id } => spelt_row(alloc, db, id.as_str()),
-        Command::VersionsOfId { id, .. } => spelt_rows(alloc, db, id.as_str()),
-        Command::SetGlobal { .. }
-        | Command::SetLevel { .. }
-        | Command::Global
-        | Command::LevelOf { .. }
-        | Command::Types => Ok(Vec::new(alloc)),
+    match needed {
+        RowsNeeded::Nothing => Ok(Vec::new(alloc)),
+        RowsNeeded::Everything => all_rows(alloc, db),
+        RowsNeeded::OfId(id) => rows_of_id(alloc, db, id),
+        RowsNeeded::OneOfId(id) => one_row_of(alloc, db, id),
+        RowsNeeded::OfSubject(asked) => match subject {
+            Some(subject) => asked_rows(alloc, db, subject, asked, level, known),
+            None => Ok(Vec::new(alloc)),
+        },
     }
 }
 
-/// The versions of the id that a text spells: none where it spells none.
-fn spelt_rows<S: Alter>(alloc: Global, db: &mut Idle<S>, id: &str) -> Result<Vec<Row>, StoreError>
+/// The versions of a subject that tell what is asked of them.
+fn asked_rows<S: Alter>(
+    alloc: Global,
+    db: &mut Idle<S>,
+    subject: &Subject,
+    asked: SubjectRows,
+    level: Level,
+    known: Option<u32>,
+) -> Result<Vec<Row>, StoreError>
     ensures { MayRead db.old db.new result (λ was rows.
-        rows.items ≡ rows_with_id (id_in id.now) (entries was.registry.rows)) }
+        TellAs level known asked rows.items (rows_of was.registry subject.now)) }
 {
-    match id_in(id) {
+    match asked {
+        SubjectRows::Every => subject_rows(alloc, db, subject),
+        SubjectRows::ToChoose { choice, deleted } => {
+            chosen_rows(alloc, db, subject, choice, deleted)
+        }
+        SubjectRows::ToDelete { choice, permanent } => {
+            deleted_rows(alloc, db, subject, choice, permanent)
+        }
+        SubjectRows::ToLookUp { deleted } => looked_up_rows(alloc, db, subject, deleted, known),
+        SubjectRows::ToCompare => compared_rows(alloc, db, subject, level),
+        SubjectRows::ToRegister => registered_rows(alloc, db, subject, level, known),
+    }
+}
+
+/// The versions of the id, if there is one, in the order of subjects and numbers.
+fn rows_of_id<S: Alter>(
+    alloc: Global,
+    db: &mut Idle<S>,
+    id: Option<u32>,
+) -> Result<Vec<Row>, StoreError>
+    ensures { MayRead db.old db.new result (λ was rows.
+        rows.items ≡ rows_with_id id (entries was.registry.rows)) }
+{
+    match id {
         None => Ok(Vec::new(alloc)),
         Some(id) => id_rows(alloc, db, id),
     }

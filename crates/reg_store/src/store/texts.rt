@@ -2,13 +2,12 @@
 
 ghost use Rattle.std.specs.Prelude.{◌≡◌, None, OnOk, All, IsTrue, length, option_map, option_and_then, option_copied, string_bytes};
 ghost use Rattle.reg_core.specs.Rows.{id_of, text_at};
-ghost use Rattle.reg_core.specs.Views.{needs_count};
 ghost use Rattle.reg_store.specs.Inside.Viewing.{HasText, AreTrueTexts, AddsText, PutsText};
 ghost use Rattle.reg_store.specs.Inside.Reads.{MayRead, Reads};
 
 use crate::error::StoreError;
 use crate::idle::Idle;
-use reg_core::{Command, OutOfMemory};
+use reg_core::OutOfMemory;
 use reg_tables::{id_of, last_id, text_of};
 use sqlite::Alter;
 use std::alloc::Global;
@@ -54,16 +53,12 @@ pub(crate) fn known_for<S: Alter>(
     }
 }
 
-/// The number of schemas, if the command looks at it.
-pub(crate) fn count_for<S: Alter>(db: &mut Idle<S>, command: &Command) -> Result<u32, StoreError>
+/// The number of schemas, if it is needed.
+pub(crate) fn count_for<S: Alter>(db: &mut Idle<S>, needed: bool) -> Result<u32, StoreError>
     ensures { MayRead db.old db.new result (λ was count.
-        IsTrue (needs_count command.now) → count ≡ length was.registry.schemas) }
+        IsTrue needed → count ≡ length was.registry.schemas) }
 {
-    if command.needs_count() {
-        count(db)
-    } else {
-        Ok(0)
-    }
+    if needed { count(db) } else { Ok(0) }
 }
 
 /// The identity texts of the ids that have one.

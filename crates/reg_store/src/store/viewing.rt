@@ -8,7 +8,7 @@ ghost use Rattle.reg_core.specs.Registry.{Registry};
 ghost use Rattle.reg_core.specs.Rows.{id_of};
 ghost use Rattle.reg_core.specs.KeptReplies.{Kept};
 ghost use Rattle.reg_core.specs.Machine.{schema_sent};
-ghost use Rattle.reg_core.specs.Views.{IsViewOf, needs_count};
+ghost use Rattle.reg_core.specs.Views.{IsViewOf};
 ghost use Rattle.reg_store.specs.Spells.{SpellsWhileOpen};
 ghost use Rattle.reg_store.specs.Failures.{IsFaultOver};
 ghost use Rattle.reg_store.specs.Stores.{state_of, has_failed, KeepsStore};
@@ -21,7 +21,7 @@ use crate::store::Store;
 use crate::store::levels::levels_for;
 use crate::store::rows::rows_for;
 use crate::store::texts::{count_for, known_for, texts_of};
-use reg_core::{Command, View, ids_read};
+use reg_core::{Command, Mode, View, ids_read};
 use sqlite::Alter;
 use std::alloc::Global;
 use std::collections::BTreeMap;
@@ -85,31 +85,35 @@ fn view_but_texts<S: Alter>(
         option_copied identity.entry ≡ option_map identity_text (schema_sent command.now)
         → IsViewButTexts view was.registry command.now) }
 {
-    let levels = levels_for(db, command)?;
-    let rows = rows_for(alloc, db, command)?;
-    let ids = ids_for(db, command, identity)?;
+    let needs = command.needs();
+    let levels = levels_for(db, command.subject(), needs.levels)?;
+    let ids = ids_for(db, identity, needs.count)?;
+    let level = levels.0.unwrap_or(levels.1);
+    let rows = rows_for(alloc, db, command.subject(), needs.rows, level, ids.0)?;
     Ok(View {
         rows,
         texts: BTreeMap::new(alloc),
         own: levels.0,
         global: levels.1,
+        own_mode: None,
+        global_mode: Mode::Readwrite,
         known: ids.0,
         count: ids.1,
     })
 }
 
 /// The id of the schema with the identity text that is given, if one is and there is one, and the
-/// number of schemas, if the command looks at it.
+/// number of schemas, if it is needed.
 fn ids_for<S: Alter>(
     db: &mut Idle<S>,
-    command: &Command,
     identity: Option<&str>,
+    needs_count: bool,
 ) -> Result<(Option<u32>, u32), StoreError>
     ensures { MayRead db.old db.new result (λ was found.
         (found.0 ≡ option_and_then (id_of was.registry.schemas) (option_copied identity.entry))
-        × (IsTrue (needs_count command.now) → found.1 ≡ length was.registry.schemas)) }
+        × (IsTrue needs_count → found.1 ≡ length was.registry.schemas)) }
 {
     let known = known_for(db, identity)?;
-    let count = count_for(db, command)?;
+    let count = count_for(db, needs_count)?;
     Ok((known, count))
 }

@@ -1,9 +1,8 @@
 use Rattle.sqlite.specs.Held.{state}
-use Rattle.std.proofs.Common.{◌∙◌, ap, inl, inr, subst}
-use Rattle.std.specs.Prelude.{IfSome, option_map}
+use Rattle.std.proofs.Common.{subst}
+use Rattle.std.specs.Prelude.{IfSome}
 use Rattle.std.proofs.lemmas.Bool.{both_ways}
 use Rattle.reg_store.specs.Changes.{entry_of, IsKeepable}
-use Rattle.reg_store.specs.Spells.{row_of}
 use Rattle.reg_tables.proofs.Transactions.{on_ok}
 use Rattle.reg_store.proofs.Spelling.{respells_kept}
 use Rattle.reg_store.proofs.Writing.{if_err_both, fault_of_reply}
@@ -27,12 +26,3 @@ returns-in-Some-clause-fault g c clean =
     rw c.in-Some.is
     (if_err_both c.keep_reply.result (λ e fails shut. fault_of_reply (state g.S.Store c.args.tx.now.conn.now) (state g.S.Store c.keep_reply.new.tx.conn.now) e shut c.in-Some.keep fails)
     (rw c.as_str.ensures.text at (c.keep_reply.ensures.fault clean)) (c.keep_reply.ensures.frame.shut clean))
-
-pub returns-in-Some-clause-fits : goal.returns-in-Some-clause-fits
-returns-in-Some-clause-fits g c clean =
-    rw c.in-Some.is
-    (if_err_both c.keep_reply.result (λ e fits shut registry k spells fresh n rooms stored. elim shut [
-      | inl is_open ↦ let it = spells is_open in fits it.contents it.holds (it.spelled.kept c.in-Some.keep.key.now ∙ ap (option_map row_of) fresh) n (rooms is_open) stored
-      | inr fault ↦ fault
-    ])
-    (rw (c.as_str.ensures.text, c.text.ensures, c.from.ensures, c.status.ensures.value, c.body.ensures) at (c.keep_reply.ensures.fits clean)) (c.keep_reply.ensures.frame.shut clean))

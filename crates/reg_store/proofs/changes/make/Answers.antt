@@ -1,11 +1,10 @@
-use Rattle.std.proofs.Common.{inl, inr, ◌+◌}
+use Rattle.std.proofs.Common.{inl}
 use Rattle.sqlite.specs.Held.{state}
 use Rattle.reg_tables.proofs.Transactions.{on_ok}
 use Rattle.reg_store.proofs.Spelling.{respells_global, respells_level}
 use Rattle.reg_core.specs.declared.decision.Change.TheVariants.{AddText, AddRow}
 use Rattle.reg_store.proofs.Additions.{makes_text, makes_row, id_is_free, text_is_new, number_is_free, id_has_text}
 use Rattle.reg_store.proofs.Deletions.{makes_deleted, makes_removed, makes_dropped}
-use Rattle.reg_tables.proofs.Rooms.{fewer_rooms}
 use Rattle.reg_store.proofs.Writing.{if_err_both, fault_of_change}
 use Rattle.reg_store.proofs.changes.make.Goals as goal
 
@@ -32,24 +31,6 @@ returns-in-SetLevel-clause-fault g c clean =
     if_err_both c.set_level.result (λ e fails shut. fault_of_change (state g.S.Store c.args.tx.now.conn.now) (state g.S.Store c.set_level.new.tx.conn.now) e shut c.args.change.now (λ registry k spells fit. fails spells.contents spells.holds))
     (c.set_level.ensures.fault clean) (c.set_level.ensures.frame.shut clean)
 
-pub returns-in-SetGlobal-clause-room : goal.returns-in-SetGlobal-clause-room
-returns-in-SetGlobal-clause-room g c clean = on_ok c.set_global.result (λ room registry k spells fit n rooms. room spells.contents spells.holds n rooms) (c.set_global.ensures.room clean)
-
-pub returns-in-SetGlobal-clause-fits : goal.returns-in-SetGlobal-clause-fits
-returns-in-SetGlobal-clause-fits g c clean =
-    rw c.in-SetGlobal.is
-    (if_err_both c.set_global.result (λ e fits shut registry k spells fit n rooms stored. elim shut [ inl is_open ↦ let it = spells is_open in fits it.contents it.holds n (rooms is_open) stored | inr fault ↦ fault ])
-    (rw c.text.ensures.value at (c.set_global.ensures.fits clean)) (c.set_global.ensures.frame.shut clean))
-
-pub returns-in-SetLevel-clause-room : goal.returns-in-SetLevel-clause-room
-returns-in-SetLevel-clause-room g c clean = on_ok c.set_level.result (λ room registry k spells fit n rooms. room spells.contents spells.holds n rooms) (c.set_level.ensures.room clean)
-
-pub returns-in-SetLevel-clause-fits : goal.returns-in-SetLevel-clause-fits
-returns-in-SetLevel-clause-fits g c clean =
-    rw c.in-SetLevel.is
-    (if_err_both c.set_level.result (λ e fits shut registry k spells fit n rooms stored. elim shut [ inl is_open ↦ let it = spells is_open in fits it.contents it.holds n (rooms is_open) stored | inr fault ↦ fault ])
-    (rw (c.as_str.ensures.text, c.text-in-SetLevel.ensures.value) at (c.set_level.ensures.fits clean)) (c.set_level.ensures.frame.shut clean))
-
 pub returns-in-AddText-clause-made : goal.returns-in-AddText-clause-made
 returns-in-AddText-clause-made g c clean =
     rw c.in-AddText.is
@@ -63,22 +44,6 @@ returns-in-AddText-clause-fault g c clean =
     (if_err_both c.put_text.result (λ e fails shut. fault_of_change (state g.S.Store c.args.tx.now.conn.now) (state g.S.Store c.put_text.new.tx.conn.now) e shut (AddText c.in-AddText.id c.in-AddText.text) (λ registry k it fit.
     inl (fails it.contents it.holds (id_is_free it.contents registry k it.spelled c.in-AddText.id c.in-AddText.text fit) (text_is_new it.contents registry k it.spelled c.in-AddText.id c.in-AddText.text fit))))
     (rw c.as_str-in-AddText.ensures at (c.put_text.ensures.fault clean)) (c.put_text.ensures.frame.shut clean))
-
-pub returns-in-AddText-clause-room : goal.returns-in-AddText-clause-room
-returns-in-AddText-clause-room g c clean =
-    rw c.in-AddText.is
-    (on_ok c.put_text.result (λ room registry k it fit n rooms.
-    room it.contents it.holds (id_is_free it.contents registry k it.spelled c.in-AddText.id c.in-AddText.text fit) n (fewer_rooms (state g.S.Store c.args.tx.now.conn.now).now n rooms)) (c.put_text.ensures.room clean))
-
-pub returns-in-AddText-clause-fits : goal.returns-in-AddText-clause-fits
-returns-in-AddText-clause-fits g c clean =
-    rw c.in-AddText.is
-    (if_err_both c.put_text.result (λ e fits shut registry k spells fit n rooms stored. elim shut [
-      | inl is_open ↦ let it = spells is_open in
-          fits it.contents it.holds (id_is_free it.contents registry k it.spelled c.in-AddText.id c.in-AddText.text fit) (text_is_new it.contents registry k it.spelled c.in-AddText.id c.in-AddText.text fit) stored
-      | inr fault ↦ fault
-    ])
-    (rw c.as_str-in-AddText.ensures at (c.put_text.ensures.fits clean)) (c.put_text.ensures.frame.shut clean))
 
 pub returns-in-AddRow-clause-made : goal.returns-in-AddRow-clause-made
 returns-in-AddRow-clause-made g c clean =
@@ -94,22 +59,6 @@ returns-in-AddRow-clause-fault g c clean =
     fails it.contents it.holds (number_is_free it.contents registry k it.spelled c.in-AddRow.row fit) (id_has_text it.contents registry k it.spelled c.in-AddRow.row fit)))
     (rw (c.as_str-in-AddRow.ensures.text, c.subject.ensures, c.version.ensures, c.id.ensures) at (c.put_version.ensures.fault clean)) (c.put_version.ensures.frame.shut clean))
 
-pub returns-in-AddRow-clause-room : goal.returns-in-AddRow-clause-room
-returns-in-AddRow-clause-room g c clean =
-    rw c.in-AddRow.is
-    (on_ok c.put_version.result (λ room registry k it fit n rooms. room it.contents it.holds (number_is_free it.contents registry k it.spelled c.in-AddRow.row fit) n rooms)
-    (rw (c.as_str-in-AddRow.ensures.text, c.subject.ensures, c.version.ensures) at (c.put_version.ensures.room clean)))
-
-pub returns-in-AddRow-clause-fits : goal.returns-in-AddRow-clause-fits
-returns-in-AddRow-clause-fits g c clean =
-    rw c.in-AddRow.is
-    (if_err_both c.put_version.result (λ e fits shut registry k spells fit n rooms stored. elim shut [
-      | inl is_open ↦ let it = spells is_open in
-          fits it.contents it.holds (number_is_free it.contents registry k it.spelled c.in-AddRow.row fit) (id_has_text it.contents registry k it.spelled c.in-AddRow.row fit) n (rooms is_open) stored
-      | inr fault ↦ fault
-    ])
-    (rw (c.as_str-in-AddRow.ensures.text, c.subject.ensures, c.version.ensures, c.id.ensures, c.deleted.ensures) at (c.put_version.ensures.fits clean)) (c.put_version.ensures.frame.shut clean))
-
 pub returns-in-MarkDeleted-clause-made : goal.returns-in-MarkDeleted-clause-made
 returns-in-MarkDeleted-clause-made g c clean =
     rw c.in-MarkDeleted.is
@@ -119,19 +68,6 @@ pub returns-in-MarkDeleted-clause-fault : goal.returns-in-MarkDeleted-clause-fau
 returns-in-MarkDeleted-clause-fault g c clean =
     if_err_both c.mark_deleted.result (λ e fails shut. fault_of_change (state g.S.Store c.args.tx.now.conn.now) (state g.S.Store c.mark_deleted.new.tx.conn.now) e shut c.args.change.now (λ registry k spells fit. fails spells.contents spells.holds))
     (c.mark_deleted.ensures.fault clean) (c.mark_deleted.ensures.frame.shut clean)
-
-pub returns-in-MarkDeleted-clause-room : goal.returns-in-MarkDeleted-clause-room
-returns-in-MarkDeleted-clause-room g c clean =
-    on_ok c.mark_deleted.result (λ room registry k it fit n rooms. room it.contents it.holds n (fewer_rooms (state g.S.Store c.args.tx.now.conn.now).now n rooms)) (c.mark_deleted.ensures.room clean)
-
-pub returns-in-MarkDeleted-clause-fits : goal.returns-in-MarkDeleted-clause-fits
-returns-in-MarkDeleted-clause-fits g c clean =
-    rw c.in-MarkDeleted.is
-    (if_err_both c.mark_deleted.result (λ e fits shut registry k spells fit n rooms stored. elim shut [
-      | inl is_open ↦ let it = spells is_open in fits it.contents it.holds (n + 1) (rooms is_open) (λ version known. stored version.id)
-      | inr fault ↦ fault
-    ])
-    (rw c.as_str-in-MarkDeleted.ensures.text at (c.mark_deleted.ensures.fits clean)) (c.mark_deleted.ensures.frame.shut clean))
 
 pub returns-in-Remove-clause-made : goal.returns-in-Remove-clause-made
 returns-in-Remove-clause-made g c clean =
@@ -143,15 +79,6 @@ returns-in-Remove-clause-fault g c clean =
     if_err_both c.drop_version.result (λ e fails shut. fault_of_change (state g.S.Store c.args.tx.now.conn.now) (state g.S.Store c.drop_version.new.tx.conn.now) e shut c.args.change.now (λ registry k spells fit. inl (inl (fails spells.contents spells.holds))))
     (c.drop_version.ensures.fault clean) (c.drop_version.ensures.frame.shut clean)
 
-pub returns-in-Remove-clause-room : goal.returns-in-Remove-clause-room
-returns-in-Remove-clause-room g c clean =
-    on_ok c.drop_version.result (λ room registry k it fit n rooms. room it.contents it.holds n (fewer_rooms (state g.S.Store c.args.tx.now.conn.now).now n rooms)) (c.drop_version.ensures.room clean)
-
-pub returns-in-Remove-clause-fits : goal.returns-in-Remove-clause-fits
-returns-in-Remove-clause-fits g c clean =
-    if_err_both c.drop_version.result (λ e fails shut registry k spells fit n rooms stored. elim shut [ inl is_open ↦ let it = spells is_open in fails it.contents it.holds | inr fault ↦ fault ])
-    (c.drop_version.ensures.fault clean) (c.drop_version.ensures.frame.shut clean)
-
 pub returns-in-DropLevel-clause-made : goal.returns-in-DropLevel-clause-made
 returns-in-DropLevel-clause-made g c clean =
     rw c.in-DropLevel.is
@@ -160,13 +87,4 @@ returns-in-DropLevel-clause-made g c clean =
 pub returns-in-DropLevel-clause-fault : goal.returns-in-DropLevel-clause-fault
 returns-in-DropLevel-clause-fault g c clean =
     if_err_both c.drop_level.result (λ e fails shut. fault_of_change (state g.S.Store c.args.tx.now.conn.now) (state g.S.Store c.drop_level.new.tx.conn.now) e shut c.args.change.now (λ registry k spells fit. inl (inl (fails spells.contents spells.holds))))
-    (c.drop_level.ensures.fault clean) (c.drop_level.ensures.frame.shut clean)
-
-pub returns-in-DropLevel-clause-room : goal.returns-in-DropLevel-clause-room
-returns-in-DropLevel-clause-room g c clean =
-    on_ok c.drop_level.result (λ room registry k it fit n rooms. room it.contents it.holds n (fewer_rooms (state g.S.Store c.args.tx.now.conn.now).now n rooms)) (c.drop_level.ensures.room clean)
-
-pub returns-in-DropLevel-clause-fits : goal.returns-in-DropLevel-clause-fits
-returns-in-DropLevel-clause-fits g c clean =
-    if_err_both c.drop_level.result (λ e fails shut registry k spells fit n rooms stored. elim shut [ inl is_open ↦ let it = spells is_open in fails it.contents it.holds | inr fault ↦ fault ])
     (c.drop_level.ensures.fault clean) (c.drop_level.ensures.frame.shut clean)

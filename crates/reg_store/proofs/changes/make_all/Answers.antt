@@ -1,21 +1,15 @@
-use Rattle.std.proofs.Common.{◌≡◌, ◌∙◌, ◌+◌, ◌-◌, ℕ, length, IsTrue, sym, ap, subst, arith, take}
-use Rattle.std.specs.List.{AllByRecursion}
-use Rattle.reg_core.specs.Registry.{Registry}
-use Rattle.reg_tables.specs.Rooms.{HasRooms}
-use Rattle.reg_tables.specs.FailedCalls.{IsWriteFault}
-use Rattle.reg_core.specs.KeptReplies.{Kept}
+use Rattle.std.proofs.Common.{◌∙◌, sym, ap, subst, arith, take}
 use Rattle.std.proofs.lemmas.List.{take_all}
 use Rattle.std.proofs.lemmas.Bool.{both_ways}
 use Rattle.sqlite.specs.Held.{state}
 use Rattle.sqlite.specs.State.{HasCleanDisk}
-use Rattle.reg_core.specs.Views.{ChangesFit, after_changes, after_change}
+use Rattle.reg_core.specs.Views.{after_changes, after_change}
 use Rattle.reg_store.specs.Spells.{Spells}
 use Rattle.reg_tables.proofs.Transactions.{keeps_then, survives_both}
 use Rattle.reg_tables.proofs.WriteFaults.{erred_with}
-use Rattle.reg_store.specs.Changes.{SpellsInside, CanStoreChange}
 use Rattle.reg_store.specs.Inside.Making.{IsFaultOfChanges}
 use Rattle.reg_store.proofs.Spelling.{after_changes-more, fits_at}
-use Rattle.reg_store.proofs.Writing.{fault_later, write_later, all_got, nonempty}
+use Rattle.reg_store.proofs.Writing.{fault_later, nonempty}
 use Rattle.reg_store.proofs.changes.make_all.Goals as goal
 
 pub loop-change-preserved : goal.loop-change-preserved
@@ -40,9 +34,6 @@ loop-change-preserved g c =
       goes_on = λ clean ended. absurd (both_ways _ ended (it.frame.inside clean));
       commit_stays = λ clean. keeps_then old mid new (before.commit_stays (early clean)) (it.frame.keeps.commit_stays clean);
       survives = survives_both old mid new before.survives it.frame.keeps.survives;
-      room = λ clean registry k s fits n rooms.
-          it.room clean (after_changes (take i changes) registry) k (before.made (early clean) registry k s fits) (fits_at changes i item registry c.loop-change-test.true c.change-item.is fits) n
-          (before.room (early clean) registry k s fits (n + 1) (subst (HasRooms old.now) (let e : i + 1 + n ≡ i + (n + 1) = omega arith in e) rooms));
     }
 
 pub returns-clause-made : goal.returns-clause-made
@@ -66,30 +57,3 @@ pub returns-clause-was_open : goal.returns-clause-was_open
 returns-clause-was_open g c clean some =
     let more = nonempty c.args.changes.now some in
     c.loop-change.invariant.was_open clean (omega arith)
-
-pub returns-clause-room : goal.returns-clause-room
-returns-clause-room g c clean registry k s fits n rooms =
-    let old = state g.S.Store c.args.tx.now.conn.now in
-    let all : c.loop-change.change-index ≡ length c.args.changes.now = omega arith in
-    c.loop-change.invariant.room clean registry k s fits n (subst (λ (m : ℕ). HasRooms old.now (m + n)) (sym all) rooms)
-
-pub returns-in_err-make-clause-fits : goal.returns-in_err-make-clause-fits
-returns-in_err-make-clause-fits g c clean =
-    let old = state g.S.Store c.args.tx.now.conn.now in
-    let mid = state g.S.Store c.loop-change.tx.conn.now in
-    let last = state g.S.Store c.make.new.tx.conn.now in
-    let before = c.loop-change.invariant in
-    let early : HasCleanDisk mid = omega (arith, c.in_err-make.ensures.frame.keeps.survives.clean) in
-    let e = c.in_err-make.field-0.0 in
-    let changes = c.args.changes.now in
-    let i = c.loop-change.change-index in
-    erred_with c.from_residual.result e
-    (λ e. (registry : Registry) (k : Kept) → SpellsInside old registry k → ChangesFit changes registry → (n : ℕ) → (IsTrue old.is_open → HasRooms old.now (length changes + n)) → AllByRecursion CanStoreChange changes → IsWriteFault old last e) c.from_residual.ensures.1
-    (λ registry k spells fits n rooms stored.
-    let more = length changes - (i + 1) + n in
-    let enough : length changes + n ≡ i + (more + 1) = omega arith in
-    write_later old mid last before.survives early c.make.ensures.frame.keeps.survives.counts (before.goes_on early) e
-    (c.in_err-make.ensures.fits clean (after_changes (take i changes) registry) k (λ is_open. before.made early registry k (spells ((before.commit_stays early).was_open is_open)) fits)
-    (fits_at changes i c.change-item.result registry c.loop-change-test.true c.change-item.is fits) more
-    (λ is_open. let was = (before.commit_stays early).was_open is_open in before.room early registry k (spells was) fits (more + 1) (subst (HasRooms old.now) enough (rooms was)))
-    (all_got CanStoreChange changes i c.change-item.result c.change-item.result c.loop-change-test.true c.change-item.is stored)))

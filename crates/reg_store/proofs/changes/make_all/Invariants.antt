@@ -1,6 +1,5 @@
-use Rattle.std.proofs.Common.{◌≡◌, ◌<◌, ◌+◌, ℕ, IsTrue, take}
+use Rattle.std.proofs.Common.{◌≡◌, ◌<◌, IsTrue, take}
 use Rattle.reg_core.specs.Registry.{Registry}
-use Rattle.reg_tables.specs.Rooms.{HasRooms}
 use Rattle.reg_core.specs.KeptReplies.{Kept}
 use Rattle.reg_store.specs.Spells.{Spells}
 use Rattle.sqlite.specs.Held.{state}
@@ -20,5 +19,4 @@ invariant-loop-change g l =
       goes_on : HasCleanDisk now → GoesOn old now;
       commit_stays : HasCleanDisk now → KeepsCommit old now;
       survives : Survives old now (λ _. ⊥);
-      room : HasCleanDisk now → (registry : Registry) (k : Kept) → Spells old.now registry k → ChangesFit l.changes registry → (n : ℕ) → HasRooms old.now (l.change-index + n) → HasRooms now.now n;
     }

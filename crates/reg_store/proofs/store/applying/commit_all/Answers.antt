@@ -1,4 +1,4 @@
-use Rattle.std.proofs.Common.{true, ◌≡◌, ◌⊎◌, ◌+◌, ℕ, length, inl, inr, ◌∙◌, sym, ap, subst, arith, rules}
+use Rattle.std.proofs.Common.{◌≡◌, ◌⊎◌, inl, inr, ◌∙◌, sym, ap, subst, arith, rules}
 use Rattle.std.specs.Prelude.{IsTrue}
 use Rattle.sqlite.specs.Tree.{Trees}
 use Rattle.sqlite.specs.Held.{Held, state}
@@ -11,12 +11,10 @@ use Rattle.reg_tables.proofs.Transactions.{on_ok, if_err, keeps_then, keeps_if_u
 use Rattle.reg_tables.proofs.WriteFaults.{erred_with}
 use Rattle.reg_core.specs.KeptReplies.{Kept}
 use Rattle.reg_store.specs.Spells.{Spells, Leaves, IsOpenOver, SpellsWhileOpen}
-use Rattle.reg_store.specs.Changes.{with_reply, IsNewTo, HasRoomFor, ActsOn}
-use Rattle.reg_tables.specs.Rooms.{HasRooms}
-use Rattle.sqlite_trees.specs.declared.store.Store.{Ghosts}
-use Rattle.reg_store.specs.Failures.{failure_of, is_fault, IsFaultBy}
-use Rattle.reg_store.proofs.Failing.{fault_if_by, by_since}
-use Rattle.reg_store.proofs.Writing.{fault_later, write_later, is_fault_of_insert, fault_of_write, fault_of_commit, begun_spells, still_inside, of_call}
+use Rattle.reg_store.specs.Changes.{with_reply, IsNewTo, ActsOn}
+use Rattle.reg_store.specs.Failures.{failure_of, is_fault}
+use Rattle.reg_store.proofs.Failing.{fault_if_by}
+use Rattle.reg_store.proofs.Writing.{fault_later, is_fault_of_insert, fault_of_commit, begun_spells, still_inside}
 use Rattle.reg_store.proofs.Committing.{keeps_begin, keeps_if_failed, on_err, on_err_each, leaves_if_spelled}
 use Rattle.reg_store.proofs.store.applying.commit_all.Goals as goal
 
@@ -162,66 +160,3 @@ returns-clause-nothing g c clean =
     let all = keeps_begin g.S.Store c.args.db.now.conn c.transaction-tx.result.conn.now (state g.S.Store end) c.transaction-tx.ensures.begun
     (keeps_then begun mid (state g.S.Store end) (c.make_all.ensures.frame.commit_stays clean_mid) (keeps_then mid last (state g.S.Store end) (c.keep_reply.ensures.frame.commit_stays clean_last) (keeps_if_failed last (state g.S.Store end) e fails))) in
     all) (c.commit.ensures.err late)
-
--- the transaction's connection shows the rooms that the connection did
-begun_rooms : {S : Type 0} (g : Ghosts S) (conn begun : Held S) → begun ≡ record conn { in_transaction = true } → (n : ℕ) → (IsTrue (state g conn).is_open → HasRooms (state g conn).now n) → IsTrue (state g begun).is_open → HasRooms (state g begun).now n
-begun_rooms g conn begun is n rooms is_open = subst (λ h. HasRooms (state g h).now n) (sym is) (rooms (subst (λ h. IsTrue (state g h).is_open) is is_open))
-
-pub returns-in_err-make_all-clause-fits : goal.returns-in_err-make_all-clause-fits
-returns-in_err-make_all-clause-fits g c clean =
-    let conn = c.args.db.now.conn in
-    let begun = c.transaction-tx.result.conn.now in
-    let last = c.make_all.new.tx.conn.now in
-    let end = c.drop-tx.new.self.0 in
-    let is = c.transaction-tx.ensures.begun in
-    let e = c.in_err-make_all.field-0.0 in
-    let late : HasCleanDisk (state g.S.Store end) = search rules in
-    let clean_mid : HasCleanDisk (state g.S.Store last) = omega (arith, c.drop-tx.ensures.survives.clean) in
-    erred_with c.from_residual.result e
-    (λ e. (registry : Registry) (k : Kept) → SpellsWhileOpen (state g.S.Store conn) registry k → IsNewTo k c.args.keep → ChangesFit c.args.changes.now registry → HasRoomFor (state g.S.Store conn) c.args.changes.now c.args.keep → IsFaultBy (state g.S.Store conn) (state g.S.Store c.drop-tx.new.self.0) (failure_of e)) c.from_residual.ensures.1
-    (λ registry k over fresh fits room.
-    let write = c.in_err-make_all.ensures.fits clean_mid registry k (begun_spells g.S.Store conn begun is registry k over) fits 1 (begun_rooms g.S.Store conn begun is (length c.args.changes.now + 1) room.rooms) room.changes_fit in
-    (of_call g.S.Store conn begun last end is c.drop-tx.ensures.survives.counts (failure_of e)
-    (fault_of_write (state g.S.Store begun) (state g.S.Store last) e (ap (λ (h : Held _). h.step_limit) is ∙ c.args.db.now.unlimited) (ap (λ (h : Held _). h.in_transaction) is) write)))
-
-pub returns-in_err-keep_reply-clause-fits : goal.returns-in_err-keep_reply-clause-fits
-returns-in_err-keep_reply-clause-fits g c clean =
-    let conn = c.args.db.now.conn in
-    let begun = c.transaction-tx.result.conn.now in
-    let mid = c.make_all.new.tx.conn.now in
-    let last = c.keep_reply.new.tx.conn.now in
-    let end = c.drop-tx-in_err-keep_reply.new.self.0 in
-    let is = c.transaction-tx.ensures.begun in
-    let e = c.in_err-keep_reply.field-0.0 in
-    let late : HasCleanDisk (state g.S.Store end) = search rules in
-    let clean_last : HasCleanDisk (state g.S.Store last) = omega (arith, c.drop-tx-in_err-keep_reply.ensures.survives.clean) in
-    let clean_mid : HasCleanDisk (state g.S.Store mid) = omega (arith, c.keep_reply.ensures.frame.survives.clean) in
-    erred_with c.from_residual-in_err-keep_reply.result e
-    (λ e. (registry : Registry) (k : Kept) → SpellsWhileOpen (state g.S.Store conn) registry k → IsNewTo k c.args.keep → ChangesFit c.args.changes.now registry → HasRoomFor (state g.S.Store conn) c.args.changes.now c.args.keep → IsFaultBy (state g.S.Store conn) (state g.S.Store c.drop-tx-in_err-keep_reply.new.self.0) (failure_of e)) c.from_residual-in_err-keep_reply.ensures.1
-    (λ registry k over fresh fits room.
-    let spelled = begun_spells g.S.Store conn begun is registry k over in
-    let was = λ (is_open : IsTrue (state g.S.Store mid).is_open). (c.make_all.ensures.frame.commit_stays clean_mid).was_open is_open in
-    let rooms = begun_rooms g.S.Store conn begun is (length c.args.changes.now + 1) room.rooms in
-    let write = write_later (state g.S.Store begun) (state g.S.Store mid) (state g.S.Store last) c.make_all.ensures.frame.survives clean_mid c.keep_reply.ensures.frame.survives.counts (c.in_ok-make_all.ensures.goes_on clean_mid) e
-    (c.in_err-keep_reply.ensures.fits clean_last (after_changes c.args.changes.now registry) k (λ is_open. c.in_ok-make_all.ensures.made clean_mid registry k (spelled (was is_open)) fits) fresh 0
-    (λ is_open. c.in_ok-make_all.ensures.room clean_mid registry k (spelled (was is_open)) fits 1 (rooms (was is_open))) room.reply_fits) in
-    (of_call g.S.Store conn begun last end is c.drop-tx-in_err-keep_reply.ensures.survives.counts (failure_of e)
-    (fault_of_write (state g.S.Store begun) (state g.S.Store last) e (ap (λ (h : Held _). h.step_limit) is ∙ c.args.db.now.unlimited) (ap (λ (h : Held _). h.in_transaction) is) write)))
-
-pub returns-clause-fits : goal.returns-clause-fits
-returns-clause-fits g c clean =
-    let conn = c.args.db.now.conn in
-    let begun = c.transaction-tx.result.conn.now in
-    let mid = c.make_all.new.tx.conn.now in
-    let last = c.keep_reply.new.tx.conn.now in
-    let end = c.commit.new.self.0 in
-    let is = c.transaction-tx.ensures.begun in
-    let late : HasCleanDisk (state g.S.Store end) = search rules in
-    let clean_last : HasCleanDisk (state g.S.Store last) = omega (arith, c.commit.ensures.survives.clean) in
-    let clean_mid : HasCleanDisk (state g.S.Store mid) = omega (arith, c.keep_reply.ensures.frame.survives.clean) in
-    let whole = survives_both (state g.S.Store begun) (state g.S.Store mid) (state g.S.Store last) c.make_all.ensures.frame.survives c.keep_reply.ensures.frame.survives in
-    let unlimited = whole.limit ∙ ap (λ (h : Held _). h.step_limit) is ∙ c.args.db.now.unlimited in
-    let inside = still_inside (state g.S.Store mid) (state g.S.Store last) (still_inside (state g.S.Store begun) (state g.S.Store mid) (ap (λ (h : Held _). h.in_transaction) is) (c.in_ok-make_all.ensures.goes_on clean_mid)) (c.in_ok-keep_reply.ensures.goes_on clean_last) in
-    if_err c.commit.result (λ e fails registry k over fresh fits room.
-    let since = by_since (state g.S.Store begun) (state g.S.Store last) (state g.S.Store end) (whole.closes clean_last) whole.counts c.commit.ensures.survives.counts (failure_of e) (fault_of_commit (state g.S.Store last) (state g.S.Store end) e unlimited inside fails) in
-    (subst (λ b. IsFaultBy (state g.S.Store b) (state g.S.Store end) (failure_of e)) is since)) (c.commit.ensures.err late)

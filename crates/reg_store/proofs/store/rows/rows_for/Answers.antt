@@ -1,31 +1,18 @@
-use Rattle.std.proofs.Common.{rules, ◌≡◌, ◌∙◌, sym, ap, subst}
-use Rattle.std.specs.Prelude.{IfSome, Option}
-use Rattle.reg_core.specs.declared.command.Command.{Command}
-use Rattle.reg_core.specs.declared.number.Choice.{Choice}
-use Rattle.reg_core.specs.Numbers.{choice_in}
-use Rattle.reg_core.specs.ReadCommands.{found_row}
-use Rattle.reg_core.specs.Rows.{rows_of, live_rows}
-use Rattle.reg_core.specs.Views.{AnswerAs, rows_needed}
-use Rattle.reg_store.proofs.ReadLemmas.{may_retell}
+use Rattle.reg_core.proofs.FewRows.{all_tell}
+use Rattle.reg_store.proofs.ReadLemmas.{may_retell, unread}
 use Rattle.reg_store.proofs.store.rows.rows_for.Goals as goal
 
-pub returns-in-Check : goal.returns-in-Check
-returns-in-Check g c =
-    may_retell c.chosen_rows.ensures (λ was rows told.
-    subst (λ (command : Command). IfSome (rows_needed was.registry command) (AnswerAs command rows.items)) (sym c.in-Check.is)
-    (subst (λ (choice : Option Choice). found_row choice (live_rows rows.items) ≡ found_row choice (live_rows (rows_of was.registry c.in-Check.subject))) (c.choice_in.ensures ∙ ap choice_in c.as_str.ensures) told))
+pub returns-in-Everything : goal.returns-in-Everything
+returns-in-Everything g c = may_retell c.all_rows.ensures.may (λ was rows is. rw c.in-Everything.is is)
 
-pub returns-in-Subjects : goal.returns-in-Subjects
-returns-in-Subjects g c = may_retell c.all_rows.ensures.may (λ was rows is. search rules)
+pub returns-in-OfId : goal.returns-in-OfId
+returns-in-OfId g c = may_retell c.rows_of_id.ensures (λ was rows is. rw c.in-OfId.is is)
 
-pub returns-in-ById : goal.returns-in-ById
-returns-in-ById g c = may_retell c.spelt_row.ensures (λ was rows is. search rules)
+pub returns-in-OneOfId : goal.returns-in-OneOfId
+returns-in-OneOfId g c = may_retell c.one_row_of.ensures (λ was rows is. rw c.in-OneOfId.is is)
 
-pub returns-in-VersionsOfId : goal.returns-in-VersionsOfId
-returns-in-VersionsOfId g c = may_retell c.spelt_rows.ensures (λ was rows is. search rules)
+pub returns-in-Some : goal.returns-in-Some
+returns-in-Some g c = may_retell c.asked_rows.ensures (λ was rows told. rw (c.in-OfSubject.is, c.in-Some.is) told)
 
-pub returns-in-Version : goal.returns-in-Version
-returns-in-Version g c = may_retell c.chosen_rows-in-Version.ensures (λ was rows is. search rules)
-
-pub returns-in-Register : goal.returns-in-Register
-returns-in-Register g c = may_retell c.subject_rows.ensures.may (λ was rows is. search rules)
+pub returns-in-None : goal.returns-in-None
+returns-in-None g c = unread c.args.db.now (λ was. rw (c.in-OfSubject.is, c.in-None.is) (all_tell c.args.level c.args.known c.in-OfSubject.asked _ _ c.new-in-None.ensures.items))

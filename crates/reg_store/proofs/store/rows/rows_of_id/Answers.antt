@@ -1,6 +1,6 @@
 use Rattle.std.proofs.Common.{rules}
 use Rattle.reg_store.proofs.ReadLemmas.{may_retell}
-use Rattle.reg_store.proofs.store.rows.spelt_rows.Goals as goal
+use Rattle.reg_store.proofs.store.rows.rows_of_id.Goals as goal
 
 pub returns-in-Some : goal.returns-in-Some
 returns-in-Some g c = may_retell c.id_rows.ensures.may (λ was rows is. search rules)
