@@ -91,9 +91,9 @@ status_at [] = 0
 status_at (x ∷ xs) = x.1.status
 
 -- what was answered stays: no delivery was under way then
-answered_stays : (g : Registry) (k : Kept) (d : Delivery) (body : List ℕ) (db : Trees) → IsFoundAfter g k ((d, answer body) ∷ []) db → LeavesAfter g k ((d, answer body) ∷ []) db
-answered_stays g k d body db (inl leaves) = leaves
-answered_stays g k d body db (inr u) = absurd (none u.before u.split)
+answered_stays : (g : Registry) (k : Kept) (d : Delivery) (body : List ℕ) (may_leave : Trees → Type 0) → IsFoundAfter g k ((d, answer body) ∷ []) may_leave → (db : Trees) → may_leave db → LeavesAfter g k ((d, answer body) ∷ []) db
+answered_stays g k d body may_leave (inl leaves) db it = leaves db it
+answered_stays g k d body may_leave (inr u) db it = absurd (none u.before u.split)
   where
     no_more : (before : List Exchange) (x : Exchange) (after : List Exchange) → [] ≡ before ++ x ∷ after → ⊥
     no_more [] x after e = absurd (cc)

@@ -1,7 +1,13 @@
--- What calls leave of the connection, one after the other.
-use Rattle.std.proofs.Common.{inl, inr, ℕ, ◌+◌, ◌≤◌, min, arith}
+-- What calls leave of the connection, and what a service keeps, one call after the other.
+use Rattle.std.proofs.Common.{◌≡◌, inl, inr, ℕ, ◌+◌, ◌≤◌, ◌++◌, ◌∷◌, List, [], min, arith}
+use Rattle.std.proofs.lemmas.List.Elements.{All-push, All-same}
 use Rattle.sqlite.specs.State.{State, HasCleanDisk}
+use Rattle.sqlite_trees.specs.declared.store.Store.{Ghosts}
+use Rattle.reg_core.specs.declared.code.Code.TheVariants.{BackendFault}
+use Rattle.reg_core.specs.Replies.{Told, fault}
 use Rattle.reg_store.specs.Stores.{KeepsOpen}
+use Rattle.reg_service.specs.declared.service.Service.{Service}
+use Rattle.reg_service.specs.Services.{state_in, KeepsService, AreUnanswered}
 
 -- more faults stay more
 still_more : (top a b c : ℕ) → min (a + 1) top ≤ b → b ≤ c → min (a + 1) top ≤ c
@@ -25,3 +31,29 @@ keeps_then a b c clean p q = record {
     | inr more ↦ inr (still_more _ a.faults b.faults c.faults more q.counts)
   ];
 }
+
+module _ {S : Type 0} {g : Ghosts S} where
+  -- a service that does nothing, and gives no answer
+  pub keeps_still : (s : Service S g) (GivesNone : Type 0) → GivesNone → KeepsService s s GivesNone
+  keeps_still s GivesNone none = record {
+    failed = λ failed. (none, failed);
+    shut = λ _ _. (none, λ db it. it);
+    clean = λ clean. clean;
+    connection = keeps_open (state_in s);
+  }
+
+  -- one delivery more
+  pub keeps_next : (old mid new : Service S g) (replies more : List Told) (reply : Told) → more ≡ replies ++ reply ∷ []
+      → KeepsService old mid (AreUnanswered replies) → KeepsService mid new (reply ≡ fault BackendFault) → KeepsService old new (AreUnanswered more)
+  keeps_next old mid new replies more reply longer before one = record {
+    failed = λ failed. let was = before.failed failed in let is = one.failed was.1 in (all was.0 is.0, is.1);
+    shut = λ clean is_shut.
+        let was = before.shut (one.clean clean) is_shut in
+        let is = one.shut clean (λ is_open. is_shut (before.connection.stays_shut (one.clean clean) is_open)) in
+        (all was.0 is.0, λ db it. was.1 db (is.1 db it));
+    clean = λ clean. before.clean (one.clean clean);
+    connection = keeps_then (state_in old) (state_in mid) (state_in new) one.clean before.connection one.connection;
+  }
+    where
+      all : AreUnanswered replies → reply ≡ fault BackendFault → AreUnanswered more
+      all them it = All-same (λ told. told ≡ fault BackendFault) more (replies ++ reply ∷ []) longer (All-push (λ told. told ≡ fault BackendFault) replies reply them it)

@@ -15,19 +15,20 @@ use Rattle.reg_service.specs.Deliveries.{Exchange, firsts, is_first, kept_after,
 abbrev pub LeavesAfter : Registry → Kept → List Exchange → Trees → Type 0
 LeavesAfter g k xs db = Leaves db (run_commands g (firsts k xs)) (kept_after k xs)
 
--- this project's choice: a delivery that was answered 50001, after which no other answer came, was under way: a first one, that stands with the plain machine's reply
-pub record LeavesUnderWay (g : Registry) (k : Kept) (xs : List Exchange) (db : Trees) : Type 0 where
+-- this project's choice: a delivery that was answered 50001, after which no other answer came, was under way: a first one. Each database that may be left has all that was acknowledged, or that and this delivery with the plain machine's reply
+pub record LeavesUnderWay (g : Registry) (k : Kept) (xs : List Exchange) (may_leave : Trees → Type 0) : Type 0 where
   pub before : List Exchange
   pub delivery : Delivery
   pub after : List Exchange
   pub split : xs ≡ before ++ (delivery, fault BackendFault) ∷ after
   pub unanswered : served after ≡ []
   pub first : IsTrue (is_first k (served before) delivery)
-  pub leaves : LeavesAfter g k (served before ++ (delivery, reply_after g k (served before) delivery.command) ∷ []) db
+  pub leaves : (db : Trees) → may_leave db
+      → LeavesAfter g k (served xs) db ⊎ LeavesAfter g k (served before ++ (delivery, reply_after g k (served before) delivery.command) ∷ []) db
 
--- this project's choice: a crash leaves all that was acknowledged, with or without the one delivery under way
-abbrev pub IsFoundAfter : Registry → Kept → List Exchange → Trees → Type 0
-IsFoundAfter g k xs db = LeavesAfter g k (served xs) db ⊎ LeavesUnderWay g k xs db
+-- this project's choice: a crash leaves all that was acknowledged, with or without one delivery under way, which is the same one for all databases that may be left
+abbrev pub IsFoundAfter : Registry → Kept → List Exchange → (Trees → Type 0) → Type 0
+IsFoundAfter g k xs may_leave = ((db : Trees) → may_leave db → LeavesAfter g k (served xs) db) ⊎ LeavesUnderWay g k xs may_leave
 
 -- this project's choice: an error is answered 50001
 abbrev pub reply_of : {E : Type 0} → Result Told E → Told

@@ -10,18 +10,19 @@ ghost use Rattle.reg_core.specs.Replies.{IsOwnReply, fault};
 ghost use Rattle.reg_core.specs.Views.{ChangesFit, after_changes};
 ghost use Rattle.reg_core.specs.KeptReplies.{Kept, kept_with};
 ghost use Rattle.reg_store.specs.Spells.{Leaves, IsOpenOver, SpellsWhileOpen};
-ghost use Rattle.reg_store.specs.Stores.{has_failed, KeepsOpen};
+ghost use Rattle.reg_store.specs.Stores.{has_failed};
 ghost use Rattle.reg_service.specs.Deliveries.{served, RepeatsAgree, NoOtherAnswers};
 ghost use Rattle.reg_service.specs.Admissions.{AllAdmitted};
 ghost use Rattle.reg_service.specs.Crashes.{IsFoundAfter, reply_of, LeavesOne, LeavesNoMore};
-ghost use Rattle.reg_service.specs.Services.{store_in, state_in, SpellsOn, ServesOver};
+ghost use Rattle.reg_service.specs.Services.{store_in, state_in, SpellsOn, ServesOver, AreUnanswered, KeepsService};
 
 use crate::delivery::retry_key;
 use crate::error::Unanswered;
 use crate::kept::answer_again;
 use crate::schema::{identity_text, schema_sent};
-use reg_core::{Code, Command, Decision, Delivery, Key, OutOfMemory, Reply, decide, print_of};
+use reg_core::{Code, Command, Decision, Delivery, Key, OutOfMemory, Reply, decide_with, print_of};
 use reg_store::{Keep, Store};
+use schema_memory::Memory;
 use sqlite::Alter;
 use std::alloc::Global;
 
@@ -30,6 +31,7 @@ use std::alloc::Global;
 pub struct Service<S: Alter> {
     alloc: Global,
     store: Store<S>,
+    memory: Memory,
 }
 
 impl<S: Alter> Service<S> {
@@ -37,14 +39,22 @@ impl<S: Alter> Service<S> {
     pub fn new(alloc: Global, store: Store<S>) -> Service<S>
         ensures { store_in result ≡ store }
     {
-        Service { alloc, store }
+        Service {
+            alloc,
+            store,
+            memory: Memory::new(),
+        }
     }
 
     /// The store.
     pub fn into_store(self) -> Store<S>
         ensures { result ≡ store_in self }
     {
-        let Service { alloc: _, store } = self;
+        let Service {
+            alloc: _,
+            store,
+            memory: _,
+        } = self;
         store
     }
 
@@ -60,9 +70,8 @@ impl<S: Alter> Service<S> {
     /// Where memory is refused or the store fails the reply is 50001, and nothing has changed; but
     /// after a fault of the disk has shut the connection, a crash may leave it carried out.
     pub fn answer(&mut self, delivery: &Delivery) -> Reply
-        ensures failed { IsTrue (has_failed (store_in self.old))
-            → (result ≡ fault Code.BackendFault) × IsTrue (has_failed (store_in self.new)) }
-        ensures clean { HasCleanDisk (state_in self.new) → HasCleanDisk (state_in self.old) }
+        // After a fault of the disk, and over a connection that is shut, nothing is done.
+        ensures frame { KeepsService self.old self.new (result ≡ fault Code.BackendFault) }
         ensures served { HasCleanDisk (state_in self.new)
             → ServesOver (state_in self.old) (state_in self.new) (served ((delivery.now, result) ∷ [])) }
         ensures fault { HasCleanDisk (state_in self.new) → result ≡ fault Code.BackendFault
@@ -75,19 +84,12 @@ impl<S: Alter> Service<S> {
 
         // A crash leaves what was answered, and may leave a delivery that was answered 50001.
         ensures crash { HasCleanDisk (state_in self.new) → (g : Registry) (k : Kept)
-            → IsOpenOver (state_in self.old) g k → (db : Trees) → (state_in self.new).may_leave db
-            → IsFoundAfter g k ((delivery.now, result) ∷ []) db }
-
-        // Over a connection that is shut nothing is done, and nothing else is answered.
-        ensures shut { HasCleanDisk (state_in self.new) → (IsTrue (state_in self.old).is_open → ⊥)
-            → (result ≡ fault Code.BackendFault)
-            × ((db : Trees) → (state_in self.new).may_leave db → (state_in self.old).may_leave db) }
+            → IsOpenOver (state_in self.old) g k
+            → IsFoundAfter g k ((delivery.now, result) ∷ []) (state_in self.new).may_leave }
 
         // Over a connection that is open, a crash leaves what the tables spell, and nothing else.
         ensures settled { (g : Registry) (k : Kept) → IsOpenOver (state_in self.new) g k
             → (db : Trees) → (state_in self.new).may_leave db → Leaves db g k }
-
-        ensures keeps { KeepsOpen (state_in self.old) (state_in self.new) }
     {
         match self.try_answer(delivery) {
             Ok(reply) => reply,
@@ -103,7 +105,9 @@ impl<S: Alter> Service<S> {
     /// `OutOfMemory` where memory for the replies is refused. Then nothing was carried out.
     pub fn run(&mut self, list: &[Delivery]) -> Result<Vec<Reply>, OutOfMemory>
         ensures count { IfOk result (λ replies. vec_len replies ≡ length list.now) }
-        ensures clean { HasCleanDisk (state_in self.new) → HasCleanDisk (state_in self.old) }
+
+        // After a fault of the disk, and over a connection that is shut, nothing is done.
+        ensures frame { KeepsService self.old self.new (IfOk result (λ replies. AreUnanswered replies.items)) }
         ensures served { HasCleanDisk (state_in self.new) → IfOk result (λ replies.
             ServesOver (state_in self.old) (state_in self.new) (served (zip list.now replies.items))) }
         ensures repeats { HasCleanDisk (state_in self.new) → IfOk result (λ replies.
@@ -122,14 +126,11 @@ impl<S: Alter> Service<S> {
         // A crash leaves all that was answered, with or without the one delivery under way.
         ensures crash { HasCleanDisk (state_in self.new) → IfOk result (λ replies.
             (g : Registry) (k : Kept) → IsOpenOver (state_in self.old) g k
-            → (db : Trees) → (state_in self.new).may_leave db
-            → IsFoundAfter g k (zip list.now replies.items) db) }
+            → IsFoundAfter g k (zip list.now replies.items) (state_in self.new).may_leave) }
 
         // Over a connection that is open, a crash leaves what the tables spell, and nothing else.
         ensures settled { (g : Registry) (k : Kept) → IsOpenOver (state_in self.new) g k
             → (db : Trees) → (state_in self.new).may_leave db → Leaves db g k }
-
-        ensures keeps { KeepsOpen (state_in self.old) (state_in self.new) }
     {
         let mut replies = Vec::with_capacity(self.alloc, list.len())?;
         for delivery in list {
@@ -141,21 +142,14 @@ impl<S: Alter> Service<S> {
 
     /// The answer, or an error that changes nothing.
     fn try_answer(&mut self, delivery: &Delivery) -> Result<Reply, Unanswered>
-        ensures failed { IsTrue (has_failed (store_in self.old))
-            → OnOk result ⊥ × IsTrue (has_failed (store_in self.new)) }
-        ensures clean { HasCleanDisk (state_in self.new) → HasCleanDisk (state_in self.old) }
+        ensures frame { KeepsService self.old self.new (OnOk result ⊥) }
         ensures served { HasCleanDisk (state_in self.new) → IfOk result (λ reply.
             ServesOver (state_in self.old) (state_in self.new) (served ((delivery.now, reply) ∷ []))) }
         ensures err { HasCleanDisk (state_in self.new)
             → OnErr result (SpellsOn (state_in self.old) (state_in self.new)) }
         ensures crash { HasCleanDisk (state_in self.new) → (g : Registry) (k : Kept)
-            → IsOpenOver (state_in self.old) g k → (db : Trees) → (state_in self.new).may_leave db
-            → IsFoundAfter g k ((delivery.now, reply_of result) ∷ []) db }
-        ensures was_open { HasCleanDisk (state_in self.new)
-            → OnOk result (IsTrue (state_in self.old).is_open) }
-        ensures shut { HasCleanDisk (state_in self.new) → (IsTrue (state_in self.old).is_open → ⊥)
-            → LeavesNoMore (state_in self.old) (state_in self.new) }
-        ensures keeps { KeepsOpen (state_in self.old) (state_in self.new) }
+            → IsOpenOver (state_in self.old) g k
+            → IsFoundAfter g k ((delivery.now, reply_of result) ∷ []) (state_in self.new).may_leave }
     {
         let Some(key) = retry_key(delivery) else {
             return self.carry_out(&delivery.command);
@@ -169,9 +163,7 @@ impl<S: Alter> Service<S> {
 
     /// The answer to a command whose reply isn't kept.
     fn carry_out(&mut self, command: &Command) -> Result<Reply, Unanswered>
-        ensures failed { IsTrue (has_failed (store_in self.old))
-            → OnOk result ⊥ × IsTrue (has_failed (store_in self.new)) }
-        ensures clean { HasCleanDisk (state_in self.new) → HasCleanDisk (state_in self.old) }
+        ensures frame { KeepsService self.old self.new (OnOk result ⊥) }
         ensures done { HasCleanDisk (state_in self.new) → IfOk result (λ reply. (g : Registry) (k : Kept)
             → SpellsWhileOpen (state_in self.old) g k
             → (reply ≡ (step g command.now).1) × SpellsWhileOpen (state_in self.new) (step g command.now).0 k) }
@@ -181,11 +173,6 @@ impl<S: Alter> Service<S> {
         ensures crash { HasCleanDisk (state_in self.new) → (g : Registry) (k : Kept)
             → IsOpenOver (state_in self.old) g k → (db : Trees) → (state_in self.new).may_leave db
             → LeavesOne result (state_in self.old) db (step g command.now).0 k }
-        ensures was_open { HasCleanDisk (state_in self.new)
-            → OnOk result (IsTrue (state_in self.old).is_open) }
-        ensures shut { HasCleanDisk (state_in self.new) → (IsTrue (state_in self.old).is_open → ⊥)
-            → LeavesNoMore (state_in self.old) (state_in self.new) }
-        ensures keeps { KeepsOpen (state_in self.old) (state_in self.new) }
     {
         let Decision { changes, reply } = self.decision(command)?;
         if !changes.is_empty() {
@@ -201,9 +188,7 @@ impl<S: Alter> Service<S> {
         text: &str,
         command: &Command,
     ) -> Result<Reply, Unanswered>
-        ensures failed { IsTrue (has_failed (store_in self.old))
-            → OnOk result ⊥ × IsTrue (has_failed (store_in self.new)) }
-        ensures clean { HasCleanDisk (state_in self.new) → HasCleanDisk (state_in self.old) }
+        ensures frame { KeepsService self.old self.new (OnOk result ⊥) }
         ensures done { HasCleanDisk (state_in self.new) → IfOk result (λ reply. (g : Registry) (k : Kept)
             → SpellsWhileOpen (state_in self.old) g k → k key.now ≡ None
             → (reply ≡ (step g command.now).1) × SpellsWhileOpen (state_in self.new) (step g command.now).0
@@ -216,7 +201,6 @@ impl<S: Alter> Service<S> {
             → (db : Trees) → (state_in self.new).may_leave db
             → LeavesOne result (state_in self.old) db (step g command.now).0
             (kept_with k key.now (record { text = text.now; reply = (step g command.now).1 })) }
-        ensures keeps { KeepsOpen (state_in self.old) (state_in self.new) }
     {
         let Decision { changes, reply } = self.decision(command)?;
         let keep = Keep {
@@ -230,9 +214,7 @@ impl<S: Alter> Service<S> {
 
     /// What the command does to the registry, and its reply.
     fn decision(&mut self, command: &Command) -> Result<Decision, Unanswered>
-        ensures failed { IsTrue (has_failed (store_in self.old))
-            → OnOk result ⊥ × IsTrue (has_failed (store_in self.new)) }
-        ensures clean { HasCleanDisk (state_in self.new) → HasCleanDisk (state_in self.old) }
+        ensures frame { KeepsService self.old self.new (OnOk result ⊥) }
         ensures same { HasCleanDisk (state_in self.new) → SpellsOn (state_in self.old) (state_in self.new) }
         ensures decided { HasCleanDisk (state_in self.new) → IfOk result (λ d. (g : Registry) (k : Kept)
             → SpellsWhileOpen (state_in self.old) g k
@@ -241,13 +223,11 @@ impl<S: Alter> Service<S> {
         ensures own { IfOk result (λ d. IsOwnReply d.reply) }
         ensures crash { HasCleanDisk (state_in self.new)
             → LeavesNoMore (state_in self.old) (state_in self.new) }
-        ensures was_open { HasCleanDisk (state_in self.new)
-            → OnOk result (IsTrue (state_in self.old).is_open) }
-        ensures keeps { KeepsOpen (state_in self.old) (state_in self.new) }
     {
         let schema = schema_sent(self.alloc, command)?;
         let identity = identity_text(self.alloc, schema.as_ref())?;
         let view = self.store.view(command, identity.as_deref())?;
-        Ok(decide(self.alloc, &view, command, schema.as_ref())?)
+        let memory = Some(&mut self.memory);
+        Ok(decide_with(self.alloc, &view, command, schema.as_ref(), memory)?)
     }
 }

@@ -1,3 +1,6 @@
+use Rattle.std.proofs.Common.{◌∷◌, [], sym, subst}
+use Rattle.reg_core.specs.Replies.{Told}
+use Rattle.reg_service.specs.Crashes.{IsFoundAfter}
 use Rattle.reg_service.specs.Services.{state_in}
 use Rattle.reg_service.proofs.OverTables.{refused_over, fault_over}
 use Rattle.reg_service.proofs.AdmissionLemmas.{all_admitted}
@@ -24,3 +27,7 @@ returns-in-Ok-clause-admitted g c clean registry k over = all_admitted registry 
 
 pub returns-in-Err-clause-admitted : goal.returns-in-Err-clause-admitted
 returns-in-Err-clause-admitted g c clean registry k over = all_admitted registry k over.spells.spelled.registry _
+
+pub returns-in-Err-clause-crash : goal.returns-in-Err-clause-crash
+returns-in-Err-clause-crash g c clean registry k over =
+    subst (λ (reply : Told). IsFoundAfter registry k ((c.args.delivery.now, reply) ∷ []) (state_in c.try_answer.new.self).may_leave) (sym c.fault.ensures) (c.in-Err.ensures.crash clean registry k over)

@@ -1,14 +1,17 @@
-use Rattle.std.proofs.Common.{◌≡◌, List, [], ◌∷◌, length, take, zip, ap, subst, arith, length-append}
+use Rattle.std.proofs.Common.{◌≡◌, List, [], ◌∷◌, length, take, zip, ap, sym, subst, arith, length-append}
 use Rattle.std.proofs.lemmas.List.{take_all}
+use Rattle.std.proofs.lemmas.List.Elements.{All-nil}
+use Rattle.reg_core.specs.declared.code.Code.TheVariants.{BackendFault}
+use Rattle.reg_core.specs.Replies.{fault}
 use Rattle.reg_core.specs.declared.delivery.Delivery.{Delivery}
 use Rattle.reg_service.specs.Deliveries.{served}
 use Rattle.reg_service.specs.Crashes.{IsFoundAfter}
 use Rattle.reg_service.proofs.DueReplies.{repeats_agree, no_other_answers}
-use Rattle.reg_service.specs.Services.{state_in}
+use Rattle.reg_service.specs.Services.{state_in, AreUnanswered, KeepsService}
 use Rattle.reg_service.proofs.OverTables.{none_over, next_over}
 use Rattle.reg_service.proofs.AdmissionLemmas.{all_admitted}
 use Rattle.reg_service.proofs.CrashLemmas.{leaves_open, found_none, found_next}
-use Rattle.reg_service.proofs.OpenConnections.{keeps_open, keeps_then}
+use Rattle.reg_service.proofs.OpenConnections.{keeps_still, keeps_next}
 use Rattle.reg_service.proofs.service.Service.run.Goals as goal
 
 pub loop-delivery-init : goal.loop-delivery-init
@@ -18,10 +21,9 @@ loop-delivery-init g c =
       len = new.len;
       count = ap length new.items;
       room = new.capacity;
-      clean = λ h. h;
+      frame = subst (λ items. KeepsService c.args.self.now c.args.self.now (AreUnanswered items)) (sym new.items) (keeps_still c.args.self.now (AreUnanswered []) (All-nil (λ reply. reply ≡ fault BackendFault)));
       served = λ h. none_over _;
-      keeps = keeps_open (state_in c.args.self.now);
-      crash = λ h registry k over db it. found_none registry k db (leaves_open (state_in c.args.self.now) registry k db (g.met.S.Store.settled c.args.self.now.store.db.conn.store db) over it);
+      crash = λ h registry k over. found_none registry k (state_in c.args.self.now).may_leave (λ db it. leaves_open (state_in c.args.self.now) registry k db (g.met.S.Store.settled c.args.self.now.store.db.conn.store db) over it);
     }
 
 pub loop-delivery-preserved : goal.loop-delivery-preserved
@@ -33,13 +35,11 @@ loop-delivery-preserved g c =
       len = omega (arith, i.len, more.len);
       count = omega (arith, i.count, ap length more.items, length-append c.loop-delivery.replies.items (c.answer-reply.result ∷ []));
       room = omega (arith, i.room, more.capacity);
-      clean = λ h. i.clean (c.answer-reply.ensures.clean h);
+      frame = keeps_next c.args.self.now c.loop-delivery.self c.answer-reply.new.self c.loop-delivery.replies.items c.push_reserved.new.self.items c.answer-reply.result more.items i.frame one.frame;
       served = λ h. next_over _ _ _ c.args.list.now c.loop-delivery.delivery-index c.delivery-item.result c.loop-delivery.replies.items c.push_reserved.new.self.items c.answer-reply.result
-          c.loop-delivery-test.true c.delivery-item.is i.count more.items (i.served (c.answer-reply.ensures.clean h)) (c.answer-reply.ensures.served h);
-      keeps = keeps_then (state_in c.args.self.now) (state_in c.loop-delivery.self) (state_in c.answer-reply.new.self) one.clean i.keeps one.keeps;
-      crash = λ h registry k over db it. found_next (state_in c.args.self.now) (state_in c.loop-delivery.self) c.args.list.now c.loop-delivery.delivery-index c.delivery-item.result c.loop-delivery.replies.items c.push_reserved.new.self.items c.answer-reply.result
-          c.loop-delivery-test.true c.delivery-item.is i.count more.items registry k db over (i.served (one.clean h)) (λ was. i.crash (one.clean h) registry k over db was) (λ registry2 k2 mid. one.crash h registry2 k2 mid db it)
-          (λ is_shut. let none = one.shut h is_shut in (none.0, none.1 db it));
+          c.loop-delivery-test.true c.delivery-item.is i.count more.items (i.served (one.frame.clean h)) (one.served h);
+      crash = λ h registry k over. found_next (state_in c.args.self.now) (state_in c.loop-delivery.self) (state_in c.answer-reply.new.self) c.args.list.now c.loop-delivery.delivery-index c.delivery-item.result c.loop-delivery.replies.items c.push_reserved.new.self.items c.answer-reply.result
+          c.loop-delivery-test.true c.delivery-item.is i.count more.items registry k over (i.served (one.frame.clean h)) (i.crash (one.frame.clean h) registry k over) (one.crash h) (one.frame.shut h);
     }
 
 pub returns-clause-served : goal.returns-clause-served
@@ -56,9 +56,9 @@ returns-clause-only g c clean registry k over =
     no_other_answers _ _ (served (zip c.args.list.now c.loop-delivery.replies.items)) (returns-clause-served g c clean registry k over).serves.replies
 
 pub returns-clause-crash : goal.returns-clause-crash
-returns-clause-crash g c clean registry k over db it =
+returns-clause-crash g c clean registry k over =
     let all : take c.loop-delivery.delivery-index c.args.list.now ≡ c.args.list.now = take_all c.loop-delivery.delivery-index c.args.list.now c.loop-delivery-test.false in
-    subst (λ (list : List Delivery). IsFoundAfter registry k (zip list c.loop-delivery.replies.items) db) all (c.loop-delivery.invariant.crash clean registry k over db it)
+    subst (λ (list : List Delivery). IsFoundAfter registry k (zip list c.loop-delivery.replies.items) (state_in c.loop-delivery.self).may_leave) all (c.loop-delivery.invariant.crash clean registry k over)
 
 pub returns-in_err-replies-clause-settled : goal.returns-in_err-replies-clause-settled
 returns-in_err-replies-clause-settled g c registry k over db it = leaves_open (state_in c.args.self.now) registry k db (g.met.S.Store.settled c.args.self.now.store.db.conn.store db) over it

@@ -25,45 +25,45 @@ returns-in-Some-2-clause-served g c clean registry k over =
 pub returns-clause-served : goal.returns-clause-served
 returns-clause-served g c clean =
     let text : c.as_str-in-None.result.now ≡ command_text c.args.delivery.now.command = c.as_str-in-None.ensures.value ∙ c.in_ok-text.ensures.text in
-    let before = c.answer_first.ensures.clean clean in
+    let before = c.answer_first.ensures.frame.clean clean in
     first_over _ _ c.args.delivery.now c.answer_first.result _ c.in-Some.key.now c.as_str-in-None.result.now (sym c.in-Some.ensures) text (c.answer_first.ensures.done clean) c.answer_first.ensures.own
     (λ registry k over. (c.in_ok-kept.ensures.same before registry k over, rw c.in-None.is at (c.in_ok-kept.ensures.found before registry k over)))
 
 pub returns-clause-err : goal.returns-clause-err
-returns-clause-err g c clean = fails_as c.answer_first.result (λ still registry k over. still registry k (c.in_ok-kept.ensures.same (c.answer_first.ensures.clean clean) registry k over)) (c.answer_first.ensures.err clean)
+returns-clause-err g c clean = fails_as c.answer_first.result (λ still registry k over. still registry k (c.in_ok-kept.ensures.same (c.answer_first.ensures.frame.clean clean) registry k over)) (c.answer_first.ensures.err clean)
 
 pub returns-in_default-clause-crash : goal.returns-in_default-clause-crash
-returns-in_default-clause-crash g c clean registry k over db it =
+returns-in_default-clause-crash g c clean registry k over =
     let old = state_in c.args.self.now in
-    found_keyless registry k c.args.delivery.now db old (state_in c.carry_out.new.self) c.carry_out.result (sym c.in_default.ensures)
-    (leaves_open old registry k db (g.met.S.Store.settled c.args.self.now.store.db.conn.store db) over) (λ _. over)
-    (c.carry_out.ensures.done clean) c.carry_out.ensures.own (c.carry_out.ensures.crash clean registry k over db it)
+    found_keyless registry k c.args.delivery.now (state_in c.carry_out.new.self).may_leave old (state_in c.carry_out.new.self) c.carry_out.result (sym c.in_default.ensures)
+    (λ db. leaves_open old registry k db (g.met.S.Store.settled c.args.self.now.store.db.conn.store db) over) (λ _. over)
+    (c.carry_out.ensures.done clean) c.carry_out.ensures.own (c.carry_out.ensures.crash clean registry k over)
 
 pub returns-in_err-text-clause-crash : goal.returns-in_err-text-clause-crash
-returns-in_err-text-clause-crash g c clean registry k over db it =
+returns-in_err-text-clause-crash g c clean registry k over =
     let none : OnOk c.from_residual.result ⊥ = search rules in
-    found_failed registry k c.args.delivery.now db c.from_residual.result none (leaves_open (state_in c.args.self.now) registry k db (g.met.S.Store.settled c.args.self.now.store.db.conn.store db) over it)
+    found_failed registry k c.args.delivery.now (state_in c.args.self.now).may_leave c.from_residual.result none (λ db it. leaves_open (state_in c.args.self.now) registry k db (g.met.S.Store.settled c.args.self.now.store.db.conn.store db) over it)
 
 pub returns-in_err-kept-clause-crash : goal.returns-in_err-kept-clause-crash
-returns-in_err-kept-clause-crash g c clean registry k over db it =
+returns-in_err-kept-clause-crash g c clean registry k over =
     let none : OnOk c.from_residual-in_err-kept.result ⊥ = search rules in
-    found_failed registry k c.args.delivery.now db c.from_residual-in_err-kept.result none
-    (leaves_open (state_in c.args.self.now) registry k db (g.met.S.Store.settled c.args.self.now.store.db.conn.store db) over (c.kept.ensures.crash clean db it))
+    found_failed registry k c.args.delivery.now (state_of c.kept.new.self).may_leave c.from_residual-in_err-kept.result none
+    (λ db it. leaves_open (state_in c.args.self.now) registry k db (g.met.S.Store.settled c.args.self.now.store.db.conn.store db) over (c.kept.ensures.crash clean db it))
 
 pub returns-in-Some-2-clause-crash : goal.returns-in-Some-2-clause-crash
-returns-in-Some-2-clause-crash g c clean registry k over db it =
+returns-in-Some-2-clause-crash g c clean registry k over =
     let text : c.as_str.result.now ≡ command_text c.args.delivery.now.command = c.as_str.ensures.value ∙ c.in_ok-text.ensures.text in
     let has : k c.in-Some.key.now ≡ Some (entry_told (string_bytes c.in-Some-2.kept) c.in-Some-2.reply) = rw c.in-Some-2.is at (c.in_ok-kept.ensures.found clean registry k (λ _. over)) in
-    found_again registry k c.args.delivery.now db c.in-Some.key.now c.as_str.result.now (entry_told (string_bytes c.in-Some-2.kept) c.in-Some-2.reply) c.answer_again.result (sym c.in-Some.ensures) text has
+    found_again registry k c.args.delivery.now (state_of c.kept.new.self).may_leave c.in-Some.key.now c.as_str.result.now (entry_told (string_bytes c.in-Some-2.kept) c.in-Some-2.reply) c.answer_again.result (sym c.in-Some.ensures) text has
     c.answer_again.ensures.same c.answer_again.ensures.other
-    (leaves_open (state_in c.args.self.now) registry k db (g.met.S.Store.settled c.args.self.now.store.db.conn.store db) over (c.in_ok-kept.ensures.crash clean db it))
+    (λ db it. leaves_open (state_in c.args.self.now) registry k db (g.met.S.Store.settled c.args.self.now.store.db.conn.store db) over (c.in_ok-kept.ensures.crash clean db it))
 
 pub returns-clause-crash : goal.returns-clause-crash
-returns-clause-crash g c clean registry k over db it =
+returns-clause-crash g c clean registry k over =
     let text : c.as_str-in-None.result.now ≡ command_text c.args.delivery.now.command = c.as_str-in-None.ensures.value ∙ c.in_ok-text.ensures.text in
-    let early = c.answer_first.ensures.clean clean in
+    let early = c.answer_first.ensures.frame.clean clean in
     let fresh : k c.in-Some.key.now ≡ None = rw c.in-None.is at (c.in_ok-kept.ensures.found early registry k (λ _. over)) in
     let mid = c.in_ok-kept.ensures.same early registry k (λ _. over) in
-    found_first registry k c.args.delivery.now db (state_of c.kept.new.self) (state_in c.answer_first.new.self) c.answer_first.result c.in-Some.key.now c.as_str-in-None.result.now (sym c.in-Some.ensures) text fresh
-    (λ was. leaves_open (state_in c.args.self.now) registry k db (g.met.S.Store.settled c.args.self.now.store.db.conn.store db) over (c.in_ok-kept.ensures.crash early db was)) mid
-    (c.answer_first.ensures.done clean) c.answer_first.ensures.own (c.answer_first.ensures.crash clean registry k mid fresh db it)
+    found_first registry k c.args.delivery.now (state_in c.answer_first.new.self).may_leave (state_of c.kept.new.self) (state_in c.answer_first.new.self) c.answer_first.result c.in-Some.key.now c.as_str-in-None.result.now (sym c.in-Some.ensures) text fresh
+    (λ db was. leaves_open (state_in c.args.self.now) registry k db (g.met.S.Store.settled c.args.self.now.store.db.conn.store db) over (c.in_ok-kept.ensures.crash early db was)) mid
+    (c.answer_first.ensures.done clean) c.answer_first.ensures.own (c.answer_first.ensures.crash clean registry k mid fresh)

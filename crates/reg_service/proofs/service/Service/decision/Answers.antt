@@ -1,0 +1,21 @@
+use Rattle.std.proofs.Common.{rules, ◌≡◌, ◌∙◌, ap}
+use Rattle.std.specs.Prelude.{option_copied, option_map}
+use Rattle.avro_nodes.specs.Nodes.{nodes_view}
+use Rattle.avro_nodes.specs.Identity.{identity}
+use Rattle.reg_core.specs.Machine.{schema_sent}
+use Rattle.reg_core.specs.Views.{IsGround, schema_taken}
+use Rattle.reg_core.proofs.ViewLemmas.{taken-sent}
+use Rattle.reg_service.proofs.service.Service.decision.Goals as goal
+
+pub returns-clause-decided : goal.returns-clause-decided
+returns-clause-decided g c clean registry k over =
+    let command = c.args.command.now in
+    let text : option_copied c.as_deref.result ≡ option_map identity (schema_sent command) = search rules in
+    let sent : option_map nodes_view (option_copied c.as_ref-2.result) ≡ schema_sent command = search rules in
+    let ground : IsGround registry command (schema_taken command (option_map nodes_view (option_copied c.as_ref-2.result))) c.in_ok-view.view = record {
+      registry = (over (c.in_ok-view.ensures.frame.was_open clean)).spells.spelled.registry;
+      sent = ap (schema_taken command) sent ∙ taken-sent command;
+      shows = c.in_ok-view.ensures.view clean registry k over text;
+    } in
+    let decides = c.in_ok-decide_with.ensures in
+    (decides.reply registry ground, decides.changes registry ground, decides.fit registry ground)
