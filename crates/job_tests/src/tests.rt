@@ -1,5 +1,6 @@
 //! What no clause says: the bytes of messages, whole and in pieces, what fails in mid-stream, what is opened for jobs and how they come out.
 
+mod doing;
 mod jobs;
 mod listings;
 mod loopback;

@@ -60,3 +60,35 @@ pub fn close<D: Disk + Drop>(connection: Connection<FileStore<D>>) -> Result<Fil
         }
     }
 }
+
+/// The files of a connection, closed or not, and whether it was.
+pub fn let_go<D: Disk + Drop>(connection: Connection<FileStore<D>>) -> (Files<D>, bool) {
+    match connection.close_files() {
+        Ok(files) => (files, true),
+        Err((_, store)) => (store.close(), false),
+    }
+}
+
+/// The file as a process that ends now leaves it.
+///
+/// # Errors
+///
+/// A failed test, where memory is refused.
+pub fn copied(alloc: Global, file: &Memory) -> Result<Memory, Fail> {
+    let mut copy = Memory::new(alloc);
+    copy.write_at(0, file.bytes())?;
+    copy.sync()?;
+    Ok(copy)
+}
+
+/// The files as a process that ends now leaves them.
+///
+/// # Errors
+///
+/// A failed test, where memory is refused.
+pub fn copy(alloc: Global, files: &Files<Memory>) -> Result<Files<Memory>, Fail> {
+    Ok(Files {
+        log: copied(alloc, &files.log)?,
+        db: copied(alloc, &files.db)?,
+    })
+}

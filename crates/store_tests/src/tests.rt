@@ -1,7 +1,6 @@
 //! What no clause says: that with ample memory each call does its work, and what failing disks leave.
 
 mod deliveries;
-mod disks;
 mod faults;
 mod services;
 mod stores;

@@ -3,9 +3,11 @@
 
 use avro_schema::Schema;
 use reg_core::{
-    Change, Code, Command, Decision, Key, Level, Reply, Row, Subject, Text, View, decide, print_of,
+    Change, Code, Command, Decision, Key, Level, Mode, Reply, Row, Subject, Text, View, decide,
+    decide_with, print_of,
 };
 use reg_rows::{Tables, spells};
+use schema_memory::Memory;
 use std::alloc::Global;
 use std::collections::BTreeMap;
 use std::test::Fail;
@@ -172,12 +174,12 @@ const LAST_NUMBERS: [(u32, bool, Option<u32>, u32, u16, &str, u32); 5] = [
 ];
 
 /// A registration of `"int"` in the subject s.
-fn register(alloc: Global) -> Result<Command, Fail> {
+fn register(alloc: Global, supported: bool) -> Result<Command, Fail> {
     let subject = Subject::new(String::from_str(alloc, "s")?).ok_or("a subject")?;
     Ok(Command::Register {
         subject,
         text: Text::from(String::from_str(alloc, "\"int\"")?),
-        supported: true,
+        supported,
     })
 }
 
@@ -193,6 +195,8 @@ fn view(alloc: Global, number: u32, deleted: bool) -> Result<View, Fail> {
         texts,
         own: None,
         global: Level::Backward,
+        own_mode: None,
+        global_mode: Mode::Readwrite,
         known: None,
         count: 1,
     })
@@ -201,7 +205,7 @@ fn view(alloc: Global, number: u32, deleted: bool) -> Result<View, Fail> {
 /// What is decided of the registration.
 fn decided(alloc: Global, view: &View) -> Result<Decision, Fail> {
     let schema = Schema::read(alloc, "\"int\"")?;
-    let command = register(alloc)?;
+    let command = register(alloc, true)?;
     Ok(decide(alloc, view, &command, Some(&schema))?)
 }
 
@@ -227,11 +231,63 @@ fn numbers_run_out(rt: HostRuntime) -> Result<(), Fail> {
     Ok(())
 }
 
+#[test]
+fn a_schema_of_another_type_is_not_looked_at(rt: HostRuntime) -> Result<(), Fail> {
+    let alloc = rt.alloc();
+    let view = view(alloc, 1, true)?;
+    let schema = Schema::read(alloc, "\"int\"")?;
+    let command = register(alloc, false)?;
+    let decision = decide(alloc, &view, &command, Some(&schema))?;
+    assert_eq!(rt;
+        decision.reply.body(),
+        "{\"error_code\":42201,\"message\":\"Invalid schema\"}"
+    );
+    assert!(rt; decision.changes.is_empty());
+    Ok(())
+}
+
+/// Whether a mode forbids a registration: the subject's own one, the global one, and the status.
+const MODES: [(Option<Mode>, Mode, u16); 5] = [
+    (None, Mode::Readwrite, 200),
+    (None, Mode::Readonly, 422),
+    (Some(Mode::Readwrite), Mode::Readonly, 200),
+    (Some(Mode::Readonly), Mode::Readwrite, 422),
+    (Some(Mode::Readonly), Mode::Readonly, 422),
+];
+
+#[test]
+fn a_mode_forbids_writes(rt: HostRuntime) -> Result<(), Fail> {
+    let mut view = view(rt.alloc(), 1, true)?;
+    for (own, global, status) in MODES {
+        view.own_mode = own;
+        view.global_mode = global;
+        let decision = decided(rt.alloc(), &view)?;
+        assert_eq!(rt; decision.reply.status(), status);
+    }
+    Ok(())
+}
+
+/// The schema of a version is remembered once it was compared.
+#[test]
+fn what_is_compared_is_remembered(rt: HostRuntime) -> Result<(), Fail> {
+    let alloc = rt.alloc();
+    let view = view(alloc, 1, false)?;
+    let schema = Schema::read(alloc, "\"int\"")?;
+    let command = register(alloc, true)?;
+    let mut memory = Memory::new();
+    for _ in 0..2 {
+        let decision = decide_with(alloc, &view, &command, Some(&schema), Some(&mut memory))?;
+        assert_eq!(rt; decision.reply.status(), 409);
+        assert_eq!(rt; memory.sizes(), (1, 8));
+    }
+    Ok(())
+}
+
 /// The text of a read is empty.
 #[test]
 fn command_texts(rt: HostRuntime) -> Result<(), Fail> {
     let alloc = rt.alloc();
-    let text = print_of(alloc, &register(alloc)?)?;
+    let text = print_of(alloc, &register(alloc, true)?)?;
     assert_eq!(rt; text.as_str(), "[\"register\",\"s\",\"\\\"int\\\"\",true]");
     assert!(rt; print_of(alloc, &Command::Types)?.is_empty());
     Ok(())

@@ -3,7 +3,9 @@
 
 use avro_resolve::{Verdict, resolves, resolves_itself, resolves_plain};
 use avro_schema::Schema;
-use std::alloc::{AllocError, Global};
+use avro_testing::{Text, random_text, text_of};
+use reg_core::{Level, admits};
+use std::alloc::Global;
 use std::test::Fail;
 
 /// Whether a writer, before the arrow, resolves with a reader.
@@ -43,18 +45,31 @@ no {"type":"record","name":"R","fields":[{"name":"x","type":"string"},{"name":"z
 yes {"type":"record","name":"R","fields":[{"name":"x","type":"string"},{"name":"y","type":"int"}]} => {"type":"record","name":"R","fields":[{"name":"y","type":"int","aliases":["x"]}]}
 yes {"type":"record","name":"R","fields":[{"name":"z","type":"string"},{"name":"x","type":"int"}]} => {"type":"record","name":"R","fields":[{"name":"y","type":"int","aliases":["w","x","z"]}]}
 yes {"type":"record","name":"R","fields":[{"name":"x","type":"int"},{"name":"y","type":"int"}]} => {"type":"record","name":"R","fields":[]}
+yes {"type":"record","name":"R","fields":[{"name":"a","type":"int"},{"name":"b","type":"int"}]} => {"type":"record","name":"R","fields":[{"name":"a","type":"int"}]}
+no {"type":"record","name":"R","fields":[{"name":"b","type":"int"}]} => {"type":"record","name":"R","fields":[{"name":"a","type":"int"},{"name":"b","type":"int"}]}
+yes {"type":"record","name":"R","fields":[]} => {"type":"record","name":"R","fields":[{"name":"a","type":"int","default":0}]}
+yes {"type":"record","name":"R","fields":[{"name":"a","type":"int","default":0}]} => {"type":"record","name":"R","fields":[{"name":"a","type":"int"}]}
+no {"type":"record","name":"R","fields":[]} => {"type":"record","name":"R","fields":[{"name":"a","type":"int"}]}
 yes {"type":"record","name":"N","fields":[{"name":"next","type":["null","N"]},{"name":"v","type":"int"}]} => {"type":"record","name":"N","fields":[{"name":"next","type":["null","N"]},{"name":"v","type":"long"}]}
 no {"type":"record","name":"N","fields":[{"name":"next","type":["null","N"]},{"name":"v","type":"long"}]} => {"type":"record","name":"N","fields":[{"name":"next","type":["null","N"]},{"name":"v","type":"int"}]}
 no {"type":"record","name":"A","fields":[{"name":"b","type":{"type":"record","name":"B","fields":[{"name":"a","type":["null","A"]}]}},{"name":"c","type":"int"}]} => [{"type":"record","name":"x.A","fields":[{"name":"b","type":{"type":"record","name":"x.B","fields":[{"name":"a","type":["null","x.A"]}]}},{"name":"c","type":"string"}]},{"type":"record","name":"y.A","fields":[{"name":"b","type":"x.B"}]}]"#;
 
-/// The verdict on two texts, on which both calls agree.
+/// The verdict on two texts, on which all calls agree: both ways of resolution, and the levels that ask for it.
 fn verdict(alloc: Global, writer: &str, reader: &str) -> Result<Verdict, Fail> {
-    let writer = Schema::read(alloc, writer)?;
-    let reader = Schema::read(alloc, reader)?;
-    resolves_itself(&writer);
-    let verdict = resolves(alloc, &writer, &reader)?;
-    if verdict.yes != resolves_plain(alloc, &writer, &reader)? {
-        return Err("the two calls differ".into());
+    let writers = [Schema::read(alloc, writer)?];
+    let readers = [Schema::read(alloc, reader)?];
+    let [writer] = &writers;
+    let [reader] = &readers;
+    resolves_itself(writer);
+    let verdict = resolves(alloc, writer, reader)?;
+    if verdict.yes != resolves_plain(alloc, writer, reader)? {
+        return Err("the two ways differ".into());
+    }
+    if verdict.yes != admits(alloc, Level::Backward, &writers, reader)? {
+        return Err("the level of a new reader differs".into());
+    }
+    if verdict.yes != admits(alloc, Level::Forward, &readers, writer)? {
+        return Err("the level of a new writer differs".into());
     }
     Ok(verdict)
 }
@@ -70,140 +85,125 @@ fn rules(rt: HostRuntime) -> Result<(), Fail> {
     Ok(())
 }
 
-/// A text in three parts, the second of which comes once for each number below the last one, from there down to the first,
-/// with the number for `#` and the next one for `%`.
-type Numbered = ([&'static str; 3], u32, u32);
+/// Whether a level admits the last of several schemas after those before it.
+const ADMISSIONS: &str =
+    r#"yes FORWARD {"type":"record","name":"R","fields":[{"name":"a","type":"int"}]}
+yes FORWARD {"type":"record","name":"R","fields":[{"name":"a","type":"int"}]} => {"type":"record","name":"R","fields":[{"name":"a","type":"int"},{"name":"b","type":"int"}]}
+no FORWARD {"type":"record","name":"R","fields":[{"name":"a","type":"int"}]} => {"type":"record","name":"R","fields":[{"name":"a","type":"int"},{"name":"b","type":"int"}]} => {"type":"record","name":"R","fields":[{"name":"b","type":"int"}]}
+yes BACKWARD {"type":"record","name":"R","fields":[]}
+yes BACKWARD {"type":"record","name":"R","fields":[]} => {"type":"record","name":"R","fields":[{"name":"a","type":"int","default":0}]}
+yes BACKWARD {"type":"record","name":"R","fields":[]} => {"type":"record","name":"R","fields":[{"name":"a","type":"int","default":0}]} => {"type":"record","name":"R","fields":[{"name":"a","type":"int"}]}
+yes BACKWARD_TRANSITIVE {"type":"record","name":"R","fields":[]} => {"type":"record","name":"R","fields":[{"name":"a","type":"int","default":0}]}
+no BACKWARD_TRANSITIVE {"type":"record","name":"R","fields":[]} => {"type":"record","name":"R","fields":[{"name":"a","type":"int","default":0}]} => {"type":"record","name":"R","fields":[{"name":"a","type":"int"}]}
+yes FORWARD "long" => "int"
+no FORWARD_TRANSITIVE "string" => "long" => "int"
+yes FORWARD "string" => "long" => "int"
+yes FORWARD_TRANSITIVE "double" => "long" => "int"
+yes FULL "int" => "bytes" => "string"
+no FULL "int" => "long"
+no FULL "long" => "int"
+no FULL_TRANSITIVE "int" => "bytes" => "string"
+yes FULL_TRANSITIVE "string" => "bytes" => "string"
+yes NONE "int" => "string""#;
 
-/// The text with a number for `#` and the next one for `%`.
-fn with_number(alloc: Global, text: &str, number: u32) -> Result<String, AllocError> {
-    let next = format!(in alloc; "{}", number.saturating_add(1))?;
-    let number = format!(in alloc; "{number}")?;
-    let text = text.replace(alloc, '#', number.as_str())?;
-    text.replace(alloc, '%', next.as_str())
-}
-
-fn text_of(alloc: Global, numbered: &Numbered) -> Result<String, AllocError> {
-    let ([before, middle, behind], first, last) = numbered;
-    let mut text = String::from_str(alloc, before)?;
-    for number in (*first..*last).rev() {
-        text.push_str(with_number(alloc, middle, number)?.as_str())?;
+#[test]
+fn levels_admit(rt: HostRuntime) -> Result<(), Fail> {
+    let alloc = rt.alloc();
+    for row in ADMISSIONS.lines() {
+        let (want, rest) = row.split_once(' ').ok_or("a row without an answer")?;
+        let (level, texts) = rest.split_once(' ').ok_or("a row without a level")?;
+        let mut schemas = Vec::new(alloc);
+        for text in texts.split(" => ") {
+            schemas.push(Schema::read(alloc, text)?)?;
+        }
+        let new = schemas.pop().ok_or("a row without a schema")?;
+        let level = Level::parse(level).ok_or("a row with another level")?;
+        let admitted = admits(alloc, level, &schemas, &new)?;
+        assert_eq!(rt; admitted, want == "yes", "{row}");
     }
-    text.push_str(behind)?;
-    Ok(text)
+    Ok(())
 }
 
-const INT: Numbered = ([r#""int""#, "", ""], 0, 0);
+/// An int.
+const INT: &str = r#"once "int""#;
 
-const TWO_FIELDS: Numbered = (
-    [
-        r#"{"type":"record","name":"R","fields":[{"name":"a","type":"int"},{"name":"b","type":"int"}]}"#,
-        "",
-        "",
-    ],
-    0,
-    0,
-);
+const TWO_FIELDS: &str =
+    r#"once {"type":"record","name":"R","fields":[{"name":"a","type":"int"},{"name":"b","type":"int"}]}"#;
 
-const STALE_WRITER: Numbered = (
-    [
-        r#"{"type":"record","name":"A","fields":[{"name":"b","type":{"type":"record","name":"B","fields":[{"name":"a","type":["null","A"]}]}},{"name":"c","type":"int"}]}"#,
-        "",
-        "",
-    ],
-    0,
-    0,
-);
+/// A pair that is assumed, and of which what was assumed since has to be taken back.
+const STALE_WRITER: &str =
+    r#"once {"type":"record","name":"A","fields":[{"name":"b","type":{"type":"record","name":"B","fields":[{"name":"a","type":["null","A"]}]}},{"name":"c","type":"int"}]}"#;
 
-const STALE_READER: Numbered = (
-    [
-        r#"[{"type":"record","name":"x.A","fields":[{"name":"b","type":{"type":"record","name":"x.B","fields":[{"name":"a","type":["null","x.A"]}]}},{"name":"c","type":"string"}]},{"type":"record","name":"y.A","fields":[{"name":"b","type":"x.B"}]}]"#,
-        "",
-        "",
-    ],
-    0,
-    0,
-);
+const STALE_READER: &str =
+    r#"once [{"type":"record","name":"x.A","fields":[{"name":"b","type":{"type":"record","name":"x.B","fields":[{"name":"a","type":["null","x.A"]}]}},{"name":"c","type":"string"}]},{"type":"record","name":"y.A","fields":[{"name":"b","type":"x.B"}]}]"#;
 
 /// A record whose second field leads down thirty records, the last of which has an int.
-const LADDER: Numbered = (
-    [
-        r#"{"type":"record","name":"w.T","fields":[{"name":"wd","default":null,"type":["null",{"type":"record","name":"w.A30","fields":[{"name":"f","type":"int"}]}"#,
-        r#",{"type":"record","name":"w.A#","fields":[{"name":"f","type":"w.A%"}]}"#,
-        r#"]},{"name":"f","type":"w.A1"}]}"#,
-    ],
-    1,
-    30,
-);
+const LADDER: &str =
+    r##"once {"type":"record","name":"w.T","fields":[{"name":"wd","default":null,"type":["null",{"type":"record","name":"w.A30","fields":[{"name":"f","type":"int"}]}
+29..0 ,{"type":"record","name":"w.A#","fields":[{"name":"f","type":"w.A>"}]}
+once ]},{"name":"f","type":"w.A1"}]}"##;
 
 /// The same with two records in the place of each, either of which may be read, but for the last ones, which have strings:
 /// without a table of failed pairs each is tried on each way that leads to it, over a billion in all.
-const LADDER_OF_TWO: Numbered = (
-    [
-        r#"{"type":"record","name":"r.T","fields":[{"name":"rd","default":null,"type":["null",{"type":"record","name":"x.A30","fields":[{"name":"f","type":"string"}]},{"type":"record","name":"y.A30","fields":[{"name":"f","type":"string"}]}"#,
-        r#",{"type":"record","name":"x.A#","fields":[{"name":"f","type":["x.A%","y.A%"]}]},{"type":"record","name":"y.A#","fields":[{"name":"f","type":["x.A%","y.A%"]}]}"#,
-        r#"]},{"name":"f","type":["x.A1","y.A1"]}]}"#,
-    ],
-    1,
-    30,
-);
+const LADDER_OF_TWO: &str =
+    r##"once {"type":"record","name":"r.T","fields":[{"name":"rd","default":null,"type":["null",{"type":"record","name":"x.A30","fields":[{"name":"f","type":"string"}]},{"type":"record","name":"y.A30","fields":[{"name":"f","type":"string"}]}
+29..0 ,{"type":"record","name":"x.A#","fields":[{"name":"f","type":["x.A>","y.A>"]}]},{"type":"record","name":"y.A#","fields":[{"name":"f","type":["x.A>","y.A>"]}]}
+once ]},{"name":"f","type":["x.A1","y.A1"]}]}"##;
 
 /// A cycle of 40 records. But for the first they are defined in a union, from the last down, so that the text doesn't nest
 /// deeply.
-const CYCLE_OF_40: Numbered = (
-    [
-        r#"{"type":"record","name":"w1.R","fields":[{"name":"wd","default":null,"type":["null",{"type":"record","name":"w40.R","fields":[{"name":"f","type":"w1.R"}]}"#,
-        r#",{"type":"record","name":"w#.R","fields":[{"name":"f","type":"w%.R"}]}"#,
-        r#"]},{"name":"f","type":"w2.R"}]}"#,
-    ],
-    2,
-    40,
-);
+const CYCLE_OF_40: &str =
+    r##"once {"type":"record","name":"w1.R","fields":[{"name":"wd","default":null,"type":["null",{"type":"record","name":"w40.R","fields":[{"name":"f","type":"w1.R"}]}
+39..1 ,{"type":"record","name":"w#.R","fields":[{"name":"f","type":"w>.R"}]}
+once ]},{"name":"f","type":"w2.R"}]}"##;
 
 /// A cycle of 41 records.
-const CYCLE_OF_41: Numbered = (
-    [
-        r#"{"type":"record","name":"r1.R","fields":[{"name":"rd","default":null,"type":["null",{"type":"record","name":"r41.R","fields":[{"name":"f","type":"r1.R"}]}"#,
-        r#",{"type":"record","name":"r#.R","fields":[{"name":"f","type":"r%.R"}]}"#,
-        r#"]},{"name":"f","type":"r2.R"}]}"#,
-    ],
-    2,
-    41,
-);
+const CYCLE_OF_41: &str =
+    r##"once {"type":"record","name":"r1.R","fields":[{"name":"rd","default":null,"type":["null",{"type":"record","name":"r41.R","fields":[{"name":"f","type":"r1.R"}]}
+40..1 ,{"type":"record","name":"r#.R","fields":[{"name":"f","type":"r>.R"}]}
+once ]},{"name":"f","type":"r2.R"}]}"##;
 
-const ONE_FIELD: Numbered = (
-    [
-        r#"{"type":"record","name":"R","fields":[{"name":"x","type":"int"}]}"#,
-        "",
-        "",
-    ],
-    0,
-    0,
-);
+const ONE_FIELD: &str = r#"once {"type":"record","name":"R","fields":[{"name":"x","type":"int"}]}"#;
 
-/// A field of more aliases than the recursion looks up as texts, of which the last one is found.
-const ALIASES: Numbered = (
-    [
-        r#"{"type":"record","name":"R","fields":[{"name":"y","type":"long","aliases":["#,
-        r#""a#","#,
-        r#""x"]}]}"#,
-    ],
-    0,
-    4100,
-);
+/// A field of many aliases, of which the last one is found.
+const ALIASES: &str =
+    r##"once {"type":"record","name":"R","fields":[{"name":"y","type":"long","aliases":[
+0..4100 "a#",
+once "x"]}]}"##;
 
 /// The same, of which none is found.
-const OTHER_ALIASES: Numbered = (
-    [
-        r#"{"type":"record","name":"R","fields":[{"name":"y","type":"long","aliases":["#,
-        r#""a#","#,
-        r#""z"]}]}"#,
-    ],
-    0,
-    4100,
-);
+const OTHER_ALIASES: &str =
+    r##"once {"type":"record","name":"R","fields":[{"name":"y","type":"long","aliases":[
+0..4100 "a#",
+once "z"]}]}"##;
 
-/// Writers, readers, the verdicts and how many pairs the recursion opens, where that is known.
-const VISITS: [(Numbered, Numbered, bool, u128); 7] = [
+/// A record of a union of 320 types of one last name, and of an int.
+const MANY_BRANCHES: &str = r##"once {"type":"record","name":"A","fields":[{"name":"u","type":[
+0..320 ;{"type":"fixed","name":"n#.F","size":1}
+once ]},{"name":"z","type":"int"}]}"##;
+
+/// 320 records that could read it but for a string, before one that can: for each of them what was assumed of the branches
+/// is taken back.
+const MANY_READERS: &str =
+    r##"once [{"type":"record","name":"c.A","fields":[{"name":"u","type":{"type":"fixed","name":"r.F","size":1}},{"name":"z","type":"string"}]}
+1..320 ,{"type":"record","name":"c#.A","fields":[{"name":"u","type":"r.F"},{"name":"z","type":"string"}]}
+once ,{"type":"record","name":"d.A","fields":[{"name":"u","type":"r.F"},{"name":"z","type":"int"}]}]"##;
+
+/// A record of a record without fields, and of an int.
+const NO_FIELDS: &str =
+    r##"once {"type":"record","name":"A","fields":[{"name":"u","type":{"type":"record","name":"U","fields":[]}},{"name":"z","type":"int"}]}"##;
+
+/// 1,000 records that could read it but for a string, before one that can: for each of them a field of 4,000 aliases is
+/// looked for among no fields.
+const ALIASED_READERS: &str =
+    r##"once [{"type":"record","name":"c.A","fields":[{"name":"u","type":{"type":"record","name":"r.U","fields":[{"name":"y","type":"int","default":0,"aliases":[
+0..4000 ;"a#"
+once ]}]}},{"name":"z","type":"string"}]}
+1..1000 ,{"type":"record","name":"c#.A","fields":[{"name":"u","type":"r.U"},{"name":"z","type":"string"}]}
+once ,{"type":"record","name":"d.A","fields":[{"name":"u","type":"r.U"},{"name":"z","type":"int"}]}]"##;
+
+/// Writers, readers, the verdicts and how many pairs the recursion opens.
+const VISITS: [(&str, &str, bool, u128); 9] = [
     (INT, INT, true, 1),
     (TWO_FIELDS, INT, false, 1),
     // eleven pairs are reached
@@ -213,18 +213,48 @@ const VISITS: [(Numbered, Numbered, bool, u128); 7] = [
     (CYCLE_OF_40, CYCLE_OF_41, true, 1000),
     (ONE_FIELD, ALIASES, true, 2),
     (ONE_FIELD, OTHER_ALIASES, false, 1),
+    // the roots, and for each of 321 records the pair with it, with its two fields and with the 320 branches: four pairs are
+    // open at most, and under a thousand are reached
+    (MANY_BRANCHES, MANY_READERS, true, 103_684),
+    // each record counts for 4,029: twelve for the pair with it, whose two fields are looked for by two names, 4,009 for that
+    // with its first field's type, and eight for that with its second one's; so, with the eight of the roots, four millions
+    // are passed by 992 of them and two pairs of the next, and all pairs are struck out
+    (NO_FIELDS, ALIASED_READERS, true, 2979),
 ];
+
+fn text(alloc: Global, parts: &'static str) -> Result<String, Fail> {
+    Ok(text_of(alloc, Text { word: "", parts }, "", 0)?)
+}
 
 /// No contract refuses a count of the pairs that are reached. This does.
 #[test]
 fn visits_counts_reached_pairs(rt: HostRuntime) -> Result<(), Fail> {
     let alloc = rt.alloc();
     for (writer, reader, yes, visits) in VISITS {
-        let writer = text_of(alloc, &writer)?;
-        let reader = text_of(alloc, &reader)?;
+        let writer = text(alloc, writer)?;
+        let reader = text(alloc, reader)?;
         let verdict = verdict(alloc, writer.as_str(), reader.as_str())?;
         assert_eq!(rt; verdict.visits, visits);
         assert_eq!(rt; verdict.yes, yes, "{visits}");
     }
+    Ok(())
+}
+
+/// How many pairs are made at random, always the same ones.
+const RANDOM_PAIRS: u64 = 200;
+
+/// Some resolve, and others don't.
+#[test]
+fn random_pairs_agree(rt: HostRuntime) -> Result<(), Fail> {
+    let alloc = rt.alloc();
+    let mut yes = 0u32;
+    for pair in 0..RANDOM_PAIRS {
+        let writer = random_text(alloc, pair, 1)?;
+        let reader = random_text(alloc, pair, 2)?;
+        if verdict(alloc, writer.as_str(), reader.as_str())?.yes {
+            yes = yes.saturating_add(1);
+        }
+    }
+    assert!(rt; 20 < yes && yes < 180, "{yes} of them resolve");
     Ok(())
 }

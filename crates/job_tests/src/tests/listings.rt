@@ -1,7 +1,8 @@
 //! Jobs that list a registry.
 
+use super::doing::{Told, done, run_over};
 use super::messages::request;
-use reg_jobs::{Job, Listing, Opened, do_job};
+use reg_jobs::{Job, Listing, Opened};
 use reg_testing::Failing;
 use sqlite::{Alter, Connection, MemStore};
 use std::alloc::{AllocError, Global};
@@ -18,16 +19,14 @@ fn list<S: Alter + Drop, W: Write>(
     opened: Opened<S>,
     kind: Listing,
     writer: &mut W,
-) -> Result<(Vec<u8>, u8, Option<Connection<S>>), AllocError> {
+) -> Result<Told<S>, AllocError> {
     let job = Job::List {
         database: String::from_str(alloc, "F")?,
         kind,
     };
-    let mut told = Vec::new(alloc);
     // what isn't there to be read
     let mut reader = b"GET".as_slice();
-    let (status, connection) = do_job(alloc, &job, opened, &mut reader, writer, &mut told);
-    Ok((told, status, connection))
+    Ok(done(alloc, &job, opened, &mut reader, writer))
 }
 
 /// The connection of a registry in memory that has answered the requests.
@@ -36,14 +35,9 @@ fn asked(alloc: Global, requests: &[(&str, &str)]) -> Result<Connection<MemStore
     for (line, body) in requests {
         input.push_str(request(alloc, line, "", body)?.as_str())?;
     }
-    let job = Job::Run {
-        database: Some(String::from_str(alloc, "F")?),
-    };
     let opened = Opened::Fresh(Connection::open_in_memory(alloc)?);
-    let mut written = Vec::new(alloc);
-    let mut told = Vec::new(alloc);
-    let mut reader = input.as_bytes();
-    let (_, connection) = do_job(alloc, &job, opened, &mut reader, &mut written, &mut told);
+    let (_, told) = run_over(alloc, opened, input.as_str())?;
+    let (_, _, connection) = told;
     match connection {
         Some(connection) => Ok(connection),
         None => Err("no connection came back".into()),
@@ -125,26 +119,6 @@ fn a_registry_is_listed(rt: HostRuntime) -> Result<(), Fail> {
             "id,text\n",
         ],
     )
-}
-
-#[test]
-fn without_a_registry_nothing_is_listed(rt: HostRuntime) -> Result<(), Fail> {
-    let alloc = rt.alloc();
-    let mut foreign = Connection::open_in_memory(alloc)?;
-    foreign.execute_batch("CREATE TABLE other (a TEXT) STRICT")?;
-    let rows = [
-        (Opened::Database(foreign), "avroreg: F is not a registry\n"),
-        (Opened::Empty, "avroreg: F is not a registry\n"),
-        (Opened::Failed, "avroreg: cannot open F\n"),
-    ];
-    for (opened, line) in rows {
-        let mut written = Vec::new(alloc);
-        let (told, status, _) = list(alloc, opened, Listing::Versions, &mut written)?;
-        assert!(rt; written.is_empty());
-        assert_eq!(rt; str::from_utf8(told.as_slice()), Ok(line));
-        assert_eq!(rt; status, 2);
-    }
-    Ok(())
 }
 
 #[test]

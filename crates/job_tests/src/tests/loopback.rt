@@ -1,8 +1,11 @@
 //! Connections on loopback, in one thread: what the client sends lies in the system's buffers until it is served.
 
-use super::sessions::{FULL_SET, IS_BACKWARD, IS_FULL, SET_FULL, joined};
+use super::sessions::{FULL_SET, IS_BACKWARD, IS_FULL, SET_FULL};
 use reg_jobs::serve_on;
+use reg_service::Service;
 use reg_testing::new_service;
+use sqlite::MemStore;
+use std::alloc::Global;
 use std::io::{self, Read, Write};
 use std::net::{Ipv4Addr, Shutdown, TcpListener, TcpStream};
 use std::process::Abort;
@@ -25,6 +28,11 @@ fn expect(rt: &(impl Abort + AllocGlobal), mut stream: TcpStream, text: &str) ->
     Ok(())
 }
 
+/// Serves so many connections.
+fn accept(alloc: Global, listener: &TcpListener, count: u32, service: &mut Service<MemStore>) {
+    serve_on(alloc, listener, count, service);
+}
+
 #[test]
 fn connections_are_served_in_turn(rt: HostRuntime) -> Result<(), Fail> {
     let listener = TcpListener::bind(&rt, (Ipv4Addr::LOCALHOST, 0))?;
@@ -35,24 +43,12 @@ fn connections_are_served_in_turn(rt: HostRuntime) -> Result<(), Fail> {
     let set = sent(&rt, &listener, SET_FULL)?;
     let again = sent(&rt, &listener, SET_FULL)?;
     let last = sent(&rt, &listener, get)?;
-    serve_on(rt.alloc(), &listener, 4, &mut service);
+    accept(rt.alloc(), &listener, 4, &mut service);
     expect(&rt, first, IS_BACKWARD)?;
     // the end inside a message has no answer
     expect(&rt, cut, "")?;
     expect(&rt, set, FULL_SET)?;
     expect(&rt, again, FULL_SET)?;
-    serve_on(rt.alloc(), &listener, 1, &mut service);
+    accept(rt.alloc(), &listener, 1, &mut service);
     expect(&rt, last, IS_FULL)
-}
-
-#[test]
-fn a_connection_has_many_messages(rt: HostRuntime) -> Result<(), Fail> {
-    let listener = TcpListener::bind(&rt, (Ipv4Addr::LOCALHOST, 0))?;
-    let mut service = new_service(rt.alloc())?;
-    let get = "GET /config HTTP/1.1\r\n\r\n";
-    let input = joined(rt.alloc(), &[get, SET_FULL, SET_FULL, get])?;
-    let output = joined(rt.alloc(), &[IS_BACKWARD, FULL_SET, FULL_SET, IS_FULL])?;
-    let stream = sent(&rt, &listener, str::from_utf8(input.as_slice())?)?;
-    serve_on(rt.alloc(), &listener, 1, &mut service);
-    expect(&rt, stream, str::from_utf8(output.as_slice())?)
 }

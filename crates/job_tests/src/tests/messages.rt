@@ -1,7 +1,8 @@
 //! Messages and the answers to them.
 
+use super::doing::served;
 use super::sessions::{FULL_SET, IS_BACKWARD, IS_FULL, SET_FULL, expect, joined, session};
-use reg_http::{Ended, serve};
+use reg_http::Ended;
 use reg_testing::{in_pieces, new_service};
 use std::alloc::{AllocError, Global};
 use std::str;
@@ -47,7 +48,7 @@ fn a_cut_body_has_no_answer(rt: HostRuntime) -> Result<(), Fail> {
     let mut service = new_service(rt.alloc())?;
     let mut reader = in_pieces(input.as_slice(), 1000);
     let mut written = Vec::new(rt.alloc());
-    let ended = serve(rt.alloc(), &mut reader, &mut written, &mut service);
+    let ended = served(rt.alloc(), &mut reader, &mut written, &mut service);
     assert!(rt; written.is_empty());
     let is_unread = reader.left.len() == input.len();
     assert_eq!(rt;

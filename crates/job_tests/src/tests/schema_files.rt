@@ -1,43 +1,37 @@
 //! Schemas in files: their identity texts, and the verdicts on two.
 
-use reg_jobs::{Job, Opened, do_job};
+use super::doing::done;
+use reg_jobs::{Job, Opened};
 use sqlite::MemStore;
 use std::alloc::{AllocError, Global};
 use std::str;
 use std::test::Fail;
 
-/// The bytes of a file, if it could be read.
-fn file(alloc: Global, text: Option<&[u8]>) -> Result<Option<Vec<u8>>, AllocError> {
-    match text {
-        None => Ok(None),
-        Some(bytes) => Ok(Some(bytes.to_vec(alloc)?)),
-    }
-}
-
-/// What `check` prints for two files, its line and its status.
-fn checked(
+/// What a job over these files prints, its line and its status.
+fn printed(
     alloc: Global,
-    reader: Option<&[u8]>,
-    writer: Option<&[u8]>,
+    job: &Job,
+    files: &[Option<&[u8]>],
 ) -> Result<(Vec<u8>, Vec<u8>, u8), AllocError> {
     let mut texts = Vec::new(alloc);
-    texts.push(file(alloc, reader)?)?;
-    texts.push(file(alloc, writer)?)?;
-    let job = Job::Check {
+    for file in files {
+        texts.push(match file {
+            Some(bytes) => Some(bytes.to_vec(alloc)?),
+            None => None,
+        })?;
+    }
+    let opened = Opened::<MemStore>::Texts(texts);
+    let mut written = Vec::new(alloc);
+    let (told, status, _) = done(alloc, job, opened, &mut b"".as_slice(), &mut written);
+    Ok((written, told, status))
+}
+
+/// The job `check` of the files R and W.
+fn check(alloc: Global) -> Result<Job, AllocError> {
+    Ok(Job::Check {
         reader: String::from_str(alloc, "R")?,
         writer: String::from_str(alloc, "W")?,
-    };
-    let mut written = Vec::new(alloc);
-    let mut told = Vec::new(alloc);
-    let (status, _) = do_job(
-        alloc,
-        &job,
-        Opened::<MemStore>::Texts(texts),
-        &mut b"".as_slice(),
-        &mut written,
-        &mut told,
-    );
-    Ok((written, told, status))
+    })
 }
 
 const LIST_OF_INT: &str =
@@ -54,6 +48,7 @@ const STALE_READER: &str =
 
 #[test]
 fn verdicts_are_printed(rt: HostRuntime) -> Result<(), Fail> {
+    let job = check(rt.alloc())?;
     // writer, reader, whether the reader reads what the writer writes
     let rows = [
         (LIST_OF_INT, LIST_OF_LONG, true),
@@ -85,11 +80,8 @@ fn verdicts_are_printed(rt: HostRuntime) -> Result<(), Fail> {
         ),
     ];
     for (writer, reader, yes) in rows {
-        let (written, told, status) = checked(
-            rt.alloc(),
-            Some(reader.as_bytes()),
-            Some(writer.as_bytes()),
-        )?;
+        let files = [Some(reader.as_bytes()), Some(writer.as_bytes())];
+        let (written, told, status) = printed(rt.alloc(), &job, &files)?;
         let line = if yes {
             "compatible\n"
         } else {
@@ -107,52 +99,10 @@ fn verdicts_are_printed(rt: HostRuntime) -> Result<(), Fail> {
 }
 
 #[test]
-fn the_readers_file_is_judged_first(rt: HostRuntime) -> Result<(), Fail> {
-    let good = b"\"int\"".as_slice();
-    let bad = b"\"Foo\"".as_slice();
-    let rows = [
-        (None, None, "avroreg: cannot read R\n"),
-        (None, Some(bad), "avroreg: cannot read R\n"),
-        (Some(bad), None, "avroreg: R is not a schema\n"),
-        (Some(good), None, "avroreg: cannot read W\n"),
-        (Some(good), Some(bad), "avroreg: W is not a schema\n"),
-        (
-            Some(b"\"\xff\"".as_slice()),
-            Some(good),
-            "avroreg: R is not a schema\n",
-        ),
-    ];
-    for (reader, writer, line) in rows {
-        let (written, told, status) = checked(rt.alloc(), reader, writer)?;
-        assert!(rt; written.is_empty());
-        assert_eq!(rt; str::from_utf8(told.as_slice()), Ok(line));
-        assert_eq!(rt; status, 2);
-    }
-    Ok(())
-}
-
-/// What `text` prints for a file with these bytes, its line and its status.
-fn printed(alloc: Global, bytes: Option<&[u8]>) -> Result<(Vec<u8>, Vec<u8>, u8), AllocError> {
-    let mut texts = Vec::new(alloc);
-    texts.push(file(alloc, bytes)?)?;
-    let job = Job::Text {
-        file: String::from_str(alloc, "F")?,
-    };
-    let mut written = Vec::new(alloc);
-    let mut told = Vec::new(alloc);
-    let (status, _) = do_job(
-        alloc,
-        &job,
-        Opened::<MemStore>::Texts(texts),
-        &mut b"".as_slice(),
-        &mut written,
-        &mut told,
-    );
-    Ok((written, told, status))
-}
-
-#[test]
 fn identity_texts_are_printed(rt: HostRuntime) -> Result<(), Fail> {
+    let job = Job::Text {
+        file: String::from_str(rt.alloc(), "F")?,
+    };
     let rows = [
         (
             "{\"type\":\"record\",\"name\":\"a.User\",\"fields\":[{\"name\":\"n\",\"type\":{\"type\":\"double\"},\"default\":0.0}]}",
@@ -178,18 +128,21 @@ fn identity_texts_are_printed(rt: HostRuntime) -> Result<(), Fail> {
         (" \"int\" ", "\"int\"\n"),
     ];
     for (text, output) in rows {
-        let (written, told, status) = printed(rt.alloc(), Some(text.as_bytes()))?;
-        assert_eq!(rt; str::from_utf8(written.as_slice()), Ok(output));
-        assert!(rt; told.is_empty());
-        assert_eq!(rt; status, 0);
-        let (again, _, _) = printed(rt.alloc(), Some(output.as_bytes()))?;
-        assert_eq!(rt; again.as_slice(), written.as_slice());
+        for text in [text, output] {
+            let (written, told, status) = printed(rt.alloc(), &job, &[Some(text.as_bytes())])?;
+            assert_eq!(rt; str::from_utf8(written.as_slice()), Ok(output));
+            assert!(rt; told.is_empty());
+            assert_eq!(rt; status, 0);
+        }
     }
     Ok(())
 }
 
 #[test]
 fn what_holds_no_schema_is_told(rt: HostRuntime) -> Result<(), Fail> {
+    let job = Job::Text {
+        file: String::from_str(rt.alloc(), "F")?,
+    };
     let rows: [&[u8]; 9] = [
         b"{\"type\":\"record\",\"name\":\"a.User\",\"fields\":[{\"name\":\"n\",\"type\":\"double\",\"default\":1.5}]}",
         b"{\"type\":\"record\",\"name\":\"a.User\",\"fields\":[{\"name\":\"n\",\"type\":\"double\",\"default\":1e3}]}",
@@ -202,7 +155,7 @@ fn what_holds_no_schema_is_told(rt: HostRuntime) -> Result<(), Fail> {
         b"\"int\xff\"",
     ];
     for bytes in rows {
-        let (written, told, status) = printed(rt.alloc(), Some(bytes))?;
+        let (written, told, status) = printed(rt.alloc(), &job, &[Some(bytes)])?;
         assert!(rt; written.is_empty());
         assert_eq!(rt;
             str::from_utf8(told.as_slice()),
@@ -210,12 +163,5 @@ fn what_holds_no_schema_is_told(rt: HostRuntime) -> Result<(), Fail> {
         );
         assert_eq!(rt; status, 2);
     }
-    let (written, told, status) = printed(rt.alloc(), None)?;
-    assert!(rt; written.is_empty());
-    assert_eq!(rt;
-        str::from_utf8(told.as_slice()),
-        Ok("avroreg: cannot read F\n")
-    );
-    assert_eq!(rt; status, 2);
     Ok(())
 }

@@ -1,6 +1,7 @@
 //! Sessions whose input comes whole and in pieces, ends early, or fails.
 
-use reg_http::{Ended, serve};
+use super::doing::served;
+use reg_http::Ended;
 use reg_service::Service;
 use reg_testing::{Failing, Pieces, in_pieces, new_service};
 use sqlite::MemStore;
@@ -29,7 +30,7 @@ pub(super) fn session(
     size: usize,
 ) -> (Vec<u8>, Ended) {
     let mut written = Vec::new(alloc);
-    let ended = serve(alloc, &mut in_pieces(input, size), &mut written, service);
+    let ended = served(alloc, &mut in_pieces(input, size), &mut written, service);
     (written, ended)
 }
 
@@ -63,34 +64,6 @@ pub(super) fn expect(
     Ok(())
 }
 
-/// How many whole messages of two equal ones are in the first bytes, and whether more stands behind them.
-fn whole_in(n: usize) -> (usize, bool) {
-    let one = SET_FULL.len();
-    if n < one { (0, n != 0) } else { (1, n != one) }
-}
-
-#[test]
-fn each_beginning_of_the_input(rt: HostRuntime) -> Result<(), Fail> {
-    let input = joined(rt.alloc(), &[SET_FULL, SET_FULL])?;
-    for n in 0..input.len() {
-        let mut service = new_service(rt.alloc())?;
-        let (written, ended) = session(rt.alloc(), &mut service, &input[..n], 1000);
-        let (answers, more) = whole_in(n);
-        let output = if answers == 0 { "" } else { FULL_SET };
-        assert_eq!(rt; str::from_utf8(written.as_slice()), Ok(output), "{n} bytes");
-        assert!(rt;
-            ended
-                == if more {
-                    Ended::Malformed
-                } else {
-                    Ended::Closed
-                },
-            "{n} bytes"
-        );
-    }
-    Ok(())
-}
-
 #[test]
 fn each_read_fails_in_turn(rt: HostRuntime) -> Result<(), Fail> {
     let input = joined(rt.alloc(), &[SET_FULL, SET_FULL])?;
@@ -103,9 +76,9 @@ fn each_read_fails_in_turn(rt: HostRuntime) -> Result<(), Fail> {
             size: 1,
             reads,
         };
-        let ended = serve(rt.alloc(), &mut reader, &mut written, &mut service);
+        let ended = served(rt.alloc(), &mut reader, &mut written, &mut service);
         assert!(rt; ended == Ended::ReadFailed);
-        let answered = if whole_in(reads).0 == 0 { "" } else { FULL_SET };
+        let answered = if reads < SET_FULL.len() { "" } else { FULL_SET };
         assert_eq!(rt;
             str::from_utf8(written.as_slice()),
             Ok(answered),
@@ -130,7 +103,7 @@ fn each_write_fails_in_turn(rt: HostRuntime) -> Result<(), Fail> {
                 writes,
                 takes_nothing,
             };
-            let ended = serve(
+            let ended = served(
                 rt.alloc(),
                 &mut in_pieces(input.as_slice(), 1000),
                 &mut writer,

@@ -1,7 +1,8 @@
 //! Who speaks on a connection: no byte is read while a whole message that was read has no answer.
 
+use super::doing::served;
 use super::sessions::{FULL_SET, SET_FULL, joined};
-use reg_http::{Ended, serve};
+use reg_http::Ended;
 use reg_testing::new_service;
 use std::cell::Cell;
 use std::io::{self, Read, Write};
@@ -66,7 +67,7 @@ fn each_message_is_answered_before_the_next_read(rt: HostRuntime) -> Result<(), 
             answers: &answers,
         };
         let mut service = new_service(rt.alloc())?;
-        let ended = serve(rt.alloc(), &mut reader, &mut writer, &mut service);
+        let ended = served(rt.alloc(), &mut reader, &mut writer, &mut service);
         assert_eq!(rt;
             str::from_utf8(writer.taken.as_slice()),
             str::from_utf8(output.as_slice())

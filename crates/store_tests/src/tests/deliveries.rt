@@ -1,70 +1,43 @@
-//! Deliveries and their answers.
+//! Replies held to their answers.
 
-use reg_core::{Command, Key, Reply, Subject, Text};
-use reg_service::{Delivery, Service};
+use reg_core::Reply;
+use reg_service::Service;
+use reg_testing::{Row, answer, delivery_of};
 use sqlite::Alter;
 use std::alloc::Global;
 use std::process::Abort;
 use std::test::Fail;
 
-/// What is asked: of the global level, or of that of the subject s.
-#[derive(Clone, Copy)]
-pub(super) enum Ask {
-    SetGlobal(&'static str),
-    SetLevel(&'static str),
-    Global,
-    Level,
-}
-
-/// A delivery and its answer.
-#[derive(Clone, Copy)]
-pub(super) struct Row {
-    pub(super) key: Option<&'static str>,
-    pub(super) ask: Ask,
-    pub(super) status: u16,
-    pub(super) body: &'static str,
-}
-
 pub(super) const FAULT: &str =
     "{\"error_code\":50001,\"message\":\"Error in the backend data store\"}";
 
-fn text_of(alloc: Global, text: &str) -> Result<Text, Fail> {
-    Ok(Text::from(String::from_str(alloc, text)?))
-}
+pub(super) const BACKWARD: &str = "{\"compatibilityLevel\":\"BACKWARD\"}";
 
-/// The subject s.
-pub(super) fn subject(alloc: Global) -> Result<Subject, Fail> {
-    Ok(Subject::new(String::from_str(alloc, "s")?).ok_or("no subject")?)
-}
+pub(super) const FULL: &str = "{\"compatibilityLevel\":\"FULL\"}";
 
-fn command_of(alloc: Global, ask: Ask) -> Result<Command, Fail> {
-    match ask {
-        Ask::SetGlobal(level) => Ok(Command::SetGlobal {
-            level: text_of(alloc, level)?,
-        }),
-        Ask::SetLevel(level) => Ok(Command::SetLevel {
-            subject: subject(alloc)?,
-            level: text_of(alloc, level)?,
-        }),
-        Ask::Global => Ok(Command::Global),
-        Ask::Level => Ok(Command::LevelOf {
-            subject: subject(alloc)?,
-            default_to_global: false,
-        }),
-    }
-}
+pub(super) const NONE: &str = "{\"compatibilityLevel\":\"NONE\"}";
 
-/// The reply to the delivery of a row.
-pub(super) fn reply_to<S: Alter + Drop>(
-    alloc: Global,
-    service: &mut Service<S>,
-    row: &Row,
-) -> Result<Reply, Fail> {
-    let delivery = Delivery {
-        key: row.key.and_then(|text| Key::parse(text)),
-        command: command_of(alloc, row.ask)?,
-    };
-    Ok(service.answer(&delivery))
+pub(super) const FORWARD: &str = "{\"compatibilityLevel\":\"FORWARD\"}";
+
+pub(super) const FORWARD_SET: &str = "{\"compatibility\":\"FORWARD\"}";
+
+pub(super) const NO_OWN: &str =
+    "{\"error_code\":40408,\"message\":\"Subject has no level of its own\"}";
+
+pub(super) const FULL_SET: &str = "{\"compatibility\":\"FULL\"}";
+
+pub(super) const NONE_SET: &str = "{\"compatibility\":\"NONE\"}";
+
+pub(super) const INVALID: &str =
+    "{\"error_code\":42203,\"message\":\"Invalid compatibility level\"}";
+
+pub(super) const REUSED: &str =
+    "{\"error_code\":42290,\"message\":\"Retry key was used for another request\"}";
+
+/// Holds a reply to the answer of a row.
+pub(super) fn assert_answer(rt: &impl Abort, reply: &Reply, row: &Row) {
+    assert_eq!(rt; reply.body(), row.3);
+    assert_eq!(rt; reply.status(), row.2);
 }
 
 /// Delivers each row, and holds its reply to its answer.
@@ -75,9 +48,8 @@ pub(super) fn answers_each<S: Alter + Drop>(
     rows: &[Row],
 ) -> Result<(), Fail> {
     for row in rows {
-        let reply = reply_to(alloc, service, row)?;
-        assert_eq!(rt; reply.body(), row.body);
-        assert_eq!(rt; reply.status(), row.status);
+        let reply = answer(service, &delivery_of(alloc, row)?);
+        assert_answer(rt, &reply, row);
     }
     Ok(())
 }

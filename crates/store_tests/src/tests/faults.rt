@@ -1,53 +1,27 @@
 //! Deliveries over a disk that fails from some call on.
 
-use super::deliveries::{Ask, FAULT, Row, answers_each, reply_to};
-use super::disks::{contents, copied, copy};
+use super::deliveries::{
+    FAULT, FORWARD_SET, FULL_SET, INVALID, NONE, NONE_SET, answers_each, assert_answer,
+};
 use reg_service::Service;
 use reg_store::{Store, StoreError};
-use reg_testing::{connect, created, opened, over, registry};
-use sqlite::{Alter, Connection, FileStore, Files};
+use reg_testing::{
+    Ask, Row, answer, connect, contents, copied, copy, created, delivery_of, found, let_go, opened,
+    registry,
+};
+use sqlite::{Alter, Connection, Files};
 use sqlite_disk::{Crash, Disk, Fuse, Memory};
 use std::alloc::Global;
 use std::process::Abort;
 use std::test::Fail;
 
 const ROWS: [Row; 6] = [
-    Row {
-        key: Some("k1"),
-        ask: Ask::SetGlobal("FULL"),
-        status: 200,
-        body: "{\"compatibility\":\"FULL\"}",
-    },
-    Row {
-        key: None,
-        ask: Ask::SetLevel("NONE"),
-        status: 200,
-        body: "{\"compatibility\":\"NONE\"}",
-    },
-    Row {
-        key: Some("k2"),
-        ask: Ask::SetGlobal("full"),
-        status: 422,
-        body: "{\"error_code\":42203,\"message\":\"Invalid compatibility level\"}",
-    },
-    Row {
-        key: None,
-        ask: Ask::Level,
-        status: 200,
-        body: "{\"compatibilityLevel\":\"NONE\"}",
-    },
-    Row {
-        key: Some("k1"),
-        ask: Ask::SetGlobal("FULL"),
-        status: 200,
-        body: "{\"compatibility\":\"FULL\"}",
-    },
-    Row {
-        key: Some("k3"),
-        ask: Ask::SetLevel("FORWARD"),
-        status: 200,
-        body: "{\"compatibility\":\"FORWARD\"}",
-    },
+    (Some("k1"), Ask::SetGlobal("FULL"), 200, FULL_SET),
+    (None, Ask::SetLevel("s", "NONE"), 200, NONE_SET),
+    (Some("k2"), Ask::SetGlobal("full"), 422, INVALID),
+    (None, Ask::LevelOf("s", false), 200, NONE),
+    (Some("k1"), Ask::SetGlobal("FULL"), 200, FULL_SET),
+    (Some("k3"), Ask::SetLevel("s", "FORWARD"), 200, FORWARD_SET),
 ];
 
 /// What the database of a registry holds after each count of the rows.
@@ -78,23 +52,16 @@ fn answered<S: Alter + Drop>(
 ) -> Result<usize, Fail> {
     let mut count = 0;
     for (at, row) in ROWS.iter().enumerate() {
-        let reply = reply_to(alloc, service, row)?;
+        let reply = answer(service, &delivery_of(alloc, row)?);
         if service.failed() {
             assert_eq!(rt; reply.body(), FAULT);
         } else {
-            assert_eq!(rt; reply.body(), row.body);
-            assert_eq!(rt; reply.status(), row.status);
+            assert_answer(rt, &reply, row);
             assert_eq!(rt; count, at);
             count = at + 1;
         }
     }
     Ok(count)
-}
-
-/// The contents that are found on a disk. Its files can be opened.
-fn found<D: Disk + Drop>(alloc: Global, files: Files<D>) -> Result<String, Fail> {
-    let mut connection = opened(alloc, over(alloc, files)?)?.into_connection();
-    contents(alloc, &mut connection)
 }
 
 /// Holds what is found after the fault to what was answered, with or without the next delivery. A
@@ -122,14 +89,6 @@ fn is_found(
         "{synced}"
     );
     Ok(())
-}
-
-/// The files of a connection, closed or not, and whether it was.
-fn let_go<D: Disk + Drop>(connection: Connection<FileStore<D>>) -> (Files<D>, bool) {
-    match connection.close_files() {
-        Ok(files) => (files, true),
-        Err((_, store)) => (store.close(), false),
-    }
 }
 
 /// The number that was answered over the files, the files, and whether they were closed.

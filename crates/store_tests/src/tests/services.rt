@@ -1,47 +1,16 @@
 //! The service over a registry in memory.
 
-use reg_core::{Command, Key, OutOfMemory, Reply, Subject, Text};
+use super::deliveries::{
+    BACKWARD, FAULT, FORWARD, FORWARD_SET, FULL, FULL_SET, INVALID, NO_OWN, NONE, NONE_SET, REUSED,
+    answers_each, assert_answer,
+};
+use reg_core::{OutOfMemory, Reply};
 use reg_service::{Delivery, Service};
-use reg_testing::new_service;
+use reg_testing::{Ask, Row, answers, deliveries_of, delivery_of, new_service};
 use sqlite::MemStore;
 use std::alloc::Global;
 use std::process::Abort;
 use std::test::Fail;
-
-/// What is asked: of the global level, or of a subject's.
-#[derive(Clone, Copy)]
-enum Ask {
-    SetGlobal(&'static str),
-    SetLevel(&'static str, &'static str),
-    Global,
-    LevelOf(&'static str, bool),
-}
-
-/// A retry key, what is asked, and the answer.
-type Row = (Option<&'static str>, Ask, u16, &'static str);
-
-const BACKWARD: &str = "{\"compatibilityLevel\":\"BACKWARD\"}";
-
-const FULL: &str = "{\"compatibilityLevel\":\"FULL\"}";
-
-const NONE: &str = "{\"compatibilityLevel\":\"NONE\"}";
-
-const FORWARD: &str = "{\"compatibilityLevel\":\"FORWARD\"}";
-
-const FORWARD_SET: &str = "{\"compatibility\":\"FORWARD\"}";
-
-const NO_OWN: &str = "{\"error_code\":40408,\"message\":\"Subject has no level of its own\"}";
-
-const FULL_SET: &str = "{\"compatibility\":\"FULL\"}";
-
-const NONE_SET: &str = "{\"compatibility\":\"NONE\"}";
-
-const INVALID: &str = "{\"error_code\":42203,\"message\":\"Invalid compatibility level\"}";
-
-const FAULT: &str = "{\"error_code\":50001,\"message\":\"Error in the backend data store\"}";
-
-const REUSED: &str =
-    "{\"error_code\":42290,\"message\":\"Retry key was used for another request\"}";
 
 const ROWS: [Row; 14] = [
     (None, Ask::Global, 200, BACKWARD),
@@ -91,56 +60,6 @@ const SUBJECTS: [Row; 20] = [
     (None, Ask::LevelOf("s", false), 200, FULL),
 ];
 
-fn text_of(alloc: Global, text: &str) -> Result<Text, OutOfMemory> {
-    Ok(Text::from(String::from_str(alloc, text)?))
-}
-
-/// The subject with this text. Each text of the rows is one.
-fn subject_of(alloc: Global, text: &str) -> Result<Subject, OutOfMemory> {
-    Subject::new(String::from_str(alloc, text)?).ok_or(OutOfMemory)
-}
-
-fn command_of(alloc: Global, ask: Ask) -> Result<Command, OutOfMemory> {
-    match ask {
-        Ask::SetGlobal(level) => Ok(Command::SetGlobal {
-            level: text_of(alloc, level)?,
-        }),
-        Ask::SetLevel(subject, level) => Ok(Command::SetLevel {
-            subject: subject_of(alloc, subject)?,
-            level: text_of(alloc, level)?,
-        }),
-        Ask::Global => Ok(Command::Global),
-        Ask::LevelOf(subject, default_to_global) => Ok(Command::LevelOf {
-            subject: subject_of(alloc, subject)?,
-            default_to_global,
-        }),
-    }
-}
-
-fn delivery_of(alloc: Global, row: &Row) -> Result<Delivery<'static>, OutOfMemory> {
-    Ok(Delivery {
-        key: row.0.and_then(|text| Key::parse(text)),
-        command: command_of(alloc, row.1)?,
-    })
-}
-
-fn deliveries_of(alloc: Global, rows: &[Row]) -> Result<Vec<Delivery<'static>>, OutOfMemory> {
-    let mut list = Vec::with_capacity(alloc, rows.len())?;
-    for row in rows {
-        list.push(delivery_of(alloc, row)?)?;
-    }
-    Ok(list)
-}
-
-fn assert_answer(rt: &impl Abort, reply: &Reply, row: &Row) {
-    assert_eq!(rt; reply.body(), row.3);
-    assert_eq!(rt; reply.status(), row.2);
-}
-
-fn assert_fault(rt: &impl Abort, reply: &Reply) {
-    assert_eq!(rt; reply.body(), FAULT);
-}
-
 /// What asks for all that the rows change: the level of the subject s, and the global one. At most one
 /// request for memory is refused.
 fn reads(alloc: Global) -> Result<Vec<Delivery<'static>>, OutOfMemory> {
@@ -154,7 +73,7 @@ fn reads(alloc: Global) -> Result<Vec<Delivery<'static>>, OutOfMemory> {
 /// What the service answers to the reads. At most one request for memory is refused.
 fn shown(service: &mut Service<MemStore>, reads: &[Delivery]) -> Result<Vec<Reply>, Fail> {
     for _ in 0..2 {
-        if let Ok(replies) = service.run(reads)
+        if let Ok(replies) = answers(service, reads)
             && replies.iter().all(|reply| reply.status() != 500)
         {
             return Ok(replies);
@@ -171,12 +90,9 @@ fn assert_same(rt: &impl Abort, replies: &[Reply], others: &[Reply]) {
     }
 }
 
-fn answers_each(rt: &impl Abort, alloc: Global, rows: &[Row]) -> Result<(), Fail> {
+fn answers_all(rt: &impl Abort, alloc: Global, rows: &[Row]) -> Result<(), Fail> {
     let mut service = new_service(alloc)?;
-    for row in rows {
-        let reply = service.answer(&delivery_of(alloc, row)?);
-        assert_answer(rt, &reply, row);
-    }
+    answers_each(rt, alloc, &mut service, rows)?;
     assert!(rt; !service.failed());
     Ok(())
 }
@@ -185,13 +101,13 @@ fn answers_each(rt: &impl Abort, alloc: Global, rows: &[Row]) -> Result<(), Fail
 /// each delivery has its answer, and each command a 200.
 #[test]
 fn every_delivery_fails(rt: HostRuntime) -> Result<(), Fail> {
-    answers_each(&rt, rt.alloc(), &ROWS)?;
-    answers_each(&rt, rt.alloc(), &SUBJECTS)
+    answers_all(&rt, rt.alloc(), &ROWS)?;
+    answers_all(&rt, rt.alloc(), &SUBJECTS)
 }
 
 fn runs_all(rt: &impl Abort, alloc: Global, rows: &[Row]) -> Result<(), Fail> {
     let mut service = new_service(alloc)?;
-    let replies = service.run(&deliveries_of(alloc, rows)?)?;
+    let replies = answers(&mut service, &deliveries_of(alloc, rows)?)?;
     assert_eq!(rt; replies.len(), rows.len());
     for (reply, row) in replies.iter().zip(rows) {
         assert_answer(rt, reply, row);
@@ -203,6 +119,10 @@ fn runs_all(rt: &impl Abort, alloc: Global, rows: &[Row]) -> Result<(), Fail> {
 fn run_answers_each_in_order(rt: HostRuntime) -> Result<(), Fail> {
     runs_all(&rt, rt.alloc(), &ROWS)?;
     runs_all(&rt, rt.alloc(), &SUBJECTS)
+}
+
+fn assert_fault(rt: &impl Abort, reply: &Reply) {
+    assert_eq!(rt; reply.body(), FAULT);
 }
 
 fn answers_each_in_the_end(rt: &impl Abort, alloc: Global, rows: &[Row]) -> Result<(), Fail> {
@@ -241,12 +161,12 @@ fn refused_memory_loses_no_other_delivery(rt: HostRuntime) -> Result<(), Fail> {
     let list = deliveries_of(alloc, rows).or_else(|_| deliveries_of(alloc, rows))?;
     let mut service = new_service(alloc)?;
     let before = shown(&mut service, &reads)?;
-    let replies = match service.run(&list) {
+    let replies = match answers(&mut service, &list) {
         Ok(replies) => replies,
         Err(_) => {
             let after = shown(&mut service, &reads)?;
             assert_same(&rt, &after, &before);
-            service.run(&list)?
+            answers(&mut service, &list)?
         }
     };
     assert_eq!(rt; replies.len(), rows.len());

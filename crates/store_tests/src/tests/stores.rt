@@ -1,13 +1,9 @@
 //! Stores in memory and over a disk.
 
-use super::deliveries::{Ask, Row, answers_each, subject};
 use reg_core::{Change, Command, Key, Level, Reply};
-use reg_service::Service;
 use reg_store::{Keep, Store};
-use reg_tables::kept_lines;
-use reg_testing::{close, created, empty_disk, opened, over};
-use sqlite::{Alter, Connection, Files};
-use sqlite_disk::Memory;
+use reg_testing::{created, empty_disk, opened, over, subject_of};
+use sqlite::{Alter, Connection};
 use std::alloc::Global;
 use std::process::Abort;
 use std::test::Fail;
@@ -21,7 +17,7 @@ fn shows<S: Alter + Drop>(
     global: Level,
 ) -> Result<(), Fail> {
     let command = Command::LevelOf {
-        subject: subject(alloc)?,
+        subject: subject_of(alloc, "s")?,
         default_to_global: false,
     };
     let view = store.view(&command, None)?;
@@ -55,7 +51,7 @@ fn new_levels(alloc: Global) -> Result<Vec<Change>, Fail> {
     let mut changes = Vec::new(alloc);
     changes.push(Change::SetGlobal { level: Level::Full })?;
     changes.push(Change::SetLevel {
-        subject: subject(alloc)?,
+        subject: subject_of(alloc, "s")?,
         level: Level::Off,
     })?;
     Ok(changes)
@@ -100,83 +96,4 @@ fn store_gives_up(rt: HostRuntime) -> Result<(), Fail> {
     let alloc = rt.alloc();
     calls_each(&rt, alloc, Connection::open_in_memory(alloc)?)?;
     calls_each(&rt, alloc, over(alloc, empty_disk(alloc))?)
-}
-
-const FIRST: [Row; 3] = [
-    Row {
-        key: Some("k1"),
-        ask: Ask::SetGlobal("FULL"),
-        status: 200,
-        body: "{\"compatibility\":\"FULL\"}",
-    },
-    Row {
-        key: None,
-        ask: Ask::SetLevel("FORWARD"),
-        status: 200,
-        body: "{\"compatibility\":\"FORWARD\"}",
-    },
-    Row {
-        key: None,
-        ask: Ask::SetGlobal("NONE"),
-        status: 200,
-        body: "{\"compatibility\":\"NONE\"}",
-    },
-];
-
-const SECOND: [Row; 4] = [
-    Row {
-        key: Some("k1"),
-        ask: Ask::SetGlobal("FULL"),
-        status: 200,
-        body: "{\"compatibility\":\"FULL\"}",
-    },
-    Row {
-        key: Some("k1"),
-        ask: Ask::SetLevel("FULL"),
-        status: 422,
-        body: "{\"error_code\":42290,\"message\":\"Retry key was used for another request\"}",
-    },
-    Row {
-        key: None,
-        ask: Ask::Level,
-        status: 200,
-        body: "{\"compatibilityLevel\":\"FORWARD\"}",
-    },
-    Row {
-        key: None,
-        ask: Ask::Global,
-        status: 200,
-        body: "{\"compatibilityLevel\":\"NONE\"}",
-    },
-];
-
-/// Delivers the rows to a store, and gives its connection back.
-fn serves<S: Alter + Drop>(
-    rt: &impl Abort,
-    alloc: Global,
-    store: Store<S>,
-    rows: &[Row],
-) -> Result<Connection<S>, Fail> {
-    let mut service = Service::new(alloc, store);
-    answers_each(rt, alloc, &mut service, rows)?;
-    Ok(service.into_store().into_connection())
-}
-
-/// The files that a first run leaves on a new disk.
-fn first_run(rt: &impl Abort, alloc: Global) -> Result<Files<Memory>, Fail> {
-    let store = created(alloc, over(alloc, empty_disk(alloc))?)?;
-    close(serves(rt, alloc, store, &FIRST)?)
-}
-
-#[test]
-fn two_runs_on_one_disk(rt: HostRuntime) -> Result<(), Fail> {
-    let alloc = rt.alloc();
-    let files = first_run(&rt, alloc)?;
-    let store = opened(alloc, over(alloc, files)?)?;
-    let mut connection = serves(&rt, alloc, store, &SECOND)?;
-    assert!(rt; connection.is_autocommit());
-    let kept = kept_lines(alloc, &mut connection)?;
-    assert_eq!(rt; kept.len(), 1);
-    assert_eq!(rt; kept[0].key.as_str(), "k1");
-    Ok(())
 }

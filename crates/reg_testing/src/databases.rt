@@ -1,25 +1,11 @@
-//! What disks in memory hold.
+//! What databases hold, as texts.
 
+use crate::disks::over;
+use crate::stores::opened;
 use sqlite::{Alter, Connection, Error, Files, Row};
-use sqlite_disk::{Disk, Memory};
+use sqlite_disk::Disk;
 use std::alloc::Global;
 use std::test::Fail;
-
-/// The file as a process that ends now leaves it.
-pub(super) fn copied(alloc: Global, file: &Memory) -> Result<Memory, Fail> {
-    let mut copy = Memory::new(alloc);
-    copy.write_at(0, file.bytes())?;
-    copy.sync()?;
-    Ok(copy)
-}
-
-/// The files as a process that ends now leaves them.
-pub(super) fn copy(alloc: Global, files: &Files<Memory>) -> Result<Files<Memory>, Fail> {
-    Ok(Files {
-        log: copied(alloc, &files.log)?,
-        db: copied(alloc, &files.db)?,
-    })
-}
 
 /// The statements that declare what a database has.
 const DECLARED: &str = "SELECT type, name, sql FROM sqlite_schema ORDER BY name";
@@ -27,6 +13,9 @@ const DECLARED: &str = "SELECT type, name, sql FROM sqlite_schema ORDER BY name"
 /// The rows of a registry that has no schema.
 const ROWS: &str =
     "SELECT 'kept' AS what, key || ' ' || status || ' ' || command AS name, body AS value FROM kept UNION ALL SELECT 'level', subject, level FROM levels UNION ALL SELECT 'meta', name, value FROM meta ORDER BY what, name";
+
+/// What is kept.
+const KEPT: &str = "SELECT key, command, status || ' ' || body FROM kept ORDER BY key";
 
 /// The rows that a query of three texts shows, or nothing where it fails.
 fn rows_of<S: Alter + Drop>(
@@ -53,8 +42,12 @@ fn add_rows(text: &mut String, rows: &[Row]) -> Result<(), Fail> {
     Ok(())
 }
 
-/// What the database holds, as a text.
-pub(super) fn contents<S: Alter + Drop>(
+/// What the database holds.
+///
+/// # Errors
+///
+/// A failed test, where memory is refused.
+pub fn contents<S: Alter + Drop>(
     alloc: Global,
     connection: &mut Connection<S>,
 ) -> Result<String, Fail> {
@@ -64,4 +57,29 @@ pub(super) fn contents<S: Alter + Drop>(
     let rows = rows_of(alloc, connection, ROWS)?;
     add_rows(&mut text, &rows)?;
     Ok(text)
+}
+
+/// What is kept in the database.
+///
+/// # Errors
+///
+/// A failed test, where memory is refused.
+pub fn kept<S: Alter + Drop>(
+    alloc: Global,
+    connection: &mut Connection<S>,
+) -> Result<String, Fail> {
+    let mut text = String::new(alloc);
+    let rows = rows_of(alloc, connection, KEPT)?;
+    add_rows(&mut text, &rows)?;
+    Ok(text)
+}
+
+/// What the registry on a disk holds.
+///
+/// # Errors
+///
+/// A failed test, where its files can't be opened, or are no registry.
+pub fn found<D: Disk + Drop>(alloc: Global, files: Files<D>) -> Result<String, Fail> {
+    let mut connection = opened(alloc, over(alloc, files)?)?.into_connection();
+    contents(alloc, &mut connection)
 }

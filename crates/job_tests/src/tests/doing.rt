@@ -1,0 +1,48 @@
+//! What a job and a session do, without what they promise.
+
+use reg_http::{Ended, serve};
+use reg_jobs::{Job, Opened, do_job};
+use reg_service::Service;
+use sqlite::{Alter, Connection, MemStore};
+use std::alloc::{AllocError, Global};
+use std::io::{Read, Write};
+
+/// What a job tells on standard error, its status, and the connection that comes back.
+pub(super) type Told<S> = (Vec<u8>, u8, Option<Connection<S>>);
+
+/// Does a job.
+pub(super) fn done<S: Alter + Drop, R: Read, W: Write>(
+    alloc: Global,
+    job: &Job,
+    opened: Opened<S>,
+    reader: &mut R,
+    writer: &mut W,
+) -> Told<S> {
+    let mut told = Vec::new(alloc);
+    let (status, connection) = do_job(alloc, job, opened, reader, writer, &mut told);
+    (told, status, connection)
+}
+
+/// Runs over a database in the file F.
+pub(super) fn run_over<S: Alter + Drop>(
+    alloc: Global,
+    opened: Opened<S>,
+    input: &str,
+) -> Result<(Vec<u8>, Told<S>), AllocError> {
+    let job = Job::Run {
+        database: Some(String::from_str(alloc, "F")?),
+    };
+    let mut written = Vec::new(alloc);
+    let told = done(alloc, &job, opened, &mut input.as_bytes(), &mut written);
+    Ok((written, told))
+}
+
+/// Serves a connection.
+pub(super) fn served<R: Read, W: Write>(
+    alloc: Global,
+    reader: &mut R,
+    writer: &mut W,
+    service: &mut Service<MemStore>,
+) -> Ended {
+    serve(alloc, reader, writer, service)
+}
