@@ -11,7 +11,7 @@ use database::{FileDatabase, close};
 use opening::HostFiles;
 use reg_jobs::{Job, LineFault, Opened, Task, do_job, open_for, task_of};
 use server::serve;
-use std::alloc::{AllocError, AllocFailed};
+use std::alloc::{AllocError, AllocFailed, Global};
 use std::io;
 use std::process::ExitCode;
 use std::rt::Env;
@@ -105,7 +105,17 @@ fn status_of_words(rt: &HostRuntime) -> Result<u8, Unbegun> {
     }
 }
 
+/// The bytes of a block that is given back at the start.
+const BLOCK: usize = 8 << 20;
+
+/// Has memory kept that requests give back, so that the next one needn't ask the system for it: the C library keeps up to
+/// twice the largest block that was given back so far.
+fn keep_memory(alloc: Global) {
+    let _block: Result<Vec<u8>, AllocError> = Vec::with_capacity(alloc, BLOCK);
+}
+
 fn main(rt: HostRuntime) -> ExitCode {
+    keep_memory(rt.alloc());
     let status = match status_of_words(&rt) {
         Ok(status) => status,
         Err(Unbegun::Usage(text)) => {

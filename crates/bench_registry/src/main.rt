@@ -15,7 +15,7 @@ use reg_service::Service;
 use reg_store::Store;
 use request::Size;
 use sqlite::{Alter, Connection, FileFrom, FileStore, Wary};
-use std::alloc::Global;
+use std::alloc::{AllocError, Global};
 use std::env;
 use std::time::Instant;
 
@@ -149,10 +149,19 @@ fn work(rt: &HostRuntime, words: &[String]) -> Result<()> {
     }
 }
 
+/// The bytes of a block that is given back at the start.
+const BLOCK: usize = 8 << 20;
+
+/// Has memory kept that requests give back, as the program does.
+fn keep_memory(alloc: Global) {
+    let _block: Result<Vec<u8>, AllocError> = Vec::with_capacity(alloc, BLOCK);
+}
+
 fn main(rt: HostRuntime) -> Result<()> {
     let words: Vec<String> = env::args(&rt)?.skip(1).collect(rt.alloc())?;
     if words.is_empty() {
         return Ok(());
     }
+    keep_memory(rt.alloc());
     work(&rt, words.as_slice())
 }
