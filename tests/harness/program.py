@@ -45,8 +45,9 @@ def contents(folder, name):
         return None
 
 
-def run(words, given=b"", folder=None, full=False, unread=False):
-    """A run with these words and this input. Where it is `full`, standard output takes nothing; an unread input is a folder."""
+def run(words, given=b"", folder=None, full=False, unread=False, program=PROGRAM, env=None):
+    """A run with these words and this input. Where it is `full`, standard output takes nothing; an unread input is a folder.
+    `env` is added to the environment."""
     source, opened = {"input": given}, []
     try:
         if unread:
@@ -55,10 +56,11 @@ def run(words, given=b"", folder=None, full=False, unread=False):
         if full:
             opened.append(os.open("/dev/full", os.O_WRONLY))
         out = opened[-1] if full else subprocess.PIPE
-        ran = subprocess.run([PROGRAM, *words], stdout=out, stderr=subprocess.PIPE, cwd=folder, timeout=SECONDS, **source)
+        source["env"] = {**os.environ, **(env or {})}
+        ran = subprocess.run([program, *words], stdout=out, stderr=subprocess.PIPE, cwd=folder, timeout=SECONDS, **source)
         return ended(ran.returncode, ran.stdout or b"", ran.stderr)
     except subprocess.TimeoutExpired:
-        raise Wrong(f"avroreg {shlex.join(words)} took more than {SECONDS} seconds") from None
+        raise Wrong(f"{os.path.basename(program)} {shlex.join(words)} took more than {SECONDS} seconds") from None
     finally:
         for it in opened:
             os.close(it)

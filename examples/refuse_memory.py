@@ -1,0 +1,322 @@
+"""Refuses memory to the built programs, one request for it after the other, and compares what they answer. It is run by
+refuse_memory.sh.
+
+A run's requests for memory are counted first. Then each of them is refused in a run of its own, and in another one it
+and all behind it. What is due of a run that met refusals:
+
+- Of a session: a delivery that was answered 50001 counts as one that never came; each other answer is, byte for byte,
+  that of a run without refusals of the deliveries that are left. Where the run ends early, it ends for want of memory,
+  and what was written is so many whole answers and a beginning of the next one. Over a file, the tables are afterwards
+  those that a run without refusals leaves, with or without the delivery whose answer wasn't written; and the same
+  requests are sent once more, without refusals: answers, tables and listings have to be what they are behind such a run.
+- Of words: what is due without refusals; or the end for want of memory, behind whole lines of it.
+- Of the benchmark: the same verdicts; or its end for want of memory.
+"""
+
+import functools
+import os
+import re
+import shlex
+import shutil
+import sys
+import time
+
+sys.dont_write_bytecode = True
+EXAMPLES = os.path.dirname(os.path.abspath(__file__))
+sys.path.insert(0, f"{EXAMPLES}/../tests")
+
+from harness.messages import CLOSED, are_answers, fault
+from harness.program import PROGRAM, Wrong, contents, differs, run, scratch, written
+from harness.reading import cases_of
+from harness.sessions import Run, runs_of
+from harness.tables import asked
+from harness.words import Scene
+
+BENCH, REFUSER = os.environ["BENCH"], os.environ["REFUSER"]
+MEMORY = (2, b"avroreg: out of memory\n")
+NO_REGISTRY = (2, b"avroreg: F is not a registry\n")
+LISTINGS = ("subjects", "versions", "schemas")
+
+# The benchmark's words, and how many of its requests for memory are refused: those of reading two schemas and of its
+# first calls, 3,778 when they were counted. It makes the same calls again and again until their time is measured.
+BENCH_WORDS = ("resolve", "cycles", "40")
+BENCH_REQUESTS = 4000
+BENCH_MEMORY = (b"Error: out of memory\n", b"Error: memory allocation failed\n")
+
+
+class Tried:
+    """How many runs with refusals were tried so far, how many requests were refused, and how many runs left a file that
+    lists no table and isn't taken for a new one."""
+
+    runs = refused = unmade = 0
+
+
+def refusing(refusals, words, given=b"", folder=None, program=PROGRAM):
+    """A run with these refusals (`N`, `N-` or none), how many requests for memory it made, and how many were refused."""
+    with scratch() as counting:
+        file = f"{counting}/count"
+        ran = run(words, given, folder, program=program, env={"LD_PRELOAD": REFUSER, "REFUSE_COUNT": file, "REFUSE": refusals})
+        counted = contents(counting, "count")
+    if ran.returncode < 0 or counted is None:
+        raise Wrong(f"the program was ended by signal {-ran.returncode}")
+    return ran, *map(int, counted.split())
+
+
+def each_refusal(name, attempt, behind=0, most=None):
+    """Makes the attempt without a refusal, and then with each of a request behind so many, up to the last or to so many.
+    An attempt gives the run, and how many requests were made and how many refused. Answers the last request without which
+    the run ended early and wrote nothing."""
+
+    def is_early(ran):
+        return (ran.returncode, ran.stderr) != (whole.returncode, whole.stderr)
+
+    refusals, requests, early, needed = "none", 0, 0, behind
+    runs, began = Tried.runs, time.monotonic()
+    try:
+        whole, requests, _ = attempt("0")
+        for nth in range(behind + 1, min(requests, most or requests) + 1):
+            for refusals in (f"{nth}", f"{nth}-"):
+                ran, _, refused = attempt(refusals)
+                if not refused:
+                    raise Wrong("the run made fewer requests for memory than before")
+                Tried.runs += 1
+                Tried.refused += refused
+                early += is_early(ran)
+            needed = nth if is_early(ran) and not ran.stdout else needed
+    except Wrong as wrong:
+        raise Wrong(f"{name}, REFUSE={refusals}, of {requests} requests: {wrong}") from None
+    took = time.monotonic() - began
+    print(f"{name}: {requests} requests for memory, {Tried.runs - runs} runs, {early} ended early, {took:.0f} s", flush=True)
+    return needed
+
+
+# Sessions
+
+
+def parted(written):
+    """The whole answers at the front of the bytes, and what follows them."""
+    answers = []
+    while head := re.match(rb"HTTP/1\.1 (?:[^\r]+\r\n)+?Content-Length: (\d+)\r\n(?:[^\r]+\r\n)*\r\n", written):
+        end = head.end() + int(head[1])
+        if end > len(written):
+            break
+        answers.append(written[:end])
+        written = written[end:]
+    return answers, written
+
+
+def tables(folder, name):
+    """What a file and its log declare and hold, seen on a copy of both; nothing where there is no table."""
+    with scratch() as copied:
+        for it in (name, f"{name}-wal"):
+            if contents(folder, it) is not None:
+                shutil.copy(f"{folder}/{it}", copied)
+        found = asked(copied, name, "SELECT name FROM sqlite_schema WHERE type = 'table' ORDER BY name")
+        declared = [asked(copied, name, "SELECT type, name, sql FROM sqlite_schema ORDER BY name")] if found else []
+        return declared + [sorted(asked(copied, name, f"SELECT * FROM {it}")) for it in found]
+
+
+def listings(folder):
+    return [run(["list", "--db", "F", it], folder=folder).stdout for it in LISTINGS]
+
+
+class Known:
+    """What a run without refusals over a new file answers to messages, and what it leaves."""
+
+    def __init__(self, messages):
+        with scratch() as folder:
+            self.ran = run(["run", "--db", "F"], b"".join(messages), folder)
+            self.answers, rest = parted(self.ran.stdout)
+            if rest:
+                raise Wrong(f"without refusals, what was written ends inside an answer: {rest}")
+            self.tables, self.listings, self.file = tables(folder, "F"), listings(folder), contents(folder, "F")
+
+
+@functools.cache
+def known(messages):
+    return Known(messages)
+
+
+class Session:
+    """The messages of a run behind those that came before, and the end that is due. Only a fault ends a connection, and
+    what ends in one isn't sent twice."""
+
+    def __init__(self, it, before=(), twice=False):
+        self.before, self.messages, self.ends = before, tuple(it.given), (it.ends[0], it.ends[1].encode())
+        if not before:
+            are_answers(it.due, known(self.messages).ran, it.ends)
+        self.messages *= 2 if twice and it.ends == CLOSED else 1
+        self.refusals = [fault(50001, closes=b"\r\nConnection: close\r\n" in it) for it in self.answers(before + self.messages)]
+        self.seen = {}
+
+    def answers(self, messages):
+        """The answers of a run without refusals to what follows the messages that came before."""
+        return known(messages).answers[len(self.before) :]
+
+    def served(self, ran, refused):
+        """The messages that were carried out, as one list or two: where an answer wasn't written whole, its message may
+        have been carried out or not. Raises Wrong where the answers, or the end, aren't due. At most one message is
+        answered 50001 for each refused request."""
+        answers, rest = parted(ran.stdout)
+        if len(answers) > len(self.messages):
+            raise Wrong(f"{len(answers)} answers to {len(self.messages)} messages")
+        given = [*zip(self.messages, answers, self.refusals)]
+        served = self.before + tuple(message for message, answer, refusal in given if answer != refusal)
+        right = iter(self.answers(served))
+        due = [refusal if answer == refusal else next(right) for _, answer, refusal in given]
+        if answers != due or len(answers) - len(served) + len(self.before) > refused:
+            differs(f"the answers where {refused} requests for memory were refused", due, answers)
+        found = [served] if len(answers) == len(self.messages) else [served, served + self.messages[len(answers) :][:1]]
+        self.ended(ran, len(answers), rest, known(found[-1]).answers[len(served) :])
+        return [self.without_fault(it) for it in found]
+
+    def ended(self, ran, count, rest, following):
+        """Holds what was written behind so many whole answers, and the end, to what is due. At most one answer follows."""
+        ends = (ran.returncode, ran.stderr)
+        beginnings = [*following, self.refusals[count]] if following else [b""]
+        if (following or ends != self.ends) and ends != MEMORY:
+            differs(f"the end behind {count} answers", MEMORY, ends)
+        if not any(it.startswith(rest) for it in beginnings):
+            differs(f"what follows {count} answers", beginnings, rest)
+
+    def without_fault(self, messages):
+        """The messages without the last one where that is a fault, which changes nothing, and behind which none is read."""
+        return messages[:-1] if self.ends[0] and messages[-1:] == self.messages[-1:] else messages
+
+    def in_memory(self, refusals):
+        ran, made, refused = refusing(refusals, ["run"], b"".join(self.messages))
+        self.served(ran, refused)
+        return ran, made, refused
+
+    def over_a_file(self, refusals):
+        with scratch() as folder:
+            if self.before:
+                written(folder, "F", known(self.before).file)
+            ran, made, refused = refusing(refusals, ["run", "--db", "F"], b"".join(self.messages), folder)
+            served = self.served(ran, refused)
+            # What was found of these very bytes before holds of them.
+            bytes_left = (*served, contents(folder, "F"), contents(folder, "F-wal"))
+            if bytes_left not in self.seen:
+                self.seen[bytes_left] = self.left(folder, served)
+            Tried.unmade += self.seen[bytes_left]
+        return ran, made, refused
+
+    def left(self, folder, served):
+        """Holds the file to what the messages leave that were carried out, sends the session once more, and looks again.
+        Answers whether the file had to be removed first: a run that couldn't make its tables may leave such a one."""
+        found = tables(folder, "F")
+        fits = [it for it in served if found == known(it).tables or not it and not found]
+        if not fits:
+            differs("the tables afterwards", [known(it).tables for it in served], found)
+        again = run(["run", "--db", "F"], b"".join(self.messages), folder)
+        is_unmade = not found and (again.returncode, again.stderr) == NO_REGISTRY
+        if is_unmade:
+            for it in os.listdir(folder):
+                os.remove(f"{folder}/{it}")
+            again = run(["run", "--db", "F"], b"".join(self.messages), folder)
+        if (again.returncode, again.stderr) != self.ends:
+            differs("the end of the second run", self.ends, (again.returncode, again.stderr))
+        due = [(known(it + self.messages), len(it)) for it in fits]
+        came = (parted(again.stdout)[0], tables(folder, "F"), listings(folder))
+        if came not in [(it.answers[count:], it.tables, it.listings) for it, count in due]:
+            differs("the second run: answers, tables and listings", [(it.answers[count:], it.tables) for it, count in due], came)
+        return is_unmade
+
+
+def sessions(form, attempt, behind=False, **how):
+    """Tries a run without messages first. What that needs before it reads, the others need too."""
+    (before, _), *runs = [(runs_of(it)[0][0], it.name) for it in cases_of(f"{EXAMPLES}/refuse_memory/sessions")]
+    how["before"] = tuple(before.given) if behind else ()
+    needed = each_refusal(f"{form}, no message", functools.partial(attempt, Session(Run(), **how)))
+    for it, name in runs:
+        each_refusal(f"{form}, {name}", functools.partial(attempt, Session(it, **how)), needed)
+
+
+# Words
+
+
+class Words(Scene):
+    """The files and the words of a case. Its run is made once for each refusal, in a copy of the files."""
+
+    def runs(self, line):
+        self.words, self.files = shlex.split(self.case.filled(line.rest)), shutil.copytree(self.folder, f"{self.kept}/files")
+        super().runs(line)
+        self.due = self.ran
+
+    def attempt(self, refusals):
+        with scratch() as inner:
+            folder = shutil.copytree(self.files, f"{inner}/files")
+            ran, made, refused = refusing(refusals, self.words, folder=folder)
+            if (ran.returncode, ran.stderr) == MEMORY:
+                if not self.due.out.encode().startswith(ran.stdout) or ran.stdout and not ran.stdout.endswith(b"\n"):
+                    differs("what was printed", self.due.out, ran.stdout)
+            else:
+                self.due.ran = ran
+                self.due.hold()
+            for name in os.listdir(self.files):
+                self.keeps(folder, name)
+        return ran, made, refused
+
+    def keeps(self, folder, name):
+        """Holds a file to what it was; of a database the tables."""
+        before, after = contents(self.files, name), contents(folder, name)
+        if before != after and (not before.startswith(b"SQLite") or tables(self.files, name) != tables(folder, name)):
+            differs(f"the file {name}", before, after)
+
+
+def words():
+    """Listings of equal files open them alike: what one needs before it prints, those after it need too."""
+    needed = {}
+    for case in cases_of(f"{EXAMPLES}/refuse_memory/words"):
+        with scratch() as folder, scratch() as kept:
+            scene = Words(case, folder)
+            scene.kept = kept
+            for line in case.lines:
+                scene.take(line)
+            alike = (scene.words[0] == "list" and contents(scene.files, "F")) or case.name
+            needed[alike] = each_refusal(case.name, scene.attempt, needed.get(alike, 0))
+
+
+# The benchmark
+
+
+def bench():
+    def attempt(refusals):
+        ran, made, refused = refusing(refusals, BENCH_WORDS, program=BENCH)
+        came = re.findall(rb"^.* places$|^  resolves: .*$|^  resolves_plain: .*$", ran.stdout, re.M)
+        if refusals == "0":
+            verdicts.extend(came)
+        if (ran.returncode, came, ran.stderr) not in ((0, verdicts, b""), *((1, [], it) for it in BENCH_MEMORY)):
+            differs("the verdicts", verdicts, (ran.returncode, ran.stdout, ran.stderr))
+        return ran, made, refused
+
+    verdicts = []
+    each_refusal(f"bench_schemas {' '.join(BENCH_WORDS)}", attempt, BENCH_REQUESTS)
+    if len(verdicts) != 3 or not all(b"places" in it or b": true" in it for it in verdicts):
+        raise Wrong(f"the benchmark tells no verdicts: {verdicts}")
+
+
+KINDS = {
+    "memory": lambda: sessions("in memory", Session.in_memory, twice=True),
+    "new": lambda: sessions("over a new file", Session.over_a_file),
+    "old": lambda: sessions("over a file with a registry", Session.over_a_file, behind=True),
+    "words": words,
+    "bench": bench,
+}
+
+
+def main():
+    try:
+        for kind in sys.argv[1:] or KINDS:
+            if kind not in KINDS:
+                raise Wrong(f"{kind} is none of {', '.join(KINDS)}")
+            KINDS[kind]()
+    except Wrong as wrong:
+        print(f"WRONG {wrong}\n{Tried.runs} runs with refusals were right before")
+        return 1
+    print(f"{Tried.runs} runs with refusals, {Tried.refused} refused requests, {Tried.unmade} files left unmade, no wrong answer")
+    return 0
+
+
+if __name__ == "__main__":
+    sys.exit(main())
