@@ -3,7 +3,7 @@ use Rattle.std.proofs.Common.{◌≡◌, ◌≢◌, ℕ, zero, suc, ◌+◌, ◌
 use Rattle.std.specs.Prelude.{All, find, slice_get}
 use Rattle.std.specs.Option.{option_or}
 use Rattle.std.proofs.lemmas.List.Elements.{All-nil, All-cons, All-append}
-use Rattle.std.proofs.lemmas.Option.{slice_get_within}
+use Rattle.std.proofs.lemmas.Option.{get_or_from_slice_get, slice_get_within}
 use Rattle.std.proofs.lemmas.Slice.Eq.{bytes_eq-Decides}
 use Rattle.serde_json.specs.Data.{Data, Items}
 use Rattle.avro_nodes.specs.Names.{has_dot}
@@ -14,6 +14,7 @@ use Rattle.avro_schema.specs.Denotes.{Denotes, a_primitive, a_reference, primiti
 use Rattle.avro_schema.specs.Denotes.{Branches, no_branch, branch, Fields, no_field, field, Lacks, AllDiffer}
 use Rattle.avro_schema.specs.Texts.{IsSchema}
 use Rattle.avro_resolve.specs.Resolution.{first_named, source}
+use Rattle.avro_resolve.specs.Inside.Agreeing.{fields_of}
 use Rattle.avro_resolve.specs.Inside.Places.{Names, IsWhole}
 
 abbrev pub IsNoUnion : NodeView → Type 0
@@ -265,3 +266,15 @@ is_whole nodes h = (of_schema nodes h).1.names
 
 pub is_plain : (nodes : List NodeView) → IsSchema nodes → All (IsPlain nodes) nodes
 is_plain nodes h = (of_schema nodes h).1.plain
+
+fields_own : (all : List NodeView) (a : NodeView) → IsPlain all a → All (λ f. source (fields_of a) f ≡ Some f) (fields_of a)
+fields_own all (rec named fields x) h = h
+fields_own all (primitive k x) h = All-nil (λ (f : FieldView). source [] f ≡ Some f)
+fields_own all (array p x) h = All-nil (λ (f : FieldView). source [] f ≡ Some f)
+fields_own all (mapping p x) h = All-nil (λ (f : FieldView). source [] f ≡ Some f)
+fields_own all (union ps) h = All-nil (λ (f : FieldView). source [] f ≡ Some f)
+fields_own all (enumeration n s d x) h = All-nil (λ (f : FieldView). source [] f ≡ Some f)
+fields_own all (fixed n s x) h = All-nil (λ (f : FieldView). source [] f ≡ Some f)
+
+pub are_own : (nodes : List NodeView) → IsSchema nodes → (i : ℕ) (a : NodeView) → slice_get nodes i ≡ Some a → All (λ f. source (fields_of a) f ≡ Some f) (fields_of a)
+are_own nodes h i a e = fields_own nodes a (subst (IsPlain nodes) (get_or_from_slice_get nodes i a a e) (is_plain nodes h i a (slice_get_within nodes i a e)))

@@ -11,6 +11,7 @@ pub mod Monotone
 pub mod PairLists
 pub mod PairLemmas
 pub mod SupportLemmas
+pub mod RowLemmas
 pub mod ListLemmas
 pub mod LinkLemmas
 pub mod Strikes
@@ -23,6 +24,7 @@ pub mod VerdictLemmas
 pub mod Counting
 pub mod WalkSteps
 pub mod Reaching
+pub mod Resting
 pub mod MarkLemmas
 pub mod WalkLemmas
 pub mod WalkEnds

@@ -1,5 +1,5 @@
 -- Links stay as more of them are noted, and tell by which names places are referred to.
-use Rattle.std.proofs.Common.{◌≡◌, ℕ, suc, ◌+◌, ◌<◌, List, [], ◌∷◌, ◌++◌, take, Option, Some, None, Bool, true, false, length, get_or, refl, sym, ap, subst, ◌∙◌, arith}
+use Rattle.std.proofs.Common.{◌≡◌, ℕ, suc, ◌+◌, ◌<◌, List, [], ◌∷◌, ◌++◌, take, Option, Some, None, Bool, true, false, length, get_or, refl, sym, ap, subst, ◌∙◌, arith, inl, inr}
 use Rattle.std.specs.Prelude.{All, MatchOption, option_and_then, slice_get, Vec}
 use Rattle.std.specs.declared.alloc.Global.{Global}
 use Rattle.std.specs.List.{AllZip}
@@ -14,19 +14,25 @@ use Rattle.avro_schema.specs.Index.{AreFieldsRanked, AreRanks, IsFieldRanked, Is
 use Rattle.avro_resolve.specs.declared.aliased.Aliased.{Aliased}
 use Rattle.avro_resolve.specs.declared.links.Link.{Link}
 use Rattle.avro_resolve.specs.declared.links.Links.{Links}
-use Rattle.avro_resolve.specs.Inside.Askers.{HasLabel, IsAlias, LinkedBy, IsFieldLinked, AreFieldsLinked, IsPlaceLinked, IsUnionListed, Notes, alias_labels}
+use Rattle.avro_resolve.specs.declared.links.Way.{Way}
+use Rattle.avro_resolve.specs.declared.links.Way.TheVariants.{OfContents, ByName, ByAlias}
+use Rattle.avro_resolve.specs.Inside.Agreeing.{fields_of}
+use Rattle.avro_resolve.specs.Inside.Askers.{HasLabel, IsAlias, LinkedBy, IsFieldLinked, AreFieldsLinked, IsPlaceLinked, IsUnionListed, Notes, GivenBy, IsOfField, IsOfNode, alias_labels}
 use Rattle.avro_resolve.specs.Inside.Lists.{StandsAt}
 use Rattle.avro_resolve.specs.Inside.Meeting.{Tell}
-use Rattle.avro_resolve.proofs.ListLemmas.{adds_none, adds_then}
+use Rattle.avro_resolve.proofs.ListLemmas.{adds_none, adds_such, adds_then}
 
 -- ---- more is noted
 
-pub notes_none : (asker : ℕ) (links : Links) → Notes asker links links
-notes_none asker links = record { adds = adds_none (λ x. x.asker ≡ asker) links.lists.items; kept = λ number field e. e }
+pub notes_none : (Such : Link → ℕ → Type 0) (links : Links) → Notes Such links links
+notes_none Such links = record { adds = adds_none Such links.lists.items; kept = λ number field e. e }
 
-pub notes_then : (asker : ℕ) (xs ys zs : Links) → Notes asker xs ys → Notes asker ys zs → Notes asker xs zs
-notes_then asker xs ys zs g h = record {
-  adds = adds_then (λ x. x.asker ≡ asker) xs.lists.items ys.lists.items zs.lists.items g.adds h.adds;
+pub notes_such : (This Such : Link → ℕ → Type 0) → ((x : Link) (p : ℕ) → This x p → Such x p) → (xs ys : Links) → Notes This xs ys → Notes Such xs ys
+notes_such This Such this xs ys h = record { adds = adds_such Such This this xs.lists.items ys.lists.items h.adds; kept = h.kept }
+
+pub notes_then : (This That Such : Link → ℕ → Type 0) → ((x : Link) (p : ℕ) → This x p → Such x p) → ((x : Link) (p : ℕ) → That x p → Such x p) → (xs ys zs : Links) → Notes This xs ys → Notes That ys zs → Notes Such xs zs
+notes_then This That Such this that xs ys zs g h = record {
+  adds = adds_then Such This That this that xs.lists.items ys.lists.items zs.lists.items g.adds h.adds;
   kept = λ number field e. h.kept number field (g.kept number field e);
 }
 
@@ -40,7 +46,7 @@ module _ (old new : Links) (stand : (x : Link) (p : ℕ) → StandsAt old.lists.
 
   pub field_on : (met : List (Option ℕ)) (aliased : Bool) (i index p : ℕ) (ranks : FieldRanks) → IsFieldLinked met aliased old i index p ranks → IsFieldLinked met aliased new i index p ranks
   field_on met aliased i index p ranks h = record {
-    own = λ label e. linked_on (HasLabel label None) i p (h.own label e);
+    own = λ label e. linked_on (HasLabel label ByName) i p (h.own label e);
     aliases = λ k d l. alias_on i index (get_or (alias_labels aliased ranks.aliases.items) k d) p (h.aliases k d l);
   }
 
@@ -48,11 +54,25 @@ module _ (old new : Links) (stand : (x : Link) (p : ℕ) → StandsAt old.lists.
   place_on names met aliased i a (ranks, h) = (
     ranks,
     record {
-      contained = λ p e. linked_on (HasLabel 0 None) i p (h.contained p e);
+      contained = λ p e. linked_on (HasLabel 0 OfContents) i p (h.contained p e);
       ranked = h.ranked;
       fields = λ index f y e g. field_on met aliased i index f.place y (h.fields index f y e g);
     },
   )
+
+-- what gives a link does so as more fields get numbers
+module _ (old new : List Aliased) (kept : (number : ℕ) (field : Aliased) → slice_get old number ≡ Some field → slice_get new number ≡ Some field) (met : List (Option ℕ)) (aliased : Bool) (x : Link) where
+  pub given_on : (index : ℕ) (y : FieldRanks) (way : Way) → GivenBy met aliased old index y x way → GivenBy met aliased new index y x way
+  given_on index y OfContents h = h
+  given_on index y ByName h = h
+  given_on index y (ByAlias number) h = kept number (record { place = x.asker; index = index }) h
+
+  pub of_field_on : (fields : List FieldView) (ranks : List FieldRanks) (p : ℕ) → IsOfField met aliased old fields ranks x p → IsOfField met aliased new fields ranks x p
+  of_field_on fields ranks p (index, f, y, ef, ey, e, h) = (index, f, y, ef, ey, e, given_on index y x.way h)
+
+  pub of_node_on : (names : List (List ℕ)) (a : NodeView) (p : ℕ) → IsOfNode names met aliased old a x p → IsOfNode names met aliased new a x p
+  of_node_on names a p (inl h) = inl h
+  of_node_on names a p (inr (ranks, ranked, h)) = inr (ranks, ranked, of_field_on (fields_of a) ranks p h)
 
 pub union_listed_on : (xs ys : List (Vec ℕ Global)) (i : ℕ) → ((x p : ℕ) → StandsAt xs x p → StandsAt ys x p) → (a : NodeView) → IsUnionListed xs i a → IsUnionListed ys i a
 union_listed_on xs ys i stand (union ps) h = λ k d l. stand i (get_or ps k d) (h k d l)
@@ -86,7 +106,7 @@ zip_more {X} P xs i x ys y e so_far now =
 
 -- the writer's place refers to the type of a field by the rank that the reader has for the field's name
 abbrev pub IsMetBy : List (List ℕ) → Links → ℕ → FieldView → Type 0
-IsMetBy r links i g = (rank : ℕ) → IsRank r g.name rank → LinkedBy (HasLabel rank None) links.lists.items i g.place
+IsMetBy r links i g = (rank : ℕ) → IsRank r g.name rank → LinkedBy (HasLabel rank ByName) links.lists.items i g.place
 
 pub met_by : (w r : List (List ℕ)) (met : List (Option ℕ)) → Tell w r met → (links : Links) (i : ℕ) (fields : List FieldView) (ranks : List FieldRanks) → AreFieldsRanked w fields ranks → AreFieldsLinked met false links i fields ranks
     → All (IsMetBy r links i) fields
@@ -97,19 +117,20 @@ met_by w r met tell links i fields ranks ranked linked k d l rank er =
     (linked k g x.0 eg x.1).own rank ((tell x.0.name rank g.name g.name x.2.name er).1 refl)
 
 -- the link is of the field's own name, or of one of the aliases of the record's field of this index
-abbrev pub IsOf : List Aliased → ℕ → ℕ → Option ℕ → Type 0
-IsOf aliased asker index None = Unit {0}
-IsOf aliased asker index (Some number) = slice_get aliased number ≡ Some (record { place = asker; index = index })
+abbrev pub IsOf : List Aliased → ℕ → ℕ → Way → Type 0
+IsOf aliased asker index OfContents = ⊥
+IsOf aliased asker index ByName = Unit {0}
+IsOf aliased asker index (ByAlias number) = slice_get aliased number ≡ Some (record { place = asker; index = index })
 
 abbrev pub Seeks : List Aliased → ℕ → ℕ → ℕ → Link → Type 0
-Seeks aliased asker index label x = (x.label ≡ label) × IsOf aliased asker index x.alias
+Seeks aliased asker index label x = (x.label ≡ label) × IsOf aliased asker index x.way
 
 -- the reader's place refers to the type of its field by the rank of the name
 abbrev pub IsSoughtBy : List (List ℕ) → Links → ℕ → ℕ → ℕ → List ℕ → Type 0
 IsSoughtBy r links j index place name = (rank : ℕ) × IsRank r name rank × LinkedBy (Seeks links.aliased.items j index rank) links.lists.items j place
 
 module _ (r : List (List ℕ)) (links : Links) (j index place : ℕ) where
-  own_sought : (name : List ℕ) (rank : ℕ) → IsRank r name rank → LinkedBy (HasLabel rank None) links.lists.items j place → IsSoughtBy r links j index place name
+  own_sought : (name : List ℕ) (rank : ℕ) → IsRank r name rank → LinkedBy (HasLabel rank ByName) links.lists.items j place → IsSoughtBy r links j index place name
   own_sought name rank er (x, (l, n), a, h) = (rank, er, (x, (l, subst (IsOf links.aliased.items j index) (sym n) tt), a, h))
 
   alias_sought : (name : List ℕ) (rank : ℕ) → IsRank r name rank → LinkedBy (IsAlias links.aliased.items j index rank) links.lists.items j place → IsSoughtBy r links j index place name

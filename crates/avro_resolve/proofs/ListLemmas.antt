@@ -59,34 +59,34 @@ module _ {X : Type 0} (xs : List (Vec X Global)) (k : ℕ) (v : Vec X Global) (l
     | inr n ↦ subst (λ (ys : List X). Contains ys x) (sym (list_set_other xs k p v n)) h
   ]
 
-  pub onlys : (Such : X → Type 0) → ((x : X) → Contains v.items x → Contains (list_at xs k) x ⊎ Such x) → (x : X) (p : ℕ) → StandsAt (set xs k v) x p → StandsAt xs x p ⊎ Such x
+  pub onlys : (Such : X → ℕ → Type 0) → ((x : X) → Contains v.items x → Contains (list_at xs k) x ⊎ Such x k) → (x : X) (p : ℕ) → StandsAt (set xs k v) x p → StandsAt xs x p ⊎ Such x p
   onlys Such only x p h = elim (same_place p k) [
     | inl e ↦ elim (only x (subst (λ (ys : List X). Contains ys x) (list_set xs k v l) (subst (λ (q : ℕ). StandsAt (set xs k v) x q) e h))) [
       | inl g ↦ inl (subst (λ (q : ℕ). StandsAt xs x q) (sym e) g)
-      | inr g ↦ inr g
+      | inr g ↦ inr (subst (Such x) (sym e) g)
     ]
     | inr n ↦ inl (subst (λ (ys : List X). Contains ys x) (list_set_other xs k p v n) h)
   ]
 
-  pub adds_one : (Such : X → Type 0) → ((x : X) → Contains (list_at xs k) x → Contains v.items x) → ((x : X) → Contains v.items x → Contains (list_at xs k) x ⊎ Such x) → Adds Such xs (set xs k v)
+  pub adds_one : (Such : X → ℕ → Type 0) → ((x : X) → Contains (list_at xs k) x → Contains v.items x) → ((x : X) → Contains v.items x → Contains (list_at xs k) x ⊎ Such x k) → Adds Such xs (set xs k v)
   adds_one Such kept only = record { long = length-set xs k v; kept = keeps kept; only = onlys Such only }
 
-module _ {X : Type 0} (Such : X → Type 0) where
+module _ {X : Type 0} (Such : X → ℕ → Type 0) where
   pub adds_none : (xs : List (Vec X Global)) → Adds Such xs xs
   adds_none xs = record { long = refl; kept = λ x p h. h; only = λ x p h. inl h }
 
-  pub adds_then : (xs ys zs : List (Vec X Global)) → Adds Such xs ys → Adds Such ys zs → Adds Such xs zs
-  adds_then xs ys zs g h = record {
-    long = h.long ∙ g.long;
-    kept = λ x p l. h.kept x p (g.kept x p l);
-    only = λ x p l. elim (h.only x p l) [ inl m ↦ g.only x p m | inr e ↦ inr e ];
-  }
-
-  pub adds_such : (Other : X → Type 0) → ((x : X) → Other x → Such x) → (xs ys : List (Vec X Global)) → Adds Other xs ys → Adds Such xs ys
-  adds_such Other such xs ys h = record {
+  pub adds_such : (This : X → ℕ → Type 0) → ((x : X) (p : ℕ) → This x p → Such x p) → (xs ys : List (Vec X Global)) → Adds This xs ys → Adds Such xs ys
+  adds_such This this xs ys h = record {
     long = h.long;
     kept = h.kept;
-    only = λ x p l. elim (h.only x p l) [ inl m ↦ inl m | inr e ↦ inr (such x e) ];
+    only = λ x p l. elim (h.only x p l) [ inl m ↦ inl m | inr e ↦ inr (this x p e) ];
+  }
+
+  pub adds_then : (This That : X → ℕ → Type 0) → ((x : X) (p : ℕ) → This x p → Such x p) → ((x : X) (p : ℕ) → That x p → Such x p) → (xs ys zs : List (Vec X Global)) → Adds This xs ys → Adds That ys zs → Adds Such xs zs
+  adds_then This That this that xs ys zs g h = record {
+    long = h.long ∙ g.long;
+    kept = λ x p l. h.kept x p (g.kept x p l);
+    only = λ x p l. elim (h.only x p l) [ inl m ↦ elim (g.only x p m) [ inl n ↦ inl n | inr e ↦ inr (this x p e) ] | inr e ↦ inr (that x p e) ];
   }
 
 pub get_or_any : {X : Type 0} (xs : List X) (k : ℕ) (d e : X) → k < length xs → get_or xs k d ≡ get_or xs k e

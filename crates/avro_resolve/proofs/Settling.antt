@@ -1,14 +1,15 @@
 -- Pairs that were struck out, told to those that ask for them.
-use Rattle.std.proofs.Common.{◌≡◌, ℕ, ◌+◌, List, [], ◌∷◌, ◌++◌, Bool, true, false, ◌&&◌, length, refl, sym, subst, ◌∙◌, arith, true≢false, inl, inr, length-append}
+use Rattle.std.proofs.Common.{◌≡◌, ℕ, ◌+◌, List, [], ◌∷◌, ◌++◌, Bool, true, false, ◌&&◌, length, get_or, refl, sym, subst, ◌∙◌, arith, true≢false, inl, inr, length-append}
 use Rattle.std.specs.Prelude.{◌==◌, ◌⊎◌, if◌then◌else◌}
 use Rattle.std.proofs.lemmas.Bool.{or_cases, or_left, or_right}
+use Rattle.std.proofs.lemmas.List.Elements.{All-append, All-cons, All-nil, All-contains, Contains-append_left, Contains-append_right, Contains-get_or}
 use Rattle.std.proofs.lemmas.Bool.Decides.{nat_tests}
 use Rattle.avro_nodes.specs.Nodes.{NodeView}
 use Rattle.avro_resolve.specs.declared.table.Table.{Table}
 use Rattle.avro_resolve.specs.Resolution.{Supports}
 use Rattle.avro_resolve.specs.Inside.Places.{IsWhole}
 use Rattle.avro_resolve.specs.Witnesses.{Pair, member}
-use Rattle.avro_resolve.specs.Inside.Left.{left, count_left, held, Settled, AllSettled, Lists, Ignores}
+use Rattle.avro_resolve.specs.Inside.Left.{left, count_left, held, AreOut, Settled, AllSettled, Lists, Ignores}
 use Rattle.avro_resolve.proofs.Monotone.{supports_within}
 use Rattle.avro_resolve.proofs.PairLemmas.{member_back, member_after}
 use Rattle.avro_resolve.proofs.PairLists.{member-nil, member_front, member_last, push_cases}
@@ -16,14 +17,26 @@ use Rattle.avro_resolve.proofs.PairLists.{member-nil, member_front, member_last,
 -- ---- how the list and the table go on
 
 pub lists_none : (t : Table) (ps : List Pair) → Lists t ps t ps
-lists_none t ps = record { fewer = λ i j h. h; held = λ i j h. h; count = refl }
+lists_none t ps = record { fewer = λ i j h. h; held = λ i j h. h; count = refl; out = λ h. h }
 
 pub lists_then : (t u v : Table) (ps qs rs : List Pair) → Lists t ps u qs → Lists u qs v rs → Lists t ps v rs
 lists_then t u v ps qs rs g h = record {
   fewer = λ i j l. g.fewer i j (h.fewer i j l);
   held = λ i j l. h.held i j (g.held i j l);
   count = h.count ∙ g.count;
+  out = λ o. h.out (g.out o);
 }
+
+not_back : (x y : Bool) → (x ≡ true → y ≡ true) → y ≡ false → x ≡ false
+not_back true y h e = absurd (true≢false (sym (h refl) ∙ e))
+not_back false y h e = refl
+
+-- a pair that isn't left doesn't come back
+pub stays_out : (t v : Table) (ps qs : List Pair) (p q : ℕ) → Lists t ps v qs → left t p q ≡ false → left v p q ≡ false
+stays_out t v ps qs p q h e = not_back (left v p q) (left t p q) (h.fewer p q) e
+
+are_out_on : (t v : Table) (ps : List Pair) → ((i j : ℕ) → left v i j ≡ true → left t i j ≡ true) → AreOut t ps → AreOut v ps
+are_out_on t v ps fewer out = λ k d l. let p = get_or ps k d in not_back (left v p.0 p.1) (left t p.0 p.1) (fewer p.0 p.1) (out k d l)
 
 still : (x y : Bool) → (if x then false else y) ≡ true → y ≡ true
 still true y h = absurd (true≢false (sym h))
@@ -61,6 +74,10 @@ module _ (t v : Table) (ps : List Pair) (i j : ℕ) (others : (a b : ℕ) → le
       | inr g ↦ or_right (left v a b) (member (ps ++ (i, j) ∷ []) a b) (member_front ps ((i, j) ∷ []) a b g)
     ];
     count = (let l : length (ps ++ (i, j) ∷ []) ≡ length ps + 1 = length-append ps ((i, j) ∷ []) in omega arith);
+    out = λ o. (
+        let P = λ (p : Pair). left v p.0 p.1 ≡ false in
+        All-append P ps ((i, j) ∷ []) (are_out_on t v ps (fewer_struck t v i j others) o) (All-cons P (i, j) [] (gone_struck t v i j others) (All-nil P))
+        );
   }
 
   pub settled_struck : (w r : List NodeView) → Settled w r v (ps ++ (i, j) ∷ []) i j
@@ -82,6 +99,12 @@ onto v qs more a b h = elim (or_cases (left v a b) (member qs a b) h) [
   | inr g ↦ or_right (left v a b) (member (qs ++ more) a b) (member_front qs more a b g)
 ]
 
+pub front_out : (t : Table) (ps more : List Pair) → AreOut t (ps ++ more) → AreOut t ps
+front_out t ps more o = λ k d l. let P = λ (p : Pair). left t p.0 p.1 ≡ false in All-contains P (ps ++ more) (get_or ps k d) o (Contains-append_left ps more (get_or ps k d) (Contains-get_or ps k d l))
+
+pub back_out : (t : Table) (ps more : List Pair) → AreOut t (ps ++ more) → AreOut t more
+back_out t ps more o = λ k d l. let P = λ (p : Pair). left t p.0 p.1 ≡ false in All-contains P (ps ++ more) (get_or more k d) o (Contains-append_right ps more (get_or more k d) (Contains-get_or more k d l))
+
 -- a further list beside both
 pub lists_beside : (t v : Table) (ps qs more : List Pair) → Lists t ps v qs → Lists t (ps ++ more) v (qs ++ more)
 lists_beside t v ps qs more h = record {
@@ -94,6 +117,7 @@ lists_beside t v ps qs more h = record {
     ]
   ];
   count = (let c = h.count in let l : length (ps ++ more) ≡ length ps + length more = length-append ps more in let m : length (qs ++ more) ≡ length qs + length more = length-append qs more in omega arith);
+  out = λ o. All-append (λ (p : Pair). left v p.0 p.1 ≡ false) qs more (h.out (front_out t ps more o)) (are_out_on t v more h.fewer (back_out t ps more o));
 }
 
 -- what was settled before a pair is told stays so while others are told of it

@@ -8,13 +8,20 @@ use Rattle.std.proofs.lemmas.List.Elements.{All-cons, All-nil}
 use Rattle.std.proofs.lemmas.Option.{get_or_from_slice_get, same_Some, slice_get-get_or, slice_get-map, slice_get_within}
 use Rattle.std.proofs.lemmas.Slice.Eq.{bytes_eq-Decides}
 use Rattle.std.proofs.lemmas.Slice.Zip.{AllZip-left, AllZip-right}
-use Rattle.avro_nodes.specs.Nodes.{FieldView}
+use Rattle.avro_nodes.specs.declared.node.Field.{Field}
+use Rattle.avro_nodes.specs.Nodes.{FieldView, NodeView, field_view}
 use Rattle.avro_schema.specs.declared.index.FieldRanks.{FieldRanks}
 use Rattle.avro_schema.specs.Index.{AreFieldsRanked, AreRanks, IsFieldRanked}
 use Rattle.avro_resolve.specs.Resolution.{first_named}
 use Rattle.avro_resolve.specs.Asking.{source_place}
+use Rattle.avro_resolve.specs.declared.sides.Fields.{Fields}
+use Rattle.avro_resolve.specs.declared.sides.Sides.{Sides}
+use Rattle.avro_resolve.specs.Inside.Agreeing.{fields_of}
 use Rattle.avro_resolve.specs.Inside.Laying.{HasName, IsFirst, NoField, IsSource, names_in}
 use Rattle.avro_resolve.specs.Inside.Meeting.{Tell}
+use Rattle.avro_resolve.specs.Inside.Sides.{columns, names_of}
+use Rattle.avro_resolve.specs.Inside.Sources.{field_at as wanted_at}
+use Rattle.avro_resolve.proofs.ViewLemmas.{view_got}
 
 -- ---- the first that passes a test
 
@@ -143,3 +150,13 @@ module _ (names : List (List ℕ)) where
       let here : slice_get names x ≡ Some t = cc in
       let rest : AreRanks names ts xs = cc in
       All-cons (λ rank. rank < length names) x xs (slice_get_within names x t here) (ranks_below ts xs rest)
+
+-- a field of the reader's at a place, with its names
+pub field_named : (sides : Sides) (j n : ℕ) (wanted : Fields) (b : NodeView) → slice_get (columns sides) j ≡ Some b → map field_view wanted.fields.now ≡ fields_of b → AreFieldsRanked (names_of sides.reader) (map field_view wanted.fields.now) wanted.ranks.now
+    → (f : Field) (x : FieldRanks) → slice_get wanted.fields.now n ≡ Some f → slice_get wanted.ranks.now n ≡ Some x
+    → (wanted_at (columns sides) (record { place = j; index = n }) ≡ Some (field_view f)) × IsFieldRanked (names_of sides.reader) (field_view f) x
+field_named sides j n wanted b eb are ranked f x ef ex =
+    let there : slice_get (map field_view wanted.fields.now) n ≡ Some (field_view f) = view_got field_view wanted.fields.now n f ef in (
+      ap (option_and_then (λ (c : NodeView). slice_get (fields_of c) n)) eb ∙ ap (λ (fs : List FieldView). slice_get fs n) (sym are) ∙ there,
+      ranked_field (names_of sides.reader) (map field_view wanted.fields.now) wanted.ranks.now n (field_view f) x ranked there ex,
+    )

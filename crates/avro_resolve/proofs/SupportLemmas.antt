@@ -1,5 +1,5 @@
 -- The branches of a union.
-use Rattle.std.proofs.Common.{◌≡◌, ◌<◌, ◌≤◌, ℕ, length, refl, arith, List, ◌∷◌, Option, Some, None, Bool, false, true≢false, map, get_or, is_some, sym, subst, ◌∙◌}
+use Rattle.std.proofs.Common.{◌≡◌, ◌<◌, ◌≤◌, ℕ, length, refl, arith, List, [], ◌∷◌, Option, Some, None, Bool, false, true≢false, map, get_or, is_some, sym, subst, ◌∙◌}
 use Rattle.std.specs.Prelude.{All, Any, IfSome, IsSome, IsTrue, MatchOption, option_map, ◌↔◌}
 use Rattle.std.proofs.lemmas.Option.{same_Some}
 use Rattle.avro_nodes.specs.Nodes.{FieldView, field_view}
@@ -7,7 +7,7 @@ use Rattle.avro_resolve.specs.Asking.{source_place}
 use Rattle.avro_resolve.specs.Resolution.{Pairs, Readable, source}
 use Rattle.avro_resolve.proofs.Monotone.{named_in}
 use Rattle.avro_resolve.proofs.ViewLemmas.{all_of}
-use Rattle.std.proofs.lemmas.List.Elements.{All-map}
+use Rattle.std.proofs.lemmas.List.Elements.{All-map, All-nil}
 use Rattle.avro_nodes.specs.declared.node.Field.{Field}
 use Rattle.avro_resolve.proofs.ListLemmas.{get_or_any}
 
@@ -29,6 +29,17 @@ place_within n fields f None place h e s = absurd cc
 place_within n fields f (Some g) place h e s =
     let same : g.place ≡ place = cc in
     subst (λ p. p < n) same (named_in (λ g. g.place < n) g (f.name ∷ f.aliases) fields h e)
+
+-- there is no field to read from
+pub no_source : (f : FieldView) (p : ℕ) → source_place [] f ≡ Some p → ⊥
+no_source f p e = let l = place_within 0 [] f (source [] f) p (All-nil (λ (g : FieldView). g.place < 0)) refl (sym e) in omega (arith, l)
+
+pub unsourced : (f : FieldView) → source_place [] f ≡ None
+unsourced f = by (source_place [] f) refl
+  where
+    by : (o : Option ℕ) → source_place [] f ≡ o → o ≡ None
+    by None e = refl
+    by (Some p) e = absurd (no_source f p e)
 
 read_by : (R : Pairs) (X : Type 0) (o : Option FieldView) (place q : ℕ) → option_map (λ (g : FieldView). g.place) o ≡ Some place → IsTrue (R place q) ↔ MatchOption o X (λ g. IsTrue (R g.place q))
 read_by R X None place q e = absurd cc

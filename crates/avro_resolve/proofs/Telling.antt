@@ -13,13 +13,15 @@ use Rattle.avro_nodes.specs.Nodes.{FieldView, NamedView, NodeView, primitive, ar
 use Rattle.avro_resolve.specs.declared.aliased.Aliased.{Aliased}
 use Rattle.avro_resolve.specs.declared.askers.Askers.{Askers}
 use Rattle.avro_resolve.specs.declared.links.Link.{Link}
+use Rattle.avro_resolve.specs.declared.links.Way.{Way}
+use Rattle.avro_resolve.specs.declared.links.Way.TheVariants.{OfContents, ByName, ByAlias}
 use Rattle.avro_resolve.specs.declared.sides.Sides.{Sides}
 use Rattle.avro_resolve.specs.declared.table.Table.{Table}
 use Rattle.avro_resolve.specs.Asking.{source_place, AsksFor}
 use Rattle.avro_resolve.specs.Resolution.{Pairs, first_named, source, Fits}
 use Rattle.avro_resolve.specs.Witnesses.{Pair}
 use Rattle.avro_resolve.specs.Inside.Agreeing.{fields_of}
-use Rattle.avro_resolve.specs.Inside.Askers.{LinkedBy, HasLabel, AreAskers, Joins, MayAsk}
+use Rattle.avro_resolve.specs.Inside.Askers.{LinkedBy, HasLabel, AreAskers, GoTogether, Joins, MayAsk}
 use Rattle.avro_resolve.specs.Inside.Left.{Settled, AllSettled, Ignores, WithinBut}
 use Rattle.avro_resolve.specs.Inside.Lists.{list_at, StandsAt}
 use Rattle.avro_resolve.specs.Inside.Places.{IsWhole, Names}
@@ -98,7 +100,7 @@ module _ (R S : Pairs) (i j p q : ℕ) (within : WithinBut p q R S) where
   fits_unasked (fixed k s x) (fixed l t y) n h = h
   fits_unasked _ _ n h = absurd h
 
-unasked : (w r : List NodeView) (i j p q : ℕ) (a b : NodeView) → slice_get w i ≡ Some a → slice_get r j ≡ Some b → (AsksFor i j a b p q → ⊥) → Ignores w r i j p q
+pub unasked : (w r : List NodeView) (i j p q : ℕ) (a b : NodeView) → slice_get w i ≡ Some a → slice_get r j ≡ Some b → (AsksFor i j a b p q → ⊥) → Ignores w r i j p q
 unasked w r i j p q a b e f n R S within s = (supports_at w r S i j a b e f).1 (fits_unasked R S i j p q within a b n ((supports_at w r R i j a b e f).0 s))
 
 -- ---- the names of sources
@@ -126,7 +128,7 @@ name_found g (name ∷ names) fs e = name_step g name names fs (find (λ f. byte
 -- ---- what asks for a pair is listed
 
 -- what is told for a writer's place and a number
-entry_told : (w r : List NodeView) (aliased : List Aliased) (sources : List (Vec ℕ Global)) → AreSources w r aliased sources → (i number : ℕ) (a : NodeView) (field : Aliased) → slice_get w i ≡ Some a → slice_get aliased number ≡ Some field
+pub entry_told : (w r : List NodeView) (aliased : List Aliased) (sources : List (Vec ℕ Global)) → AreSources w r aliased sources → (i number : ℕ) (a : NodeView) (field : Aliased) → slice_get w i ≡ Some a → slice_get aliased number ≡ Some field
     → IsEntry r (fields_of a) field (code_at sources i number)
 entry_told w r aliased sources are i number a field ea ef =
     let row = zip_got (λ (a : NodeView) (row : Vec ℕ Global). AllZip (IsEntry r (fields_of a)) aliased row.items) w sources are i a ea in
@@ -138,11 +140,13 @@ entry_told w r aliased sources are i number a field ea ef =
 
 module _ (sources : List (Vec ℕ Global)) (p : ℕ) where
   may_ask : (x y : Link) → MayAsk sources p x y ⊎ (MayAsk sources p x y → ⊥)
-  may_ask x y = by y.alias
+  may_ask x y = by x.way y.way
     where
-      by : (o : Option ℕ) → MatchOption o (Unit {0}) (λ number. code_at sources x.asker number ≡ p + 1) ⊎ (MatchOption o (Unit {0}) (λ number. code_at sources x.asker number ≡ p + 1) → ⊥)
-      by None = inl tt
-      by (Some number) = same_place (code_at sources x.asker number) (p + 1)
+      by : (v w : Way) → GoTogether sources p x.asker v w ⊎ (GoTogether sources p x.asker v w → ⊥)
+      by OfContents OfContents = inl tt
+      by ByName ByName = inl tt
+      by ByName (ByAlias number) = same_place (code_at sources x.asker number) (p + 1)
+      by _ _ = inr (λ h. h)
 
   -- links of the two places have one label, by which the reader's may ask
   abbrev Beside : ℕ → Link → Link → Type 0
@@ -167,21 +171,22 @@ module _ (sides : Sides) (is : IsSides sides) (above beside : Askers) (sources :
   joined : (x y : ℕ) (P Q : Link → Type 0) → ((l m : Link) → l.asker ≡ i → P l → Q m → (l.label ≡ m.label) × MayAsk sources p l m) → LinkedBy P above.links.lists.items i x → LinkedBy Q beside.links.lists.items j y → x ≡ p → y ≡ q → Listed
   joined x y P Q same (l, le, la, ls) (m, me, ma, ms) ep eq = inr (inr (l, subst (λ (z : ℕ). StandsAt above.links.lists.items l z) ep ls, (la, (m, subst (λ (z : ℕ). StandsAt beside.links.lists.items m z) eq ms, (ma, same l m la le me)))))
 
-  of_none : (l m : Link) → m.alias ≡ None → MayAsk sources p l m
-  of_none l m e = subst (λ (o : Option ℕ). MatchOption o (Unit {0}) (λ number. code_at sources l.asker number ≡ p + 1)) (sym e) tt
+  together : (l m : Link) (v w : Way) → l.way ≡ v → m.way ≡ w → GoTogether sources p l.asker v w → MayAsk sources p l m
+  together l m v w e f h = subst (λ (z : Way). GoTogether sources p l.asker z m.way) (sym e) (subst (λ (z : Way). GoTogether sources p l.asker v z) (sym f) h)
 
-  contained : (x y : ℕ) → LinkedBy (HasLabel 0 None) above.links.lists.items i x → LinkedBy (HasLabel 0 None) beside.links.lists.items j y → (p ≡ x) × (q ≡ y) → Listed
-  contained x y g h e = joined x y (HasLabel 0 None) (HasLabel 0 None) (λ l m la a b. (a.0 ∙ sym b.0, of_none l m b.1)) g h (sym e.0) (sym e.1)
+  contained : (x y : ℕ) → LinkedBy (HasLabel 0 OfContents) above.links.lists.items i x → LinkedBy (HasLabel 0 OfContents) beside.links.lists.items j y → (p ≡ x) × (q ≡ y) → Listed
+  contained x y g h e = joined x y (HasLabel 0 OfContents) (HasLabel 0 OfContents) (λ l m la a b. (a.0 ∙ sym b.0, together l m OfContents OfContents a.1 b.1 tt)) g h (sym e.0) (sym e.1)
 
   of_branch : (bs : List ℕ) → slice_get (columns sides) j ≡ Some (union bs) → (p ≡ i) × Contains bs q → Listed
   of_branch bs e h = inr (inl (sym h.0, All-contains (StandsAt beside.unions.items j) bs q (askers.reader.unions.named j (union bs) e) h.1))
 
   module _ (a b : NodeView) (ea : slice_get (rows sides) i ≡ Some a) (eb : slice_get (columns sides) j ≡ Some b) where
     -- a link of one of the aliases by which the field is read
-    of_alias : (index : ℕ) (f : FieldView) → slice_get (fields_of b) index ≡ Some f → source_place (fields_of a) f ≡ Some p → (l : Link) → l.asker ≡ i → (o : Option ℕ) → IsOf beside.links.aliased.items j index o
-        → MatchOption o (Unit {0}) (λ number. code_at sources l.asker number ≡ p + 1)
-    of_alias index f ef s l la None of = tt
-    of_alias index f ef s l la (Some number) of =
+    of_alias : (index : ℕ) (f : FieldView) → slice_get (fields_of b) index ≡ Some f → source_place (fields_of a) f ≡ Some p → (l : Link) → l.asker ≡ i → (way : Way) → IsOf beside.links.aliased.items j index way
+        → GoTogether sources p l.asker ByName way
+    of_alias index f ef s l la OfContents of = of
+    of_alias index f ef s l la ByName of = tt
+    of_alias index f ef s l la (ByAlias number) of =
         let field : Aliased = record { place = j; index = index } in
         let at : field_at (columns sides) field ≡ Some f = ap (option_and_then (λ (c : NodeView). slice_get (fields_of c) index)) eb ∙ ef in
         let told : code_at sources i number ≡ code (source_place (fields_of a) f) = entry_told (rows sides) (columns sides) beside.links.aliased.items sources askers.sources i number a field ea of f at in
@@ -195,7 +200,7 @@ module _ (sides : Sides) (is : IsSides sides) (above beside : Askers) (sources :
         let own : IsMetBy (names_of sides.reader) above.links i g = named_in (IsMetBy (names_of sides.reader) above.links i) g names (fields_of a) mine e in
         let sought = All-contains (IsSoughtBy (names_of sides.reader) beside.links j index f.place) names g.name theirs (name_found g names (fields_of a) e) in
         let from : source_place (fields_of a) f ≡ Some p = ap (option_map (λ (x : FieldView). x.place)) e ∙ s in
-        joined g.place f.place (HasLabel sought.0 None) (Seeks beside.links.aliased.items j index sought.0) (λ l m la x y. (x.0 ∙ sym y.0, of_alias index f ef from l la m.alias y.1))
+        joined g.place f.place (HasLabel sought.0 ByName) (Seeks beside.links.aliased.items j index sought.0) (λ l m la x y. (x.0 ∙ sym y.0, together l m ByName m.way x.1 refl (of_alias index f ef from l la m.way y.1)))
         (own sought.0 sought.1) sought.2 (same_Some g.place p s) at
 
   of_fields : (k l : NamedView) (fs gs : List FieldView) (x y : Members) → slice_get (rows sides) i ≡ Some (rec k fs x) → slice_get (columns sides) j ≡ Some (rec l gs y) → Any (λ f. (source_place fs f ≡ Some p) × (f.place ≡ q)) gs → Listed

@@ -7,6 +7,7 @@ pub mod Laying
 pub mod Meeting
 pub mod PairSets
 pub mod Places
+pub mod Rows
 pub mod Sides
 pub mod Sources
 pub mod Walking

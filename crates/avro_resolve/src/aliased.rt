@@ -1,7 +1,7 @@
 //! The sources of a reader's fields that have aliases, by the writer's places: one look tells
 //! whether a field is read from a type.
 
-ghost use Rattle.std.specs.Prelude.{◌≡◌, ◌<◌, ◌≤◌, ◌+◌, ◌↔◌, ℕ, All, IfOk, IfSome, IsTrue, MatchOption, Some, length, map, slice_get};
+ghost use Rattle.std.specs.Prelude.{◌≡◌, ◌<◌, ◌≤◌, ◌+◌, ◌↔◌, ℕ, All, IfOk, IfSome, IsTrue, MatchOption, Option, Some, length, map, slice_get};
 ghost use Rattle.std.specs.List.{AllZip};
 ghost use Rattle.std.specs.Option.{ForSome};
 ghost use Rattle.avro_nodes.specs.Nodes.{FieldView, NodeView, field_view};
@@ -26,6 +26,43 @@ pub struct Aliased {
     pub index: usize,
 }
 
+/// The reader's fields that have aliases: a field's number is its index here.
+#[derive(Clone, Copy)]
+pub struct Numbered<'a> {
+    pub aliased: &'a [Aliased],
+    /// for each place of the reader's the number of its first such field, if it has one
+    pub firsts: &'a [usize],
+}
+
+/// For each place the number of its first field, if it has one of these.
+///
+/// # Errors
+///
+/// `AllocError` where memory for the numbers is refused.
+pub fn firsts_of(
+    alloc: Global,
+    places: usize,
+    aliased: &[Aliased],
+) -> Result<Vec<usize>, AllocError> {
+    let mut firsts = vec![in alloc; 0; places]?;
+    for number in (0..aliased.len()).rev() {
+        let place = aliased[number].place as usize;
+        if place < firsts.len() {
+            firsts[place] = number;
+        }
+    }
+    Ok(firsts)
+}
+
+/// The number of the first field of a place that has aliases. If it has none, this is the number of
+/// any other field.
+pub fn first_number(numbered: Numbered, place: u32) -> usize {
+    match numbered.firsts.get(place as usize) {
+        Some(first) => *first,
+        None => 0,
+    }
+}
+
 /// A place and one, or 0 for none.
 fn code_of(place: Option<u32>) -> u16
     requires { ForSome place (λ p. p < 65535) }
@@ -35,6 +72,16 @@ fn code_of(place: Option<u32>) -> u16
         Some(place) => place as u16 + 1,
         None => 0,
     }
+}
+
+/// The place that is told so.
+pub fn place_told(entry: u16) -> Option<u32>
+    ensures { (place : Option ℕ) → entry ≡ code place → result ≡ place }
+{
+    if entry == 0 {
+        return None;
+    }
+    Some(u32::from(entry) - 1)
 }
 
 /// The names of the field, by their ranks.
@@ -63,6 +110,9 @@ fn entry_of(boxes: &[Option<usize>], sides: &Sides, fields: Fields, aliased: Ali
     requires fields_in { All (λ g. g.place < 65535) fields.fields.now }
     ensures { IsEntry (columns sides.now) (map field_view fields.entry.fields.now) aliased result }
 {
+    if fields.fields.is_empty() {
+        return 0;
+    }
     match names_at(&sides.reader, aliased) {
         Some(names) => code_of(place_of(boxes, sides, fields.fields, fields.ranks, names)),
         None => 0,
@@ -94,6 +144,20 @@ pub fn row_of(
         row.push(entry_of(boxes, sides, fields, *field))?;
     }
     Ok(row)
+}
+
+/// What the entries tell of a field, if this is its number.
+pub fn entry_at(entries: &[u16], aliased: &[Aliased], number: usize, field: Aliased) -> Option<u16>
+    ensures { IfSome result (λ entry. (slice_get aliased.now number ≡ Some field)
+        × (slice_get entries.now number ≡ Some entry)) }
+{
+    if number >= aliased.len() || number >= entries.len() {
+        return None;
+    }
+    if aliased[number] != field {
+        return None;
+    }
+    Some(entries[number])
 }
 
 /// Whether the field of this number is read from the type at the place, where the record is the

@@ -1,22 +1,15 @@
 //! The fields of a writer's record by the reader's ranks of their names, and the sources of a
 //! reader's fields among them.
 
-ghost use Rattle.std.specs.Prelude.{◌≡◌, ◌≢◌, ℕ, ◌<◌, ◌≤◌, ◌↔◌, ◌∷◌, All, IfOk, IsTrue, OnOk, length, map};
-ghost use Rattle.std.specs.List.{AllZip};
+ghost use Rattle.std.specs.Prelude.{◌≡◌, ◌≢◌, ℕ, ◌<◌, ◌≤◌, ◌∷◌, All, IfOk, OnOk, length, map};
 ghost use Rattle.avro_nodes.specs.Nodes.{FieldView, field_view};
 ghost use Rattle.avro_schema.specs.Index.{AreFieldsRanked, IsFieldRanked};
 ghost use Rattle.avro_resolve.specs.Asking.{source_place};
-ghost use Rattle.avro_resolve.specs.Resolution.{Readable};
 ghost use Rattle.avro_resolve.specs.Inside.Laying.{box, names_in, AreLaid, Holds, IsClear, IsSource};
-ghost use Rattle.avro_resolve.specs.Inside.Left.{left};
-ghost use Rattle.avro_resolve.specs.Inside.Sides.{columns, names_of, IsSides};
-ghost use Rattle.avro_resolve.specs.Inside.Sources.{IsEntry};
+ghost use Rattle.avro_resolve.specs.Inside.Sides.{names_of, IsSides};
 
-use crate::aliased::{Aliased, row_of};
 use crate::met::Met;
-use crate::readable::all_readable;
-use crate::sides::{Fields, Sides};
-use crate::table::Table;
+use crate::sides::Sides;
 use avro_nodes::Field;
 use avro_schema::FieldRanks;
 use std::alloc::{AllocError, Global};
@@ -43,7 +36,7 @@ fn get(boxes: &[Option<usize>], rank: u32) -> Option<usize>
 
 /// Lays the fields of a record, by the ranks of their names. They are laid from the last one on, so
 /// that the first of a name stays.
-fn lay(boxes: &mut [Option<usize>], met: &Met, fields: &[FieldRanks])
+pub fn lay(boxes: &mut [Option<usize>], met: &Met, fields: &[FieldRanks])
     requires clear { IsClear boxes.old }
     requires holds { Holds boxes.old met.now.ranks.items }
     ensures { AreLaid met.now.ranks.items (names_in fields.now) 0 boxes.new }
@@ -57,7 +50,7 @@ fn lay(boxes: &mut [Option<usize>], met: &Met, fields: &[FieldRanks])
 }
 
 /// Takes the fields off again.
-fn lift(boxes: &mut [Option<usize>], met: &Met, fields: &[FieldRanks])
+pub fn lift(boxes: &mut [Option<usize>], met: &Met, fields: &[FieldRanks])
     requires laid { AreLaid met.now.ranks.items (names_in fields.now) 0 boxes.old }
     requires holds { Holds boxes.old met.now.ranks.items }
     ensures { IsClear boxes.new }
@@ -179,58 +172,8 @@ fn read_laid(
     places
 }
 
-/// Whether each of the reader's fields can be read, where the writer's are laid for it, and taken
-/// off again.
-fn readable_laid(
-    boxes: &mut [Option<usize>],
-    sides: &Sides,
-    fields: Fields,
-    wanted: Fields,
-    table: &Table,
-) -> bool
-    requires sides { IsSides sides.now }
-    requires clear { IsClear boxes.old }
-    requires room { length (names_of sides.now.reader) ≤ length boxes.old }
-    requires ranked { AreFieldsRanked (names_of sides.now.writer) (map field_view fields.fields.now) fields.ranks.now }
-    requires named { AreFieldsRanked (names_of sides.now.reader) (map field_view wanted.fields.now) wanted.ranks.now }
-    requires fields_in { All (λ g. g.place < table.now.writers) fields.fields.now }
-    requires wanted_in { All (λ f. f.place < table.now.readers) wanted.fields.now }
-    ensures clear { IsClear boxes.new }
-    ensures readable { IsTrue result ↔ All (λ f. Readable (left table.now) (map field_view fields.entry.fields.now) (field_view f))
-        wanted.entry.fields.now }
-{
-    lay(boxes, &sides.met, fields.ranks);
-    let readable = all_readable(boxes, sides, fields, wanted, table);
-    lift(boxes, &sides.met, fields.ranks);
-    readable
-}
-
-/// Whence each of these fields of the reader's is read, where the writer's are laid for it, and
-/// taken off again.
-fn row_laid(
-    alloc: Global,
-    boxes: &mut [Option<usize>],
-    sides: &Sides,
-    fields: Fields,
-    aliased: &[Aliased],
-) -> Result<Vec<u16>, AllocError>
-    requires sides { IsSides sides.now }
-    requires clear { IsClear boxes.old }
-    requires room { length (names_of sides.now.reader) ≤ length boxes.old }
-    requires ranked { AreFieldsRanked (names_of sides.now.writer) (map field_view fields.fields.now) fields.ranks.now }
-    requires fields_in { All (λ g. g.place < 65535) fields.fields.now }
-    ensures clear { IsClear boxes.new }
-    ensures told { IfOk result (λ v. AllZip (IsEntry (columns sides.now) (map field_view fields.entry.fields.now))
-        aliased.now v.items) }
-{
-    lay(boxes, &sides.met, fields.ranks);
-    let row = row_of(alloc, boxes, sides, fields, aliased);
-    lift(boxes, &sides.met, fields.ranks);
-    row
-}
-
 /// Makes a box for each of so many names.
-fn make_room(boxes: &mut Vec<Option<usize>>, names: usize) -> Result<(), AllocError>
+pub fn make_room(boxes: &mut Vec<Option<usize>>, names: usize) -> Result<(), AllocError>
     requires { IsClear boxes.old.items }
     ensures clear { IsClear boxes.new.items }
     ensures room { OnOk result (names ≤ length boxes.new.items) }
@@ -260,15 +203,11 @@ impl Model for Desk {
 }
 
 impl Desk {
-    ghost use Rattle.std.specs.Prelude.{◌≡◌, ◌<◌, ◌↔◌, All, IfOk, IsTrue, map};
-    ghost use Rattle.std.specs.List.{AllZip};
+    ghost use Rattle.std.specs.Prelude.{◌≡◌, IfOk, map};
     ghost use Rattle.avro_nodes.specs.Nodes.{field_view};
     ghost use Rattle.avro_schema.specs.Index.{AreFieldsRanked};
     ghost use Rattle.avro_resolve.specs.Asking.{source_place};
-    ghost use Rattle.avro_resolve.specs.Resolution.{Readable};
-    ghost use Rattle.avro_resolve.specs.Inside.Left.{left};
-    ghost use Rattle.avro_resolve.specs.Inside.Sides.{columns, names_of, IsSides};
-    ghost use Rattle.avro_resolve.specs.Inside.Sources.{IsEntry};
+    ghost use Rattle.avro_resolve.specs.Inside.Sides.{names_of, IsSides};
 
     /// A desk without boxes; they are made where they are needed first.
     pub fn none(alloc: Global) -> Desk {
@@ -300,51 +239,5 @@ impl Desk {
     {
         make_room(&mut self.boxes, sides.reader.index.names.len())?;
         read_laid(alloc, &mut self.boxes, sides, fields, ranks, wanted, names)
-    }
-    /// Whether what is left lets each field of a reader's record be read from a writer's record.
-    ///
-    /// # Errors
-    ///
-    /// `AllocError` where memory for the boxes is refused.
-    pub fn all_readable(
-        &mut self,
-        sides: &Sides,
-        fields: Fields,
-        wanted: Fields,
-        table: &Table,
-    ) -> Result<bool, AllocError>
-        requires sides { IsSides sides.now }
-        requires ranked { AreFieldsRanked (names_of sides.now.writer) (map field_view fields.fields.now) fields.ranks.now }
-        requires named { AreFieldsRanked (names_of sides.now.reader) (map field_view wanted.fields.now) wanted.ranks.now }
-        requires fields_in { All (λ g. g.place < table.now.writers) fields.fields.now }
-        requires wanted_in { All (λ f. f.place < table.now.readers) wanted.fields.now }
-        ensures { IfOk result (λ yes. IsTrue yes
-            ↔ All (λ f. Readable (left table.now) (map field_view fields.entry.fields.now) (field_view f)) wanted.entry.fields.now) }
-    {
-        make_room(&mut self.boxes, sides.reader.index.names.len())?;
-        let readable = readable_laid(&mut self.boxes, sides, fields, wanted, table);
-        Ok(readable)
-    }
-
-    /// Whence each of these fields of the reader's would be read of a writer's record.
-    ///
-    /// # Errors
-    ///
-    /// `AllocError` where memory for the boxes or the row is refused.
-    pub fn row(
-        &mut self,
-        alloc: Global,
-        sides: &Sides,
-        fields: Fields,
-        aliased: &[Aliased],
-    ) -> Result<Vec<u16>, AllocError>
-        requires sides { IsSides sides.now }
-        requires ranked { AreFieldsRanked (names_of sides.now.writer) (map field_view fields.fields.now) fields.ranks.now }
-        requires fields_in { All (λ g. g.place < 65535) fields.fields.now }
-        ensures { IfOk result (λ v. AllZip (IsEntry (columns sides.now) (map field_view fields.entry.fields.now))
-            aliased.now v.items) }
-    {
-        make_room(&mut self.boxes, sides.reader.index.names.len())?;
-        row_laid(alloc, &mut self.boxes, sides, fields, aliased)
     }
 }

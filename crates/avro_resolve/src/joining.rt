@@ -1,14 +1,14 @@
-//! Looks again at the pairs of places whose links to the two places of a pair have one label.
+//! Strikes out the pairs of places whose links to the two places of a pair have one label.
 
-ghost use Rattle.std.specs.Prelude.{◌≡◌, ◌≤◌, ◌<◌, ◌↔◌, ℕ, IsTrue, OnOk, All, [], ◌∷◌, ◌++◌, get_or, length};
+ghost use Rattle.std.specs.Prelude.{◌≡◌, ◌≤◌, ◌<◌, ◌↔◌, ℕ, false, Contains, IsTrue, OnOk, All, get_or, length};
 ghost use Rattle.std.specs.List.Sorted.{IsNonDecreasingBy};
 ghost use Rattle.avro_resolve.specs.Inside.Askers.{Joins, MayAsk};
 ghost use Rattle.avro_resolve.specs.Inside.Sides.{columns, rows, IsSides};
-ghost use Rattle.avro_resolve.specs.Inside.Left.{IsRest, Lists, Settled, AllSettled};
+ghost use Rattle.avro_resolve.specs.Inside.Left.{left, IsRest, Lists, Rests, Settled};
 
 use crate::aliased::is_source;
-use crate::links::Link;
-use crate::looking::{Progress, look_again};
+use crate::links::{Link, Way};
+use crate::looking::{Progress, strike_unsupported};
 use crate::sides::Sides;
 use std::alloc::AllocError;
 
@@ -28,20 +28,31 @@ fn skip_smaller(links: &[Link], from: usize, label: u32) -> usize
     links.len()
 }
 
-/// Whether the pair of the places that refer by these two links may ask for a pair with this place of
-/// the writer's: where the reader's link is of an alias, only if that is its field's source.
-fn may_ask(sources: &[Vec<u16>], place: u32, link: Link, other: Link) -> bool
+/// Whether the ways of these two links go together, the first of which is to this place of the
+/// writer's: a reader's field with an alias is read from it only if the table of sources says so.
+fn go_together(sources: &[Vec<u16>], place: u32, link: Link, other: Link) -> bool
     ensures { IsTrue result ↔ MayAsk sources.now place link other }
 {
-    match other.alias {
-        None => true,
-        Some(number) => is_source(sources, link.asker, number, place),
+    match (link.way, other.way) {
+        (Way::OfContents, Way::OfContents) => true,
+        (Way::ByName, Way::ByName) => true,
+        (Way::ByName, Way::ByAlias(number)) => is_source(sources, link.asker, number, place),
+        _ => false,
     }
 }
 
-/// Looks again at those pairs of the writer's place that refers by this link with those of the
-/// reader that refer by one of these links, from an index on, of the same label.
-fn look_at_label(
+/// Whether the pair of the places that refer by these two links asks for the pair of what they refer
+/// to, which is this place of the writer's.
+fn ask(sources: &[Vec<u16>], place: u32, link: Link, other: Link) -> bool
+    ensures { IsTrue result ↔ (link.label ≡ other.label) × MayAsk sources.now place link other }
+{
+    link.label == other.label && go_together(sources, place, link, other)
+}
+
+/// Strikes out those pairs of the writer's place that refers by this link with those of the reader
+/// that refer by one of these links, from an index on, of the same label, which ask for the pair that
+/// is told.
+fn strike_at_label(
     sides: &Sides,
     sources: &[Vec<u16>],
     link: Link,
@@ -52,8 +63,9 @@ fn look_at_label(
 ) -> Result<(), AllocError>
     requires sides { IsSides sides.now }
     requires rest { IsRest (rows sides.now) (columns sides.now) progress.old.table }
-    requires before { AllSettled (rows sides.now) (columns sides.now) progress.old.table
-        (progress.old.struck.items ++ told ∷ []) }
+    requires out { left progress.old.table told.0 told.1 ≡ false }
+    requires rests { (y : Link) → Contains beside.now y → link.label ≡ y.label → MayAsk sources.now told.0 link y
+        → Rests (rows sides.now) (columns sides.now) link.asker y.asker told.0 told.1 }
     requires link_in { link.asker < length sides.now.writer.schema.now }
     requires beside_in { All (λ y. y.asker < length sides.now.reader.schema.now) beside.now }
     requires sorted { IsNonDecreasingBy (λ (y : Link). y.label) beside.now }
@@ -69,17 +81,17 @@ fn look_at_label(
         if other.label > link.label {
             return Ok(());
         }
-        if !may_ask(sources, told.0, link, other) {
+        if !ask(sources, told.0, link, other) {
             continue;
         }
-        look_again(sides, (link.asker, other.asker), told, progress)?;
+        strike_unsupported(sides, link.asker, other.asker, progress)?;
     }
     Ok(())
 }
 
-/// Looks again at those pairs of places whose links have one label and that may ask for the pair
-/// that is told. Both lists are passed once, but for links of one label.
-pub fn look_joined(
+/// Strikes out those pairs of places whose links have one label and that ask for the pair that is
+/// told. Both lists are passed once, but for links of one label.
+pub fn strike_joined(
     sides: &Sides,
     sources: &[Vec<u16>],
     above: &[Link],
@@ -89,8 +101,9 @@ pub fn look_joined(
 ) -> Result<(), AllocError>
     requires sides { IsSides sides.now }
     requires rest { IsRest (rows sides.now) (columns sides.now) progress.old.table }
-    requires before { AllSettled (rows sides.now) (columns sides.now) progress.old.table
-        (progress.old.struck.items ++ told ∷ []) }
+    requires out { left progress.old.table told.0 told.1 ≡ false }
+    requires rests { (x y : Link) → Contains above.now x → Contains beside.now y → x.label ≡ y.label
+        → MayAsk sources.now told.0 x y → Rests (rows sides.now) (columns sides.now) x.asker y.asker told.0 told.1 }
     requires above_in { All (λ x. x.asker < length sides.now.writer.schema.now) above.now }
     requires beside_in { All (λ y. y.asker < length sides.now.reader.schema.now) beside.now }
     requires above_sorted { IsNonDecreasingBy (λ (x : Link). x.label) above.now }
@@ -103,7 +116,7 @@ pub fn look_joined(
     let mut from = 0;
     for link in above {
         from = skip_smaller(beside, from, link.label);
-        look_at_label(sides, sources, *link, beside, from, told, progress)?;
+        strike_at_label(sides, sources, *link, beside, from, told, progress)?;
     }
     Ok(())
 }

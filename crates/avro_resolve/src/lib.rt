@@ -20,6 +20,7 @@ mod readable;
 mod recursion;
 mod resolving;
 mod roots;
+mod rows;
 mod sides;
 mod striking;
 mod support;

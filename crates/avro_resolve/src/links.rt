@@ -1,9 +1,10 @@
 //! Which arrays, maps and records refer to a place, and by what: a pair of two such asks for a pair
 //! of places only where they refer to these by one label.
 
-ghost use Rattle.std.specs.Prelude.{◌≡◌, ◌<◌, ℕ, All, IfOk, IfSome, None, OnOk, Some, length, map, slice_get};
+ghost use Rattle.std.specs.Prelude.{◌≡◌, ◌<◌, ℕ, All, IfOk, IfSome, OnOk, Some, length, map, slice_get};
 ghost use Rattle.avro_nodes.specs.Nodes.{NodeView, field_view, node_view};
-ghost use Rattle.avro_resolve.specs.Inside.Askers.{alias_labels, contained_of, own_label, AreFieldsLinked, AreSorted, HasLabel, HasLinks, IsAlias, IsFieldLinked, IsPlaceLinked, LinkedBy, Notes, SameLists};
+ghost use Rattle.avro_resolve.specs.declared.links.Way.TheVariants.{ByAlias, ByName, OfContents};
+ghost use Rattle.avro_resolve.specs.Inside.Askers.{alias_labels, contained_of, own_label, AreFieldsLinked, AreSorted, GivenBy, HasLabel, HasLinks, IsAlias, IsFieldLinked, IsOfField, IsOfNode, IsPlaceLinked, LinkedBy, Notes, SameLists};
 ghost use Rattle.avro_resolve.specs.Inside.Meeting.{met_at};
 ghost use Rattle.avro_resolve.specs.Inside.Sides.{names_of, nodes_of, IsSide};
 
@@ -15,6 +16,17 @@ use avro_nodes::Node;
 use avro_schema::FieldRanks;
 use std::alloc::{AllocError, Global};
 
+/// In which way a place refers to another.
+#[derive(Clone, Copy, Debug, PartialEq, Eq)]
+pub enum Way {
+    /// an array or a map, to what it contains
+    OfContents,
+    /// a record, by the name of a field that has the other's type
+    ByName,
+    /// a reader's record, by an alias of such a field, which has this number
+    ByAlias(usize),
+}
+
 /// How a place refers to another.
 #[derive(Clone, Copy, Debug, PartialEq, Eq)]
 pub struct Link {
@@ -22,8 +34,7 @@ pub struct Link {
     pub label: u32,
     /// the place that refers
     pub asker: u32,
-    /// the number of the reader's field that has the name as an alias
-    pub alias: Option<usize>,
+    pub way: Way,
 }
 
 /// The links to each place, and the fields whose aliases they are of, by their numbers.
@@ -64,15 +75,15 @@ impl<'a> Labels<'a> {
     }
 }
 
-/// The label of an array's items and of a map's values. A name may have this one too, since what
-/// is looked at for nothing does no harm.
+/// The label of an array's items and of a map's values. A name may have this one too, since the
+/// ways tell the two apart.
 const CONTAINED: u32 = 0;
 
 /// Notes a link to a place.
 fn note_link(links: &mut Links, place: u32, link: Link) -> Result<(), AllocError>
     requires { place < length links.old.lists.items }
-    ensures notes { OnOk result (Notes link.asker links.old links.new) }
-    ensures there { OnOk result (LinkedBy (HasLabel link.label link.alias) links.new.lists.items link.asker place) }
+    ensures notes { OnOk result (Notes (λ x p. (x ≡ link) × (p ≡ place)) links.old links.new) }
+    ensures there { OnOk result (LinkedBy (HasLabel link.label link.way) links.new.lists.items link.asker place) }
 {
     note(&mut links.lists, place, link)?;
     Ok(())
@@ -81,9 +92,10 @@ fn note_link(links: &mut Links, place: u32, link: Link) -> Result<(), AllocError
 /// Notes that a place refers to another by a field's own name, if that has a label.
 fn note_own(links: &mut Links, label: Option<u32>, place: u32, asker: u32) -> Result<(), AllocError>
     requires { place < length links.old.lists.items }
-    ensures notes { OnOk result (Notes asker links.old links.new) }
+    ensures notes { OnOk result (Notes (λ x p. (label ≡ Some x.label) × (x.way ≡ ByName) × (x.asker ≡ asker) × (p ≡ place))
+        links.old links.new) }
     ensures there { OnOk result ((own : ℕ) → label ≡ Some own
-        → LinkedBy (HasLabel own None) links.new.lists.items asker place) }
+        → LinkedBy (HasLabel own ByName) links.new.lists.items asker place) }
 {
     let Some(label) = label else {
         return Ok(());
@@ -91,7 +103,7 @@ fn note_own(links: &mut Links, label: Option<u32>, place: u32, asker: u32) -> Re
     let link = Link {
         label,
         asker,
-        alias: None,
+        way: Way::ByName,
     };
     note_link(links, place, link)?;
     Ok(())
@@ -106,15 +118,15 @@ fn note_numbered(
     number: usize,
 ) -> Result<(), AllocError>
     requires { place < length links.old.lists.items }
-    ensures notes { OnOk result (Notes asker links.old links.new) }
-    ensures there { OnOk result (All (λ label. LinkedBy (HasLabel label (Some number)) links.new.lists.items asker place)
+    ensures notes { OnOk result (Notes (λ x p. (x.way ≡ ByAlias number) × (x.asker ≡ asker) × (p ≡ place)) links.old links.new) }
+    ensures there { OnOk result (All (λ label. LinkedBy (HasLabel label (ByAlias number)) links.new.lists.items asker place)
         aliases.now) }
 {
     for alias in aliases {
         let link = Link {
             label: *alias,
             asker,
-            alias: Some(number),
+            way: Way::ByAlias(number),
         };
         note_link(links, place, link)?;
     }
@@ -130,7 +142,8 @@ fn note_aliases(
     index: usize,
 ) -> Result<(), AllocError>
     requires { place < length links.old.lists.items }
-    ensures notes { OnOk result (Notes asker links.old links.new) }
+    ensures notes { OnOk result (Notes (λ x p. IsAlias links.new.aliased.items asker index x.label x × (x.asker ≡ asker) × (p ≡ place))
+        links.old links.new) }
     ensures there { OnOk result (All (λ label. LinkedBy (IsAlias links.new.aliased.items asker index label)
         links.new.lists.items asker place) aliases.now) }
 {
@@ -157,7 +170,8 @@ fn note_field(
     index: usize,
 ) -> Result<(), AllocError>
     requires { place < length links.old.lists.items }
-    ensures notes { OnOk result (Notes asker links.old links.new) }
+    ensures notes { OnOk result (Notes (λ x p. (x.asker ≡ asker) × (p ≡ place)
+        × GivenBy labels.now.met.now.ranks.items labels.now.aliased links.new.aliased.items index ranks.now x x.way) links.old links.new) }
     ensures there { OnOk result (IsFieldLinked labels.now.met.now.ranks.items labels.now.aliased links.new asker index place ranks.now) }
 {
     note_own(links, labels.own(ranks.name), place, asker)?;
@@ -175,7 +189,9 @@ fn note_fields(
 ) -> Result<(), AllocError>
     requires long { length fields.ranks.now ≡ length fields.fields.now }
     requires within { All (λ f. f.place < length links.old.lists.items) fields.fields.now }
-    ensures notes { OnOk result (Notes asker links.old links.new) }
+    ensures notes { OnOk result (Notes (λ x p. (x.asker ≡ asker)
+        × IsOfField labels.now.met.now.ranks.items labels.now.aliased links.new.aliased.items
+        (map field_view fields.entry.fields.now) fields.entry.ranks.now x p) links.old links.new) }
     ensures there { OnOk result (AreFieldsLinked labels.now.met.now.ranks.items labels.now.aliased links.new asker
         (map field_view fields.entry.fields.now) fields.entry.ranks.now) }
 {
@@ -204,13 +220,19 @@ fn contained(node: &Node) -> Option<u32>
 /// Notes that a place refers to its items or values.
 fn note_contained(links: &mut Links, place: Option<u32>, asker: u32) -> Result<(), AllocError>
     requires { IfSome place (λ p. p < length links.old.lists.items) }
-    ensures notes { OnOk result (Notes asker links.old links.new) }
-    ensures there { OnOk result ((p : ℕ) → place ≡ Some p → LinkedBy (HasLabel 0 None) links.new.lists.items asker p) }
+    ensures notes { OnOk result (Notes (λ x p. (x.asker ≡ asker) × (x.way ≡ OfContents) × (place ≡ Some p)) links.old links.new) }
+    ensures there { OnOk result ((p : ℕ) → place ≡ Some p
+        → LinkedBy (HasLabel 0 OfContents) links.new.lists.items asker p) }
 {
     let Some(place) = place else {
         return Ok(());
     };
-    note_own(links, Some(CONTAINED), place, asker)?;
+    let link = Link {
+        label: CONTAINED,
+        asker,
+        way: Way::OfContents,
+    };
+    note_link(links, place, link)?;
     Ok(())
 }
 
@@ -219,7 +241,9 @@ fn note_node(links: &mut Links, labels: &Labels, side: &Side, asker: u32) -> Res
     requires side { IsSide side.now }
     requires asker_in { asker < length side.now.schema.now }
     requires long { length links.old.lists.items ≡ length side.now.schema.now }
-    ensures notes { OnOk result (Notes asker links.old links.new) }
+    ensures notes { OnOk result (Notes (λ x p. (x.asker ≡ asker) × ((a : NodeView)
+        → slice_get (nodes_of side.now) asker ≡ Some a
+        → IsOfNode (names_of side.now) labels.now.met.now.ranks.items labels.now.aliased links.new.aliased.items a x p)) links.old links.new) }
     ensures there { OnOk result ((a : NodeView) → slice_get (nodes_of side.now) asker ≡ Some a
         → IsPlaceLinked (names_of side.now) labels.now.met.now.ranks.items labels.now.aliased links.new asker a) }
 {

@@ -20,7 +20,7 @@ pub fn empty_lists<T: Drop>(alloc: Global, count: u32) -> Result<Vec<Vec<T>>, Al
 /// Adds one to the list of a place.
 pub fn note<T: Drop>(lists: &mut Vec<Vec<T>>, place: u32, item: T) -> Result<(), AllocError>
     requires { place < length lists.old.items }
-    ensures adds { OnOk result (Adds (λ x. x ≡ item) lists.old.items lists.new.items) }
+    ensures adds { OnOk result (Adds (λ x p. (x ≡ item) × (p ≡ place)) lists.old.items lists.new.items) }
     ensures there { OnOk result (StandsAt lists.new.items item place) }
 {
     lists[place as usize].push(item)?;

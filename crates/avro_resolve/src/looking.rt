@@ -1,13 +1,16 @@
-//! Looks at pairs of places: one that the rest doesn't support is struck out and listed.
+//! Strikes out pairs of places that the rest doesn't support, and lists them; unions are looked at
+//! branch by branch.
 
-ghost use Rattle.std.specs.Prelude.{ℕ, ◌<◌, length, OnOk, All, [], ◌∷◌, ◌++◌};
+ghost use Rattle.std.specs.Prelude.{◌≡◌, ℕ, ◌<◌, false, length, List, OnOk, All, Some, [], ◌∷◌, ◌++◌, slice_get};
+ghost use Rattle.avro_nodes.specs.Nodes.{union};
+ghost use Rattle.avro_resolve.specs.Resolution.{Supports};
 ghost use Rattle.avro_resolve.specs.Inside.Sides.{columns, rows, IsSides};
-ghost use Rattle.avro_resolve.specs.Inside.Left.{IsRest, Lists, Settled, AllSettled};
+ghost use Rattle.avro_resolve.specs.Inside.Left.{left, IsRest, Lists, Rests, Settled, AllSettled};
 
-use crate::desk::Desk;
 use crate::sides::Sides;
-use crate::support::{pair_asks, supports};
+use crate::support::any_left;
 use crate::table::Table;
+use avro_nodes::Node;
 use std::alloc::AllocError;
 
 /// How far the striking out has come.
@@ -17,16 +20,20 @@ pub struct Progress {
     pub table: Table,
     /// the pairs that were struck out and aren't yet told to those that ask for them
     pub struck: Vec<(u16, u16)>,
-    /// where fields are laid
-    pub desk: Desk,
 }
 
-/// Strikes the pair out and lists it, if the rest doesn't support it.
-fn look(sides: &Sides, i: u32, j: u32, progress: &mut Progress) -> Result<(), AllocError>
+/// Strikes the pair out and lists it, if it is left. What is left doesn't support it.
+pub fn strike_unsupported(
+    sides: &Sides,
+    i: u32,
+    j: u32,
+    progress: &mut Progress,
+) -> Result<(), AllocError>
     requires sides { IsSides sides.now }
     requires rest { IsRest (rows sides.now) (columns sides.now) progress.old.table }
     requires i_in { i < length sides.now.writer.schema.now }
     requires j_in { j < length sides.now.reader.schema.now }
+    requires unsupported { Supports (rows sides.now) (columns sides.now) (left progress.old.table) i j → ⊥ }
     ensures rest { OnOk result (IsRest (rows sides.now) (columns sides.now) progress.new.table) }
     ensures lists { OnOk result (Lists progress.old.table progress.old.struck.items progress.new.table progress.new.struck.items) }
     ensures settled { OnOk result (Settled (rows sides.now) (columns sides.now) progress.new.table
@@ -35,120 +42,93 @@ fn look(sides: &Sides, i: u32, j: u32, progress: &mut Progress) -> Result<(), Al
     if !progress.table.has(i, j) {
         return Ok(());
     }
-    let supported = supports(sides, i, j, &progress.table, &mut progress.desk)?;
-    if supported {
-        return Ok(());
-    }
     progress.table.strike(i, j);
     progress.struck.push((i as u16, j as u16))?;
     Ok(())
 }
 
-/// Looks again at a pair, if it may ask for the pair that is told.
-pub fn look_again(
+/// Strikes out the pairs of these places of the writer with the reader's place of a pair that is told,
+/// on which they rest.
+pub fn strike_down(
     sides: &Sides,
-    at: (u32, u32),
+    above: &[u32],
     told: (u32, u32),
     progress: &mut Progress,
 ) -> Result<(), AllocError>
     requires sides { IsSides sides.now }
     requires rest { IsRest (rows sides.now) (columns sides.now) progress.old.table }
-    requires before { AllSettled (rows sides.now) (columns sides.now) progress.old.table
-        (progress.old.struck.items ++ told ∷ []) }
-    requires i_in { at.0 < length sides.now.writer.schema.now }
-    requires j_in { at.1 < length sides.now.reader.schema.now }
+    requires out { left progress.old.table told.0 told.1 ≡ false }
+    requires rests { All (λ i. Rests (rows sides.now) (columns sides.now) i told.1 told.0 told.1) above.now }
+    requires above_in { All (λ i. i < length sides.now.writer.schema.now) above.now }
+    requires j_in { told.1 < length sides.now.reader.schema.now }
+    ensures rest { OnOk result (IsRest (rows sides.now) (columns sides.now) progress.new.table) }
+    ensures lists { OnOk result (Lists progress.old.table progress.old.struck.items progress.new.table progress.new.struck.items) }
+    ensures settled { OnOk result (All (λ i. Settled (rows sides.now) (columns sides.now)
+        progress.new.table progress.new.struck.items i told.1) above.now) }
+{
+    for i in above {
+        strike_unsupported(sides, *i, told.1, progress)?;
+    }
+    Ok(())
+}
+
+/// Strikes out the pair of a writer's place, which has no union, with a union of the reader's, if none
+/// is left of the pairs with its branches.
+fn look_at_branches(
+    sides: &Sides,
+    i: u32,
+    j: u32,
+    progress: &mut Progress,
+) -> Result<(), AllocError>
+    requires sides { IsSides sides.now }
+    requires rest { IsRest (rows sides.now) (columns sides.now) progress.old.table }
+    requires i_in { i < length sides.now.writer.schema.now }
+    requires j_in { j < length sides.now.reader.schema.now }
+    requires apart { (places : List ℕ) → slice_get (rows sides.now) i ≡ Some (union places) → ⊥ }
+    requires is_union { (places : List ℕ) × (slice_get (columns sides.now) j ≡ Some (union places)) }
     ensures rest { OnOk result (IsRest (rows sides.now) (columns sides.now) progress.new.table) }
     ensures lists { OnOk result (Lists progress.old.table progress.old.struck.items progress.new.table progress.new.struck.items) }
     ensures settled { OnOk result (Settled (rows sides.now) (columns sides.now) progress.new.table
-        progress.new.struck.items at.0 at.1) }
+        progress.new.struck.items i j) }
 {
-    if !progress.table.has(at.0, at.1) {
+    if !progress.table.has(i, j) {
         return Ok(());
     }
-    if !pair_asks(sides, at, told) {
+    let Node::Union { branches } = sides.reader.node(j) else {
+        return Ok(());
+    };
+    if any_left(i, j, branches, &progress.table) {
         return Ok(());
     }
-    look(sides, at.0, at.1, progress)
+    strike_unsupported(sides, i, j, progress)
 }
 
-/// Looks again at those pairs of a writer's place with these of the reader that may ask for the
-/// pair that is told.
+/// Looks again at the pairs of the writer's place of a pair that is told with these unions of the
+/// reader's.
 pub fn look_along(
     sides: &Sides,
-    i: u32,
     beside: &[u32],
     told: (u32, u32),
     progress: &mut Progress,
 ) -> Result<(), AllocError>
     requires sides { IsSides sides.now }
     requires rest { IsRest (rows sides.now) (columns sides.now) progress.old.table }
+    requires out { left progress.old.table told.0 told.1 ≡ false }
     requires before { AllSettled (rows sides.now) (columns sides.now) progress.old.table
         (progress.old.struck.items ++ told ∷ []) }
-    requires i_in { i < length sides.now.writer.schema.now }
+    requires i_in { told.0 < length sides.now.writer.schema.now }
     requires beside_in { All (λ j. j < length sides.now.reader.schema.now) beside.now }
+    requires are_unions { All (λ j. (places : List ℕ) × (slice_get (columns sides.now) j ≡ Some (union places))) beside.now }
     ensures rest { OnOk result (IsRest (rows sides.now) (columns sides.now) progress.new.table) }
     ensures lists { OnOk result (Lists progress.old.table progress.old.struck.items progress.new.table progress.new.struck.items) }
     ensures settled { OnOk result (All (Settled (rows sides.now) (columns sides.now) progress.new.table
-        progress.new.struck.items i) beside.now) }
+        progress.new.struck.items told.0) beside.now) }
 {
+    if let Node::Union { .. } = sides.writer.node(told.0) {
+        return Ok(());
+    }
     for j in beside {
-        look_again(sides, (i, *j), told, progress)?;
-    }
-    Ok(())
-}
-
-/// Looks again at those pairs of these places of the writer with one of the reader that may ask for
-/// the pair that is told.
-pub fn look_down(
-    sides: &Sides,
-    above: &[u32],
-    j: u32,
-    told: (u32, u32),
-    progress: &mut Progress,
-) -> Result<(), AllocError>
-    requires sides { IsSides sides.now }
-    requires rest { IsRest (rows sides.now) (columns sides.now) progress.old.table }
-    requires before { AllSettled (rows sides.now) (columns sides.now) progress.old.table
-        (progress.old.struck.items ++ told ∷ []) }
-    requires above_in { All (λ i. i < length sides.now.writer.schema.now) above.now }
-    requires j_in { j < length sides.now.reader.schema.now }
-    ensures rest { OnOk result (IsRest (rows sides.now) (columns sides.now) progress.new.table) }
-    ensures lists { OnOk result (Lists progress.old.table progress.old.struck.items progress.new.table progress.new.struck.items) }
-    ensures settled { OnOk result (All (λ i. Settled (rows sides.now) (columns sides.now)
-        progress.new.table progress.new.struck.items i j) above.now) }
-{
-    for i in above {
-        look_again(sides, (*i, j), told, progress)?;
-    }
-    Ok(())
-}
-
-/// Looks at all pairs of a writer's place.
-fn look_row(sides: &Sides, i: u32, progress: &mut Progress) -> Result<(), AllocError>
-    requires sides { IsSides sides.now }
-    requires rest { IsRest (rows sides.now) (columns sides.now) progress.old.table }
-    requires i_in { i < length sides.now.writer.schema.now }
-    ensures rest { OnOk result (IsRest (rows sides.now) (columns sides.now) progress.new.table) }
-    ensures lists { OnOk result (Lists progress.old.table progress.old.struck.items progress.new.table progress.new.struck.items) }
-    ensures settled { OnOk result ((j : ℕ) → j < length sides.now.reader.schema.now
-        → Settled (rows sides.now) (columns sides.now) progress.new.table progress.new.struck.items i j) }
-{
-    for j in (0..sides.reader.places()).rev() {
-        look(sides, i, j, progress)?;
-    }
-    Ok(())
-}
-
-/// Looks at all pairs.
-pub fn look_everywhere(sides: &Sides, progress: &mut Progress) -> Result<(), AllocError>
-    requires sides { IsSides sides.now }
-    requires rest { IsRest (rows sides.now) (columns sides.now) progress.old.table }
-    ensures rest { OnOk result (IsRest (rows sides.now) (columns sides.now) progress.new.table) }
-    ensures settled { OnOk result (AllSettled (rows sides.now) (columns sides.now) progress.new.table
-        progress.new.struck.items) }
-{
-    for i in (0..sides.writer.places()).rev() {
-        look_row(sides, i, progress)?;
+        look_at_branches(sides, told.0, *j, progress)?;
     }
     Ok(())
 }

@@ -1,22 +1,20 @@
 //! Striking out the pairs that the rest doesn't support, until none is left to strike.
 
-ghost use Rattle.std.specs.Prelude.{◌≡◌, ◌<◌, ◌≤◌, ◌++◌, ◌∷◌, [], IfOk, OnOk, length, take};
+ghost use Rattle.std.specs.Prelude.{◌≡◌, ◌<◌, ◌≤◌, ◌++◌, ◌∷◌, [], false, IfOk, OnOk, length};
 ghost use Rattle.avro_nodes.specs.Nodes.{nodes_view};
 ghost use Rattle.avro_schema.specs.Texts.{IsSchema};
 ghost use Rattle.avro_resolve.specs.Resolution.{Closed};
 ghost use Rattle.avro_resolve.specs.Inside.Sides.{columns, rows, IsSides};
-ghost use Rattle.avro_resolve.specs.Inside.Sources.{AreSources};
-ghost use Rattle.avro_resolve.specs.Inside.Left.{left, IsLeft, IsRest, Lists, AllSettled};
+ghost use Rattle.avro_resolve.specs.Inside.Left.{left, AreOut, IsLeft, IsRest, Lists, AllSettled};
 ghost use Rattle.avro_resolve.specs.Inside.Askers.{AreAskers};
 
-use crate::aliased::Aliased;
 use crate::askers::Askers;
-use crate::desk::Desk;
-use crate::joining::look_joined;
+use crate::joining::strike_joined;
 use crate::links::Labels;
 use crate::lists::list_of;
-use crate::looking::{Progress, look_along, look_down, look_everywhere};
+use crate::looking::{Progress, look_along, strike_down};
 use crate::met::Met;
+use crate::rows::look_everywhere;
 use crate::sides::{Side, Sides};
 use crate::sweeping::sweep;
 use crate::table::Table;
@@ -33,9 +31,9 @@ struct Asking {
     sources: Vec<Vec<u16>>,
 }
 
-/// Looks again at the pairs that ask for the pair that is told: writers' unions with its reader's
-/// place, its writer's place with readers' unions, and what refers to its two places by one label.
-/// What is no pair of places isn't asked for.
+/// Tells a pair that was struck out to the pairs that ask for it: writers' unions with its reader's
+/// place, and what refers to its two places by one label, are struck out; its writer's place with
+/// readers' unions is looked at again. What is no pair of places isn't asked for.
 fn tell(
     sides: &Sides,
     asking: &Asking,
@@ -45,6 +43,7 @@ fn tell(
     requires sides { IsSides sides.now }
     requires askers { AreAskers sides.now asking.now.rows asking.now.columns asking.now.sources.items }
     requires rest { IsRest (rows sides.now) (columns sides.now) progress.old.table }
+    requires out { left progress.old.table told.0 told.1 ≡ false }
     requires before { AllSettled (rows sides.now) (columns sides.now) progress.old.table
         (progress.old.struck.items ++ told ∷ []) }
     ensures rest { OnOk result (IsRest (rows sides.now) (columns sides.now) progress.new.table) }
@@ -57,20 +56,21 @@ fn tell(
         return Ok(());
     }
     let unions = list_of(&asking.rows.unions, i as usize);
-    look_down(sides, unions, j, told, progress)?;
+    strike_down(sides, unions, told, progress)?;
     let readers_unions = list_of(&asking.columns.unions, j as usize);
-    look_along(sides, i, readers_unions, told, progress)?;
+    look_along(sides, readers_unions, told, progress)?;
     let links = list_of(&asking.rows.links.lists, i as usize);
     let readers_links = list_of(&asking.columns.links.lists, j as usize);
-    look_joined(sides, &asking.sources, links, readers_links, told, progress)?;
+    strike_joined(sides, &asking.sources, links, readers_links, told, progress)?;
     Ok(())
 }
 
-/// Looks again at the pairs that ask for a listed one, until none is listed.
+/// Tells the listed pairs to those that ask for them, until none is listed.
 fn tell_listed(sides: &Sides, asking: &Asking, progress: &mut Progress) -> Result<(), AllocError>
     requires sides { IsSides sides.now }
     requires askers { AreAskers sides.now asking.now.rows asking.now.columns asking.now.sources.items }
     requires rest { IsRest (rows sides.now) (columns sides.now) progress.old.table }
+    requires out { AreOut progress.old.table progress.old.struck.items }
     requires settled { AllSettled (rows sides.now) (columns sides.now) progress.old.table progress.old.struck.items }
     ensures rest { OnOk result (IsRest (rows sides.now) (columns sides.now) progress.new.table) }
     ensures closed { OnOk result (AllSettled (rows sides.now) (columns sides.now) progress.new.table []) }
@@ -82,49 +82,9 @@ fn tell_listed(sides: &Sides, asking: &Asking, progress: &mut Progress) -> Resul
     Ok(())
 }
 
-/// The sources of these fields of the reader's, by the writer's places.
-fn sources_of(
-    alloc: Global,
-    sides: &Sides,
-    aliased: &[Aliased],
-    desk: &mut Desk,
-) -> Result<Vec<Vec<u16>>, AllocError>
-    requires { IsSides sides.now }
-    ensures { IfOk result (λ v. AreSources (rows sides.now) (columns sides.now) aliased.now v.items) }
-{
-    let mut sources = Vec::with_capacity(alloc, sides.writer.places() as usize)?;
-    for i in 0..sides.writer.places() {
-        sources.push(desk.row(alloc, sides, sides.writer.fields(i), aliased)?)?;
-    }
-    Ok(sources)
-}
-
-/// What asks for the places of both sides.
-fn asking_of(alloc: Global, sides: &Sides, desk: &mut Desk) -> Result<Asking, AllocError>
-    requires { IsSides sides.now }
-    ensures { IfOk result (λ v. AreAskers sides.now v.rows v.columns v.sources.items) }
-{
-    let met = &sides.met;
-    let rows = Askers::of(
-        alloc,
-        &sides.writer,
-        &Labels {
-            met,
-            aliased: false,
-        },
-    )?;
-    let columns = Askers::of(alloc, &sides.reader, &Labels { met, aliased: true })?;
-    let sources = sources_of(alloc, sides, &columns.links.aliased, desk)?;
-    Ok(Asking {
-        rows,
-        columns,
-        sources,
-    })
-}
-
 /// Strikes out what the rest doesn't support, until each pair that is left is supported: after the
-/// pairs whose nodes don't agree, a pair is looked at once, and again only where one was struck out
-/// that it may ask for.
+/// pairs whose nodes don't agree, each pair is looked at once, and then each one that was struck out is
+/// told to those that ask for it.
 fn strike_out(alloc: Global, sides: &Sides, progress: &mut Progress) -> Result<(), AllocError>
     requires sides { IsSides sides.now }
     requires rest { IsLeft (rows sides.now) (columns sides.now) progress.old.table }
@@ -133,8 +93,20 @@ fn strike_out(alloc: Global, sides: &Sides, progress: &mut Progress) -> Result<(
     ensures closed { OnOk result (Closed (rows sides.now) (columns sides.now) (left progress.new.table)) }
 {
     sweep(alloc, sides, &mut progress.table)?;
-    let asking = asking_of(alloc, sides, &mut progress.desk)?;
-    look_everywhere(sides, progress)?;
+    let met = &sides.met;
+    let own = Labels {
+        met,
+        aliased: false,
+    };
+    let all = Labels { met, aliased: true };
+    let rows = Askers::of(alloc, &sides.writer, &own)?;
+    let columns = Askers::of(alloc, &sides.reader, &all)?;
+    let sources = look_everywhere(alloc, sides, &columns.links.aliased, progress)?;
+    let asking = Asking {
+        rows,
+        columns,
+        sources,
+    };
     tell_listed(sides, &asking, progress)?;
     Ok(())
 }
@@ -169,7 +141,6 @@ pub fn largest_closed(alloc: Global, writer: &Schema, reader: &Schema) -> Result
     let mut progress = Progress {
         table,
         struck: Vec::new(alloc),
-        desk: Desk::none(alloc),
     };
     strike_out(alloc, &sides, &mut progress)?;
     let Progress { table, .. } = progress;

@@ -1,18 +1,18 @@
 //! Whether the pairs that are left support a pair.
 
-ghost use Rattle.std.specs.Prelude.{◌≡◌, ◌≤◌, IfOk, IfSome, None, Some, slice_get, get_or, ◌<◌, ◌↔◌, ℕ, false, length, All, Any, IsTrue};
+ghost use Rattle.std.specs.Prelude.{◌≡◌, ◌≤◌, IfSome, None, Some, slice_get, get_or, ◌<◌, ◌↔◌, ℕ, false, length, All, Any, IsTrue};
 ghost use Rattle.avro_nodes.specs.Nodes.{node_view};
-ghost use Rattle.avro_resolve.specs.Resolution.{Pairs, Fits, Supports};
+ghost use Rattle.avro_resolve.specs.Resolution.{Fits, Supports};
 ghost use Rattle.avro_resolve.specs.Inside.Agreeing.{Agree};
 ghost use Rattle.avro_resolve.specs.Inside.Places.{Names};
+ghost use Rattle.avro_resolve.specs.Inside.Rows.{IsRow};
 ghost use Rattle.avro_resolve.specs.Inside.Sides.{columns, rows, IsSides};
-ghost use Rattle.avro_resolve.specs.Inside.Left.{left, Agreed, WithinBut, Ignores};
+ghost use Rattle.avro_resolve.specs.Inside.Left.{left, Agreed};
 
-use crate::desk::Desk;
+use crate::readable::{Row, all_readable};
 use crate::sides::Sides;
 use crate::table::Table;
 use avro_nodes::Node;
-use std::alloc::AllocError;
 
 /// Whether each branch of a writer's union is left with the reader's place.
 fn all_left(places: &[u32], j: u32, table: &Table) -> bool
@@ -42,7 +42,7 @@ fn next_left(i: u32, places: &[u32], from: usize, table: &Table) -> Option<usize
 
 /// Whether the writer's place is left with some branch of the reader's union at j. It looks first
 /// where one was left last: as none comes back, each branch is passed once, and all once more.
-fn any_left(i: u32, j: u32, places: &[u32], table: &Table) -> bool
+pub fn any_left(i: u32, j: u32, places: &[u32], table: &Table) -> bool
     requires within { All (λ p. p < table.now.readers) places.now }
     requires i_in { i < table.now.writers }
     requires j_in { j < table.now.readers }
@@ -58,87 +58,40 @@ fn any_left(i: u32, j: u32, places: &[u32], table: &Table) -> bool
 
 /// Whether what is left has the pairs that the pair of the nodes at these places asks for, by the
 /// first case that fits (Avro 1.11 specification, Schema Resolution).
-fn asked_left(
-    sides: &Sides,
-    a: &Node,
-    b: &Node,
-    at: (u32, u32),
-    table: &Table,
-    desk: &mut Desk,
-) -> Result<bool, AllocError>
+fn asked_left(sides: &Sides, a: &Node, b: &Node, row: &Row, j: u32, table: &Table) -> bool
     requires sides { IsSides sides.now }
-    requires a_at { slice_get (rows sides.now) at.0 ≡ Some (node_view a.now) }
-    requires b_at { slice_get (columns sides.now) at.1 ≡ Some (node_view b.now) }
+    requires row { IsRow sides.now row.now }
+    requires a_at { slice_get (rows sides.now) row.now.place ≡ Some (node_view a.now) }
+    requires b_at { slice_get (columns sides.now) j ≡ Some (node_view b.now) }
     requires writers { table.now.writers ≡ length sides.now.writer.schema.now }
     requires readers { table.now.readers ≡ length sides.now.reader.schema.now }
-    requires i_in { at.0 < table.now.writers }
-    requires j_in { at.1 < table.now.readers }
+    requires j_in { j < table.now.readers }
     requires a_in { Names table.now.writers (node_view a.now) }
     requires b_in { Names table.now.readers (node_view b.now) }
     requires agree { Agree (node_view a.now) (node_view b.now) }
-    ensures { IfOk result (λ yes. IsTrue yes ↔ Fits (left table.now) at.0 at.1 (node_view a.now) (node_view b.now)) }
-{
-    let (i, j) = at;
-    match (a, b) {
-        (Node::Union { branches }, _) => Ok(all_left(branches, j, table)),
-        (_, Node::Union { branches }) => Ok(any_left(i, j, branches, table)),
-        (Node::Array { items: p, .. }, Node::Array { items: q, .. }) => Ok(table.has(*p, *q)),
-        (Node::Map { values: p, .. }, Node::Map { values: q, .. }) => Ok(table.has(*p, *q)),
-        (Node::Rec { .. }, Node::Rec { .. }) => {
-            let fields = sides.writer.fields(i);
-            let wanted = sides.reader.fields(j);
-            let readable = desk.all_readable(sides, fields, wanted, table)?;
-            Ok(readable)
-        }
-        _ => Ok(true),
-    }
-}
-
-/// Whether what is left supports the pair of these places, whose nodes agree.
-///
-/// # Errors
-///
-/// `AllocError` where memory for the desk is refused.
-pub fn supports(
-    sides: &Sides,
-    i: u32,
-    j: u32,
-    table: &Table,
-    desk: &mut Desk,
-) -> Result<bool, AllocError>
-    requires sides { IsSides sides.now }
-    requires writers { table.now.writers ≡ length sides.now.writer.schema.now }
-    requires readers { table.now.readers ≡ length sides.now.reader.schema.now }
-    requires i_in { i < table.now.writers }
-    requires j_in { j < table.now.readers }
-    requires agreed { Agreed (rows sides.now) (columns sides.now) i j }
-    ensures { IfOk result (λ yes. IsTrue yes ↔ Supports (rows sides.now) (columns sides.now) (left table.now) i j) }
-{
-    let (a, b) = (sides.writer.node(i), sides.reader.node(j));
-    let asked = asked_left(sides, a, b, (i, j), table, desk)?;
-    Ok(asked)
-}
-
-/// Whether the pair of these nodes, at the places `at`, may ask for the pair `told`: a union asks
-/// for pairs of its branches with the other's place, and other pairs aren't looked into.
-fn asks(a: &Node, b: &Node, at: (u32, u32), told: (u32, u32)) -> bool
-    ensures { result ≡ false → (R S : Pairs) → WithinBut told.0 told.1 R S
-        → Fits R at.0 at.1 (node_view a.now) (node_view b.now)
-        → Fits S at.0 at.1 (node_view a.now) (node_view b.now) }
+    ensures { IsTrue result ↔ Fits (left table.now) row.now.place j (node_view a.now) (node_view b.now) }
 {
     match (a, b) {
-        (Node::Union { .. }, _) => at.1 == told.1,
-        (_, Node::Union { .. }) => at.0 == told.0,
+        (Node::Union { branches }, _) => all_left(branches, j, table),
+        (_, Node::Union { branches }) => any_left(row.place, j, branches, table),
+        (Node::Array { items: p, .. }, Node::Array { items: q, .. }) => table.has(*p, *q),
+        (Node::Map { values: p, .. }, Node::Map { values: q, .. }) => table.has(*p, *q),
+        (Node::Rec { .. }, Node::Rec { .. }) => all_readable(sides, row, j, table),
         _ => true,
     }
 }
 
-/// Whether the pair `at` may ask for the pair `told`.
-pub fn pair_asks(sides: &Sides, at: (u32, u32), told: (u32, u32)) -> bool
-    requires i_in { at.0 < length sides.now.writer.schema.now }
-    requires j_in { at.1 < length sides.now.reader.schema.now }
-    ensures { result ≡ false → Ignores (rows sides.now) (columns sides.now) at.0 at.1 told.0 told.1 }
+/// Whether what is left supports the pair of the writer's place and this one of the reader, whose
+/// nodes agree.
+pub fn supports(sides: &Sides, row: &Row, j: u32, table: &Table) -> bool
+    requires sides { IsSides sides.now }
+    requires row { IsRow sides.now row.now }
+    requires writers { table.now.writers ≡ length sides.now.writer.schema.now }
+    requires readers { table.now.readers ≡ length sides.now.reader.schema.now }
+    requires j_in { j < table.now.readers }
+    requires agreed { Agreed (rows sides.now) (columns sides.now) row.now.place j }
+    ensures { IsTrue result ↔ Supports (rows sides.now) (columns sides.now) (left table.now) row.now.place j }
 {
-    let (a, b) = (sides.writer.node(at.0), sides.reader.node(at.1));
-    asks(a, b, at, told)
+    let (a, b) = (sides.writer.node(row.place), sides.reader.node(j));
+    asked_left(sides, a, b, row, j, table)
 }

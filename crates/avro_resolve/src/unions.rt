@@ -1,10 +1,10 @@
 //! Which unions have a place as a branch.
 
-ghost use Rattle.std.specs.Prelude.{◌≡◌, ◌<◌, All, IfOk, OnOk, length};
+ghost use Rattle.std.specs.Prelude.{◌≡◌, ◌<◌, All, Contains, IfOk, OnOk, length};
 ghost use Rattle.avro_nodes.specs.Nodes.{node_view, nodes_view};
 ghost use Rattle.avro_resolve.specs.Inside.Lists.{Adds, StandsAt};
 ghost use Rattle.avro_resolve.specs.Inside.Places.{IsWhole, Names};
-ghost use Rattle.avro_resolve.specs.Inside.Askers.{HasUnions, IsUnionListed};
+ghost use Rattle.avro_resolve.specs.Inside.Askers.{HasBranch, HasUnions, IsUnionListed};
 
 use crate::lists::{empty_lists, note};
 use avro_nodes::Node;
@@ -14,7 +14,7 @@ use std::alloc::{AllocError, Global};
 /// Notes that a union has each of these places as a branch.
 fn note_branches(lists: &mut Vec<Vec<u32>>, branches: &[u32], union: u32) -> Result<(), AllocError>
     requires { All (λ p. p < length lists.old.items) branches.now }
-    ensures adds { OnOk result (Adds (λ i. i ≡ union) lists.old.items lists.new.items) }
+    ensures adds { OnOk result (Adds (λ i p. (i ≡ union) × Contains branches.now p) lists.old.items lists.new.items) }
     ensures there { OnOk result (All (StandsAt lists.new.items union) branches.now) }
 {
     for branch in branches {
@@ -26,7 +26,7 @@ fn note_branches(lists: &mut Vec<Vec<u32>>, branches: &[u32], union: u32) -> Res
 /// Notes of which places a node is a union.
 fn note_node(lists: &mut Vec<Vec<u32>>, node: &Node, place: u32) -> Result<(), AllocError>
     requires { Names (length lists.old.items) (node_view node.now) }
-    ensures adds { OnOk result (Adds (λ i. i ≡ place) lists.old.items lists.new.items) }
+    ensures adds { OnOk result (Adds (λ i p. (i ≡ place) × HasBranch (node_view node.now) p) lists.old.items lists.new.items) }
     ensures there { OnOk result (IsUnionListed lists.new.items place (node_view node.now)) }
 {
     match node {

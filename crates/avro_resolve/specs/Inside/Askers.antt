@@ -1,5 +1,5 @@
 -- What asks for a place: unions for their branches, and what refers to it by a label.
-use Rattle.std.specs.Prelude.{◌≡◌, ℕ, ◌+◌, ◌<◌, List, [], Bool, true, false, All, Contains, MatchOption, Option, None, Some, length, slice_get, Vec}
+use Rattle.std.specs.Prelude.{◌≡◌, ◌⊎◌, ℕ, ◌+◌, ◌<◌, List, [], Bool, true, false, All, Contains, Option, None, Some, length, slice_get, Vec}
 use Rattle.std.specs.List.Sorted.{IsNonDecreasingBy}
 use Rattle.std.specs.declared.alloc.Global.{Global}
 use Rattle.avro_nodes.specs.Nodes.{FieldView, NodeView, primitive, array, mapping, union, enumeration, fixed, rec}
@@ -8,6 +8,8 @@ use Rattle.avro_schema.specs.Index.{AreFieldsRanked}
 use Rattle.avro_resolve.specs.declared.aliased.Aliased.{Aliased}
 use Rattle.avro_resolve.specs.declared.askers.Askers.{Askers}
 use Rattle.avro_resolve.specs.declared.links.Link.{Link}
+use Rattle.avro_resolve.specs.declared.links.Way.{Way}
+use Rattle.avro_resolve.specs.declared.links.Way.TheVariants.{OfContents, ByName, ByAlias}
 use Rattle.avro_resolve.specs.declared.links.Links.{Links}
 use Rattle.avro_resolve.specs.declared.sides.Sides.{Sides}
 use Rattle.avro_resolve.specs.Inside.Agreeing.{fields_of}
@@ -26,18 +28,29 @@ IsUnionListed lists i (enumeration named symbols fallback _) = Unit {0}
 IsUnionListed lists i (fixed named size _) = Unit {0}
 IsUnionListed lists i (rec named fields _) = Unit {0}
 
--- the lists have each union for each of its branches
+-- the node is a union that has the place as a branch
+abbrev pub HasBranch : NodeView → ℕ → Type 0
+HasBranch (union branches) place = Contains branches place
+HasBranch (primitive kind _) place = ⊥
+HasBranch (array items _) place = ⊥
+HasBranch (mapping values _) place = ⊥
+HasBranch (enumeration named symbols fallback _) place = ⊥
+HasBranch (fixed named size _) place = ⊥
+HasBranch (rec named fields _) place = ⊥
+
+-- the lists have each union for each of its branches, and nothing else
 pub record HasUnions (nodes : List NodeView) (lists : List (Vec ℕ Global)) : Type 0 where
   pub within : (i place : ℕ) → StandsAt lists i place → i < length nodes
   pub named : (i : ℕ) (a : NodeView) → slice_get nodes i ≡ Some a → IsUnionListed lists i a
+  pub meant : (i place : ℕ) → StandsAt lists i place → (a : NodeView) → slice_get nodes i ≡ Some a → HasBranch a place
 
--- the link has the label, and is of the alias of a field that has this number, or of no alias
-abbrev pub HasLabel : ℕ → Option ℕ → Link → Type 0
-HasLabel label alias x = (x.label ≡ label) × (x.alias ≡ alias)
+-- the link has the label, and refers in this way
+abbrev pub HasLabel : ℕ → Way → Link → Type 0
+HasLabel label way x = (x.label ≡ label) × (x.way ≡ way)
 
 -- the link has the label, and is of an alias of the record's field of this index
 abbrev pub IsAlias : List Aliased → ℕ → ℕ → ℕ → Link → Type 0
-IsAlias aliased asker index label x = (number : ℕ) × HasLabel label (Some number) x × (slice_get aliased number ≡ Some (record { place = asker; index = index }))
+IsAlias aliased asker index label x = (number : ℕ) × HasLabel label (ByAlias number) x × (slice_get aliased number ≡ Some (record { place = asker; index = index }))
 
 -- the asker refers to the place by such a link
 abbrev pub LinkedBy : (Link → Type 0) → List (Vec Link Global) → ℕ → ℕ → Type 0
@@ -55,7 +68,7 @@ alias_labels false ranks = []
 
 -- the asker refers to the type of its field by each label of the field
 pub record IsFieldLinked (met : List (Option ℕ)) (aliased : Bool) (links : Links) (asker index place : ℕ) (ranks : FieldRanks) : Type 0 where
-  pub own : (label : ℕ) → own_label met aliased ranks.name ≡ Some label → LinkedBy (HasLabel label None) links.lists.items asker place
+  pub own : (label : ℕ) → own_label met aliased ranks.name ≡ Some label → LinkedBy (HasLabel label ByName) links.lists.items asker place
   pub aliases : All (λ label. LinkedBy (IsAlias links.aliased.items asker index label) links.lists.items asker place) (alias_labels aliased ranks.aliases.items)
 
 -- the same for each of its fields
@@ -75,7 +88,7 @@ contained_of (rec named fields _) = None
 -- The asker refers to what its node is made of: to items and values by the label 0, to the types of fields by their names, of which these are the
 -- ranks.
 pub record IsNodeLinked (names : List (List ℕ)) (met : List (Option ℕ)) (aliased : Bool) (links : Links) (asker : ℕ) (a : NodeView) (ranks : List FieldRanks) : Type 0 where
-  pub contained : (place : ℕ) → contained_of a ≡ Some place → LinkedBy (HasLabel 0 None) links.lists.items asker place
+  pub contained : (place : ℕ) → contained_of a ≡ Some place → LinkedBy (HasLabel 0 OfContents) links.lists.items asker place
   pub ranked : AreFieldsRanked names (fields_of a) ranks
   pub fields : AreFieldsLinked met aliased links asker (fields_of a) ranks
 
@@ -83,9 +96,23 @@ pub record IsNodeLinked (names : List (List ℕ)) (met : List (Option ℕ)) (ali
 abbrev pub IsPlaceLinked : List (List ℕ) → List (Option ℕ) → Bool → Links → ℕ → NodeView → Type 0
 IsPlaceLinked names met aliased links asker a = (ranks : List FieldRanks) × IsNodeLinked names met aliased links asker a ranks
 
--- only links of the asker were added, and each field that has a number keeps it
-pub record Notes (asker : ℕ) (old new : Links) : Type 0 where
-  pub adds : Adds (λ x. x.asker ≡ asker) old.lists.items new.lists.items
+-- The field of this index gives its record such a link: by its own name, whose label this is, or by an alias, with the number of the field.
+abbrev pub GivenBy : List (Option ℕ) → Bool → List Aliased → ℕ → FieldRanks → Link → Way → Type 0
+GivenBy met aliased numbered index ranks x OfContents = ⊥
+GivenBy met aliased numbered index ranks x ByName = own_label met aliased ranks.name ≡ Some x.label
+GivenBy met aliased numbered index ranks x (ByAlias number) = slice_get numbered number ≡ Some (record { place = x.asker; index = index })
+
+-- one of these fields has the type at the place, and gives such a link
+abbrev pub IsOfField : List (Option ℕ) → Bool → List Aliased → List FieldView → List FieldRanks → Link → ℕ → Type 0
+IsOfField met aliased numbered fields ranks x place = (index : ℕ) × (f : FieldView) × (y : FieldRanks) × (slice_get fields index ≡ Some f) × (slice_get ranks index ≡ Some y) × (f.place ≡ place) × GivenBy met aliased numbered index y x x.way
+
+-- the node gives such a link to the place: it contains it, or a field of it does
+abbrev pub IsOfNode : List (List ℕ) → List (Option ℕ) → Bool → List Aliased → NodeView → Link → ℕ → Type 0
+IsOfNode names met aliased numbered a x place = ((x.way ≡ OfContents) × (contained_of a ≡ Some place)) ⊎ ((ranks : List FieldRanks) × AreFieldsRanked names (fields_of a) ranks × IsOfField met aliased numbered (fields_of a) ranks x place)
+
+-- only such links were added to the lists of such places, and each field that has a number keeps it
+pub record Notes (Such : Link → ℕ → Type 0) (old new : Links) : Type 0 where
+  pub adds : Adds Such old.lists.items new.lists.items
   pub kept : (number : ℕ) (field : Aliased) → slice_get old.aliased.items number ≡ Some field → slice_get new.aliased.items number ≡ Some field
 
 -- the labels of each list don't fall
@@ -97,11 +124,12 @@ pub record SameLists (old new : List (Vec Link Global)) : Type 0 where
   pub there : (x : Link) (place : ℕ) → StandsAt old x place → StandsAt new x place
   pub back : (x : Link) (place : ℕ) → StandsAt new x place → StandsAt old x place
 
--- the lists have each asker for each place that it refers to, by each label
+-- the lists have each asker for each place that it refers to, by each label, and nothing else
 pub record HasLinks (names : List (List ℕ)) (met : List (Option ℕ)) (aliased : Bool) (nodes : List NodeView) (links : Links) : Type 0 where
   pub within : (x : Link) (place : ℕ) → StandsAt links.lists.items x place → x.asker < length nodes
   pub sorted : AreSorted links.lists.items
   pub named : (i : ℕ) (a : NodeView) → slice_get nodes i ≡ Some a → IsPlaceLinked names met aliased links i a
+  pub meant : (x : Link) (place : ℕ) → StandsAt links.lists.items x place → (a : NodeView) → slice_get nodes x.asker ≡ Some a → IsOfNode names met aliased links.aliased.items a x place
 
 -- both for a side
 pub record HasAskers (names : List (List ℕ)) (met : List (Option ℕ)) (aliased : Bool) (nodes : List NodeView) (askers : Askers) : Type 0 where
@@ -114,9 +142,16 @@ pub record AreAskers (sides : Sides) (above beside : Askers) (table : List (Vec 
   pub reader : HasAskers (names_of sides.reader) sides.met.ranks.items true (columns sides) beside
   pub sources : AreSources (rows sides) (columns sides) beside.links.aliased.items table
 
--- the reader's link is of no alias, or of one by which its field is read from the writer's place
+-- the ways go together: both places contain what they refer to, or have a field of one name, or the reader's field is read from the writer's place
+abbrev pub GoTogether : List (Vec ℕ Global) → ℕ → ℕ → Way → Way → Type 0
+GoTogether sources place asker OfContents OfContents = Unit {0}
+GoTogether sources place asker ByName ByName = Unit {0}
+GoTogether sources place asker ByName (ByAlias number) = code_at sources asker number ≡ place + 1
+GoTogether sources place asker _ _ = ⊥
+
+-- the writer's place refers to the one, and the reader's to the other, such that their pair asks for the pair of these
 abbrev pub MayAsk : List (Vec ℕ Global) → ℕ → Link → Link → Type 0
-MayAsk sources place x y = MatchOption y.alias (Unit {0}) (λ number. code_at sources x.asker number ≡ place + 1)
+MayAsk sources place x y = GoTogether sources place x.asker x.way y.way
 
 -- the relation has the askers of each two such links of one label
 abbrev pub Joins : List (Vec ℕ Global) → ℕ → (ℕ → ℕ → Type 0) → List Link → List Link → Type 0

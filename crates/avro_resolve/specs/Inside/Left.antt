@@ -1,5 +1,5 @@
 -- The pairs that a table has left.
-use Rattle.std.specs.Prelude.{◌≡◌, ◌⊎◌, ℕ, ◌+◌, ◌*◌, List, [], Bool, true, false, ◌&&◌, ◌||◌, length, ◌<◌, nat_lt, slice_get, slice_index_or, sum_by, IsTrue, MatchOption}
+use Rattle.std.specs.Prelude.{◌≡◌, ◌⊎◌, ℕ, ◌+◌, ◌*◌, List, [], Bool, true, false, All, ◌&&◌, ◌||◌, length, ◌<◌, nat_lt, slice_get, slice_index_or, sum_by, IsTrue, MatchOption}
 use Rattle.avro_nodes.specs.Nodes.{NodeView}
 use Rattle.avro_resolve.specs.declared.table.Table.{Table}
 use Rattle.avro_resolve.specs.Resolution.{Pairs, Supports}
@@ -57,11 +57,16 @@ Settled w r t ps i j = IsTrue (left t i j) → Supports w r (held t ps) i j
 abbrev pub AllSettled : List NodeView → List NodeView → Table → List Pair → Type 0
 AllSettled w r t ps = (i j : ℕ) → i < length w → j < length r → Settled w r t ps i j
 
+-- no listed pair is left
+abbrev pub AreOut : Table → List Pair → Type 0
+AreOut t ps = All (λ (p : Pair). left t p.0 p.1 ≡ false) ps
+
 -- some pairs were struck out, and each is listed
 pub record Lists (old : Table) (before : List Pair) (new : Table) (after : List Pair) : Type 0 where
   pub fewer : (i j : ℕ) → IsTrue (left new i j) → IsTrue (left old i j)
   pub held : (i j : ℕ) → IsTrue (held old before i j) → IsTrue (held new after i j)
   pub count : count_left new + length after ≡ count_left old + length before
+  pub out : AreOut old before → AreOut new after
 
 -- each pair of the one set is one of the other, or this pair
 abbrev pub WithinBut : ℕ → ℕ → Pairs → Pairs → Type 0
@@ -70,3 +75,7 @@ WithinBut p q R S = (a b : ℕ) → IsTrue (R a b) → IsTrue (S a b) ⊎ ((a �
 -- what supports the pair (i, j) does so without the pair (p, q)
 abbrev pub Ignores : List NodeView → List NodeView → ℕ → ℕ → ℕ → ℕ → Type 0
 Ignores w r i j p q = (R S : Pairs) → WithinBut p q R S → Supports w r R i j → Supports w r S i j
+
+-- without the pair (p, q) nothing supports the pair (i, j)
+abbrev pub Rests : List NodeView → List NodeView → ℕ → ℕ → ℕ → ℕ → Type 0
+Rests w r i j p q = (R : Pairs) → R p q ≡ false → Supports w r R i j → ⊥

@@ -1,9 +1,11 @@
 -- The two schemas of a resolution.
-use Rattle.std.specs.Prelude.{ℕ, List, length, ◌<◌}
+use Rattle.std.specs.Prelude.{◌≡◌, ℕ, List, All, Some, length, slice_get, ◌<◌}
 use Rattle.avro_nodes.specs.Nodes.{NodeView, nodes_view, texts_view}
 use Rattle.avro_schema.specs.Index.{IsIndex}
 use Rattle.avro_resolve.specs.declared.sides.Side.{Side}
 use Rattle.avro_resolve.specs.declared.sides.Sides.{Sides}
+use Rattle.avro_resolve.specs.Resolution.{source}
+use Rattle.avro_resolve.specs.Inside.Agreeing.{fields_of}
 use Rattle.avro_resolve.specs.Inside.Places.{IsWhole}
 use Rattle.avro_resolve.specs.Inside.Meeting.{AreMet}
 
@@ -15,11 +17,12 @@ nodes_of side = nodes_view side.schema.now
 abbrev pub names_of : Side → List (List ℕ)
 names_of side = texts_view side.index.now.names.items
 
--- each named place is a node's, the index is that of the nodes, and a place and one fit 16 bits
+-- each named place is a node's, the index is that of the nodes, a place and one fit 16 bits, and each field is the one that its name finds
 pub record IsSide (side : Side) : Type 0 where
   pub whole : IsWhole (nodes_of side)
   pub index : IsIndex (nodes_of side) side.index.now
   pub few : length side.schema.now < 65536
+  pub own : (i : ℕ) (a : NodeView) → slice_get (nodes_of side) i ≡ Some a → All (λ f. source (fields_of a) f ≡ Some f) (fields_of a)
 
 -- the nodes of the writer and those of the reader
 abbrev pub rows : Sides → List NodeView

@@ -1,10 +1,16 @@
-use Rattle.std.proofs.Common.{◌<◌, length, map, refl, sym, ◌∙◌, arith}
+use Rattle.std.proofs.Common.{◌≡◌, ◌<◌, [], ◌∷◌, List, true, length, map, refl, sym, ap, ◌∙◌, arith}
+use Rattle.std.specs.Prelude.{◌==◌}
+use Rattle.std.proofs.lemmas.Bool.Decides.{nat_tests}
+use Rattle.std.proofs.lemmas.Option.{slice_get_within}
 use Rattle.std.proofs.lemmas.List.Elements.{All-map, All-weaker}
+use Rattle.avro_nodes.specs.declared.node.Field.{Field}
 use Rattle.avro_nodes.specs.Nodes.{FieldView, field_view}
+use Rattle.avro_resolve.specs.Asking.{source_place}
 use Rattle.avro_resolve.specs.Resolution.{source}
 use Rattle.avro_resolve.specs.Inside.Sides.{names_of}
+use Rattle.avro_resolve.specs.Inside.Sources.{code}
 use Rattle.avro_resolve.proofs.Sourcing.{ranks_below}
-use Rattle.avro_resolve.proofs.SupportLemmas.{place_within}
+use Rattle.avro_resolve.proofs.SupportLemmas.{place_within, unsourced}
 use Rattle.avro_resolve.proofs.aliased.entry_of.Goals as goal
 
 pub place_of-requires-clause-aliases_in : goal.place_of-requires-clause-aliases_in
@@ -16,3 +22,15 @@ pub code_of-requires : goal.code_of-requires
 code_of-requires c = λ place e.
     let fields = map field_view c.args.fields.fields.now in let is = c.in-Some.ensures.ranked in
     place_within 65535 fields is.0 (source fields is.0) place (All-map (λ (g : FieldView). g.place < 65535) field_view c.args.fields.fields.now c.requires.fields_in) refl (sym e ∙ c.place_of.ensures is.0 is.1)
+
+empty_source : (xs : List Field) (f : FieldView) → (length xs == 0) ≡ true → 0 ≡ code (source_place (map field_view xs) f)
+empty_source [] f e = sym (ap code (unsourced f))
+empty_source (x ∷ xs) f e = absurd (let l : length (x ∷ xs) ≡ 0 = grind (arith, nat_tests) in omega (arith, l))
+
+pub returns-then-is_empty : goal.returns-then-is_empty
+returns-then-is_empty c = λ f e. empty_source c.args.fields.fields.now f (sym c.is_empty.ensures ∙ c.if-is_empty.true)
+
+pub place_of-requires-clause-name_in : goal.place_of-requires-clause-name_in
+place_of-requires-clause-name_in c =
+    let x = c.in-Some.names.now in let is = c.in-Some.ensures.ranked in let l = slice_get_within (names_of c.args.sides.now.reader) x.name is.0.name is.1.name in
+    omega (arith, l, c.requires.room)

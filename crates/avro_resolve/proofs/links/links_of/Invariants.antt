@@ -2,7 +2,7 @@ use Rattle.std.proofs.Common.{◌≡◌, ℕ, ◌<◌, Some, length}
 use Rattle.std.specs.Prelude.{slice_get}
 use Rattle.avro_nodes.specs.Nodes.{NodeView}
 use Rattle.avro_resolve.specs.declared.links.Link.{Link}
-use Rattle.avro_resolve.specs.Inside.Askers.{IsPlaceLinked}
+use Rattle.avro_resolve.specs.Inside.Askers.{IsOfNode, IsPlaceLinked}
 use Rattle.avro_resolve.specs.Inside.Lists.{StandsAt}
 use Rattle.avro_resolve.specs.Inside.Sides.{names_of, nodes_of}
 use Rattle.avro_resolve.proofs.links.links_of.Given as goal
@@ -12,4 +12,5 @@ invariant-loop-i l = record {
   long : length l.links.lists.items ≡ length l.side.schema.now;
   within : (x : Link) (place : ℕ) → StandsAt l.links.lists.items x place → x.asker < length l.side.schema.now;
   named : (i : ℕ) (a : NodeView) → i < l.i → slice_get (nodes_of l.side) i ≡ Some a → IsPlaceLinked (names_of l.side) l.labels.met.now.ranks.items l.labels.aliased l.links i a;
+  meant : (x : Link) (place : ℕ) → StandsAt l.links.lists.items x place → (a : NodeView) → slice_get (nodes_of l.side) x.asker ≡ Some a → IsOfNode (names_of l.side) l.labels.met.now.ranks.items l.labels.aliased l.links.aliased.items a x place;
 }

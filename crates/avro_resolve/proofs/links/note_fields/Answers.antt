@@ -6,12 +6,12 @@ use Rattle.std.proofs.lemmas.Option.{same_Some, slice_get-get_or, slice_get_with
 use Rattle.avro_nodes.specs.Nodes.{FieldView, field_view}
 use Rattle.avro_schema.specs.declared.index.FieldRanks.{FieldRanks}
 use Rattle.avro_resolve.specs.Inside.Askers.{IsFieldLinked}
-use Rattle.avro_resolve.proofs.LinkLemmas.{field_on, notes_none, notes_then}
+use Rattle.avro_resolve.proofs.LinkLemmas.{field_on, of_field_on, notes_none, notes_then}
 use Rattle.avro_resolve.proofs.ViewLemmas.{view_got}
 use Rattle.avro_resolve.proofs.links.note_fields.Goals as goal
 
 pub loop-index-init : goal.loop-index-init
-loop-index-init c = record { notes = notes_none c.args.asker c.args.links.now; there = λ k f x l. absurd (omega arith) }
+loop-index-init c = record { notes = notes_none _ c.args.links.now; there = λ k f x l. absurd (omega arith) }
 
 pub loop-index-preserved : goal.loop-index-preserved
 loop-index-preserved c =
@@ -25,7 +25,8 @@ loop-index-preserved c =
     let field_here : slice_get (map field_view fields) at ≡ Some (field_view field) = view_got field_view fields at field (slice_get-get_or fields at c.index-fields-index.result within) in
     let names_here : slice_get ranks at ≡ Some names = slice_get-get_or ranks at c.index-fields-index-in-loop-index.result l in
     record {
-      notes = notes_then i c.args.links.now xs ys inv.notes more;
+      notes = notes_then _ _ _ (λ x p h. (h.0, of_field_on xs.aliased.items ys.aliased.items more.kept met aliased x (map field_view fields) ranks p h.1))
+          (λ x p h. (h.0, (at, field_view field, names, field_here, names_here, sym h.1, h.2))) c.args.links.now xs ys inv.notes more;
       there = λ k f x below ef ex. elim (cases_lt k at) [
         | inl g ↦ field_on xs ys more.adds.kept more.kept met aliased i k f.place x (inv.there k f x g ef ex)
         | inr g ↦ (let e : at ≡ k = omega arith in

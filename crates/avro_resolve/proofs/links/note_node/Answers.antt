@@ -1,10 +1,11 @@
-use Rattle.std.proofs.Common.{◌≡◌, ◌<◌, ℕ, List, Option, None, length, sym, ap, subst, ◌∙◌}
+use Rattle.std.proofs.Common.{◌≡◌, ◌<◌, ℕ, List, Option, length, sym, ap, subst, ◌∙◌, inl, inr}
 use Rattle.std.specs.Prelude.{IfSome}
 use Rattle.std.proofs.lemmas.List.{length-map}
 use Rattle.std.proofs.lemmas.Option.{same_Some}
 use Rattle.avro_nodes.specs.Nodes.{FieldView, NodeView, primitive, array, mapping, union, enumeration, fixed, rec, node_view}
 use Rattle.avro_schema.specs.Index.{AreFieldsRanked}
-use Rattle.avro_resolve.specs.Inside.Askers.{contained_of, AreFieldsLinked, HasLabel}
+use Rattle.avro_resolve.specs.declared.links.Way.TheVariants.{OfContents}
+use Rattle.avro_resolve.specs.Inside.Askers.{contained_of, AreFieldsLinked, HasLabel, IsOfField}
 use Rattle.avro_resolve.specs.Inside.Places.{Names}
 use Rattle.avro_resolve.specs.Inside.Sides.{names_of, nodes_of}
 use Rattle.avro_resolve.proofs.LinkLemmas.{linked_on, notes_then}
@@ -28,7 +29,19 @@ note_contained-requires c =
     subst (λ (o : Option ℕ). IfSome o (λ p. p < length c.args.links.now.lists.items)) (sym c.contained.ensures) within
 
 pub returns-clause-notes : goal.returns-clause-notes
-returns-clause-notes c = notes_then c.args.asker c.args.links.now c.note_contained.new.links c.note_fields.new.links c.in_ok-note_contained.ensures.notes c.in_ok-note_fields.ensures.notes
+returns-clause-notes c =
+    let names = names_of c.args.side.now in let met = c.args.labels.now.met.now.ranks.items in let aliased = c.args.labels.now.aliased in
+    let links = c.note_fields.new.links in let ranks = c.fields.result.ranks.now in
+    notes_then _ _ _
+    (λ x p h. (h.0, λ a ea. inl (h.1, ap contained_of (same_Some a (node_view c.node.result.now) (sym ea ∙ c.node.ensures.node)) ∙ sym c.contained.ensures ∙ h.2)))
+    (λ x p h. (
+      h.0,
+      λ a ea. (
+          let are = c.fields.ensures.are a ea in
+          inr (ranks, subst (λ (fs : List FieldView). AreFieldsRanked names fs ranks) are c.fields.ensures.ranked, subst (λ (fs : List FieldView). IsOfField met aliased links.aliased.items fs ranks x p) are h.1)
+          ),
+    ))
+    c.args.links.now c.note_contained.new.links links c.in_ok-note_contained.ensures.notes c.in_ok-note_fields.ensures.notes
 
 pub returns-clause-there : goal.returns-clause-there
 returns-clause-there c = λ a ea.
@@ -37,7 +50,7 @@ returns-clause-there c = λ a ea.
     let are = c.fields.ensures.are a ea in let ranks = c.fields.result.ranks.now in (
       ranks,
       record {
-        contained = λ p e. linked_on xs ys more.adds.kept more.kept (HasLabel 0 None) i p (c.in_ok-note_contained.ensures.there p (c.contained.ensures ∙ ap contained_of same ∙ e));
+        contained = λ p e. linked_on xs ys more.adds.kept more.kept (HasLabel 0 OfContents) i p (c.in_ok-note_contained.ensures.there p (c.contained.ensures ∙ ap contained_of same ∙ e));
         ranked = subst (λ (fs : List FieldView). AreFieldsRanked (names_of c.args.side.now) fs ranks) are c.fields.ensures.ranked;
         fields = subst (λ (fs : List FieldView). AreFieldsLinked c.args.labels.now.met.now.ranks.items c.args.labels.now.aliased ys i fs ranks) are c.in_ok-note_fields.ensures.there;
       },

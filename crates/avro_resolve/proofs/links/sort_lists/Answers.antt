@@ -22,7 +22,7 @@ loop-place-preserved c =
       long = length-set xs k v ∙ inv.long;
       same = record {
         there = λ x p h. keeps xs k v l (λ y g. Contains-permutation d.items v.items y moved (subst (λ (ys : List Link). Contains ys y) here g)) x p (inv.same.there x p h);
-        back = λ x p h. inv.same.back x p (elim (onlys xs k v l (λ _. ⊥) (λ y g. inl (subst (λ (ys : List Link). Contains ys y) (sym here) (Contains-permutation v.items d.items y (IsPermutation-sym d.items v.items moved) g))) x p h) [ inl m ↦ m | inr n ↦ absurd n ]);
+        back = λ x p h. inv.same.back x p (elim (onlys xs k v l (λ _ _. ⊥) (λ y g. inl (subst (λ (ys : List Link). Contains ys y) (sym here) (Contains-permutation v.items d.items y (IsPermutation-sym d.items v.items moved) g))) x p h) [ inl m ↦ m | inr n ↦ absurd n ]);
       };
       sorted = λ p below. elim (cases_lt p k) [
         | inl g ↦ subst (λ (ys : List Link). IsNonDecreasingBy (λ (x : Link). x.label) ys) (sym (list_set_other xs k p v (λ (e : p ≡ k). absurd (omega (arith, e, g))))) (inv.sorted p g)

@@ -7,5 +7,5 @@ abbrev pub invariant-loop-j : goal.invariant-loop-j
 invariant-loop-j l = record {
   rest : IsRest (rows l.sides) (columns l.sides) l.progress.table;
   lists : Lists l.initial.progress.table l.initial.progress.struck.items l.progress.table l.progress.struck.items;
-  settled : (k d : ℕ) → k < l.j-index → Settled (rows l.sides) (columns l.sides) l.progress.table l.progress.struck.items l.i (get_or l.beside k d);
+  settled : (k d : ℕ) → k < l.j-index → Settled (rows l.sides) (columns l.sides) l.progress.table l.progress.struck.items l.told.0 (get_or l.beside k d);
 }

@@ -1,28 +1,75 @@
-use Rattle.std.proofs.Common.{◌≡◌, ◌<◌, get_or, length, map, Some, arith}
+use Rattle.std.proofs.Common.{◌≡◌, ◌<◌, ℕ, get_or, length, refl, sym, subst, ◌∙◌, inl, inr, true≢false, Some, false, true, arith}
 use Rattle.std.specs.Prelude.{slice_get}
+use Rattle.std.proofs.lemmas.Bool.{cases_lt}
 use Rattle.std.proofs.lemmas.List.{length-map}
+use Rattle.std.proofs.lemmas.List.Elements.{All-map}
 use Rattle.std.proofs.lemmas.Option.{slice_get-get_or}
-use Rattle.std.proofs.lemmas.Slice.Zip.{AllZip-long}
-use Rattle.avro_nodes.specs.Nodes.{field_view}
-use Rattle.avro_schema.specs.Index.{IsFieldRanked}
-use Rattle.avro_resolve.specs.Inside.Sides.{names_of}
-use Rattle.avro_resolve.proofs.Sourcing.{ranked_field}
-use Rattle.avro_resolve.proofs.ViewLemmas.{view_got}
+use Rattle.avro_nodes.specs.declared.node.Field.{Field}
+use Rattle.avro_nodes.specs.Nodes.{FieldView, field_view, node_view}
+use Rattle.avro_resolve.specs.Resolution.{Readable, source}
+use Rattle.avro_resolve.specs.Inside.Left.{left}
+use Rattle.avro_resolve.specs.Inside.Rows.{row_fields}
+use Rattle.avro_resolve.specs.Inside.Sides.{columns}
+use Rattle.avro_resolve.proofs.ListLemmas.{get_or_any}
+use Rattle.avro_resolve.proofs.Sourcing.{field_named, nth}
+use Rattle.avro_resolve.proofs.SupportLemmas.{place_within, readable_as}
 use Rattle.avro_resolve.proofs.readable.all_readable.Goals as goal
 
-pub bounds-wanted-index-in-loop-index : goal.bounds-wanted-index-in-loop-index
-bounds-wanted-index-in-loop-index c =
-    let r = names_of c.args.sides.now.reader in let wanted = c.args.wanted.fields.now in let view = length-map wanted field_view in
-    let long = AllZip-long (IsFieldRanked r) (map field_view wanted) c.args.wanted.ranks.now c.requires.named in
+pub source_in-source-requires-clause-named : goal.source_in-source-requires-clause-named
+source_in-source-requires-clause-named c =
+    let sides = c.args.sides.now in let j = c.args.j in let wanted = c.fields-wanted.result in let n = c.loop-index.index in let x = c.index-wanted-index.result in
+    let view = length-map sides.reader.schema.now node_view in
+    let l : j < length (columns sides) = omega arith in let within : n < length wanted.ranks.now = omega arith in
+    let b = nth (columns sides) j l in let f = nth wanted.fields.now n c.loop-index-test.true in
+    let is = field_named sides j n wanted b.0 b.1 (c.fields-wanted.ensures.are b.0 b.1) c.fields-wanted.ensures.ranked f.0 (get_or wanted.ranks.now n x) f.1 (slice_get-get_or wanted.ranks.now n x within) in
+    (field_view f.0, is.0, is.1)
+
+pub is_readable-requires-clause-source_in : goal.is_readable-requires-clause-source_in
+is_readable-requires-clause-source_in c = λ p e.
+    let sides = c.args.sides.now in let row = c.args.row.now in let j = c.args.j in let wanted = c.fields-wanted.result in let n = c.loop-index.index in let x = c.index-wanted-index.result in
+    let view = length-map sides.reader.schema.now node_view in
+    let l : j < length (columns sides) = omega arith in let within : n < length wanted.ranks.now = omega arith in
+    let b = nth (columns sides) j l in let f = nth wanted.fields.now n c.loop-index-test.true in
+    let is = field_named sides j n wanted b.0 b.1 (c.fields-wanted.ensures.are b.0 b.1) c.fields-wanted.ensures.ranked f.0 (get_or wanted.ranks.now n x) f.1 (slice_get-get_or wanted.ranks.now n x within) in
+    let m = length sides.writer.schema.now in
+    let below : p < m = place_within m (row_fields row) (field_view f.0) (source (row_fields row) (field_view f.0)) p (All-map (λ (g : FieldView). g.place < m) field_view row.fields.fields.now c.requires.row.places) refl (sym e ∙ c.source_in-source.ensures (field_view f.0) is.0) in
     omega arith
 
-pub is_readable-requires-clause-named : goal.is_readable-requires-clause-named
-is_readable-requires-clause-named c =
-    let r = names_of c.args.sides.now.reader in let wanted = c.args.wanted.fields.now in let names = c.args.wanted.ranks.now in let n = c.loop-index.index in
-    let f = c.index-wanted-index.result in let x = c.index-wanted-index-in-loop-index.result in
-    let view = length-map wanted field_view in
-    let long = AllZip-long (IsFieldRanked r) (map field_view wanted) names c.requires.named in
-    let l : n < length names = omega arith in
-    let at : slice_get wanted n ≡ Some (get_or wanted n f) = slice_get-get_or wanted n f c.loop-index-test.true in
-    let named : slice_get names n ≡ Some (get_or names n x) = slice_get-get_or names n x l in
-    ranked_field r (map field_view wanted) names n (field_view (get_or wanted n f)) (get_or names n x) c.requires.named (view_got field_view wanted n (get_or wanted n f) at) named
+pub returns-then-not-is_readable : goal.returns-then-not-is_readable
+returns-then-not-is_readable c = λ b e.
+    let sides = c.args.sides.now in let row = c.args.row.now in let j = c.args.j in let wanted = c.fields-wanted.result in let n = c.loop-index.index in let x = c.index-wanted-index.result in
+    let t = left c.args.table.now in let f = get_or wanted.fields.now n c.index-wanted-index-in-loop-index.result in
+    let within : n < length wanted.ranks.now = omega arith in
+    let at : slice_get wanted.fields.now n ≡ Some f = slice_get-get_or wanted.fields.now n c.index-wanted-index-in-loop-index.result c.loop-index-test.true in
+    let is = field_named sides j n wanted b e (c.fields-wanted.ensures.are b e) c.fields-wanted.ensures.ranked f (get_or wanted.ranks.now n x) at (slice_get-get_or wanted.ranks.now n x within) in
+    let told = c.is_readable.ensures (row_fields row) (c.source_in-source.ensures (field_view f) is.0) in
+    readable_as t (row_fields row) _ row.fields.fields.now wanted.fields.now refl (c.fields-wanted.ensures.are b e) false (
+      (λ h. absurd (true≢false (sym h))),
+      (λ h. sym c.if-not-is_readable.true ∙ told.1 (h n c.index-wanted-index-in-loop-index.result c.loop-index-test.true)),
+    )
+
+pub loop-index-preserved : goal.loop-index-preserved
+loop-index-preserved c = λ k d l.
+    let sides = c.args.sides.now in let row = c.args.row.now in let j = c.args.j in let wanted = c.fields-wanted.result in let n = c.loop-index.index in let x = c.index-wanted-index.result in
+    let t = left c.args.table.now in let f = get_or wanted.fields.now n c.index-wanted-index-in-loop-index.result in
+    let within : n < length wanted.ranks.now = omega arith in
+    let view = length-map sides.reader.schema.now node_view in
+    let inside : j < length (columns sides) = omega arith in
+    let b = nth (columns sides) j inside in
+    let at : slice_get wanted.fields.now n ≡ Some f = slice_get-get_or wanted.fields.now n c.index-wanted-index-in-loop-index.result c.loop-index-test.true in
+    let is = field_named sides j n wanted b.0 b.1 (c.fields-wanted.ensures.are b.0 b.1) c.fields-wanted.ensures.ranked f (get_or wanted.ranks.now n x) at (slice_get-get_or wanted.ranks.now n x within) in
+    let told = c.is_readable.ensures (row_fields row) (c.source_in-source.ensures (field_view f) is.0) in
+    let readable = λ (g : Field). Readable t (row_fields row) (field_view g) in
+    let here : readable f = told.0 c.if-not-is_readable.false in
+    elim (cases_lt k n) [
+      | inl g ↦ c.loop-index.invariant k d g
+      | inr g ↦ (let same : n ≡ k = omega arith in subst (λ (i : ℕ). readable (get_or wanted.fields.now i d)) same (subst readable (get_or_any wanted.fields.now n c.index-wanted-index-in-loop-index.result d c.loop-index-test.true) here))
+    ]
+
+pub returns : goal.returns
+returns c = λ b e.
+    let row = c.args.row.now in let wanted = c.fields-wanted.result in let t = left c.args.table.now in
+    readable_as t (row_fields row) _ row.fields.fields.now wanted.fields.now refl (c.fields-wanted.ensures.are b e) true (
+      (λ h k d l. c.loop-index.invariant k d (omega arith)),
+      (λ h. refl),
+    )

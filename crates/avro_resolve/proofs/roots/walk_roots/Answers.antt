@@ -3,7 +3,7 @@ use Rattle.std.proofs.lemmas.List.{length-map}
 use Rattle.avro_nodes.specs.Nodes.{node_view, nodes_view}
 use Rattle.avro_resolve.specs.Witnesses.{Pair}
 use Rattle.avro_resolve.specs.Inside.Walking.{Good, Marks}
-use Rattle.avro_resolve.proofs.Denoted.{some_node, is_whole}
+use Rattle.avro_resolve.proofs.Denoted.{some_node, is_whole, are_own}
 use Rattle.avro_resolve.proofs.MarkLemmas.{marks_none}
 use Rattle.avro_resolve.proofs.Reaching.{is_small}
 use Rattle.avro_resolve.proofs.WalkLemmas.{roots_asked}
@@ -22,11 +22,13 @@ ask-requires-clause-sides c = record {
     whole = is_whole (nodes_view c.args.writer.now) c.places-rows.ensures.schema;
     index = c.index-written.ensures;
     few = omega (arith, c.places-rows.ensures.places, c.places-rows.ensures.few);
+    own = are_own (nodes_view c.args.writer.now) c.places-rows.ensures.schema;
   };
   reader = record {
     whole = is_whole (nodes_view c.args.reader.now) c.places-columns.ensures.schema;
     index = c.index-read.ensures;
     few = omega (arith, c.places-columns.ensures.places, c.places-columns.ensures.few);
+    own = are_own (nodes_view c.args.reader.now) c.places-columns.ensures.schema;
   };
   met = rw (c.deref.ensures.value, c.deref-2.ensures.value) at c.in_ok-met.ensures;
 }

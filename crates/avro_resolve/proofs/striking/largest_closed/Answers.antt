@@ -1,7 +1,7 @@
 use Rattle.std.proofs.Common.{◌≡◌, ◌<◌, length, sym, subst, ◌∙◌, arith}
 use Rattle.std.proofs.lemmas.List.{length-map}
 use Rattle.avro_nodes.specs.Nodes.{node_view, nodes_view}
-use Rattle.avro_resolve.proofs.Denoted.{is_whole}
+use Rattle.avro_resolve.proofs.Denoted.{is_whole, are_own}
 use Rattle.avro_resolve.proofs.Strikes.{all_left}
 use Rattle.avro_resolve.proofs.striking.largest_closed.Goals as goal
 
@@ -25,11 +25,13 @@ strike_out-requires-clause-sides c = record {
     whole = is_whole (nodes_view c.args.writer.now) c.places.ensures.schema;
     index = c.index-written.ensures;
     few = omega (arith, c.places.ensures.places, c.places.ensures.few);
+    own = are_own (nodes_view c.args.writer.now) c.places.ensures.schema;
   };
   reader = record {
     whole = is_whole (nodes_view c.args.reader.now) c.places-2.ensures.schema;
     index = c.index-read.ensures;
     few = omega (arith, c.places-2.ensures.places, c.places-2.ensures.few);
+    own = are_own (nodes_view c.args.reader.now) c.places-2.ensures.schema;
   };
   met = rw (c.deref.ensures.value, c.deref-2.ensures.value) at c.in_ok-met.ensures;
 }

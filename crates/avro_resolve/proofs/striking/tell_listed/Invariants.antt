@@ -1,11 +1,12 @@
 use Rattle.std.proofs.Common.{◌+◌, length}
 use Rattle.avro_resolve.specs.Inside.Sides.{columns, rows}
-use Rattle.avro_resolve.specs.Inside.Left.{IsRest, AllSettled, count_left}
+use Rattle.avro_resolve.specs.Inside.Left.{AreOut, IsRest, AllSettled, count_left}
 use Rattle.avro_resolve.proofs.striking.tell_listed.Given as goal
 
 abbrev pub invariant-loop-i : goal.invariant-loop-i
 invariant-loop-i l = record {
   rest : IsRest (rows l.sides) (columns l.sides) l.progress.table;
+  out : AreOut l.progress.table l.progress.struck.items;
   settled : AllSettled (rows l.sides) (columns l.sides) l.progress.table l.progress.struck.items;
 }
 

@@ -1,9 +1,10 @@
 use Rattle.std.proofs.Common.{◌≡◌, ℕ, ◌<◌, get_or}
+use Rattle.std.specs.Prelude.{Contains}
 use Rattle.avro_resolve.specs.Inside.Lists.{StandsAt, Adds}
 use Rattle.avro_resolve.proofs.unions.note_branches.Given as goal
 
 abbrev pub invariant-loop-branch : goal.invariant-loop-branch
 invariant-loop-branch l = record {
-  adds : Adds (λ x. x ≡ l.union) l.initial.lists.items l.lists.items;
+  adds : Adds (λ i p. (i ≡ l.union) × Contains l.branches p) l.initial.lists.items l.lists.items;
   there : (k d : ℕ) → k < l.branch-index → StandsAt l.lists.items l.union (get_or l.branches k d);
 }

@@ -1,11 +1,11 @@
-use Rattle.std.proofs.Common.{◌≡◌, ◌<◌, ◌≤◌, ℕ, length, sym, subst, ◌∙◌, inl, inr, arith, Some}
+use Rattle.std.proofs.Common.{◌≡◌, ◌<◌, ◌≤◌, ℕ, length, sym, ap, subst, ◌∙◌, inl, inr, arith, Some}
 use Rattle.std.specs.Prelude.{slice_get}
 use Rattle.std.proofs.lemmas.Bool.{cases_lt}
 use Rattle.std.proofs.lemmas.List.{length-map}
-use Rattle.std.proofs.lemmas.Option.{slice_get_within}
+use Rattle.std.proofs.lemmas.Option.{same_Some, slice_get_within}
 use Rattle.avro_nodes.specs.Nodes.{NodeView, node_view, nodes_view}
 use Rattle.avro_resolve.specs.Inside.Places.{Names}
-use Rattle.avro_resolve.specs.Inside.Askers.{IsUnionListed}
+use Rattle.avro_resolve.specs.Inside.Askers.{HasBranch, IsUnionListed}
 use Rattle.avro_resolve.proofs.Monotone.{at_place}
 use Rattle.avro_resolve.proofs.LinkLemmas.{union_listed_on}
 use Rattle.avro_resolve.proofs.ViewLemmas.{view_got}
@@ -16,6 +16,7 @@ loop-i-init c = record {
   long = c.in_ok-lists.ensures.long ∙ c.places.ensures.places;
   within = λ i p h. absurd (c.in_ok-lists.ensures.empty i p h);
   named = λ i a l e. absurd (omega arith);
+  meant = λ i p h. absurd (c.in_ok-lists.ensures.empty i p h);
 }
 
 pub note_node-requires : goal.note_node-requires
@@ -31,13 +32,17 @@ loop-i-preserved c =
     let below : at < length nodes = omega (arith, c.loop-i-test.true, c.places-i-end.ensures.places) in
     record {
       long = more.long ∙ inv.long;
-      within = λ i p l. elim (more.only i p l) [ inl m ↦ inv.within i p m | inr e ↦ subst (λ (x : ℕ). x < length nodes) (sym e) below ];
+      within = λ i p l. elim (more.only i p l) [ inl m ↦ inv.within i p m | inr h ↦ subst (λ (x : ℕ). x < length nodes) (sym h.0) below ];
       named = λ i a l e. elim (cases_lt i at) [
         | inl g ↦ union_listed_on xs ys i more.kept a (inv.named i a g e)
         | inr g ↦ (let s : at ≡ i = omega arith in
             let known : slice_get (nodes_view nodes) i ≡ Some node = subst (λ (x : ℕ). slice_get (nodes_view nodes) x ≡ Some node) s (view_got node_view nodes at c.node.result.now c.node.ensures) in
             let same : node ≡ a = cc in
             subst (λ (b : NodeView). IsUnionListed ys i b) same (subst (λ (x : ℕ). IsUnionListed ys x node) s c.in_ok-note_node.ensures.there))
+      ];
+      meant = λ i p l a e. elim (more.only i p l) [
+        | inl m ↦ inv.meant i p m a e
+        | inr h ↦ (let same : node ≡ a = same_Some node a (sym (view_got node_view nodes at c.node.result.now c.node.ensures) ∙ ap (slice_get (nodes_view nodes)) (sym h.0) ∙ e) in subst (λ (b : NodeView). HasBranch b p) same h.1)
       ];
     }
 
@@ -48,5 +53,6 @@ returns c =
     let past : length nodes ≤ c.loop-i.i = omega (arith, c.loop-i-test.false, c.places-i-end.ensures.places) in
     record {
       within = λ i p h. subst (λ (n : ℕ). i < n) (sym long) (inv.within i p h);
+      meant = inv.meant;
       named = λ i a e. (let l : i < length (nodes_view nodes) = slice_get_within (nodes_view nodes) i a e in inv.named i a (omega (arith, long)) e);
     }

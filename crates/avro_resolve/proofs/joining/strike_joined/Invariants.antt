@@ -3,7 +3,7 @@ use Rattle.avro_resolve.specs.Inside.Sides.{columns, rows}
 use Rattle.avro_resolve.specs.declared.links.Link.{Link}
 use Rattle.avro_resolve.specs.Inside.Askers.{MayAsk}
 use Rattle.avro_resolve.specs.Inside.Left.{IsRest, Lists, Settled}
-use Rattle.avro_resolve.proofs.joining.look_joined.Given as goal
+use Rattle.avro_resolve.proofs.joining.strike_joined.Given as goal
 
 abbrev pub invariant-loop-link : goal.invariant-loop-link
 invariant-loop-link l = record {

@@ -3,11 +3,11 @@ use Rattle.std.proofs.lemmas.Bool.{cases_lt}
 use Rattle.avro_resolve.specs.Inside.Sides.{columns, rows}
 use Rattle.avro_resolve.specs.Inside.Left.{Settled}
 use Rattle.avro_resolve.proofs.Settling.{lists_then, settled_on}
-use Rattle.avro_resolve.proofs.looking.look_row.Goals as goal
+use Rattle.avro_resolve.proofs.rows.look_along_row.Goals as goal
 
 pub loop-j-preserved : goal.loop-j-preserved
 loop-j-preserved c =
-    let w = rows c.args.sides.now in let r = columns c.args.sides.now in let i = c.args.i in let j = c.loop-j.j in
+    let w = rows c.args.sides.now in let r = columns c.args.sides.now in let i = c.args.row.now.place in let j = c.loop-j.j in
     let u = c.loop-j.progress.table in let v = c.look.new.progress.table in let qs = c.loop-j.progress.struck.items in let rs = c.look.new.progress.struck.items in
     record {
       rest = c.in_ok-look.ensures.rest;

@@ -1,23 +1,27 @@
-use Rattle.std.proofs.Common.{◌≡◌, ◌<◌, ◌≤◌, ◌∷◌, [], ℕ, None, get_or, length, sym, ap, subst, ◌∙◌, inl, inr, arith}
+use Rattle.std.proofs.Common.{◌≡◌, ◌<◌, ◌≤◌, ℕ, get_or, length, sym, ap, subst, ◌∙◌, inl, inr, arith}
+use Rattle.std.proofs.lemmas.List.Elements.{Contains-get_or}
 use Rattle.std.proofs.lemmas.Bool.{cases_lt}
 use Rattle.avro_resolve.specs.Inside.Sides.{columns, rows}
 use Rattle.avro_resolve.specs.declared.links.Link.{Link}
+use Rattle.avro_resolve.specs.declared.links.Way.TheVariants.{OfContents}
 use Rattle.avro_resolve.specs.Inside.Askers.{MayAsk}
 use Rattle.avro_resolve.specs.Inside.Left.{Settled}
 use Rattle.avro_resolve.proofs.ListLemmas.{get_or_any}
-use Rattle.avro_resolve.proofs.Settling.{lists_then, settled_on, all_settled_on}
-use Rattle.avro_resolve.proofs.joining.look_joined.Goals as goal
+use Rattle.avro_resolve.proofs.Settling.{lists_then, settled_on, stays_out}
+use Rattle.avro_resolve.proofs.joining.strike_joined.Goals as goal
 
-pub look_at_label-requires-clause-before : goal.look_at_label-requires-clause-before
-look_at_label-requires-clause-before c =
-    all_settled_on (rows c.args.sides.now) (columns c.args.sides.now) c.args.progress.now.table c.loop-link.progress.table c.args.progress.now.struck.items c.loop-link.progress.struck.items (c.args.told ∷ [])
-    c.requires.sides.writer.whole c.requires.sides.reader.whole c.loop-link.invariant.lists c.requires.before
+pub strike_at_label-requires-clause-out : goal.strike_at_label-requires-clause-out
+strike_at_label-requires-clause-out c =
+    stays_out c.args.progress.now.table c.loop-link.progress.table c.args.progress.now.struck.items c.loop-link.progress.struck.items c.args.told.0 c.args.told.1 c.loop-link.invariant.lists c.requires.out
+
+pub strike_at_label-requires-clause-rests : goal.strike_at_label-requires-clause-rests
+strike_at_label-requires-clause-rests c = λ y. c.requires.rests _ y (Contains-get_or c.args.above.now c.loop-link.link-index _ c.loop-link-test.true)
 
 pub loop-link-preserved : goal.loop-link-preserved
 loop-link-preserved c =
     let w = rows c.args.sides.now in let r = columns c.args.sides.now in let xs = c.args.above.now in let ys = c.args.beside.now in
-    let at = c.loop-link.link-index in let inv = c.loop-link.invariant in let here = c.skip_smaller-from.result in let none : Link = record { label = 0; asker = 0; alias = None } in
-    let u = c.loop-link.progress.table in let v = c.look_at_label.new.progress.table in let qs = c.loop-link.progress.struck.items in let rs = c.look_at_label.new.progress.struck.items in
+    let at = c.loop-link.link-index in let inv = c.loop-link.invariant in let here = c.skip_smaller-from.result in let none : Link = record { label = 0; asker = 0; way = OfContents } in
+    let u = c.loop-link.progress.table in let v = c.strike_at_label.new.progress.table in let qs = c.loop-link.progress.struck.items in let rs = c.strike_at_label.new.progress.struck.items in
     let within : at < length xs = c.loop-link-test.true in
     let row : (e : Link) → get_or xs at none ≡ get_or xs at e = λ e. get_or_any xs at none e within in
     let passed : (k : ℕ) (d : Link) → k < here → (get_or ys k d).label < (get_or xs at none).label = λ k d l. elim (cases_lt k c.loop-link.from) [
@@ -25,8 +29,8 @@ loop-link-preserved c =
       | inr g ↦ c.skip_smaller-from.ensures.smaller k d g l
     ] in
     record {
-      rest = c.in_ok-look_at_label.ensures.rest;
-      lists = lists_then c.args.progress.now.table u v c.args.progress.now.struck.items qs rs inv.lists c.in_ok-look_at_label.ensures.lists;
+      rest = c.in_ok-strike_at_label.ensures.rest;
+      lists = lists_then c.args.progress.now.table u v c.args.progress.now.struck.items qs rs inv.lists c.in_ok-strike_at_label.ensures.lists;
       within = c.skip_smaller-from.ensures.within;
       skipped = λ k m d e lk le lm. (
           let less = passed k d lk in let up = c.requires.above_sorted at m e (omega arith) lm in
@@ -34,14 +38,14 @@ loop-link-preserved c =
           omega (arith, less, up, same)
           );
       settled = λ m k e d lm lk one asks. elim (cases_lt m at) [
-        | inl g ↦ settled_on w r u v qs rs (get_or xs m e).asker (get_or ys k d).asker c.requires.sides.writer.whole c.requires.sides.reader.whole c.in_ok-look_at_label.ensures.lists (inv.settled m k e d g lk one asks)
+        | inl g ↦ settled_on w r u v qs rs (get_or xs m e).asker (get_or ys k d).asker c.requires.sides.writer.whole c.requires.sides.reader.whole c.in_ok-strike_at_label.ensures.lists (inv.settled m k e d g lk one asks)
         | inr g ↦ (
             let now : at ≡ m = omega arith in
             let same : get_or xs at none ≡ get_or xs m e = row e ∙ ap (λ (n : ℕ). get_or xs n e) now in
             let label : (get_or xs at none).label ≡ (get_or ys k d).label = ap (λ (x : Link). x.label) same ∙ one in
             elim (cases_lt k here) [
               | inl h ↦ (let less = passed k d h in absurd (omega (arith, less, label)))
-              | inr h ↦ subst (λ (x : Link). Settled w r v rs x.asker (get_or ys k d).asker) same (c.in_ok-look_at_label.ensures.settled k d h lk label (subst (λ (x : Link). MayAsk c.args.sources.now c.args.told.0 x (get_or ys k d)) (sym same) asks))
+              | inr h ↦ subst (λ (x : Link). Settled w r v rs x.asker (get_or ys k d).asker) same (c.in_ok-strike_at_label.ensures.settled k d h lk label (subst (λ (x : Link). MayAsk c.args.sources.now c.args.told.0 x (get_or ys k d)) (sym same) asks))
             ]
             )
       ];

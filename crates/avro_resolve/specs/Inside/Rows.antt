@@ -1,0 +1,31 @@
+-- A writer's place, while its fields lie in the boxes (this project's choice).
+use Rattle.std.specs.Prelude.{◌≡◌, ◌<◌, ◌≤◌, List, All, Some, length, map, slice_get}
+use Rattle.std.specs.List.{AllZip}
+use Rattle.avro_nodes.specs.Nodes.{FieldView, NodeView, field_view}
+use Rattle.avro_schema.specs.declared.index.FieldRanks.{FieldRanks}
+use Rattle.avro_schema.specs.Index.{AreFieldsRanked, IsFieldRanked}
+use Rattle.avro_resolve.specs.declared.aliased.Aliased.{Aliased}
+use Rattle.avro_resolve.specs.declared.readable.Row.{Row}
+use Rattle.avro_resolve.specs.declared.sides.Sides.{Sides}
+use Rattle.avro_resolve.specs.Inside.Agreeing.{fields_of}
+use Rattle.avro_resolve.specs.Inside.Laying.{names_in, AreLaid}
+use Rattle.avro_resolve.specs.Inside.Sides.{columns, names_of, rows}
+use Rattle.avro_resolve.specs.Inside.Sources.{field_at, IsEntry}
+
+-- the fields of the place
+abbrev pub row_fields : Row → List FieldView
+row_fields row = map field_view row.fields.fields.now
+
+-- The fields are those of the writer's node at the place, lie in the boxes of the reader's names, and have the sources that the entries tell.
+pub record IsRow (sides : Sides) (row : Row) : Type 0 where
+  pub within : row.place < length sides.writer.schema.now
+  pub are : (a : NodeView) → slice_get (rows sides) row.place ≡ Some a → row_fields row ≡ fields_of a
+  pub places : All (λ g. g.place < length sides.writer.schema.now) row.fields.fields.now
+  pub ranked : AreFieldsRanked (names_of sides.writer) (row_fields row) row.fields.ranks.now
+  pub laid : AreLaid sides.met.ranks.items (names_in row.fields.ranks.now) 0 row.boxes.now
+  pub room : length (names_of sides.reader) ≤ length row.boxes.now
+  pub entries : AllZip (IsEntry (columns sides) (row_fields row)) row.numbered.aliased.now row.entries.now
+
+-- the names of a reader's field, by their ranks
+abbrev pub AreNamesOf : Sides → Aliased → FieldRanks → Type 0
+AreNamesOf sides field names = (f : FieldView) × (field_at (columns sides) field ≡ Some f) × IsFieldRanked (names_of sides.reader) f names

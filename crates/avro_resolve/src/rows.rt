@@ -1,0 +1,154 @@
+//! Looks at all pairs, a writer's place after the other, while its fields are laid.
+
+ghost use Rattle.std.specs.Prelude.{◌≡◌, ◌<◌, ◌≤◌, ℕ, IfOk, OnOk, Some, length, slice_get};
+ghost use Rattle.std.specs.List.{AllZip};
+ghost use Rattle.avro_nodes.specs.Nodes.{NodeView};
+ghost use Rattle.avro_resolve.specs.Inside.Agreeing.{fields_of};
+ghost use Rattle.avro_resolve.specs.Inside.Laying.{IsClear};
+ghost use Rattle.avro_resolve.specs.Inside.Left.{AllSettled, IsRest, Lists, Settled};
+ghost use Rattle.avro_resolve.specs.Inside.Rows.{IsRow};
+ghost use Rattle.avro_resolve.specs.Inside.Sides.{columns, names_of, rows, IsSides};
+ghost use Rattle.avro_resolve.specs.Inside.Sources.{AreSources, IsEntry};
+
+use crate::aliased::{Aliased, Numbered, firsts_of, row_of};
+use crate::desk::{lay, lift, make_room};
+use crate::lists::empty_lists;
+use crate::looking::{Progress, strike_unsupported};
+use crate::readable::Row;
+use crate::sides::Sides;
+use crate::support::supports;
+use std::alloc::{AllocError, Global};
+
+/// Strikes the pair of the writer's place and this one of the reader out and lists it, if the rest
+/// doesn't support it.
+fn look(sides: &Sides, row: &Row, j: u32, progress: &mut Progress) -> Result<(), AllocError>
+    requires sides { IsSides sides.now }
+    requires row { IsRow sides.now row.now }
+    requires rest { IsRest (rows sides.now) (columns sides.now) progress.old.table }
+    requires j_in { j < length sides.now.reader.schema.now }
+    ensures rest { OnOk result (IsRest (rows sides.now) (columns sides.now) progress.new.table) }
+    ensures lists { OnOk result (Lists progress.old.table progress.old.struck.items progress.new.table progress.new.struck.items) }
+    ensures settled { OnOk result (Settled (rows sides.now) (columns sides.now) progress.new.table
+        progress.new.struck.items row.now.place j) }
+{
+    if !progress.table.has(row.place, j) {
+        return Ok(());
+    }
+    if supports(sides, row, j, &progress.table) {
+        return Ok(());
+    }
+    strike_unsupported(sides, row.place, j, progress)?;
+    Ok(())
+}
+
+/// Looks at all pairs of the writer's place.
+fn look_along_row(sides: &Sides, row: &Row, progress: &mut Progress) -> Result<(), AllocError>
+    requires sides { IsSides sides.now }
+    requires row { IsRow sides.now row.now }
+    requires rest { IsRest (rows sides.now) (columns sides.now) progress.old.table }
+    ensures rest { OnOk result (IsRest (rows sides.now) (columns sides.now) progress.new.table) }
+    ensures lists { OnOk result (Lists progress.old.table progress.old.struck.items progress.new.table progress.new.struck.items) }
+    ensures settled { OnOk result ((j : ℕ) → j < length sides.now.reader.schema.now
+        → Settled (rows sides.now) (columns sides.now) progress.new.table progress.new.struck.items row.now.place j) }
+{
+    for j in (0..sides.reader.places()).rev() {
+        look(sides, row, j, progress)?;
+    }
+    Ok(())
+}
+
+/// Looks at all pairs of a writer's place, whose fields are laid for it and taken off again, and
+/// answers whence each of the reader's fields that have aliases is read of them.
+fn look_at_row(
+    alloc: Global,
+    sides: &Sides,
+    place: u32,
+    numbered: Numbered,
+    boxes: &mut [Option<usize>],
+    progress: &mut Progress,
+) -> Result<Vec<u16>, AllocError>
+    requires sides { IsSides sides.now }
+    requires place_in { place < length sides.now.writer.schema.now }
+    requires clear { IsClear boxes.old }
+    requires room { length (names_of sides.now.reader) ≤ length boxes.old }
+    requires rest { IsRest (rows sides.now) (columns sides.now) progress.old.table }
+    ensures clear { OnOk result (IsClear boxes.new) }
+    ensures entries { IfOk result (λ v. (a : NodeView) → slice_get (rows sides.now) place ≡ Some a
+        → AllZip (IsEntry (columns sides.now) (fields_of a)) numbered.entry.aliased.now v.items) }
+    ensures rest { OnOk result (IsRest (rows sides.now) (columns sides.now) progress.new.table) }
+    ensures lists { OnOk result (Lists progress.old.table progress.old.struck.items progress.new.table progress.new.struck.items) }
+    ensures settled { OnOk result ((j : ℕ) → j < length sides.now.reader.schema.now
+        → Settled (rows sides.now) (columns sides.now) progress.new.table progress.new.struck.items place j) }
+{
+    let fields = sides.writer.fields(place);
+    lay(boxes, &sides.met, fields.ranks);
+    let entries = row_of(alloc, boxes, sides, fields, numbered.aliased)?;
+    let row = Row {
+        place,
+        fields,
+        boxes,
+        numbered,
+        entries: &entries,
+    };
+    look_along_row(sides, &row, progress)?;
+    lift(boxes, &sides.met, fields.ranks);
+    Ok(entries)
+}
+
+/// Looks at all pairs, from the writer's last place to its first, and answers the sources of the
+/// reader's fields that have aliases by the writer's places.
+fn look_at_rows(
+    alloc: Global,
+    sides: &Sides,
+    numbered: Numbered,
+    boxes: &mut [Option<usize>],
+    progress: &mut Progress,
+) -> Result<Vec<Vec<u16>>, AllocError>
+    requires sides { IsSides sides.now }
+    requires clear { IsClear boxes.old }
+    requires room { length (names_of sides.now.reader) ≤ length boxes.old }
+    requires rest { IsRest (rows sides.now) (columns sides.now) progress.old.table }
+    ensures sources { IfOk result (λ v. AreSources (rows sides.now) (columns sides.now) numbered.entry.aliased.now v.items) }
+    ensures rest { OnOk result (IsRest (rows sides.now) (columns sides.now) progress.new.table) }
+    ensures lists { OnOk result (Lists progress.old.table progress.old.struck.items progress.new.table progress.new.struck.items) }
+    ensures settled { OnOk result (AllSettled (rows sides.now) (columns sides.now) progress.new.table
+        progress.new.struck.items) }
+{
+    let mut sources = empty_lists(alloc, sides.writer.places())?;
+    for place in (0..sides.writer.places()).rev() {
+        let entries = look_at_row(alloc, sides, place, numbered, boxes, progress)?;
+        sources[place as usize] = entries;
+    }
+    Ok(sources)
+}
+
+/// Looks at all pairs, a writer's place after the other, and answers the sources of these fields of
+/// the reader's by the writer's places.
+///
+/// # Errors
+///
+/// `AllocError` where memory for the boxes, the sources or the list of what was struck out is
+/// refused.
+pub fn look_everywhere(
+    alloc: Global,
+    sides: &Sides,
+    aliased: &[Aliased],
+    progress: &mut Progress,
+) -> Result<Vec<Vec<u16>>, AllocError>
+    requires sides { IsSides sides.now }
+    requires rest { IsRest (rows sides.now) (columns sides.now) progress.old.table }
+    ensures sources { IfOk result (λ v. AreSources (rows sides.now) (columns sides.now) aliased.now v.items) }
+    ensures rest { OnOk result (IsRest (rows sides.now) (columns sides.now) progress.new.table) }
+    ensures lists { OnOk result (Lists progress.old.table progress.old.struck.items progress.new.table progress.new.struck.items) }
+    ensures settled { OnOk result (AllSettled (rows sides.now) (columns sides.now) progress.new.table
+        progress.new.struck.items) }
+{
+    let mut boxes = Vec::new(alloc);
+    make_room(&mut boxes, sides.reader.index.names.len())?;
+    let firsts = firsts_of(alloc, sides.reader.places() as usize, aliased)?;
+    let numbered = Numbered {
+        aliased,
+        firsts: &firsts,
+    };
+    look_at_rows(alloc, sides, numbered, &mut boxes, progress)
+}
