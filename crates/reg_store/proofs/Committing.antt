@@ -5,6 +5,7 @@ use Rattle.std.specs.FinMap.{get-empty}
 use Rattle.sqlite.specs.Held.{Held, state}
 use Rattle.sqlite_trees.specs.declared.store.Store.{Ghosts}
 use Rattle.sqlite.specs.Tree.{Trees}
+use Rattle.sqlite.specs.Schema.{Schema}
 use Rattle.sqlite.specs.Effect.{Database}
 use Rattle.sqlite.specs.Steps.{FailsToCommit}
 use Rattle.sqlite.specs.declared.error.Error.{Error}
@@ -20,7 +21,7 @@ use Rattle.reg_tables.specs.Contents.{text_cmp, version_cmp, Contents, Holds}
 use Rattle.reg_tables.specs.Changes.{new_contents}
 use Rattle.reg_tables.proofs.Transactions.{keeps_if_unchanged, keeps_if_undone}
 use Rattle.reg_core.specs.KeptReplies.{Kept, nothing_kept}
-use Rattle.reg_store.specs.Spells.{version_row, Spells, Leaves, IsOpenOver, SpellsWhileOpen}
+use Rattle.reg_store.specs.Spells.{version_row, SpellsIn, Spells, Leaves, IsOpenOver, SpellsWhileOpen}
 
 -- a commit that fails leaves the last commit
 pub keeps_if_failed : (a b : State) (e : Error) → FailsToCommit a b e → KeepsCommit a b
@@ -44,9 +45,13 @@ pub left_if_held : (db : Trees) (now : Database) (contents : Contents) → db �
 left_if_held db now contents is h =
     subst (λ d. Holds (record { schema = layout; trees = d }) contents) (sym is) (subst (λ x. Holds (record { schema = x; trees = now.trees }) contents) h.declared h)
 
+-- trees that are those of a database spell what that does
+pub left_if_spelled : (schema : Schema) (db : Trees) (now : Database) (g : Registry) (k : Kept) → db ≡ now.trees → SpellsIn schema now g k → SpellsIn schema (record { schema = schema; trees = db }) g k
+left_if_spelled schema db now g k is s =
+    subst (λ d. SpellsIn schema (record { schema = schema; trees = d }) g k) (sym is) (subst (λ x. SpellsIn schema (record { schema = x; trees = now.trees }) g k) s.holds.declared s)
+
 pub leaves_if_spelled : (db : Trees) (now : Database) (g : Registry) (k : Kept) → db ≡ now.trees → Spells now g k → Leaves db g k
-leaves_if_spelled db now g k is s =
-    subst (λ d. Spells (record { schema = layout; trees = d }) g k) (sym is) (subst (λ x. Spells (record { schema = x; trees = now.trees }) g k) s.holds.declared s)
+leaves_if_spelled = left_if_spelled layout
 
 none_at : (id : ℕ) → schema_at [] id ≡ None
 none_at zero = refl

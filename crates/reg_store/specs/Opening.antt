@@ -19,7 +19,7 @@ use Rattle.reg_store.specs.declared.error.StoreError.{StoreError}
 use Rattle.reg_store.specs.declared.error.StoreError.TheVariants.{OldLayout, NewerLayout}
 use Rattle.reg_store.specs.Failures.{is_fault}
 use Rattle.reg_core.specs.KeptReplies.{Kept}
-use Rattle.reg_store.specs.Spells.{SpellsUnopened, SpellsWhileOpen}
+use Rattle.reg_store.specs.Spells.{SpellsIn, SpellsUnopened, SpellsWhileOpen}
 
 -- ---- rows
 
@@ -75,9 +75,21 @@ IsRefusedBy db _ = Unit {0}
 abbrev pub TellsNewer : State → StoreError → Type 0
 TellsNewer s e = (number : ℕ) → IsTrue s.is_open → Outdates s.now number → (e ≡ NewerLayout number) ⊎ IsTrue (is_fault e)
 
--- the trees are those of the same tables with the index
-abbrev pub IsIndexed : Database → Trees → Type 0
-IsIndexed before db = (contents : Contents) → HoldsIn unindexed before contents → Holds (record { schema = layout; trees = db }) contents
+-- the tables lacked the index, and the trees are those of the same tables with it
+pub record IsIndexed (before : Database) (db : Trees) : Type 0 where
+  pub contents : Contents
+  pub bare : HoldsIn unindexed before contents
+  pub indexed : (held : Contents) → HoldsIn unindexed before held → Holds (record { schema = layout; trees = db }) held
+
+-- the trees spell a registry and kept replies, with the index or without it
+pub record LeavesUnopened (db : Trees) (g : Registry) (k : Kept) : Type 0 where
+  pub schema : Schema
+  pub known : IsLayout schema
+  pub spells : SpellsIn schema (record { schema = schema; trees = db }) g k
+
+-- this project's choice: whatever the tables of an open connection spelled, a crash leaves it
+abbrev pub LosesNothing : State → State → Type 0
+LosesNothing old new = IsTrue old.is_open → (g : Registry) (k : Kept) → SpellsUnopened old.now g k → (db : Trees) → new.may_leave db → LeavesUnopened db g k
 
 -- the tables spelled a registry and kept replies, and the connection shows these
 pub record OpensOver (old new : State) : Type 0 where

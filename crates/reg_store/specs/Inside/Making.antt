@@ -1,10 +1,14 @@
 -- What the functions say that make changes, one after the other.
 use Rattle.std.specs.Prelude.{List, Option}
+use Rattle.sqlite.specs.Tree.{Trees}
+use Rattle.sqlite.specs.Effect.{Database}
 use Rattle.sqlite.specs.State.{State}
 use Rattle.sqlite.specs.declared.error.Error.{Error}
 use Rattle.reg_core.specs.declared.decision.Change.{Change}
 use Rattle.reg_core.specs.Registry.{Registry}
 use Rattle.reg_core.specs.Views.{ChangeFits, ChangesFit, after_change, after_changes}
+use Rattle.reg_tables.specs.Layout.{layout, unindexed}
+use Rattle.reg_tables.specs.Contents.{Contents, HoldsIn, Holds}
 use Rattle.reg_tables.specs.FailedCalls.{IsInsertFault}
 use Rattle.reg_store.specs.declared.keep.Keep.{Keep}
 use Rattle.reg_core.specs.KeptReplies.{Kept}
@@ -30,3 +34,7 @@ IsFaultOfChanges old new changes e = (g : Registry) (k : Kept) → SpellsInside 
 -- so does a reply, where nothing is kept under its key yet
 abbrev pub IsFaultOfReply : State → State → Option Keep → Error → Type 0
 IsFaultOfReply old new keep e = (g : Registry) (k : Kept) → SpellsInside old g k → IsNewTo k keep → IsInsertFault old new e
+
+-- the trees are those of these tables with the index, whatever contents they hold without it
+abbrev pub TakesIndex : Database → Trees → Type 0
+TakesIndex before db = (held : Contents) → HoldsIn unindexed before held → Holds (record { schema = layout; trees = db }) held

@@ -1,6 +1,7 @@
 //! How a store is opened over the tables of a registry.
 
 ghost use Rattle.std.specs.Prelude.{◌≡◌, ◌⊎◌, IfOk, IfErr, OnOk, OnErr, IsTrue, None, false};
+ghost use Rattle.sqlite_disk.specs.Disk.{MoreFaults};
 ghost use Rattle.sqlite.specs.Tree.{Trees};
 ghost use Rattle.sqlite.specs.Held.{state};
 ghost use Rattle.sqlite.specs.State.{HasCleanDisk, Survives, KeepsCommit};
@@ -8,9 +9,10 @@ ghost use Rattle.reg_tables.specs.Layout.{unindexed};
 ghost use Rattle.reg_tables.specs.Contents.{Contents, HoldsIn, Holds};
 ghost use Rattle.reg_tables.specs.Reads.{OnlyReads};
 ghost use Rattle.reg_store.specs.Failures.{failure_of, IsFaultBy};
-ghost use Rattle.reg_store.specs.Opening.{IsRefusedBy, TellsNewer, OpensOver, IsIndexed};
-ghost use Rattle.reg_store.specs.Stores.{state_of, has_failed};
+ghost use Rattle.reg_store.specs.Opening.{IsRefusedBy, TellsNewer, OpensOver, IsIndexed, LosesNothing};
+ghost use Rattle.reg_store.specs.Stores.{state_of, has_failed, LeavesCommit};
 ghost use Rattle.reg_store.specs.UnopenedFaults.{IsFaultUnopened};
+ghost use Rattle.reg_store.specs.Inside.Making.{TakesIndex};
 ghost use Rattle.reg_store.specs.Inside.Reads.{shown};
 
 use crate::error::StoreError;
@@ -51,15 +53,24 @@ impl<S: Alter> Store<S> {
         ensures nothing { IfErr result (λ e. HasCleanDisk (state S.Store e.1)
             → OnlyReads (state S.Store connection) (state S.Store e.1)) }
 
-        // A crash leaves what it left before, or the tables with the index.
+        // A crash leaves what it left before, or the tables with the index; so nothing is lost.
+        ensures found_after { IfOk result (λ store. HasCleanDisk (state_of store)
+            → LosesNothing (state S.Store connection) (state_of store)) }
+        ensures found { IfErr result (λ e. HasCleanDisk (state S.Store e.1)
+            → LosesNothing (state S.Store connection) (state S.Store e.1)) }
         ensures crash_after { IfOk result (λ store. HasCleanDisk (state_of store) → (db : Trees)
             → (state_of store).may_leave db
             → (state S.Store connection).may_leave db ⊎ IsIndexed (state S.Store connection).now db) }
         ensures crash { IfErr result (λ e. HasCleanDisk (state S.Store e.1) → (db : Trees)
             → (state S.Store e.1).may_leave db
             → (state S.Store connection).may_leave db ⊎ IsIndexed (state S.Store connection).now db) }
+        ensures closes { IfErr result (λ e. HasCleanDisk (state S.Store e.1)
+            → IsTrue (state S.Store connection).is_open → IsTrue (state S.Store e.1).is_open
+            ⊎ MoreFaults (state S.Store connection).faults (state S.Store e.1).faults) }
+        ensures settled { IfErr result (λ e. LeavesCommit (state S.Store e.1)) }
     {
         connection.set_step_limit(None);
+        let _idle = connection.is_autocommit();
         let mut db = Idle { conn: connection };
         match make_ready(alloc, &mut db) {
             Ok(()) => Ok(Store {
@@ -115,7 +126,7 @@ fn make_index<S: Alter>(db: &mut Idle<S>) -> Result<(), Error>
     ensures nothing { HasCleanDisk (shown db.new)
         → OnErr result (KeepsCommit (shown db.old) (shown db.new)) }
     ensures survives { Survives (shown db.old) (shown db.new)
-        (λ left. IsTrue (shown db.old).is_open × IsIndexed (shown db.old).now left) }
+        (λ left. IsTrue (shown db.old).is_open × TakesIndex (shown db.old).now left) }
 {
     let mut tx = db.conn.transaction();
     index_versions(&mut tx)?;

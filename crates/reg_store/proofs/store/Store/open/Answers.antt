@@ -1,7 +1,9 @@
-use Rattle.std.proofs.Common.{◌⊎◌, subst}
+use Rattle.std.proofs.Common.{◌⊎◌, IsTrue, subst, rules}
+use Rattle.sqlite_disk.specs.Disk.{MoreFaults}
 use Rattle.sqlite.specs.Held.{state}
-use Rattle.reg_store.specs.Opening.{IsIndexed, OpensOver, TellsNewer}
+use Rattle.reg_store.specs.Opening.{IsIndexed, OpensOver, TellsNewer, LosesNothing}
 use Rattle.reg_store.specs.UnopenedFaults.{IsFaultUnopened}
+use Rattle.reg_store.proofs.OpenLemmas.{loses_nothing}
 use Rattle.reg_store.proofs.store.Store.open.Goals as goal
 
 pub returns-in-Ok-clause-done : goal.returns-in-Ok-clause-done
@@ -22,3 +24,27 @@ returns-in-Err-clause-newer g c clean = subst (λ h. TellsNewer (state g.S.Store
 pub returns-in-Err-clause-crash : goal.returns-in-Err-clause-crash
 returns-in-Err-clause-crash g c clean db it =
     subst (λ h. (state g.S.Store h).may_leave db ⊎ IsIndexed (state g.S.Store h).now db) c.set_step_limit.ensures (c.in-Err.ensures.survives.crash clean db it)
+
+pub returns-in-Ok-clause-found_after : goal.returns-in-Ok-clause-found_after
+returns-in-Ok-clause-found_after g c clean =
+    let idle : IsTrue c.is_autocommit-idle.result = search rules in
+    let old = state g.S.Store c.set_step_limit.new.self in
+    let new = state g.S.Store c.make_ready.new.db.conn in
+    subst (λ h. LosesNothing (state g.S.Store h) new) c.set_step_limit.ensures
+    (loses_nothing old new (c.is_autocommit-idle.ensures.settled idle) (λ db is_open it. g.met.S.Store.settled c.set_step_limit.new.self.store db is_open it) c.in-Ok.ensures.survives clean)
+
+pub returns-in-Err-clause-found : goal.returns-in-Err-clause-found
+returns-in-Err-clause-found g c clean =
+    let idle : IsTrue c.is_autocommit-idle.result = search rules in
+    let old = state g.S.Store c.set_step_limit.new.self in
+    let new = state g.S.Store c.make_ready.new.db.conn in
+    subst (λ h. LosesNothing (state g.S.Store h) new) c.set_step_limit.ensures
+    (loses_nothing old new (c.is_autocommit-idle.ensures.settled idle) (λ db is_open it. g.met.S.Store.settled c.set_step_limit.new.self.store db is_open it) c.in-Err.ensures.survives clean)
+
+pub returns-in-Err-clause-closes : goal.returns-in-Err-clause-closes
+returns-in-Err-clause-closes g c clean =
+    subst (λ h. IsTrue (state g.S.Store h).is_open → IsTrue (state g.S.Store c.make_ready.new.db.conn).is_open ⊎ MoreFaults (state g.S.Store h).faults (state g.S.Store c.make_ready.new.db.conn).faults)
+    c.set_step_limit.ensures (c.in-Err.ensures.survives.closes clean)
+
+pub returns-in-Err-clause-settled : goal.returns-in-Err-clause-settled
+returns-in-Err-clause-settled g c is_open db it = g.met.S.Store.settled c.make_ready.new.db.conn.store db is_open it

@@ -10,7 +10,7 @@ use Rattle.reg_tables.specs.Layout.{unindexed}
 use Rattle.reg_tables.specs.Contents.{Contents, HoldsIn, Holds}
 use Rattle.reg_tables.proofs.Transactions.{on_ok, if_err}
 use Rattle.reg_tables.proofs.WriteFaults.{erred_with}
-use Rattle.reg_store.specs.Opening.{IsIndexed}
+use Rattle.reg_store.specs.Inside.Making.{TakesIndex}
 use Rattle.reg_store.specs.Failures.{failure_of, IsFaultBy}
 use Rattle.reg_store.proofs.Committing.{left_if_held}
 use Rattle.reg_tables.specs.FailedCalls.{IsWriteFault}
@@ -38,7 +38,7 @@ returns-clause-survives g c =
     let end = c.commit.new.self.0 in
     let first = state g.S.Store c.args.db.now.conn in
     let last = state g.S.Store c.index_versions.new.tx.conn.now in
-    let P = λ (db : Trees). IsTrue first.is_open × IsIndexed first.now db in
+    let P = λ (db : Trees). IsTrue first.is_open × TakesIndex first.now db in
     let commits = λ (clean : HasCleanDisk (state g.S.Store end)) (db : Trees) (is : db ≡ last.now.trees).
     let clean_last : HasCleanDisk last = omega (arith, c.commit.ensures.survives.clean) in
     let was_open = subst (λ h. IsTrue (state g.S.Store h).is_open) c.transaction-tx.ensures.begun (c.in_ok-index_versions.ensures.frame.was_open clean_last) in

@@ -10,7 +10,7 @@ use Rattle.reg_store.specs.Opening.{TellsNewer}
 use Rattle.reg_store.specs.UnopenedFaults.{IsFaultUnopened}
 use Rattle.reg_store.proofs.Failing.{passed, by_since}
 use Rattle.reg_store.proofs.MetaLemmas.{not_outdated}
-use Rattle.reg_store.proofs.OpenLemmas.{opens_as_it_is, opens_with_index, index_survives, spells_under, only_reads}
+use Rattle.reg_store.proofs.OpenLemmas.{opens_as_it_is, opens_with_index, bare_contents, index_survives, spells_under, only_reads}
 use Rattle.reg_store.proofs.Committing.{on_err_each}
 use Rattle.reg_tables.proofs.Transactions.{keeps_then}
 use Rattle.reg_store.proofs.Rereading.{same_now}
@@ -48,14 +48,32 @@ returns-clause-done g c clean =
 pub returns-clause-survives : goal.returns-clause-survives
 returns-clause-survives g c =
     let idle : IsTrue c.is_autocommit-idle.result = search rules in
-    let t = c.in_ok-test.ensures.tests.frame in
-    index_survives (state g.S.Store c.args.db.now.conn) (state g.S.Store c.test.new.db.conn) (state g.S.Store c.make_index-made.new.db.conn) t.only_reads (c.is_autocommit-idle.ensures.settled idle) t.survives c.make_index-made.ensures.survives
+    let old = state g.S.Store c.args.db.now.conn in
+    let mid = state g.S.Store c.test.new.db.conn in
+    let new = state g.S.Store c.make_index-made.new.db.conn in
+    let t = c.in_ok-test.ensures in
+    let settled = c.is_autocommit-idle.ensures.settled idle in
+    let frame = t.tests.frame in
+    index_survives old mid new frame.only_reads settled
+    (λ clean mid_open.
+    let early : HasCleanDisk mid = omega (arith, c.make_index-made.ensures.survives.clean) in
+    bare_contents old mid (frame.only_reads early) settled t.known (c.schema-live.ensures.live (frame.was_open early)).0 (t.tests.passes early t.known) (c.is_unindexed.ensures.0 c.if-not-is_unindexed.false) mid_open)
+    frame.survives c.make_index-made.ensures.survives
 
 pub returns-in_err-made-clause-survives : goal.returns-in_err-made-clause-survives
 returns-in_err-made-clause-survives g c =
     let idle : IsTrue c.is_autocommit-idle.result = search rules in
-    let t = c.in_ok-test.ensures.tests.frame in
-    index_survives (state g.S.Store c.args.db.now.conn) (state g.S.Store c.test.new.db.conn) (state g.S.Store c.make_index-made.new.db.conn) t.only_reads (c.is_autocommit-idle.ensures.settled idle) t.survives c.make_index-made.ensures.survives
+    let old = state g.S.Store c.args.db.now.conn in
+    let mid = state g.S.Store c.test.new.db.conn in
+    let new = state g.S.Store c.make_index-made.new.db.conn in
+    let t = c.in_ok-test.ensures in
+    let settled = c.is_autocommit-idle.ensures.settled idle in
+    let frame = t.tests.frame in
+    index_survives old mid new frame.only_reads settled
+    (λ clean mid_open.
+    let early : HasCleanDisk mid = omega (arith, c.make_index-made.ensures.survives.clean) in
+    bare_contents old mid (frame.only_reads early) settled t.known (c.schema-live.ensures.live (frame.was_open early)).0 (t.tests.passes early t.known) (c.is_unindexed.ensures.0 c.if-not-is_unindexed.false) mid_open)
+    frame.survives c.make_index-made.ensures.survives
 
 pub returns-in_err-made-clause-fault : goal.returns-in_err-made-clause-fault
 returns-in_err-made-clause-fault g c clean =
