@@ -1,5 +1,5 @@
 -- What a transaction that was committed, or failed, leaves.
-use Rattle.std.proofs.Common.{◌≡◌, ◌⊎◌, inl, inr, ℕ, zero, suc, lit≤, List, [], Some, None, option_map, true, Ok, Err, Result, refl, sym, ap, subst, ◌∙◌}
+use Rattle.std.proofs.Common.{◌≤◌, arith, ◌≡◌, ◌⊎◌, inl, inr, ℕ, zero, suc, lit≤, List, [], Some, None, option_map, true, Ok, Err, Result, refl, sym, ap, subst, ◌∙◌}
 use Rattle.std.specs.Prelude.{IfErr, OnOk, OnErr, IsTrue, is_ok}
 use Rattle.std.specs.FinMap.{get-empty}
 use Rattle.sqlite.specs.Held.{Held, state}
@@ -9,7 +9,10 @@ use Rattle.sqlite.specs.Schema.{Schema}
 use Rattle.sqlite.specs.Effect.{Database}
 use Rattle.sqlite.specs.Steps.{FailsToCommit}
 use Rattle.sqlite.specs.declared.error.Error.{Error}
-use Rattle.sqlite.specs.State.{State, KeepsCommit, Survives, HasCleanDisk}
+use Rattle.sqlite_disk.specs.Disk.{MoreFaults}
+use Rattle.sqlite_trees.specs.declared.error.StoreError as trees
+use Rattle.sqlite_trees.specs.declared.error.StoreError.TheVariants as stored
+use Rattle.sqlite.specs.State.{State, KeepsCommit, Survives, HasCleanDisk, store_error}
 use Rattle.std.specs.Ordering.{nat_cmp}
 use Rattle.std.proofs.lemmas.List.Elements.{All-nil}
 use Rattle.avro_nodes.specs.Nodes.{NodeView}
@@ -21,6 +24,10 @@ use Rattle.reg_tables.specs.Contents.{text_cmp, version_cmp, Contents, Holds}
 use Rattle.reg_tables.specs.Changes.{new_contents}
 use Rattle.reg_tables.proofs.Transactions.{keeps_if_unchanged, keeps_if_undone}
 use Rattle.reg_core.specs.KeptReplies.{Kept, nothing_kept}
+use Rattle.reg_store.specs.declared.error.StoreError.{StoreError}
+use Rattle.reg_store.specs.declared.error.StoreError.TheVariants.{Memory, Disk, NotARegistry, OldLayout, NewerLayout}
+use Rattle.reg_store.specs.Failures.{failure_of, IsFaultBy}
+use Rattle.reg_store.specs.Stores.{LeavesBefore}
 use Rattle.reg_store.specs.Spells.{version_row, SpellsIn, Spells, Leaves, IsOpenOver, SpellsWhileOpen}
 
 -- a commit that fails leaves the last commit
@@ -109,3 +116,52 @@ on_ok_same (Ok x) (Ok y) same f h = f h
 on_ok_same (Ok x) (Err e) same f h = tt
 on_ok_same (Err e) (Ok y) same f h = absurd (cc)
 on_ok_same (Err e) (Err d) same f h = tt
+
+-- ---- errors that aren't the disk's
+
+-- where a crash leaves no more than before, no error says otherwise
+pub leaves_before : (old new : State) (e : StoreError) → ((db : Trees) → new.may_leave db → old.may_leave db) → LeavesBefore old new e
+leaves_before old new Memory h = inl h
+leaves_before old new Disk h = tt
+leaves_before old new NotARegistry h = h
+leaves_before old new (OldLayout number) h = h
+leaves_before old new (NewerLayout number) h = h
+
+-- so it is where a transaction is dropped
+pub before_if_undone : (old new : State) (e : StoreError) → Survives old new (λ _. ⊥) → HasCleanDisk new → LeavesBefore old new e
+before_if_undone old new e s clean = leaves_before old new e (λ db it. elim (s.crash clean db it) [ inl was ↦ was | inr none ↦ absurd none ])
+
+-- a commit that fails leaves the last one while the connection is open, and memory alone is refused without a word on that
+module _ (first last end : State) (keeps : KeepsCommit first end) (settled : (db : Trees) → IsTrue end.is_open → end.may_leave db → db ≡ end.committed.trees) (stays : IsTrue first.is_open → first.may_leave first.committed.trees)
+    (closes : IsTrue end.is_open ⊎ MoreFaults first.faults end.faults) where
+  open_before : IsTrue end.is_open → (db : Trees) → end.may_leave db → first.may_leave db
+  open_before is_open db it = subst first.may_leave (sym (settled db is_open it ∙ ap (λ (d : Database). d.trees) (keeps.committed is_open))) (stays (keeps.was_open is_open))
+
+  pub before_if_failed : (e : Error) → FailsToCommit last end e → LeavesBefore first end (failure_of e)
+  before_if_failed e (inl fails) = subst (λ x. LeavesBefore first end (failure_of x)) (sym fails.1) (go fails.0)
+    where
+      go : (cause : trees.StoreError) → LeavesBefore first end (failure_of (store_error cause))
+      go stored.OutOfMemory = elim closes [ inl is_open ↦ inl (open_before is_open) | inr more ↦ inr more ]
+      go stored.Io = tt
+      go stored.Corrupt = tt
+      go stored.Full = tt
+      go stored.Broken = tt
+      go stored.Unstorable = tt
+  before_if_failed e (inr late) = subst (λ x. LeavesBefore first end (failure_of x)) (sym late.0) (open_before late.2.0.is_open)
+
+-- what a later call leaves, an earlier state left, where none was committed between
+pub before_then : (a b c : State) (e : StoreError) → Survives a b (λ _. ⊥) → HasCleanDisk b → b.faults ≤ c.faults → LeavesBefore b c e → LeavesBefore a c e
+before_then a b c Memory s clean up (inl same) = inl (λ db it. elim (s.crash clean db (same db it)) [ inl was ↦ was | inr none ↦ absurd none ])
+before_then a b c Memory s clean up (inr more) = let counts = s.counts in inr (omega (arith, counts, more))
+before_then a b c Disk s clean up h = tt
+before_then a b c NotARegistry s clean up h = λ db it. elim (s.crash clean db (h db it)) [ inl was ↦ was | inr none ↦ absurd none ]
+before_then a b c (OldLayout number) s clean up h = λ db it. elim (s.crash clean db (h db it)) [ inl was ↦ was | inr none ↦ absurd none ]
+before_then a b c (NewerLayout number) s clean up h = λ db it. elim (s.crash clean db (h db it)) [ inl was ↦ was | inr none ↦ absurd none ]
+
+-- a fault that shut the connection came before
+pub before_if_faulted : (old mid new : State) (e : StoreError) → MoreFaults old.faults mid.faults → mid.faults ≤ new.faults → IsFaultBy mid new e → LeavesBefore old new e
+before_if_faulted old mid new Memory more up h = inr (omega (arith, more, up))
+before_if_faulted old mid new Disk more up h = tt
+before_if_faulted old mid new NotARegistry more up h = absurd h
+before_if_faulted old mid new (OldLayout number) more up h = absurd h
+before_if_faulted old mid new (NewerLayout number) more up h = absurd h

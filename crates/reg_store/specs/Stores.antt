@@ -6,7 +6,7 @@ use Rattle.sqlite.specs.Tree.{Trees}
 use Rattle.sqlite.specs.State.{State, HasCleanDisk}
 use Rattle.sqlite_trees.specs.declared.store.Store.{Ghosts}
 use Rattle.reg_store.specs.declared.error.StoreError.{StoreError}
-use Rattle.reg_store.specs.declared.error.StoreError.TheVariants.{Disk}
+use Rattle.reg_store.specs.declared.error.StoreError.TheVariants.{Memory, Disk}
 use Rattle.reg_store.specs.declared.store.Store.{Store}
 
 -- SQLite, connections: the store's one
@@ -24,6 +24,12 @@ has_failed store = store.failed
 -- SQLite, transactions: while the connection is open, a crash leaves its last commit alone
 abbrev pub LeavesCommit : State → Type 0
 LeavesCommit s = IsTrue s.is_open → (db : Trees) → s.may_leave db → db ≡ s.committed.trees
+
+-- this project's choice: where the error isn't `Disk`, a crash leaves what it left before and no more; but the disk may fail while memory is refused
+abbrev pub LeavesBefore : State → State → StoreError → Type 0
+LeavesBefore old new Disk = Unit {0}
+LeavesBefore old new Memory = ((db : Trees) → new.may_leave db → old.may_leave db) ⊎ MoreFaults old.faults new.faults
+LeavesBefore old new _ = (db : Trees) → new.may_leave db → old.may_leave db
 
 -- SQLite, connections: no fault is forgotten, no connection is opened, and only a fault of the disk shuts one
 pub record KeepsOpen (old new : State) : Type 0 where

@@ -9,7 +9,7 @@ ghost use Rattle.reg_core.specs.KeptReplies.{Kept};
 ghost use Rattle.reg_store.specs.Spells.{Leaves, IsOpenOver, SpellsWhileOpen};
 ghost use Rattle.reg_store.specs.Changes.{with_reply, IsNewTo, IsKeepable, ActsOn};
 ghost use Rattle.reg_store.specs.Failures.{failure_of, is_fault};
-ghost use Rattle.reg_store.specs.Stores.{state_of, KeepsStore};
+ghost use Rattle.reg_store.specs.Stores.{state_of, LeavesBefore, KeepsStore};
 ghost use Rattle.reg_store.specs.Inside.Reads.{shown};
 
 use crate::changes::{keep_reply, make_all};
@@ -37,6 +37,8 @@ fn commit_all<S: Alter>(
         → OnOk result (IsTrue (shown db.old).is_open) }
     ensures nothing { HasCleanDisk (shown db.new)
         → OnErr result (KeepsCommit (shown db.old) (shown db.new)) }
+    ensures before { HasCleanDisk (shown db.new) → IfErr result (λ e. IsTrue (shown db.old).is_open
+        → LeavesBefore (shown db.old) (shown db.new) (failure_of e)) }
     ensures survives { Survives (shown db.old) (shown db.new) (λ left.
         (g : Registry) (k : Kept)
         → SpellsWhileOpen (shown db.old) g k → IsNewTo k keep.entry → ChangesFit changes.now g
@@ -70,6 +72,10 @@ impl<S: Alter> Store<S> {
             → IsNewTo k keep.entry → ChangesFit changes.now g → IsTrue (is_fault e)) }
         ensures nothing { HasCleanDisk (state_of self.new) → OnErr result ((g : Registry) (k : Kept)
             → SpellsWhileOpen (state_of self.old) g k → SpellsWhileOpen (state_of self.new) g k) }
+
+        // An error that isn't `Disk` leaves the database as it was, also after a crash.
+        ensures before { HasCleanDisk (state_of self.new) → IfErr result (λ e.
+            IsTrue (state_of self.old).is_open → LeavesBefore (state_of self.old) (state_of self.new) e) }
 
         // A crash leaves the database before the call, or the one after it.
         ensures crash { HasCleanDisk (state_of self.new) → (g : Registry) (k : Kept)

@@ -11,7 +11,7 @@ ghost use Rattle.reg_tables.specs.Reads.{OnlyReads};
 ghost use Rattle.reg_core.specs.KeptReplies.{nothing_kept};
 ghost use Rattle.reg_store.specs.Spells.{Leaves, IsOpenOver};
 ghost use Rattle.reg_store.specs.Failures.{failure_of, IsFaultBy};
-ghost use Rattle.reg_store.specs.Stores.{connection_of, state_of, has_failed, LeavesCommit};
+ghost use Rattle.reg_store.specs.Stores.{connection_of, state_of, has_failed, LeavesBefore, LeavesCommit};
 ghost use Rattle.reg_store.specs.Inside.Reads.{shown};
 
 use crate::error::StoreError;
@@ -27,8 +27,8 @@ impl<S: Alter> Store<S> {
     ///
     /// # Errors
     ///
-    /// `NotARegistry` where the database isn't empty, and there alone; `Memory` and `Disk`. The database is as
-    /// before then; but after `Disk` a crash may leave the new registry too.
+    /// `NotARegistry` where the database isn't empty, and there alone; `Memory` and `Disk`. The
+    /// database is as before then; but after `Disk` a crash may leave the new registry too.
     pub fn create(
         alloc: Global,
         mut connection: Connection<S>,
@@ -47,6 +47,11 @@ impl<S: Alter> Store<S> {
             → IsFaultBy (state S.Store connection) (state S.Store e.1) e.0) }
         ensures nothing { IfErr result (λ e. HasCleanDisk (state S.Store e.1)
             → OnlyReads (state S.Store connection) (state S.Store e.1)) }
+
+        // An error that isn't `Disk` leaves the database as it was, also after a crash.
+        ensures before { IfErr result (λ e. HasCleanDisk (state S.Store e.1)
+            → IsTrue (state S.Store connection).is_open
+            → LeavesBefore (state S.Store connection) (state S.Store e.1) e.0) }
 
         // A crash leaves the new registry, or where the call failed perhaps what it left before.
         ensures crash_after { IfOk result (λ store. HasCleanDisk (state_of store) → (db : Trees)
@@ -112,6 +117,8 @@ fn make_in<S: Alter>(db: &mut Idle<S>) -> Result<(), Error>
         → IsFaultBy (shown db.old) (shown db.new) (failure_of e)) }
     ensures nothing { HasCleanDisk (shown db.new)
         → OnErr result (KeepsCommit (shown db.old) (shown db.new)) }
+    ensures before { HasCleanDisk (shown db.new) → IfErr result (λ e. IsTrue (shown db.old).is_open
+        → LeavesBefore (shown db.old) (shown db.new) (failure_of e)) }
     ensures survives { Survives (shown db.old) (shown db.new) (λ left.
         (shown db.old).now.schema ≡ no_schema → Leaves left new_registry nothing_kept) }
 {

@@ -10,7 +10,7 @@ ghost use Rattle.reg_tables.specs.Contents.{Contents, HoldsIn, Holds};
 ghost use Rattle.reg_tables.specs.Reads.{OnlyReads};
 ghost use Rattle.reg_store.specs.Failures.{failure_of, IsFaultBy};
 ghost use Rattle.reg_store.specs.Opening.{IsRefusedBy, TellsNewer, OpensOver, IsIndexed, LosesNothing};
-ghost use Rattle.reg_store.specs.Stores.{state_of, has_failed, LeavesCommit};
+ghost use Rattle.reg_store.specs.Stores.{state_of, has_failed, LeavesBefore, LeavesCommit};
 ghost use Rattle.reg_store.specs.UnopenedFaults.{IsFaultUnopened};
 ghost use Rattle.reg_store.specs.Inside.Making.{TakesIndex};
 ghost use Rattle.reg_store.specs.Inside.Reads.{shown};
@@ -52,6 +52,11 @@ impl<S: Alter> Store<S> {
         ensures idle { IfErr result (λ e. e.1.in_transaction ≡ false) }
         ensures nothing { IfErr result (λ e. HasCleanDisk (state S.Store e.1)
             → OnlyReads (state S.Store connection) (state S.Store e.1)) }
+
+        // An error that isn't `Disk` leaves the database as it was, also after a crash.
+        ensures before { IfErr result (λ e. HasCleanDisk (state S.Store e.1)
+            → IsTrue (state S.Store connection).is_open
+            → LeavesBefore (state S.Store connection) (state S.Store e.1) e.0) }
 
         // A crash leaves what it left before, or the tables with the index; so nothing is lost.
         ensures found_after { IfOk result (λ store. HasCleanDisk (state_of store)
@@ -98,6 +103,8 @@ fn make_ready<S: Alter>(alloc: Global, db: &mut Idle<S>) -> Result<(), StoreErro
         → IfErr result (TellsNewer (shown db.old)) }
     ensures nothing { HasCleanDisk (shown db.new)
         → OnErr result (OnlyReads (shown db.old) (shown db.new)) }
+    ensures before { HasCleanDisk (shown db.new) → IfErr result (λ e.
+        IsTrue (shown db.old).is_open → LeavesBefore (shown db.old) (shown db.new) e) }
     ensures survives { Survives (shown db.old) (shown db.new)
         (IsIndexed (shown db.old).now) }
 {
@@ -125,6 +132,8 @@ fn make_index<S: Alter>(db: &mut Idle<S>) -> Result<(), Error>
         → IsFaultBy (shown db.old) (shown db.new) (failure_of e)) }
     ensures nothing { HasCleanDisk (shown db.new)
         → OnErr result (KeepsCommit (shown db.old) (shown db.new)) }
+    ensures before { HasCleanDisk (shown db.new) → IfErr result (λ e. IsTrue (shown db.old).is_open
+        → LeavesBefore (shown db.old) (shown db.new) (failure_of e)) }
     ensures survives { Survives (shown db.old) (shown db.new)
         (λ left. IsTrue (shown db.old).is_open × TakesIndex (shown db.old).now left) }
 {

@@ -9,6 +9,7 @@ use Rattle.reg_core.specs.Views.{ChangesFit}
 use Rattle.reg_store.specs.Spells.{SpellsWhileOpen}
 use Rattle.reg_store.specs.Changes.{IsNewTo}
 use Rattle.reg_store.specs.Failures.{is_fault}
+use Rattle.reg_store.specs.Stores.{LeavesBefore}
 use Rattle.reg_store.proofs.Committing.{leaves_if_spelled, still_spells, on_ok_same, on_err_same}
 use Rattle.reg_store.proofs.Keeping.{keeps_store, opens_none}
 use Rattle.reg_store.proofs.Writing.{mapped_err}
@@ -51,3 +52,9 @@ returns-clause-frame g c =
 pub returns-clause-crash_shut : goal.returns-clause-crash_shut
 returns-clause-crash_shut g c clean registry k over fresh fits acts db it =
     elim (c.commit_all-done.ensures.survives.crash clean db it) [ inl was ↦ inl was | inr made ↦ inr (made registry k over fresh fits (inr acts)) ]
+
+pub returns-clause-before : goal.returns-clause-before
+returns-clause-before g c clean =
+    let old = state g.S.Store c.args.self.now.db.conn in
+    let new = state g.S.Store c.commit_all-done.new.db.conn in
+    mapped_err (λ e. IsTrue old.is_open → LeavesBefore old new e) c.commit_all-done.result c.map_err-done.result c.map_err-done.ensures.cases (c.commit_all-done.ensures.before clean)

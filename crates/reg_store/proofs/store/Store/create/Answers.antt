@@ -6,6 +6,7 @@ use Rattle.sqlite.specs.Held.{Held, state}
 use Rattle.reg_core.specs.Registry.{new_registry}
 use Rattle.reg_tables.specs.Layout.{no_schema}
 use Rattle.reg_store.specs.Failures.{IsFaultBy}
+use Rattle.reg_store.specs.Stores.{LeavesBefore}
 use Rattle.reg_core.specs.KeptReplies.{nothing_kept}
 use Rattle.reg_store.proofs.Committing.{leaves_if_spelled}
 use Rattle.reg_store.proofs.store.Store.create.Goals as goal
@@ -36,3 +37,10 @@ returns-in-Err-clause-settled g c is_open db it = g.met.S.Store.settled c.make_i
 
 pub returns-then-not-has_no_tables-clause-settled : goal.returns-then-not-has_no_tables-clause-settled
 returns-then-not-has_no_tables-clause-settled g c is_open db it = g.met.S.Store.settled c.set_step_limit.new.self.store db is_open it
+
+pub returns-in-Err-clause-before : goal.returns-in-Err-clause-before
+returns-in-Err-clause-before g c clean =
+    subst₂ (λ h e. IsTrue (state g.S.Store h).is_open → LeavesBefore (state g.S.Store h) (state g.S.Store c.make_in-made.new.db.conn) e) c.set_step_limit.ensures (sym c.from.ensures) (c.in-Err.ensures.before clean)
+
+pub returns-then-not-has_no_tables-clause-before : goal.returns-then-not-has_no_tables-clause-before
+returns-then-not-has_no_tables-clause-before g c clean is_open db it = subst (λ h. (state g.S.Store h).may_leave db) c.set_step_limit.ensures it

@@ -13,9 +13,10 @@ use Rattle.reg_core.specs.KeptReplies.{Kept}
 use Rattle.reg_store.specs.Spells.{Spells, Leaves, IsOpenOver, SpellsWhileOpen}
 use Rattle.reg_store.specs.Changes.{with_reply, IsNewTo, ActsOn}
 use Rattle.reg_store.specs.Failures.{failure_of, is_fault}
+use Rattle.reg_store.specs.Stores.{LeavesBefore}
 use Rattle.reg_store.proofs.Failing.{fault_if_by}
 use Rattle.reg_store.proofs.Writing.{fault_later, is_fault_of_insert, fault_of_commit, begun_spells, still_inside}
-use Rattle.reg_store.proofs.Committing.{keeps_begin, keeps_if_failed, on_err, on_err_each, leaves_if_spelled}
+use Rattle.reg_store.proofs.Committing.{keeps_begin, keeps_if_failed, on_err, on_err_each, leaves_if_spelled, before_if_undone, before_if_failed}
 use Rattle.reg_store.proofs.store.applying.commit_all.Goals as goal
 
 pub returns-clause-done : goal.returns-clause-done
@@ -160,3 +161,45 @@ returns-clause-nothing g c clean =
     let all = keeps_begin g.S.Store c.args.db.now.conn c.transaction-tx.result.conn.now (state g.S.Store end) c.transaction-tx.ensures.begun
     (keeps_then begun mid (state g.S.Store end) (c.make_all.ensures.frame.commit_stays clean_mid) (keeps_then mid last (state g.S.Store end) (c.keep_reply.ensures.frame.commit_stays clean_last) (keeps_if_failed last (state g.S.Store end) e fails))) in
     all) (c.commit.ensures.err late)
+
+pub returns-in_err-make_all-clause-before : goal.returns-in_err-make_all-clause-before
+returns-in_err-make_all-clause-before g c clean =
+    let first = state g.S.Store c.args.db.now.conn in
+    let begun = state g.S.Store c.transaction-tx.result.conn.now in
+    let mid = state g.S.Store c.make_all.new.tx.conn.now in
+    let end = state g.S.Store c.drop-tx.new.self.0 in
+    let late : HasCleanDisk end = search rules in
+    let e = c.in_err-make_all.field-0.0 in
+    let inside = survives_both begun mid end c.make_all.ensures.frame.survives c.drop-tx.ensures.survives in
+    let whole = survives_begin g.S.Store c.args.db.now.conn end _ (rw c.transaction-tx.ensures.begun at inside) in
+    erred_with c.from_residual.result e (λ x. IsTrue first.is_open → LeavesBefore first (state g.S.Store c.drop-tx.new.self.0) (failure_of x)) c.from_residual.ensures.1 (λ is_open. before_if_undone first end (failure_of e) whole late)
+
+pub returns-in_err-keep_reply-clause-before : goal.returns-in_err-keep_reply-clause-before
+returns-in_err-keep_reply-clause-before g c clean =
+    let first = state g.S.Store c.args.db.now.conn in
+    let begun = state g.S.Store c.transaction-tx.result.conn.now in
+    let mid = state g.S.Store c.make_all.new.tx.conn.now in
+    let last = state g.S.Store c.keep_reply.new.tx.conn.now in
+    let end = state g.S.Store c.drop-tx-in_err-keep_reply.new.self.0 in
+    let late : HasCleanDisk end = search rules in
+    let e = c.in_err-keep_reply.field-0.0 in
+    let inside = survives_both begun last end (survives_both begun mid last c.make_all.ensures.frame.survives c.keep_reply.ensures.frame.survives) c.drop-tx-in_err-keep_reply.ensures.survives in
+    let whole = survives_begin g.S.Store c.args.db.now.conn end _ (rw c.transaction-tx.ensures.begun at inside) in
+    erred_with c.from_residual-in_err-keep_reply.result e (λ x. IsTrue first.is_open → LeavesBefore first (state g.S.Store c.drop-tx-in_err-keep_reply.new.self.0) (failure_of x)) c.from_residual-in_err-keep_reply.ensures.1
+    (λ is_open. before_if_undone first end (failure_of e) whole late)
+
+pub returns-clause-before : goal.returns-clause-before
+returns-clause-before g c clean =
+    let conn = c.args.db.now.conn in
+    let begun = c.transaction-tx.result.conn.now in
+    let mid = state g.S.Store c.make_all.new.tx.conn.now in
+    let last = state g.S.Store c.keep_reply.new.tx.conn.now in
+    let end = c.commit.new.self.0 in
+    let late : HasCleanDisk (state g.S.Store end) = search rules in
+    let clean_last : HasCleanDisk last = omega (arith, c.commit.ensures.survives.clean) in
+    let clean_mid : HasCleanDisk mid = omega (arith, c.keep_reply.ensures.frame.survives.clean) in
+    if_err c.commit.result (λ e fails is_open.
+    let keeps = keeps_begin g.S.Store conn begun (state g.S.Store end) c.transaction-tx.ensures.begun
+    (keeps_then (state g.S.Store begun) mid (state g.S.Store end) (c.make_all.ensures.frame.commit_stays clean_mid) (keeps_then mid last (state g.S.Store end) (c.keep_reply.ensures.frame.commit_stays clean_last) (keeps_if_failed last (state g.S.Store end) e fails))) in
+    before_if_failed (state g.S.Store conn) last (state g.S.Store end) keeps (λ db is_open it. g.met.S.Store.settled end.store db is_open it) (λ is_open. g.met.S.Store.stays conn.store is_open)
+    ((returns-clause-survives g c).closes late is_open) e fails) (c.commit.ensures.err late)

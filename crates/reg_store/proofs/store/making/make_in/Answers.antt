@@ -1,4 +1,5 @@
 use Rattle.std.proofs.Common.{◌≡◌, ◌∙◌, sym, ap, subst, arith, rules}
+use Rattle.std.specs.Prelude.{IsTrue}
 use Rattle.sqlite.specs.Tree.{Trees}
 use Rattle.sqlite.specs.Held.{Held, state}
 use Rattle.sqlite.specs.State.{HasCleanDisk}
@@ -6,14 +7,15 @@ use Rattle.sqlite.proofs.StateLemmas.{survives_then}
 use Rattle.sqlite.proofs.Callers.{survives_begin}
 use Rattle.reg_core.specs.Registry.{new_registry}
 use Rattle.reg_tables.specs.Layout.{no_schema}
-use Rattle.reg_tables.proofs.Transactions.{on_ok, if_err}
+use Rattle.reg_tables.proofs.Transactions.{on_ok, if_err, keeps_then, survives_both}
 use Rattle.reg_tables.proofs.WriteFaults.{erred_with}
 use Rattle.reg_store.specs.Failures.{failure_of, IsFaultBy}
 use Rattle.reg_store.proofs.Writing.{fault_of_write, fault_of_commit, of_call}
 use Rattle.reg_store.proofs.Failing.{by_since}
 use Rattle.reg_core.specs.KeptReplies.{nothing_kept}
 use Rattle.reg_store.specs.Spells.{Spells, Leaves, IsOpenOver}
-use Rattle.reg_store.proofs.Committing.{leaves_if_spelled, spells_new}
+use Rattle.reg_store.specs.Stores.{LeavesBefore}
+use Rattle.reg_store.proofs.Committing.{keeps_begin, keeps_if_failed, leaves_if_spelled, spells_new, before_if_undone, before_if_failed}
 use Rattle.reg_store.proofs.store.making.make_in.Goals as goal
 
 pub returns-clause-done : goal.returns-clause-done
@@ -74,3 +76,29 @@ returns-clause-fault g c clean =
     if_err c.commit.result (λ e fails none.
     let whole = by_since begun last (state g.S.Store end) (frame.closes clean_last) frame.counts c.commit.ensures.survives.counts (failure_of e) (fault_of_commit last (state g.S.Store end) e unlimited (c.in_ok-create.ensures.frame.inside clean_last) fails) in
     subst (λ h. IsFaultBy (state g.S.Store h) (state g.S.Store end) (failure_of e)) c.transaction-tx.ensures.begun whole) (c.commit.ensures.err late)
+
+pub returns-in_err-create-clause-before : goal.returns-in_err-create-clause-before
+returns-in_err-create-clause-before g c clean =
+    let first = state g.S.Store c.args.db.now.conn in
+    let begun = state g.S.Store c.transaction-tx.result.conn.now in
+    let last = state g.S.Store c.create.new.tx.conn.now in
+    let end = state g.S.Store c.drop-tx.new.self.0 in
+    let late : HasCleanDisk end = search rules in
+    let e = c.in_err-create.field-0.0 in
+    let inside = survives_both begun last end c.create.ensures.frame.keeps.survives c.drop-tx.ensures.survives in
+    let whole = survives_begin g.S.Store c.args.db.now.conn end _ (rw c.transaction-tx.ensures.begun at inside) in
+    erred_with c.from_residual.result e (λ x. IsTrue first.is_open → LeavesBefore first (state g.S.Store c.drop-tx.new.self.0) (failure_of x)) c.from_residual.ensures.1 (λ is_open. before_if_undone first end (failure_of e) whole late)
+
+pub returns-clause-before : goal.returns-clause-before
+returns-clause-before g c clean =
+    let conn = c.args.db.now.conn in
+    let begun = c.transaction-tx.result.conn.now in
+    let last = state g.S.Store c.create.new.tx.conn.now in
+    let end = c.commit.new.self.0 in
+    let late : HasCleanDisk (state g.S.Store end) = search rules in
+    let clean_last : HasCleanDisk last = omega (arith, c.commit.ensures.survives.clean) in
+    if_err c.commit.result (λ e fails is_open.
+    let keeps = keeps_begin g.S.Store conn begun (state g.S.Store end) c.transaction-tx.ensures.begun
+    (keeps_then (state g.S.Store begun) last (state g.S.Store end) (c.create.ensures.frame.keeps.commit_stays clean_last) (keeps_if_failed last (state g.S.Store end) e fails)) in
+    before_if_failed (state g.S.Store conn) last (state g.S.Store end) keeps (λ db is_open it. g.met.S.Store.settled end.store db is_open it) (λ is_open. g.met.S.Store.stays conn.store is_open)
+    ((returns-clause-survives g c).closes late is_open) e fails) (c.commit.ensures.err late)

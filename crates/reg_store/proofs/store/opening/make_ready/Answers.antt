@@ -1,4 +1,4 @@
-use Rattle.std.proofs.Common.{◌∙◌, IsTrue, sym, ap, subst, arith, rules}
+use Rattle.std.proofs.Common.{inl, inr, ◌∙◌, IsTrue, sym, ap, subst, arith, rules}
 use Rattle.std.proofs.lemmas.Bool.{both_ways}
 use Rattle.sqlite.specs.Effect.{Database}
 use Rattle.sqlite.specs.Held.{state}
@@ -7,11 +7,12 @@ use Rattle.reg_tables.specs.Layout.{unindexed}
 use Rattle.reg_tables.specs.Contents.{HoldsIn}
 use Rattle.reg_store.specs.Failures.{failure_of}
 use Rattle.reg_store.specs.Opening.{TellsNewer}
+use Rattle.reg_store.specs.Stores.{LeavesBefore}
 use Rattle.reg_store.specs.UnopenedFaults.{IsFaultUnopened}
 use Rattle.reg_store.proofs.Failing.{passed, by_since}
 use Rattle.reg_store.proofs.MetaLemmas.{not_outdated}
 use Rattle.reg_store.proofs.OpenLemmas.{opens_as_it_is, opens_with_index, bare_contents, index_survives, spells_under, only_reads}
-use Rattle.reg_store.proofs.Committing.{on_err_each}
+use Rattle.reg_store.proofs.Committing.{on_err_each, before_if_undone, before_then, before_if_faulted}
 use Rattle.reg_tables.proofs.Transactions.{keeps_then}
 use Rattle.reg_store.proofs.Rereading.{same_now}
 use Rattle.reg_store.proofs.store.opening.make_ready.Goals as goal
@@ -102,3 +103,29 @@ returns-in_err-made-clause-nothing g c clean =
     let early : HasCleanDisk mid = omega (arith, c.make_index-made.ensures.survives.clean) in
     let kept = keeps_then old mid new (c.in_ok-test.ensures.tests.frame.only_reads early).commit_stays (c.in_err-made.ensures.nothing clean) in
     on_err_each c.from_residual-in_err-made.result (only_reads old new kept (c.is_autocommit-settled.ensures.settled idle))
+
+pub returns-in_err-test-clause-before : goal.returns-in_err-test-clause-before
+returns-in_err-test-clause-before g c clean =
+    let old = state g.S.Store c.args.db.now.conn in
+    let mid = state g.S.Store c.test.new.db.conn in
+    passed (λ e. IsTrue old.is_open → LeavesBefore old mid e) c.from_residual.result c.in_err-test.field-0.0 c.from_residual.ensures.1 (λ is_open. before_if_undone old mid c.in_err-test.field-0.0 c.in_err-test.ensures.tests.frame.survives clean)
+
+pub returns-in_err-made-clause-before : goal.returns-in_err-made-clause-before
+returns-in_err-made-clause-before g c clean =
+    let idle : IsTrue c.is_autocommit-idle.result = search rules in
+    let old = state g.S.Store c.args.db.now.conn in
+    let mid = state g.S.Store c.test.new.db.conn in
+    let new = state g.S.Store c.make_index-made.new.db.conn in
+    let early : HasCleanDisk mid = omega (arith, c.make_index-made.ensures.survives.clean) in
+    let t = c.in_ok-test.ensures in
+    let frame = t.tests.frame in
+    let e = c.in_err-made.field-0.0 in
+    let settled = c.is_autocommit-idle.ensures.settled idle in
+    let same = same_now old mid (frame.only_reads early) settled in
+    let there = bare_contents old mid (frame.only_reads early) settled t.known (c.schema-live.ensures.live (frame.was_open early)).0 (t.tests.passes early t.known) (c.is_unindexed.ensures.0 c.if-not-is_unindexed.false) in
+    passed (λ x. IsTrue old.is_open → LeavesBefore old new x) c.from_residual-in_err-made.result (failure_of e) c.from_residual-in_err-made.ensures.1
+    (λ is_open. elim (frame.survives.closes early is_open) [
+      | inl mid_open ↦ before_then old mid new (failure_of e) frame.survives early c.make_index-made.ensures.survives.counts (c.in_err-made.ensures.before clean mid_open)
+      | inr more ↦ before_if_faulted old mid new (failure_of e) more c.make_index-made.ensures.survives.counts
+          (c.in_err-made.ensures.fault clean (λ mid_open. let it = there mid_open in (it.0, subst (λ (d : Database). HoldsIn unindexed d it.0) (sym (same mid_open)) it.1)))
+    ])
