@@ -1,6 +1,6 @@
 -- The rows of the tables as their lines have them, and what is said of a database before it is opened.
-use Rattle.std.specs.Prelude.{◌≡◌, ◌⊎◌, ◌<◌, ℕ, Bool, IsTrue, map, codes, Some, option_and_then}
-use Rattle.std.specs.FinMap.{get}
+use Rattle.std.specs.Prelude.{◌≡◌, ◌⊎◌, ◌<◌, ℕ, List, Bool, IsTrue, map, codes, Some}
+use Rattle.sqlite.specs.Order.{Row}
 use Rattle.sqlite.specs.Tree.{Trees}
 use Rattle.sqlite.specs.Schema.{Schema}
 use Rattle.sqlite.specs.Effect.{Database}
@@ -10,8 +10,11 @@ use Rattle.reg_tables.specs.declared.lines.VersionLine.{VersionLine}
 use Rattle.reg_tables.specs.declared.lines.LevelLine.{LevelLine}
 use Rattle.reg_tables.specs.declared.lines.KeptLine.{KeptLine}
 use Rattle.reg_tables.specs.declared.lines.MetaLine.{MetaLine}
-use Rattle.reg_tables.specs.Layout.{layout, unindexed, IsLayout}
-use Rattle.reg_tables.specs.Contents.{Contents, HoldsIn, Holds, AreReadable}
+use Rattle.sqlite_rules.specs.Lists.{Has}
+use Rattle.reg_tables.specs.Layout.{layout, unindexed, IsLayout, HasTablesFirst, meta}
+use Rattle.reg_tables.specs.TableMaps.{IsEntry}
+use Rattle.reg_tables.specs.Contents.{pair_form, Contents, HoldsIn, Holds}
+use Rattle.reg_tables.specs.Reads.{HoldsMeta}
 use Rattle.reg_tables.specs.Inside.AllLines.{Lines}
 use Rattle.reg_rows.specs.Spelling.{Text, Rows, number_in}
 use Rattle.reg_core.specs.Registry.{Registry}
@@ -50,25 +53,27 @@ rows_of lines = record {
 
 -- ---- databases
 
--- this project's choice: the rows of `meta` name this format, and a layout of this number
-pub record NamesLayout (contents : Contents) (number : ℕ) : Type 0 where
-  pub format : get contents.meta (codes "format") ≡ Some (codes "avroreg")
-  pub layout : option_and_then number_in (get contents.meta (codes "layout")) ≡ Some number
+-- a row of `meta` has this name and this value
+abbrev pub Says : Database → List ℕ → List ℕ → Type 0
+Says db name value = (row : Row) × Has (db.trees meta.tree) row × IsEntry pair_form row name value
 
--- the tables can be read, and name a layout that is newer than 1
+-- this project's choice: the rows of `meta` name this format, and a layout of this number
+pub record NamesLayout (db : Database) (number : ℕ) : Type 0 where
+  pub format : Says db (codes "format") (codes "avroreg")
+  pub text : List ℕ
+  pub layout : Says db (codes "layout") text
+  pub is : number_in text ≡ Some number
+
+-- the five tables come first, whatever follows, and the rows of `meta`, which can be read, name a layout that is newer than 1
 pub record Outdates (db : Database) (number : ℕ) : Type 0 where
-  pub schema : Schema
-  pub known : IsLayout schema
-  pub contents : Contents
-  pub holds : HoldsIn schema db contents
-  pub readable : AreReadable contents
-  pub names : NamesLayout contents number
+  pub holds : HoldsMeta db
+  pub names : NamesLayout db number
   pub newer : 1 < number
 
--- a refusal that has a number has it from the tables, and no layout is older than 1
+-- a refusal that has a number has it from the rows of `meta`, where the five tables come first, and no layout is older than 1
 abbrev pub IsRefusedBy : Database → StoreError → Type 0
 IsRefusedBy db (OldLayout number) = ⊥
-IsRefusedBy db (NewerLayout number) = (1 < number) × ((schema : Schema) → IsLayout schema → (contents : Contents) → HoldsIn schema db contents → NamesLayout contents number)
+IsRefusedBy db (NewerLayout number) = (1 < number) × (HasTablesFirst db.schema → NamesLayout db number)
 IsRefusedBy db _ = Unit {0}
 
 -- tables that name a newer layout are told so, but for a fault

@@ -4,7 +4,7 @@
 ghost use Rattle.std.specs.Prelude.{◌≡◌, ◌↔◌, ℤ, map, IfOk, IfErr, OnOk, IsTrue, false};
 ghost use Rattle.std.specs.List.{AllByRecursion};
 ghost use Rattle.sqlite.specs.State.{HasCleanDisk};
-ghost use Rattle.reg_tables.specs.Layout.{IsLayout};
+ghost use Rattle.reg_tables.specs.Layout.{IsLayout, HasTablesFirst};
 ghost use Rattle.reg_store.specs.Failures.{IsNumberless};
 ghost use Rattle.reg_store.specs.Opening.{meta_row, IsRefusedBy, TellsNewer};
 ghost use Rattle.reg_rows.specs.Spelling.{pair_of, is_meta};
@@ -220,6 +220,8 @@ fn judge_meta(alloc: Global, lines: Vec<MetaLine>) -> Result<(), StoreError>
 /// Reads `meta`, and tests it: the format, then the layout, then the rest.
 fn test_meta<S: Alter>(alloc: Global, db: &mut Idle<S>) -> Result<(), StoreError>
     ensures tests { Tests S.Store db.old.conn db.new.conn result MetaPass }
+    ensures passed { HasCleanDisk (shown db.new)
+        → OnOk result (HasTablesFirst (shown db.old).now.schema → MetaPass (shown db.old).now) }
     ensures refused { HasCleanDisk (shown db.new)
         → IfErr result (IsRefusedBy (shown db.old).now) }
     ensures newer { HasCleanDisk (shown db.new)

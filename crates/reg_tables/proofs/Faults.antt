@@ -22,13 +22,13 @@ use Rattle.sqlite_resolve.specs.declared.compiled.Compiled.{Compiled}
 use Rattle.sqlite_typing.specs.Types.{accepts_program}
 use Rattle.sqlite_rules.proofs.ListLemmas.{any_has}
 use Rattle.sqlite_tied.specs.Compute.{everything}
-use Rattle.reg_tables.specs.Layout.{IsLayout}
+use Rattle.reg_tables.specs.Layout.{IsLayout, HasTablesFirst}
 use Rattle.reg_tables.specs.Reads.{CanBeRead}
 use Rattle.reg_tables.specs.FailedCalls.{IsFault}
 use Rattle.reg_tables.specs.Inside.Statements.{IsWhole, Takes, TableQuery, body_of, program_of, IsQuery}
 use Rattle.sqlite.specs.Schema.{Schema}
 use Rattle.reg_tables.proofs.Reasons.{reason_of, reason_if_shut, reason_by, fault_until}
-use Rattle.reg_tables.proofs.Statements.{laid_out, in_layouts, find_id, find_versions, find_last_version, find_last_live, find_last, find_behind, find_next, find_of_id, find_one_of_id, list_versions, all_ids, texts_between, all_versions, all_levels, all_kept, all_meta}
+use Rattle.reg_tables.proofs.Statements.{laid_out, in_layouts, behind_tables, find_id, find_versions, find_last_version, find_last_live, find_last, find_behind, find_next, find_of_id, find_one_of_id, list_versions, all_ids, texts_between, all_versions, all_levels, all_kept, all_meta}
 
 pub takes_id : (text : List ℕ) → (schema : Schema) → IsLayout schema → Takes find_id (Text text ∷ []) schema
 unfolding understood everything
@@ -90,18 +90,16 @@ pub takes_all_kept : (schema : Schema) → IsLayout schema → Takes all_kept []
 unfolding understood everything
 takes_all_kept = in_layouts (Takes all_kept []) (λ tables indexes. record { whole = (lit≤ tt, refl); typed = refl })
 
-pub takes_all_meta : (schema : Schema) → IsLayout schema → Takes all_meta [] schema
+pub takes_all_meta : (schema : Schema) → HasTablesFirst schema → Takes all_meta [] schema
 unfolding understood everything
-takes_all_meta = in_layouts (Takes all_meta []) (λ tables indexes. record { whole = (lit≤ tt, refl); typed = refl })
+takes_all_meta = behind_tables (Takes all_meta []) (λ tables indexes. record { whole = (lit≤ tt, refl); typed = refl })
 
 pub read_fault_until : (old mid new : State) → mid.faults ≤ new.faults → (e : Error) → IsFault old mid e → IsFault old new e
 read_fault_until old mid new up e (inl store) = inl (store.0, store.1, reason_by old mid old new (fault_until old mid new up) store.0 store.2)
 read_fault_until old mid new up e (inr stopped) = inr stopped
 
-module _ (q : TableQuery) (is : (schema : Schema) → IsLayout schema → IsQuery q schema) (params : Row) (fits : (schema : Schema) → IsLayout schema → Takes q params schema) (old new : State) (can : CanBeRead old) where
-  laid : IsTrue old.is_open → IsLayout old.now.schema
-  laid is_open = let there = can is_open in laid_out there.holds there.is_layout
-
+module _ {Known : Schema → Type 0} (q : TableQuery) (is : (schema : Schema) → Known schema → IsQuery q schema) (params : Row) (fits : (schema : Schema) → Known schema → Takes q params schema) (old new : State)
+    (laid : IsTrue old.is_open → Known old.now.schema) where
   its : IsTrue old.is_open → IsQuery q old.now.schema
   its is_open = is old.now.schema (laid is_open)
 
@@ -122,7 +120,7 @@ module _ (q : TableQuery) (is : (schema : Schema) → IsLayout schema → IsQuer
       absurd (elim wrong.2 [ inl tail ↦ tail.0 given.0 | inr rest ↦ elim rest [ inl other ↦ other.0 (sym given.1) | inr clock ↦ clock.0 bare.1 ] ])
   fails e (inr shows) = elim (open_or_fault shows.0 (timed params shows.0.formats shows.1.now) e shows.0.returning shows.2) [ inl is_open ↦ shown_faults e (laid is_open) shows | inr fault ↦ fault ]
     where
-      shown_faults : (e : Error) → IsLayout old.now.schema → (shows : (c : Compiled) × (given : IsStatement old q.sql params c) × FailsToShow old new q.sql c (timed params c.formats given.now) e c.returning) → IsFault old new e
+      shown_faults : (e : Error) → Known old.now.schema → (shows : (c : Compiled) × (given : IsStatement old q.sql params c) × FailsToShow old new q.sql c (timed params c.formats given.now) e c.returning) → IsFault old new e
       shown_faults e here shows =
           let it = is old.now.schema here in
           let known = shows.1.is in
@@ -137,11 +135,16 @@ module _ (q : TableQuery) (is : (schema : Schema) → IsLayout schema → IsQuer
             | inr rest ↦ elim rest [ inl over ↦ absurd (elim over.1 [ inl none ↦ none | inr some ↦ (any_has _ _ some).2 ]) | inr stopped ↦ inr stopped ]
           ]
 
-  pub query_faults : (e : Error) → FailsToQuery q.sql params old new e ⊎ IsTooLate q.sql params old new e → IsFault old new e
-  query_faults e (inl failed) = fails e failed
-  query_faults e (inr late) =
+  pub known_query_faults : (e : Error) → FailsToQuery q.sql params old new e ⊎ IsTooLate q.sql params old new e → IsFault old new e
+  known_query_faults e (inl failed) = fails e failed
+  known_query_faults e (inr late) =
       let bare = subst IsPlain late.1.is (its late.5.0.was_open).command.plain in
       absurd (let none = subst IsSome bare.0 late.2 in cc)
+
+-- in the layouts
+module _ (q : TableQuery) (is : (schema : Schema) → IsLayout schema → IsQuery q schema) (params : Row) (fits : (schema : Schema) → IsLayout schema → Takes q params schema) (old new : State) (can : CanBeRead old) where
+  pub query_faults : (e : Error) → FailsToQuery q.sql params old new e ⊎ IsTooLate q.sql params old new e → IsFault old new e
+  query_faults = known_query_faults q is params fits old new (λ is_open. let there = can is_open in laid_out there.holds there.is_layout)
 
 -- what can be read is read, but for want of memory
 pub memory_if_readable : (at : ℕ) (value : Value) (e : Error) (P : Type 0) → P → IsReadError at value e → (e ≢ SqliteFailure code.OutOfMemory → ¬ P) → e ≡ SqliteFailure code.OutOfMemory

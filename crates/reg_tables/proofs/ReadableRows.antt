@@ -10,7 +10,7 @@ use Rattle.sqlite_rules.specs.Lists.{Has}
 use Rattle.sqlite_rules.proofs.ListLemmas.{all_has}
 use Rattle.sqlite_rules.proofs.TableLemmas.{int_is}
 use Rattle.reg_tables.specs.Layout.{texts, versions, levels, kept, meta}
-use Rattle.reg_tables.specs.Reads.{HoldsReadable}
+use Rattle.reg_tables.specs.Reads.{HoldsReadable, HoldsMeta}
 use Rattle.reg_tables.specs.TableMaps.{Form, IsEntry, ShowsMap}
 use Rattle.reg_tables.specs.Contents.{version_cells, text_form, version_form, pair_form, kept_form}
 use Rattle.reg_tables.specs.Inside.ReadableRows.{IsReadableText, IsReadableVersion, IsReadablePair, IsReadableKept}
@@ -21,6 +21,16 @@ by_entry : {K V : Type 0} (form : Form K V) (rows : List Row) (value_at : K → 
 by_entry form rows value_at shows row has P each =
     let entry = shows.sound row has in
     each entry.0 entry.1 (int_is (rowid row) (all_has _ rows row shows.rowids.1 has)) entry.2 entry.3
+
+pair_is : (row : Row) (key value : List ℕ) → rowid row ≡ Int (id_in (rowid row)) → IsEntry pair_form row key value → rowid row ∷ column row 1 ∷ column row 2 ∷ [] ≡ Int (id_in (rowid row)) ∷ Text key ∷ Text value ∷ []
+pair_is row key value rowid_is is =
+    ap (λ (r : Row). rowid row ∷ column row 1 ∷ r) is.1 ∙ ap (λ (r : Row). rowid row ∷ column r 0 ∷ Text value ∷ []) is.0 ∙ ap (λ v. v ∷ Text key ∷ Text value ∷ []) rowid_is
+
+pub readable_meta : (db : Database) (there : HoldsMeta db) (row : Row) → Has (db.trees meta.tree) row → IsReadablePair (column row 0 ∷ column row 1 ∷ column row 2 ∷ [])
+readable_meta db there row has = by_entry pair_form (db.trees meta.tree) (get there.names) there.shows row has (IsReadablePair (column row 0 ∷ column row 1 ∷ column row 2 ∷ []))
+    (λ key value rowid_is held is.
+    let can = there.readable key value held in
+    record { rowid = id_in (rowid row); key = key; value = value; is = pair_is row key value rowid_is is; key_utf8 = can.0; value_utf8 = can.1 })
 
 module _ (db : Database) (there : HoldsReadable db) (row : Row) where
   open there use {contents, holds, readable}
@@ -48,21 +58,11 @@ module _ (db : Database) (there : HoldsReadable db) (row : Row) where
         low_id = can.2;
       })
 
-  pair_is : (key value : List ℕ) → rowid row ≡ Int (id_in (rowid row)) → IsEntry pair_form row key value → rowid row ∷ column row 1 ∷ column row 2 ∷ [] ≡ Int (id_in (rowid row)) ∷ Text key ∷ Text value ∷ []
-  pair_is key value rowid_is is =
-      ap (λ (r : Row). rowid row ∷ column row 1 ∷ r) is.1 ∙ ap (λ (r : Row). rowid row ∷ column r 0 ∷ Text value ∷ []) is.0 ∙ ap (λ v. v ∷ Text key ∷ Text value ∷ []) rowid_is
-
   pub readable_level : Has (db.trees levels.tree) row → IsReadablePair (column row 0 ∷ column row 1 ∷ column row 2 ∷ [])
   readable_level has = by_entry pair_form (db.trees levels.tree) (get contents.levels) holds.levels row has (IsReadablePair (column row 0 ∷ column row 1 ∷ column row 2 ∷ []))
       (λ key value rowid_is there is.
       let can = readable.levels key value there in
-      record { rowid = id_in (rowid row); key = key; value = value; is = pair_is key value rowid_is is; key_utf8 = can.0; value_utf8 = can.1 })
-
-  pub readable_meta : Has (db.trees meta.tree) row → IsReadablePair (column row 0 ∷ column row 1 ∷ column row 2 ∷ [])
-  readable_meta has = by_entry pair_form (db.trees meta.tree) (get contents.meta) holds.meta row has (IsReadablePair (column row 0 ∷ column row 1 ∷ column row 2 ∷ []))
-      (λ key value rowid_is there is.
-      let can = readable.meta key value there in
-      record { rowid = id_in (rowid row); key = key; value = value; is = pair_is key value rowid_is is; key_utf8 = can.0; value_utf8 = can.1 })
+      record { rowid = id_in (rowid row); key = key; value = value; is = pair_is row key value rowid_is is; key_utf8 = can.0; value_utf8 = can.1 })
 
   pub readable_kept : Has (db.trees kept.tree) row → IsReadableKept (column row 0 ∷ column row 1 ∷ column row 2 ∷ column row 3 ∷ column row 4 ∷ [])
   readable_kept has = by_entry kept_form (db.trees kept.tree) (get contents.kept) holds.kept row has (IsReadableKept (column row 0 ∷ column row 1 ∷ column row 2 ∷ column row 3 ∷ column row 4 ∷ []))

@@ -18,7 +18,7 @@ use Rattle.sqlite.proofs.Callers.{statement_of}
 use Rattle.sqlite_sql.specs.declared.ops.BinaryOp.TheVariants.{Compare}
 use Rattle.sqlite_sql.specs.declared.ops.CompareOp.TheVariants.{Eq, Gt, Ge, Le}
 use Rattle.sqlite_tied.specs.Compute.{everything}
-use Rattle.reg_tables.specs.Layout.{no_schema, begun, layout, unindexed, IsLayout, texts, versions, levels, kept, meta, versions_of_id}
+use Rattle.reg_tables.specs.Layout.{no_schema, begun, begins, layout, unindexed, HasTablesFirst, IsLayout, texts, versions, levels, kept, meta, versions_of_id}
 use Rattle.reg_tables.specs.Inside.Statements.{by_key, by_version, IsCommand, TableQuery, IsQuery, all_rows, plain_query}
 use Rattle.sqlite_schema.specs.declared.schema.Index.{Index}
 
@@ -121,14 +121,16 @@ by_text = op2 (Compare Eq Binary) (col 1 2) (col 0 0) ∷ []
 pub laid_out : {schema : Schema} {db : Database} {contents : Contents} → HoldsIn schema db contents → IsLayout schema → IsLayout db.schema
 laid_out holds is_layout = subst IsLayout (sym holds.declared) is_layout
 
--- the five tables come first
-abbrev pub begins : List Table → List Index → Schema
-begins tables indexes = record { tables = texts ∷ versions ∷ levels ∷ kept ∷ meta ∷ tables; indexes = indexes; views = [] }
+pub has_tables_first : (schema : Schema) → IsLayout schema → HasTablesFirst schema
+has_tables_first schema (inl is) = record { tables = []; indexes = layout.indexes; is = is }
+has_tables_first schema (inr is) = record { tables = []; indexes = unindexed.indexes; is = is }
 
 -- what is so whatever tables and indexes are there beside the five tables
+pub behind_tables : (P : Schema → Type 0) → ((tables : List Table) (indexes : List Index) → P (begins tables indexes)) → (schema : Schema) → HasTablesFirst schema → P schema
+behind_tables P all schema first = subst P (sym first.is) (all first.tables first.indexes)
+
 pub in_layouts : (P : Schema → Type 0) → ((tables : List Table) (indexes : List Index) → P (begins tables indexes)) → (schema : Schema) → IsLayout schema → P schema
-in_layouts P all schema (inl is) = subst P (sym is) (all [] layout.indexes)
-in_layouts P all schema (inr is) = subst P (sym is) (all [] unindexed.indexes)
+in_layouts P all schema known = behind_tables P all schema (has_tables_first schema known)
 
 abbrev pub find_id : TableQuery
 find_id = record { sql = codes "SELECT id FROM texts WHERE text = ?1"; tree = 0; tests = by_text; shown = col 1 0 ∷ []; names = codes "id" ∷ []; order = []; limit = all_rows }
@@ -322,6 +324,6 @@ all_kept_is = in_layouts (IsQuery all_kept) (λ tables indexes. record { command
 abbrev pub all_meta : TableQuery
 all_meta = record { sql = codes "SELECT rowid, name, value FROM meta"; tree = 8; tests = []; shown = col 1 0 ∷ col 1 1 ∷ col 1 2 ∷ []; names = codes "rowid" ∷ codes "name" ∷ codes "value" ∷ []; order = []; limit = all_rows }
 
-pub all_meta_is : (schema : Schema) → IsLayout schema → IsQuery all_meta schema
+pub all_meta_is : (schema : Schema) → HasTablesFirst schema → IsQuery all_meta schema
 unfolding understood everything
-all_meta_is = in_layouts (IsQuery all_meta) (λ tables indexes. record { command = record { is = refl; plain = (refl, refl) }; unlisted = refl })
+all_meta_is = behind_tables (IsQuery all_meta) (λ tables indexes. record { command = record { is = refl; plain = (refl, refl) }; unlisted = refl })

@@ -1,5 +1,5 @@
 -- What a query of all rows of a table lists, and how a list of rows fails.
-use Rattle.std.proofs.Common.{◌≤◌, ◌≡◌, ◌⊎◌, inl, inr, ℤ, zero, suc, List, [], ◌∷◌, map, All, refl, sym, subst, ◌∙◌, arith}
+use Rattle.std.proofs.Common.{◌≤◌, ◌≡◌, ◌⊎◌, inl, inr, ℤ, zero, suc, List, [], ◌∷◌, map, All, IsTrue, refl, sym, subst, ◌∙◌, arith}
 use Rattle.std.specs.List.Sorted.{IsPermutation}
 use Rattle.std.proofs.lemmas.List.Sorted.{IsPermutation-map}
 use Rattle.std.proofs.lemmas.Simd.{map-map}
@@ -14,8 +14,8 @@ use Rattle.sqlite.specs.Query.{IsAnswer}
 use Rattle.sqlite.specs.Program.{overlay}
 use Rattle.sqlite.specs.State.{State, Shown, FailsToQuery, IsTooLate}
 use Rattle.sqlite_rules.specs.Lists.{Has}
-use Rattle.reg_tables.specs.Layout.{IsLayout}
-use Rattle.reg_tables.specs.Reads.{HoldsReadable, CanBeRead}
+use Rattle.reg_tables.specs.Layout.{IsLayout, HasTablesFirst}
+use Rattle.reg_tables.specs.Reads.{HoldsReadable, CanBeRead, HoldsMeta}
 use Rattle.reg_tables.specs.FailedCalls.{IsFault}
 use Rattle.reg_tables.specs.TableMaps.{Form}
 use Rattle.reg_tables.specs.Contents.{version_form, pair_form, kept_form}
@@ -25,29 +25,33 @@ use Rattle.reg_tables.specs.Inside.Statements.{plain_query, TableQuery, body_of,
 use Rattle.reg_tables.proofs.Queries.{answer_has, answer_all}
 use Rattle.reg_tables.proofs.KeyedTables.{with_nothing, answered}
 use Rattle.reg_tables.proofs.Statements.{laid_out, all_versions, all_versions_is, all_levels, all_levels_is, all_kept, all_kept_is, all_meta, all_meta_is}
-use Rattle.reg_tables.proofs.Faults.{takes_all_versions, takes_all_levels, takes_all_kept, takes_all_meta, query_faults, read_fault_until, memory_is_fault}
+use Rattle.reg_tables.proofs.Faults.{takes_all_versions, takes_all_levels, takes_all_kept, takes_all_meta, known_query_faults, read_fault_until, memory_is_fault}
 use Rattle.reg_tables.proofs.Transactions.{shown_open}
 use Rattle.reg_tables.proofs.ReadableRows.{readable_version, readable_level, readable_kept, readable_meta}
 
--- in each layout the query shows all rows of its table, each with its parts in the same places
-pub record ShowsTable {K V : Type 0} (form : Form K V) (is_readable : Row → Type 0) (q : TableQuery) : Type 0 where
-  pub is : (schema : Schema) → IsLayout schema → IsQuery q schema
-  pub takes : (schema : Schema) → IsLayout schema → Takes q [] schema
+-- in each schema that is known the query shows all rows of its table, each with its parts in the same places
+pub record ShowsTable {K V : Type 0} (Known : Schema → Type 0) (Holds : Database → Type 0) (form : Form K V) (is_readable : Row → Type 0) (q : TableQuery) : Type 0 where
+  pub is : (schema : Schema) → Known schema → IsQuery q schema
+  pub takes : (schema : Schema) → Known schema → Takes q [] schema
   pub untested : body_of q ≡ plain_query q.tree [] q.shown
   pub whole : (row : Row) → parts_of form (eval_all q.shown ([] ∷ row ∷ [])) ≡ parts_of form row
-  pub readable : (db : Database) → HoldsReadable db → (row : Row) → Has (db.trees q.tree) row → is_readable (eval_all q.shown ([] ∷ row ∷ []))
+  pub known : (db : Database) → Holds db → Known db.schema
+  pub readable : (db : Database) → Holds db → (row : Row) → Has (db.trees q.tree) row → is_readable (eval_all q.shown ([] ∷ row ∷ []))
 
-pub shows_versions : ShowsTable version_form IsReadableVersion all_versions
-shows_versions = record { is = all_versions_is; takes = takes_all_versions; untested = refl; whole = λ row. refl; readable = readable_version }
+of_layout : (db : Database) → HoldsReadable db → IsLayout db.schema
+of_layout db there = laid_out there.holds there.is_layout
 
-pub shows_levels : ShowsTable pair_form IsReadablePair all_levels
-shows_levels = record { is = all_levels_is; takes = takes_all_levels; untested = refl; whole = λ row. refl; readable = readable_level }
+pub shows_versions : ShowsTable IsLayout HoldsReadable version_form IsReadableVersion all_versions
+shows_versions = record { is = all_versions_is; takes = takes_all_versions; untested = refl; whole = λ row. refl; known = of_layout; readable = readable_version }
 
-pub shows_kept : ShowsTable kept_form IsReadableKept all_kept
-shows_kept = record { is = all_kept_is; takes = takes_all_kept; untested = refl; whole = λ row. refl; readable = readable_kept }
+pub shows_levels : ShowsTable IsLayout HoldsReadable pair_form IsReadablePair all_levels
+shows_levels = record { is = all_levels_is; takes = takes_all_levels; untested = refl; whole = λ row. refl; known = of_layout; readable = readable_level }
 
-pub shows_meta : ShowsTable pair_form IsReadablePair all_meta
-shows_meta = record { is = all_meta_is; takes = takes_all_meta; untested = refl; whole = λ row. refl; readable = readable_meta }
+pub shows_kept : ShowsTable IsLayout HoldsReadable kept_form IsReadableKept all_kept
+shows_kept = record { is = all_kept_is; takes = takes_all_kept; untested = refl; whole = λ row. refl; known = of_layout; readable = readable_kept }
+
+pub shows_meta : ShowsTable HasTablesFirst HoldsMeta pair_form IsReadablePair all_meta
+shows_meta = record { is = all_meta_is; takes = takes_all_meta; untested = refl; whole = λ row. refl; known = λ db there. there.first; readable = readable_meta }
 
 pub all_if_each : {X : Type 0} (P : X → Type 0) (xs : List X) → ((x : X) → Has xs x → P x) → All P xs
 all_if_each P [] each k d low = absurd (omega arith)
@@ -55,14 +59,22 @@ all_if_each P (x ∷ xs) each zero d low = each x (inl refl)
 all_if_each P (x ∷ xs) each (suc k) d low = all_if_each P xs (λ y h. each y (inr h)) k d (omega (arith, low))
 
 -- a query that shows what can be read fails with a fault alone
+module _ {Known : Schema → Type 0} {Holds : Database → Type 0} (known : (db : Database) → Holds db → Known db.schema) (q : TableQuery) (params : Row) (is : (schema : Schema) → Known schema → IsQuery q schema)
+    (takes : (schema : Schema) → Known schema → Takes q params schema) (is_readable : Row → Type 0) where
+  pub known_list_fault : (old new end : State) → ((found : List Row) → Shown q.sql params old new found → Holds old.now → All is_readable found) → (e : Error)
+      → ((new.faults ≤ end.faults) × (FailsToQuery q.sql params old new e ⊎ IsTooLate q.sql params old new e)) ⊎ ((found : List Row) × Shown q.sql params old new found × (All is_readable found → e ≡ SqliteFailure code.OutOfMemory))
+      → (IsTrue old.is_open → Holds old.now) → IsFault old end e
+  known_list_fault old new end readable e (inl failed) can = read_fault_until old new end failed.0 e (known_query_faults q is params takes old new (λ is_open. known old.now (can is_open)) e failed.1)
+  known_list_fault old new end readable e (inr read) can = memory_is_fault old end e (read.2 (readable read.0 read.1 (can (shown_open q.sql params old new read.0 read.1))))
+
+-- so it does in the layouts
 module _ (q : TableQuery) (params : Row) (is : (schema : Schema) → IsLayout schema → IsQuery q schema) (takes : (schema : Schema) → IsLayout schema → Takes q params schema) (is_readable : Row → Type 0) where
   pub list_fault : (old new end : State) → ((found : List Row) → Shown q.sql params old new found → HoldsReadable old.now → All is_readable found) → (e : Error)
       → ((new.faults ≤ end.faults) × (FailsToQuery q.sql params old new e ⊎ IsTooLate q.sql params old new e)) ⊎ ((found : List Row) × Shown q.sql params old new found × (All is_readable found → e ≡ SqliteFailure code.OutOfMemory)) → CanBeRead old → IsFault old end e
-  list_fault old new end readable e (inl failed) can = read_fault_until old new end failed.0 e (query_faults q is params takes old new can e failed.1)
-  list_fault old new end readable e (inr read) can = memory_is_fault old end e (read.2 (readable read.0 read.1 (can (shown_open q.sql params old new read.0 read.1))))
+  list_fault = known_list_fault of_layout q params is takes is_readable
 
-module _ {K V : Type 0} {form : Form K V} {is_readable : Row → Type 0} {q : TableQuery} (table : ShowsTable form is_readable q) (old new : State) where
-  module _ (laid : IsLayout old.now.schema) (found : List Row) (h : Shown q.sql [] old new found) where
+module _ {K V : Type 0} {Known : Schema → Type 0} {Holds : Database → Type 0} {form : Form K V} {is_readable : Row → Type 0} {q : TableQuery} (table : ShowsTable Known Holds form is_readable q) (old new : State) where
+  module _ (laid : Known old.now.schema) (found : List Row) (h : Shown q.sql [] old new found) where
     answer : IsAnswer (plain_query q.tree [] q.shown) (overlay old.now.trees []) [] found
     answer = subst (λ b. IsAnswer b (overlay old.now.trees []) [] found) table.untested (answered q [] old new (table.is old.now.schema laid) found h)
 
@@ -74,15 +86,15 @@ module _ {K V : Type 0} {form : Form K V} {is_readable : Row → Type 0} {q : Ta
         let same : map (parts_of form) (map show rows) ≡ map (parts_of form) rows = map-map (parts_of form) show rows ∙ (λ i. map (λ (row : Row). table.whole row i) rows) in
         subst (λ l. IsPermutation l (map (parts_of form) found)) same (IsPermutation-map (parts_of form) (map show rows) found all)
 
-    shown_readable : HoldsReadable old.now → All is_readable found
+    shown_readable : Holds old.now → All is_readable found
     shown_readable there = all_if_each is_readable found (λ x has.
         let r = answer_has [] [] q.tree q.shown (overlay old.now.trees []) found answer x has in
         subst is_readable (sym r.3) (table.readable old.now there r.0 (subst (λ l. Has l r.0) (with_nothing old.now.trees q.tree) r.1)))
 
   -- the lines that were read from what is shown list the table
-  pub lists_lines : {L : Type 0} (entry : L → ℤ × K × V) (lines : List L) (found : List Row) → Shown q.sql [] old new found → map (parts_of form) found ≡ map (λ line. entry_parts form (entry line)) lines → IsLayout old.now.schema → Lists form (old.now.trees q.tree) (map entry lines)
+  pub lists_lines : {L : Type 0} (entry : L → ℤ × K × V) (lines : List L) (found : List Row) → Shown q.sql [] old new found → map (parts_of form) found ≡ map (λ line. entry_parts form (entry line)) lines → Known old.now.schema → Lists form (old.now.trees q.tree) (map entry lines)
   lists_lines entry lines found h read laid = subst (IsPermutation (map (parts_of form) (old.now.trees q.tree))) (read ∙ sym (map-map (entry_parts form) entry lines)) (shown_parts laid found h)
 
   -- of readable contents the lines fail with a fault alone
-  pub lines_fault : (end : State) (e : Error) → ((new.faults ≤ end.faults) × (FailsToQuery q.sql [] old new e ⊎ IsTooLate q.sql [] old new e)) ⊎ ((found : List Row) × Shown q.sql [] old new found × (All is_readable found → e ≡ SqliteFailure code.OutOfMemory)) → CanBeRead old → IsFault old end e
-  lines_fault end = list_fault q [] table.is table.takes is_readable old new end (λ found h there. shown_readable (laid_out there.holds there.is_layout) found h there)
+  pub lines_fault : (end : State) (e : Error) → ((new.faults ≤ end.faults) × (FailsToQuery q.sql [] old new e ⊎ IsTooLate q.sql [] old new e)) ⊎ ((found : List Row) × Shown q.sql [] old new found × (All is_readable found → e ≡ SqliteFailure code.OutOfMemory)) → (IsTrue old.is_open → Holds old.now) → IsFault old end e
+  lines_fault end = known_list_fault table.known q [] table.is table.takes is_readable old new end (λ found h there. shown_readable (table.known old.now there) found h there)

@@ -9,7 +9,7 @@ use Rattle.sqlite.specs.Table.{Table}
 use Rattle.sqlite.specs.Cast.{cast_row}
 use Rattle.sqlite.specs.Effect.{Database, IsDatabase}
 use Rattle.sqlite.specs.State.{State, Executes}
-use Rattle.reg_tables.specs.Layout.{layout, texts, versions, levels, kept, meta}
+use Rattle.reg_tables.specs.Layout.{begins, layout, texts, versions, levels, kept, meta}
 use Rattle.reg_tables.specs.Contents.{version_cmp, VersionRow, Contents, text_form, version_form, pair_form, kept_form, Holds, HoldsIn}
 use Rattle.reg_tables.specs.TableMaps.{IsEntry, Form, ShowsMap}
 use Rattle.reg_tables.specs.Changes.{altered, as_deleted, with_deleted, with_text}
@@ -19,7 +19,7 @@ use Rattle.reg_tables.specs.Inside.KeyedLaws.{KeepsOthers, TurnsTable}
 use Rattle.reg_tables.proofs.Rooms.{room_for_fewer}
 use Rattle.reg_tables.proofs.RowLemmas.{same_rows}
 use Rattle.sqlite_schema.specs.declared.schema.Index.{Index}
-use Rattle.reg_tables.proofs.Statements.{begins, text_terms, put_text, put_text_is, with_flag, mark_version, mark_version_is}
+use Rattle.reg_tables.proofs.Statements.{text_terms, put_text, put_text_is, with_flag, mark_version, mark_version_is}
 use Rattle.reg_tables.proofs.Settled.{layout_settled}
 use Rattle.reg_tables.proofs.KeyedTables.{alters_room, number_order, distinct_numbers, version_order, distinct_versions, by_version_test, cast-Null, cast-Int, inserts, alters}
 

@@ -1,10 +1,12 @@
 -- What a call that only reads leaves of a connection, and why a read or a write fails.
-use Rattle.std.specs.Prelude.{◌≡◌, IsTrue}
+use Rattle.std.specs.Prelude.{◌≡◌, ℕ, List, Some, IsTrue, IsUtf8}
+use Rattle.std.specs.FinMap.{get}
 use Rattle.sqlite.specs.State.{State, KeepsCommit}
 use Rattle.sqlite.specs.Schema.{Schema}
 use Rattle.sqlite.specs.Effect.{Database}
-use Rattle.reg_tables.specs.Layout.{IsLayout}
-use Rattle.reg_tables.specs.Contents.{Contents, AreReadable, HoldsIn}
+use Rattle.reg_tables.specs.Layout.{IsLayout, HasTablesFirst, meta}
+use Rattle.reg_tables.specs.TableMaps.{ShowsMap}
+use Rattle.reg_tables.specs.Contents.{TextMap, pair_form, Contents, AreReadable, HoldsIn}
 
 -- nothing is committed, and while the connection is open it shows the last commit
 pub record OnlyReads (old new : State) : Type 0 where
@@ -22,3 +24,14 @@ pub record HoldsReadable (db : Database) : Type 0 where
 -- while the connection is open, its tables hold what can be read
 abbrev pub CanBeRead : State → Type 0
 CanBeRead s = IsTrue s.is_open → HoldsReadable s.now
+
+-- the five tables come first, and the rows of `meta` are these names and values, which can be read
+pub record HoldsMeta (db : Database) : Type 0 where
+  pub first : HasTablesFirst db.schema
+  pub names : TextMap (List ℕ)
+  pub shows : ShowsMap pair_form (db.trees meta.tree) (get names)
+  pub readable : (name value : List ℕ) → get names name ≡ Some value → IsUtf8 name × IsUtf8 value
+
+-- while the connection is open, its `meta` holds what can be read
+abbrev pub CanTellMeta : State → Type 0
+CanTellMeta s = IsTrue s.is_open → HoldsMeta s.now

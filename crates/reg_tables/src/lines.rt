@@ -5,11 +5,11 @@ ghost use Rattle.sqlite.specs.Order.{column};
 ghost use Rattle.sqlite.specs.Held.{state};
 ghost use Rattle.reg_tables.specs.Frames.{StaysIdle};
 ghost use Rattle.sqlite.specs.State.{HasCleanDisk};
-ghost use Rattle.reg_tables.specs.Layout.{IsLayout};
+ghost use Rattle.reg_tables.specs.Layout.{IsLayout, HasTablesFirst};
 ghost use Rattle.reg_tables.specs.Contents.{flag_cell, text_form, version_form, pair_form, kept_form};
 ghost use Rattle.reg_tables.specs.Listings.{RowParts, parts_of, entry_parts, text_entry, version_entry, level_entry, kept_entry, meta_entry, ListsVersions, ListsLevels, ListsKept, ListsMeta};
 ghost use Rattle.reg_tables.specs.Inside.ReadableRows.{IsReadableText, IsReadableVersion, IsReadablePair, IsReadableKept};
-ghost use Rattle.reg_tables.specs.Reads.{CanBeRead};
+ghost use Rattle.reg_tables.specs.Reads.{CanBeRead, CanTellMeta};
 ghost use Rattle.reg_tables.specs.FailedCalls.{IsFault};
 
 use crate::kept::KeptReply;
@@ -241,7 +241,7 @@ pub fn kept_lines<S: Alter>(alloc: Global, conn: &mut Connection<S>) -> Result<V
     )
 }
 
-/// All rows of `meta`, in any order.
+/// All rows of `meta`, in any order, whatever tables follow the five.
 ///
 /// # Errors
 ///
@@ -251,10 +251,10 @@ pub fn meta_lines<S: Alter>(alloc: Global, conn: &mut Connection<S>) -> Result<V
     requires idle { conn.old.in_transaction ≡ false }
     ensures frame { StaysIdle S.Store conn.old conn.new result }
     ensures listed { HasCleanDisk (state S.Store conn.new) → IfOk result (λ lines.
-        IsLayout (state S.Store conn.old).now.schema
+        HasTablesFirst (state S.Store conn.old).now.schema
         → ListsMeta (state S.Store conn.old).now lines.items) }
     ensures fault { HasCleanDisk (state S.Store conn.new) → IfErr result (λ e.
-        CanBeRead (state S.Store conn.old)
+        CanTellMeta (state S.Store conn.old)
         → IsFault (state S.Store conn.old) (state S.Store conn.new) e) }
 {
     list(alloc, conn, "SELECT rowid, name, value FROM meta", &[])

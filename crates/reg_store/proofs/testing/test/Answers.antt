@@ -1,7 +1,6 @@
-use Rattle.std.proofs.Common.{IsTrue, sym, subst, arith, rules}
+use Rattle.std.proofs.Common.{IsTrue, arith, rules}
 use Rattle.sqlite.specs.Held.{state}
 use Rattle.sqlite.specs.State.{HasCleanDisk}
-use Rattle.reg_tables.specs.Layout.{IsLayout}
 use Rattle.reg_store.proofs.Failing.{if_err_each}
 use Rattle.reg_store.proofs.MetaLemmas.{not_outdated}
 use Rattle.reg_store.proofs.TestLemmas.{tests_then, test_says}
@@ -17,4 +16,8 @@ pub returns-clause-newer : goal.returns-clause-newer
 returns-clause-newer g c clean =
     let mid : HasCleanDisk (state g.S.Store c.test_meta.new.db.conn) = omega (arith, c.test_rest.ensures.tests.frame.survives.clean) in
     if_err_each c.test_rest.result (λ e number is_open out.
-    absurd (not_outdated (state g.S.Store c.args.db.now.conn).now number (c.in_ok-test_meta.ensures.tests.passes mid (subst IsLayout (sym out.holds.declared) out.known)) out))
+    absurd (not_outdated (state g.S.Store c.args.db.now.conn).now number (c.in_ok-test_meta.ensures.passed mid out.holds.first) out))
+
+pub returns-in_err-allow-clause-newer : goal.returns-in_err-allow-clause-newer
+returns-in_err-allow-clause-newer g c clean =
+    if_err_each c.from_residual-in_err-allow.result (λ e number is_open out. absurd (not_outdated (state g.S.Store c.args.db.now.conn).now number (c.in_ok-test_meta.ensures.passed clean out.holds.first) out))
