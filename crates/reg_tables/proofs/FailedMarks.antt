@@ -1,9 +1,9 @@
 -- How the statement that marks a version as deleted fails.
-use Rattle.std.proofs.Common.{arith, ◌≡◌, ◌⊎◌, ◌++◌, ◌^◌, ◌≤◌, Equal, Some, inl, inr, ℕ, ℤ, pos, drop, length, map, List, [], ◌∷◌, lit≤, Bool, true, false, Err, refl, sym, ap, subst, ◌∙◌}
+use Rattle.std.proofs.Common.{arith, ◌≡◌, ◌⊎◌, ◌≤◌, Equal, Some, inl, inr, ℕ, ℤ, pos, drop, length, map, List, [], ◌∷◌, lit≤, Bool, true, false, Err, refl, sym, ap, subst, ◌∙◌}
 use Rattle.std.specs.List.{list_all}
 use Rattle.std.specs.FinMap.{get}
 use Rattle.std.specs.Ordering.{is_eq}
-use Rattle.std.proofs.lemmas.Bool.{both_ways, and_from, not_from_false, false_from_ne_true, lt-ltb}
+use Rattle.std.proofs.lemmas.Bool.{both_ways, and_from, not_from_false, false_from_ne_true}
 use Rattle.std.proofs.lemmas.List.{length-map}
 use Rattle.sqlite.specs.declared.types.Value.{Value}
 use Rattle.sqlite.specs.declared.types.Value.TheVariants.{Null, Int, Text}
@@ -18,8 +18,6 @@ use Rattle.sqlite.specs.Effect.{Answers, edit_error}
 use Rattle.sqlite.specs.State.{State, ExecutesInside}
 use Rattle.sqlite.specs.Listing.{understood}
 use Rattle.sqlite.specs.declared.error.Error.{Error}
-use Rattle.sqlite.specs.declared.error.Error.TheVariants.{SqliteFailure}
-use Rattle.sqlite.specs.declared.error.ErrorCode.TheVariants as code
 use Rattle.sqlite.proofs.Callers.{statement_of}
 use Rattle.sqlite_schema.specs.declared.schema.Keys.TheVariants.{Enforced}
 use Rattle.sqlite_schema.specs.declared.schema.Among.TheVariants.{All}
@@ -30,20 +28,15 @@ use Rattle.sqlite_schema.specs.Rules.{agree, differ, guards, Keeps, Obeys, Refer
 use Rattle.sqlite_rules.specs.declared.error.Refusal.{Refusal}
 use Rattle.sqlite_rules.specs.declared.error.Refusal.TheVariants.{Violates, Mismatch, NoRowid, BadReference, TooDeep}
 use Rattle.sqlite_rules.specs.Calls.{ids_of}
-use Rattle.sqlite_rules.specs.Edit.{IsOversized}
 use Rattle.sqlite_rules.specs.Lists.{Has}
 use Rattle.sqlite_rules.proofs.ListLemmas.{all_has, has_got, test_from, some_has}
 use Rattle.sqlite_rules.proofs.TableLemmas.{int_is, without_all_has, put_all_has}
-use Rattle.sqlite_sql.specs.Ops.{fits_i64}
 use Rattle.sqlite_tied.specs.Compute.{everything}
 use Rattle.reg_tables.specs.Layout.{layout, versions}
 use Rattle.reg_tables.specs.TableMaps.{IsEntry}
-use Rattle.reg_tables.specs.Contents.{version_cmp, VersionRow, version_key_cells, version_cells, Contents, version_form, Holds}
-use Rattle.reg_tables.specs.Changes.{as_deleted}
-use Rattle.reg_tables.specs.Rooms.{HasRoom, CanBeStored}
-use Rattle.reg_tables.specs.FailedCalls.{IsFault, IsInsertFault}
+use Rattle.reg_tables.specs.Contents.{version_cmp, VersionRow, Contents, version_form, Holds}
+use Rattle.reg_tables.specs.FailedCalls.{IsInsertFault}
 use Rattle.reg_tables.specs.Inside.Statements.{plain_query, by_version}
-use Rattle.reg_tables.proofs.Rooms.{above}
 use Rattle.reg_tables.proofs.ListMembers.{has_mapped}
 use Rattle.reg_tables.proofs.MapLemmas.{equal_of, tied_key}
 use Rattle.reg_tables.proofs.RowLemmas.{left_fails, same_if_tied}
@@ -51,7 +44,7 @@ use Rattle.reg_tables.proofs.Queries.{passes}
 use Rattle.reg_tables.proofs.KeyedTables.{version_order, by_version_test, cast-Int, given_as_is, FindsOne, own_row, finds_one}
 use Rattle.reg_tables.proofs.Statements.{with_flag, mark_version, mark_version_is}
 use Rattle.reg_tables.proofs.UniqueLemmas.{with_tree_there, with_tree_elsewhere, stays_unique}
-use Rattle.reg_tables.proofs.WriteFaults.{refused_by, update_refused, update_too_large}
+use Rattle.reg_tables.proofs.WriteFaults.{refused_by, update_refused}
 use Rattle.reg_tables.proofs.Settled.{layout_settled}
 use Rattle.reg_tables.proofs.TableFaults.{obeys as obeyed, versions_at, has_text, refers_if, differ_itself, plain_fits}
 use Rattle.reg_tables.proofs.FailedVersions.{version_keys, flag_passes}
@@ -213,58 +206,17 @@ module _ (old new : State) (contents : Contents) (h : Holds old.now contents) (e
     allowed BadReference r = absurd (both_ways _ r (versions_at.keys _ _))
     allowed TooDeep r = absurd r
 
-    -- where there is room, the rowid is one that SQLite has
-    in_range : (n : ℕ) → HasRoom (db 2) n → list_all (λ r. fits_i64 (id_in (rowid r))) edit.news ≡ false → ⊥
-    in_range n room fails = both_ways _ fails (test_from (λ (r : Row). fits_i64 (id_in (rowid r))) edit.news (λ x new.
-        let it = is_new x new in
-        let place = above (db 2) n room it.was it.there in
-        let next = room.room in
-        let low = place.2 in
-        ap (λ v. fits_i64 (id_in v)) (place_of x it ∙ place.1) ∙ lt-ltb place.0 (2 ^ 63) (omega (arith, next, low))))
-
-    -- the row is stored, where one with these cells can be
-    can_store : ((version : VersionRow) → get contents.versions key ≡ Some version → CanBeStored versions (version_key_cells key ++ version_cells (as_deleted version))) → (x : Row) → Has edit.news x → IsOversized layout versions x → ⊥
-    can_store stored x new large = let it = is_new x new in stored it.version it.known (id_in (rowid it.was)) (subst (IsOversized layout versions) it.is large)
-
-  -- the row is too large, or its rowid is none that SQLite has
-  abbrev IsMarkTrouble : Type 0
-  IsMarkTrouble =
-      ((e ≡ SqliteFailure code.TooBig) × (found : List Row) × IsFound found × ((row : Row) × Has (edit_of db versions (ids_of found) Given 1 found).news row × IsOversized layout versions row))
-      ⊎ ((e ≡ SqliteFailure code.NoRowid) × (found : List Row) × IsFound found × IsRefused layout Enforced db (edit_of db versions (ids_of found) Given 1 found) NoRowid)
-
-  mark_version_stops : ExecutesInside 0 mark_version params old new (Err e) → IsFault old new e ⊎ IsMarkTrouble
+  pub mark_version_fails : ExecutesInside 0 mark_version params old new (Err e) → IsInsertFault old new e
   unfolding understood everything
-  mark_version_stops ran =
+  mark_version_fails ran =
       elim (refused_by mark_version params old new layout h.declared (Update 1 marking) mark_version_is (lit≤ tt, refl) (record { silent = refl; stays = refl }) e ran) [
-        | inl fault ↦ inl fault
+        | inl fault ↦ inl (inl (inl fault))
         | inr rest ↦ elim rest [
-          | inl large ↦
-              let it = update_too_large layout layout_settled 1 versions refl old new (statement_of mark_version (understood layout mark_version)) params e marking refl (plain_fits db params 2 by_version (col 1 0 ∷ with_flag)) large.1 in
-              inr (inl (large.0, it.0, found_as it.0 it.1, it.2))
+          | inl large ↦ inl (inr large.0)
           | inr does ↦ elim (update_refused layout layout_settled 1 versions refl old new (statement_of mark_version (understood layout mark_version)) params e marking refl (plain_fits db params 2 by_version (col 1 0 ∷ with_flag))
               (λ found next asked applies. refers found (found_as found asked) next applies) does) [
-                | inl fault ↦ inl fault
-                | inr r ↦
-                    let it = found_as r.0 r.2 in
-                    let why = allowed r.0 it r.1 r.3 in
-                    inr (inr (r.4 ∙ ap edit_error why, r.0, it, subst (IsRefused layout Enforced db (edit_of db versions (ids_of r.0) Given 1 r.0)) why r.3))
+                | inl fault ↦ inl (inl (inl fault))
+                | inr r ↦ inr (inl (r.4 ∙ ap edit_error (allowed r.0 (found_as r.0 r.2) r.1 r.3)))
               ]
         ]
       ]
-
-  pub mark_version_fails : ExecutesInside 0 mark_version params old new (Err e) → IsInsertFault old new e
-  mark_version_fails ran = elim (mark_version_stops ran) [
-    | inl fault ↦ inl (inl (inl fault))
-    | inr trouble ↦ elim trouble [ inl large ↦ inl (inr large.0) | inr high ↦ inr (inl high.0) ]
-  ]
-
-  -- with room, and where the marked row can be stored, it is put back but for a fault
-  pub mark_version_faults : ExecutesInside 0 mark_version params old new (Err e) → (n : ℕ) → HasRoom (db 2) n
-      → ((version : VersionRow) → get contents.versions key ≡ Some version → CanBeStored versions (version_key_cells key ++ version_cells (as_deleted version))) → IsFault old new e
-  mark_version_faults ran n room stored = elim (mark_version_stops ran) [
-    | inl fault ↦ fault
-    | inr trouble ↦ elim trouble [
-      | inl large ↦ let it = large.3 in absurd (can_store large.1 large.2 stored it.0 it.1 it.2)
-      | inr high ↦ absurd (in_range high.1 high.2 n room high.3)
-    ]
-  ]

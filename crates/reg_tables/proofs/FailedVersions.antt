@@ -1,5 +1,5 @@
 -- How the statements that write texts and versions fail.
-use Rattle.std.proofs.Common.{arith, ◌≡◌, ◌⊎◌, ◌/◌, not, length, ◌<◌, ◌^◌, inl, inr, ℕ, pos, List, [], ◌∷◌, lit≤, true, false, Bool, ◌&&◌, None, Some, Err, Option, refl, sym, ap, subst, ◌∙◌}
+use Rattle.std.proofs.Common.{arith, ◌≡◌, ◌/◌, not, length, ◌<◌, ◌^◌, inl, inr, ℕ, pos, List, [], ◌∷◌, lit≤, true, false, Bool, ◌&&◌, None, Some, Err, Option, refl, sym, ap, subst, ◌∙◌}
 use Rattle.std.specs.Prelude.{IsSome}
 use Rattle.std.specs.FinMap.{get, int_cmp-IsAntisymmetric}
 use Rattle.std.specs.Ordering.{is_eq, int_cmp, nat_cmp}
@@ -19,9 +19,6 @@ use Rattle.sqlite_sql.specs.declared.ops.CompareOp.TheVariants.{Eq}
 use Rattle.sqlite.specs.State.{State, ExecutesInside}
 use Rattle.sqlite.specs.Listing.{understood}
 use Rattle.sqlite.specs.declared.error.Error.{Error}
-use Rattle.sqlite.specs.declared.error.Error.TheVariants.{SqliteFailure}
-use Rattle.sqlite.specs.declared.error.ErrorCode.TheVariants as code
-use Rattle.sqlite_rules.specs.Edit.{IsOversized}
 use Rattle.sqlite_rules.specs.Lists.{Has}
 use Rattle.sqlite_rules.proofs.ListLemmas.{some_has, some_from}
 use Rattle.sqlite_rules.proofs.TableLemmas.{put_all_keeps}
@@ -31,9 +28,8 @@ use Rattle.sqlite_value.proofs.OrderLemmas.{value_cmp-Text, value_cmp-Int}
 use Rattle.sqlite_value.specs.Keys.{plain, first_key}
 use Rattle.sqlite_tied.specs.Compute.{everything}
 use Rattle.reg_tables.specs.Layout.{layout, texts}
-use Rattle.reg_tables.specs.Contents.{text_cmp, version_cmp, version_key_cells, number_cells, flag_cell, text_row_cells, Contents, Holds}
-use Rattle.reg_tables.specs.FailedCalls.{IsFault, IsPutFault}
-use Rattle.reg_tables.specs.Rooms.{CanBeStored}
+use Rattle.reg_tables.specs.Contents.{text_cmp, version_cmp, version_key_cells, number_cells, flag_cell, Contents, Holds}
+use Rattle.reg_tables.specs.FailedCalls.{IsPutFault}
 use Rattle.reg_tables.specs.Inside.KeyedLaws.{IsKeyOrder}
 use Rattle.reg_tables.proofs.MapLemmas.{same_key, tied_key}
 use Rattle.reg_tables.proofs.KeyedTables.{text_order, number_order, version_order, by_id_test, by_version_test, cast-Null, cast-Int}
@@ -84,11 +80,11 @@ numbers_apart : IsKeyOrder int_cmp
 numbers_apart = record { total = int_cmp_total; antisymmetric = int_cmp-IsAntisymmetric }
 
 module _ (old new : State) (contents : Contents) (h : Holds old.now contents) (e : Error) where
-  -- why the row is not put in: its rowid is the id, which is free
-  put_text_stops : (id : ℕ) (text : List ℕ) → id < 2 ^ 32 → get contents.texts id ≡ None → ((other : ℕ) → get contents.texts other ≡ Some text → ⊥)
-      → ExecutesInside 0 put_text (Int (pos id) ∷ Text text ∷ []) old new (Err e) → IsFault old new e ⊎ ((e ≡ SqliteFailure code.TooBig) × IsOversized layout texts (Int (pos id) ∷ text_row_cells text))
+  -- the rowid is the id, which is free
+  pub put_text_fails : (id : ℕ) (text : List ℕ) → id < 2 ^ 32 → get contents.texts id ≡ None → ((other : ℕ) → get contents.texts other ≡ Some text → ⊥)
+      → ExecutesInside 0 put_text (Int (pos id) ∷ Text text ∷ []) old new (Err e) → IsPutFault old new e
   unfolding understood everything
-  put_text_stops id text low none unheld ran =
+  put_text_fails id text low none unheld ran =
       let params : Row = Int (pos id) ∷ Text text ∷ [] in
       let row : Row = Int (pos id) ∷ Null ∷ Text text ∷ [] in
       let put : Edit = edit_of old.now.trees texts [] Chosen 0 (value_rows (stamped texts params) 3 (length text_terms / 3) text_terms) in
@@ -106,8 +102,8 @@ module _ (old new : State) (contents : Contents) (h : Holds old.now contents) (e
       }) (λ next applies. refers_if old.now.trees next (λ had r there.
       more_texts (old.now.trees 0) (next 0) (λ x was. subst (λ l. Has l x) (sym applies.rows) (put_all_keeps put.news (old.now.trees 0) x applies.fresh was)) r
       (had r (subst (λ l. Has l r) (applies.tables.1.0 (λ e. omega (arith, e))) there)))) e ran) [
-        | inl fault ↦ inl fault
-        | inr (inl large) ↦ inr large
+        | inl fault ↦ inl (inl fault)
+        | inr (inl large) ↦ inr large.0
         | inr (inr why) ↦ absurd (elim why.1 [
           | inl high ↦ both_ways _ high.1 (lt-ltb id (2 ^ 63) (omega arith))
           | inr taken ↦
@@ -121,11 +117,3 @@ module _ (old new : State) (contents : Contents) (h : Holds old.now contents) (e
               cc
         ])
       ]
-
-  pub put_text_fails : (id : ℕ) (text : List ℕ) → id < 2 ^ 32 → get contents.texts id ≡ None → ((other : ℕ) → get contents.texts other ≡ Some text → ⊥)
-      → ExecutesInside 0 put_text (Int (pos id) ∷ Text text ∷ []) old new (Err e) → IsPutFault old new e
-  put_text_fails id text low none unheld ran = elim (put_text_stops id text low none unheld ran) [ inl fault ↦ inl (inl fault) | inr large ↦ inr large.0 ]
-
-  pub put_text_faults : (id : ℕ) (text : List ℕ) → id < 2 ^ 32 → get contents.texts id ≡ None → ((other : ℕ) → get contents.texts other ≡ Some text → ⊥)
-      → ExecutesInside 0 put_text (Int (pos id) ∷ Text text ∷ []) old new (Err e) → CanBeStored texts (text_row_cells text) → IsFault old new e
-  put_text_faults id text low none unheld ran stored = elim (put_text_stops id text low none unheld ran) [ inl fault ↦ fault | inr large ↦ absurd (stored (pos id) large.1) ]

@@ -15,7 +15,7 @@ use Rattle.sqlite.specs.Kind.TheVariants.{Integer}
 use Rattle.sqlite.specs.Ops.{unary}
 use Rattle.sqlite.specs.Cast.{cast, cast_row}
 use Rattle.sqlite_rules.specs.Calls.{ids_of}
-use Rattle.sqlite.specs.Edit.{edit_of, id_in, is_taken, put_all, are_fresh, have_rowids, without_all, numbered, next_rowid}
+use Rattle.sqlite.specs.Edit.{edit_of, is_taken, put_all, are_fresh, have_rowids, without_all, numbered, next_rowid}
 use Rattle.sqlite.specs.Rowids.TheVariants.{Chosen, Given}
 use Rattle.sqlite.specs.Term.{Term, col, eval_all}
 use Rattle.sqlite.specs.Table.{Table}
@@ -32,13 +32,11 @@ use Rattle.sqlite_value.proofs.OrderLemmas.{value_cmp-Text, value_cmp-Int}
 use Rattle.sqlite_sql.specs.Ops.{binary, is_true, from_truth}
 use Rattle.sqlite_schema.specs.declared.program.Program.{Program}
 use Rattle.sqlite_rules.specs.Lists.{Has}
-use Rattle.sqlite_rules.proofs.ListLemmas.{all_has}
-use Rattle.sqlite_rules.proofs.TableLemmas.{int_is}
 use Rattle.sqlite.specs.Schema.{Schema}
 use Rattle.reg_tables.specs.TableMaps.{Form, IsEntry, ShowsMap}
 use Rattle.reg_tables.specs.Changes.{altered}
 use Rattle.reg_tables.specs.Rooms.{HasRoom}
-use Rattle.reg_tables.proofs.Rooms.{room_after, room_without_all, room_altered}
+use Rattle.reg_tables.proofs.Rooms.{room_after}
 use Rattle.reg_tables.proofs.ListMembers.{has_mapped, maps_had}
 use Rattle.reg_tables.specs.Contents.{version_cmp, number_cells, version_key_cells, flag_cell, text_cmp, text_cells}
 use Rattle.reg_tables.specs.Inside.KeyedLaws.{TurnsTable, IsKeyOrder}
@@ -235,15 +233,6 @@ module _ (schema : Schema) (settled : IsSettled schema) {K V : Type 0} (form : F
       let rows : new.now.trees table.tree ≡ put_row new_row (db table.tree) = step.applies.rows ∙ ap (put_all (db table.tree)) news in
       subst (λ r. HasRoom r n) (sym rows) (room_after (db table.tree) n room new_row its)
 
-  pub removes_room : (tests : List Term) → IsCommand schema sql (Delete at (record { lets = []; body = plain_query table.tree tests (col 1 0 ∷ []) })) → Executes sql params old new (Ok count)
-      → (n : ℕ) → HasRoom (old.now.trees table.tree) n → HasRoom (new.now.trees table.tree) n
-  removes_room tests it h n room =
-      let db = old.now.trees in
-      let q : Program = record { lets = []; body = plain_query table.tree tests (col 1 0 ∷ []) } in
-      let w = runs_as sql params old new schema declared (Delete at q) it.is it.plain count h in
-      let cut = deleted schema settled.idle at table there old new declared (statement_of sql (understood schema sql)) params count q w in
-      subst (λ r. HasRoom r n) (sym cut.2.applies.rows) (room_without_all (ids_of cut.0) (db table.tree) n room)
-
   -- the query of the DELETE tests the key
   pub removes : (tests : List Term) → IsCommand schema sql (Delete at (record { lets = []; body = plain_query table.tree tests (col 1 0 ∷ []) }))
       → ((row : Row) (q : K) → form.key_of row ≡ form.key_cells q → passes tests params row ≡ is_eq (R q k)) → Executes sql params old new (Ok count)
@@ -299,27 +288,6 @@ module _ (schema : Schema) (settled : IsSettled schema) {K V : Type 0} (form : F
             (ap have_rowids (sym as_given) ∙ step.applies.keyed) (ap (are_fresh left) (sym as_given) ∙ step.applies.fresh));
         others = step.applies.tables;
       }
-
-  -- the new row has the rowid of the one whose place it takes
-  pub alters_room : (tests shown : List Term) → IsCommand schema sql (Update at (record { lets = []; body = plain_query table.tree tests (col 1 0 ∷ shown) }))
-      → ((row : Row) (q : K) → form.key_of row ≡ form.key_cells q → passes tests params row ≡ is_eq (R q k))
-      → ((row : Row) (id : ℤ) → rowid row ≡ Int id → rowid (cast_row table (eval_all shown (params ∷ row ∷ []))) ≡ Int id) → Executes sql params old new (Ok count)
-      → (n : ℕ) → HasRoom (old.now.trees table.tree) n → HasRoom (new.now.trees table.tree) n
-  alters_room tests shown it test keeps h n room =
-      let db = old.now.trees in
-      let q : Program = record { lets = []; body = plain_query table.tree tests (col 1 0 ∷ shown) } in
-      let w = runs_as sql params old new schema declared (Update at q) it.is it.plain count h in
-      let put = updated schema settled.idle at table there old new declared (statement_of sql (understood schema sql)) params count q w in
-      let found = put.0 in
-      let one = finds_one form R order db table.tree m shows k tests params test shown found (put.1.answer Null) in
-      let left = without_all (db table.tree) (ids_of found) in
-      let source = λ (s : Row). cast_row table (drop 1 s) in
-      let rows : new.now.trees table.tree ≡ put_all left (map source found) = put.2.applies.rows ∙ ap (put_all left) (given_as_is left (map source found)) in
-      subst (λ r. HasRoom r n) (sym rows) (room_altered source (db table.tree) found n one.few (λ x found_it.
-      let r = one.finds.sound x found_it in
-      let id : rowid r.0 ≡ Int (id_in (rowid r.0)) = int_is (rowid r.0) (all_has _ (db table.tree) r.0 shows.rowids.1 r.1) in
-      let same : id_in (rowid r.0) ≡ id_in (rowid x) = sym (ap (λ (y : Row). id_in (rowid y)) r.3) in
-      (r.0, r.1, id ∙ ap Int same, ap (λ (y : Row). rowid (source y)) r.3 ∙ keeps r.0 (id_in (rowid r.0)) id ∙ ap Int same)) room)
 
 -- ---- a look-up by the key
 

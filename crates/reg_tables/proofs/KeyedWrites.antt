@@ -1,5 +1,5 @@
 -- What a put and a drop make of a table that has one row for each key, and why they fail.
-use Rattle.std.proofs.Common.{◌||◌, ◌==◌, not, bytes_eq, subst, subst₂, ◌≡◌, ◌⊎◌, inl, inr, ◌+◌, ℕ, true, List, [], ◌∷◌, Ok, Err, refl, ap, ◌∙◌, arith}
+use Rattle.std.proofs.Common.{◌||◌, ◌==◌, not, bytes_eq, subst, subst₂, ◌≡◌, ◌⊎◌, inl, inr, ◌+◌, ℕ, true, List, [], ◌∷◌, Ok, Err, refl, ap, ◌∙◌}
 use Rattle.std.specs.Prelude.{IsTrue}
 use Rattle.std.specs.FinMap.{get, insert, remove}
 use Rattle.std.proofs.lemmas.Bool.{and_parts, eqb-true}
@@ -18,17 +18,18 @@ use Rattle.sqlite_rules.specs.Calls.{ids_of}
 use Rattle.sqlite_rules.proofs.ListLemmas.{all_from, test_has}
 use Rattle.sqlite_rules.proofs.TableLemmas.{put_all_has, without_all_has}
 use Rattle.reg_tables.specs.FailedCalls.{IsFault, IsInsertFault}
+use Rattle.reg_tables.specs.Rooms.{HasRoom}
 use Rattle.reg_tables.specs.Inside.Keyed.{Keyed, cells_of, with_entry, without_entry, IsFreeKey}
 use Rattle.reg_tables.specs.Inside.KeyedLaws.{TurnsTable, is_on, IsKeyed, PutsRow, DropsRow, new_row}
 use Rattle.reg_tables.proofs.Settled.{IsSettled}
-use Rattle.reg_tables.proofs.KeyedTables.{inserts, inserts_room, removes, removes_room}
+use Rattle.reg_tables.proofs.KeyedTables.{inserts, inserts_room, removes}
 use Rattle.reg_tables.proofs.TableFaults.{IsFree, IsRowTrouble, new_key, delete_fails, insert_fails, as_insert_fault, fault_alone}
 use Rattle.reg_tables.proofs.MapLemmas.{get-remove-same, insert-remove}
 
 the_one : (rows : List Row) (r row : Row) → rows ≡ row ∷ [] → Has rows r → r ≡ row
 the_one rows r row is there = elim (subst (λ l. Has l r) is there) [ inl same ↦ same | inr none ↦ absurd none ]
 
-module _ {C K V : Type 0} (schema : Schema) (settled : IsSettled schema) (Holds : Database → C → Type 0) (Rooms : Database → ℕ → Type 0) (t : Keyed C K V) (its : IsKeyed schema Holds Rooms t) where
+module _ {C K V : Type 0} (schema : Schema) (settled : IsSettled schema) (Holds : Database → C → Type 0) (t : Keyed C K V) (its : IsKeyed schema Holds t) where
   -- a key that was dropped is free, and a put then sets its value
   pub free_once_dropped : (contents : C) (key : K) → IsFreeKey t key (without_entry t key contents)
   free_once_dropped contents key = ap (λ m. get m key) (its.map_is contents (remove (t.map_of contents) key)) ∙ get-remove-same t.cmp its.key.order (t.map_of contents) key
@@ -59,11 +60,10 @@ module _ {C K V : Type 0} (schema : Schema) (settled : IsSettled schema) (Holds 
       pub puts : (value : V) (count : ℕ) → IsFreeKey t key contents → Executes sql (cells_of t key value) old new (Ok count) → Holds new.now (with_entry t key value contents)
       puts value count free ran = its.turned old.now new.now contents h (insert (t.map_of contents) key value) (put_turns value count free ran)
 
-      pub puts_room : (value : V) (count : ℕ) → IsFreeKey t key contents → Executes sql (cells_of t key value) old new (Ok count) → (n : ℕ) → Rooms old.now (n + 1) → Rooms new.now n
-      puts_room value count free ran n rooms =
-          its.rooms old.now new.now (n + 1) n (omega arith) rooms (put_turns value count free ran).others
-          (inserts_room schema settled t.form t.cmp its.key.order its.key.distinct t.at t.table its.is_at.there old new (its.declared old.now contents h) (t.map_of contents) (its.shows old.now contents h) key sql (cells_of t key value) count
-          p.terms p.width (new_row t (old.now.trees t.table.tree) key value) its.uncounted p.is (p.row old.now.trees key value) refl ran n (its.room old.now (n + 1) rooms))
+      pub puts_room : (value : V) (count : ℕ) → Executes sql (cells_of t key value) old new (Ok count) → (n : ℕ) → HasRoom (old.now.trees t.table.tree) (n + 1) → HasRoom (new.now.trees t.table.tree) n
+      puts_room value count ran n room =
+          inserts_room schema settled t.form t.cmp its.key.order its.key.distinct t.at t.table its.is_at.there old new (its.declared old.now contents h) (t.map_of contents) (its.shows old.now contents h) key sql (cells_of t key value) count
+          p.terms p.width (new_row t (old.now.trees t.table.tree) key value) its.uncounted p.is (p.row old.now.trees key value) refl ran n room
 
       module _ (e : Error) where
         abbrev row_of : V → Row
@@ -88,9 +88,9 @@ module _ {C K V : Type 0} (schema : Schema) (settled : IsSettled schema) (Holds 
         pub put_fails : (value : V) → IsFreeKey t key contents → IsTrue (t.refers contents value) → ExecutesInside 0 sql (cells_of t key value) old new (Err e) → IsInsertFault old new e
         put_fails value free refers ran = as_insert_fault schema old new t.table (old.now.trees t.table.tree) (row_of value) e (put_stops value free refers ran)
 
-        pub put_faults : (value : V) → IsFreeKey t key contents → IsTrue (t.refers contents value) → ExecutesInside 0 sql (cells_of t key value) old new (Err e) → (n : ℕ) → Rooms old.now (n + 1) → ¬ IsOversized schema t.table (row_of value) → IsFault old new e
-        put_faults value free refers ran n rooms fits =
-            fault_alone schema old new t.table (old.now.trees t.table.tree) (row_of value) e n (its.room old.now (n + 1) rooms) refl fits (put_stops value free refers ran)
+        pub put_faults : (value : V) → IsFreeKey t key contents → IsTrue (t.refers contents value) → ExecutesInside 0 sql (cells_of t key value) old new (Err e) → (n : ℕ) → HasRoom (old.now.trees t.table.tree) (n + 1) → ¬ IsOversized schema t.table (row_of value) → IsFault old new e
+        put_faults value free refers ran n room fits =
+            fault_alone schema old new t.table (old.now.trees t.table.tree) (row_of value) e n room refl fits (put_stops value free refers ran)
 
     module _ (sql : List ℕ) (d : DropsRow schema t sql) where
       drop_turns : (count : ℕ) → Executes sql (t.form.key_cells key) old new (Ok count) → TurnsTable schema t.form t.table.tree old.now new.now (get (remove (t.map_of contents) key))
@@ -100,12 +100,6 @@ module _ {C K V : Type 0} (schema : Schema) (settled : IsSettled schema) (Holds 
 
       pub drops : (count : ℕ) → Executes sql (t.form.key_cells key) old new (Ok count) → Holds new.now (without_entry t key contents)
       drops count ran = its.turned old.now new.now contents h (remove (t.map_of contents) key) (drop_turns count ran)
-
-      pub drops_room : (count : ℕ) → Executes sql (t.form.key_cells key) old new (Ok count) → (n : ℕ) → Rooms old.now n → Rooms new.now n
-      drops_room count ran n rooms =
-          its.rooms old.now new.now n n (omega arith) rooms (drop_turns count ran).others
-          (removes_room schema settled t.form t.cmp its.key.order its.key.distinct t.at t.table its.is_at.there old new (its.declared old.now contents h) (t.map_of contents) (its.shows old.now contents h) key sql (t.form.key_cells key) count
-          t.tests d.is ran n (its.room old.now n rooms))
 
       pub drop_fails : (e : Error) → ExecutesInside 0 sql (t.form.key_cells key) old new (Err e) → IsFault old new e
       drop_fails e =

@@ -13,14 +13,13 @@ use Rattle.reg_tables.specs.Layout.{layout, versions, levels, kept, meta}
 use Rattle.reg_tables.specs.Contents.{text_cmp, version_cmp, text_cells, VersionRow, version_key_cells, version_cells, KeptRow, kept_cells, Holds}
 use Rattle.reg_tables.specs.KeptRows.{kept_row}
 use Rattle.reg_tables.specs.Entries.{version_row}
-use Rattle.reg_tables.specs.Rooms.{HasRooms}
 use Rattle.reg_tables.specs.Inside.Keyed.{texts_table, versions_table, levels_table, kept_table, meta_table}
 use Rattle.reg_tables.specs.Inside.KeyedLaws.{HasKey, IsKeyed}
 use Rattle.reg_tables.proofs.Opening.{distinct_version_rows, distinct_kept_rows}
 use Rattle.reg_tables.proofs.MapLemmas.{same_key}
 use Rattle.reg_tables.proofs.KeyedTables.{text_order, distinct_texts, by_key_test, number_order, distinct_numbers, by_id_test, version_order, distinct_versions, by_version_test}
 use Rattle.reg_tables.proofs.TableFaults.{versions_at, levels_at, kept_at, meta_at, has_text, refers_if, beside_refers}
-use Rattle.reg_tables.proofs.TableWrites.{all_turned, all_leave}
+use Rattle.reg_tables.proofs.TableWrites.{all_turned}
 use Rattle.reg_tables.proofs.FailedVersions.{text_of_version, value_of}
 
 -- ---- keys
@@ -56,7 +55,7 @@ versions_agree a b q k of_a of_b same =
 -- ---- where the contents are
 
 -- a version refers to its text
-pub versions_keyed : IsKeyed layout Holds HasRooms versions_table
+pub versions_keyed : IsKeyed layout Holds versions_table
 versions_keyed = record {
   is_at = versions_at;
   uncounted = refl;
@@ -79,11 +78,9 @@ versions_keyed = record {
   drop_refers = λ old new others left. refers_if old new (λ had r there. subst (λ l. has_text l r ≡ true) (sym (others.0 (λ e. omega (arith, e)))) (had r (left r there)));
   map_is = λ contents map. refl;
   last_map = λ contents first last. refl;
-  room = λ db count rooms. rooms.versions;
-  rooms = λ old new more count low rooms others own. all_leave [] layout.indexes versions.tree old new others more count low rooms (inl own) (inr (λ e. omega (arith, e))) (inr (λ e. omega (arith, e))) (inr (λ e. omega (arith, e)));
 }
 
-pub levels_keyed : IsKeyed layout Holds HasRooms levels_table
+pub levels_keyed : IsKeyed layout Holds levels_table
 levels_keyed = record {
   is_at = levels_at;
   uncounted = refl;
@@ -98,11 +95,9 @@ levels_keyed = record {
   drop_refers = λ old new others left. beside_refers levels (λ e. omega (arith, e)) (λ e. omega (arith, e)) old new others;
   map_is = λ contents map. refl;
   last_map = λ contents first last. refl;
-  room = λ db count rooms. rooms.levels;
-  rooms = λ old new more count low rooms others own. all_leave [] layout.indexes levels.tree old new others more count low rooms (inr (λ e. omega (arith, e))) (inl own) (inr (λ e. omega (arith, e))) (inr (λ e. omega (arith, e)));
 }
 
-pub kept_keyed : IsKeyed layout Holds HasRooms kept_table
+pub kept_keyed : IsKeyed layout Holds kept_table
 kept_keyed = record {
   is_at = kept_at;
   uncounted = refl;
@@ -117,11 +112,9 @@ kept_keyed = record {
   drop_refers = λ old new others left. beside_refers kept (λ e. omega (arith, e)) (λ e. omega (arith, e)) old new others;
   map_is = λ contents map. refl;
   last_map = λ contents first last. refl;
-  room = λ db count rooms. rooms.kept;
-  rooms = λ old new more count low rooms others own. all_leave [] layout.indexes kept.tree old new others more count low rooms (inr (λ e. omega (arith, e))) (inr (λ e. omega (arith, e))) (inl own) (inr (λ e. omega (arith, e)));
 }
 
-pub meta_keyed : IsKeyed layout Holds HasRooms meta_table
+pub meta_keyed : IsKeyed layout Holds meta_table
 meta_keyed = record {
   is_at = meta_at;
   uncounted = refl;
@@ -136,8 +129,6 @@ meta_keyed = record {
   drop_refers = λ old new others left. beside_refers meta (λ e. omega (arith, e)) (λ e. omega (arith, e)) old new others;
   map_is = λ contents map. refl;
   last_map = λ contents first last. refl;
-  room = λ db count rooms. rooms.meta;
-  rooms = λ old new more count low rooms others own. all_leave [] layout.indexes meta.tree old new others more count low rooms (inr (λ e. omega (arith, e))) (inr (λ e. omega (arith, e))) (inr (λ e. omega (arith, e))) (inl own);
 }
 
 -- ---- the lines that hold a value's columns

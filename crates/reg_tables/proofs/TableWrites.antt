@@ -1,5 +1,5 @@
 -- What each statement makes of the contents.
-use Rattle.std.proofs.Common.{◌≡◌, ◌≢◌, ◌≤◌, sym, subst, ℕ, pos, List, [], ◌∷◌, None, Ok, refl, arith, Ordering, ◌⊎◌, inl, inr}
+use Rattle.std.proofs.Common.{◌≡◌, ◌≢◌, subst, ℕ, pos, List, [], ◌∷◌, None, Ok, refl, arith, Ordering, ◌⊎◌, inl, inr}
 use Rattle.std.specs.Ordering.{nat_cmp}
 use Rattle.std.specs.FinMap.{FinMap, get, insert}
 use Rattle.sqlite.specs.declared.types.Value.TheVariants.{Null, Int, Text}
@@ -13,15 +13,13 @@ use Rattle.reg_tables.specs.Layout.{begins, layout, texts, versions, levels, kep
 use Rattle.reg_tables.specs.Contents.{version_cmp, VersionRow, Contents, text_form, version_form, pair_form, kept_form, Holds, HoldsIn}
 use Rattle.reg_tables.specs.TableMaps.{IsEntry, Form, ShowsMap}
 use Rattle.reg_tables.specs.Changes.{altered, as_deleted, with_deleted, with_text}
-use Rattle.reg_tables.specs.Rooms.{HasRoom, HasRooms}
 use Rattle.reg_tables.specs.Inside.Statements.{by_version}
 use Rattle.reg_tables.specs.Inside.KeyedLaws.{KeepsOthers, TurnsTable}
-use Rattle.reg_tables.proofs.Rooms.{room_for_fewer}
 use Rattle.reg_tables.proofs.RowLemmas.{same_rows}
 use Rattle.sqlite_schema.specs.declared.schema.Index.{Index}
 use Rattle.reg_tables.proofs.Statements.{text_terms, put_text, put_text_is, with_flag, mark_version, mark_version_is}
 use Rattle.reg_tables.proofs.Settled.{layout_settled}
-use Rattle.reg_tables.proofs.KeyedTables.{alters_room, number_order, distinct_numbers, version_order, distinct_versions, by_version_test, cast-Null, cast-Int, inserts, alters}
+use Rattle.reg_tables.proofs.KeyedTables.{number_order, distinct_numbers, version_order, distinct_versions, by_version_test, cast-Null, cast-Int, inserts, alters}
 
 -- ---- a write to one table, in a database of the five tables and more
 
@@ -46,23 +44,6 @@ module _ (tables : List Table) (indexes : List Index) (tree : ℕ) (old new : Da
     kept = turned kept_form kept was.kept is.kept others.1.1.1.0 h.kept of_kept;
     meta = turned pair_form meta was.meta is.meta others.1.1.1.1.0 h.meta of_meta;
   }
-
-  -- room for rows is left in the table, or it is another
-  module _ (more count : ℕ) (low : count ≤ more) where
-    abbrev LeavesRoom : Table → Type 0
-    LeavesRoom table = HasRoom (new.trees table.tree) count ⊎ (table.tree ≢ tree)
-
-    leaves : (table : Table) → (table.tree ≢ tree → new.trees table.tree ≡ old.trees table.tree) → HasRoom (old.trees table.tree) more → LeavesRoom table → HasRoom (new.trees table.tree) count
-    leaves table same room (inl own) = own
-    leaves table same room (inr other) = subst (λ r. HasRoom r count) (sym (same other)) (room_for_fewer (old.trees table.tree) more count low room)
-
-    pub all_leave : HasRooms old more → LeavesRoom versions → LeavesRoom levels → LeavesRoom kept → LeavesRoom meta → HasRooms new count
-    all_leave rooms of_versions of_levels of_kept of_meta = record {
-      versions = leaves versions others.1.0 rooms.versions of_versions;
-      levels = leaves levels others.1.1.0 rooms.levels of_levels;
-      kept = leaves kept others.1.1.1.0 rooms.kept of_kept;
-      meta = leaves meta others.1.1.1.1.0 rooms.meta of_meta;
-    }
 
 -- ---- texts and versions
 
@@ -92,12 +73,3 @@ module _ (old new : State) (count : ℕ) (contents : Contents) (h : Holds old.no
 
   pub marks_version : (key : List ℕ × ℕ) → Executes mark_version (Text key.0 ∷ Int (pos key.1) ∷ []) old new (Ok count) → Holds new.now (with_deleted key contents)
   marks_version key ran = version_held (altered contents.versions key as_deleted) (marks_version_turns key ran)
-
-  pub puts_text_rooms : (id : ℕ) (text : List ℕ) → get contents.texts id ≡ None → Executes put_text (Int (pos id) ∷ Text text ∷ []) old new (Ok count) → (n : ℕ) → HasRooms old.now n → HasRooms new.now n
-  puts_text_rooms id text free ran n rooms = all_leave [] layout.indexes texts.tree old.now new.now (puts_text_turns id text free ran).others n n (omega arith) rooms (inr (λ e. omega (arith, e))) (inr (λ e. omega (arith, e))) (inr (λ e. omega (arith, e))) (inr (λ e. omega (arith, e)))
-
-  pub marks_version_rooms : (key : List ℕ × ℕ) → Executes mark_version (Text key.0 ∷ Int (pos key.1) ∷ []) old new (Ok count) → (n : ℕ) → HasRooms old.now n → HasRooms new.now n
-  marks_version_rooms key ran n rooms =
-      all_leave [] layout.indexes versions.tree old.now new.now (marks_version_turns key ran).others n n (omega arith) rooms
-      (inl (alters_room layout layout_settled version_form version_cmp version_order distinct_versions 1 versions refl old new h.declared contents.versions h.versions key mark_version (Text key.0 ∷ Int (pos key.1) ∷ []) count by_version with_flag mark_version_is
-      (λ row q is. by_version_test row key q is) (λ row id its. rw (its, cast-Int id) refl) ran n rooms.versions)) (inr (λ e. omega (arith, e))) (inr (λ e. omega (arith, e))) (inr (λ e. omega (arith, e)))

@@ -302,24 +302,6 @@ module _ (schema : Schema) (settled : IsSettled schema) where
             go (inl stopped) = update_stopped stopped.0 (let e = stopped.2 in cc) stopped.1
             go (inr wrote) = absurd (concluded wrote.0 (updated_trees wrote.0 wrote.1) wrote.2)
 
-      -- the row that is too large is one that takes the place of a row that was found
-      abbrev LargeOf : Type 0
-      LargeOf = (found : List Row) × Queried old.step_limit (record { schema = schema; trees = db }) q params (Ok found) × ((row : Row) × Has (altered_by found).news row × IsOversized schema table row)
-
-      update_large : (stop : Option Error) → stop ≡ None → Updates task q params db (Err stop) → LargeOf
-      update_large stop is (inl asked) = absurd (query_large asked.0 (let e = asked.2 in cc) asked.1)
-      update_large stop is (inr found) = elim found.2 [
-        | inl put ↦ (found.0, found.1, edit_large db (altered_by found.0) put.0 (let e = put.2 in cc) put.1)
-        | inr done ↦ absurd (let e = done.2 in cc)
-      ]
-
-      pub update_too_large : Does old.step_limit (mode_of old) params (record old.now { schema = schema }) text None (Update at q) (Err None) → LargeOf
-      update_too_large does = go (rw there at does)
-        where
-          go : Then (Updates task q params db) (Concludes task (mode_of old) None) (Err None) → LargeOf
-          go (inl stopped) = update_large stopped.0 (let e = stopped.2 in cc) stopped.1
-          go (inr wrote) = absurd (concluded_large wrote.0 wrote.2)
-
     -- an INSERT of one row of values into a table with no AUTOINCREMENT
     module _ (terms : List Term) (width : ℕ) (uncounted : table.is_counted ≡ false) (typed : accepts_terms terms (stamped table params) ≡ true)
         (refers : (next : Trees) → Applies schema Enforced db (edit_of db table [] Chosen 0 (value_rows (stamped table params) width (length terms / width) terms)) next → Refers All schema next) where

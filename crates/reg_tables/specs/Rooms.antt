@@ -5,9 +5,8 @@ use Rattle.sqlite.specs.Order.{Row}
 use Rattle.sqlite.specs.Tree.{rowid}
 use Rattle.sqlite.specs.Edit.{next_rowid}
 use Rattle.sqlite.specs.Table.{Table}
-use Rattle.sqlite.specs.Effect.{Database}
 use Rattle.sqlite_rules.specs.Edit.{IsOversized}
-use Rattle.reg_tables.specs.Layout.{layout, versions, levels, kept, meta}
+use Rattle.reg_tables.specs.Layout.{layout}
 
 -- a row with these cells can be stored, whatever its rowid
 abbrev pub CanBeStored : Table → Row → Type 0
@@ -24,10 +23,3 @@ pub record HasRoom (rows : List Row) (count : ℕ) : Type 0 where
   pub next : ℕ
   pub is_next : next_rowid rows ≡ pos next
   pub room : next + count ≤ 2 ^ 63
-
--- The tables of versions, levels, kept replies and of what the database says of itself have it. (That of texts needs none: a text's rowid is its id.)
-pub record HasRooms (db : Database) (count : ℕ) : Type 0 where
-  pub versions : HasRoom (db.trees versions.tree) count
-  pub levels : HasRoom (db.trees levels.tree) count
-  pub kept : HasRoom (db.trees kept.tree) count
-  pub meta : HasRoom (db.trees meta.tree) count

@@ -1,18 +1,15 @@
 //! What is kept under retry keys.
 
-ghost use Rattle.std.specs.Prelude.{◌≡◌, None, Some, OnOk, IfOk, IfErr, MatchOption, false, ◌+◌, ℕ, List, [], ◌∷◌};
+ghost use Rattle.std.specs.Prelude.{◌≡◌, None, Some, OnOk, IfOk, IfErr, MatchOption, false, ℕ, List, [], ◌∷◌};
 ghost use Rattle.std.specs.FinMap.{get};
 ghost use Rattle.sqlite.specs.Order.{column};
 ghost use Rattle.sqlite.specs.Held.{state};
 ghost use Rattle.reg_tables.specs.Frames.{state_in, StaysInside, StaysIdle};
 ghost use Rattle.sqlite.specs.State.{HasCleanDisk};
-ghost use Rattle.sqlite.specs.declared.types.Value.TheVariants.{Text};
-ghost use Rattle.reg_tables.specs.Layout.{kept};
-ghost use Rattle.reg_tables.specs.Rooms.{HasRooms, CanBeStored};
 ghost use Rattle.reg_tables.specs.Contents.{KeptRow, Contents, kept_cells, IsReadableReply, Holds};
 ghost use Rattle.reg_tables.specs.Changes.{with_kept};
 ghost use Rattle.reg_tables.specs.Reads.{CanBeRead};
-ghost use Rattle.reg_tables.specs.FailedCalls.{IsFault, IsInsertFault, IsWriteFault};
+ghost use Rattle.reg_tables.specs.FailedCalls.{IsFault, IsInsertFault};
 ghost use Rattle.reg_tables.specs.KeptRows.{kept_row};
 ghost use Rattle.reg_tables.specs.Inside.Keyed.{kept_table};
 
@@ -94,16 +91,6 @@ pub fn keep_reply<S: Alter>(
     ensures fault { HasCleanDisk (state_in S.Store tx.new) → IfErr result (λ e.
         (contents : Contents) → Holds (state_in S.Store tx.old).now contents
         → get contents.kept key.now ≡ None → IsInsertFault (state_in S.Store tx.old) (state_in S.Store tx.new) e) }
-    ensures room { HasCleanDisk (state_in S.Store tx.new) → OnOk result ((contents : Contents)
-        → Holds (state_in S.Store tx.old).now contents
-        → get contents.kept key.now ≡ None
-        → (n : ℕ) → HasRooms (state_in S.Store tx.old).now (n + 1) → HasRooms (state_in S.Store tx.new).now n) }
-    ensures fits { HasCleanDisk (state_in S.Store tx.new) → IfErr result (λ e. (contents : Contents)
-        → Holds (state_in S.Store tx.old).now contents
-        → get contents.kept key.now ≡ None
-        → (n : ℕ) → HasRooms (state_in S.Store tx.old).now (n + 1) → CanBeStored kept (Text key.now ∷ kept_cells
-        (record { command = command.now; status = status; body = body.now }))
-        → IsWriteFault (state_in S.Store tx.old) (state_in S.Store tx.new) e) }
 {
     put::<S, Kept>(tx, params![key, command, status, body])
 }

@@ -1,6 +1,6 @@
 //! The statements of a table that has one row for each key.
 
-ghost use Rattle.std.specs.Prelude.{◌≡◌, ◌+◌, ◌∷◌, ◌++◌, ℕ, ℤ, List, [], IsUtf8, IsTrue, string_bytes, None, Some, OnOk, IfOk, IfErr, MatchOption, false};
+ghost use Rattle.std.specs.Prelude.{◌≡◌, ◌+◌, ◌∷◌, ℕ, ℤ, List, [], IsUtf8, IsTrue, string_bytes, None, Some, OnOk, IfOk, IfErr, MatchOption, false};
 ghost use Rattle.std.specs.FinMap.{get};
 ghost use Rattle.sqlite.specs.Order.{column};
 ghost use Rattle.sqlite.specs.Held.{state};
@@ -9,7 +9,7 @@ ghost use Rattle.sqlite.specs.Values.{bound};
 ghost use Rattle.reg_tables.specs.Layout.{layout};
 ghost use Rattle.reg_tables.specs.Frames.{state_in, StaysInside, StaysIdle};
 ghost use Rattle.reg_tables.specs.Contents.{text_cells, Contents, AreReadable, HoldsIn, Holds};
-ghost use Rattle.reg_tables.specs.Rooms.{HasRooms, CanBeStored};
+ghost use Rattle.reg_tables.specs.Rooms.{HasRoom, CanBeStored};
 ghost use Rattle.reg_tables.specs.Reads.{CanBeRead};
 ghost use Rattle.reg_tables.specs.FailedCalls.{IsFault, IsWriteFault, IsInsertFault};
 ghost use Rattle.reg_tables.specs.Inside.Keyed.{Keyed, cells_of, with_entry, without_entry, IsFreeKey};
@@ -44,7 +44,7 @@ pub(crate) trait KeyedTable {
 pub(crate) trait FilledTable: KeyedTable {
     /// The INSERT of a row, by the columns of its key and then of its value.
     fn put_sql() -> &'static str
-        ensures keyed { IsKeyed layout Holds HasRooms Self.table }
+        ensures keyed { IsKeyed layout Holds Self.table }
         ensures puts { PutsRow layout Self.table result.now };
 }
 
@@ -52,7 +52,7 @@ pub(crate) trait FilledTable: KeyedTable {
 pub(crate) trait ChangedTable: FilledTable {
     /// The DELETE of a row, by the columns of its key.
     fn drop_sql() -> &'static str
-        ensures keyed { IsKeyed layout Holds HasRooms Self.table }
+        ensures keyed { IsKeyed layout Holds Self.table }
         ensures drops { DropsRow layout Self.table result.now };
 }
 
@@ -86,11 +86,11 @@ pub(crate) fn put<S: Alter, T: FilledTable>(
     ensures room { HasCleanDisk (state_in S.Store tx.new) → OnOk result ((key : T.Key) (value : T.Value)
         → bound values.now ≡ cells_of T.table key value
         → (contents : Contents) → Holds (state_in S.Store tx.old).now contents → IsFreeKey T.table key contents
-        → (n : ℕ) → HasRooms (state_in S.Store tx.old).now (n + 1) → HasRooms (state_in S.Store tx.new).now n) }
+        → (n : ℕ) → HasRoom ((state_in S.Store tx.old).now.trees T.table.table.tree) (n + 1) → HasRoom ((state_in S.Store tx.new).now.trees T.table.table.tree) n) }
     ensures fits { HasCleanDisk (state_in S.Store tx.new) → IfErr result (λ e. (key : T.Key) (value : T.Value)
         → bound values.now ≡ cells_of T.table key value
         → (contents : Contents) → Holds (state_in S.Store tx.old).now contents → IsFreeKey T.table key contents
-        → IsTrue (T.table.refers contents value) → (n : ℕ) → HasRooms (state_in S.Store tx.old).now (n + 1)
+        → IsTrue (T.table.refers contents value) → (n : ℕ) → HasRoom ((state_in S.Store tx.old).now.trees T.table.table.tree) (n + 1)
         → CanBeStored T.table.table (cells_of T.table key value)
         → IsWriteFault (state_in S.Store tx.old) (state_in S.Store tx.new) e) }
 {
@@ -111,11 +111,7 @@ pub(crate) fn drop<S: Alter, T: ChangedTable>(
         → bound values.now ≡ T.table.form.key_cells key
         → (contents : Contents) → Holds (state_in S.Store tx.old).now contents
         → IsWriteFault (state_in S.Store tx.old) (state_in S.Store tx.new) e) }
-    ensures room { HasCleanDisk (state_in S.Store tx.new) → OnOk result ((key : T.Key)
-        → bound values.now ≡ T.table.form.key_cells key
-        → (contents : Contents) → Holds (state_in S.Store tx.old).now contents
-        → (n : ℕ) → HasRooms (state_in S.Store tx.old).now n → HasRooms (state_in S.Store tx.new).now n) }
-    ensures keyed { IsKeyed layout Holds HasRooms T.table }
+    ensures keyed { IsKeyed layout Holds T.table }
 {
     run(tx, T::drop_sql(), values)
 }
@@ -136,17 +132,6 @@ pub(crate) fn set<S: Alter, T: ChangedTable>(
         → (contents : Contents) → Holds (state_in S.Store tx.old).now contents
         → IsTrue (T.table.refers (without_entry T.table key contents) value)
         → IsInsertFault (state_in S.Store tx.old) (state_in S.Store tx.new) e) }
-    ensures room { HasCleanDisk (state_in S.Store tx.new) → OnOk result ((key : T.Key) (value : T.Value)
-        → bound key_values.now ≡ T.table.form.key_cells key → bound values.now ≡ cells_of T.table key value
-        → (contents : Contents) → Holds (state_in S.Store tx.old).now contents
-        → (n : ℕ) → HasRooms (state_in S.Store tx.old).now (n + 1) → HasRooms (state_in S.Store tx.new).now n) }
-    ensures fits { HasCleanDisk (state_in S.Store tx.new) → IfErr result (λ e. (key : T.Key) (value : T.Value)
-        → bound key_values.now ≡ T.table.form.key_cells key → bound values.now ≡ cells_of T.table key value
-        → (contents : Contents) → Holds (state_in S.Store tx.old).now contents
-        → IsTrue (T.table.refers (without_entry T.table key contents) value)
-        → (n : ℕ) → HasRooms (state_in S.Store tx.old).now (n + 1)
-        → CanBeStored T.table.table (cells_of T.table key value)
-        → IsWriteFault (state_in S.Store tx.old) (state_in S.Store tx.new) e) }
 {
     drop::<S, T>(tx, key_values)?;
     put::<S, T>(tx, values)

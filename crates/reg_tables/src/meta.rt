@@ -7,7 +7,7 @@ ghost use Rattle.reg_tables.specs.Frames.{state_in, StaysInside, StaysIdle};
 ghost use Rattle.sqlite.specs.State.{HasCleanDisk};
 ghost use Rattle.sqlite.specs.declared.types.Value.TheVariants.{Text};
 ghost use Rattle.reg_tables.specs.Layout.{meta};
-ghost use Rattle.reg_tables.specs.Rooms.{HasRooms, CanBeStored};
+ghost use Rattle.reg_tables.specs.Rooms.{HasRoom, CanBeStored};
 ghost use Rattle.reg_tables.specs.Contents.{Contents, Holds};
 ghost use Rattle.reg_tables.specs.Changes.{Changes, with_meta, with_global};
 ghost use Rattle.reg_tables.specs.Reads.{CanBeRead};
@@ -64,11 +64,11 @@ pub(crate) fn put_meta<S: Alter>(
     ensures room { HasCleanDisk (state_in S.Store tx.new) → OnOk result ((contents : Contents)
         → Holds (state_in S.Store tx.old).now contents
         → get contents.meta name.now ≡ None
-        → (n : ℕ) → HasRooms (state_in S.Store tx.old).now (n + 1) → HasRooms (state_in S.Store tx.new).now n) }
+        → (n : ℕ) → HasRoom ((state_in S.Store tx.old).now.trees meta.tree) (n + 1) → HasRoom ((state_in S.Store tx.new).now.trees meta.tree) n) }
     ensures fits { HasCleanDisk (state_in S.Store tx.new) → IfErr result (λ e. (contents : Contents)
         → Holds (state_in S.Store tx.old).now contents
         → get contents.meta name.now ≡ None
-        → (n : ℕ) → HasRooms (state_in S.Store tx.old).now (n + 1) → CanBeStored meta (Text name.now ∷ Text value.now ∷ [])
+        → (n : ℕ) → HasRoom ((state_in S.Store tx.old).now.trees meta.tree) (n + 1) → CanBeStored meta (Text name.now ∷ Text value.now ∷ [])
         → IsWriteFault (state_in S.Store tx.old) (state_in S.Store tx.new) e) }
 {
     put::<S, Meta>(tx, params![name, value])
@@ -91,13 +91,6 @@ pub fn set_global<S: Alter>(tx: &mut Transaction<'_, S>, level: &str) -> Result<
     ensures fault { HasCleanDisk (state_in S.Store tx.new) → IfErr result (λ e.
         (contents : Contents) → Holds (state_in S.Store tx.old).now contents
         → IsInsertFault (state_in S.Store tx.old) (state_in S.Store tx.new) e) }
-    ensures room { HasCleanDisk (state_in S.Store tx.new) → OnOk result ((contents : Contents)
-        → Holds (state_in S.Store tx.old).now contents
-        → (n : ℕ) → HasRooms (state_in S.Store tx.old).now (n + 1) → HasRooms (state_in S.Store tx.new).now n) }
-    ensures fits { HasCleanDisk (state_in S.Store tx.new) → IfErr result (λ e. (contents : Contents)
-        → Holds (state_in S.Store tx.old).now contents
-        → (n : ℕ) → HasRooms (state_in S.Store tx.old).now (n + 1) → CanBeStored meta (Text (codes "global") ∷ Text level.now ∷ [])
-        → IsWriteFault (state_in S.Store tx.old) (state_in S.Store tx.new) e) }
 {
     set::<S, Meta>(tx, params!["global"], params!["global", level])
 }

@@ -5,12 +5,10 @@ ghost use Rattle.std.specs.FinMap.{get};
 ghost use Rattle.sqlite.specs.Held.{state};
 ghost use Rattle.reg_tables.specs.Frames.{state_in, StaysInside, StaysIdle};
 ghost use Rattle.sqlite.specs.State.{HasCleanDisk};
-ghost use Rattle.reg_tables.specs.Contents.{Contents, number_cells, text_row_cells, Holds};
-ghost use Rattle.reg_tables.specs.Layout.{texts};
-ghost use Rattle.reg_tables.specs.Rooms.{HasRooms, CanBeStored};
+ghost use Rattle.reg_tables.specs.Contents.{Contents, number_cells, Holds};
 ghost use Rattle.reg_tables.specs.Changes.{with_text};
 ghost use Rattle.reg_tables.specs.Reads.{CanBeRead};
-ghost use Rattle.reg_tables.specs.FailedCalls.{IsFault, IsWriteFault, IsPutFault};
+ghost use Rattle.reg_tables.specs.FailedCalls.{IsFault, IsPutFault};
 ghost use Rattle.reg_tables.specs.Inside.Keyed.{texts_table};
 
 use crate::keyed::{KeyedTable, find};
@@ -54,14 +52,6 @@ pub fn put_text<S: Alter>(tx: &mut Transaction<'_, S>, id: u32, text: &str) -> R
         → get contents.texts id ≡ None
         → ((other : ℕ) → get contents.texts other ≢ Some text.now)
         → IsPutFault (state_in S.Store tx.old) (state_in S.Store tx.new) e) }
-    ensures room { HasCleanDisk (state_in S.Store tx.new) → OnOk result ((contents : Contents)
-        → Holds (state_in S.Store tx.old).now contents → get contents.texts id ≡ None
-        → (n : ℕ) → HasRooms (state_in S.Store tx.old).now n → HasRooms (state_in S.Store tx.new).now n) }
-    ensures fits { HasCleanDisk (state_in S.Store tx.new) → IfErr result (λ e. (contents : Contents)
-        → Holds (state_in S.Store tx.old).now contents → get contents.texts id ≡ None
-        → ((other : ℕ) → get contents.texts other ≢ Some text.now)
-        → CanBeStored texts (text_row_cells text.now)
-        → IsWriteFault (state_in S.Store tx.old) (state_in S.Store tx.new) e) }
 {
     run(
         tx,

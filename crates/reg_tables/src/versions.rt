@@ -1,15 +1,13 @@
 //! The versions of subjects: one is put, dropped, marked as deleted or found, by its subject and its number.
 
-ghost use Rattle.std.specs.Prelude.{List, [], ◌∷◌, ◌≡◌, ◌+◌, ◌++◌, ◌<◌, ◌^◌, ℕ, None, Some, IsSome, OnOk, IfOk, IfErr, MatchOption, false};
+ghost use Rattle.std.specs.Prelude.{List, [], ◌∷◌, ◌≡◌, ◌<◌, ◌^◌, ℕ, None, Some, IsSome, OnOk, IfOk, IfErr, MatchOption, false};
 ghost use Rattle.std.specs.FinMap.{get};
 ghost use Rattle.sqlite.specs.Order.{column};
 ghost use Rattle.sqlite.specs.Held.{state};
 ghost use Rattle.reg_tables.specs.Frames.{state_in, StaysInside, StaysIdle};
 ghost use Rattle.sqlite.specs.State.{HasCleanDisk};
-ghost use Rattle.reg_tables.specs.Contents.{VersionRow, Contents, version_key_cells, version_cells, Holds};
-ghost use Rattle.reg_tables.specs.Layout.{versions};
-ghost use Rattle.reg_tables.specs.Rooms.{HasRooms, CanBeStored};
-ghost use Rattle.reg_tables.specs.Changes.{Changes, with_version, without_version, as_deleted, with_deleted};
+ghost use Rattle.reg_tables.specs.Contents.{VersionRow, Contents, version_cells, Holds};
+ghost use Rattle.reg_tables.specs.Changes.{Changes, with_version, without_version, with_deleted};
 ghost use Rattle.reg_tables.specs.Reads.{CanBeRead};
 ghost use Rattle.reg_tables.specs.FailedCalls.{IsFault, IsWriteFault, IsInsertFault};
 ghost use Rattle.reg_tables.specs.Entries.{version_row};
@@ -99,16 +97,6 @@ pub fn put_version<S: Alter>(
         (contents : Contents) → Holds (state_in S.Store tx.old).now contents
         → get contents.versions (subject.now, number) ≡ None → IsSome (get contents.texts id)
         → IsInsertFault (state_in S.Store tx.old) (state_in S.Store tx.new) e) }
-    ensures room { HasCleanDisk (state_in S.Store tx.new) → OnOk result ((contents : Contents)
-        → Holds (state_in S.Store tx.old).now contents
-        → get contents.versions (subject.now, number) ≡ None
-        → (n : ℕ) → HasRooms (state_in S.Store tx.old).now (n + 1) → HasRooms (state_in S.Store tx.new).now n) }
-    ensures fits { HasCleanDisk (state_in S.Store tx.new) → IfErr result (λ e. (contents : Contents)
-        → Holds (state_in S.Store tx.old).now contents
-        → get contents.versions (subject.now, number) ≡ None → IsSome (get contents.texts id)
-        → (n : ℕ) → HasRooms (state_in S.Store tx.old).now (n + 1)
-        → CanBeStored versions (version_key_cells (subject.now, number) ++ version_cells (record { id = id; deleted = deleted }))
-        → IsWriteFault (state_in S.Store tx.old) (state_in S.Store tx.new) e) }
 {
     put::<S, Versions>(tx, params![subject, number, id, deleted])
 }
@@ -132,9 +120,6 @@ pub fn drop_version<S: Alter>(
     ensures fault { HasCleanDisk (state_in S.Store tx.new) → IfErr result (λ e.
         (contents : Contents) → Holds (state_in S.Store tx.old).now contents
         → IsWriteFault (state_in S.Store tx.old) (state_in S.Store tx.new) e) }
-    ensures room { HasCleanDisk (state_in S.Store tx.new) → OnOk result ((contents : Contents)
-        → Holds (state_in S.Store tx.old).now contents
-        → (n : ℕ) → HasRooms (state_in S.Store tx.old).now n → HasRooms (state_in S.Store tx.new).now n) }
 {
     drop::<S, Versions>(tx, params![subject, number])
 }
@@ -160,16 +145,6 @@ pub fn mark_deleted<S: Alter>(
     ensures fault { HasCleanDisk (state_in S.Store tx.new) → IfErr result (λ e.
         (contents : Contents) → Holds (state_in S.Store tx.old).now contents
         → IsInsertFault (state_in S.Store tx.old) (state_in S.Store tx.new) e) }
-    ensures room { HasCleanDisk (state_in S.Store tx.new) → OnOk result ((contents : Contents)
-        → Holds (state_in S.Store tx.old).now contents
-        → (n : ℕ) → HasRooms (state_in S.Store tx.old).now n → HasRooms (state_in S.Store tx.new).now n) }
-    ensures fits { HasCleanDisk (state_in S.Store tx.new) → IfErr result (λ e. (contents : Contents)
-        → Holds (state_in S.Store tx.old).now contents
-        → (n : ℕ) → HasRooms (state_in S.Store tx.old).now n
-        → ((version : VersionRow) → get contents.versions (subject.now, number) ≡ Some version
-        → CanBeStored versions
-        (version_key_cells (subject.now, number) ++ version_cells (as_deleted version)))
-        → IsWriteFault (state_in S.Store tx.old) (state_in S.Store tx.new) e) }
 {
     run(
         tx,

@@ -1,5 +1,5 @@
 -- What is asked of a table that has one row for each key.
-use Rattle.std.specs.Prelude.{◌≡◌, ◌≢◌, ◌⊎◌, ◌≤◌, ◌/◌, ◌&&◌, ◌||◌, ◌==◌, not, bytes_eq, ℕ, ℤ, Bool, IsTrue, Option, Some, slice_get, length, drop, List, [], ◌∷◌, true, false}
+use Rattle.std.specs.Prelude.{◌≡◌, ◌≢◌, ◌⊎◌, ◌/◌, ◌&&◌, ◌||◌, ◌==◌, not, bytes_eq, ℕ, ℤ, Bool, IsTrue, Option, Some, slice_get, length, drop, List, [], ◌∷◌, true, false}
 use Rattle.std.specs.Ordering.{is_eq}
 use Rattle.std.specs.List.{AllByRecursion, list_all}
 use Rattle.std.specs.FinMap.{FinMap, get, IsAntisymmetric}
@@ -26,7 +26,6 @@ use Rattle.sqlite_rules.specs.Lists.{Has}
 use Rattle.sqlite_typing.specs.Types.{accepts_program, accepts_terms}
 use Rattle.reg_tables.specs.Layout.{IsLayout}
 use Rattle.reg_tables.specs.TableMaps.{IsEntry, ShowsMap, Form}
-use Rattle.reg_tables.specs.Rooms.{HasRoom}
 use Rattle.reg_tables.specs.Inside.Keyed.{Keyed, cells_of}
 use Rattle.reg_tables.specs.Inside.Statements.{IsCommand, IsWhole, TableQuery, IsQuery, Takes, all_rows, plain_query, passes_tests}
 
@@ -96,8 +95,8 @@ pub record HasKey {C K V : Type 0} (t : Keyed C K V) : Type 0 where
   pub distinct : (a b : K) → t.form.key_cells a ≡ t.form.key_cells b → a ≡ b
   pub test : (row : Row) (k q : K) → t.form.key_of row ≡ t.form.key_cells q → passes_tests t.tests (t.form.key_cells k) row ≡ is_eq (t.cmp q k)
 
--- what the contents are in each database of this schema, and where a write leaves them and the room for more
-pub record IsKeyed {C K V : Type 0} (schema : Schema) (Holds : Database → C → Type 0) (Rooms : Database → ℕ → Type 0) (t : Keyed C K V) : Type 0 where
+-- what the contents are in each database of this schema, and where a write leaves them
+pub record IsKeyed {C K V : Type 0} (schema : Schema) (Holds : Database → C → Type 0) (t : Keyed C K V) : Type 0 where
   pub is_at : IsAt schema t.at t.table
   pub uncounted : t.table.is_counted ≡ false
   pub key : HasKey t
@@ -114,8 +113,6 @@ pub record IsKeyed {C K V : Type 0} (schema : Schema) (Holds : Database → C �
   pub drop_refers : (old new : Trees) → KeepsOthers schema t.table.tree old new → ((r : Row) → Has (new t.table.tree) r → Has (old t.table.tree) r) → Refers All schema old → Refers All schema new
   pub map_is : (contents : C) (map : FinMap t.cmp V) → t.map_of (t.with_map contents map) ≡ map
   pub last_map : (contents : C) (first last : FinMap t.cmp V) → t.with_map (t.with_map contents first) last ≡ t.with_map contents last
-  pub room : (db : Database) (count : ℕ) → Rooms db count → HasRoom (db.trees t.table.tree) count
-  pub rooms : (old new : Database) (more count : ℕ) → count ≤ more → Rooms old more → KeepsOthers schema t.table.tree old.trees new.trees → HasRoom (new.trees t.table.tree) count → Rooms new count
 
 -- the query of a key's value
 abbrev pub find_query : {C K V : Type 0} → Keyed C K V → List Term → List (List ℕ) → List ℕ → TableQuery

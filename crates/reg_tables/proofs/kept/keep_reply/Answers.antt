@@ -7,9 +7,3 @@ returns-clause-put g c clean = on_ok c.put.result (λ put. put c.args.key.now (r
 
 pub returns-clause-fault : goal.returns-clause-fault
 returns-clause-fault g c clean = if_err c.put.result (λ e fault contents holds free. fault c.args.key.now (record { command = c.args.command.now; status = c.args.status; body = c.args.body.now }) (rw (c.params-to_sql.ensures, c.params-to_sql-2.ensures, c.params-to_sql-3.ensures, c.params-to_sql-4.ensures) refl) contents holds free refl) (c.put.ensures.fault clean)
-
-pub returns-clause-room : goal.returns-clause-room
-returns-clause-room g c clean = on_ok c.put.result (λ room. room c.args.key.now (record { command = c.args.command.now; status = c.args.status; body = c.args.body.now }) (rw (c.params-to_sql.ensures, c.params-to_sql-2.ensures, c.params-to_sql-3.ensures, c.params-to_sql-4.ensures) refl)) (c.put.ensures.room clean)
-
-pub returns-clause-fits : goal.returns-clause-fits
-returns-clause-fits g c clean = if_err c.put.result (λ e fits contents holds free. fits c.args.key.now (record { command = c.args.command.now; status = c.args.status; body = c.args.body.now }) (rw (c.params-to_sql.ensures, c.params-to_sql-2.ensures, c.params-to_sql-3.ensures, c.params-to_sql-4.ensures) refl) contents holds free refl) (c.put.ensures.fits clean)

@@ -4,13 +4,13 @@ use Rattle.std.proofs.lemmas.Cmp.{nat_list_cmp_total}
 use Rattle.sqlite.specs.Held.{state}
 use Rattle.sqlite.specs.State.{HasCleanDisk}
 use Rattle.sqlite.specs.declared.types.Value.TheVariants.{Text}
-use Rattle.reg_tables.specs.Contents.{text_cmp, TextMap, Contents}
+use Rattle.reg_tables.specs.Contents.{text_cmp, TextMap, Contents, pair_form}
 use Rattle.reg_tables.specs.Changes.{no_contents}
 use Rattle.reg_tables.specs.Layout.{no_schema, meta}
 use Rattle.reg_tables.specs.FailedCalls.{IsWriteFault}
 use Rattle.reg_tables.specs.Rooms.{CanBeStored}
 use Rattle.reg_tables.proofs.Transactions.{on_ok, if_err, survives_both}
-use Rattle.reg_tables.proofs.Rooms.{rooms_if_new}
+use Rattle.reg_tables.proofs.Rooms.{room_if_none}
 use Rattle.reg_tables.proofs.StoredRows.{meta_is_keyed, can_be_stored}
 use Rattle.reg_tables.proofs.WriteFaults.{write_fault_later, erred_with}
 use Rattle.reg_tables.proofs.layout.create.Goals as goal
@@ -70,7 +70,7 @@ returns-in_err-put_meta-clause-fault g c clean =
     (λ none.
     let bare = c.in_ok-make_tables.ensures.made clean_one none in
     write_fault_later start made (state g.S.Store c.put_meta.new.tx.conn.now) c.make_tables.ensures.frame.keeps.survives clean_one c.put_meta.ensures.frame.keeps.survives.counts (c.in_ok-make_tables.ensures.frame.inside clean_one) e
-    (c.in_err-put_meta.ensures.fits clean no_contents bare lacks_format 2 (rooms_if_new made.now bare 3 (lit< tt)) format_fits))
+    (c.in_err-put_meta.ensures.fits clean no_contents bare lacks_format 2 (room_if_none pair_form text_cmp (made.now.trees meta.tree) bare.meta 3 (lit< tt)) format_fits))
 
 pub returns-in_err-put_meta-2-clause-fault : goal.returns-in_err-put_meta-2-clause-fault
 returns-in_err-put_meta-2-clause-fault g c clean =
@@ -84,7 +84,7 @@ returns-in_err-put_meta-2-clause-fault g c clean =
     (λ none.
     let bare = c.in_ok-make_tables.ensures.made clean_one none in
     let with_format = c.in_ok-put_meta.ensures.put clean_two no_contents bare lacks_format in
-    let room = c.in_ok-put_meta.ensures.room clean_two no_contents bare lacks_format 2 (rooms_if_new made.now bare 3 (lit< tt)) in
+    let room = c.in_ok-put_meta.ensures.room clean_two no_contents bare lacks_format 2 (room_if_none pair_form text_cmp (made.now.trees meta.tree) bare.meta 3 (lit< tt)) in
     write_fault_later start one (state g.S.Store c.put_meta-2.new.tx.conn.now) (survives_both start made one c.make_tables.ensures.frame.keeps.survives c.put_meta.ensures.frame.keeps.survives) clean_two c.put_meta-2.ensures.frame.keeps.survives.counts (c.in_ok-put_meta.ensures.frame.inside clean_two) e
     (c.in_err-put_meta-2.ensures.fits clean with_first with_format lacks_layout 1 room layout_fits))
 
@@ -101,7 +101,7 @@ returns-clause-fault g c clean =
     let bare = c.in_ok-make_tables.ensures.made clean_one none in
     let with_format = c.in_ok-put_meta.ensures.put clean_two no_contents bare lacks_format in
     let with_layout = c.in_ok-put_meta-2.ensures.put clean_three with_first with_format lacks_layout in
-    let room = c.in_ok-put_meta.ensures.room clean_two no_contents bare lacks_format 2 (rooms_if_new made.now bare 3 (lit< tt)) in
+    let room = c.in_ok-put_meta.ensures.room clean_two no_contents bare lacks_format 2 (room_if_none pair_form text_cmp (made.now.trees meta.tree) bare.meta 3 (lit< tt)) in
     let room_left = c.in_ok-put_meta-2.ensures.room clean_three with_first with_format lacks_layout 1 room in
     write_fault_later start two (state g.S.Store c.put_meta-3.new.tx.conn.now) (survives_both start one two (survives_both start made one c.make_tables.ensures.frame.keeps.survives c.put_meta.ensures.frame.keeps.survives) c.put_meta-2.ensures.frame.keeps.survives) clean_three c.put_meta-3.ensures.frame.keeps.survives.counts (c.in_ok-put_meta-2.ensures.frame.inside clean_three) e
     (failed with_second with_layout lacks_global 0 room_left global_fits)) (c.put_meta-3.ensures.fits clean)

@@ -7,6 +7,3 @@ returns-clause-dropped g c clean = on_ok c.drop.result (λ dropped. dropped c.ar
 
 pub returns-clause-fault : goal.returns-clause-fault
 returns-clause-fault g c clean = if_err c.drop.result (λ e fault. fault c.args.subject.now (rw c.params-to_sql.ensures refl)) (c.drop.ensures.fault clean)
-
-pub returns-clause-room : goal.returns-clause-room
-returns-clause-room g c clean = on_ok c.drop.result (λ room. room c.args.subject.now (rw c.params-to_sql.ensures refl)) (c.drop.ensures.room clean)

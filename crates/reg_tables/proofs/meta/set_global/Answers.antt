@@ -9,11 +9,3 @@ returns-clause-set g c clean =
 pub returns-clause-fault : goal.returns-clause-fault
 returns-clause-fault g c clean =
     if_err c.set.result (λ e fault contents holds. fault (codes "global") c.args.level.now (rw c.params-to_sql.ensures refl) (rw (c.params-to_sql-2.ensures, c.params-to_sql-3.ensures) refl) contents holds refl) (c.set.ensures.fault clean)
-
-pub returns-clause-room : goal.returns-clause-room
-returns-clause-room g c clean =
-    on_ok c.set.result (λ room. room (codes "global") c.args.level.now (rw c.params-to_sql.ensures refl) (rw (c.params-to_sql-2.ensures, c.params-to_sql-3.ensures) refl)) (c.set.ensures.room clean)
-
-pub returns-clause-fits : goal.returns-clause-fits
-returns-clause-fits g c clean =
-    if_err c.set.result (λ e fits contents holds. fits (codes "global") c.args.level.now (rw c.params-to_sql.ensures refl) (rw (c.params-to_sql-2.ensures, c.params-to_sql-3.ensures) refl) contents holds refl) (c.set.ensures.fits clean)

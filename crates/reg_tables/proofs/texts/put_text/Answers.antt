@@ -1,9 +1,9 @@
 use Rattle.sqlite.specs.Held.{state}
 use Rattle.reg_tables.proofs.Transactions.{on_ok, if_err}
-use Rattle.reg_tables.proofs.TableWrites.{puts_text, puts_text_rooms}
+use Rattle.reg_tables.proofs.TableWrites.{puts_text}
 use Rattle.std.proofs.Common.{◌<◌, ◌^◌, arith}
-use Rattle.reg_tables.proofs.WriteFaults.{or_put_fault, as_write_fault}
-use Rattle.reg_tables.proofs.FailedVersions.{put_text_fails, put_text_faults}
+use Rattle.reg_tables.proofs.WriteFaults.{or_put_fault}
+use Rattle.reg_tables.proofs.FailedVersions.{put_text_fails}
 use Rattle.reg_tables.proofs.texts.put_text.Goals as goal
 
 pub returns-clause-put : goal.returns-clause-put
@@ -17,18 +17,4 @@ returns-clause-fault g c clean =
     let first = state g.S.Store c.args.tx.now.conn.now in
     let low : c.args.id < 2 ^ 32 = omega arith in
     if_err c.run.result (λ e failed contents holds none unheld. or_put_fault first (state g.S.Store c.run.new.tx.conn.now) e (put_text_fails first (state g.S.Store c.run.new.tx.conn.now) contents holds e c.args.id c.args.text.now low none unheld)
-    (rw (c.params-to_sql.ensures, c.params-to_sql-2.ensures) at failed)) (c.run.ensures.failed clean)
-
-pub returns-clause-room : goal.returns-clause-room
-returns-clause-room g c clean =
-    on_ok c.run.result (λ ran contents holds free n rooms.
-    puts_text_rooms (state g.S.Store c.args.tx.now.conn.now) (state g.S.Store c.run.new.tx.conn.now) ran.0 contents holds c.args.id c.args.text.now free
-    (rw (c.params-to_sql.ensures, c.params-to_sql-2.ensures) at ran.1.0) n rooms) (c.run.ensures.runs clean)
-
-pub returns-clause-fits : goal.returns-clause-fits
-returns-clause-fits g c clean =
-    let first = state g.S.Store c.args.tx.now.conn.now in
-    let last = state g.S.Store c.run.new.tx.conn.now in
-    let low : c.args.id < 2 ^ 32 = omega arith in
-    if_err c.run.result (λ e failed contents holds none unheld stored. as_write_fault first last e (λ ran. put_text_faults first last contents holds e c.args.id c.args.text.now low none unheld ran stored)
     (rw (c.params-to_sql.ensures, c.params-to_sql-2.ensures) at failed)) (c.run.ensures.failed clean)

@@ -7,6 +7,3 @@ returns-clause-dropped g c clean = on_ok c.drop.result (λ dropped. dropped (c.a
 
 pub returns-clause-fault : goal.returns-clause-fault
 returns-clause-fault g c clean = if_err c.drop.result (λ e fault. fault (c.args.subject.now, c.args.number) (rw (c.params-to_sql.ensures, c.params-to_sql-2.ensures) refl)) (c.drop.ensures.fault clean)
-
-pub returns-clause-room : goal.returns-clause-room
-returns-clause-room g c clean = on_ok c.drop.result (λ room. room (c.args.subject.now, c.args.number) (rw (c.params-to_sql.ensures, c.params-to_sql-2.ensures) refl)) (c.drop.ensures.room clean)

@@ -7,9 +7,3 @@ returns-clause-put g c clean = on_ok c.put.result (λ put. put (c.args.subject.n
 
 pub returns-clause-fault : goal.returns-clause-fault
 returns-clause-fault g c clean = if_err c.put.result (λ e fault. fault (c.args.subject.now, c.args.number) (record { id = c.args.id; deleted = c.args.deleted }) (rw (c.params-to_sql.ensures, c.params-to_sql-2.ensures, c.params-to_sql-3.ensures, c.params-to_sql-4.ensures) refl)) (c.put.ensures.fault clean)
-
-pub returns-clause-room : goal.returns-clause-room
-returns-clause-room g c clean = on_ok c.put.result (λ room. room (c.args.subject.now, c.args.number) (record { id = c.args.id; deleted = c.args.deleted }) (rw (c.params-to_sql.ensures, c.params-to_sql-2.ensures, c.params-to_sql-3.ensures, c.params-to_sql-4.ensures) refl)) (c.put.ensures.room clean)
-
-pub returns-clause-fits : goal.returns-clause-fits
-returns-clause-fits g c clean = if_err c.put.result (λ e fits. fits (c.args.subject.now, c.args.number) (record { id = c.args.id; deleted = c.args.deleted }) (rw (c.params-to_sql.ensures, c.params-to_sql-2.ensures, c.params-to_sql-3.ensures, c.params-to_sql-4.ensures) refl)) (c.put.ensures.fits clean)
