@@ -13,11 +13,11 @@ use Rattle.reg_core.specs.Registry.{Registry}
 use Rattle.reg_tables.specs.Layout.{layout}
 use Rattle.sqlite_disk.specs.Disk.{MoreFaults}
 use Rattle.reg_tables.specs.Reads.{CanBeRead}
-use Rattle.reg_tables.specs.FailedCalls.{HasDiskFault, HasReason, IsFault}
+use Rattle.reg_tables.specs.FailedCalls.{HasDiskFault, HasReason, IsFault, IsUnreadable}
 use Rattle.reg_tables.proofs.Reasons.{fault_until, fault_since}
 use Rattle.reg_store.specs.declared.error.StoreError.{StoreError}
 use Rattle.reg_store.specs.declared.error.StoreError.TheVariants.{Memory, Disk, NotARegistry, OldLayout, NewerLayout}
-use Rattle.reg_store.specs.Failures.{failure_of, is_fault, IsFaultBy, IsNumberless}
+use Rattle.reg_store.specs.Failures.{failure_of, is_fault, IsFaultBy, IsTold, IsNumberless}
 use Rattle.reg_core.specs.KeptReplies.{Kept}
 use Rattle.reg_store.specs.Spells.{SpellsWhileOpen}
 use Rattle.reg_store.proofs.Texts.{readable_if_spelled}
@@ -58,6 +58,39 @@ by_until old mid new up = by_fault old mid old new (fault_until old mid new up)
 -- what a later call tells, an earlier state saw too
 pub by_since : (a b c : State) → (IsTrue a.is_open → IsTrue b.is_open ⊎ MoreFaults a.faults b.faults) → a.faults ≤ b.faults → b.faults ≤ c.faults → (e : StoreError) → IsFaultBy b c e → IsFaultBy a c e
 by_since a b c closes up on = by_fault b c a c (fault_since a b c closes up on)
+
+-- what is by memory or by the disk is told
+pub told_if_by : (old new : State) (e : StoreError) → IsFaultBy old new e → IsTold old new e
+told_if_by old new Memory h = tt
+told_if_by old new Disk h = h
+told_if_by old new NotARegistry h = tt
+told_if_by old new (OldLayout number) h = tt
+told_if_by old new (NewerLayout number) h = tt
+
+-- a row that can't be read is no fault of the disk
+pub told_by : (old new : State) (e : Error) → old.step_limit ≡ None → IsFault old new e ⊎ IsUnreadable e → IsTold old new (failure_of e)
+told_by old new e unlimited (inl fault) = told_if_by old new (failure_of e) (fault_by old new e unlimited fault)
+told_by old new e unlimited (inr unread) = go e unread
+  where
+    go : (e : Error) → IsUnreadable e → IsTold old new (failure_of e)
+    go (InvalidColumnIndex at) h = tt
+    go (InvalidColumnType at type) h = tt
+    go (IntegralValueOutOfRange at) h = tt
+    go (Utf8Error at) h = tt
+    go (SqliteFailure code) h = absurd h
+    go (SqlInputError e) h = absurd h
+    go (InvalidParameterCount a b) h = absurd h
+    go ExecuteReturnedResults h = absurd h
+    go InvalidQuery h = absurd h
+    go MultipleStatement h = absurd h
+    go QueryReturnedNoRows h = absurd h
+
+pub told_since : (a b c : State) → (IsTrue a.is_open → IsTrue b.is_open ⊎ MoreFaults a.faults b.faults) → a.faults ≤ b.faults → b.faults ≤ c.faults → (e : StoreError) → IsTold b c e → IsTold a c e
+told_since a b c closes up on Memory h = tt
+told_since a b c closes up on Disk h = fault_since a b c closes up on h
+told_since a b c closes up on NotARegistry h = tt
+told_since a b c closes up on (OldLayout number) h = tt
+told_since a b c closes up on (NewerLayout number) h = tt
 
 -- what is spelled can be read
 pub can_be_read : (s : State) (g : Registry) (k : Kept) → SpellsWhileOpen s g k → CanBeRead s

@@ -121,10 +121,10 @@ module _ {S : Type 0} (g : Ghosts S) (old new : Held S) where
 
     -- `meta` was read, and judged
     pub meta_tests : (r : Result (Unit {0}) StoreError) → JudgesMeta lines r → Tests g old new r MetaPass
-    meta_tests (Ok y) j = record { frame = framed g old new (Ok x) (Ok y) f f.was_open; passes = λ clean known. meta_passed (Ok y) j clean (has_tables_first db.schema known); fault = λ clean. tt }
-    meta_tests (Err Memory) j = record { frame = framed g old new (Ok x) (Err Memory) f (λ clean. tt); passes = λ clean. tt; fault = λ clean registry k over. tt }
+    meta_tests (Ok y) j = record { frame = framed g old new (Ok x) (Ok y) f f.was_open; passes = λ clean known. meta_passed (Ok y) j clean (has_tables_first db.schema known); fault = λ clean. tt; told = λ clean. tt }
+    meta_tests (Err Memory) j = record { frame = framed g old new (Ok x) (Err Memory) f (λ clean. tt); passes = λ clean. tt; fault = λ clean registry k over. tt; told = λ clean known. tt }
     meta_tests (Err Disk) j = absurd j
-    meta_tests (Err NotARegistry) j = record { frame = framed g old new (Ok x) (Err NotARegistry) f (λ clean. tt); passes = λ clean. tt; fault = λ clean registry k over. absurd (j.0 (spelled clean registry k (over (f.was_open clean)))) }
+    meta_tests (Err NotARegistry) j = record { frame = framed g old new (Ok x) (Err NotARegistry) f (λ clean. tt); passes = λ clean. tt; fault = λ clean registry k over. absurd (j.0 (spelled clean registry k (over (f.was_open clean)))); told = λ clean known. tt }
     meta_tests (Err (OldLayout number)) j = absurd j
     meta_tests (Err (NewerLayout number)) j = record {
       frame = framed g old new (Ok x) (Err (NewerLayout number)) f (λ clean. tt);
@@ -133,6 +133,7 @@ module _ {S : Type 0} (g : Ghosts S) (old new : Held S) where
           let one = same_number 1 number (sym (layout_one (pairs_of lines) (spelled clean registry k (over (f.was_open clean))).1) ∙ j.0) in
           let more = j.1 in
           omega (arith, one, more));
+      told = λ clean known. tt;
     }
 
     pub meta_refused : (r : Result (Unit {0}) StoreError) → JudgesMeta lines r → HasCleanDisk (state g new) → IfErr r (IsRefusedBy db)

@@ -5,8 +5,10 @@ use Rattle.sqlite.specs.Held.{Held, state}
 use Rattle.sqlite.specs.State.{State, HasCleanDisk}
 use Rattle.sqlite.specs.declared.error.Error.{Error}
 use Rattle.sqlite_trees.specs.declared.store.Store.{Ghosts}
+use Rattle.sqlite.specs.Effect.{Database}
+use Rattle.reg_tables.specs.Layout.{IsLayout}
 use Rattle.reg_tables.specs.Frames.{StaysIdle}
-use Rattle.reg_tables.specs.Reads.{HoldsReadable, CanBeRead}
+use Rattle.reg_tables.specs.Reads.{HoldsReadable, CanBeRead, HasLayout}
 use Rattle.reg_tables.specs.FailedCalls.{IsFault}
 use Rattle.reg_tables.proofs.Transactions.{keeps_then, survives_both}
 use Rattle.reg_store.specs.declared.error.StoreError.{StoreError}
@@ -15,9 +17,9 @@ use Rattle.reg_store.specs.declared.idle.Idle.{Idle}
 use Rattle.reg_core.specs.Registry.{Registry}
 use Rattle.reg_core.specs.KeptReplies.{Kept}
 use Rattle.reg_store.specs.Spells.{IsOpenOver, SpellsWhileOpen}
-use Rattle.reg_store.specs.Failures.{failure_of, IsFaultBy, IsFaultOver}
+use Rattle.reg_store.specs.Failures.{failure_of, IsFaultBy, IsTold, IsFaultOver}
 use Rattle.reg_store.specs.Inside.Reads.{Stored, shown, Spell, Rests, MayRead, Reads}
-use Rattle.reg_store.proofs.Failing.{by_since, fault_by, can_be_read}
+use Rattle.reg_store.proofs.Failing.{by_since, fault_by, told_since, can_be_read}
 use Rattle.reg_store.proofs.Committing.{still_spells}
 
 -- ---- results
@@ -81,6 +83,9 @@ module _ (a b c : State) where
   pub fault_of_all : Rests a b → Rests b c → HasCleanDisk c → (e : StoreError) → IsFaultBy b c e → IsFaultBy a c e
   fault_of_all p q clean = by_since a b c (p.survives.closes (clean_at q clean)) p.survives.counts q.survives.counts
 
+  pub told_of_all : Rests a b → Rests b c → HasCleanDisk c → (e : StoreError) → IsTold b c e → IsTold a c e
+  told_of_all p q clean = told_since a b c (p.survives.closes (clean_at q clean)) p.survives.counts q.survives.counts
+
 -- after reads the tables spell what they spelled
 pub spell_on : (a b : State) → Rests a b → HasCleanDisk b → (was : Stored) → Spell a was → Spell b was
 spell_on a b p clean was over is_open =
@@ -97,6 +102,9 @@ module _ (a b : State) (p : Rests a b) (settled : IsTrue a.is_open → a.now ≡
 
   pub readable_on : CanBeRead a → CanBeRead b
   readable_on can is_open = subst HoldsReadable (sym (same_db is_open)) (can ((p.commit_stays clean).was_open is_open))
+
+  pub layout_on : HasLayout a → HasLayout b
+  layout_on known is_open = subst (λ (d : Database). IsLayout d.schema) (sym (same_db is_open)) (known ((p.commit_stays clean).was_open is_open))
 
 -- ---- reads
 

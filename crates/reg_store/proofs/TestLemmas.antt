@@ -1,5 +1,5 @@
 -- What the tests of the tables say, both ways.
-use Rattle.std.proofs.Common.{◌≡◌, ℕ, List, [], ◌∷◌, map, Bool, false, None, Ok, Err, Result, IsTrue, refl, sym, ap, subst, ◌∙◌, arith}
+use Rattle.std.proofs.Common.{◌⊎◌, ◌≡◌, ℕ, List, [], ◌∷◌, map, Bool, false, None, Ok, Err, Result, IsTrue, refl, sym, ap, subst, ◌∙◌, arith}
 use Rattle.std.specs.Prelude.{IfErr, OnOk, IsErrAnd}
 use Rattle.std.specs.List.{AllByRecursion, IsDistinct}
 use Rattle.std.specs.List.Sorted.{IsPermutation}
@@ -22,8 +22,8 @@ use Rattle.reg_tables.specs.Contents.{text_form, version_form, pair_form, kept_f
 use Rattle.reg_tables.specs.Frames.{StaysIdle}
 use Rattle.reg_tables.specs.Listings.{entry_parts, text_entry, version_entry, level_entry, kept_entry, meta_entry, ListsTexts, ListsVersions, ListsLevels, ListsKept, ListsMeta}
 use Rattle.reg_tables.specs.Inside.AllLines.{ListsAll, HaveNoTwins, Lines, contents_of}
-use Rattle.reg_tables.specs.Reads.{CanBeRead}
-use Rattle.reg_tables.specs.FailedCalls.{IsFault}
+use Rattle.reg_tables.specs.Reads.{CanBeRead, HasLayout}
+use Rattle.reg_tables.specs.FailedCalls.{IsFault, IsUnreadable}
 use Rattle.reg_tables.proofs.KeyedTables.{text_order, distinct_texts, number_order, distinct_numbers, version_order, distinct_versions}
 use Rattle.reg_tables.proofs.ListingLemmas.{listed_if_shown}
 use Rattle.reg_tables.proofs.Opening.{holds_if_listed, distinct_version_rows, distinct_kept_rows}
@@ -31,18 +31,18 @@ use Rattle.reg_tables.proofs.UniqueKeys.{apart_by_id, versions_apart, levels_apa
 use Rattle.reg_rows.specs.Spelling.{Text, pair_of, is_meta, AreTexts, IsVersionRow, IsLevelRow, IsKeptRow, IsSpelling}
 use Rattle.reg_store.specs.declared.error.StoreError.{StoreError}
 use Rattle.reg_store.specs.declared.error.StoreError.TheVariants.{Memory, NotARegistry}
-use Rattle.reg_store.specs.Failures.{failure_of, IsFaultBy}
+use Rattle.reg_store.specs.Failures.{failure_of, IsFaultBy, IsTold}
 use Rattle.reg_store.specs.Opening.{text_row, version_row, level_row, kept_row, meta_row, rows_of}
 use Rattle.reg_core.specs.KeptReplies.{Kept}
 use Rattle.reg_store.specs.Spells.{SpellsIn, SpellsUnopened}
 use Rattle.reg_store.specs.Inside.Testing.{AreApart, version_fits, level_fits, kept_fits, Tests, TablesPass}
-use Rattle.reg_store.specs.UnopenedFaults.{IsFaultUnopened}
+use Rattle.reg_store.specs.UnopenedFaults.{IsFaultUnopened, IsToldUnopened}
 use Rattle.reg_store.proofs.Bridge.{levels_fit, kept_fit, meta_fit, spelled_if_rows}
 use Rattle.reg_store.proofs.Numbering.{Rises, ids_apart}
 use Rattle.reg_store.proofs.Schemas.{texts_fit, versions_fit}
 use Rattle.reg_tables.proofs.References.{one_id, has_text}
 use Rattle.reg_tables.proofs.Transactions.{survives_both, on_ok}
-use Rattle.reg_store.proofs.Failing.{fault_by, by_since}
+use Rattle.reg_store.proofs.Failing.{fault_by, by_since, told_by, told_since}
 use Rattle.reg_store.proofs.Rereading.{reads_then, same_now}
 use Rattle.reg_store.proofs.Texts.{readable_if_spelled}
 
@@ -148,28 +148,35 @@ module _ {S X : Type 0} (g : Ghosts S) (old new : Held S) where
 
   -- the table wasn't read
   pub test_unread : {P : Database → Type 0} (r : Result (Unit {0}) StoreError) (e : Error) → old.step_limit ≡ None → StaysIdle {X = X} {E = Error} g old new (Err e) → (HasCleanDisk (state g new) → CanBeRead (state g old) → IsFault (state g old) (state g new) e)
-      → IsErrAnd r (λ failure. failure ≡ failure_of e) → Tests g old new r P
-  test_unread (Ok x) e unlimited f fault is = absurd is
-  test_unread (Err failure) e unlimited f fault is = record {
+      → (HasCleanDisk (state g new) → HasLayout (state g old) → IsFault (state g old) (state g new) e ⊎ IsUnreadable e) → IsErrAnd r (λ failure. failure ≡ failure_of e) → Tests g old new r P
+  test_unread (Ok x) e unlimited f fault told is = absurd is
+  test_unread (Err failure) e unlimited f fault told is = record {
     frame = framed (Err e) (Err failure) f (λ clean. tt);
     passes = λ clean. tt;
     fault = λ clean registry k over. subst (IsFaultBy (state g old) (state g new)) (sym is) (fault_by (state g old) (state g new) e unlimited (fault clean (unopened_can_be_read (state g old) registry k over)));
+    told = λ clean known. subst (IsTold (state g old) (state g new)) (sym is) (told_by (state g old) (state g new) e unlimited (told clean known));
   }
 
   -- memory was refused
   pub test_refused : {P : Database → Type 0} (r : Result (Unit {0}) StoreError) (x : X) → StaysIdle {X = X} {E = Error} g old new (Ok x) → IsErrAnd r (λ failure. failure ≡ Memory) → Tests g old new r P
   test_refused (Ok y) x f is = absurd is
-  test_refused (Err failure) x f is = record { frame = framed (Ok x) (Err failure) f (λ clean. tt); passes = λ clean. tt; fault = λ clean registry k over. subst (IsFaultBy (state g old) (state g new)) (sym is) tt }
+  test_refused (Err failure) x f is = record {
+    frame = framed (Ok x) (Err failure) f (λ clean. tt);
+    passes = λ clean. tt;
+    fault = λ clean registry k over. subst (IsFaultBy (state g old) (state g new)) (sym is) tt;
+    told = λ clean known. subst (IsTold (state g old) (state g new)) (sym is) tt;
+  }
 
   -- the table was read, and passes or doesn't
   pub test_judged : {P : Database → Type 0} (r : Result (Unit {0}) StoreError) (x : X) (b : Bool) → StaysIdle {X = X} {E = Error} g old new (Ok x) → OnOk r (IsTrue b) → IfErr r (λ e. (e ≡ NotARegistry) × (b ≡ false))
       → (HasCleanDisk (state g new) → IsTrue b → IsLayout (state g old).now.schema → P (state g old).now)
       → (HasCleanDisk (state g new) → b ≡ false → (registry : Registry) (k : Kept) → SpellsUnopened (state g old).now registry k → ⊥) → Tests g old new r P
-  test_judged (Ok y) x b f ok err passes fails = record { frame = framed (Ok x) (Ok y) f f.was_open; passes = λ clean. passes clean ok; fault = λ clean. tt }
+  test_judged (Ok y) x b f ok err passes fails = record { frame = framed (Ok x) (Ok y) f f.was_open; passes = λ clean. passes clean ok; fault = λ clean. tt; told = λ clean. tt }
   test_judged (Err e) x b f ok err passes fails = record {
     frame = framed (Ok x) (Err e) f (λ clean. tt);
     passes = λ clean. tt;
     fault = λ clean registry k over. absurd (fails clean err.1 registry k (over (f.was_open clean)));
+    told = λ clean known. subst (IsTold (state g old) (state g new)) (sym err.0) tt;
   }
 
 -- ---- several tests, one after the other
@@ -190,6 +197,7 @@ module _ {S : Type 0} (g : Ghosts S) (a b c : Held S) (settled : IsTrue (state g
     };
     passes = λ clean. passed r (two.frame.was_open clean) (two.passes clean) clean;
     fault = λ clean. failed r (two.fault clean) clean;
+    told = λ clean. told r (two.told clean) clean;
   }
     where
       before : HasCleanDisk (state g c) → HasCleanDisk (state g b)
@@ -208,11 +216,15 @@ module _ {S : Type 0} (g : Ghosts S) (a b c : Held S) (settled : IsTrue (state g
       failed (Ok y) h clean = tt
       failed (Err e) h clean = λ registry k over. by_since (state g a) (state g b) (state g c) (one.frame.survives.closes (before clean)) one.frame.survives.counts two.frame.survives.counts e (h registry k (λ is_open. subst (λ (d : Database). SpellsUnopened d registry k) (sym (same clean is_open)) (over ((one.frame.only_reads (before clean)).commit_stays.was_open is_open))))
 
+      told : (r : Result (Unit {0}) StoreError) → IfErr r (IsToldUnopened (state g b) (state g c)) → HasCleanDisk (state g c) → IfErr r (IsToldUnopened (state g a) (state g c))
+      told (Ok y) h clean = tt
+      told (Err e) h clean = λ known. told_since (state g a) (state g b) (state g c) (one.frame.survives.closes (before clean)) one.frame.survives.counts two.frame.survives.counts e (h (λ is_open. subst (λ (d : Database). IsLayout d.schema) (sym (same clean is_open)) (known ((one.frame.only_reads (before clean)).commit_stays.was_open is_open))))
+
 module _ {S : Type 0} (g : Ghosts S) (old new : Held S) where
   -- an error that `?` passes on
   pub test_fails : {P Q : Database → Type 0} (r : Result (Unit {0}) StoreError) (e : StoreError) → Tests {X = Unit {0}} g old new (Err e) P → IsErrAnd r (λ failure. failure ≡ e) → Tests g old new r Q
   test_fails (Ok x) e t is = absurd is
-  test_fails (Err failure) e t is = record { frame = framed g old new (Err e) (Err failure) t.frame (λ clean. tt); passes = λ clean. tt; fault = λ clean. subst (IsFaultUnopened (state g old) (state g new)) (sym is) (t.fault clean) }
+  test_fails (Err failure) e t is = record { frame = framed g old new (Err e) (Err failure) t.frame (λ clean. tt); passes = λ clean. tt; fault = λ clean. subst (IsFaultUnopened (state g old) (state g new)) (sym is) (t.fault clean); told = λ clean. subst (IsToldUnopened (state g old) (state g new)) (sym is) (t.told clean) }
 
   pub test_says : {P Q : Database → Type 0} (r : Result (Unit {0}) StoreError) → Tests g old new r P → ((db : Database) → P db → Q db) → Tests g old new r Q
-  test_says r t f = record { frame = t.frame; passes = λ clean. on_ok r (λ p known. f (state g old).now (p known)) (t.passes clean); fault = t.fault }
+  test_says r t f = record { frame = t.frame; passes = λ clean. on_ok r (λ p known. f (state g old).now (p known)) (t.passes clean); fault = t.fault; told = t.told }

@@ -24,7 +24,8 @@ use Rattle.reg_tables.proofs.ListMembers.{has_permuted}
 use Rattle.reg_tables.proofs.Transactions.{keeps_then, survives_both}
 use Rattle.reg_store.specs.declared.error.StoreError.{StoreError}
 use Rattle.reg_store.specs.declared.error.StoreError.TheVariants.{NotARegistry}
-use Rattle.reg_store.specs.Failures.{IsFaultBy}
+use Rattle.reg_store.specs.Failures.{IsFaultBy, IsTold}
+use Rattle.reg_store.specs.UnopenedFaults.{IsToldUnopened}
 use Rattle.reg_store.specs.Opening.{text_row}
 use Rattle.reg_store.specs.Spells.{SpellsUnopened}
 use Rattle.reg_store.specs.Inside.Testing.{text_fits, Tests, TextsPass, NumbersTexts, Judges}
@@ -32,7 +33,7 @@ use Rattle.reg_store.specs.Inside.Reads.{Rests}
 use Rattle.reg_store.proofs.Numbering.{Rises}
 use Rattle.reg_store.proofs.TestLemmas.{each_row, lists_sorted, texts_pass, unopened_can_be_read}
 use Rattle.reg_store.proofs.TextParts.{within, in_order}
-use Rattle.reg_store.proofs.ReadLemmas.{on_ok_each, rests_read, clean_at, fault_of_all, readable_on}
+use Rattle.reg_store.proofs.ReadLemmas.{on_ok_each, rests_read, clean_at, fault_of_all, readable_on, told_of_all, layout_on}
 
 -- ---- what all lines say of the table
 
@@ -96,9 +97,10 @@ module _ {S : Type 0} (g : Ghosts S) (a b c : Held S) (settled : IsTrue (state g
   }
 
   -- the texts weren't read
-  pub reading_failed : {P : Database → Type 0} (r : Result (Unit {0}) StoreError) (e : StoreError) → (HasCleanDisk (state g c) → CanBeRead (state g b) → IsFaultBy (state g b) (state g c) e) → IsErrAnd r (λ failure. failure ≡ e) → Tests g a c r P
-  reading_failed (Ok x) e fault is = absurd is
-  reading_failed (Err failure) e fault is = record {
+  pub reading_failed : {P : Database → Type 0} (r : Result (Unit {0}) StoreError) (e : StoreError) → (HasCleanDisk (state g c) → CanBeRead (state g b) → IsFaultBy (state g b) (state g c) e) → (HasCleanDisk (state g c) → IsToldUnopened (state g b) (state g c) e)
+      → IsErrAnd r (λ failure. failure ≡ e) → Tests g a c r P
+  reading_failed (Ok x) e fault told is = absurd is
+  reading_failed (Err failure) e fault told is = record {
     frame = stays (Err failure);
     passes = λ clean. tt;
     fault = λ clean registry k over.
@@ -106,14 +108,19 @@ module _ {S : Type 0} (g : Ghosts S) (a b c : Held S) (settled : IsTrue (state g
         let early = clean_at (state g a) (state g b) (state g c) read clean in
         subst (IsFaultBy (state g a) (state g c)) (sym is)
         (fault_of_all (state g a) (state g b) (state g c) first read clean e (fault clean (readable_on (state g a) (state g b) first settled early (unopened_can_be_read (state g a) registry k over)))));
+    told = λ clean known.
+        (let first = rests_read g a b (Ok count) counted in
+        let early = clean_at (state g a) (state g b) (state g c) read clean in
+        subst (IsTold (state g a) (state g c)) (sym is) (told_of_all (state g a) (state g b) (state g c) first read clean e (told clean (layout_on (state g a) (state g b) first settled early known))));
   }
 
   -- they were, and pass or don't
   pub texts_judged : {P : Database → Type 0} (r : Result (Unit {0}) StoreError) (fit : Bool) → OnOk r (IsTrue fit) → IfErr r (λ e. (e ≡ NotARegistry) × (fit ≡ false)) → (HasCleanDisk (state g c) → IsTrue fit → IsLayout (state g a).now.schema → P (state g a).now)
       → (HasCleanDisk (state g c) → fit ≡ false → (registry : Registry) (k : Kept) → SpellsUnopened (state g a).now registry k → ⊥) → Tests g a c r P
-  texts_judged (Ok x) fit ok err passes fails = record { frame = stays (Ok x); passes = λ clean. passes clean ok; fault = λ clean. tt }
+  texts_judged (Ok x) fit ok err passes fails = record { frame = stays (Ok x); passes = λ clean. passes clean ok; fault = λ clean. tt; told = λ clean. tt }
   texts_judged (Err e) fit ok err passes fails = record {
     frame = stays (Err e);
     passes = λ clean. tt;
     fault = λ clean registry k over. absurd (fails clean err.1 registry k (over (counted.was_open (clean_at (state g a) (state g b) (state g c) read clean))));
+    told = λ clean known. subst (IsTold (state g a) (state g c)) (sym err.0) tt;
   }

@@ -37,6 +37,11 @@ IsFaultBy old new Memory = Unit {0}
 IsFaultBy old new Disk = HasDiskFault old new
 IsFaultBy old new _ = ⊥
 
+-- this project's choice: `Disk` is told of a fault of the disk alone
+abbrev pub IsTold : State → State → StoreError → Type 0
+IsTold old new Disk = HasDiskFault old new
+IsTold old new _ = Unit {0}
+
 -- this project's choice: no layout is named
 abbrev pub IsNumberless : StoreError → Type 0
 IsNumberless (OldLayout number) = ⊥

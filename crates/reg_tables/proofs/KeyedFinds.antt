@@ -1,19 +1,18 @@
 -- What the look-up of a key shows of a table that has one row for each key, and why it fails.
-use Rattle.std.proofs.Common.{ℕ, ◌≡◌, ◌≤◌, ◌⊎◌, inl, List, [], ◌∷◌, All, Option, Some, None, MatchOption, slice_get, refl, sym, ap, subst, ◌∙◌}
+use Rattle.std.proofs.Common.{ℕ, ◌≡◌, inl, List, [], ◌∷◌, All, Option, Some, None, MatchOption, slice_get, refl, sym, ap, subst, ◌∙◌}
 use Rattle.std.specs.Prelude.{option_map}
 use Rattle.std.specs.FinMap.{get}
 use Rattle.sqlite.specs.Order.{Row}
 use Rattle.sqlite.specs.Schema.{Schema}
-use Rattle.sqlite.specs.State.{State, Shown, FailsToQuery, IsTooLate}
-use Rattle.sqlite.specs.declared.error.ErrorCode.TheVariants as code
+use Rattle.sqlite.specs.State.{State, Shown}
 use Rattle.sqlite.specs.declared.error.Error.{Error}
-use Rattle.sqlite.specs.declared.error.Error.TheVariants.{SqliteFailure}
 use Rattle.reg_tables.specs.Layout.{IsLayout}
 use Rattle.reg_tables.specs.Contents.{Contents, AreReadable, HoldsIn}
 use Rattle.reg_tables.specs.Reads.{HoldsReadable, CanBeRead}
 use Rattle.reg_tables.specs.FailedCalls.{IsFault}
 use Rattle.reg_tables.specs.Inside.Keyed.{Keyed}
 use Rattle.reg_tables.specs.Inside.KeyedLaws.{FindsRow, find_query}
+use Rattle.reg_tables.specs.Inside.FailedLists.{FailsToList}
 use Rattle.reg_tables.proofs.Statements.{laid_out}
 use Rattle.reg_tables.proofs.KeyedTables.{FindsValue, finds, none_of}
 use Rattle.reg_tables.proofs.TableLines.{list_fault, all_if_each}
@@ -46,7 +45,5 @@ module _ {K V : Type 0} (t : Keyed Contents K V) (sql : List ℕ) (f : FindsRow 
         let its = (value_found there.schema there.contents there.holds there.is_layout found shown).sound row has in
         subst is_readable (sym its.2) (readable there.contents there.readable key its.0 its.1))
 
-    pub find_fault : (end : State) (e : Error)
-        → ((new.faults ≤ end.faults) × (FailsToQuery sql (t.form.key_cells key) old new e ⊎ IsTooLate sql (t.form.key_cells key) old new e)) ⊎ ((found : List Row) × Shown sql (t.form.key_cells key) old new found × (All is_readable found → e ≡ SqliteFailure code.OutOfMemory))
-        → CanBeRead old → IsFault old end e
+    pub find_fault : (end : State) (e : Error) → FailsToList is_readable sql (t.form.key_cells key) old new end e → CanBeRead old → IsFault old end e
     find_fault end e why can = list_fault (find_query t f.shown f.names sql) (t.form.key_cells key) f.is (λ schema is_layout. f.takes key schema is_layout) is_readable old new end (λ found shown there. shown_readable found shown there) e why can

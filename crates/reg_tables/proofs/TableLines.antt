@@ -1,26 +1,25 @@
 -- What a query of all rows of a table lists, and how a list of rows fails.
-use Rattle.std.proofs.Common.{◌≤◌, ◌≡◌, ◌⊎◌, inl, inr, ℤ, zero, suc, List, [], ◌∷◌, map, All, IsTrue, refl, sym, subst, ◌∙◌, arith}
+use Rattle.std.proofs.Common.{◌≡◌, ◌⊎◌, inl, inr, ℤ, zero, suc, List, [], ◌∷◌, map, All, IsTrue, refl, sym, subst, ◌∙◌, arith}
 use Rattle.std.specs.List.Sorted.{IsPermutation}
 use Rattle.std.proofs.lemmas.List.Sorted.{IsPermutation-map}
 use Rattle.std.proofs.lemmas.Simd.{map-map}
-use Rattle.sqlite.specs.declared.error.ErrorCode.TheVariants as code
 use Rattle.sqlite.specs.declared.error.Error.{Error}
-use Rattle.sqlite.specs.declared.error.Error.TheVariants.{SqliteFailure}
 use Rattle.sqlite.specs.Order.{Row}
 use Rattle.sqlite.specs.Term.{eval_all}
 use Rattle.sqlite.specs.Schema.{Schema}
 use Rattle.sqlite.specs.Effect.{Database}
 use Rattle.sqlite.specs.Query.{IsAnswer}
 use Rattle.sqlite.specs.Program.{overlay}
-use Rattle.sqlite.specs.State.{State, Shown, FailsToQuery, IsTooLate}
+use Rattle.sqlite.specs.State.{State, Shown}
 use Rattle.sqlite_rules.specs.Lists.{Has}
 use Rattle.reg_tables.specs.Layout.{IsLayout, HasTablesFirst}
 use Rattle.reg_tables.specs.Reads.{HoldsReadable, CanBeRead, HoldsMeta}
-use Rattle.reg_tables.specs.FailedCalls.{IsFault}
+use Rattle.reg_tables.specs.FailedCalls.{IsFault, IsUnreadable}
 use Rattle.reg_tables.specs.TableMaps.{Form}
 use Rattle.reg_tables.specs.Contents.{version_form, pair_form, kept_form}
 use Rattle.reg_tables.specs.Listings.{parts_of, entry_parts, Lists}
 use Rattle.reg_tables.specs.Inside.ReadableRows.{IsReadableVersion, IsReadablePair, IsReadableKept}
+use Rattle.reg_tables.specs.Inside.FailedLists.{FailsToList}
 use Rattle.reg_tables.specs.Inside.Statements.{plain_query, TableQuery, body_of, IsQuery, Takes}
 use Rattle.reg_tables.proofs.Queries.{answer_has, answer_all}
 use Rattle.reg_tables.proofs.KeyedTables.{with_nothing, answered}
@@ -62,15 +61,21 @@ all_if_each P (x ∷ xs) each (suc k) d low = all_if_each P xs (λ y h. each y (
 module _ {Known : Schema → Type 0} {Holds : Database → Type 0} (known : (db : Database) → Holds db → Known db.schema) (q : TableQuery) (params : Row) (is : (schema : Schema) → Known schema → IsQuery q schema)
     (takes : (schema : Schema) → Known schema → Takes q params schema) (is_readable : Row → Type 0) where
   pub known_list_fault : (old new end : State) → ((found : List Row) → Shown q.sql params old new found → Holds old.now → All is_readable found) → (e : Error)
-      → ((new.faults ≤ end.faults) × (FailsToQuery q.sql params old new e ⊎ IsTooLate q.sql params old new e)) ⊎ ((found : List Row) × Shown q.sql params old new found × (All is_readable found → e ≡ SqliteFailure code.OutOfMemory))
+      → FailsToList is_readable q.sql params old new end e
       → (IsTrue old.is_open → Holds old.now) → IsFault old end e
   known_list_fault old new end readable e (inl failed) can = read_fault_until old new end failed.0 e (known_query_faults q is params takes old new (λ is_open. known old.now (can is_open)) e failed.1)
   known_list_fault old new end readable e (inr read) can = memory_is_fault old end e (read.2 (readable read.0 read.1 (can (shown_open q.sql params old new read.0 read.1))))
 
--- so it does in the layouts
+-- and of any contents with a fault, or where a row can't be read
+module _ {Known : Schema → Type 0} (q : TableQuery) (params : Row) (is : (schema : Schema) → Known schema → IsQuery q schema) (takes : (schema : Schema) → Known schema → Takes q params schema) (is_readable : Row → Type 0) where
+  pub list_told : (old new end : State) (e : Error) → FailsToList is_readable q.sql params old new end e → (IsTrue old.is_open → Known old.now.schema) → IsFault old end e ⊎ IsUnreadable e
+  list_told old new end e (inl failed) known = inl (read_fault_until old new end failed.0 e (known_query_faults q is params takes old new known e failed.1))
+  list_told old new end e (inr read) known = elim read.3 [ inl memory ↦ inl (memory_is_fault old end e memory) | inr unread ↦ inr unread ]
+
+-- in a layout it fails with a fault alone
 module _ (q : TableQuery) (params : Row) (is : (schema : Schema) → IsLayout schema → IsQuery q schema) (takes : (schema : Schema) → IsLayout schema → Takes q params schema) (is_readable : Row → Type 0) where
   pub list_fault : (old new end : State) → ((found : List Row) → Shown q.sql params old new found → HoldsReadable old.now → All is_readable found) → (e : Error)
-      → ((new.faults ≤ end.faults) × (FailsToQuery q.sql params old new e ⊎ IsTooLate q.sql params old new e)) ⊎ ((found : List Row) × Shown q.sql params old new found × (All is_readable found → e ≡ SqliteFailure code.OutOfMemory)) → CanBeRead old → IsFault old end e
+      → FailsToList is_readable q.sql params old new end e → CanBeRead old → IsFault old end e
   list_fault = known_list_fault of_layout q params is takes is_readable
 
 module _ {K V : Type 0} {Known : Schema → Type 0} {Holds : Database → Type 0} {form : Form K V} {is_readable : Row → Type 0} {q : TableQuery} (table : ShowsTable Known Holds form is_readable q) (old new : State) where
@@ -96,5 +101,9 @@ module _ {K V : Type 0} {Known : Schema → Type 0} {Holds : Database → Type 0
   lists_lines entry lines found h read laid = subst (IsPermutation (map (parts_of form) (old.now.trees q.tree))) (read ∙ sym (map-map (entry_parts form) entry lines)) (shown_parts laid found h)
 
   -- of readable contents the lines fail with a fault alone
-  pub lines_fault : (end : State) (e : Error) → ((new.faults ≤ end.faults) × (FailsToQuery q.sql [] old new e ⊎ IsTooLate q.sql [] old new e)) ⊎ ((found : List Row) × Shown q.sql [] old new found × (All is_readable found → e ≡ SqliteFailure code.OutOfMemory)) → (IsTrue old.is_open → Holds old.now) → IsFault old end e
+  pub lines_fault : (end : State) (e : Error) → FailsToList is_readable q.sql [] old new end e → (IsTrue old.is_open → Holds old.now) → IsFault old end e
   lines_fault end = known_list_fault table.known q [] table.is table.takes is_readable old new end (λ found h there. shown_readable (table.known old.now there) found h there)
+
+  -- of any contents they fail with a fault, or where a row can't be read
+  pub lines_told : (end : State) (e : Error) → FailsToList is_readable q.sql [] old new end e → (IsTrue old.is_open → Known old.now.schema) → IsFault old end e ⊎ IsUnreadable e
+  lines_told end = list_told q [] table.is table.takes is_readable old new end

@@ -4,4 +4,5 @@ pub mod Forms
 pub mod Checks
 pub mod Keyed
 pub mod Statements
+pub mod FailedLists
 pub mod KeyedLaws

@@ -35,3 +35,7 @@ pub record HoldsMeta (db : Database) : Type 0 where
 -- while the connection is open, its `meta` holds what can be read
 abbrev pub CanTellMeta : State → Type 0
 CanTellMeta s = IsTrue s.is_open → HoldsMeta s.now
+
+-- while the connection is open, its tables are those of a layout, whatever rows they have
+abbrev pub HasLayout : State → Type 0
+HasLayout s = IsTrue s.is_open → IsLayout s.now.schema

@@ -1,6 +1,6 @@
 //! All rows of each table, with their rowids, as the test of a database needs them.
 
-ghost use Rattle.std.specs.Prelude.{◌≡◌, ◌<◌, Bool, length, IfOk, IfErr, false};
+ghost use Rattle.std.specs.Prelude.{◌≡◌, ◌⊎◌, ◌<◌, Bool, length, IfOk, IfErr, false};
 ghost use Rattle.sqlite.specs.Order.{column};
 ghost use Rattle.sqlite.specs.Held.{state};
 ghost use Rattle.reg_tables.specs.Frames.{StaysIdle};
@@ -9,8 +9,9 @@ ghost use Rattle.reg_tables.specs.Layout.{IsLayout, HasTablesFirst};
 ghost use Rattle.reg_tables.specs.Contents.{flag_cell, text_form, version_form, pair_form, kept_form};
 ghost use Rattle.reg_tables.specs.Listings.{RowParts, parts_of, entry_parts, text_entry, version_entry, level_entry, kept_entry, meta_entry, ListsVersions, ListsLevels, ListsKept, ListsMeta};
 ghost use Rattle.reg_tables.specs.Inside.ReadableRows.{IsReadableText, IsReadableVersion, IsReadablePair, IsReadableKept};
-ghost use Rattle.reg_tables.specs.Reads.{CanBeRead, CanTellMeta};
-ghost use Rattle.reg_tables.specs.FailedCalls.{IsFault};
+ghost use Rattle.reg_tables.specs.Reads.{CanBeRead, CanTellMeta, HasLayout};
+ghost use Rattle.reg_tables.specs.FailedCalls.{IsFault, IsUnreadable};
+ghost use Rattle.reg_tables.specs.Inside.FailedLists.{IsReadingError};
 
 use crate::kept::KeptReply;
 use crate::statement::{Line, list};
@@ -64,6 +65,7 @@ pub(crate) fn flag_in(row: &Row, at: usize) -> Result<bool, Error>
     ensures err { IfErr result (λ e. at < length row.now
         → (flag : Bool) → column row.now at ≡ flag_cell flag
         → e ≡ Error.SqliteFailure ErrorCode.OutOfMemory) }
+    ensures named { IfErr result IsReadingError }
 {
     let number: u32 = row.get(at)?;
     match number {
@@ -186,6 +188,9 @@ pub fn version_lines<S: Alter>(
     ensures fault { HasCleanDisk (state S.Store conn.new) → IfErr result (λ e.
         CanBeRead (state S.Store conn.old)
         → IsFault (state S.Store conn.old) (state S.Store conn.new) e) }
+    ensures told { HasCleanDisk (state S.Store conn.new) → IfErr result (λ e.
+        HasLayout (state S.Store conn.old)
+        → IsFault (state S.Store conn.old) (state S.Store conn.new) e ⊎ IsUnreadable e) }
 {
     list(
         alloc,
@@ -213,6 +218,9 @@ pub fn level_lines<S: Alter>(
     ensures fault { HasCleanDisk (state S.Store conn.new) → IfErr result (λ e.
         CanBeRead (state S.Store conn.old)
         → IsFault (state S.Store conn.old) (state S.Store conn.new) e) }
+    ensures told { HasCleanDisk (state S.Store conn.new) → IfErr result (λ e.
+        HasLayout (state S.Store conn.old)
+        → IsFault (state S.Store conn.old) (state S.Store conn.new) e ⊎ IsUnreadable e) }
 {
     list(alloc, conn, "SELECT rowid, subject, level FROM levels", &[])
 }
@@ -232,6 +240,9 @@ pub fn kept_lines<S: Alter>(alloc: Global, conn: &mut Connection<S>) -> Result<V
     ensures fault { HasCleanDisk (state S.Store conn.new) → IfErr result (λ e.
         CanBeRead (state S.Store conn.old)
         → IsFault (state S.Store conn.old) (state S.Store conn.new) e) }
+    ensures told { HasCleanDisk (state S.Store conn.new) → IfErr result (λ e.
+        HasLayout (state S.Store conn.old)
+        → IsFault (state S.Store conn.old) (state S.Store conn.new) e ⊎ IsUnreadable e) }
 {
     list(
         alloc,
@@ -256,6 +267,9 @@ pub fn meta_lines<S: Alter>(alloc: Global, conn: &mut Connection<S>) -> Result<V
     ensures fault { HasCleanDisk (state S.Store conn.new) → IfErr result (λ e.
         CanTellMeta (state S.Store conn.old)
         → IsFault (state S.Store conn.old) (state S.Store conn.new) e) }
+    ensures told { HasCleanDisk (state S.Store conn.new) → IfErr result (λ e.
+        HasLayout (state S.Store conn.old)
+        → IsFault (state S.Store conn.old) (state S.Store conn.new) e ⊎ IsUnreadable e) }
 {
     list(alloc, conn, "SELECT rowid, name, value FROM meta", &[])
 }

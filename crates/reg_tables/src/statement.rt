@@ -7,6 +7,7 @@ ghost use Rattle.sqlite.specs.Held.{Held, state};
 ghost use Rattle.reg_tables.specs.Frames.{once_begun, state_in, StaysInside, StaysIdle};
 ghost use Rattle.sqlite.specs.State.{HasCleanDisk, ExecutesInside, Shown, FailsToQuery, IsTooLate};
 ghost use Rattle.sqlite.specs.Values.{bound};
+ghost use Rattle.reg_tables.specs.Inside.FailedLists.{IsReadingError, FailsToList};
 
 use sqlite::types::ValueRef;
 use sqlite::{Alter, Connection, Error, ErrorCode, Row, Transaction};
@@ -71,14 +72,15 @@ pub(crate) trait Line: Sized {
     fn read(row: &Row) -> Result<Self, Error>
         ensures ok { IfOk result (λ line. shown row.now ≡ cells line) }
         ensures err { IfErr result (λ e. is_readable row.now
-            → e ≡ Error.SqliteFailure ErrorCode.OutOfMemory) };
+            → e ≡ Error.SqliteFailure ErrorCode.OutOfMemory) }
+        ensures named { IfErr result IsReadingError };
 }
 
 /// The lines of the rows. Each row is let go once it is read, so no text is held twice.
 fn lines_in<L: Line + Drop>(alloc: Global, rows: Vec<Row>) -> Result<Vec<L>, Error>
     ensures ok { IfOk result (λ lines. map L.shown rows.items ≡ map L.cells lines.items) }
-    ensures err { IfErr result (λ e. All L.is_readable rows.items
-        → e ≡ Error.SqliteFailure ErrorCode.OutOfMemory) }
+    ensures err { IfErr result (λ e. (All L.is_readable rows.items
+        → e ≡ Error.SqliteFailure ErrorCode.OutOfMemory) × IsReadingError e) }
 {
     let mut lines = Vec::new(alloc);
     for row in rows {
@@ -101,12 +103,8 @@ pub(crate) fn list<S: Alter, L: Line + Drop>(
         × Shown sql.now (bound values.now) (once_begun S.Store conn.old) (state S.Store last) found
         × (map L.shown found ≡ map L.cells lines.items)) }
     ensures failed { HasCleanDisk (state S.Store conn.new) → IfErr result (λ e. (last : Held S)
-        × ((((state S.Store last).faults ≤ (state S.Store conn.new).faults)
-        × (FailsToQuery sql.now (bound values.now) (once_begun S.Store conn.old) (state S.Store last) e
-        ⊎ IsTooLate sql.now (bound values.now) (once_begun S.Store conn.old) (state S.Store last) e))
-        ⊎ ((found : List SqlRow)
-        × Shown sql.now (bound values.now) (once_begun S.Store conn.old) (state S.Store last) found
-        × (All L.is_readable found → e ≡ Error.SqliteFailure ErrorCode.OutOfMemory)))) }
+        × FailsToList L.is_readable sql.now (bound values.now) (once_begun S.Store conn.old)
+        (state S.Store last) (state S.Store conn.new) e) }
 {
     let rows = ask(conn, sql, values)?;
     lines_in(alloc, rows)
@@ -125,12 +123,8 @@ pub(crate) fn first<S: Alter, L: Line>(
         × Shown sql.now (bound values.now) (once_begun S.Store conn.old) (state S.Store last) found
         × (option_map L.shown (slice_get found 0) ≡ option_map L.cells line)) }
     ensures failed { HasCleanDisk (state S.Store conn.new) → IfErr result (λ e. (last : Held S)
-        × ((((state S.Store last).faults ≤ (state S.Store conn.new).faults)
-        × (FailsToQuery sql.now (bound values.now) (once_begun S.Store conn.old) (state S.Store last) e
-        ⊎ IsTooLate sql.now (bound values.now) (once_begun S.Store conn.old) (state S.Store last) e))
-        ⊎ ((found : List SqlRow)
-        × Shown sql.now (bound values.now) (once_begun S.Store conn.old) (state S.Store last) found
-        × (All L.is_readable found → e ≡ Error.SqliteFailure ErrorCode.OutOfMemory)))) }
+        × FailsToList L.is_readable sql.now (bound values.now) (once_begun S.Store conn.old)
+        (state S.Store last) (state S.Store conn.new) e) }
 {
     let rows = ask(conn, sql, values)?;
     match rows.first() {

@@ -1,6 +1,6 @@
 //! The rows of `texts` a few at a time, and the ids of all, as the test of a database needs them.
 
-ghost use Rattle.std.specs.Prelude.{◌≡◌, pos, IfOk, IfErr, false};
+ghost use Rattle.std.specs.Prelude.{◌≡◌, ◌⊎◌, pos, IfOk, IfErr, false};
 ghost use Rattle.sqlite.specs.declared.types.Value.{Value};
 ghost use Rattle.sqlite.specs.declared.types.Value.TheVariants.{Int};
 ghost use Rattle.sqlite.specs.Order.{column};
@@ -10,8 +10,8 @@ ghost use Rattle.reg_tables.specs.Frames.{StaysIdle};
 ghost use Rattle.reg_tables.specs.Layout.{IsLayout};
 ghost use Rattle.reg_tables.specs.Listings.{ListsIds, ListsTextsBetween};
 ghost use Rattle.reg_tables.specs.Inside.ReadableRows.{IsReadableId};
-ghost use Rattle.reg_tables.specs.Reads.{CanBeRead};
-ghost use Rattle.reg_tables.specs.FailedCalls.{IsFault};
+ghost use Rattle.reg_tables.specs.Reads.{CanBeRead, HasLayout};
+ghost use Rattle.reg_tables.specs.FailedCalls.{IsFault, IsUnreadable};
 
 use crate::lines::TextLine;
 use crate::statement::{Line, list};
@@ -48,6 +48,9 @@ pub fn text_ids<S: Alter>(alloc: Global, conn: &mut Connection<S>) -> Result<Vec
     ensures fault { HasCleanDisk (state S.Store conn.new) → IfErr result (λ e.
         CanBeRead (state S.Store conn.old)
         → IsFault (state S.Store conn.old) (state S.Store conn.new) e) }
+    ensures told { HasCleanDisk (state S.Store conn.new) → IfErr result (λ e.
+        HasLayout (state S.Store conn.old)
+        → IsFault (state S.Store conn.old) (state S.Store conn.new) e ⊎ IsUnreadable e) }
 {
     list(alloc, conn, "SELECT id FROM texts", &[])
 }
@@ -72,6 +75,9 @@ pub fn texts_between<S: Alter>(
     ensures fault { HasCleanDisk (state S.Store conn.new) → IfErr result (λ e.
         CanBeRead (state S.Store conn.old)
         → IsFault (state S.Store conn.old) (state S.Store conn.new) e) }
+    ensures told { HasCleanDisk (state S.Store conn.new) → IfErr result (λ e.
+        HasLayout (state S.Store conn.old)
+        → IsFault (state S.Store conn.old) (state S.Store conn.new) e ⊎ IsUnreadable e) }
 {
     list(
         alloc,

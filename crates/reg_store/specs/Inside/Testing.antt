@@ -19,7 +19,7 @@ use Rattle.reg_core.specs.Registry.{max_number}
 use Rattle.reg_store.specs.declared.error.StoreError.{StoreError}
 use Rattle.reg_store.specs.declared.error.StoreError.TheVariants.{Memory, Disk, NotARegistry, OldLayout, NewerLayout}
 use Rattle.reg_store.specs.Opening.{text_row, meta_row}
-use Rattle.reg_store.specs.UnopenedFaults.{IsFaultUnopened}
+use Rattle.reg_store.specs.UnopenedFaults.{IsFaultUnopened, IsToldUnopened}
 
 -- no number comes twice
 abbrev pub AreApart : List ℤ → Type 0
@@ -123,8 +123,9 @@ JudgesMeta lines (Err (NewerLayout number)) = (layout_in (pairs_of lines) ≡ So
 
 -- ---- a test
 
--- a call that changes nothing, succeeds only where the tables of a layout pass, and fails by itself only where they spell no registry
+-- a call that changes nothing, succeeds only where the tables of a layout pass, fails by itself only where they spell no registry, and tells `Disk` of a fault of the disk alone
 pub record Tests {S X : Type 0} (g : Ghosts S) (old new : Held S) (result : Result X StoreError) (Passes : Database → Type 0) : Type 0 where
   pub frame : StaysIdle g old new result
   pub passes : HasCleanDisk (state g new) → OnOk result (IsLayout (state g old).now.schema → Passes (state g old).now)
   pub fault : HasCleanDisk (state g new) → IfErr result (IsFaultUnopened (state g old) (state g new))
+  pub told : HasCleanDisk (state g new) → IfErr result (IsToldUnopened (state g old) (state g new))

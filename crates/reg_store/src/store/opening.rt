@@ -11,7 +11,7 @@ ghost use Rattle.reg_tables.specs.Reads.{OnlyReads};
 ghost use Rattle.reg_store.specs.Failures.{failure_of, IsFaultBy};
 ghost use Rattle.reg_store.specs.Opening.{IsRefusedBy, TellsNewer, OpensOver, IsIndexed, LosesNothing};
 ghost use Rattle.reg_store.specs.Stores.{state_of, has_failed, LeavesBefore, LeavesCommit};
-ghost use Rattle.reg_store.specs.UnopenedFaults.{IsFaultUnopened};
+ghost use Rattle.reg_store.specs.UnopenedFaults.{IsFaultUnopened, IsToldUnopened};
 ghost use Rattle.reg_store.specs.Inside.Making.{TakesIndex};
 ghost use Rattle.reg_store.specs.Inside.Reads.{shown};
 
@@ -42,9 +42,12 @@ impl<S: Alter> Store<S> {
             → OpensOver (state S.Store connection) (state_of store)) }
         ensures unfailed { IfOk result (λ store. has_failed store ≡ false) }
 
-        // Over tables that spell a registry no error but these two comes, and a newer layout is told.
+        // Over tables that spell a registry no error but these two comes, over any `Disk` is for a
+        // fault of the disk, and a newer layout is told.
         ensures fault { IfErr result (λ e. HasCleanDisk (state S.Store e.1)
             → IsFaultUnopened (state S.Store connection) (state S.Store e.1) e.0) }
+        ensures told { IfErr result (λ e. HasCleanDisk (state S.Store e.1)
+            → IsToldUnopened (state S.Store connection) (state S.Store e.1) e.0) }
         ensures refused { IfErr result (λ e. HasCleanDisk (state S.Store e.1)
             → IsRefusedBy (state S.Store connection).now e.0) }
         ensures newer { IfErr result (λ e. HasCleanDisk (state S.Store e.1)
@@ -97,6 +100,8 @@ fn make_ready<S: Alter>(alloc: Global, db: &mut Idle<S>) -> Result<(), StoreErro
         → OnOk result (OpensOver (shown db.old) (shown db.new)) }
     ensures fault { HasCleanDisk (shown db.new)
         → IfErr result (IsFaultUnopened (shown db.old) (shown db.new)) }
+    ensures told { HasCleanDisk (shown db.new)
+        → IfErr result (IsToldUnopened (shown db.old) (shown db.new)) }
     ensures refused { HasCleanDisk (shown db.new)
         → IfErr result (IsRefusedBy (shown db.old).now) }
     ensures newer { HasCleanDisk (shown db.new)

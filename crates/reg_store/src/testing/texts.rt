@@ -10,7 +10,7 @@ ghost use Rattle.reg_tables.specs.Reads.{CanBeRead};
 ghost use Rattle.reg_core.specs.Registry.{max_number};
 ghost use Rattle.reg_store.specs.Failures.{IsFaultBy, IsNumberless};
 ghost use Rattle.reg_store.specs.Inside.Testing.{text_fits, Judges, NumbersTexts, Tests, TextsPass};
-ghost use Rattle.reg_store.specs.UnopenedFaults.{IsFaultUnopened};
+ghost use Rattle.reg_store.specs.UnopenedFaults.{IsFaultUnopened, IsToldUnopened};
 ghost use Rattle.reg_store.specs.Inside.Reads.{Rests, shown};
 
 use crate::error::StoreError;
@@ -46,6 +46,8 @@ fn count_texts<S: Alter>(alloc: Global, db: &mut Idle<S>) -> Result<u32, StoreEr
     ensures few { IfOk result (λ count. count ≤ max_number) }
     ensures fault { HasCleanDisk (shown db.new)
         → IfErr result (IsFaultUnopened (shown db.old) (shown db.new)) }
+    ensures told { HasCleanDisk (shown db.new)
+        → IfErr result (IsToldUnopened (shown db.old) (shown db.new)) }
     ensures plain { IfErr result IsNumberless }
 {
     let mut ids = text_ids(alloc, &mut db.conn)?;
@@ -69,6 +71,8 @@ fn judge_some<S: Alter>(
     ensures fault { HasCleanDisk (shown db.new) → IfErr result (λ e.
         CanBeRead (shown db.old)
         → IsFaultBy (shown db.old) (shown db.new) e) }
+    ensures told { HasCleanDisk (shown db.new)
+        → IfErr result (IsToldUnopened (shown db.old) (shown db.new)) }
     ensures plain { IfErr result IsNumberless }
 {
     let lines = texts_between(alloc, &mut db.conn, first, last)?;
@@ -89,6 +93,8 @@ fn judge_all<S: Alter>(alloc: Global, db: &mut Idle<S>, count: u32) -> Result<bo
     ensures fault { HasCleanDisk (shown db.new) → IfErr result (λ e.
         CanBeRead (shown db.old)
         → IsFaultBy (shown db.old) (shown db.new) e) }
+    ensures told { HasCleanDisk (shown db.new)
+        → IfErr result (IsToldUnopened (shown db.old) (shown db.new)) }
     ensures plain { IfErr result IsNumberless }
 {
     let _idle = db.conn.is_autocommit();

@@ -11,7 +11,7 @@ use Rattle.reg_store.proofs.testing.test_kept.Goals as goal
 
 pub returns-in_err-lines-clause-tests : goal.returns-in_err-lines-clause-tests
 returns-in_err-lines-clause-tests g c =
-    test_unread g.S.Store c.args.db.now.conn c.kept_lines.new.conn c.from_residual.result c.in_err-lines.field-0.0 c.args.db.now.unlimited c.in_err-lines.ensures.frame c.in_err-lines.ensures.fault c.from_residual.ensures.1
+    test_unread g.S.Store c.args.db.now.conn c.kept_lines.new.conn c.from_residual.result c.in_err-lines.field-0.0 c.args.db.now.unlimited c.in_err-lines.ensures.frame c.in_err-lines.ensures.fault c.in_err-lines.ensures.told c.from_residual.ensures.1
 
 pub returns-in_err-lines-clause-plain : goal.returns-in_err-lines-clause-plain
 returns-in_err-lines-clause-plain g c = passed IsNumberless c.from_residual.result _ c.from_residual.ensures.1 (numberless c.in_err-lines.field-0.0)

@@ -6,7 +6,7 @@ use Rattle.reg_store.proofs.testing.test_meta.Goals as goal
 pub returns-in_err-lines-clause-tests : goal.returns-in_err-lines-clause-tests
 returns-in_err-lines-clause-tests g c =
     test_unread g.S.Store c.args.db.now.conn c.meta_lines.new.conn c.from_residual.result c.in_err-lines.field-0.0 c.args.db.now.unlimited c.in_err-lines.ensures.frame
-    (λ clean can. c.in_err-lines.ensures.fault clean (tells_meta (state g.S.Store c.args.db.now.conn) can)) c.from_residual.ensures.1
+    (λ clean can. c.in_err-lines.ensures.fault clean (tells_meta (state g.S.Store c.args.db.now.conn) can)) c.in_err-lines.ensures.told c.from_residual.ensures.1
 
 pub returns-in_err-lines-clause-newer : goal.returns-in_err-lines-clause-newer
 returns-in_err-lines-clause-newer g c clean =

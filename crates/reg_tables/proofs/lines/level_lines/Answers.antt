@@ -1,6 +1,6 @@
 use Rattle.sqlite.specs.Held.{state}
 use Rattle.reg_tables.specs.Listings.{level_entry}
-use Rattle.reg_tables.proofs.TableLines.{shows_levels, lists_lines, lines_fault}
+use Rattle.reg_tables.proofs.TableLines.{shows_levels, lists_lines, lines_fault, lines_told}
 use Rattle.reg_tables.proofs.Transactions.{if_ok, if_err}
 use Rattle.reg_tables.proofs.lines.level_lines.Goals as goal
 
@@ -9,3 +9,6 @@ returns-clause-listed g c clean = if_ok c.list.result (λ lines read. lists_line
 
 pub returns-clause-fault : goal.returns-clause-fault
 returns-clause-fault g c clean = if_err c.list.result (λ e why. lines_fault shows_levels _ _ (state g.S.Store c.list.new.conn) e why.1) (c.list.ensures.failed clean)
+
+pub returns-clause-told : goal.returns-clause-told
+returns-clause-told g c clean = if_err c.list.result (λ e why. lines_told shows_levels _ _ (state g.S.Store c.list.new.conn) e why.1) (c.list.ensures.failed clean)

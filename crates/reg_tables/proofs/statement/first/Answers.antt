@@ -29,4 +29,4 @@ returns-in_err-read-in-Some-clause-failed g c clean =
     let shown = c.in_ok-rows.ensures.shown clean in
     let row = c.in-Some.ensures.value ∙ ap (λ (l : List Row). slice_get l 0) c.deref.ensures.value in
     if_err_is c.from_residual-in_err-read-in-Some.result _ c.in_err-read-in-Some.field-0.0 c.from_residual-in_err-read-in-Some.ensures.1
-    (shown.0, inr (c.in_ok-rows.rows.items, shown.1, λ all. c.in_err-read-in-Some.ensures.err (first_of_all g.L.Line.is_readable c.in_ok-rows.rows.items c.in-Some.row.now row all)))
+    (shown.0, inr (c.in_ok-rows.rows.items, shown.1, (λ all. c.in_err-read-in-Some.ensures.err (first_of_all g.L.Line.is_readable c.in_ok-rows.rows.items c.in-Some.row.now row all)), c.in_err-read-in-Some.ensures.named))

@@ -15,4 +15,4 @@ returns-in_err-rows-clause-failed g c clean =
 pub returns-clause-failed : goal.returns-clause-failed
 returns-clause-failed g c clean =
     let shown = c.in_ok-rows.ensures.shown clean in
-    if_err c.lines_in.result (λ e why. (shown.0, inr (c.in_ok-rows.rows.items, shown.1, why))) c.lines_in.ensures.err
+    if_err c.lines_in.result (λ e why. (shown.0, inr (c.in_ok-rows.rows.items, shown.1, why.0, why.1))) c.lines_in.ensures.err

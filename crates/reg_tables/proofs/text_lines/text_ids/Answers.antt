@@ -3,7 +3,7 @@ use Rattle.sqlite.specs.Held.{state}
 use Rattle.reg_tables.specs.Inside.ReadableRows.{IsReadableId}
 use Rattle.reg_tables.proofs.Faults.{takes_all_ids}
 use Rattle.reg_tables.proofs.Statements.{all_ids, all_ids_is}
-use Rattle.reg_tables.proofs.TableLines.{list_fault}
+use Rattle.reg_tables.proofs.TableLines.{list_fault, list_told}
 use Rattle.reg_tables.proofs.TextLines.{lists_ids, readable_ids}
 use Rattle.reg_tables.proofs.Transactions.{if_ok, if_err}
 use Rattle.reg_tables.proofs.text_lines.text_ids.Goals as goal
@@ -15,3 +15,7 @@ pub returns-clause-fault : goal.returns-clause-fault
 returns-clause-fault g c clean =
     if_err c.list.result (λ e why. list_fault all_ids [] all_ids_is takes_all_ids IsReadableId _ _ (state g.S.Store c.list.new.conn) (λ found shown there. readable_ids _ _ found shown there) e why.1)
     (c.list.ensures.failed clean)
+
+pub returns-clause-told : goal.returns-clause-told
+returns-clause-told g c clean =
+    if_err c.list.result (λ e why. list_told all_ids [] all_ids_is takes_all_ids IsReadableId _ _ (state g.S.Store c.list.new.conn) e why.1) (c.list.ensures.failed clean)

@@ -4,7 +4,7 @@ use Rattle.sqlite.specs.declared.types.Value.TheVariants.{Int}
 use Rattle.reg_tables.specs.Inside.ReadableRows.{IsReadableText}
 use Rattle.reg_tables.proofs.Faults.{takes_between}
 use Rattle.reg_tables.proofs.Statements.{texts_between, texts_between_is}
-use Rattle.reg_tables.proofs.TableLines.{list_fault}
+use Rattle.reg_tables.proofs.TableLines.{list_fault, list_told}
 use Rattle.reg_tables.proofs.TextLines.{lists_between, readable_between}
 use Rattle.reg_tables.proofs.Transactions.{if_ok, if_err}
 use Rattle.reg_tables.proofs.text_lines.texts_between.Goals as goal
@@ -19,3 +19,7 @@ returns-clause-fault g c clean =
     list_fault texts_between (Int (pos c.args.low) ∷ Int (pos c.args.high) ∷ []) texts_between_is (takes_between c.args.low c.args.high) IsReadableText _ _ (state g.S.Store c.list.new.conn)
     (λ found shown there. readable_between _ _ found c.args.low c.args.high shown there) e (rw (c.params-to_sql.ensures, c.params-to_sql-2.ensures) at why.1))
     (c.list.ensures.failed clean)
+
+pub returns-clause-told : goal.returns-clause-told
+returns-clause-told g c clean =
+    if_err c.list.result (λ e why. list_told texts_between (Int (pos c.args.low) ∷ Int (pos c.args.high) ∷ []) texts_between_is (takes_between c.args.low c.args.high) IsReadableText _ _ (state g.S.Store c.list.new.conn) e (rw (c.params-to_sql.ensures, c.params-to_sql-2.ensures) at why.1)) (c.list.ensures.failed clean)

@@ -3,7 +3,7 @@ use Rattle.sqlite_disk.specs.Disk.{MoreFaults}
 use Rattle.sqlite.specs.Held.{state}
 use Rattle.reg_store.specs.Opening.{IsIndexed, OpensOver, TellsNewer, LosesNothing}
 use Rattle.reg_store.specs.Stores.{LeavesBefore}
-use Rattle.reg_store.specs.UnopenedFaults.{IsFaultUnopened}
+use Rattle.reg_store.specs.UnopenedFaults.{IsFaultUnopened, IsToldUnopened}
 use Rattle.reg_store.proofs.OpenLemmas.{loses_nothing}
 use Rattle.reg_store.proofs.store.Store.open.Goals as goal
 
@@ -52,3 +52,6 @@ returns-in-Err-clause-settled g c is_open db it = g.met.S.Store.settled c.make_r
 
 pub returns-in-Err-clause-before : goal.returns-in-Err-clause-before
 returns-in-Err-clause-before g c clean = subst (λ h. IsTrue (state g.S.Store h).is_open → LeavesBefore (state g.S.Store h) (state g.S.Store c.make_ready.new.db.conn) c.in-Err.error) c.set_step_limit.ensures (c.in-Err.ensures.before clean)
+
+pub returns-in-Err-clause-told : goal.returns-in-Err-clause-told
+returns-in-Err-clause-told g c clean = subst (λ h. IsToldUnopened (state g.S.Store h) (state g.S.Store c.make_ready.new.db.conn) c.in-Err.error) c.set_step_limit.ensures (c.in-Err.ensures.told clean)

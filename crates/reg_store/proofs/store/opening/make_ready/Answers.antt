@@ -8,8 +8,8 @@ use Rattle.reg_tables.specs.Contents.{HoldsIn}
 use Rattle.reg_store.specs.Failures.{failure_of}
 use Rattle.reg_store.specs.Opening.{TellsNewer}
 use Rattle.reg_store.specs.Stores.{LeavesBefore}
-use Rattle.reg_store.specs.UnopenedFaults.{IsFaultUnopened}
-use Rattle.reg_store.proofs.Failing.{passed, by_since}
+use Rattle.reg_store.specs.UnopenedFaults.{IsFaultUnopened, IsToldUnopened}
+use Rattle.reg_store.proofs.Failing.{passed, by_since, told_if_by}
 use Rattle.reg_store.proofs.MetaLemmas.{not_outdated}
 use Rattle.reg_store.proofs.OpenLemmas.{opens_as_it_is, opens_with_index, bare_contents, index_survives, spells_under, only_reads}
 use Rattle.reg_store.proofs.Committing.{on_err_each, before_if_undone, before_then, before_if_faulted}
@@ -129,3 +129,20 @@ returns-in_err-made-clause-before g c clean =
       | inr more ↦ before_if_faulted old mid new (failure_of e) more c.make_index-made.ensures.survives.counts
           (c.in_err-made.ensures.fault clean (λ mid_open. let it = there mid_open in (it.0, subst (λ (d : Database). HoldsIn unindexed d it.0) (sym (same mid_open)) it.1)))
     ])
+
+pub returns-in_err-made-clause-told : goal.returns-in_err-made-clause-told
+returns-in_err-made-clause-told g c clean =
+    let idle : IsTrue c.is_autocommit-idle.result = search rules in
+    let old = state g.S.Store c.args.db.now.conn in
+    let mid = state g.S.Store c.test.new.db.conn in
+    let new = state g.S.Store c.make_index-made.new.db.conn in
+    let early : HasCleanDisk mid = omega (arith, c.make_index-made.ensures.survives.clean) in
+    let t = c.in_ok-test.ensures in
+    let frame = t.tests.frame in
+    let e = c.in_err-made.field-0.0 in
+    let settled = c.is_autocommit-idle.ensures.settled idle in
+    let same = same_now old mid (frame.only_reads early) settled in
+    let there = bare_contents old mid (frame.only_reads early) settled t.known (c.schema-live.ensures.live (frame.was_open early)).0 (t.tests.passes early t.known) (c.is_unindexed.ensures.0 c.if-not-is_unindexed.false) in
+    passed (IsToldUnopened old new) c.from_residual-in_err-made.result (failure_of e) c.from_residual-in_err-made.ensures.1
+    (λ known. told_if_by old new (failure_of e) (by_since old mid new (frame.survives.closes early) frame.survives.counts c.make_index-made.ensures.survives.counts (failure_of e)
+    (c.in_err-made.ensures.fault clean (λ mid_open. let it = there mid_open in (it.0, subst (λ (d : Database). HoldsIn unindexed d it.0) (sym (same mid_open)) it.1)))))

@@ -5,8 +5,9 @@ use Rattle.std.proofs.lemmas.List.Sorted.{IsNonDecreasingBy-from_sort}
 use Rattle.sqlite.specs.Held.{state}
 use Rattle.reg_core.specs.Registry.{max_number}
 use Rattle.reg_rows.specs.Spelling.{AreNumbered}
-use Rattle.reg_store.specs.UnopenedFaults.{IsFaultUnopened}
-use Rattle.reg_store.proofs.Failing.{fault_by, passed}
+use Rattle.reg_store.specs.Failures.{IsTold}
+use Rattle.reg_store.specs.UnopenedFaults.{IsFaultUnopened, IsToldUnopened}
+use Rattle.reg_store.proofs.Failing.{fault_by, told_by, passed}
 use Rattle.reg_store.proofs.Numbering.{Rises, rises}
 use Rattle.reg_store.proofs.TestLemmas.{is_known, unopened_can_be_read}
 use Rattle.reg_store.proofs.TextIds.{ids_fit, ids_sorted}
@@ -41,3 +42,15 @@ returns-clause-counted g c clean known =
     let few = fit.1 in
     let is : length sorted ≡ c.len.result = sym c.sort_unstable.new.self.ok.0 ∙ sym c.len.ensures in
     record { ids = sorted; lists = ids_sorted db c.in_ok-ids.ids.items sorted c.sort_unstable.ensures.permutation (c.in_ok-ids.ensures.listed clean known); numbered = fit.0; is = is; few = omega (arith, few, is) }
+
+pub returns-in_err-ids-clause-told : goal.returns-in_err-ids-clause-told
+returns-in_err-ids-clause-told g c clean =
+    let old = state g.S.Store c.args.db.now.conn in
+    let new = state g.S.Store c.text_ids.new.conn in
+    passed (IsToldUnopened old new) c.from_residual.result _ c.from_residual.ensures.1 (λ known. told_by old new c.in_err-ids.field-0.0 c.args.db.now.unlimited (c.in_err-ids.ensures.told clean known))
+
+pub returns-in_err-allow-clause-told : goal.returns-in_err-allow-clause-told
+returns-in_err-allow-clause-told g c clean =
+    let old = state g.S.Store c.args.db.now.conn in
+    let new = state g.S.Store c.text_ids.new.conn in
+    passed (IsToldUnopened old new) c.from_residual-in_err-allow.result _ c.from_residual-in_err-allow.ensures.1 (λ known. subst (IsTold old new) (sym c.in_err-allow.ensures.err.0) tt)

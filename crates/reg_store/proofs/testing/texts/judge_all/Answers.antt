@@ -5,9 +5,10 @@ use Rattle.reg_tables.specs.Layout.{IsLayout}
 use Rattle.reg_tables.specs.Listings.{ListsTextsBetween}
 use Rattle.reg_tables.specs.Reads.{CanBeRead}
 use Rattle.reg_store.specs.Failures.{IsFaultBy}
+use Rattle.reg_store.specs.UnopenedFaults.{IsToldUnopened}
 use Rattle.reg_store.specs.Inside.Testing.{Judges}
 use Rattle.reg_store.proofs.Failing.{passed}
-use Rattle.reg_store.proofs.ReadLemmas.{rests_still, rests_read, rests_on, clean_at, fault_of_all, same_db, readable_on}
+use Rattle.reg_store.proofs.ReadLemmas.{rests_still, rests_read, rests_on, clean_at, fault_of_all, told_of_all, same_db, readable_on, layout_on}
 use Rattle.reg_store.proofs.TextParts.{have_ids, judges_none, judges_more, judges_all}
 use Rattle.reg_store.proofs.testing.texts.judge_all.Goals as goal
 use Rattle.reg_store.proofs.testing.texts.judge_all.Goals.{then-fit, else-fit}
@@ -26,6 +27,18 @@ returns-in_err-some-clause-fault g c clean =
     let early = clean_at old mid new step clean in
     passed (λ e. CanBeRead old → IsFaultBy old new e) c.from_residual.result _ c.from_residual.ensures.1
     (λ can. fault_of_all old mid new before.rests step clean _ (c.in_err-some.ensures.fault clean (readable_on old mid before.rests (c.is_autocommit-idle.ensures.settled idle) early can)))
+
+pub returns-in_err-some-clause-told : goal.returns-in_err-some-clause-told
+returns-in_err-some-clause-told g c clean =
+    let idle : IsTrue c.is_autocommit-idle.result = search rules in
+    let old = state g.S.Store c.args.db.now.conn in
+    let mid = state g.S.Store c.loop-chunk.db.conn in
+    let new = state g.S.Store c.judge_some.new.db.conn in
+    let before = c.loop-chunk.invariant in
+    let step = rests_read g.S.Store c.loop-chunk.db.conn c.judge_some.new.db.conn c.judge_some.result c.judge_some.ensures.frame in
+    let early = clean_at old mid new step clean in
+    passed (IsToldUnopened old new) c.from_residual.result _ c.from_residual.ensures.1
+    (λ known. told_of_all old mid new before.rests step clean _ (c.in_err-some.ensures.told clean (layout_on old mid before.rests (c.is_autocommit-idle.ensures.settled idle) early known)))
 
 pub loop-chunk-preserved : goal.loop-chunk-preserved
 loop-chunk-preserved g c =

@@ -14,7 +14,7 @@ pub returns-in_err-judge_all-clause-tests : goal.returns-in_err-judge_all-clause
 returns-in_err-judge_all-clause-tests g c =
     let idle : IsTrue c.is_autocommit-idle.result = search rules in
     reading_failed g.S.Store c.args.db.now.conn c.count_texts.new.db.conn c.judge_all.new.db.conn (c.is_autocommit-idle.ensures.settled idle) c.in_ok-count.count c.in_ok-count.ensures.frame c.judge_all.ensures.frame c.judge_all.new.db.idle
-    c.from_residual-in_err-judge_all.result _ c.in_err-judge_all.ensures.fault c.from_residual-in_err-judge_all.ensures.1
+    c.from_residual-in_err-judge_all.result _ c.in_err-judge_all.ensures.fault c.in_err-judge_all.ensures.told c.from_residual-in_err-judge_all.ensures.1
 
 pub returns-clause-tests : goal.returns-clause-tests
 returns-clause-tests g c =
