@@ -1,5 +1,5 @@
 -- How a query of the five tables fails: for the store, or at the limit on steps.
-use Rattle.std.proofs.Common.{pos, ◌≡◌, ◌≢◌, ◌⊎◌, inl, inr, ℕ, List, [], ◌∷◌, length, ◌≤◌, append-nil, lit≤, true, Option, None, Some, Ok, Err, Result, refl, sym, ap, subst, ◌∙◌}
+use Rattle.std.proofs.Common.{pos, ◌≡◌, ◌≢◌, ◌⊎◌, inl, inr, ℕ, List, [], ◌∷◌, length, ◌≤◌, append-nil, lit≤, Bool, true, Option, None, Some, Ok, Err, Result, refl, sym, ap, subst, ◌∙◌}
 use Rattle.std.specs.Prelude.{IsSome, IfErr, IsErrAnd, IsTrue}
 use Rattle.std.proofs.lemmas.Bool.{both_ways, cases_Bool}
 use Rattle.sqlite.specs.declared.types.Value.{Value}
@@ -23,12 +23,13 @@ use Rattle.sqlite_typing.specs.Types.{accepts_program}
 use Rattle.sqlite_rules.proofs.ListLemmas.{any_has}
 use Rattle.sqlite_tied.specs.Compute.{everything}
 use Rattle.reg_tables.specs.Layout.{IsLayout, HasTablesFirst}
+use Rattle.reg_tables.specs.Contents.{flag_cell}
 use Rattle.reg_tables.specs.Reads.{CanBeRead}
 use Rattle.reg_tables.specs.FailedCalls.{IsFault}
 use Rattle.reg_tables.specs.Inside.Statements.{IsWhole, Takes, TableQuery, body_of, program_of, IsQuery}
 use Rattle.sqlite.specs.Schema.{Schema}
 use Rattle.reg_tables.proofs.Reasons.{reason_of, reason_if_shut, reason_by, fault_until}
-use Rattle.reg_tables.proofs.Statements.{laid_out, in_layouts, behind_tables, find_id, find_versions, find_last_version, find_last_live, find_last, find_behind, find_next, find_of_id, find_one_of_id, list_versions, all_ids, texts_between, all_versions, all_levels, all_kept, all_meta}
+use Rattle.reg_tables.proofs.Statements.{laid_out, in_layouts, behind_tables, find_id, find_versions, find_last_version, find_last_live, find_last, find_behind, find_next, find_of_id, find_one_of_id, find_some_of_id, find_last_with_id, list_versions, all_ids, texts_between, all_versions, all_levels, all_kept, all_meta}
 
 pub takes_id : (text : List ℕ) → (schema : Schema) → IsLayout schema → Takes find_id (Text text ∷ []) schema
 unfolding understood everything
@@ -65,6 +66,14 @@ takes_of_id id = in_layouts (Takes find_of_id (Int (pos id) ∷ [])) (λ tables 
 pub takes_one_of_id : (id : ℕ) → (schema : Schema) → IsLayout schema → Takes find_one_of_id (Int (pos id) ∷ []) schema
 unfolding understood everything
 takes_one_of_id id = in_layouts (Takes find_one_of_id (Int (pos id) ∷ [])) (λ tables indexes. record { whole = (lit≤ tt, refl); typed = refl })
+
+pub takes_some_of_id : (id : ℕ) → (schema : Schema) → IsLayout schema → Takes find_some_of_id (Int (pos id) ∷ []) schema
+unfolding understood everything
+takes_some_of_id id = in_layouts (Takes find_some_of_id (Int (pos id) ∷ [])) (λ tables indexes. record { whole = (lit≤ tt, refl); typed = refl })
+
+pub takes_last_with_id : (subject : List ℕ) (id : ℕ) (deleted : Bool) → (schema : Schema) → IsLayout schema → Takes find_last_with_id (Text subject ∷ Int (pos id) ∷ flag_cell deleted ∷ []) schema
+unfolding understood everything
+takes_last_with_id subject id deleted = in_layouts (Takes find_last_with_id (Text subject ∷ Int (pos id) ∷ flag_cell deleted ∷ [])) (λ tables indexes. record { whole = (lit≤ tt, refl); typed = refl })
 
 pub takes_list : (schema : Schema) → IsLayout schema → Takes list_versions [] schema
 unfolding understood everything

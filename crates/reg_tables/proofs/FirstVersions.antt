@@ -80,7 +80,7 @@ module _ (q : TableQuery) (ordered : body_of q ≡ ordered_query 2 q.tests q.sho
   -- of readable contents what is shown is readable
   pub readable_first : (is_readable : Row → Type 0) → ((e : Entry) → IsUtf8 e.0.0 × (e.0.1 < 2 ^ 32) × (e.1.id < 2 ^ 32) → is_readable (cells e)) → AreReadable contents → All is_readable found
   readable_first is_readable can readable = all_if_each is_readable found (λ x there.
-      let e = has_mapped cells passed x (has_taken (map cells passed) x (subst (λ l. Has l x) first_of_passed there)) in
+      let e = has_mapped cells passed x (has_taken 1 (map cells passed) x (subst (λ l. Has l x) first_of_passed there)) in
       let kept = has_filtered p (entries contents.versions) e.0 e.1 in
       subst is_readable (sym e.2) (can e.0 (readable.versions e.0.0 e.0.1 (entry_got version_cmp version_order contents.versions e.0 kept.0))))
 

@@ -1,10 +1,11 @@
 -- What the queries of versions with their subjects list, and what the query of one shows.
-use Rattle.std.proofs.Common.{◌≡◌, ◌≢◌, ◌==◌, ◌&&◌, inl, inr, ℕ, pos, List, [], ◌∷◌, map, All, Bool, true, false, Option, None, Some, MatchOption, slice_get, refl, sym, ap, subst, ◌∙◌}
+use Rattle.std.proofs.Common.{◌≡◌, ◌≢◌, ◌==◌, ◌&&◌, inl, inr, ℕ, pos, List, [], ◌∷◌, length, map, All, Bool, true, false, Option, None, Some, MatchOption, slice_get, refl, sym, ap, subst, ◌∙◌}
 use Rattle.std.specs.Cmp.{unsigned_Decides}
 use Rattle.std.specs.FinMap.{entries, get}
 use Rattle.std.specs.Prelude.{IsUtf8, ◌<◌, ◌^◌, option_map}
 use Rattle.std.specs.Ordering.{is_eq, nat_cmp}
 use Rattle.std.proofs.lemmas.Bool.{cases_Bool, both_ways, false_from_ne_true}
+use Rattle.std.proofs.lemmas.List.{length-map}
 use Rattle.std.proofs.lemmas.Simd.{map-map}
 use Rattle.sqlite.specs.declared.types.Value.TheVariants.{Int, Text}
 use Rattle.sqlite.specs.Order.{Row, column}
@@ -13,21 +14,23 @@ use Rattle.sqlite.specs.Query.{Output, IsAnswer}
 use Rattle.sqlite.specs.Schema.{Schema}
 use Rattle.sqlite.specs.State.{State, Shown}
 use Rattle.sqlite_rules.specs.Lists.{Has}
+use Rattle.sqlite_rules.proofs.ListLemmas.{contains_had, has_contained, has_filtered, has_kept}
 use Rattle.sqlite_sql.specs.Ops.{binary, is_true, from_truth}
 use Rattle.sqlite_trees.proofs.ListLemmas.{all_of, filter_all}
 use Rattle.sqlite_value.proofs.OrderLemmas.{value_cmp-Int}
 use Rattle.reg_tables.specs.Layout.{IsLayout}
 use Rattle.reg_tables.specs.TableMaps.{IsEntry}
-use Rattle.reg_tables.specs.Contents.{VersionRow, version_cells, version_form, Contents, AreReadable, HoldsIn}
-use Rattle.reg_tables.specs.Entries.{KeyedVersion, keyed, keyed_cells, id_versions, IsReadableKeyed}
+use Rattle.reg_tables.specs.Contents.{VersionRow, version_cells, version_cmp, version_form, Contents, AreReadable, HoldsIn}
+use Rattle.reg_tables.specs.Entries.{KeyedVersion, keyed, keyed_cells, id_versions, most, AreOfId, IsReadableKeyed}
 use Rattle.reg_tables.specs.declared.listed.ListedVersion.{ListedVersion}
 use Rattle.reg_tables.specs.Inside.Statements.{IsQuery, body_of}
-use Rattle.reg_tables.proofs.KeyedTables.{number_order, same_pos, with_nothing, answered}
+use Rattle.reg_tables.proofs.KeyedTables.{number_order, version_order, same_pos, with_nothing, answered}
 use Rattle.reg_tables.proofs.MapLemmas.{same_key, tied_key}
-use Rattle.reg_tables.proofs.ListMembers.{has_mapped, maps_had, has_taken, takes_one}
+use Rattle.reg_tables.proofs.ListMembers.{has_mapped, maps_had, has_taken, all_taken, takes_one}
 use Rattle.reg_tables.proofs.Opening.{distinct_version_rows}
+use Rattle.reg_tables.proofs.OrderedQueries.{entry_got, got_entry}
 use Rattle.reg_tables.proofs.Queries.{passes, ordered_has, has_ordered}
-use Rattle.reg_tables.proofs.Statements.{first_row, by_its_id, laid_out, find_of_id, find_of_id_is, find_one_of_id, find_one_of_id_is, list_versions, list_versions_is}
+use Rattle.reg_tables.proofs.Statements.{first_row, first_rows, by_its_id, laid_out, find_of_id, find_of_id_is, find_one_of_id, find_one_of_id_is, find_some_of_id, find_some_of_id_is, list_versions, list_versions_is}
 use Rattle.reg_tables.proofs.TableLines.{all_if_each}
 use Rattle.reg_tables.proofs.TableReads.{first_shown}
 use Rattle.reg_tables.proofs.VersionLists.{same_cells, lists_versions, readable_versions}
@@ -57,7 +60,7 @@ keyed_lines es found is lines read = same_cells keyed_cells distinct_keyed (map 
 
 -- ---- by the id
 
-same_id : (a b : ℕ) → is_eq (nat_cmp a b) ≡ (a == b)
+pub same_id : (a b : ℕ) → is_eq (nat_cmp a b) ≡ (a == b)
 same_id a b = elim (cases_Bool (is_eq (nat_cmp a b))) [
   | inl same ↦ same ∙ sym ((unsigned_Decides a b).1 (same_key nat_cmp number_order a b same))
   | inr other ↦ other ∙ sym (false_from_ne_true _ (λ same. both_ways _ other (tied_key nat_cmp number_order a b ((unsigned_Decides a b).0 same))))
@@ -111,7 +114,7 @@ module _ (old new : State) (schema : Schema) (contents : Contents) (h : HoldsIn 
 
   is_of : (row : Row) → Has found row → IsOf row
   is_of row there =
-      let o = has_mapped (λ (o : Output). o.1) answer.ordered row (has_taken (map (λ (o : Output). o.1) answer.ordered) row (subst (λ l. Has l row) answer.shown there)) in
+      let o = has_mapped (λ (o : Output). o.1) answer.ordered row (has_taken 1 (map (λ (o : Output). o.1) answer.ordered) row (subst (λ l. Has l row) answer.shown there)) in
       let r = ordered_has by_its_id (Int (pos id) ∷ []) 2 find_one_of_id.shown [] first_row (overlay old.now.trees []) found answer o.0 o.1 in
       let e = h.versions.sound r.0 (subst (λ l. Has l r.0) (with_nothing old.now.trees 2) r.1) in
       ((e.0, e.1), e.2, (unsigned_Decides e.1.id id).0 (sym (by_entry_id id r.0 (e.0, e.1) e.3) ∙ r.2), o.2 ∙ ap (λ (p : Output). p.1) r.3 ∙ whole r.0 (e.0, e.1) e.3)
@@ -140,3 +143,68 @@ module _ (old new : State) (schema : Schema) (contents : Contents) (h : HoldsIn 
 
   pub readable_one : AreReadable contents → All IsReadableKeyed found
   readable_one readable = all_if_each IsReadableKeyed found (λ row there. let it = is_of row there in subst IsReadableKeyed (sym it.3) (can_be_held it.0 (readable.versions it.0.0 it.0.1 it.1)))
+
+-- ---- some of the id, and all where they are few
+
+module _ (old new : State) (schema : Schema) (contents : Contents) (h : HoldsIn schema old.now contents) (is_layout : IsLayout schema) (found : List Row) (id : ℕ) (shown : Shown find_some_of_id.sql (Int (pos id) ∷ []) old new found) where
+  some_answer : IsAnswer (body_of find_some_of_id) (overlay old.now.trees []) (Int (pos id) ∷ []) found
+  some_answer = answered find_some_of_id (Int (pos id) ∷ []) old new (find_some_of_id_is old.now.schema (laid_out h is_layout)) found shown
+
+  abbrev all_shown : List Row
+  all_shown = map (λ (o : Output). o.1) some_answer.ordered
+
+  abbrev has_id : KeyedVersion → Bool
+  has_id e = e.1.id == id
+
+  some_is_of : (row : Row) → Has found row → (e : KeyedVersion) × Has (id_versions id contents) e × (row ≡ keyed_cells e)
+  some_is_of row there =
+      let o = has_mapped (λ (o : Output). o.1) some_answer.ordered row (has_taken 33 all_shown row (subst (λ l. Has l row) some_answer.shown there)) in
+      let r = ordered_has by_its_id (Int (pos id) ∷ []) 2 find_some_of_id.shown [] first_rows (overlay old.now.trees []) found some_answer o.0 o.1 in
+      let e = h.versions.sound r.0 (subst (λ l. Has l r.0) (with_nothing old.now.trees 2) r.1) in (
+        (e.0, e.1),
+        has_kept has_id (entries contents.versions) (e.0, e.1) (got_entry version_cmp version_order contents.versions e.0 e.1 e.2) (sym (by_entry_id id r.0 (e.0, e.1) e.3) ∙ r.2),
+        o.2 ∙ ap (λ (p : Output). p.1) r.3 ∙ whole r.0 (e.0, e.1) e.3,
+      )
+
+  few_are_all : length found < most → (e : KeyedVersion) → Has (id_versions id contents) e → Has found (keyed_cells e)
+  few_are_all few e there =
+      let kept = has_filtered has_id (entries contents.versions) e there in
+      let r = h.versions.complete e.0 e.1 (entry_got version_cmp version_order contents.versions e kept.0) in
+      let o = has_ordered by_its_id (Int (pos id) ∷ []) 2 find_some_of_id.shown [] first_rows (overlay old.now.trees []) found some_answer r.0 (subst (λ l. Has l r.0) (sym (with_nothing old.now.trees 2)) r.1) (by_entry_id id r.0 e r.2 ∙ kept.1) in
+      let all : found ≡ all_shown = some_answer.shown ∙ all_taken 33 all_shown (subst (λ (l : List Row). length l < most) some_answer.shown few) in
+      let made : Row = column r.0 1 ∷ column r.0 2 ∷ column r.0 3 ∷ column r.0 4 ∷ [] in
+      subst (Has found) (whole r.0 e r.2) (subst (λ (l : List Row). Has l made) (sym all) (maps_had (λ (o : Output). o.1) some_answer.ordered _ o))
+
+  pub some_of_id : (lines : List ListedVersion) → map (λ (row : Row). column row 0 ∷ column row 1 ∷ column row 2 ∷ column row 3 ∷ []) found ≡ map (λ (line : ListedVersion). keyed_cells (keyed line)) lines → AreOfId id contents (map keyed lines)
+  some_of_id lines read = record {
+    each = λ version there. contains_had (id_versions id contents) version (each version (has_contained (map keyed lines) version there));
+    all = λ few version there. contains_had (map keyed lines) version (all (subst (λ n. n < most) count few) version (has_contained (id_versions id contents) version there));
+  }
+    where
+      columns : Row → Row
+      columns row = column row 0 ∷ column row 1 ∷ column row 2 ∷ column row 3 ∷ []
+
+      cells : ListedVersion → Row
+      cells line = keyed_cells (keyed line)
+
+      count : length (map keyed lines) ≡ length found
+      count = length-map lines keyed ∙ sym (length-map lines cells) ∙ ap length (sym read) ∙ length-map found columns
+
+      each : (version : KeyedVersion) → Has (map keyed lines) version → Has (id_versions id contents) version
+      each version there =
+          let line = has_mapped keyed lines version there in
+          let row = has_mapped columns found (cells line.0) (subst (λ l. Has l (cells line.0)) (sym read) (maps_had cells lines line.0 line.1)) in
+          let it = some_is_of row.0 row.1 in
+          subst (Has (id_versions id contents)) (distinct_keyed it.0 (keyed line.0) (sym (row.2 ∙ ap columns it.2)) ∙ sym line.2) it.1
+
+      all : length found < most → (version : KeyedVersion) → Has (id_versions id contents) version → Has (map keyed lines) version
+      all few version there =
+          let row = subst (λ l. Has l (keyed_cells version)) read (maps_had columns found (keyed_cells version) (few_are_all few version there)) in
+          let line = has_mapped cells lines (keyed_cells version) row in
+          subst (Has (map keyed lines)) (sym (distinct_keyed version (keyed line.0) line.2)) (maps_had keyed lines line.0 line.1)
+
+  pub readable_some : AreReadable contents → All IsReadableKeyed found
+  readable_some readable = all_if_each IsReadableKeyed found (λ row there.
+      let it = some_is_of row there in
+      let kept = has_filtered has_id (entries contents.versions) it.0 it.1 in
+      subst IsReadableKeyed (sym it.2) (can_be_held it.0 (readable.versions it.0.0 it.0.1 (entry_got version_cmp version_order contents.versions it.0 kept.0))))

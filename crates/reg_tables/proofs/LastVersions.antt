@@ -1,9 +1,9 @@
 -- The last version that passes, as a query from the greatest on shows it.
-use Rattle.std.proofs.Common.{◌≡◌, ◌&&◌, ℕ, pos, List, [], ◌∷◌, map, take, reverse, filter, All, Bool, true, false, not, cond, Option, None, Some, slice_get, Less, refl, sym, ap, subst, ◌∙◌}
-use Rattle.std.specs.Prelude.{bytes_eq, IsUtf8, ◌<◌, ◌^◌, option_map}
+use Rattle.std.proofs.Common.{◌≡◌, ◌&&◌, ◌==◌, ℕ, pos, List, [], ◌∷◌, map, take, reverse, filter, All, Bool, true, false, not, cond, Option, None, Some, slice_get, Less, refl, sym, ap, subst, ◌∙◌}
+use Rattle.std.specs.Prelude.{◌||◌, bytes_eq, IsUtf8, ◌<◌, ◌^◌, option_map}
 use Rattle.std.specs.List.{AllByRecursion, last_or}
 use Rattle.std.specs.FinMap.{entries, get}
-use Rattle.std.specs.Ordering.{is_eq, int_cmp}
+use Rattle.std.specs.Ordering.{is_eq, is_le, int_cmp, nat_cmp}
 use mathlib.Core.List.{reverse_aux}
 use Rattle.std.proofs.lemmas.Option.{slice_get-map}
 use Rattle.std.proofs.lemmas.Simd.{map-map}
@@ -23,15 +23,16 @@ use Rattle.sqlite_value.specs.declared.keys.Key.{Key}
 use Rattle.sqlite_value.proofs.OrderLemmas.{value_cmp-Int, value_cmp-Text}
 use Rattle.reg_tables.specs.Layout.{IsLayout}
 use Rattle.reg_tables.specs.TableMaps.{IsEntry, ShowsMap}
-use Rattle.reg_tables.specs.Contents.{text_cmp, version_cmp, version_key_cells, version_form, Contents, AreReadable, HoldsIn}
+use Rattle.reg_tables.specs.Contents.{text_cmp, version_cmp, version_key_cells, version_form, flag_cell, Contents, AreReadable, HoldsIn}
 use Rattle.reg_tables.specs.Entries.{NumberedVersion, numbered, numbered_cells, subject_versions, IsReadableNumbered}
 use Rattle.reg_tables.specs.declared.listed.SubjectVersion.{SubjectVersion}
 use Rattle.reg_tables.specs.Inside.Statements.{ordered_query, TableQuery, body_of, IsQuery}
-use Rattle.reg_tables.proofs.KeyedTables.{version_order, with_nothing, answered}
+use Rattle.reg_tables.proofs.KeyedTables.{same_pos, version_order, with_nothing, answered}
+use Rattle.reg_tables.proofs.KeyedLists.{same_id}
 use Rattle.reg_tables.proofs.ListMembers.{has_mapped, has_reversed, reversed_has, has_taken}
 use Rattle.reg_tables.proofs.OrderedQueries.{entries_rise, entry_got, got_entry, in_order_as}
 use Rattle.reg_tables.proofs.Queries.{passes}
-use Rattle.reg_tables.proofs.Statements.{from_greatest, first_row, laid_out, by_live_key, find_last_version, find_last_version_is, find_last_live, find_last_live_is}
+use Rattle.reg_tables.proofs.Statements.{from_greatest, first_row, laid_out, by_live_key, find_last_version, find_last_version_is, find_last_live, find_last_live_is, by_shown_id, find_last_with_id, find_last_with_id_is}
 use Rattle.reg_tables.proofs.TableLines.{all_if_each}
 use Rattle.reg_tables.proofs.VersionLists.{Entry, ranks, distinct_numbered, same_text, entry_cells, by_subject, entry_shown, readable_entry}
 
@@ -109,7 +110,7 @@ module _ (q : TableQuery) (ordered : body_of q ≡ ordered_query 2 q.tests q.sho
   -- of readable contents what is shown is readable
   pub readable_last : (is_readable : Row → Type 0) → ((e : Entry) → IsUtf8 e.0.0 × (e.0.1 < 2 ^ 32) × (e.1.id < 2 ^ 32) → is_readable (cells e)) → AreReadable contents → All is_readable found
   readable_last is_readable can readable = all_if_each is_readable found (λ x there.
-      let e = has_mapped cells (reverse passed) x (has_taken (map cells (reverse passed)) x (subst (λ l. Has l x) first_of_reversed there)) in
+      let e = has_mapped cells (reverse passed) x (has_taken 1 (map cells (reverse passed)) x (subst (λ l. Has l x) first_of_reversed there)) in
       let kept = has_filtered p (entries contents.versions) e.0 (has_reversed passed e.0 e.1) in
       subst is_readable (sym e.2) (can e.0 (readable.versions e.0.0 e.0.1 (entry_got version_cmp version_order contents.versions e.0 kept.0))))
 
@@ -144,6 +145,31 @@ by_live_subject subject row e is =
     truth true false = refl
     truth false true = refl
     truth false false = refl
+
+-- and by its id
+by_shown_subject : (subject : List ℕ) (id : ℕ) (deleted : Bool) (row : Row) (e : Entry) → IsEntry version_form row e.0 e.1
+    → passes by_shown_id (Text subject ∷ Int (pos id) ∷ flag_cell deleted ∷ []) row ≡ (bytes_eq e.0.0 subject && ((deleted || not e.1.deleted) && (e.1.id == id)))
+unfolding binary
+by_shown_subject subject id deleted row e is =
+    let flag = cond e.1.deleted (pos 1) (pos 0) in
+    let most = cond deleted (pos 1) (pos 0) in
+    let key : column row 1 ≡ Text e.0.0 = (let k = is.0 in cc) in
+    let its : column row 3 ≡ Int (pos e.1.id) = (let v = is.1 in cc) in
+    let mark : column row 4 ≡ Int flag = (let v = is.1 in cc) in
+    rw (key, value_cmp-Text e.0.0 subject, its, value_cmp-Int (pos e.1.id) (pos id), same_pos e.1.id id, mark, value_cmp-Int flag most) (truth (is_eq (text_cmp e.0.0 subject)) (is_eq (nat_cmp e.1.id id)) deleted e.1.deleted)
+    ∙ (λ i. same_text e.0.0 subject i && ((deleted || not e.1.deleted) && same_id e.1.id id i))
+  where
+    truth : (a b s d : Bool)
+        → (is_true (from_truth (Some a)) && (is_true (from_truth (Some b)) && (is_true (from_truth (Some (is_le (int_cmp (cond d (pos 1) (pos 0)) (cond s (pos 1) (pos 0)))))) && true))) ≡ (a && ((s || not d) && b))
+    truth false b s d = refl
+    truth true false true true = refl
+    truth true false true false = refl
+    truth true false false true = refl
+    truth true false false false = refl
+    truth true true true true = refl
+    truth true true true false = refl
+    truth true true false true = refl
+    truth true true false false = refl
 
 module _ (old new : State) (schema : Schema) (contents : Contents) (h : HoldsIn schema old.now contents) (is_layout : IsLayout schema) (subject : List ℕ) (found : List Row) where
   abbrev of_subject : Entry → Bool
@@ -180,3 +206,26 @@ module _ (old new : State) (schema : Schema) (contents : Contents) (h : HoldsIn 
 
     pub readable_last_live : AreReadable contents → All IsReadableNumbered found
     readable_last_live = readable_last find_last_live refl (Text subject ∷ []) old new it found shown contents h.versions of_live (by_live_subject subject) entry_cells entry_shown IsReadableNumbered readable_entry
+
+  module _ (id : ℕ) (deleted : Bool) (shown : Shown find_last_with_id.sql (Text subject ∷ Int (pos id) ∷ flag_cell deleted ∷ []) old new found) where
+    abbrev has_it : NumberedVersion → Bool
+    has_it version = (deleted || not version.1.deleted) && (version.1.id == id)
+
+    abbrev of_it : Entry → Bool
+    of_it e = of_subject e && has_it (entry_version e)
+
+    that : IsQuery find_last_with_id old.now.schema
+    that = find_last_with_id_is old.now.schema (laid_out h is_layout)
+
+    its_entries : filter has_it (subject_versions subject contents) ≡ map entry_version (filter of_it (entries contents.versions))
+    its_entries = filter-map has_it entry_version (filter of_subject (entries contents.versions)) ∙ ap (map entry_version) (filter_both (λ (e : Entry). has_it (entry_version e)) of_subject (entries contents.versions))
+
+    pub last_line_with_id : (line : Option SubjectVersion) → option_map line_columns (slice_get found 0) ≡ option_map (λ (line : SubjectVersion). numbered_cells (numbered line)) line
+        → option_map numbered line ≡ last_or None (filter has_it (subject_versions subject contents))
+    last_line_with_id line read =
+        numbered_line (filter of_it (entries contents.versions)) found
+        (shows_last find_last_with_id refl (Text subject ∷ Int (pos id) ∷ flag_cell deleted ∷ []) old new that found shown contents h.versions of_it (by_shown_subject subject id deleted) entry_cells entry_shown) line read
+        ∙ ap (last_or None) (sym its_entries)
+
+    pub readable_last_with_id : AreReadable contents → All IsReadableNumbered found
+    readable_last_with_id = readable_last find_last_with_id refl (Text subject ∷ Int (pos id) ∷ flag_cell deleted ∷ []) old new that found shown contents h.versions of_it (by_shown_subject subject id deleted) entry_cells entry_shown IsReadableNumbered readable_entry

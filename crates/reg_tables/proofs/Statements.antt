@@ -267,6 +267,44 @@ pub find_one_of_id_is : (schema : Schema) → IsLayout schema → IsQuery find_o
 unfolding understood everything
 find_one_of_id_is = in_layouts (IsQuery find_one_of_id) (λ tables indexes. record { command = record { is = refl; plain = (refl, refl) }; unlisted = refl })
 
+-- LIMIT 33
+abbrev pub first_rows : Term
+first_rows = lit (Int (pos 33))
+
+abbrev pub find_some_of_id : TableQuery
+find_some_of_id = record {
+  sql = codes "SELECT subject, version, id, deleted FROM versions WHERE id = ?1 LIMIT 33";
+  tree = 2;
+  tests = by_its_id;
+  shown = col 1 1 ∷ col 1 2 ∷ col 1 3 ∷ col 1 4 ∷ [];
+  names = codes "subject" ∷ codes "version" ∷ codes "id" ∷ codes "deleted" ∷ [];
+  order = [];
+  limit = first_rows;
+}
+
+pub find_some_of_id_is : (schema : Schema) → IsLayout schema → IsQuery find_some_of_id schema
+unfolding understood everything
+find_some_of_id_is = in_layouts (IsQuery find_some_of_id) (λ tables indexes. record { command = record { is = refl; plain = (refl, refl) }; unlisted = refl })
+
+-- the subject and the id are the first two parameters, and the mark is no greater than the third
+abbrev pub by_shown_id : List Term
+by_shown_id = op2 (Compare Eq Binary) (col 1 1) (col 0 0) ∷ op2 (Compare Eq Binary) (col 1 3) (col 0 1) ∷ op2 (Compare Le Binary) (col 1 4) (col 0 2) ∷ []
+
+abbrev pub find_last_with_id : TableQuery
+find_last_with_id = record {
+  sql = codes "SELECT version, id, deleted FROM versions WHERE subject = ?1 AND id = ?2 AND deleted <= ?3 ORDER BY subject DESC, version DESC LIMIT 1";
+  tree = 2;
+  tests = by_shown_id;
+  shown = col 1 2 ∷ col 1 3 ∷ col 1 4 ∷ [];
+  names = codes "version" ∷ codes "id" ∷ codes "deleted" ∷ [];
+  order = from_greatest;
+  limit = first_row;
+}
+
+pub find_last_with_id_is : (schema : Schema) → IsLayout schema → IsQuery find_last_with_id schema
+unfolding understood everything
+find_last_with_id_is = in_layouts (IsQuery find_last_with_id) (λ tables indexes. record { command = record { is = refl; plain = (refl, refl) }; unlisted = refl })
+
 abbrev pub list_versions : TableQuery
 list_versions = record { sql = codes "SELECT subject, version, id, deleted FROM versions ORDER BY subject, version"; tree = 2; tests = []; shown = col 1 1 ∷ col 1 2 ∷ col 1 3 ∷ col 1 4 ∷ []; names = codes "subject" ∷ codes "version" ∷ codes "id" ∷ codes "deleted" ∷ []; order = in_order; limit = all_rows }
 

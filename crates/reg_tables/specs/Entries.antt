@@ -1,6 +1,7 @@
 -- Rows of `versions` as a read answers them.
-use Rattle.std.specs.Prelude.{◌≡◌, ℕ, ◌<◌, ◌^◌, pos, List, ◌∷◌, map, filter, bytes_eq, ◌==◌, string_bytes, IsUtf8}
+use Rattle.std.specs.Prelude.{◌≡◌, ℕ, ◌<◌, ◌^◌, pos, List, ◌∷◌, length, map, filter, bytes_eq, ◌==◌, string_bytes, IsUtf8}
 use Rattle.std.specs.FinMap.{entries}
+use Rattle.std.specs.List.{Contains}
 use Rattle.sqlite.specs.declared.types.Value.TheVariants.{Int, Text}
 use Rattle.sqlite.specs.Order.{Row}
 use Rattle.reg_tables.specs.declared.versions.VersionEntry.{VersionEntry}
@@ -32,6 +33,15 @@ id_versions id contents = filter (λ entry. entry.1.id == id) (entries contents.
 
 abbrev pub keyed : ListedVersion → KeyedVersion
 keyed line = ((string_bytes line.subject, line.number), record { id = line.id; deleted = line.deleted })
+
+-- so many versions of an id are told at most
+abbrev pub most : ℕ
+most = 33
+
+-- these are versions of the id, in any order, and all that it has where they are fewer than `most`
+pub record AreOfId (id : ℕ) (contents : Contents) (versions : List KeyedVersion) : Type 0 where
+  pub each : (version : KeyedVersion) → Contains versions version → Contains (id_versions id contents) version
+  pub all : length versions < most → (version : KeyedVersion) → Contains (id_versions id contents) version → Contains versions version
 
 -- ---- rows that a line holds, as a query shows them
 

@@ -23,6 +23,7 @@ mod statement;
 mod text_lines;
 mod texts;
 mod versions;
+mod with_id;
 
 pub use declared::{has_layout, has_no_tables, is_unindexed};
 pub use kept::{KeptReply, keep_reply, kept_reply};
@@ -40,3 +41,4 @@ pub use meta::{global_level, set_global};
 pub use text_lines::{text_ids, texts_between};
 pub use texts::{id_of, last_id, put_text, text_of};
 pub use versions::{VersionEntry, drop_version, mark_deleted, put_version, version_of};
+pub use with_id::{MOST, last_version_with_id, some_versions_of_id};
