@@ -32,7 +32,7 @@ no_rows rows e = nil_from_length rows.items (sym rows.ok.0 ∙ is_zero rows.len 
 pub some_rows : (rows : Vec Row Global) → (vec_len rows == 0) ≡ false → rows.items ≢ []
 some_rows rows e none = both_ways _ e (ap (λ n. n == 0) (rows.ok.0 ∙ ap length none))
 
-map_map : {A B C : Type 0} (f : A → B) (h : B → C) (o : Option A) → option_map (λ x. h (f x)) o ≡ option_map h (option_map f o)
+pub map_map : {A B C : Type 0} (f : A → B) (h : B → C) (o : Option A) → option_map (λ x. h (f x)) o ≡ option_map h (option_map f o)
 map_map f h None = refl
 map_map f h (Some x) = refl
 

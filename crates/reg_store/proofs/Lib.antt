@@ -20,6 +20,8 @@ pub mod Deletions
 pub mod ReadLemmas
 pub mod RowLemmas
 pub mod ChosenLemmas
+pub mod KnownLemmas
+pub mod FewLemmas
 pub mod ViewTexts
 pub mod ListingLemmas
 pub mod Behind

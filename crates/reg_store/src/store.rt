@@ -9,6 +9,7 @@ mod behind;
 mod chosen;
 mod cursor;
 mod few;
+mod known;
 mod lent;
 mod levels;
 mod lines;

@@ -1,6 +1,6 @@
 -- What a view is read by.
-use Rattle.std.specs.Prelude.{◌≡◌, ◌≢◌, ◌⊎◌, ℕ, Bool, IsTrue, List, [], ◌∷◌, length, String, string_bytes, Option, None, Some, option_map, option_and_then}
-use Rattle.std.specs.List.{last_or}
+use Rattle.std.specs.Prelude.{◌≡◌, ◌≢◌, ◌⊎◌, ◌<◌, ◌≤◌, ◌&&◌, ◌||◌, ℕ, Bool, true, false, not, bytes_eq, IsTrue, List, All, length, String, string_bytes, Option, None, Some, option_map, option_and_then}
+use Rattle.std.specs.List.{Contains}
 use Rattle.std.specs.BTreeMap as tree
 use Rattle.std.specs.BTreeMap.{BTreeMap}
 use Rattle.std.specs.declared.alloc.Global.{Global}
@@ -9,13 +9,13 @@ use Rattle.reg_core.specs.declared.command.Command.{Command}
 use Rattle.reg_core.specs.declared.decision.View.{View}
 use Rattle.reg_core.specs.Subjects.{is_subject}
 use Rattle.reg_core.specs.Registry.{Registry, Row, Version, Schemas}
-use Rattle.reg_core.specs.Rows.{shown_rows, known_id, text_at}
+use Rattle.reg_core.specs.Rows.{known_id, text_at}
 use Rattle.reg_core.specs.Machine.{subject_of, schema_sent, mode_for}
 use Rattle.reg_core.specs.Needs.{AnswerAs, rows_asked, rows_needed, needs_levels, needs_count}
 use Rattle.reg_core.specs.Views.{level_of_view, mode_seen}
 use Rattle.reg_tables.specs.declared.listed.ListedVersion.{ListedVersion}
 use Rattle.reg_tables.specs.Contents.{VersionRow}
-use Rattle.reg_tables.specs.Entries.{NumberedVersion, KeyedVersion}
+use Rattle.reg_tables.specs.Entries.{NumberedVersion, KeyedVersion, most}
 
 -- ---- rows
 
@@ -30,9 +30,25 @@ row_spelled entry = (entry.0, version_spelled entry.1)
 abbrev pub row_numbered : List ℕ → NumberedVersion → Row
 row_numbered subject entry = ((subject, entry.0), version_spelled entry.1)
 
--- all of these versions are there, or the last one of those that are shown, which has the id
-abbrev pub TellId : Bool → ℕ → List Row → List Row → Type 0
-TellId deleted id seen all = (seen ≡ all) ⊎ ((row : Row) × (seen ≡ row ∷ []) × (last_or None (shown_rows deleted all) ≡ Some row) × (row.1.id ≡ id))
+-- these versions are some of those, in any order, and all of them where they are fewer than `most`
+pub record AreSome (rows all : List Row) : Type 0 where
+  pub each : (row : Row) → Contains rows row → Contains all row
+  pub few : length rows < most → (row : Row) → Contains all row → Contains rows row
+
+-- the version is of the subject, and is shown
+abbrev pub is_shown_of : Bool → List ℕ → Row → Bool
+is_shown_of deleted subject row = bytes_eq row.0.0 subject && (deleted || not row.1.deleted)
+
+-- among these versions it is the last one of the subject that is shown, if there is one
+abbrev pub IsLastShown : Bool → List ℕ → List Row → Option Row → Type 0
+IsLastShown deleted subject rows None = All (λ row. is_shown_of deleted subject row ≡ false) rows
+IsLastShown deleted subject rows (Some last) =
+    Contains rows last × (is_shown_of deleted subject last ≡ true) × All (λ row. is_shown_of deleted subject row ≡ true → row.0.1 ≤ last.0.1) rows
+
+-- the line with the greater number, if there are two
+abbrev pub IsLaterOf : Option ListedVersion → ListedVersion → ListedVersion → Type 0
+IsLaterOf None line result = result ≡ line
+IsLaterOf (Some before) line result = ((result ≡ before) × (line.number ≤ before.number)) ⊎ ((result ≡ line) × (before.number ≤ line.number))
 
 -- this project's choice: the text in the line's first column is a subject
 abbrev pub HasSubject : ListedVersion → Type 0

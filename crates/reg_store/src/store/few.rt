@@ -1,20 +1,22 @@
 //! Few versions of a subject in place of all: those that tell what a command answers and changes.
 
-ghost use Rattle.std.specs.Prelude.{◌≡◌, ◌++◌, ◌∷◌, [], None, Some, IfOk, false, if◌then◌else◌};
+ghost use Rattle.std.specs.Prelude.{◌≡◌, ◌++◌, ◌∷◌, [], ℕ, Option, Some, IfOk, false, if◌then◌else◌};
 ghost use Rattle.reg_core.specs.declared.level.Level.{Level};
 ghost use Rattle.reg_core.specs.declared.number.Choice.TheVariants.{Latest};
 ghost use Rattle.reg_core.specs.Compatibility.{names_all, named_versions};
 ghost use Rattle.reg_core.specs.DeletionCommands.{row_to_delete};
 ghost use Rattle.reg_core.specs.ReadCommands.{looked_up};
+ghost use Rattle.reg_core.specs.RegisterCommands.{is_among};
 ghost use Rattle.reg_core.specs.Rows.{live_rows, rows_of, shown_rows};
 ghost use Rattle.reg_core.specs.Needs.{RegistersAs};
 ghost use Rattle.reg_tables.specs.Entries.{numbered};
 ghost use Rattle.reg_store.specs.Inside.Reads.{MayRead, Reads};
-ghost use Rattle.reg_store.specs.Inside.Viewing.{TellId, row_numbered};
+ghost use Rattle.reg_store.specs.Inside.Viewing.{row_numbered};
 
 use crate::error::StoreError;
 use crate::idle::Idle;
 use crate::store::chosen::{chosen_rows, last_line, last_rows, numbered_rows, row_list};
+use crate::store::known::line_with_id;
 use crate::store::rows::{push_row, subject_rows};
 use reg_core::{Choice, Level, OutOfMemory, Row, Subject};
 use reg_tables::SubjectVersion;
@@ -79,7 +81,8 @@ pub(crate) fn compared_rows<S: Alter>(
     last_rows(alloc, db, subject, false)
 }
 
-/// The versions that tell of a schema that is registered what all tell.
+/// The versions that tell of a schema that is registered what all tell: a live one that has the id,
+/// or, where none has it, those that it may come after.
 pub(crate) fn registered_rows<S: Alter>(
     alloc: Global,
     db: &mut Idle<S>,
@@ -91,7 +94,24 @@ pub(crate) fn registered_rows<S: Alter>(
         RegistersAs level known rows.items (rows_of was.registry subject.now)) }
 {
     match known {
-        Some(id) => last_or_all(alloc, db, subject, false, id),
+        Some(id) => again_rows(alloc, db, subject, level, id),
+        None => added_rows(alloc, db, subject, level),
+    }
+}
+
+/// The same where a schema has the id.
+fn again_rows<S: Alter>(
+    alloc: Global,
+    db: &mut Idle<S>,
+    subject: &Subject,
+    level: Level,
+    id: u32,
+) -> Result<Vec<Row>, StoreError>
+    ensures { Reads db.old db.new result (λ was rows.
+        RegistersAs level (Some id) rows.items (rows_of was.registry subject.now)) }
+{
+    match line_with_id(alloc, db, subject, false, id)? {
+        Some(line) => Ok(row_list(alloc, subject, Some(line))?),
         None => added_rows(alloc, db, subject, level),
     }
 }
@@ -109,13 +129,13 @@ pub(crate) fn looked_up_rows<S: Alter>(
         ≡ looked_up known (shown_rows deleted (rows_of was.registry subject.now))) }
 {
     match known {
-        Some(id) => last_or_all(alloc, db, subject, deleted, id),
+        Some(id) => found_rows(alloc, db, subject, deleted, id),
         None => last_rows(alloc, db, subject, deleted),
     }
 }
 
-/// The last version of the subject that is shown, where it has the id; else all.
-fn last_or_all<S: Alter>(
+/// The last version of the subject that is shown and has the id; else the last one that is shown.
+fn found_rows<S: Alter>(
     alloc: Global,
     db: &mut Idle<S>,
     subject: &Subject,
@@ -123,24 +143,26 @@ fn last_or_all<S: Alter>(
     id: u32,
 ) -> Result<Vec<Row>, StoreError>
     ensures { Reads db.old db.new result (λ was rows.
-        TellId deleted id rows.items (rows_of was.registry subject.now)) }
+        looked_up (Some id) (shown_rows deleted rows.items)
+        ≡ looked_up (Some id) (shown_rows deleted (rows_of was.registry subject.now))) }
 {
-    match last_line(db, subject, deleted)? {
-        Some(line) if line.id == id => Ok(row_list(alloc, subject, Some(line))?),
-        _ => subject_rows(alloc, db, subject),
+    match line_with_id(alloc, db, subject, deleted, id)? {
+        Some(line) => Ok(row_list(alloc, subject, Some(line))?),
+        None => last_rows(alloc, db, subject, deleted),
     }
 }
 
-/// The versions that a schema that has no id is registered by: the last one and the last live one,
-/// or all where the level compares with all.
+/// The versions that a schema that no live one has is registered by: the last one and the last live
+/// one, or all where the level compares with all.
 fn added_rows<S: Alter>(
     alloc: Global,
     db: &mut Idle<S>,
     subject: &Subject,
     level: Level,
 ) -> Result<Vec<Row>, StoreError>
-    ensures { Reads db.old db.new result (λ was rows.
-        RegistersAs level None rows.items (rows_of was.registry subject.now)) }
+    ensures { Reads db.old db.new result (λ was rows. (known : Option ℕ)
+        → is_among known (live_rows (rows_of was.registry subject.now)) ≡ false
+        → RegistersAs level known rows.items (rows_of was.registry subject.now)) }
 {
     if level.names_all() {
         return subject_rows(alloc, db, subject);
@@ -154,8 +176,9 @@ fn end_rows<S: Alter>(
     db: &mut Idle<S>,
     subject: &Subject,
 ) -> Result<Vec<Row>, StoreError>
-    ensures { Reads db.old db.new result (λ was rows. (level : Level) → names_all level ≡ false
-        → RegistersAs level None rows.items (rows_of was.registry subject.now)) }
+    ensures { Reads db.old db.new result (λ was rows. (level : Level) (known : Option ℕ)
+        → names_all level ≡ false → is_among known (live_rows (rows_of was.registry subject.now)) ≡ false
+        → RegistersAs level known rows.items (rows_of was.registry subject.now)) }
 {
     let live = last_rows(alloc, db, subject, false)?;
     match last_line(db, subject, true)? {

@@ -1,19 +1,16 @@
-use Rattle.std.proofs.Common.{◌≡◌, ◌∙◌, inl, inr, ℕ, None, Some, refl, sym, ap, subst}
+use Rattle.std.proofs.Common.{◌≡◌, ◌∙◌, ℕ, None, refl, sym, ap, subst}
 use Rattle.std.specs.Prelude.{Option}
 use Rattle.reg_core.specs.ReadCommands.{looked_up}
 use Rattle.reg_core.specs.Rows.{rows_of, shown_rows}
-use Rattle.reg_core.proofs.FewRows.{looks_up_last, looks_up_none}
+use Rattle.reg_core.proofs.FewRows.{looks_up_none}
 use Rattle.reg_store.proofs.ReadLemmas.{retell}
 use Rattle.reg_store.proofs.store.few.looked_up_rows.Goals as goal
 
 pub returns-in-Some : goal.returns-in-Some
 returns-in-Some g c =
-    retell c.last_or_all.ensures (λ was over rows told.
+    retell c.found_rows.ensures (λ was over rows told.
     let all = rows_of was.registry c.args.subject.now in
-    subst (λ (known : Option ℕ). looked_up known (shown_rows c.args.deleted rows.items) ≡ looked_up known (shown_rows c.args.deleted all)) (sym c.in-Some.is) (elim told [
-      | inl is ↦ ap (λ items. looked_up (Some c.in-Some.id) (shown_rows c.args.deleted items)) is
-      | inr last ↦ looks_up_last c.args.deleted c.in-Some.id rows.items all last.0 last.1 last.2 last.3
-    ]))
+    subst (λ (known : Option ℕ). looked_up known (shown_rows c.args.deleted rows.items) ≡ looked_up known (shown_rows c.args.deleted all)) (sym c.in-Some.is) told)
 
 pub returns-in-None : goal.returns-in-None
 returns-in-None g c =

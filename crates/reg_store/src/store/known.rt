@@ -1,0 +1,100 @@
+//! The last version of a subject that has an id.
+
+ghost use Rattle.std.specs.Prelude.{◌≡◌, None, option_map, map};
+ghost use Rattle.std.specs.FinMap.{entries};
+ghost use Rattle.std.specs.List.{last_or};
+ghost use Rattle.reg_core.specs.Rows.{rows_of, rows_with, shown_rows};
+ghost use Rattle.reg_tables.specs.Entries.{keyed, numbered};
+ghost use Rattle.reg_store.specs.Inside.Reads.{Reads};
+ghost use Rattle.reg_store.specs.Inside.Viewing.{AreSome, IsLastShown, IsLaterOf, is_shown_of, row_numbered, row_spelled};
+
+use crate::error::StoreError;
+use crate::idle::Idle;
+use reg_core::Subject;
+use reg_tables::{ListedVersion, MOST, SubjectVersion, last_version_with_id, some_versions_of_id};
+use sqlite::Alter;
+use std::alloc::Global;
+
+/// The line of the last version of the subject that is shown and has the id, if there is one. Where
+/// few versions of all subjects have it, it is found among these, else among the subject's.
+pub(crate) fn line_with_id<S: Alter>(
+    alloc: Global,
+    db: &mut Idle<S>,
+    subject: &Subject,
+    deleted: bool,
+    id: u32,
+) -> Result<Option<SubjectVersion>, StoreError>
+    ensures { Reads db.old db.new result (λ was found.
+        option_map (λ line. row_numbered subject.now (numbered line)) found
+        ≡ last_or None (rows_with id (shown_rows deleted (rows_of was.registry subject.now)))) }
+{
+    let lines = lines_of_id(alloc, db, id)?;
+    if lines.len() < MOST {
+        return Ok(last_among(lines, subject, deleted));
+    }
+    line_of_subject(db, subject, deleted, id)
+}
+
+/// The lines of versions of the id: all that it has where they are fewer than `MOST`.
+fn lines_of_id<S: Alter>(
+    alloc: Global,
+    db: &mut Idle<S>,
+    id: u32,
+) -> Result<Vec<ListedVersion>, StoreError>
+    ensures { Reads db.old db.new result (λ was lines.
+        AreSome (map (λ line. row_spelled (keyed line)) lines.items) (rows_with id (entries was.registry.rows))) }
+{
+    Ok(some_versions_of_id(alloc, &mut db.conn, id)?)
+}
+
+/// The line that `line_with_id` tells, found among the subject's versions.
+fn line_of_subject<S: Alter>(
+    db: &mut Idle<S>,
+    subject: &Subject,
+    deleted: bool,
+    id: u32,
+) -> Result<Option<SubjectVersion>, StoreError>
+    ensures { Reads db.old db.new result (λ was found.
+        option_map (λ line. row_numbered subject.now (numbered line)) found
+        ≡ last_or None (rows_with id (shown_rows deleted (rows_of was.registry subject.now)))) }
+{
+    Ok(last_version_with_id(&mut db.conn, subject.as_str(), id, deleted)?)
+}
+
+/// The last of the lines that are of the subject and are shown, if there is one.
+fn last_among(lines: Vec<ListedVersion>, subject: &Subject, deleted: bool) -> Option<SubjectVersion>
+    ensures { IsLastShown deleted subject.now (map (λ line. row_spelled (keyed line)) lines.items)
+        (option_map (λ line. row_numbered subject.now (numbered line)) result) }
+{
+    let mut last = None;
+    for line in lines {
+        if is_shown_of(&line, subject, deleted) {
+            last = Some(later_of(last, line));
+        }
+    }
+    let Some(line) = last else {
+        return None;
+    };
+    Some(SubjectVersion {
+        number: line.number,
+        id: line.id,
+        deleted: line.deleted,
+    })
+}
+
+/// Whether the line is of the subject and is shown.
+fn is_shown_of(line: &ListedVersion, subject: &Subject, deleted: bool) -> bool
+    ensures { result ≡ is_shown_of deleted subject.now (row_spelled (keyed line.now)) }
+{
+    line.subject.as_str() == subject.as_str() && (deleted || !line.deleted)
+}
+
+/// The line with the greater number, if there are two.
+fn later_of(last: Option<ListedVersion>, line: ListedVersion) -> ListedVersion
+    ensures { IsLaterOf last line result }
+{
+    match last {
+        Some(before) if line.number <= before.number => before,
+        _ => line,
+    }
+}
