@@ -2,5 +2,6 @@
 
 mod deliveries;
 mod faults;
+mod plans;
 mod services;
 mod stores;
