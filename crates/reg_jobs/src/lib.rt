@@ -15,7 +15,7 @@ mod outcome;
 
 pub use job::{Opened, do_job, store_in};
 pub use line::report;
-pub use listening::serve_on;
+pub use listening::{serve_on, serve_with_clock};
 pub use listings::ListOutcome;
 pub use opening::{Opener, open_for};
 pub use outcome::Outcome;

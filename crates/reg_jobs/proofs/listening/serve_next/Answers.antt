@@ -6,4 +6,4 @@ pub returns-in_default-clause-session : goal.returns-in_default-clause-session
 returns-in_default-clause-session g c clean = Over-unaccepted (state_in c.args.service.now)
 
 pub returns-clause-session : goal.returns-clause-session
-returns-clause-session g c clean = Over-session _ _ _ _ _ _ c.serve.result (c.serve.ensures.session clean)
+returns-clause-session g c clean = Over-session _ _ _ _ _ _ c.serve-ended.result (c.serve-ended.ensures.session clean)

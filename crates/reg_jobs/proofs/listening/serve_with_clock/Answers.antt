@@ -1,0 +1,14 @@
+use Rattle.reg_service.specs.Services.{state_in}
+use Rattle.reg_jobs.proofs.ListeningLemmas.{Over-none, Over-next}
+use Rattle.reg_jobs.proofs.listening.serve_with_clock.Goals as goal
+
+pub loop-number-init : goal.loop-number-init
+loop-number-init g c = record { clean = λ h. h; served = λ h. Over-none (state_in c.args.service.now) }
+
+pub loop-number-preserved : goal.loop-number-preserved
+loop-number-preserved g c =
+    let inv = c.loop-number.invariant in
+    record {
+      clean = λ h. inv.clean (c.serve_next.ensures.clean h);
+      served = λ h. Over-next _ _ _ _ (inv.served (c.serve_next.ensures.clean h)) (c.serve_next.ensures.session h);
+    }
