@@ -2,7 +2,7 @@
 
 use crate::Unbegun;
 use crate::database::{FileDatabase, close, opened_database};
-use reg_jobs::{Outcome, Server, report, serve_on, store_in};
+use reg_jobs::{Outcome, Server, report, serve_with_clock, store_in};
 use reg_service::Service;
 use reg_store::Store;
 use sqlite::Connection;
@@ -18,7 +18,7 @@ fn listen(
     let mut service = Service::new(rt.alloc(), store);
     let fault = match TcpListener::bind(rt, (Ipv4Addr::LOCALHOST, server.port)) {
         Ok(listener) => {
-            serve_on(rt.alloc(), &listener, server.connections, &mut service);
+            serve_with_clock(rt.alloc(), rt, &listener, server.connections, &mut service);
             None
         }
         Err(_) => Some(Outcome::NotListening(server.port)),
