@@ -21,21 +21,16 @@ import shutil
 import sys
 import time
 
-sys.dont_write_bytecode = True
-EXAMPLES = os.path.dirname(os.path.abspath(__file__))
-sys.path.insert(0, f"{EXAMPLES}/../tests")
+from known import EXAMPLES, goes_on, known, parted, tables
 
 from harness.messages import CLOSED, are_answers, fault
 from harness.program import PROGRAM, Wrong, contents, differs, run, scratch, written
 from harness.reading import cases_of
 from harness.sessions import Run, runs_of
-from harness.tables import asked
 from harness.words import Scene
 
 BENCH, REFUSER = os.environ["BENCH"], os.environ["REFUSER"]
 MEMORY = (2, b"avroreg: out of memory\n")
-NO_REGISTRY = (2, b"avroreg: F is not a registry\n")
-LISTINGS = ("subjects", "versions", "schemas")
 
 # The benchmark's words, and how many of its requests for memory are refused: those of reading two schemas and of its
 # first calls, 3,778 when they were counted. It makes the same calls again and again until their time is measured.
@@ -91,50 +86,6 @@ def each_refusal(name, attempt, behind=0, most=None):
 
 
 # Sessions
-
-
-def parted(written):
-    """The whole answers at the front of the bytes, and what follows them."""
-    answers = []
-    while head := re.match(rb"HTTP/1\.1 (?:[^\r]+\r\n)+?Content-Length: (\d+)\r\n(?:[^\r]+\r\n)*\r\n", written):
-        end = head.end() + int(head[1])
-        if end > len(written):
-            break
-        answers.append(written[:end])
-        written = written[end:]
-    return answers, written
-
-
-def tables(folder, name):
-    """What a file and its log declare and hold, seen on a copy of both; nothing where there is no table."""
-    with scratch() as copied:
-        for it in (name, f"{name}-wal"):
-            if contents(folder, it) is not None:
-                shutil.copy(f"{folder}/{it}", copied)
-        found = asked(copied, name, "SELECT name FROM sqlite_schema WHERE type = 'table' ORDER BY name")
-        declared = [asked(copied, name, "SELECT type, name, sql FROM sqlite_schema ORDER BY name")] if found else []
-        return declared + [sorted(asked(copied, name, f"SELECT * FROM {it}")) for it in found]
-
-
-def listings(folder):
-    return [run(["list", "--db", "F", it], folder=folder).stdout for it in LISTINGS]
-
-
-class Known:
-    """What a run without refusals over a new file answers to messages, and what it leaves."""
-
-    def __init__(self, messages):
-        with scratch() as folder:
-            self.ran = run(["run", "--db", "F"], b"".join(messages), folder)
-            self.answers, rest = parted(self.ran.stdout)
-            if rest:
-                raise Wrong(f"without refusals, what was written ends inside an answer: {rest}")
-            self.tables, self.listings, self.file = tables(folder, "F"), listings(folder), contents(folder, "F")
-
-
-@functools.cache
-def known(messages):
-    return Known(messages)
 
 
 class Session:
@@ -197,30 +148,9 @@ class Session:
             # What was found of these very bytes before holds of them.
             bytes_left = (*served, contents(folder, "F"), contents(folder, "F-wal"))
             if bytes_left not in self.seen:
-                self.seen[bytes_left] = self.left(folder, served)
+                self.seen[bytes_left] = goes_on(folder, served, self.messages, self.ends)
             Tried.unmade += self.seen[bytes_left]
         return ran, made, refused
-
-    def left(self, folder, served):
-        """Holds the file to what the messages leave that were carried out, sends the session once more, and looks again.
-        Answers whether the file had to be removed first: a run that couldn't make its tables may leave such a one."""
-        found = tables(folder, "F")
-        fits = [it for it in served if found == known(it).tables or not it and not found]
-        if not fits:
-            differs("the tables afterwards", [known(it).tables for it in served], found)
-        again = run(["run", "--db", "F"], b"".join(self.messages), folder)
-        is_unmade = not found and (again.returncode, again.stderr) == NO_REGISTRY
-        if is_unmade:
-            for it in os.listdir(folder):
-                os.remove(f"{folder}/{it}")
-            again = run(["run", "--db", "F"], b"".join(self.messages), folder)
-        if (again.returncode, again.stderr) != self.ends:
-            differs("the end of the second run", self.ends, (again.returncode, again.stderr))
-        due = [(known(it + self.messages), len(it)) for it in fits]
-        came = (parted(again.stdout)[0], tables(folder, "F"), listings(folder))
-        if came not in [(it.answers[count:], it.tables, it.listings) for it, count in due]:
-            differs("the second run: answers, tables and listings", [(it.answers[count:], it.tables) for it, count in due], came)
-        return is_unmade
 
 
 def sessions(form, attempt, behind=False, **how):

@@ -1,0 +1,89 @@
+"""What the program answers to requests over a new file, and what it leaves there, where nothing fails."""
+
+import functools
+import os
+import re
+import shutil
+import sqlite3
+import sys
+
+sys.dont_write_bytecode = True
+EXAMPLES = os.path.dirname(os.path.abspath(__file__))
+sys.path.insert(0, f"{EXAMPLES}/../tests")
+
+from harness.program import Wrong, contents, differs, run, scratch
+from harness.tables import asked
+
+LISTINGS = ("subjects", "versions", "schemas")
+NO_REGISTRY = (2, b"avroreg: F is not a registry\n")
+
+
+def parted(written):
+    """The whole answers at the front of the bytes, and what follows them."""
+    answers = []
+    while head := re.match(rb"HTTP/1\.1 (?:[^\r]+\r\n)+?Content-Length: (\d+)\r\n(?:[^\r]+\r\n)*\r\n", written):
+        end = head.end() + int(head[1])
+        if end > len(written):
+            break
+        answers.append(written[:end])
+        written = written[end:]
+    return answers, written
+
+
+def tables(folder, name):
+    """What a file and its log declare and hold, seen on a copy of both; nothing where they are no database, or have no table."""
+    with scratch() as copied:
+        for it in (name, f"{name}-wal"):
+            if contents(folder, it) is not None:
+                shutil.copy(f"{folder}/{it}", copied)
+        try:
+            found = asked(copied, name, "SELECT name FROM sqlite_schema WHERE type = 'table' ORDER BY name")
+        except sqlite3.DatabaseError:
+            return []
+        declared = [asked(copied, name, "SELECT type, name, sql FROM sqlite_schema ORDER BY name")] if found else []
+        return declared + [sorted(asked(copied, name, f"SELECT * FROM {it}")) for it in found]
+
+
+def listings(folder):
+    return [run(["list", "--db", "F", it], folder=folder).stdout for it in LISTINGS]
+
+
+class Known:
+    """What a run in which nothing fails answers to messages over a new file, and what it leaves."""
+
+    def __init__(self, messages):
+        with scratch() as folder:
+            self.ran = run(["run", "--db", "F"], b"".join(messages), folder)
+            self.answers, rest = parted(self.ran.stdout)
+            if rest:
+                raise Wrong(f"where nothing fails, what was written ends inside an answer: {rest}")
+            self.tables, self.listings, self.file = tables(folder, "F"), listings(folder), contents(folder, "F")
+
+
+@functools.cache
+def known(messages):
+    return Known(messages)
+
+
+def goes_on(folder, served, messages, ends):
+    """Holds the file to what one of the lists of messages leaves that may have been carried out; behind none it may have no
+    table. Then sends the messages of a session, which ends so, and holds the answers, the tables and the listings to those
+    of a run in which nothing fails. Answers whether the file had to be removed first: one without a table may be left where
+    a registry couldn't be made."""
+    found = tables(folder, "F")
+    fits = [it for it in served if found == known(it).tables or not it and not found]
+    if not fits:
+        differs("the tables afterwards", [known(it).tables for it in served], found)
+    again = run(["run", "--db", "F"], b"".join(messages), folder)
+    is_unmade = not found and (again.returncode, again.stderr) == NO_REGISTRY
+    if is_unmade:
+        for it in os.listdir(folder):
+            os.remove(f"{folder}/{it}")
+        again = run(["run", "--db", "F"], b"".join(messages), folder)
+    if (again.returncode, again.stderr) != ends:
+        differs("the end of the second run", ends, (again.returncode, again.stderr))
+    due = [(known(it + messages), len(it)) for it in fits]
+    came = (parted(again.stdout)[0], tables(folder, "F"), listings(folder))
+    if came not in [(it.answers[count:], it.tables, it.listings) for it, count in due]:
+        differs("the second run: answers, tables and listings", [(it.answers[count:], it.tables) for it, count in due], came)
+    return is_unmade
