@@ -20,7 +20,7 @@ import time
 from known import EXAMPLES, goes_on, known, parted
 
 from harness.messages import are_answers, fault, request
-from harness.program import PROGRAM, Wrong, contents, differs, run, scratch, started, written
+from harness.program import Wrong, contents, differs, run, scratch, started, written
 from harness.reading import cases_of
 from harness.sessions import looked_at, runs_of
 
@@ -78,10 +78,12 @@ class Session:
         due = {KILLED: right[:count], UNOPENED: []}.get(ends, right[:count] + [FAILED] * (len(right) - count))
         if rest or answers != due:
             differs("the answers", due, answers + [rest])
-        if ends not in ((KILLED,) if failure.startswith("kill") else (self.ends, UNOPENED) if failure else (self.ends,)):
+        if ends not in ([KILLED] if failure.startswith("kill") else [self.ends, UNOPENED] if failure else [self.ends]):
             differs("the end", self.ends, ends)
         carried_out = self.before + self.messages[:count]
-        return [carried_out, *([carried_out + self.messages[count : count + 1]] if count < len(right) else [])]
+        if ends == UNOPENED or count == len(right):
+            return [carried_out]
+        return [carried_out, carried_out + self.messages[count : count + 1]]
 
 
 def digest(content):
