@@ -8,3 +8,4 @@ mod messages;
 mod schema_files;
 mod sessions;
 mod turns;
+mod waiting;
