@@ -17,7 +17,7 @@ import signal
 import sys
 import time
 
-from known import EXAMPLES, goes_on, known, parted
+from known import EXAMPLES, goes_on, known, parted, side_by_side
 
 from harness.messages import are_answers, fault, request
 from harness.program import Wrong, contents, differs, run, scratch, started, written
@@ -25,7 +25,9 @@ from harness.reading import cases_of
 from harness.sessions import looked_at, runs_of
 
 LIBRARY = os.environ["FAULTS"]
-SEEDS = range(int(os.environ.get("SEEDS", "30")))
+
+# The ways in which a call fails, each with seeds of what is lost, or with nothing lost.
+WAYS = {"error": (None, 0), "once": (None, 0), "full": (None, 0), "kill": range(int(os.environ.get("SEEDS", "30")))}
 LIES = {"FAULT_LIE": "1"} if os.environ.get("LIE") == "1" else {}
 FAILED = fault(50001)
 UNOPENED = (2, b"avroreg: cannot open F\n")
@@ -51,7 +53,8 @@ class Session:
         are_answers(it.due, known(self.messages).ran, it.ends)
 
     def attempt(self, failure, seed=None):
-        """A run with a fault, or with none, held to what is due. Answers how many calls it made, unless it was killed."""
+        """A run with a fault, or with none, held to what is due. Answers how many calls it made, unless it was
+        killed, and whether the file that it left had to be removed."""
         env = {"LD_PRELOAD": LIBRARY, "FAULT_COUNT": "count", **LIES}
         env |= {"FAULT": failure} if failure else {}
         env |= {"FAULT_SEED": str(seed)} if seed is not None else {}
@@ -64,10 +67,10 @@ class Session:
             # What was found of these very bytes before holds of them.
             left = (*served, *(digest(contents(folder, it)) for it in ("F", "F-wal")))
             if left not in self.seen:
-                self.seen[left] = goes_on(folder, served, self.messages, self.ends)
+                is_unmade = goes_on(folder, served, self.messages, self.ends)
                 looked_at(self.it, folder)
-            Tried.unmade += self.seen[left]
-        return counted and int(counted)
+                self.seen[left] = is_unmade
+            return counted and int(counted), self.seen[left]
 
     def served(self, ran, failure):
         """The requests that were carried out, as one list or two. Raises Wrong where the answers, or the end, aren't due."""
@@ -92,21 +95,22 @@ def digest(content):
 
 def each_call(name, session):
     """Makes a run in which nothing fails, and then those in which each call does."""
-    failure, seed, calls = "", None, 0
-    runs, began = Tried.runs, time.monotonic()
-    try:
-        calls = session.attempt("")
-        for nth in range(1, calls + 1):
-            for kind, seeds in (("error", (None, 0)), ("once", (None, 0)), ("full", (None, 0)), ("kill", SEEDS)):
-                for seed in seeds:
-                    failure = f"{kind}:{nth}"
-                    session.attempt(failure, seed)
-                    Tried.runs += 1
-                    Tried.killed += kind == "kill"
-    except Wrong as wrong:
-        at = f"FAULT={failure}" + (f" FAULT_SEED={seed}" if seed is not None else "")
-        raise Wrong(f"{name}, {at}, of {calls} calls: {wrong}") from None
-    print(f"{name}: {calls} calls, {Tried.runs - runs} runs, {time.monotonic() - began:.0f} s", flush=True)
+
+    def attempt(failure, seed):
+        try:
+            return session.attempt(failure, seed)
+        except Wrong as wrong:
+            at = f"FAULT={failure}" + (f" FAULT_SEED={seed}" if seed is not None else "")
+            raise Wrong(f"{name}, {at}, of {calls} calls: {wrong}") from None
+
+    began, calls = time.monotonic(), 0
+    calls, _ = attempt("", None)
+    tries = [(f"{kind}:{nth}", seed) for nth in range(1, calls + 1) for kind, seeds in WAYS.items() for seed in seeds]
+    for (failure, _), (_, is_unmade) in side_by_side(attempt, tries):
+        Tried.runs += 1
+        Tried.killed += failure.startswith("kill")
+        Tried.unmade += is_unmade
+    print(f"{name}: {calls} calls, {len(tries)} runs, {time.monotonic() - began:.0f} s", flush=True)
 
 
 def killed_behind(messages):

@@ -1,5 +1,6 @@
 """What the program answers to requests over a new file, and what it leaves there, where nothing fails."""
 
+import concurrent.futures
 import functools
 import os
 import re
@@ -16,6 +17,21 @@ from harness.tables import asked
 
 LISTINGS = ("subjects", "versions", "schemas")
 NO_REGISTRY = (2, b"avroreg: F is not a registry\n")
+JOBS = int(os.environ.get("JOBS", os.cpu_count()))
+
+
+def side_by_side(attempt, tries):
+    """Each of these with what an attempt answers to it, in their order. So many are made at a time, by default as many as
+    there are processors, and none behind one that raises."""
+    with concurrent.futures.ThreadPoolExecutor(JOBS) as pool:
+        made = [pool.submit(attempt, *it) for it in tries]
+        try:
+            for it in range(len(made)):
+                yield tries[it], made[it].result()
+                made[it] = None
+        finally:
+            for it in filter(None, made):
+                it.cancel()
 
 
 def parted(written):

@@ -13,6 +13,7 @@ and all behind it. What is due of a run that met refusals:
 - Of the benchmark: the same verdicts; or its end for want of memory.
 """
 
+import copy
 import functools
 import os
 import re
@@ -21,7 +22,7 @@ import shutil
 import sys
 import time
 
-from known import EXAMPLES, goes_on, known, parted, tables
+from known import EXAMPLES, goes_on, known, parted, side_by_side, tables
 
 from harness.messages import CLOSED, are_answers, fault
 from harness.program import PROGRAM, Wrong, contents, differs, run, scratch, written
@@ -65,23 +66,28 @@ def each_refusal(name, attempt, behind=0, most=None):
     def is_early(ran):
         return (ran.returncode, ran.stderr) != (whole.returncode, whole.stderr)
 
-    refusals, requests, early, needed = "none", 0, 0, behind
-    runs, began = Tried.runs, time.monotonic()
-    try:
-        whole, requests, _ = attempt("0")
-        for nth in range(behind + 1, min(requests, most or requests) + 1):
-            for refusals in (f"{nth}", f"{nth}-"):
-                ran, _, refused = attempt(refusals)
-                if not refused:
-                    raise Wrong("the run made fewer requests for memory than before")
-                Tried.runs += 1
-                Tried.refused += refused
-                early += is_early(ran)
-            needed = nth if is_early(ran) and not ran.stdout else needed
-    except Wrong as wrong:
-        raise Wrong(f"{name}, REFUSE={refusals}, of {requests} requests: {wrong}") from None
+    def tried(refusals):
+        try:
+            ran, made, refused = attempt(refusals)
+            if refusals != "0" and not refused:
+                raise Wrong("the run made fewer requests for memory than before")
+            return ran, made, refused
+        except Wrong as wrong:
+            raise Wrong(f"{name}, REFUSE={refusals}, of {requests} requests: {wrong}") from None
+
+    began, requests, early, needed = time.monotonic(), 0, 0, behind
+    whole, requests, _ = tried("0")
+    nths = range(behind + 1, min(requests, most or requests) + 1)
+    tries = [(f"{nth}{rest}",) for nth in nths for rest in ("", "-")]
+    for (refusals,), (ran, _, refused) in side_by_side(tried, tries):
+        Tried.runs += 1
+        Tried.refused += refused
+        Tried.unmade += getattr(ran, "is_unmade", False)
+        early += is_early(ran)
+        if refusals.endswith("-") and is_early(ran) and not ran.stdout:
+            needed = int(refusals[:-1])
     took = time.monotonic() - began
-    print(f"{name}: {requests} requests for memory, {Tried.runs - runs} runs, {early} ended early, {took:.0f} s", flush=True)
+    print(f"{name}: {requests} requests for memory, {len(tries)} runs, {early} ended early, {took:.0f} s", flush=True)
     return needed
 
 
@@ -149,7 +155,7 @@ class Session:
             bytes_left = (*served, contents(folder, "F"), contents(folder, "F-wal"))
             if bytes_left not in self.seen:
                 self.seen[bytes_left] = goes_on(folder, served, self.messages, self.ends)
-            Tried.unmade += self.seen[bytes_left]
+            ran.is_unmade = self.seen[bytes_left]
         return ran, made, refused
 
 
@@ -181,8 +187,9 @@ class Words(Scene):
                 if not self.due.out.encode().startswith(ran.stdout) or ran.stdout and not ran.stdout.endswith(b"\n"):
                     differs("what was printed", self.due.out, ran.stdout)
             else:
-                self.due.ran = ran
-                self.due.hold()
+                due = copy.copy(self.due)
+                due.ran = ran
+                due.hold()
             for name in os.listdir(self.files):
                 self.keeps(folder, name)
         return ran, made, refused
@@ -221,7 +228,7 @@ def bench():
         return ran, made, refused
 
     verdicts = []
-    each_refusal(f"bench_schemas {' '.join(BENCH_WORDS)}", attempt, BENCH_REQUESTS)
+    each_refusal(f"bench_schemas {' '.join(BENCH_WORDS)}", attempt, most=BENCH_REQUESTS)
     if len(verdicts) != 3 or not all(b"places" in it or b": true" in it for it in verdicts):
         raise Wrong(f"the benchmark tells no verdicts: {verdicts}")
 
