@@ -38,10 +38,9 @@ MANY = tuple(request("PUT", "/config", f'{{"compatibility":"{it}"}}') for it in 
 
 
 class Tried:
-    """How many runs with a fault were tried so far, how many of them were killed, and how many left a file without a table
-    that had to be removed."""
+    """How many runs with a fault were tried so far, and how many of them were killed."""
 
-    runs = killed = unmade = 0
+    runs = killed = 0
 
 
 class Session:
@@ -49,12 +48,11 @@ class Session:
 
     def __init__(self, it, before=(), files={}):
         self.it, self.messages, self.ends = it, tuple(it.given), (it.ends[0], it.ends[1].encode())
-        self.before, self.files, self.seen = before, files, {}
+        self.before, self.files, self.seen = before, files, set()
         are_answers(it.due, known(self.messages).ran, it.ends)
 
     def attempt(self, failure, seed=None):
-        """A run with a fault, or with none, held to what is due. Answers how many calls it made, unless it was
-        killed, and whether the file that it left had to be removed."""
+        """A run with a fault, or with none, held to what is due. Answers how many calls it made, unless it was killed."""
         env = {"LD_PRELOAD": LIBRARY, "FAULT_COUNT": "count", **LIES}
         env |= {"FAULT": failure} if failure else {}
         env |= {"FAULT_SEED": str(seed)} if seed is not None else {}
@@ -67,10 +65,10 @@ class Session:
             # What was found of these very bytes before holds of them.
             left = (*served, *(digest(contents(folder, it)) for it in ("F", "F-wal")))
             if left not in self.seen:
-                is_unmade = goes_on(folder, served, self.messages, self.ends)
+                goes_on(folder, served, self.messages, self.ends)
                 looked_at(self.it, folder)
-                self.seen[left] = is_unmade
-            return counted and int(counted), self.seen[left]
+                self.seen.add(left)
+        return counted and int(counted)
 
     def served(self, ran, failure):
         """The requests that were carried out, as one list or two. Raises Wrong where the answers, or the end, aren't due."""
@@ -104,12 +102,11 @@ def each_call(name, session):
             raise Wrong(f"{name}, {at}, of {calls} calls: {wrong}") from None
 
     began, calls = time.monotonic(), 0
-    calls, _ = attempt("", None)
+    calls = attempt("", None)
     tries = [(f"{kind}:{nth}", seed) for nth in range(1, calls + 1) for kind, seeds in WAYS.items() for seed in seeds]
-    for (failure, _), (_, is_unmade) in side_by_side(attempt, tries):
+    for (failure, _), _ in side_by_side(attempt, tries):
         Tried.runs += 1
         Tried.killed += failure.startswith("kill")
-        Tried.unmade += is_unmade
     print(f"{name}: {calls} calls, {len(tries)} runs, {time.monotonic() - began:.0f} s", flush=True)
 
 
@@ -161,7 +158,7 @@ def main():
     except Wrong as wrong:
         print(f"WRONG {wrong}\n{Tried.runs} runs with a fault were right before")
         return 1
-    print(f"{Tried.runs} runs with a fault, {Tried.killed} of them killed, {Tried.unmade} files left unmade, no wrong answer")
+    print(f"{Tried.runs} runs with a fault, {Tried.killed} of them killed, no wrong answer")
     return 0
 
 

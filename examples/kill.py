@@ -63,20 +63,6 @@ class Registry:
     def __init__(self, file):
         self.file, self.first, self.levels, self.under_way = file, {}, {"BACKWARD"}, None
 
-    def is_unmade(self):
-        """Whether nothing was answered, and the run that was to make the file was killed before it had a table."""
-        if self.first:
-            return False
-        with contextlib.closing(sqlite3.connect(self.file)) as database:
-            return database.execute("SELECT count(*) FROM sqlite_schema").fetchone() == (0,)
-
-    def remove(self):
-        """Removes the file, as its user does by hand, with the log beside it."""
-        for file in (self.file, f"{self.file}-wal", f"{self.file}-shm"):
-            with contextlib.suppress(FileNotFoundError):
-                os.remove(file)
-        self.__init__(self.file)
-
 
 def check(program, known):
     """Asks again for all that was answered, and counts the rows."""
@@ -117,8 +103,6 @@ def main():
             if number % 10 == 0:
                 known = Registry(f"{folder}/{number}.db")
             round_of(program, known, number)
-            if known.is_unmade():
-                known.remove()
             check(program, known)
     print(f"{rounds} kills, nothing lost")
 

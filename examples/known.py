@@ -16,7 +16,6 @@ from harness.program import Wrong, contents, differs, run, scratch
 from harness.tables import asked
 
 LISTINGS = ("subjects", "versions", "schemas")
-NO_REGISTRY = (2, b"avroreg: F is not a registry\n")
 JOBS = int(os.environ.get("JOBS", os.cpu_count()))
 
 
@@ -84,22 +83,15 @@ def known(messages):
 def goes_on(folder, served, messages, ends):
     """Holds the file to what one of the lists of messages leaves that may have been carried out; behind none it may have no
     table. Then sends the messages of a session, which ends so, and holds the answers, the tables and the listings to those
-    of a run in which nothing fails. Answers whether the file had to be removed first: one without a table may be left where
-    a registry couldn't be made."""
+    of a run in which nothing fails."""
     found = tables(folder, "F")
     fits = [it for it in served if found == known(it).tables or not it and not found]
     if not fits:
         differs("the tables afterwards", [known(it).tables for it in served], found)
     again = run(["run", "--db", "F"], b"".join(messages), folder)
-    is_unmade = not found and (again.returncode, again.stderr) == NO_REGISTRY
-    if is_unmade:
-        for it in os.listdir(folder):
-            os.remove(f"{folder}/{it}")
-        again = run(["run", "--db", "F"], b"".join(messages), folder)
     if (again.returncode, again.stderr) != ends:
         differs("the end of the second run", ends, (again.returncode, again.stderr))
     due = [(known(it + messages), len(it)) for it in fits]
     came = (parted(again.stdout)[0], tables(folder, "F"), listings(folder))
     if came not in [(it.answers[count:], it.tables, it.listings) for it, count in due]:
         differs("the second run: answers, tables and listings", [(it.answers[count:], it.tables) for it, count in due], came)
-    return is_unmade

@@ -41,10 +41,9 @@ BENCH_MEMORY = (b"Error: out of memory\n", b"Error: memory allocation failed\n")
 
 
 class Tried:
-    """How many runs with refusals were tried so far, how many requests were refused, and how many runs left a file that
-    lists no table and isn't taken for a new one."""
+    """How many runs with refusals were tried so far, and how many requests were refused."""
 
-    runs = refused = unmade = 0
+    runs = refused = 0
 
 
 def refusing(refusals, words, given=b"", folder=None, program=PROGRAM):
@@ -82,7 +81,6 @@ def each_refusal(name, attempt, behind=0, most=None):
     for (refusals,), (ran, _, refused) in side_by_side(tried, tries):
         Tried.runs += 1
         Tried.refused += refused
-        Tried.unmade += getattr(ran, "is_unmade", False)
         early += is_early(ran)
         if refusals.endswith("-") and is_early(ran) and not ran.stdout:
             needed = int(refusals[:-1])
@@ -104,7 +102,7 @@ class Session:
             are_answers(it.due, known(self.messages).ran, it.ends)
         self.messages *= 2 if twice and it.ends == CLOSED else 1
         self.refusals = [fault(50001, closes=b"\r\nConnection: close\r\n" in it) for it in self.answers(before + self.messages)]
-        self.seen = {}
+        self.seen = set()
 
     def answers(self, messages):
         """The answers of a run without refusals to what follows the messages that came before."""
@@ -154,8 +152,8 @@ class Session:
             # What was found of these very bytes before holds of them.
             bytes_left = (*served, contents(folder, "F"), contents(folder, "F-wal"))
             if bytes_left not in self.seen:
-                self.seen[bytes_left] = goes_on(folder, served, self.messages, self.ends)
-            ran.is_unmade = self.seen[bytes_left]
+                goes_on(folder, served, self.messages, self.ends)
+                self.seen.add(bytes_left)
         return ran, made, refused
 
 
@@ -251,7 +249,7 @@ def main():
     except Wrong as wrong:
         print(f"WRONG {wrong}\n{Tried.runs} runs with refusals were right before")
         return 1
-    print(f"{Tried.runs} runs with refusals, {Tried.refused} refused requests, {Tried.unmade} files left unmade, no wrong answer")
+    print(f"{Tried.runs} runs with refusals, {Tried.refused} refused requests, no wrong answer")
     return 0
 
 

@@ -3,6 +3,7 @@
 #![tactic(auto)]
 
 mod database;
+mod log;
 mod opening;
 mod server;
 
