@@ -1,4 +1,4 @@
-//! Tests of connections and of jobs.
+//! Tests of jobs and of connections.
 
 #![tactic(auto)]
 

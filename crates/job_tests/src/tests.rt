@@ -1,11 +1,9 @@
-//! What no clause says: the bytes of messages, whole and in pieces, what fails in mid-stream, what is opened for jobs and how they come out.
+//! What no clause says of jobs: what is opened for them, how they come out, and what is printed.
 
 mod doing;
 mod jobs;
 mod listings;
 mod loopback;
-mod messages;
+mod outcomes;
 mod schema_files;
-mod sessions;
-mod turns;
 mod waiting;

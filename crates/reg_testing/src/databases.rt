@@ -1,9 +1,9 @@
 //! What databases hold, as texts.
 
-use crate::disks::over;
+use crate::disks::{OnDatabase, on_disk};
 use crate::stores::opened;
 use sqlite::{Alter, Connection, Error, Files, Row};
-use sqlite_disk::Disk;
+use sqlite_disk::{Fuse, Memory};
 use std::alloc::Global;
 use std::test::Fail;
 
@@ -74,12 +74,36 @@ pub fn kept<S: Alter + Drop>(
     Ok(text)
 }
 
+/// Looks at what a registry holds.
+#[derive(Drop)]
+struct Look {
+    held: String,
+}
+
+impl OnDatabase for Look {
+    fn work<S: Alter + Drop>(
+        &mut self,
+        alloc: Global,
+        connection: Connection<S>,
+    ) -> Result<Connection<S>, Fail> {
+        let mut connection = opened(alloc, connection)?.into_connection();
+        self.held = contents(alloc, &mut connection)?;
+        Ok(connection)
+    }
+}
+
 /// What the registry on a disk holds.
 ///
 /// # Errors
 ///
 /// A failed test, where its files can't be opened, or are no registry.
-pub fn found<D: Disk + Drop>(alloc: Global, files: Files<D>) -> Result<String, Fail> {
-    let mut connection = opened(alloc, over(alloc, files)?)?.into_connection();
-    contents(alloc, &mut connection)
+pub fn found(alloc: Global, files: Files<Fuse<Memory>>) -> Result<String, Fail> {
+    let mut look = Look {
+        held: String::new(alloc),
+    };
+    let (_, closed) = on_disk(alloc, files, &mut look)?;
+    if !closed {
+        return Err("the files can't be opened".into());
+    }
+    Ok(look.held)
 }

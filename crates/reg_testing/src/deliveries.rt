@@ -4,6 +4,7 @@ use reg_core::{Command, Key, OutOfMemory, Reply, Subject, Text};
 use reg_service::{Delivery, Service};
 use sqlite::Alter;
 use std::alloc::Global;
+use std::test::Fail;
 
 /// What is asked: of the global level, or of a subject's.
 #[derive(Clone, Copy)]
@@ -88,4 +89,33 @@ pub fn answers<S: Alter + Drop>(
     list: &[Delivery],
 ) -> Result<Vec<Reply>, OutOfMemory> {
     service.run(list)
+}
+
+/// Holds a reply to the answer of a row.
+///
+/// # Errors
+///
+/// A failed test, where it is another one.
+pub fn is_answer(reply: &Reply, row: &Row) -> Result<(), Fail> {
+    if reply.status() == row.2 && reply.body() == row.3 {
+        return Ok(());
+    }
+    let (status, body) = (reply.status(), reply.body());
+    Err(Fail::new(format_args!("{status} {body}, and not {} {}", row.2, row.3)))
+}
+
+/// Delivers each row, and holds its reply to its answer.
+///
+/// # Errors
+///
+/// A failed test, where another answer comes, or memory is refused.
+pub fn answers_each<S: Alter + Drop>(
+    alloc: Global,
+    service: &mut Service<S>,
+    rows: &[Row],
+) -> Result<(), Fail> {
+    for row in rows {
+        is_answer(&answer(service, &delivery_of(alloc, row)?), row)?;
+    }
+    Ok(())
 }

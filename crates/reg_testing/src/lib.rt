@@ -1,16 +1,21 @@
 //! What the tests of stores, requests and jobs share: disks in memory, registries over them and what they hold, deliveries
-//! with their answers, and readers and writers that give and take little. It promises nothing.
+//! and messages with their answers, and readers and writers that give and take little. It promises nothing.
 
 #![tactic(auto)]
 
+pub mod bodies;
 mod databases;
 mod deliveries;
 mod disks;
+mod messages;
 mod stores;
 mod streams;
 
 pub use databases::{contents, found, kept};
-pub use deliveries::{Ask, Row, answer, answers, deliveries_of, delivery_of, subject_of};
-pub use disks::{close, connect, copied, copy, empty_disk, let_go, over};
-pub use stores::{created, new_service, opened, registry};
+pub use deliveries::{
+    Ask, Row, answer, answers, answers_each, deliveries_of, delivery_of, is_answer, subject_of,
+};
+pub use disks::{OnDatabase, copy, empty_disk, on_disk};
+pub use messages::{FULL_KEPT, FULL_SET, GET, IS_BACKWARD, IS_FULL, SET_FULL, joined};
+pub use stores::{OnService, created, in_memory, new_service, opened, registry};
 pub use streams::{Failing, Pieces, in_pieces};

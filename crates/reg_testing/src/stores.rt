@@ -1,10 +1,10 @@
 //! Stores and services over new registries, and stores over those that a database has.
 
-use crate::disks::{close, empty_disk, over};
+use crate::disks::{OnDatabase, empty_disk, on_disk};
 use reg_service::Service;
 use reg_store::Store;
 use sqlite::{Alter, Connection, Files, MemStore};
-use sqlite_disk::Memory;
+use sqlite_disk::{Fuse, Memory};
 use std::alloc::Global;
 use std::test::Fail;
 
@@ -41,14 +41,31 @@ pub fn opened<S: Alter + Drop>(alloc: Global, connection: Connection<S>) -> Resu
     }
 }
 
+/// Makes a new registry in an empty database.
+#[derive(Drop)]
+struct Create;
+
+impl OnDatabase for Create {
+    fn work<S: Alter + Drop>(
+        &mut self,
+        alloc: Global,
+        connection: Connection<S>,
+    ) -> Result<Connection<S>, Fail> {
+        Ok(created(alloc, connection)?.into_connection())
+    }
+}
+
 /// The files of a new registry.
 ///
 /// # Errors
 ///
 /// A failed test, where no registry can be made.
-pub fn registry(alloc: Global) -> Result<Files<Memory>, Fail> {
-    let store = created(alloc, over(alloc, empty_disk(alloc))?)?;
-    close(store.into_connection())
+pub fn registry(alloc: Global) -> Result<Files<Fuse<Memory>>, Fail> {
+    let (files, closed) = on_disk(alloc, empty_disk(alloc), &mut Create)?;
+    if !closed {
+        return Err("no registry was made".into());
+    }
+    Ok(files)
 }
 
 /// A service over a new registry in memory. At most one request for memory is refused.
@@ -65,4 +82,23 @@ pub fn new_service(alloc: Global) -> Result<Service<MemStore>, Fail> {
         }
     }
     Err("no tables were made".into())
+}
+
+/// What is done with a service, whatever its database stands on.
+pub trait OnService {
+    /// Does it.
+    ///
+    /// # Errors
+    ///
+    /// A failed test.
+    fn work<S: Alter + Drop>(&mut self, alloc: Global, service: Service<S>) -> Result<(), Fail>;
+}
+
+/// Does it with a service over a new registry in memory. At most one request for memory is refused before.
+///
+/// # Errors
+///
+/// A failed test, as the task says, or where memory is refused twice before.
+pub fn in_memory<T: OnService>(alloc: Global, task: &mut T) -> Result<(), Fail> {
+    task.work(alloc, new_service(alloc)?)
 }

@@ -1,4 +1,4 @@
-//! Tests of the tables, of stores and of services, over memory and over disks that fail.
+//! Tests of stores, over memory and over disks that fail.
 
 #![tactic(auto)]
 

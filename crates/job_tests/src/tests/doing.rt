@@ -1,9 +1,7 @@
-//! What a job and a session do, without what they promise.
+//! What a job does, without what it promises.
 
-use reg_http::{Ended, serve};
 use reg_jobs::{Job, Opened, do_job};
-use reg_service::Service;
-use sqlite::{Alter, Connection, MemStore};
+use sqlite::{Alter, Connection};
 use std::alloc::{AllocError, Global};
 use std::io::{Read, Write};
 
@@ -35,14 +33,4 @@ pub(super) fn run_over<S: Alter + Drop>(
     let mut written = Vec::new(alloc);
     let told = done(alloc, &job, opened, &mut input.as_bytes(), &mut written);
     Ok((written, told))
-}
-
-/// Serves a connection.
-pub(super) fn served<R: Read, W: Write>(
-    alloc: Global,
-    reader: &mut R,
-    writer: &mut W,
-    service: &mut Service<MemStore>,
-) -> Ended {
-    serve(alloc, reader, writer, service)
 }

@@ -1,11 +1,12 @@
 //! Jobs: their status, their line on standard error, and the databases that they run over.
 
 use super::doing::{done, run_over};
-use super::sessions::{FULL_SET, IS_FULL, SET_FULL};
 use reg_jobs::{Job, Opened};
-use reg_testing::{Failing, Pieces, close, empty_disk, kept, over};
-use sqlite::{Connection, FileStore, Files, MemStore};
-use sqlite_disk::Disk;
+use reg_testing::{
+    FULL_KEPT, FULL_SET, Failing, GET, IS_FULL, OnDatabase, Pieces, SET_FULL, empty_disk, kept,
+    on_disk,
+};
+use sqlite::{Alter, Connection, MemStore};
 use std::alloc::Global;
 use std::io::{Read, Write};
 use std::process::Abort;
@@ -56,38 +57,58 @@ fn a_job_has_a_status_and_a_line(rt: HostRuntime) -> Result<(), Fail> {
     Ok(())
 }
 
-/// The files that a run leaves which sets the level once more.
-fn set_once_more<D: Disk + Drop>(
-    rt: &impl Abort,
-    alloc: Global,
-    opened: Opened<FileStore<D>>,
-) -> Result<Files<D>, Fail> {
-    let (written, (told, status, connection)) = run_over(alloc, opened, SET_FULL)?;
-    assert_eq!(rt; str::from_utf8(written.as_slice()), Ok(FULL_SET));
-    assert!(rt; told.is_empty());
-    assert_eq!(rt; status, 0);
-    let Some(connection) = connection else {
-        return Err("no connection came back".into());
-    };
-    close(connection)
+/// A run over a database, with its input and the output due. The first run makes the registry.
+#[derive(Drop)]
+struct Run<'a> {
+    is_first: bool,
+    input: &'a str,
+    output: &'a str,
+}
+
+impl<'a> OnDatabase for Run<'a> {
+    fn work<S: Alter + Drop>(
+        &mut self,
+        alloc: Global,
+        connection: Connection<S>,
+    ) -> Result<Connection<S>, Fail> {
+        let opened = if self.is_first {
+            Opened::Fresh(connection)
+        } else {
+            Opened::Database(connection)
+        };
+        let (written, (told, status, connection)) = run_over(alloc, opened, self.input)?;
+        let mut connection = connection.ok_or("no connection came back")?;
+        let kept = kept(alloc, &mut connection)?;
+        if written.as_slice() == self.output.as_bytes()
+            && told.is_empty()
+            && status == 0
+            && kept.as_str() == FULL_KEPT
+        {
+            return Ok(connection);
+        }
+        Err("another output, or another reply is kept".into())
+    }
 }
 
 /// Over the same files a repeat gets its first answer, and is kept once.
 #[test]
-fn two_runs_on_one_disk(rt: HostRuntime) -> Result<(), Fail> {
+fn several_runs_on_one_disk(rt: HostRuntime) -> Result<(), Fail> {
     let alloc = rt.alloc();
-    let new = Opened::Fresh(over(alloc, empty_disk(alloc))?);
-    let files = set_once_more(&rt, alloc, new)?;
-    let found = Opened::Database(over(alloc, files)?);
-    let files = set_once_more(&rt, alloc, found)?;
-    let mut connection = over(alloc, files)?;
-    assert_eq!(rt;
-        kept(alloc, &mut connection)?.as_str(),
-        "k1|[\"set-global\",\"FULL\"]|200 {\"compatibility\":\"FULL\"}|\n"
-    );
-    let found = Opened::Database(connection);
-    let (written, _) = run_over(alloc, found, "GET /config HTTP/1.1\r\n\r\n")?;
-    assert_eq!(rt; str::from_utf8(written.as_slice()), Ok(IS_FULL));
+    let mut files = empty_disk(alloc);
+    for (is_first, input, output) in [
+        (true, SET_FULL, FULL_SET),
+        (false, SET_FULL, FULL_SET),
+        (false, GET, IS_FULL),
+    ] {
+        let mut run = Run {
+            is_first,
+            input,
+            output,
+        };
+        let (left, closed) = on_disk(alloc, files, &mut run)?;
+        assert!(rt; closed);
+        files = left;
+    }
     Ok(())
 }
 

@@ -1,9 +1,8 @@
 //! Connections on loopback, in one thread: what the client sends lies in the system's buffers until it is served.
 
-use super::sessions::{FULL_SET, IS_BACKWARD, IS_FULL, SET_FULL};
 use reg_jobs::serve_on;
 use reg_service::Service;
-use reg_testing::new_service;
+use reg_testing::{FULL_SET, GET, IS_BACKWARD, IS_FULL, SET_FULL, new_service};
 use sqlite::MemStore;
 use std::alloc::Global;
 use std::io::{self, Read, Write};
@@ -37,12 +36,11 @@ fn accept(alloc: Global, listener: &TcpListener, count: u32, service: &mut Servi
 fn connections_are_served_in_turn(rt: HostRuntime) -> Result<(), Fail> {
     let listener = TcpListener::bind(&rt, (Ipv4Addr::LOCALHOST, 0))?;
     let mut service = new_service(rt.alloc())?;
-    let get = "GET /config HTTP/1.1\r\n\r\n";
-    let first = sent(&rt, &listener, get)?;
+    let first = sent(&rt, &listener, GET)?;
     let cut = sent(&rt, &listener, &SET_FULL[..40])?;
     let set = sent(&rt, &listener, SET_FULL)?;
     let again = sent(&rt, &listener, SET_FULL)?;
-    let last = sent(&rt, &listener, get)?;
+    let last = sent(&rt, &listener, GET)?;
     accept(rt.alloc(), &listener, 4, &mut service);
     expect(&rt, first, IS_BACKWARD)?;
     // the end inside a message has no answer

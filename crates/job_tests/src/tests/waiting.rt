@@ -1,8 +1,7 @@
 //! Connections that wait behind others, on loopback and in one thread, served by a clock and without one.
 
-use super::sessions::{FULL_SET, IS_BACKWARD, SET_FULL};
 use reg_jobs::{serve_on, serve_with_clock};
-use reg_testing::new_service;
+use reg_testing::{FULL_SET, GET, IS_BACKWARD, SET_FULL, new_service};
 use std::cell::Cell;
 use std::io::{self, Read, Write};
 use std::net::{Ipv4Addr, Shutdown, TcpListener, TcpStream};
@@ -10,8 +9,6 @@ use std::process::Abort;
 use std::str;
 use std::test::Fail;
 use std::time::{Clock, Duration, Instant};
-
-const GET: &str = "GET /config HTTP/1.1\r\n\r\n";
 
 const LARGE: &str = "POST /subjects/s HTTP/1.1\r\nContent-Length: 5000000\r\n\r\n";
 

@@ -1,16 +1,14 @@
 //! Deliveries over a disk that fails from some call on.
 
-use super::deliveries::{
-    FAULT, FORWARD_SET, FULL_SET, INVALID, NONE, NONE_SET, answers_each, assert_answer,
-};
 use reg_service::Service;
 use reg_store::{Store, StoreError};
+use reg_testing::bodies::{FAULT, FORWARD_SET, FULL_SET, INVALID, NONE, NONE_SET};
 use reg_testing::{
-    Ask, Row, answer, connect, contents, copied, copy, created, delivery_of, found, let_go, opened,
-    registry,
+    Ask, OnDatabase, Row, answer, answers_each, contents, copy, delivery_of, found, is_answer,
+    on_disk, opened, registry,
 };
 use sqlite::{Alter, Connection, Files};
-use sqlite_disk::{Crash, Disk, Fuse, Memory};
+use sqlite_disk::{Crash, Fuse, Memory};
 use std::alloc::Global;
 use std::process::Abort;
 use std::test::Fail;
@@ -25,43 +23,69 @@ const ROWS: [Row; 6] = [
 ];
 
 /// What the database of a registry holds after each count of the rows.
-fn held_after(rt: &impl Abort, alloc: Global) -> Result<Vec<String>, Fail> {
-    let mut held = Vec::new(alloc);
-    let mut store = created(alloc, Connection::open_in_memory(alloc)?)?;
-    for count in 0..ROWS.len() + 1 {
-        let mut service = Service::new(alloc, store);
-        answers_each(
-            rt,
-            alloc,
-            &mut service,
-            &ROWS[count.saturating_sub(1)..count],
-        )?;
-        let mut connection = service.into_store().into_connection();
-        held.push(contents(alloc, &mut connection)?)?;
-        store = opened(alloc, connection)?;
+#[derive(Drop)]
+struct Hold {
+    held: Vec<String>,
+}
+
+impl OnDatabase for Hold {
+    fn work<S: Alter + Drop>(
+        &mut self,
+        alloc: Global,
+        mut connection: Connection<S>,
+    ) -> Result<Connection<S>, Fail> {
+        self.held.push(contents(alloc, &mut connection)?)?;
+        for row in ROWS {
+            let mut service = Service::new(alloc, opened(alloc, connection)?);
+            answers_each(alloc, &mut service, &[row])?;
+            connection = service.into_store().into_connection();
+            self.held.push(contents(alloc, &mut connection)?)?;
+        }
+        Ok(connection)
     }
-    Ok(held)
 }
 
 /// Delivers the rows, and answers how many got their answer: after a fault of the disk each gets
 /// 50001.
-fn answered<S: Alter + Drop>(
-    rt: &impl Abort,
-    alloc: Global,
-    service: &mut Service<S>,
-) -> Result<usize, Fail> {
+fn answered<S: Alter + Drop>(alloc: Global, service: &mut Service<S>) -> Result<usize, Fail> {
     let mut count = 0;
     for (at, row) in ROWS.iter().enumerate() {
         let reply = answer(service, &delivery_of(alloc, row)?);
-        if service.failed() {
-            assert_eq!(rt; reply.body(), FAULT);
-        } else {
-            assert_answer(rt, &reply, row);
-            assert_eq!(rt; count, at);
+        if !service.failed() && count == at {
+            is_answer(&reply, row)?;
             count = at + 1;
+        } else {
+            is_answer(&reply, &(row.0, row.1, 500, FAULT))?;
         }
     }
     Ok(count)
+}
+
+/// Counts how many of the rows are answered over a registry, if it can be opened.
+#[derive(Drop)]
+struct Count {
+    answered: usize,
+}
+
+impl OnDatabase for Count {
+    fn work<S: Alter + Drop>(
+        &mut self,
+        alloc: Global,
+        connection: Connection<S>,
+    ) -> Result<Connection<S>, Fail> {
+        if !connection.is_autocommit() {
+            return Err("a transaction is open".into());
+        }
+        match Store::open(alloc, connection) {
+            Ok(store) => {
+                let mut service = Service::new(alloc, store);
+                self.answered = answered(alloc, &mut service)?;
+                Ok(service.into_store().into_connection())
+            }
+            Err((StoreError::Disk, connection)) => Ok(connection),
+            Err((error, _)) => Err(error.into()),
+        }
+    }
 }
 
 /// Holds what is found after the fault to what was answered, with or without the next delivery. A
@@ -72,97 +96,52 @@ fn is_found(
     mut files: Files<Fuse<Memory>>,
     held: &[String],
 ) -> Result<(), Fail> {
-    let copies = Files {
-        log: copied(alloc, files.log.inner())?,
-        db: copied(alloc, files.db.inner())?,
-    };
-    let kept = found(alloc, copies)?;
-    assert!(rt;
-        held.iter().any(|text| text.as_str() == kept.as_str()),
-        "{kept}"
-    );
+    let killed = found(alloc, copy(alloc, &files, u64::MAX, u64::MAX)?)?;
     files.log.crash();
     files.db.crash();
-    let synced = found(alloc, files)?;
-    assert!(rt;
-        held.iter().any(|text| text.as_str() == synced.as_str()),
-        "{synced}"
-    );
+    let crashed = found(alloc, files)?;
+    for found in [killed, crashed] {
+        let is_held = held.iter().any(|text| text.as_str() == found.as_str());
+        assert!(rt; is_held, "{found}");
+    }
     Ok(())
 }
 
-/// The number that was answered over the files, the files, and whether they were closed.
-fn run<D: Disk + Drop>(
-    rt: &impl Abort,
-    alloc: Global,
-    files: Files<D>,
-) -> Result<(usize, Files<D>, bool), Fail> {
-    let connection = match connect(alloc, files) {
-        Ok(connection) => connection,
-        Err(files) => return Ok((0, files, false)),
-    };
-    if !connection.is_autocommit() {
-        return Err("a transaction is open".into());
-    }
-    let (count, connection) = match Store::open(alloc, connection) {
-        Ok(store) => {
-            let mut service = Service::new(alloc, store);
-            let count = answered(rt, alloc, &mut service)?;
-            (count, service.into_store().into_connection())
-        }
-        Err((error, connection)) => {
-            assert_eq!(rt; error, StoreError::Disk);
-            (0, connection)
-        }
-    };
-    let (files, closed) = let_go(connection);
-    Ok((count, files, closed))
-}
-
-/// Whether nothing fails over a registry whose log fails after so many calls, and its database too.
+/// Whether nothing fails over a registry, given what it holds after each count of the rows.
 fn is_whole(
     rt: &impl Abort,
     alloc: Global,
-    files: Files<Memory>,
-    log: u64,
-    db: u64,
+    files: Files<Fuse<Memory>>,
     held: &[String],
 ) -> Result<bool, Fail> {
-    let files = Files {
-        log: Fuse::new(files.log, log),
-        db: Fuse::new(files.db, db),
+    let mut count = Count { answered: 0 };
+    let (files, closed) = on_disk(alloc, files, &mut count)?;
+    let rest = held.get(count.answered..).ok_or("more than all is held")?;
+    is_found(rt, alloc, files, rest.get(..2).unwrap_or(rest))?;
+    Ok(closed && rest.len() == 1)
+}
+
+#[test]
+fn each_call_of_the_log_and_of_the_database_fails_in_turn(rt: HostRuntime) -> Result<(), Fail> {
+    let alloc = rt.alloc();
+    let files = registry(alloc)?;
+    let mut hold = Hold {
+        held: Vec::new(alloc),
     };
-    let (count, files, closed) = run(rt, alloc, files)?;
-    assert!(rt; count < held.len());
-    let end = held.len().min(count + 2);
-    is_found(rt, alloc, files, &held[count..end])?;
-    Ok(count == ROWS.len() && closed)
-}
-
-#[test]
-fn each_call_of_the_log_fails_in_turn(rt: HostRuntime) -> Result<(), Fail> {
-    let alloc = rt.alloc();
-    let held = held_after(&rt, alloc)?;
-    let files = registry(alloc)?;
-    for calls in 0..1000 {
-        if is_whole(&rt, alloc, copy(alloc, &files)?, calls, u64::MAX, &held)? {
-            assert!(rt; calls > 20);
-            return Ok(());
+    on_disk(alloc, copy(alloc, &files, u64::MAX, u64::MAX)?, &mut hold)?;
+    for is_log in [true, false] {
+        for calls in 0..1000 {
+            let (log, db) = if is_log {
+                (calls, u64::MAX)
+            } else {
+                (u64::MAX, calls)
+            };
+            if is_whole(&rt, alloc, copy(alloc, &files, log, db)?, &hold.held)? {
+                assert!(rt; calls > 20);
+                break;
+            }
+            assert!(rt; calls < 999, "no run was whole");
         }
     }
-    Err("no run was whole".into())
-}
-
-#[test]
-fn each_call_of_the_database_fails_in_turn(rt: HostRuntime) -> Result<(), Fail> {
-    let alloc = rt.alloc();
-    let held = held_after(&rt, alloc)?;
-    let files = registry(alloc)?;
-    for calls in 0..1000 {
-        if is_whole(&rt, alloc, copy(alloc, &files)?, u64::MAX, calls, &held)? {
-            assert!(rt; calls > 20);
-            return Ok(());
-        }
-    }
-    Err("no run was whole".into())
+    Ok(())
 }

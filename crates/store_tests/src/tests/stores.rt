@@ -1,49 +1,42 @@
-//! Stores in memory and over a disk.
+//! Stores over a disk, which may have failed.
 
 use reg_core::{Change, Command, Key, Level, Reply};
-use reg_store::{Keep, Store};
-use reg_testing::{created, empty_disk, opened, over, subject_of};
+use reg_store::{Keep, Listing, Store, StoreError};
+use reg_testing::{OnDatabase, copy, created, empty_disk, on_disk, opened, registry, subject_of};
 use sqlite::{Alter, Connection};
 use std::alloc::Global;
-use std::process::Abort;
 use std::test::Fail;
 
-/// Holds the level of the subject s and the global one to these.
+/// Whether the level of the subject s and the global one are these.
 fn shows<S: Alter + Drop>(
-    rt: &impl Abort,
     alloc: Global,
     store: &mut Store<S>,
     own: Option<Level>,
     global: Level,
-) -> Result<(), Fail> {
+) -> Result<bool, Fail> {
     let command = Command::LevelOf {
         subject: subject_of(alloc, "s")?,
         default_to_global: false,
     };
     let view = store.view(&command, None)?;
-    assert_eq!(rt; view.own, own);
-    assert_eq!(rt; view.global, global);
-    Ok(())
+    Ok(view.own == own && view.global == global)
 }
 
-/// Holds what is kept under the key k to a command and the body of a 200.
+/// Whether a command and the body of a 200 are kept under the key k.
 fn keeps<S: Alter + Drop>(
-    rt: &impl Abort,
     store: &mut Store<S>,
     wanted: Option<(&str, &str)>,
-) -> Result<(), Fail> {
+) -> Result<bool, Fail> {
     let key = Key::parse("k").ok_or("no key")?;
     let kept = store.kept(&key)?;
-    match (kept, wanted) {
-        (None, None) => Ok(()),
+    let kept = kept.as_ref().map(|(text, reply)| (text.as_str(), reply));
+    Ok(match (kept, wanted) {
+        (None, None) => true,
         (Some((text, reply)), Some((command, body))) => {
-            assert_eq!(rt; text.as_str(), command);
-            assert_eq!(rt; reply.body(), body);
-            assert_eq!(rt; reply.status(), 200);
-            Ok(())
+            text == command && reply.body() == body && reply.status() == 200
         }
-        _ => Err("another reply is kept".into()),
-    }
+        _ => false,
+    })
 }
 
 /// The global level becomes FULL, and that of the subject s NONE.
@@ -62,38 +55,124 @@ fn set_both<S: Alter + Drop>(alloc: Global, store: &mut Store<S>) -> Result<(), 
     let changes = new_levels(alloc)?;
     let key = Key::parse("k").ok_or("no key")?;
     let reply = Reply::new(200, String::from_str(alloc, "{}")?).ok_or("no reply")?;
-    store.apply(
-        &changes,
-        Some(Keep {
-            key: &key,
-            command: "set both",
-            reply: &reply,
-        }),
-    )?;
+    let keep = Keep {
+        key: &key,
+        command: "set both",
+        reply: &reply,
+    };
+    store.apply(&changes, Some(keep))?;
     Ok(())
 }
 
-/// Calls each function of a store once.
-fn calls_each<S: Alter + Drop>(
-    rt: &impl Abort,
-    alloc: Global,
-    connection: Connection<S>,
-) -> Result<(), Fail> {
-    let mut store = created(alloc, connection)?;
-    shows(rt, alloc, &mut store, None, Level::Backward)?;
-    keeps(rt, &mut store, None)?;
-    set_both(alloc, &mut store)?;
-    let mut again = opened(alloc, store.into_connection())?;
-    shows(rt, alloc, &mut again, Some(Level::Off), Level::Full)?;
-    keeps(rt, &mut again, Some(("set both", "{}")))?;
-    assert!(rt; !again.failed());
-    Ok(())
+/// Calls each function of a store once, and tells what was as it should be: a new registry, levels that were set, a reply
+/// that was kept, and that nothing failed.
+#[derive(Drop)]
+struct CallEach {
+    done: [bool; 4],
+}
+
+impl OnDatabase for CallEach {
+    fn work<S: Alter + Drop>(
+        &mut self,
+        alloc: Global,
+        connection: Connection<S>,
+    ) -> Result<Connection<S>, Fail> {
+        let mut store = created(alloc, connection)?;
+        let is_new = shows(alloc, &mut store, None, Level::Backward)? && keeps(&mut store, None)?;
+        set_both(alloc, &mut store)?;
+        let mut again = opened(alloc, store.into_connection())?;
+        let is_set = shows(alloc, &mut again, Some(Level::Off), Level::Full)?;
+        let is_kept = keeps(&mut again, Some(("set both", "{}")))?;
+        self.done = [is_new, is_set, is_kept, !again.failed()];
+        Ok(again.into_connection())
+    }
 }
 
 /// No contract refuses a store that answers `Memory` to every call. This does.
 #[test]
 fn store_gives_up(rt: HostRuntime) -> Result<(), Fail> {
+    let mut calls = CallEach { done: [false; 4] };
+    on_disk(rt.alloc(), empty_disk(rt.alloc()), &mut calls)?;
+    assert_eq!(rt; calls.done, [true; 4]);
+    Ok(())
+}
+
+/// Whether a store that has failed answers so to each call.
+fn fails_for_good<S: Alter + Drop>(store: &mut Store<S>, changes: &[Change]) -> Result<bool, Fail> {
+    let key = Key::parse("k").ok_or("no key")?;
+    Ok(
+        store.failed()
+            && matches!(store.kept(&key), Err(StoreError::Disk))
+            && matches!(store.view(&Command::Global, None), Err(StoreError::Disk))
+            && matches!(store.text_of(1), Err(StoreError::Disk))
+            && matches!(store.rows(Listing::Subjects), Err(StoreError::Disk))
+            && matches!(store.lines(Listing::Subjects), Err(StoreError::Disk))
+            && matches!(store.apply(changes, None), Err(StoreError::Disk)),
+    )
+}
+
+/// What becomes of a change to a registry.
+#[derive(Clone, Copy, Debug, PartialEq, Eq)]
+enum Changed {
+    /// The registry wasn't opened.
+    Unopened,
+    /// The disk failed, and each later call answers so.
+    ForGood,
+    /// The disk failed, and a later call answers otherwise.
+    Once,
+    /// It was made.
+    Made,
+}
+
+/// Changes a registry.
+#[derive(Drop)]
+struct Set {
+    outcome: Changed,
+}
+
+impl OnDatabase for Set {
+    fn work<S: Alter + Drop>(
+        &mut self,
+        alloc: Global,
+        connection: Connection<S>,
+    ) -> Result<Connection<S>, Fail> {
+        if !connection.is_autocommit() {
+            return Err("a transaction is open".into());
+        }
+        let changes = new_levels(alloc)?;
+        match Store::open(alloc, connection) {
+            Ok(mut store) => {
+                self.outcome = if store.apply(&changes, None).is_ok() {
+                    Changed::Made
+                } else if fails_for_good(&mut store, &changes)? {
+                    Changed::ForGood
+                } else {
+                    Changed::Once
+                };
+                Ok(store.into_connection())
+            }
+            Err((_, connection)) => Ok(connection),
+        }
+    }
+}
+
+/// After a fault of the disk, at each call of the log in turn.
+#[test]
+fn a_store_that_failed_answers_disk(rt: HostRuntime) -> Result<(), Fail> {
     let alloc = rt.alloc();
-    calls_each(&rt, alloc, Connection::open_in_memory(alloc)?)?;
-    calls_each(&rt, alloc, over(alloc, empty_disk(alloc))?)
+    let files = registry(alloc)?;
+    let mut failed = false;
+    for calls in 0..1000 {
+        let mut set = Set {
+            outcome: Changed::Unopened,
+        };
+        on_disk(alloc, copy(alloc, &files, calls, u64::MAX)?, &mut set)?;
+        assert!(rt; set.outcome != Changed::Once);
+        failed = failed || set.outcome == Changed::ForGood;
+        if set.outcome == Changed::Made {
+            assert!(rt; failed);
+            return Ok(());
+        }
+    }
+    Err("no call succeeded".into())
 }

@@ -1,12 +1,13 @@
 //! Who speaks on a connection: no byte is read while a whole message that was read has no answer.
 
-use super::doing::served;
-use super::sessions::{FULL_SET, SET_FULL, joined};
+use super::sessions::{is_due, served};
 use reg_http::Ended;
-use reg_testing::new_service;
+use reg_service::Service;
+use reg_testing::{FULL_SET, OnService, SET_FULL, in_memory, joined};
+use sqlite::Alter;
+use std::alloc::Global;
 use std::cell::Cell;
 use std::io::{self, Read, Write};
-use std::str;
 use std::test::Fail;
 
 /// Equal messages, so many bytes a read. Fails where one that was given whole has no answer yet.
@@ -50,30 +51,51 @@ impl<'a> Write for Taking<'a> {
     }
 }
 
-#[test]
-fn each_message_is_answered_before_the_next_read(rt: HostRuntime) -> Result<(), Fail> {
-    let input = joined(rt.alloc(), &[SET_FULL, SET_FULL, SET_FULL])?;
-    let output = joined(rt.alloc(), &[FULL_SET, FULL_SET, FULL_SET])?;
-    for size in [1, 50, SET_FULL.len(), 150, 1000] {
+/// Serves equal messages, so many bytes a read, each of which is answered before the next read.
+#[derive(Drop)]
+struct TakeTurns<'a> {
+    input: &'a str,
+    output: &'a str,
+    size: usize,
+}
+
+impl<'a> OnService for TakeTurns<'a> {
+    fn work<S: Alter + Drop>(
+        &mut self,
+        alloc: Global,
+        mut service: Service<S>,
+    ) -> Result<(), Fail> {
         let answers = Cell::new(0);
         let mut reader = Asking {
-            left: input.as_slice(),
-            size,
+            left: self.input.as_bytes(),
+            size: self.size,
             given: 0,
             answers: &answers,
         };
         let mut writer = Taking {
-            taken: Vec::new(rt.alloc()),
+            taken: Vec::new(alloc),
             answers: &answers,
         };
-        let mut service = new_service(rt.alloc())?;
-        let ended = served(rt.alloc(), &mut reader, &mut writer, &mut service);
-        assert_eq!(rt;
-            str::from_utf8(writer.taken.as_slice()),
-            str::from_utf8(output.as_slice())
-        );
-        assert!(rt; ended == Ended::Closed);
-        assert_eq!(rt; answers.get(), 3);
+        let ended = served(alloc, &mut reader, &mut writer, &mut service);
+        if answers.get() != 3 {
+            return Err("there are more or fewer answers".into());
+        }
+        is_due(writer.taken.as_slice(), ended, (self.output, Ended::Closed))
+    }
+}
+
+#[test]
+fn each_message_is_answered_before_the_next_read(rt: HostRuntime) -> Result<(), Fail> {
+    let alloc = rt.alloc();
+    let input = joined(alloc, &[SET_FULL, SET_FULL, SET_FULL])?;
+    let output = joined(alloc, &[FULL_SET, FULL_SET, FULL_SET])?;
+    for size in [1, 50, SET_FULL.len(), 150, 1000] {
+        let mut task = TakeTurns {
+            input: input.as_str(),
+            output: output.as_str(),
+            size,
+        };
+        in_memory(alloc, &mut task)?;
     }
     Ok(())
 }

@@ -1,12 +1,13 @@
 //! The service over a registry in memory.
 
-use super::deliveries::{
-    BACKWARD, FAULT, FORWARD, FORWARD_SET, FULL, FULL_SET, INVALID, NO_OWN, NONE, NONE_SET, REUSED,
-    answers_each, assert_answer,
-};
 use reg_core::{OutOfMemory, Reply};
 use reg_service::{Delivery, Service};
-use reg_testing::{Ask, Row, answers, deliveries_of, delivery_of, new_service};
+use reg_testing::bodies::{
+    BACKWARD, FAULT, FORWARD, FORWARD_SET, FULL, FULL_SET, INVALID, NO_OWN, NONE, NONE_SET, REUSED,
+};
+use reg_testing::{
+    Ask, Row, answers, answers_each, deliveries_of, delivery_of, is_answer, new_service,
+};
 use sqlite::MemStore;
 use std::alloc::Global;
 use std::process::Abort;
@@ -92,7 +93,7 @@ fn assert_same(rt: &impl Abort, replies: &[Reply], others: &[Reply]) {
 
 fn answers_all(rt: &impl Abort, alloc: Global, rows: &[Row]) -> Result<(), Fail> {
     let mut service = new_service(alloc)?;
-    answers_each(rt, alloc, &mut service, rows)?;
+    answers_each(alloc, &mut service, rows)?;
     assert!(rt; !service.failed());
     Ok(())
 }
@@ -110,7 +111,7 @@ fn runs_all(rt: &impl Abort, alloc: Global, rows: &[Row]) -> Result<(), Fail> {
     let replies = answers(&mut service, &deliveries_of(alloc, rows)?)?;
     assert_eq!(rt; replies.len(), rows.len());
     for (reply, row) in replies.iter().zip(rows) {
-        assert_answer(rt, reply, row);
+        is_answer(reply, row)?;
     }
     Ok(())
 }
@@ -138,7 +139,7 @@ fn answers_each_in_the_end(rt: &impl Abort, alloc: Global, rows: &[Row]) -> Resu
             assert_same(rt, &after, &before);
             reply = service.answer(&delivery);
         }
-        assert_answer(rt, &reply, row);
+        is_answer(&reply, row)?;
     }
     Ok(())
 }
@@ -174,7 +175,7 @@ fn refused_memory_loses_no_other_delivery(rt: HostRuntime) -> Result<(), Fail> {
     assert!(rt; refused.count() <= 1);
     for (reply, row) in replies.iter().zip(rows) {
         if reply.status() != 500 {
-            assert_answer(&rt, reply, row);
+            is_answer(reply, row)?;
         }
     }
     Ok(())

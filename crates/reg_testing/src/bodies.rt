@@ -1,0 +1,24 @@
+//! The bodies of answers.
+
+pub const FAULT: &str = "{\"error_code\":50001,\"message\":\"Error in the backend data store\"}";
+
+pub const BACKWARD: &str = "{\"compatibilityLevel\":\"BACKWARD\"}";
+
+pub const FULL: &str = "{\"compatibilityLevel\":\"FULL\"}";
+
+pub const NONE: &str = "{\"compatibilityLevel\":\"NONE\"}";
+
+pub const FORWARD: &str = "{\"compatibilityLevel\":\"FORWARD\"}";
+
+pub const NO_OWN: &str = "{\"error_code\":40408,\"message\":\"Subject has no level of its own\"}";
+
+pub const FULL_SET: &str = "{\"compatibility\":\"FULL\"}";
+
+pub const NONE_SET: &str = "{\"compatibility\":\"NONE\"}";
+
+pub const FORWARD_SET: &str = "{\"compatibility\":\"FORWARD\"}";
+
+pub const INVALID: &str = "{\"error_code\":42203,\"message\":\"Invalid compatibility level\"}";
+
+pub const REUSED: &str =
+    "{\"error_code\":42290,\"message\":\"Retry key was used for another request\"}";

@@ -1,0 +1,6 @@
+//! Tests of sessions: requests read and answered.
+
+#![tactic(auto)]
+
+#[cfg(test)]
+mod tests;
