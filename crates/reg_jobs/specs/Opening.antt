@@ -14,7 +14,7 @@ OpensToRun Empty = ⊥
 OpensToRun (Fresh connection) = ⊤
 OpensToRun (Database connection) = ⊤
 
--- a database for a job that makes no registry: it is one, or its file has no byte, or it can't be opened
+-- a database for a job that makes no registry: it is one, or its file holds nothing yet, or it can't be opened
 abbrev pub OpensToList : {S : Type 0} → Opened S → Type 0
 OpensToList Nothing = ⊥
 OpensToList (Texts texts) = ⊥

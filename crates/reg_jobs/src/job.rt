@@ -27,7 +27,7 @@ pub enum Opened<S: Alter> {
     Texts(Vec<Option<Vec<u8>>>),
     /// The database of the job can't be opened.
     Failed,
-    /// A file without a byte, for a job that makes no registry. It isn't opened.
+    /// A file that holds nothing yet, for a job that makes no registry. It isn't opened.
     Empty,
     /// An empty database, in which the job makes its registry.
     Fresh(Connection<S>),
@@ -107,7 +107,7 @@ fn run_in_memory<R: Read, W: Write>(alloc: Global, reader: &mut R, writer: &mut 
 ///
 /// # Errors
 ///
-/// `Disk` where no database was opened, `NotARegistry` for a file without a byte, and else why the database gives none, with
+/// `Disk` where no database was opened, `NotARegistry` for a file that holds nothing yet, and else why the database gives none, with
 /// the connection.
 pub fn store_in<S: Alter + Drop>(
     alloc: Global,
