@@ -11,13 +11,14 @@ process is killed in it, and what was written since the last sync is lost in par
 - The requests are sent once more, and nothing fails: answers, tables and listings are what they are behind such a run.
 """
 
+import functools
 import hashlib
 import os
 import signal
 import sys
 import time
 
-from known import EXAMPLES, goes_on, known, parted, side_by_side
+from known import EXAMPLES, goes_on, known, parted, side_by_side, status_of
 
 from harness.messages import are_answers, fault, request
 from harness.program import Wrong, contents, differs, run, scratch, started, written
@@ -147,20 +148,12 @@ STARTS = {
 }
 
 
-def main():
-    try:
-        for word in sys.argv[1:] or STARTS:
-            if word not in STARTS:
-                raise Wrong(f"{word} is none of {', '.join(STARTS)}")
-            name, start = STARTS[word]
-            (it, *_), _ = runs_of(*cases_of(f"{EXAMPLES}/faults/session"))
-            each_call(name, start(it, tuple(it.given[: len(it.given) // 2])))
-    except Wrong as wrong:
-        print(f"WRONG {wrong}\n{Tried.runs} runs with a fault were right before")
-        return 1
-    print(f"{Tried.runs} runs with a fault, {Tried.killed} of them killed, no wrong answer")
-    return 0
+def fail_over(name, start):
+    """Has each call fail of the session over what the start makes."""
+    (it, *_), _ = runs_of(*cases_of(f"{EXAMPLES}/faults/session"))
+    each_call(name, start(it, tuple(it.given[: len(it.given) // 2])))
 
 
 if __name__ == "__main__":
-    sys.exit(main())
+    kinds = {word: functools.partial(fail_over, *start) for word, start in STARTS.items()}
+    sys.exit(status_of(kinds, lambda: f"{Tried.runs} runs with a fault", lambda: f"{Tried.killed} of them killed"))

@@ -95,3 +95,18 @@ def goes_on(folder, served, messages, ends):
     came = (parted(again.stdout)[0], tables(folder, "F"), listings(folder))
     if came not in [(it.answers[count:], it.tables, it.listings) for it, count in due]:
         differs("the second run: answers, tables and listings", [(it.answers[count:], it.tables) for it, count in due], came)
+
+
+def status_of(kinds, runs, rest):
+    """Tries the kinds that the script's words name, all where it has none, up to the first wrong answer, and says how many runs
+    there were. Returns the script's status."""
+    try:
+        for word in sys.argv[1:] or kinds:
+            if word not in kinds:
+                raise Wrong(f"{word} is none of {', '.join(kinds)}")
+            kinds[word]()
+    except Wrong as wrong:
+        print(f"WRONG {wrong}\n{runs()} were right before")
+        return 1
+    print(f"{runs()}, {rest()}, no wrong answer")
+    return 0

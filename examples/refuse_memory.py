@@ -22,7 +22,7 @@ import shutil
 import sys
 import time
 
-from known import EXAMPLES, goes_on, known, parted, side_by_side, tables
+from known import EXAMPLES, goes_on, known, parted, side_by_side, status_of, tables
 
 from harness.messages import CLOSED, are_answers, fault
 from harness.program import PROGRAM, Wrong, contents, differs, run, scratch, written
@@ -240,18 +240,5 @@ KINDS = {
 }
 
 
-def main():
-    try:
-        for kind in sys.argv[1:] or KINDS:
-            if kind not in KINDS:
-                raise Wrong(f"{kind} is none of {', '.join(KINDS)}")
-            KINDS[kind]()
-    except Wrong as wrong:
-        print(f"WRONG {wrong}\n{Tried.runs} runs with refusals were right before")
-        return 1
-    print(f"{Tried.runs} runs with refusals, {Tried.refused} refused requests, no wrong answer")
-    return 0
-
-
 if __name__ == "__main__":
-    sys.exit(main())
+    sys.exit(status_of(KINDS, lambda: f"{Tried.runs} runs with refusals", lambda: f"{Tried.refused} refused requests"))
