@@ -4,7 +4,7 @@ use Rattle.std.specs.Prelude.{All, Option, None, Some, Ok, Err, not, ◌||◌, f
 use Rattle.std.specs.List.{Contains, last_or}
 use Rattle.std.specs.Option.{ok_or}
 use Rattle.std.proofs.lemmas.Bool.{eq-eqb, lt-ltb}
-use Rattle.std.proofs.lemmas.List.Elements.{All-nil, All-cons, All-head, All-tail, filter-append, filter_passes}
+use Rattle.std.proofs.lemmas.List.Elements.{All-nil, All-cons, All-head, All-tail, filter-append}
 use Rattle.std.proofs.lemmas.Option.{none-some}
 use Rattle.reg_core.specs.declared.level.Level.{Level}
 use Rattle.reg_core.specs.declared.level.Level.TheVariants.{Backward, BackwardTransitive, Forward, ForwardTransitive, Full, FullTransitive, Off}
@@ -22,7 +22,7 @@ use Rattle.reg_core.specs.declared.needs.SubjectRows.TheVariants.{Every, ToChoos
 use Rattle.reg_core.specs.Needs.{RegistersAs, TellAs}
 use Rattle.reg_core.proofs.ChosenRows.{All-latest, filter_all, last_is_shown, some_last}
 use Rattle.reg_core.proofs.DeletionSteps.{all_shown}
-use Rattle.reg_core.proofs.LastRows.{Rising, last_passes, last_there, latest_again, next_onto, none_latest_of, up_to_last}
+use Rattle.reg_core.proofs.LastRows.{Rising, last_passes, latest_again, next_onto, none_latest_of, up_to_last}
 use Rattle.reg_core.proofs.RowLemmas.{All-live_rows, filter_keeps}
 
 none_pass : {X : Type 0} (p : X → Bool) (xs : List X) → filter p xs ≡ [] → All (λ x. p x ≡ false) xs
@@ -90,26 +90,6 @@ registers_found level id row all there e alive =
       next = λ none. absurd (true≢false (sym among ∙ none));
       named = λ none. absurd (true≢false (sym among ∙ none));
     }
-
-not_true : (b : Bool) → not b ≡ true → b ≡ false
-not_true true e = absurd (true≢false (sym e))
-not_true false e = refl
-
-one_of : (o : Option Row) (row : Row) → option_to_list o ≡ row ∷ [] → o ≡ Some row
-one_of None row e = absurd cc
-one_of (Some x) row e = let same : x ≡ row = cc in ap Some same
-
--- the last one that is shown is shown
-last_shown : (deleted : Bool) (all : List Row) (row : Row) → last_or None (shown_rows deleted all) ≡ Some row → (deleted || not row.1.deleted) ≡ true
-last_shown deleted all row last =
-    let P = λ (r : Row). (deleted || not r.1.deleted) ≡ true in
-    All-head P row [] (subst (λ (o : Option Row). All P (option_to_list o)) last (All-latest P (shown_rows deleted all) (filter_passes (λ (r : Row). deleted || not r.1.deleted) all)))
-
--- so does the last live one, where it has the id
-pub registers_known : (level : Level) (id : ℕ) (seen all : List Row) (row : Row) → seen ≡ row ∷ [] → last_or None (live_rows all) ≡ Some row → row.1.id ≡ id → RegistersAs level (Some id) seen all
-registers_known level id seen all row is last has =
-    subst (λ (rows : List Row). RegistersAs level (Some id) rows all) (sym is)
-    (registers_found level id row all (last_there (live_rows all) row (ap option_to_list last)) has (not_true row.1.deleted (last_shown false all row last)))
 
 -- where no live version has the id, the last live one and the next number tell the rest
 pub registers_few : (level : Level) (known : Option ℕ) (seen all : List Row) → names_all level ≡ false → is_among known (live_rows all) ≡ false
@@ -180,14 +160,6 @@ looks_up_found deleted id row all e shown has =
     let itself : last_or None (rows_with id (row ∷ [])) ≡ Some row = ap (λ (b : Bool). last_or None (if b then row ∷ [] else [])) (eq-eqb row.1.id id has) in
     ap (looked_up (Some id)) alone ∙ looked_some (Some id) (row ∷ []) row itself ∙ sym (looked_some (Some id) (shown_rows deleted all) row e)
 
--- so does the last of all that are shown, where it has the id
-pub looks_up_last : (deleted : Bool) (id : ℕ) (seen all : List Row) (row : Row) → seen ≡ row ∷ [] → last_or None (shown_rows deleted all) ≡ Some row → row.1.id ≡ id
-    → looked_up (Some id) (shown_rows deleted seen) ≡ looked_up (Some id) (shown_rows deleted all)
-looks_up_last deleted id seen all row is last has =
-    let found = last_passes (λ (r : Row). r.1.id == id) (shown_rows deleted all) row (ap option_to_list last) (eq-eqb row.1.id id has) in
-    ap (λ (rows : List Row). looked_up (Some id) (shown_rows deleted rows)) is
-    ∙ looks_up_found deleted id row all (one_of (last_or None (rows_with id (shown_rows deleted all))) row found) (last_shown deleted all row last) has
-
 none_last_of : (xs : List Row) → last_or None xs ≡ None → xs ≡ []
 none_last_of [] e = refl
 none_last_of (x ∷ xs) e = absurd (some_last x xs (ap option_to_list e))
@@ -232,13 +204,6 @@ marked_last (r ∷ rows) row e = by (last_or None (live_rows (r ∷ rows))) e
     by None h = absurd cc
     by (Some x) h = let same : x ≡ row = cc in ap Ok same
 
--- `latest` is the last live one
-pub marks_last : (row : Row) (all : List Row) → latest (live_rows all) ≡ row ∷ [] → row.1.deleted ≡ false → row_to_delete false (Some Latest) (row ∷ []) ≡ row_to_delete false (Some Latest) all
-marks_last row all e alive =
-    let P = λ (r : Row). not r.1.deleted ≡ true in
-    let alone : latest (live_rows (row ∷ [])) ≡ row ∷ [] = ap latest (filter_all (λ (r : Row). not r.1.deleted) (row ∷ []) (All-cons P row [] (ap not alive) (All-nil P))) in
-    marked_last (row ∷ []) row alone ∙ sym (marked_last all row e)
-
 marked_none : (row : Row) (rows : List Row) → live_rows (row ∷ rows) ≡ [] → row_to_mark (Some Latest) (row ∷ rows) ≡ Err SubjectSoftDeleted
 marked_none row rows e = ap (λ (xs : List Row). ok_or (last_or None xs) SubjectSoftDeleted) e
 
@@ -275,20 +240,3 @@ marks_live seen all e some = by (last_or None (live_rows all)) refl
         let one : latest (live_rows all) ≡ row ∷ [] = ap option_to_list is in
         let again : latest (live_rows seen) ≡ row ∷ [] = ap latest (ap live_rows e ∙ last_is_shown false all) ∙ (latest_again (live_rows all) ∙ one) in
         marked_last seen row again ∙ sym (marked_last all row one)
-
--- ---- Register, where no version has the id since no schema has it
-
--- the last live one, where the last of all is live or there is none
-pub registers_live : (level : Level) (seen all : List Row) → names_all level ≡ false → Rising all → seen ≡ latest (live_rows all) → last_or None all ≡ None → RegistersAs level None seen all
-registers_live level seen all few rising is none =
-    let empty = none_last_of all none in
-    subst (λ (rows : List Row). RegistersAs level None rows all) (sym (is ∙ ap (λ (rows : List Row). latest (live_rows rows)) empty)) (registers_none level None all (ap option_to_list none))
-
-pub registers_alive : (level : Level) (seen all : List Row) (last : Row) → names_all level ≡ false → Rising all → seen ≡ latest (live_rows all) → last_or None all ≡ Some last → last.1.deleted ≡ false → RegistersAs level None seen all
-registers_alive level seen all last few rising is e alive =
-    let one : latest all ≡ last ∷ [] = ap option_to_list e in
-    subst (λ (rows : List Row). RegistersAs level None rows all) (sym (is ∙ last_passes (λ (r : Row). not r.1.deleted) all last one (ap not alive))) (registers_last level None last all few refl rising one alive)
-
-pub registers_gone : (level : Level) (seen all : List Row) (last : Row) → names_all level ≡ false → Rising all → seen ≡ latest (live_rows all) ++ last ∷ [] → last_or None all ≡ Some last → last.1.deleted ≡ true → RegistersAs level None seen all
-registers_gone level seen all last few rising is e gone =
-    subst (λ (rows : List Row). RegistersAs level None rows all) (sym is) (registers_ends level None last all few refl rising (ap option_to_list e) gone)

@@ -1,10 +1,10 @@
 -- A registry stays one, whatever changes it can have and whatever commands come.
 use Rattle.std.proofs.Common.{◌≡◌, ℕ, zero, suc, ◌+◌, ◌<◌, ◌≤◌, ◌⊎◌, inl, inr, List, [], ◌∷◌, ◌++◌, length, Bool, true, false, refl, sym, ap, subst, ◌∙◌, arith, length-append}
 use Rattle.std.specs.Prelude.{All, Option, Some, None, Result, Ok, Err, option_to_list, if◌then◌else◌, is_some, unwrap_or, nat_le}
-use Rattle.std.specs.FinMap.{insert, remove, get, get-empty}
+use Rattle.std.specs.FinMap.{insert, remove, get}
 use Rattle.std.proofs.lemmas.Bool.{and_parts}
 use Rattle.std.proofs.lemmas.Bool.Decides.{nat_tests}
-use Rattle.std.proofs.lemmas.List.Elements.{All-nil, All-push}
+use Rattle.std.proofs.lemmas.List.Elements.{All-push}
 use Rattle.std.proofs.lemmas.Option.{none-some, get_or_from_slice_get, slice_get_within}
 use Rattle.avro_nodes.specs.Nodes.{NodeView}
 use Rattle.avro_nodes.specs.Identity.{identity}
@@ -23,15 +23,15 @@ use Rattle.reg_core.specs.declared.number.Choice.{Choice}
 use Rattle.reg_core.specs.Additions.{WasThere}
 use Rattle.reg_core.specs.DeletionCommands.{row_to_mark, row_to_remove, as_deleted, with_deleted, without_row, version_deleted, delete_version, with_subject_deleted, without_subject, soft_delete, remove_subject, delete_subject}
 use Rattle.reg_core.specs.Numbers.{choice_in}
-use Rattle.reg_core.specs.Registry.{Registry, Schemas, RowKey, Row, IsRow, IsRegistry, max_number, schema_at, new_registry, own_with, own_without}
+use Rattle.reg_core.specs.Registry.{Registry, Schemas, RowKey, Row, IsRow, IsRegistry, max_number, schema_at, own_with, own_without}
 use Rattle.reg_core.specs.Registry as registry
-use Rattle.reg_core.specs.Rows.{rows_of, live_rows, next_number, id_of, text_at}
+use Rattle.reg_core.specs.Rows.{rows_of, live_rows, next_number, id_of}
 use Rattle.reg_core.specs.Settings.{Setting, level_setting, set, with_level}
 use Rattle.reg_core.specs.RegisterCommands.{schema_in, id_for, schemas_with, with_version, registered, has_numbers, register}
 use Rattle.reg_core.specs.Machine.{carried_out, step, run_commands}
 use Rattle.reg_core.specs.Views.{altered, after_change, after_changes, ChangeFits, ChangesFit}
 use Rattle.reg_core.proofs.ModeLemmas.{step-either}
-use Rattle.reg_core.proofs.IdLemmas.{schema_within, schema_last, schema_grown, id_of-schema, id_of-none, text_at-schema}
+use Rattle.reg_core.proofs.IdLemmas.{schema_within, schema_last, schema_grown, id_of-schema, id_of-none}
 use Rattle.reg_core.proofs.DeletionLemmas.{altered_was, removed_was, deleted_were, row_to_mark-got, subject_deleted_was, remove_subject-were}
 use Rattle.reg_core.proofs.RowLemmas.{get_inserted}
 
@@ -235,15 +235,6 @@ pub run_commands-IsRegistry : (g : Registry) (commands : List Command) → IsReg
 run_commands-IsRegistry g [] ok = ok
 run_commands-IsRegistry g (command ∷ commands) ok = run_commands-IsRegistry (step g command).0 commands (step-IsRegistry g command ok)
 
--- a new registry is one
-pub new_registry-IsRegistry : IsRegistry new_registry
-new_registry-IsRegistry = record {
-  schemas = All-nil IsSchema;
-  few = omega arith;
-  apart = λ i j one other here there same. absurd (omega (arith, schema_within [] i one here));
-  rows = λ key version e. absurd (none-some version (sym (get-empty registry.row_cmp key) ∙ e));
-}
-
 -- ---- ids of a registry's schemas
 
 -- each schema of a registry has the id at which it stands
@@ -253,9 +244,3 @@ schema_at-id_of g ok id nodes e = by (id_of g.schemas (identity nodes)) refl
     by : (known : Option ℕ) → id_of g.schemas (identity nodes) ≡ known → known ≡ Some id
     by None none = absurd (id_of-none g.schemas (identity nodes) none id nodes e refl)
     by (Some j) some = let (other, is, same) = id_of-schema g.schemas (identity nodes) j some in ap Some (ok.apart j id other nodes is e same)
-
--- and the text of an id is found at it
-pub text_at-id_of : (g : Registry) → IsRegistry g → (id : ℕ) (text : List ℕ) → text_at g.schemas id ≡ Some text → id_of g.schemas text ≡ Some id
-text_at-id_of g ok id text e =
-    let (nodes, is, same) = text_at-schema g.schemas id text e in
-    subst (λ (t : List ℕ). id_of g.schemas t ≡ Some id) same (schema_at-id_of g ok id nodes is)
