@@ -10,7 +10,7 @@ use Rattle.sqlite.specs.declared.types.Value.TheVariants.{Null, Int, Text}
 use Rattle.sqlite.specs.Order.{Row, column, value_cmp}
 use Rattle.sqlite.specs.Tree.{Trees, rowid, with_tree}
 use Rattle.sqlite.specs.Cast.{cast_row}
-use Rattle.sqlite.specs.Edit.{Edit, edit_of, edited, id_in, is_taken, are_fresh, without_all, Applies, IsRefused}
+use Rattle.sqlite.specs.Edit.{Edit, edit_of, edited, taken_by, id_in, is_taken, are_fresh, without_all, Applies, IsRefused}
 use Rattle.sqlite.specs.Rowids.TheVariants.{Given}
 use Rattle.sqlite.specs.Term.{col, eval_all}
 use Rattle.sqlite.specs.Command.TheVariants.{Update}
@@ -45,7 +45,7 @@ use Rattle.reg_tables.proofs.KeyedTables.{version_order, by_version_test, cast-I
 use Rattle.reg_tables.proofs.Statements.{with_flag, mark_version, mark_version_is}
 use Rattle.reg_tables.proofs.UniqueLemmas.{with_tree_there, with_tree_elsewhere, stays_unique}
 use Rattle.reg_tables.proofs.WriteFaults.{refused_by, update_refused}
-use Rattle.reg_tables.proofs.Settled.{layout_settled}
+use Rattle.reg_tables.proofs.Settled.{layout_apart, layout_idle}
 use Rattle.reg_tables.proofs.TableFaults.{obeys as obeyed, versions_at, has_text, refers_if, differ_itself, plain_fits}
 use Rattle.reg_tables.proofs.FailedVersions.{version_keys, flag_passes}
 
@@ -175,7 +175,7 @@ module _ (old new : State) (contents : Contents) (h : Holds old.now contents) (e
 
     unique : Keeps Unique layout after
     unique =
-        stays_unique layout db after versions edit.news layout_settled.apart (has_got layout.tables 1 versions refl) (λ t known other. with_tree_elsewhere db 2 (edited db edit) t.tree other)
+        stays_unique layout db after versions edit.news layout_apart (has_got layout.tables 1 versions refl) (λ t known other. with_tree_elsewhere db 2 (edited db edit) t.tree other)
         (λ r there. elim (came r there) [ inl new ↦ inl new | inr stays ↦ inr (without_all_has (ids_of found) (db 2) r stays) ])
         (λ i known. all_has (λ (i : Index). guards i versions ≡ true → (r fresh : Row) → Has (after 2) r → Has edit.news fresh → agree i.order i.columns r i.columns fresh ≡ true → differ (rowid r) (rowid fresh) ≡ true → ⊥) layout.indexes i
         ((λ on. absurd (cc)), ((λ on. apart), ((λ on. absurd (cc)), ((λ on. absurd (cc)), ((λ on. absurd (cc)), ((λ on. absurd (cc)), tt)))))) known)
@@ -213,8 +213,8 @@ module _ (old new : State) (contents : Contents) (h : Holds old.now contents) (e
         | inl fault ↦ inl (inl (inl fault))
         | inr rest ↦ elim rest [
           | inl large ↦ inl (inr large.0)
-          | inr does ↦ elim (update_refused layout layout_settled 1 versions refl old new (statement_of mark_version (understood layout mark_version)) params e marking refl (plain_fits db params 2 by_version (col 1 0 ∷ with_flag))
-              (λ found next asked applies. refers found (found_as found asked) next applies) does) [
+          | inr does ↦ elim (update_refused layout 1 versions refl old new (statement_of mark_version (understood layout mark_version)) params e marking refl (plain_fits db params 2 by_version (col 1 0 ∷ with_flag))
+              (λ found. let marks = edit_of db versions (ids_of found) Given 1 found in layout_idle 2 (taken_by db marks) marks.news) (λ found next asked applies. refers found (found_as found asked) next applies) does) [
                 | inl fault ↦ inl (inl (inl fault))
                 | inr r ↦ inr (inl (r.4 ∙ ap edit_error (allowed r.0 (found_as r.0 r.2) r.1 r.3)))
               ]

@@ -34,7 +34,7 @@ use Rattle.reg_tables.specs.Inside.KeyedLaws.{IsKeyOrder}
 use Rattle.reg_tables.proofs.MapLemmas.{same_key, tied_key}
 use Rattle.reg_tables.proofs.KeyedTables.{text_order, number_order, version_order, by_id_test, by_version_test, cast-Null, cast-Int}
 use Rattle.reg_tables.proofs.Statements.{text_terms, put_text, put_text_is}
-use Rattle.reg_tables.proofs.Settled.{layout_settled}
+use Rattle.reg_tables.proofs.Settled.{layout_apart}
 use Rattle.reg_tables.proofs.TableFaults.{texts_at, has_text, refers_if, insert_fails}
 
 -- rows that agree on a text have one text
@@ -89,7 +89,7 @@ module _ (old new : State) (contents : Contents) (h : Holds old.now contents) (e
       let row : Row = Int (pos id) ∷ Null ∷ Text text ∷ [] in
       let put : Edit = edit_of old.now.trees texts [] Chosen 0 (value_rows (stamped texts params) 3 (length text_terms / 3) text_terms) in
       let news : put.news ≡ row ∷ [] = rw (cast-Null, cast-Int (pos id)) in
-      elim (insert_fails layout layout_settled 0 texts texts_at old new h.declared h.sound text_terms 3 params row put_text refl put_text_is (lit≤ tt, refl) refl news (record {
+      elim (insert_fails layout layout_apart 0 texts texts_at old new h.declared h.sound text_terms 3 params row put_text refl put_text_is (lit≤ tt, refl) refl news (record {
         keyed = refl;
         typed = refl;
         present = refl;

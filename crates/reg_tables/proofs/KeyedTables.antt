@@ -39,13 +39,12 @@ use Rattle.reg_tables.specs.Rooms.{HasRoom}
 use Rattle.reg_tables.proofs.Rooms.{room_after}
 use Rattle.reg_tables.proofs.ListMembers.{has_mapped, maps_had}
 use Rattle.reg_tables.specs.Contents.{version_cmp, number_cells, version_key_cells, flag_cell, text_cmp, text_cells}
-use Rattle.reg_tables.specs.Inside.KeyedLaws.{TurnsTable, IsKeyOrder}
+use Rattle.reg_tables.specs.Inside.KeyedLaws.{IsIdle, TurnsTable, IsKeyOrder}
 use Rattle.reg_tables.specs.Inside.Statements.{plain_query, IsCommand, TableQuery, body_of, program_of, IsQuery, by_key, by_id, by_version}
 use Rattle.reg_tables.proofs.Queries.{passes, passing, one_passing, found_count, answer_has, has_answer}
 use Rattle.reg_tables.proofs.MapLemmas.{same_key, tied_key}
 use Rattle.reg_tables.proofs.RowLemmas.{FindsRowids, shows_inserted, shows_removed, shows_altered}
 use Rattle.reg_tables.proofs.Statements.{by_text}
-use Rattle.reg_tables.proofs.Settled.{IsSettled}
 use Rattle.reg_tables.proofs.Writes.{inserted, updated, deleted}
 
 -- ---- values that a column keeps as they are
@@ -205,7 +204,7 @@ module _ {K V : Type 0} (form : Form K V) (R : K → K → Ordering) (order : Is
         few = omega (arith, one, all);
       }
 
-module _ (schema : Schema) (settled : IsSettled schema) {K V : Type 0} (form : Form K V) (R : K → K → Ordering) (order : IsKeyOrder R) (distinct : (a b : K) → form.key_cells a ≡ form.key_cells b → a ≡ b) (at : ℕ) (table : Table)
+module _ (schema : Schema) {K V : Type 0} (form : Form K V) (R : K → K → Ordering) (order : IsKeyOrder R) (distinct : (a b : K) → form.key_cells a ≡ form.key_cells b → a ≡ b) (at : ℕ) (table : Table)
     (there : slice_get schema.tables at ≡ Some table) (old new : State) (declared : old.now.schema ≡ schema) (m : FinMap R V) (shows : ShowsMap form (old.now.trees table.tree) (get m)) (k : K) (sql : List ℕ) (params : Row) (count : ℕ) where
   pub inserts : (terms : List Term) (width : ℕ) (new_row : Row) (v : V) → table.is_counted ≡ false → IsCommand schema sql (Insert at (Values terms width))
       → (edit_of old.now.trees table [] Chosen 0 (value_rows (stamped table params) width (length terms / width) terms)).news ≡ new_row ∷ [] → IsRowOf form new_row k v → get m k ≡ None
@@ -213,7 +212,7 @@ module _ (schema : Schema) (settled : IsSettled schema) {K V : Type 0} (form : F
   inserts terms width new_row v uncounted it news is free h =
       let db = old.now.trees in
       let w = runs_as sql params old new schema declared (Insert at (Values terms width)) it.is it.plain count h in
-      let step = inserted schema settled.idle at table there old new declared (statement_of sql (understood schema sql)) params count terms width uncounted w in
+      let step = inserted schema at table there old new declared (statement_of sql (understood schema sql)) params count terms width uncounted w in
       let rows : new.now.trees table.tree ≡ put_row new_row (db table.tree) = step.applies.rows ∙ ap (put_all (db table.tree)) news in
       let fresh : is_taken (db table.tree) new_row ≡ false = not-true _ (and_parts _ _ (ap (are_fresh (db table.tree)) (sym news) ∙ step.applies.fresh)).0 in
       record {
@@ -229,19 +228,19 @@ module _ (schema : Schema) (settled : IsSettled schema) {K V : Type 0} (form : F
   inserts_room terms width new_row uncounted it news its h n room =
       let db = old.now.trees in
       let w = runs_as sql params old new schema declared (Insert at (Values terms width)) it.is it.plain count h in
-      let step = inserted schema settled.idle at table there old new declared (statement_of sql (understood schema sql)) params count terms width uncounted w in
+      let step = inserted schema at table there old new declared (statement_of sql (understood schema sql)) params count terms width uncounted w in
       let rows : new.now.trees table.tree ≡ put_row new_row (db table.tree) = step.applies.rows ∙ ap (put_all (db table.tree)) news in
       subst (λ r. HasRoom r n) (sym rows) (room_after (db table.tree) n room new_row its)
 
   -- the query of the DELETE tests the key
-  pub removes : (tests : List Term) → IsCommand schema sql (Delete at (record { lets = []; body = plain_query table.tree tests (col 1 0 ∷ []) }))
+  pub removes : IsIdle schema table.tree → (tests : List Term) → IsCommand schema sql (Delete at (record { lets = []; body = plain_query table.tree tests (col 1 0 ∷ []) }))
       → ((row : Row) (q : K) → form.key_of row ≡ form.key_cells q → passes tests params row ≡ is_eq (R q k)) → Executes sql params old new (Ok count)
       → TurnsTable schema form table.tree old.now new.now (get (remove m k))
-  removes tests it test h =
+  removes idle tests it test h =
       let db = old.now.trees in
       let q : Program = record { lets = []; body = plain_query table.tree tests (col 1 0 ∷ []) } in
       let w = runs_as sql params old new schema declared (Delete at q) it.is it.plain count h in
-      let cut = deleted schema settled.idle at table there old new declared (statement_of sql (understood schema sql)) params count q w in
+      let cut = deleted schema at table there old new declared (statement_of sql (understood schema sql)) params count idle q w in
       let found = cut.0 in
       let answer : IsAnswer q.body (overlay db []) params found = cut.1.answer Null in
       let step = cut.2 in
@@ -257,15 +256,15 @@ module _ (schema : Schema) (settled : IsSettled schema) {K V : Type 0} (form : F
       }
 
   -- the query of the UPDATE tests the key, and shows the rowid and then the new row
-  pub alters : (tests shown : List Term) (change : V → V) → IsCommand schema sql (Update at (record { lets = []; body = plain_query table.tree tests (col 1 0 ∷ shown) }))
+  pub alters : IsIdle schema table.tree → (tests shown : List Term) (change : V → V) → IsCommand schema sql (Update at (record { lets = []; body = plain_query table.tree tests (col 1 0 ∷ shown) }))
       → ((row : Row) (q : K) → form.key_of row ≡ form.key_cells q → passes tests params row ≡ is_eq (R q k))
       → ((row : Row) (v : V) → IsEntry form row k v → IsEntry form (cast_row table (eval_all shown (params ∷ row ∷ []))) k (change v)) → Executes sql params old new (Ok count)
       → TurnsTable schema form table.tree old.now new.now (get (altered m k change))
-  alters tests shown change it test turns h =
+  alters idle tests shown change it test turns h =
       let db = old.now.trees in
       let q : Program = record { lets = []; body = plain_query table.tree tests (col 1 0 ∷ shown) } in
       let w = runs_as sql params old new schema declared (Update at q) it.is it.plain count h in
-      let put = updated schema settled.idle at table there old new declared (statement_of sql (understood schema sql)) params count q w in
+      let put = updated schema at table there old new declared (statement_of sql (understood schema sql)) params count idle q w in
       let found = put.0 in
       let answer : IsAnswer q.body (overlay db []) params found = put.1.answer Null in
       let step = put.2 in

@@ -21,7 +21,6 @@ use Rattle.reg_tables.specs.FailedCalls.{IsFault, IsInsertFault}
 use Rattle.reg_tables.specs.Rooms.{HasRoom}
 use Rattle.reg_tables.specs.Inside.Keyed.{Keyed, cells_of, with_entry, without_entry, IsFreeKey}
 use Rattle.reg_tables.specs.Inside.KeyedLaws.{TurnsTable, is_on, IsKeyed, PutsRow, DropsRow, new_row}
-use Rattle.reg_tables.proofs.Settled.{IsSettled}
 use Rattle.reg_tables.proofs.KeyedTables.{inserts, inserts_room, removes}
 use Rattle.reg_tables.proofs.TableFaults.{IsFree, IsRowTrouble, new_key, delete_fails, insert_fails, as_insert_fault, fault_alone}
 use Rattle.reg_tables.proofs.MapLemmas.{get-remove-same, insert-remove}
@@ -29,7 +28,7 @@ use Rattle.reg_tables.proofs.MapLemmas.{get-remove-same, insert-remove}
 the_one : (rows : List Row) (r row : Row) → rows ≡ row ∷ [] → Has rows r → r ≡ row
 the_one rows r row is there = elim (subst (λ l. Has l r) is there) [ inl same ↦ same | inr none ↦ absurd none ]
 
-module _ {C K V : Type 0} (schema : Schema) (settled : IsSettled schema) (Holds : Database → C → Type 0) (t : Keyed C K V) (its : IsKeyed schema Holds t) where
+module _ {C K V : Type 0} (schema : Schema) (Holds : Database → C → Type 0) (t : Keyed C K V) (its : IsKeyed schema Holds t) where
   -- a key that was dropped is free, and a put then sets its value
   pub free_once_dropped : (contents : C) (key : K) → IsFreeKey t key (without_entry t key contents)
   free_once_dropped contents key = ap (λ m. get m key) (its.map_is contents (remove (t.map_of contents) key)) ∙ get-remove-same t.cmp its.key.order (t.map_of contents) key
@@ -54,7 +53,7 @@ module _ {C K V : Type 0} (schema : Schema) (settled : IsSettled schema) (Holds 
       put_turns : (value : V) (count : ℕ) → IsFreeKey t key contents → Executes sql (cells_of t key value) old new (Ok count) → TurnsTable schema t.form t.table.tree old.now new.now (get (insert (t.map_of contents) key value))
       put_turns value count free ran =
           let is = p.entry (next_rowid (old.now.trees t.table.tree)) key value in
-          inserts schema settled t.form t.cmp its.key.order its.key.distinct t.at t.table its.is_at.there old new (its.declared old.now contents h) (t.map_of contents) (its.shows old.now contents h) key sql (cells_of t key value) count
+          inserts schema t.form t.cmp its.key.order its.key.distinct t.at t.table its.is_at.there old new (its.declared old.now contents h) (t.map_of contents) (its.shows old.now contents h) key sql (cells_of t key value) count
           p.terms p.width (new_row t (old.now.trees t.table.tree) key value) value its.uncounted p.is (p.row old.now.trees key value) (record { has_id = refl; has_key = is.0; has_value = is.1 }) free ran
 
       pub puts : (value : V) (count : ℕ) → IsFreeKey t key contents → Executes sql (cells_of t key value) old new (Ok count) → Holds new.now (with_entry t key value contents)
@@ -62,19 +61,19 @@ module _ {C K V : Type 0} (schema : Schema) (settled : IsSettled schema) (Holds 
 
       pub puts_room : (value : V) (count : ℕ) → Executes sql (cells_of t key value) old new (Ok count) → (n : ℕ) → HasRoom (old.now.trees t.table.tree) (n + 1) → HasRoom (new.now.trees t.table.tree) n
       puts_room value count ran n room =
-          inserts_room schema settled t.form t.cmp its.key.order its.key.distinct t.at t.table its.is_at.there old new (its.declared old.now contents h) (t.map_of contents) (its.shows old.now contents h) key sql (cells_of t key value) count
+          inserts_room schema t.form t.cmp its.key.order its.key.distinct t.at t.table its.is_at.there old new (its.declared old.now contents h) (t.map_of contents) (its.shows old.now contents h) key sql (cells_of t key value) count
           p.terms p.width (new_row t (old.now.trees t.table.tree) key value) its.uncounted p.is (p.row old.now.trees key value) refl ran n room
 
       module _ (e : Error) where
         abbrev row_of : V → Row
         row_of value = new_row t (old.now.trees t.table.tree) key value
 
-        put_stops : (value : V) → IsFreeKey t key contents → IsTrue (t.refers contents value) → ExecutesInside 0 sql (cells_of t key value) old new (Err e) → IsFault old new e ⊎ IsRowTrouble schema t.table (old.now.trees t.table.tree) (row_of value) e
+        put_stops : (value : V) → IsFreeKey t key contents → IsTrue (t.refers contents key value) → ExecutesInside 0 sql (cells_of t key value) old new (Err e) → IsFault old new e ⊎ IsRowTrouble schema t.table (old.now.trees t.table.tree) (row_of value) e
         put_stops value free refers ran =
             let rows = old.now.trees t.table.tree in
             let row = row_of value in
             let stands = p.stands (next_rowid rows) key value in
-            insert_fails schema settled t.at t.table its.is_at old new (its.declared old.now contents h) (its.sound old.now contents h) p.terms p.width (cells_of t key value) row sql its.uncounted p.is (p.whole key value)
+            insert_fails schema its.apart t.at t.table its.is_at old new (its.declared old.now contents h) (its.sound old.now contents h) p.terms p.width (cells_of t key value) row sql its.uncounted p.is (p.whole key value)
             (p.typed key value) (p.row old.now.trees key value) (record {
               keyed = refl;
               typed = stands.typed;
@@ -85,23 +84,23 @@ module _ {C K V : Type 0} (schema : Schema) (settled : IsSettled schema) (Holds 
             }) (λ next applies. its.put_refers old.now contents h key value refers row (p.entry (next_rowid rows) key value) next applies.tables (λ r there.
             elim (put_all_has _ rows r (subst (λ l. Has l r) applies.rows there)) [ inl fresh ↦ inl (the_one _ r row (p.row old.now.trees key value) fresh) | inr was ↦ inr was ])) e ran
 
-        pub put_fails : (value : V) → IsFreeKey t key contents → IsTrue (t.refers contents value) → ExecutesInside 0 sql (cells_of t key value) old new (Err e) → IsInsertFault old new e
+        pub put_fails : (value : V) → IsFreeKey t key contents → IsTrue (t.refers contents key value) → ExecutesInside 0 sql (cells_of t key value) old new (Err e) → IsInsertFault old new e
         put_fails value free refers ran = as_insert_fault schema old new t.table (old.now.trees t.table.tree) (row_of value) e (put_stops value free refers ran)
 
-        pub put_faults : (value : V) → IsFreeKey t key contents → IsTrue (t.refers contents value) → ExecutesInside 0 sql (cells_of t key value) old new (Err e) → (n : ℕ) → HasRoom (old.now.trees t.table.tree) (n + 1) → ¬ IsOversized schema t.table (row_of value) → IsFault old new e
+        pub put_faults : (value : V) → IsFreeKey t key contents → IsTrue (t.refers contents key value) → ExecutesInside 0 sql (cells_of t key value) old new (Err e) → (n : ℕ) → HasRoom (old.now.trees t.table.tree) (n + 1) → ¬ IsOversized schema t.table (row_of value) → IsFault old new e
         put_faults value free refers ran n room fits =
             fault_alone schema old new t.table (old.now.trees t.table.tree) (row_of value) e n room refl fits (put_stops value free refers ran)
 
     module _ (sql : List ℕ) (d : DropsRow schema t sql) where
       drop_turns : (count : ℕ) → Executes sql (t.form.key_cells key) old new (Ok count) → TurnsTable schema t.form t.table.tree old.now new.now (get (remove (t.map_of contents) key))
       drop_turns count ran =
-          removes schema settled t.form t.cmp its.key.order its.key.distinct t.at t.table its.is_at.there old new (its.declared old.now contents h) (t.map_of contents) (its.shows old.now contents h) key sql (t.form.key_cells key) count
-          t.tests d.is (λ row q is. its.key.test row key q is) ran
+          removes schema t.form t.cmp its.key.order its.key.distinct t.at t.table its.is_at.there old new (its.declared old.now contents h) (t.map_of contents) (its.shows old.now contents h) key sql (t.form.key_cells key) count
+          d.idle t.tests d.is (λ row q is. its.key.test row key q is) ran
 
       pub drops : (count : ℕ) → Executes sql (t.form.key_cells key) old new (Ok count) → Holds new.now (without_entry t key contents)
       drops count ran = its.turned old.now new.now contents h (remove (t.map_of contents) key) (drop_turns count ran)
 
       pub drop_fails : (e : Error) → ExecutesInside 0 sql (t.form.key_cells key) old new (Err e) → IsFault old new e
       drop_fails e =
-          delete_fails schema settled t.at t.table its.is_at old new (its.declared old.now contents h) (its.sound old.now contents h) sql (t.form.key_cells key) t.tests d.is (d.whole key) (d.typed key)
+          delete_fails schema its.apart t.at t.table its.is_at old new (its.declared old.now contents h) (its.sound old.now contents h) sql (t.form.key_cells key) t.tests d.idle d.is (d.whole key) (d.typed key)
           (λ found next applies. its.drop_refers old.now.trees next applies.tables (λ r there. without_all_has (ids_of found) (old.now.trees t.table.tree) r (subst (λ l. Has l r) applies.rows there))) e

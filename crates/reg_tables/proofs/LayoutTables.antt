@@ -5,22 +5,33 @@ use Rattle.std.specs.declared.alloc.Global.{Global}
 use Rattle.std.specs.FinMap.{get}
 use Rattle.sqlite.specs.declared.types.Value.TheVariants.{Text, Int}
 use Rattle.sqlite.specs.Order.{Row, column}
+use Rattle.sqlite.specs.Schema.{Schema}
+use Rattle.sqlite.specs.Effect.{Database}
 use Rattle.sqlite_schema.specs.Rules.{agree}
 use Rattle.sqlite_value.specs.Keys.{first_key}
 use Rattle.reg_tables.specs.declared.kept.KeptReply.{KeptReply}
 use Rattle.reg_tables.specs.declared.versions.VersionEntry.{VersionEntry}
-use Rattle.reg_tables.specs.Layout.{layout, versions, levels, kept, meta}
-use Rattle.reg_tables.specs.Contents.{text_cmp, version_cmp, text_cells, VersionRow, version_key_cells, version_cells, KeptRow, kept_cells, Holds}
+use Rattle.reg_tables.specs.Layout.{layout, IsLayout, versions, levels, kept, meta}
+use Rattle.reg_tables.specs.Contents.{text_cmp, version_cmp, text_cells, VersionRow, version_key_cells, version_cells, KeptRow, kept_cells, HoldsIn, AreReadable}
 use Rattle.reg_tables.specs.KeptRows.{kept_row}
 use Rattle.reg_tables.specs.Entries.{version_row}
 use Rattle.reg_tables.specs.Inside.Keyed.{texts_table, versions_table, levels_table, kept_table, meta_table}
-use Rattle.reg_tables.specs.Inside.KeyedLaws.{HasKey, IsKeyed}
+use Rattle.reg_tables.specs.Inside.KeyedLaws.{HasKey, IsKeyed, HoldsSome}
+use Rattle.reg_tables.specs.Reads.{HoldsReadable}
 use Rattle.reg_tables.proofs.Opening.{distinct_version_rows, distinct_kept_rows}
+use Rattle.reg_tables.proofs.Settled.{layout_apart}
 use Rattle.reg_tables.proofs.MapLemmas.{same_key}
 use Rattle.reg_tables.proofs.KeyedTables.{text_order, distinct_texts, by_key_test, number_order, distinct_numbers, by_id_test, version_order, distinct_versions, by_version_test}
 use Rattle.reg_tables.proofs.TableFaults.{versions_at, levels_at, kept_at, meta_at, has_text, refers_if, beside_refers}
 use Rattle.reg_tables.proofs.TableWrites.{all_turned}
 use Rattle.reg_tables.proofs.FailedVersions.{text_of_version, value_of}
+
+-- what is so of layout 1
+pub at_layout : (P : Schema → Type 0) → P layout → (schema : Schema) → schema ≡ layout → P schema
+at_layout P here schema is = subst P (sym is) here
+
+pub holds_some : {db : Database} → HoldsReadable db → HoldsSome IsLayout HoldsIn AreReadable db
+holds_some h = record { schema = h.schema; known = h.is_layout; contents = h.contents; holds = h.holds; readable = h.readable }
 
 -- ---- keys
 
@@ -55,8 +66,9 @@ versions_agree a b q k of_a of_b same =
 -- ---- where the contents are
 
 -- a version refers to its text
-pub versions_keyed : IsKeyed layout Holds versions_table
+pub versions_keyed : IsKeyed layout (HoldsIn layout) versions_table
 versions_keyed = record {
+  apart = layout_apart;
   is_at = versions_at;
   uncounted = refl;
   key = versions_key;
@@ -80,8 +92,9 @@ versions_keyed = record {
   last_map = λ contents first last. refl;
 }
 
-pub levels_keyed : IsKeyed layout Holds levels_table
+pub levels_keyed : IsKeyed layout (HoldsIn layout) levels_table
 levels_keyed = record {
+  apart = layout_apart;
   is_at = levels_at;
   uncounted = refl;
   key = levels_key;
@@ -97,8 +110,9 @@ levels_keyed = record {
   last_map = λ contents first last. refl;
 }
 
-pub kept_keyed : IsKeyed layout Holds kept_table
+pub kept_keyed : IsKeyed layout (HoldsIn layout) kept_table
 kept_keyed = record {
+  apart = layout_apart;
   is_at = kept_at;
   uncounted = refl;
   key = kept_key;
@@ -114,8 +128,9 @@ kept_keyed = record {
   last_map = λ contents first last. refl;
 }
 
-pub meta_keyed : IsKeyed layout Holds meta_table
+pub meta_keyed : IsKeyed layout (HoldsIn layout) meta_table
 meta_keyed = record {
+  apart = layout_apart;
   is_at = meta_at;
   uncounted = refl;
   key = meta_key;

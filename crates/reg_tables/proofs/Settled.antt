@@ -10,21 +10,17 @@ use Rattle.sqlite_schema.specs.declared.schema.Action.TheVariants.{NoAction}
 use Rattle.sqlite_schema.specs.declared.schema.Keys.TheVariants.{Enforced}
 use Rattle.sqlite_rules.specs.Action.{works}
 use Rattle.reg_tables.specs.Layout.{layout}
+use Rattle.reg_tables.specs.Inside.KeyedLaws.{AreApart, IsIdle}
 
--- no foreign key acts, and the tables have trees of their own
-pub record IsSettled (schema : Schema) : Type 0 where
-  pub idle : (tree : ℕ) (olds news : List Row) → works schema Enforced 0 tree olds news ≡ []
-  pub apart : IsAscending (λ (a : Table) (b : Table). a.tree ≡ b.tree → ⊥) schema.tables
-
-is_apart_from : ℕ → List Table → Bool
+pub is_apart_from : ℕ → List Table → Bool
 is_apart_from tree [] = true
 is_apart_from tree (t ∷ tables) = not (t.tree == tree) && is_apart_from tree tables
 
-are_apart : List Table → Bool
+pub are_apart : List Table → Bool
 are_apart [] = true
 are_apart (t ∷ tables) = is_apart_from t.tree tables && are_apart tables
 
-apart_if : (tables : List Table) → are_apart tables ≡ true → IsAscending (λ (a : Table) (b : Table). a.tree ≡ b.tree → ⊥) tables
+pub apart_if : (tables : List Table) → are_apart tables ≡ true → IsAscending (λ (a : Table) (b : Table). a.tree ≡ b.tree → ⊥) tables
 unfolding are_apart is_apart_from
 apart_if [] h = tt
 apart_if (t ∷ tables) h = let parts = and_parts (is_apart_from t.tree tables) (are_apart tables) h in (each tables parts.0, apart_if tables parts.1)
@@ -33,9 +29,12 @@ apart_if (t ∷ tables) h = let parts = and_parts (is_apart_from t.tree tables) 
     each [] h = tt
     each (b ∷ later) h = let parts = and_parts (not (b.tree == t.tree)) (is_apart_from t.tree later) h in (λ e. both_ways _ (not-true _ parts.0) (eq-eqb b.tree t.tree (sym e)), each later parts.1)
 
-pub layout_settled : IsSettled layout
+pub layout_apart : AreApart layout
 unfolding are_apart is_apart_from
-layout_settled = record { idle = λ tree olds news. rw (no_action (length news == 0)) refl; apart = apart_if layout.tables refl }
+layout_apart = apart_if layout.tables refl
+
+pub layout_idle : (tree : ℕ) → IsIdle layout tree
+layout_idle tree olds news = rw (no_action (length news == 0)) refl
   where
     no_action : (b : Bool) → cond b NoAction NoAction ≡ NoAction
     no_action true = refl

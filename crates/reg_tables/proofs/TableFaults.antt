@@ -17,7 +17,7 @@ use Rattle.sqlite.specs.declared.types.Value.TheVariants.{Null, Int}
 use Rattle.sqlite.specs.Command.TheVariants.{Insert, Delete}
 use Rattle.sqlite.specs.Source.TheVariants.{Values}
 use Rattle.sqlite.specs.Rows.{stamped}
-use Rattle.sqlite.specs.Edit.{Edit, edit_of, edited, left_by, id_in, is_taken, are_fresh, Applies, IsRefused, next_rowid}
+use Rattle.sqlite.specs.Edit.{Edit, edit_of, edited, taken_by, left_by, id_in, is_taken, are_fresh, Applies, IsRefused, next_rowid}
 use Rattle.sqlite.specs.Rowids.{Rowids}
 use Rattle.sqlite.specs.Rowids.TheVariants.{Chosen, Given}
 use Rattle.sqlite.specs.Effect.{Database, IsDatabase, value_rows, edit_error}
@@ -26,7 +26,7 @@ use Rattle.sqlite.specs.Listing.{understood}
 use Rattle.sqlite.specs.declared.error.Error.{Error}
 use Rattle.sqlite.specs.declared.error.Error.TheVariants.{SqliteFailure}
 use Rattle.sqlite.specs.declared.error.ErrorCode.TheVariants as code
-use Rattle.sqlite.proofs.Callers.{statement_of}
+use Rattle.sqlite.proofs.Callers.{statement_of, one_step}
 use Rattle.sqlite_schema.specs.declared.schema.Keys.TheVariants.{Enforced}
 use Rattle.sqlite_schema.specs.declared.schema.Among.TheVariants.{All}
 use Rattle.sqlite_schema.specs.declared.schema.Constraint.TheVariants.{Datatype, NotNull, Check, PrimaryKey, Unique, ForeignKey}
@@ -51,12 +51,11 @@ use Rattle.reg_tables.specs.TableMaps.{Form, ShowsMap}
 use Rattle.reg_tables.specs.Rooms.{HasRoom}
 use Rattle.reg_tables.proofs.Rooms.{above, less}
 use Rattle.reg_tables.specs.FailedCalls.{IsFault, IsInsertFault}
-use Rattle.reg_tables.specs.Inside.KeyedLaws.{HasKeys, IsAt, KeepsOthers}
+use Rattle.reg_tables.specs.Inside.KeyedLaws.{AreApart, IsIdle, HasKeys, IsAt, KeepsOthers}
 use Rattle.reg_tables.specs.Inside.Statements.{plain_query, IsCommand, IsWhole}
-use Rattle.reg_tables.proofs.Settled.{IsSettled}
 use Rattle.sqlite.specs.Schema.{Schema}
 use Rattle.reg_tables.proofs.UniqueLemmas.{with_tree_there, with_tree_elsewhere, stays_unique}
-use Rattle.reg_tables.proofs.WriteFaults.{delete_fits, delete_refused, insert_too_large, insert_refused, refused_by}
+use Rattle.reg_tables.proofs.WriteFaults.{NeverStops, none_stops, delete_fits, delete_refused, insert_too_large, insert_refused, refused_by}
 
 -- a sound database of this schema obeys it
 pub obeys : (schema : Schema) (db : Database) → db.schema ≡ schema → IsDatabase db → Obeys schema db.trees
@@ -143,7 +142,7 @@ beside_refers table not_texts not_versions old new same =
 
 -- ---- rows that are taken out
 
-module _ (schema : Schema) (settled : IsSettled schema) (old : State) (table : Table) (listed : Has schema.tables table) (keys : HasKeys schema table) (lawful : Obeys schema old.now.trees) (found : List Row) where
+module _ (schema : Schema) (apart : AreApart schema) (old : State) (table : Table) (listed : Has schema.tables table) (keys : HasKeys schema table) (lawful : Obeys schema old.now.trees) (found : List Row) where
   abbrev db : Trees
   db = old.now.trees
 
@@ -152,7 +151,7 @@ module _ (schema : Schema) (settled : IsSettled schema) (old : State) (table : T
 
   -- fewer rows share no key
   fewer : Keeps Unique schema (with_tree db table.tree left)
-  fewer = stays_unique schema db (with_tree db table.tree left) table [] settled.apart listed (λ t known other. with_tree_elsewhere db table.tree left t.tree other)
+  fewer = stays_unique schema db (with_tree db table.tree left) table [] apart listed (λ t known other. with_tree_elsewhere db table.tree left t.tree other)
       (λ r there. inr (without_all_has (ids_of found) (db table.tree) r (subst (λ l. Has l r) (with_tree_there db table.tree left) there))) (λ i known on r fresh there none. absurd none) (lawful.rules Unique)
 
   -- rows may be taken out
@@ -222,7 +221,7 @@ no_trouble rows count h row its why (inr taken) =
 abbrev pub IsRowTrouble : Schema → Table → List Row → Row → Error → Type 0
 IsRowTrouble schema table rows row e = ((e ≡ SqliteFailure code.TooBig) × IsOversized schema table row) ⊎ ((why : Refusal) × IsRowidTrouble rows row why × (e ≡ edit_error why))
 
-module _ (schema : Schema) (settled : IsSettled schema) (trees : Trees) (table : Table) (listed : Has schema.tables table) (keys : HasKeys schema table) (lawful : Obeys schema trees) (rowids : Rowids) (sources : List Row) (row : Row)
+module _ (schema : Schema) (apart : AreApart schema) (trees : Trees) (table : Table) (listed : Has schema.tables table) (keys : HasKeys schema table) (lawful : Obeys schema trees) (rowids : Rowids) (sources : List Row) (row : Row)
     (news : (edit_of trees table [] rowids 0 sources).news ≡ row ∷ []) (fitting : IsFitting schema table (trees table.tree) row) where
   abbrev edit : Edit
   edit = edit_of trees table [] rowids 0 sources
@@ -248,7 +247,7 @@ module _ (schema : Schema) (settled : IsSettled schema) (trees : Trees) (table :
       ]
 
   one_more : Keeps Unique schema after
-  one_more = stays_unique schema trees after table edit.news settled.apart listed (λ t known other. with_tree_elsewhere trees table.tree (edited trees edit) t.tree other) came clear (lawful.rules Unique)
+  one_more = stays_unique schema trees after table edit.news apart listed (λ t known other. with_tree_elsewhere trees table.tree (edited trees edit) t.tree other) came clear (lawful.rules Unique)
 
   passing : (p : Row → Bool) → p row ≡ true → list_all p edit.news ≡ false → ⊥
   passing p is fails = both_ways _ (subst (λ l. list_all p l ≡ false) news fails) (and_from _ _ is refl)
@@ -279,26 +278,32 @@ pub plain_fits : (trees : Trees) (params : Row) (tree : ℕ) (tests shown : List
 plain_fits trees params tree tests shown (inl none) = none
 plain_fits trees params tree tests shown (inr some) = (any_has _ _ some).2
 
-module _ (schema : Schema) (settled : IsSettled schema) (at : ℕ) (table : Table) (its : IsAt schema at table) (old new : State) (declared : old.now.schema ≡ schema) (sound : IsDatabase old.now) where
+module _ (schema : Schema) (apart : AreApart schema) (at : ℕ) (table : Table) (its : IsAt schema at table) (old new : State) (declared : old.now.schema ≡ schema) (sound : IsDatabase old.now) where
   lawful : Obeys schema old.now.trees
   lawful = obeys schema old.now declared sound
 
   listed : Has schema.tables table
   listed = has_got schema.tables at table its.there
 
+  abbrev cut : List Row → Edit
+  cut found = edit_of old.now.trees table (ids_of found) Given 0 []
+
+  ends : IsIdle schema table.tree → (found : List Row) → NeverStops schema old.now.trees (cut found)
+  ends idle found = none_stops schema old.now.trees (cut found) (idle (taken_by old.now.trees (cut found)) [])
+
   -- a DELETE of rows to which no other refers
-  pub delete_fails : (sql : List ℕ) (params : Row) (tests : List Term) → IsCommand schema sql (Delete at (record { lets = []; body = plain_query table.tree tests (col 1 0 ∷ []) }))
+  pub delete_fails : (sql : List ℕ) (params : Row) (tests : List Term) → IsIdle schema table.tree → IsCommand schema sql (Delete at (record { lets = []; body = plain_query table.tree tests (col 1 0 ∷ []) }))
       → IsWhole sql (length params) (understood schema sql) → accepts_program schema [] (plain_query table.tree tests (col 1 0 ∷ [])) params ≡ true
       → ((found : List Row) (next : Trees) → Applies schema Enforced old.now.trees (edit_of old.now.trees table (ids_of found) Given 0 []) next → Refers All schema old.now.trees → Refers All schema next)
       → (e : Error) → ExecutesInside 0 sql params old new (Err e) → IsFault old new e
-  delete_fails sql params tests it whole typed refers e h =
+  delete_fails sql params tests idle it whole typed refers e h =
       let q : Program = record { lets = []; body = plain_query table.tree tests (col 1 0 ∷ []) } in
       elim (refused_by sql params old new schema declared (Delete at q) it whole (record { silent = refl; stays = refl }) e h) [
         | inl fault ↦ fault
         | inr rest ↦ elim rest [
-          | inl large ↦ absurd (delete_fits schema settled at table its.there old new (statement_of sql (understood schema sql)) params e q typed (plain_fits old.now.trees params table.tree tests (col 1 0 ∷ [])) large.1)
-          | inr does ↦ delete_refused schema settled at table its.there old new (statement_of sql (understood schema sql)) params e q typed (plain_fits old.now.trees params table.tree tests (col 1 0 ∷ []))
-              (λ found why. delete_allowed schema settled old table listed its.keys lawful found why) (λ found next applies. refers found next applies (lawful.rules ForeignKey)) does
+          | inl large ↦ absurd (delete_fits schema at table its.there old new (statement_of sql (understood schema sql)) params e q typed (plain_fits old.now.trees params table.tree tests (col 1 0 ∷ [])) (ends idle) large.1)
+          | inr does ↦ delete_refused schema at table its.there old new (statement_of sql (understood schema sql)) params e q typed (plain_fits old.now.trees params table.tree tests (col 1 0 ∷ [])) (ends idle)
+              (λ found why. delete_allowed schema apart old table listed its.keys lawful found why) (λ found next asked wrote. refers found next (one_step schema Enforced old.now.trees next (cut found) (idle (taken_by old.now.trees (cut found)) []) wrote) (lawful.rules ForeignKey)) does
         ]
       ]
 
@@ -318,11 +323,11 @@ module _ (schema : Schema) (settled : IsSettled schema) (at : ℕ) (table : Tabl
           | inl fault ↦ inl fault
           | inr rest ↦ elim rest [
             | inl large ↦
-                let big = insert_too_large schema settled at table its.there old new (statement_of sql (understood schema sql)) params e terms width uncounted typed (λ next applies. refers next applies (lawful.rules ForeignKey)) large.1 in
+                let big = insert_too_large schema at table its.there old new (statement_of sql (understood schema sql)) params e terms width uncounted typed (λ next applies. refers next applies (lawful.rules ForeignKey)) large.1 in
                 inr (inl (large.0, subst (IsOversized schema table) (elim (subst (λ l. Has l big.0) news big.1) [ inl same ↦ same | inr none ↦ absurd none ]) big.2))
-            | inr does ↦ elim (insert_refused schema settled at table its.there old new (statement_of sql (understood schema sql)) params e terms width uncounted typed (λ next applies. refers next applies (lawful.rules ForeignKey)) does) [
+            | inr does ↦ elim (insert_refused schema at table its.there old new (statement_of sql (understood schema sql)) params e terms width uncounted typed (λ next applies. refers next applies (lawful.rules ForeignKey)) does) [
               | inl fault ↦ inl fault
-              | inr r ↦ inr (inr (r.0, insert_allowed schema settled old.now.trees table listed its.keys lawful Chosen sources row news fitting r.0 r.1, r.2))
+              | inr r ↦ inr (inr (r.0, insert_allowed schema apart old.now.trees table listed its.keys lawful Chosen sources row news fitting r.0 r.1, r.2))
             ]
           ]
         ]

@@ -18,7 +18,7 @@ use Rattle.reg_tables.specs.Inside.KeyedLaws.{KeepsOthers, TurnsTable}
 use Rattle.reg_tables.proofs.RowLemmas.{same_rows}
 use Rattle.sqlite_schema.specs.declared.schema.Index.{Index}
 use Rattle.reg_tables.proofs.Statements.{text_terms, put_text, put_text_is, with_flag, mark_version, mark_version_is}
-use Rattle.reg_tables.proofs.Settled.{layout_settled}
+use Rattle.reg_tables.proofs.Settled.{layout_idle}
 use Rattle.reg_tables.proofs.KeyedTables.{number_order, distinct_numbers, version_order, distinct_versions, by_version_test, cast-Null, cast-Int, inserts, alters}
 
 -- ---- a write to one table, in a database of the five tables and more
@@ -57,7 +57,7 @@ marked_entry row key version is =
 
 module _ (old new : State) (count : ℕ) (contents : Contents) (h : Holds old.now contents) where
   puts_text_turns : (id : ℕ) (text : List ℕ) → get contents.texts id ≡ None → Executes put_text (Int (pos id) ∷ Text text ∷ []) old new (Ok count) → TurnsTable layout text_form texts.tree old.now new.now (get (insert contents.texts id text))
-  puts_text_turns id text free ran = inserts layout layout_settled text_form nat_cmp number_order distinct_numbers 0 texts refl old new h.declared contents.texts h.texts id put_text (Int (pos id) ∷ Text text ∷ []) count text_terms 3
+  puts_text_turns id text free ran = inserts layout text_form nat_cmp number_order distinct_numbers 0 texts refl old new h.declared contents.texts h.texts id put_text (Int (pos id) ∷ Text text ∷ []) count text_terms 3
       (Int (pos id) ∷ Null ∷ Text text ∷ []) text refl put_text_is (rw (cast-Null, cast-Int (pos id))) (record { has_id = refl; has_key = refl; has_value = refl }) free ran
 
   pub puts_text : (id : ℕ) (text : List ℕ) → get contents.texts id ≡ None → Executes put_text (Int (pos id) ∷ Text text ∷ []) old new (Ok count) → Holds new.now (with_text id text contents)
@@ -68,7 +68,7 @@ module _ (old new : State) (count : ℕ) (contents : Contents) (h : Holds old.no
 
   marks_version_turns : (key : List ℕ × ℕ) → Executes mark_version (Text key.0 ∷ Int (pos key.1) ∷ []) old new (Ok count) → TurnsTable layout version_form versions.tree old.now new.now (get (altered contents.versions key as_deleted))
   marks_version_turns key ran =
-      alters layout layout_settled version_form version_cmp version_order distinct_versions 1 versions refl old new h.declared contents.versions h.versions key mark_version (Text key.0 ∷ Int (pos key.1) ∷ []) count by_version with_flag as_deleted mark_version_is
+      alters layout version_form version_cmp version_order distinct_versions 1 versions refl old new h.declared contents.versions h.versions key mark_version (Text key.0 ∷ Int (pos key.1) ∷ []) count (layout_idle versions.tree) by_version with_flag as_deleted mark_version_is
       (λ row q is. by_version_test row key q is) (λ row version is. marked_entry row key version is) ran
 
   pub marks_version : (key : List ℕ × ℕ) → Executes mark_version (Text key.0 ∷ Int (pos key.1) ∷ []) old new (Ok count) → Holds new.now (with_deleted key contents)

@@ -35,6 +35,7 @@ use Rattle.sqlite_rules.specs.declared.error.Refusal.{Refusal}
 use Rattle.sqlite_rules.specs.Action.{works, Leads, Settles}
 use Rattle.sqlite_rules.specs.Action as action
 use Rattle.sqlite_rules.specs.Calls.{ids_of}
+use Rattle.sqlite_rules.proofs.ActionLemmas.{no_works}
 use Rattle.sqlite_sql.specs.Program.{ProgramOverflows}
 use Rattle.sqlite_typing.specs.Types.{accepts_program, accepts_terms}
 use Rattle.reg_tables.specs.FailedCalls.{IsFault, IsWriteFault, IsPutFault, IsInsertFault}
@@ -42,7 +43,6 @@ use Rattle.reg_tables.specs.Inside.Statements.{IsWhole, IsCommand}
 use Rattle.reg_tables.proofs.Reasons.{reason_or_large, reason_of, reason_if_shut, reason_by, fault_since}
 use Rattle.sqlite_trees.specs.declared.error.StoreError.{StoreError}
 use Rattle.reg_tables.proofs.Writes.{uncounts}
-use Rattle.reg_tables.proofs.Settled.{IsSettled}
 
 -- it begins, ends or marks a transaction
 abbrev pub is_control : Command → Bool
@@ -163,16 +163,20 @@ open_or_failed sql params old new e h = elim (cases_Bool old.is_open) [ inl is_o
 
 -- ---- what is refused of the rows of one table
 
-module _ (schema : Schema) (settled : IsSettled schema) where
-  module _ (db : Trees) (edit : Edit) where
-    -- with no action of a foreign key, nothing is refused after the edit
-    no_end : (next : Trees) (why : Option Refusal) → Settles schema Enforced next (works schema Enforced 0 edit.table.tree (taken_by db edit) edit.news) (Err why) → ⊥
-    no_end next why h = go h.0 (rw (settled.idle edit.table.tree (taken_by db edit) edit.news) at h.1)
-      where
-        go : (n : ℕ) → Leads schema Enforced n next [] (Err why) → ⊥
-        go zero h = let e = h.1 in cc
-        go (suc n) h = omega (arith, ap length h.2, length-append h.0 (h.1 ∷ []))
+-- the actions that follow an edit do not fail
+abbrev pub NeverStops : Schema → Trees → Edit → Type 0
+NeverStops schema db edit = (next : Trees) (why : Option Refusal) → Applies schema Enforced db edit next → Settles schema Enforced next (works schema Enforced 0 edit.table.tree (taken_by db edit) edit.news) (Err why) → ⊥
 
+-- with no action of a foreign key, nothing is refused after the edit
+pub none_stops : (schema : Schema) (db : Trees) (edit : Edit) → works schema Enforced 0 edit.table.tree (taken_by db edit) edit.news ≡ [] → NeverStops schema db edit
+none_stops schema db edit quiet next why applies h = go h.0 (rw quiet at h.1)
+  where
+    go : (n : ℕ) → Leads schema Enforced n next [] (Err why) → ⊥
+    go zero h = let e = h.1 in cc
+    go (suc n) h = omega (arith, ap length h.2, length-append h.0 (h.1 ∷ []))
+
+module _ (schema : Schema) where
+  module _ (db : Trees) (edit : Edit) (ends : NeverStops schema db edit) where
     -- an edit is refused for one of the reasons that it has
     edit_refused : (stop : Option Error) (e : Error) → stop ≡ Some e → Edited schema Enforced db edit (Err stop) → (why : Refusal) × IsRefused schema Enforced db edit why × (e ≡ edit_error why)
     edit_refused stop e is h = go h.0 h.1 (sym is ∙ h.2)
@@ -181,7 +185,7 @@ module _ (schema : Schema) (settled : IsSettled schema) where
         go None w is = absurd (cc)
         go (Some why) (inl r) is = let same : why ≡ r.0 = (let e = r.2 in cc) in (r.0, r.1, let all : e ≡ edit_error why = cc in all ∙ ap edit_error same)
         go (Some why) (inr (inl big)) is = absurd (let e = big.3 in cc)
-        go (Some why) (inr (inr went)) is = absurd (no_end went.0 (Some why) went.2)
+        go (Some why) (inr (inr went)) is = absurd (ends went.0 (Some why) went.1 went.2)
 
     -- what stops an edit for its size is a row
     edit_large : (stop : Option Error) → stop ≡ None → Edited schema Enforced db edit (Err stop) → (row : Row) × Has edit.news row × IsOversized schema edit.table row
@@ -191,7 +195,7 @@ module _ (schema : Schema) (settled : IsSettled schema) where
         go (Some why) w is = absurd (cc)
         go None (inl r) is = absurd (let e = r.2 in cc)
         go None (inr (inl big)) is = (big.0, big.1, big.2)
-        go None (inr (inr went)) is = absurd (no_end went.0 None went.2)
+        go None (inr (inr went)) is = absurd (ends went.0 None went.1 went.2)
 
   module _ (at : ℕ) (table : Table) (there : slice_get schema.tables at ≡ Some table) (old new : State) (text : List ℕ) (params : Row) (e : Error) where
     abbrev db : Trees
@@ -225,28 +229,31 @@ module _ (schema : Schema) (settled : IsSettled schema) where
       query_large None is h = h
       query_large (Some x) is h = cc
 
-      delete_large : (stop : Option Error) → stop ≡ None → Deletes task q db (Err stop) → ⊥
-      delete_large stop is (inl asked) = query_large asked.0 (let e = asked.2 in cc) asked.1
-      delete_large stop is (inr found) = elim found.2 [
-        | inl cut ↦ (edit_large db (edit_of db table (ids_of found.0) Given 0 []) cut.0 (let e = cut.2 in cc) cut.1).1
+      abbrev cut_by : List Row → Edit
+      cut_by found = edit_of db table (ids_of found) Given 0 []
+
+      delete_large : ((found : List Row) → NeverStops schema db (cut_by found)) → (stop : Option Error) → stop ≡ None → Deletes task q db (Err stop) → ⊥
+      delete_large ends stop is (inl asked) = query_large asked.0 (let e = asked.2 in cc) asked.1
+      delete_large ends stop is (inr found) = elim found.2 [
+        | inl cut ↦ (edit_large db (cut_by found.0) (ends found.0) cut.0 (let e = cut.2 in cc) cut.1).1
         | inr done ↦ (let e = done.2 in cc)
       ]
 
       -- a DELETE puts no row in that could be too large
-      pub delete_fits : Does old.step_limit (mode_of old) params (record old.now { schema = schema }) text None (Delete at q) (Err None) → ⊥
-      delete_fits does = go (rw there at does)
+      pub delete_fits : ((found : List Row) → NeverStops schema db (cut_by found)) → Does old.step_limit (mode_of old) params (record old.now { schema = schema }) text None (Delete at q) (Err None) → ⊥
+      delete_fits ends does = go (rw there at does)
         where
           go : Then (Deletes task q db) (Concludes task (mode_of old) None) (Err None) → ⊥
-          go (inl stopped) = delete_large stopped.0 (let e = stopped.2 in cc) stopped.1
+          go (inl stopped) = delete_large ends stopped.0 (let e = stopped.2 in cc) stopped.1
           go (inr wrote) = concluded_large wrote.0 wrote.2
 
       -- a DELETE of them
-      module _ (allowed : (found : List Row) (why : Refusal) → IsRefused schema Enforced db (edit_of db table (ids_of found) Given 0 []) why → ⊥)
-          (refers : (found : List Row) (next : Trees) → Applies schema Enforced db (edit_of db table (ids_of found) Given 0 []) next → Refers All schema next) where
+      module _ (ends : (found : List Row) → NeverStops schema db (cut_by found)) (allowed : (found : List Row) (why : Refusal) → IsRefused schema Enforced db (cut_by found) why → ⊥)
+          (refers : (found : List Row) (next : Trees) → Queried old.step_limit (record { schema = schema; trees = db }) q params (Ok found) → action.Writes schema Enforced db (cut_by found) (Ok next) → Refers All schema next) where
         delete_stopped : (stop : Option Error) → stop ≡ Some e → Deletes task q db (Err stop) → IsFault old new e
         delete_stopped stop is (inl asked) = query_stopped asked.0 (let e = asked.2 in cc) asked.1
         delete_stopped stop is (inr found) = elim found.2 [
-          | inl cut ↦ let r = edit_refused db (edit_of db table (ids_of found.0) Given 0 []) cut.0 e (let e = cut.2 in cc) cut.1 in absurd (allowed found.0 r.0 r.1)
+          | inl cut ↦ let r = edit_refused db (cut_by found.0) (ends found.0) cut.0 e (let e = cut.2 in cc) cut.1 in absurd (allowed found.0 r.0 r.1)
           | inr done ↦ absurd (let e = done.2 in cc)
         ]
 
@@ -255,10 +262,9 @@ module _ (schema : Schema) (settled : IsSettled schema) where
         deleted_trees w (inr found) = elim found.2 [
           | inl stopped ↦ absurd (let e = stopped.2 in cc)
           | inr cut ↦
-              let edit = edit_of db table (ids_of found.0) Given 0 [] in
-              let step = one_step schema Enforced db cut.0 edit (settled.idle edit.table.tree (taken_by db edit) edit.news) cut.1 in
+              let edit = cut_by found.0 in
               let same : w ≡ record { trees = cut.0; rows = taken_by db edit; last = None } = (let e = cut.2 in cc) in
-              subst (λ (w : Written). Refers All schema w.trees) (sym same) (refers found.0 cut.0 step)
+              subst (λ (w : Written). Refers All schema w.trees) (sym same) (refers found.0 cut.0 found.1 cut.1)
         ]
 
         pub delete_refused : Refused (Delete at q) → IsFault old new e
@@ -272,7 +278,8 @@ module _ (schema : Schema) (settled : IsSettled schema) where
       altered_by found = edit_of db table (ids_of found) Given 1 found
 
       -- an UPDATE of them
-      module _ (refers : (found : List Row) (next : Trees) → Queried old.step_limit (record { schema = schema; trees = db }) q params (Ok found) → Applies schema Enforced db (altered_by found) next → Refers All schema next) where
+      module _ (quiet : (found : List Row) → works schema Enforced 0 table.tree (taken_by db (altered_by found)) (altered_by found).news ≡ [])
+          (refers : (found : List Row) (next : Trees) → Queried old.step_limit (record { schema = schema; trees = db }) q params (Ok found) → Applies schema Enforced db (altered_by found) next → Refers All schema next) where
         -- the fault, or why the edit is refused
         abbrev Halt : Type 0
         Halt = IsFault old new e ⊎ ((found : List Row) × (why : Refusal) × Queried old.step_limit (record { schema = schema; trees = db }) q params (Ok found) × IsRefused schema Enforced db (altered_by found) why × (e ≡ edit_error why))
@@ -280,7 +287,7 @@ module _ (schema : Schema) (settled : IsSettled schema) where
         update_stopped : (stop : Option Error) → stop ≡ Some e → Updates task q params db (Err stop) → Halt
         update_stopped stop is (inl asked) = inl (query_stopped asked.0 (let e = asked.2 in cc) asked.1)
         update_stopped stop is (inr found) = elim found.2 [
-          | inl put ↦ let r = edit_refused db (altered_by found.0) put.0 e (let e = put.2 in cc) put.1 in inr (found.0, r.0, found.1, r.1, r.2)
+          | inl put ↦ let r = edit_refused db (altered_by found.0) (none_stops schema db (altered_by found.0) (quiet found.0)) put.0 e (let e = put.2 in cc) put.1 in inr (found.0, r.0, found.1, r.1, r.2)
           | inr done ↦ absurd (let e = done.2 in cc)
         ]
 
@@ -290,7 +297,7 @@ module _ (schema : Schema) (settled : IsSettled schema) where
           | inl stopped ↦ absurd (let e = stopped.2 in cc)
           | inr put ↦
               let edit = altered_by found.0 in
-              let step = one_step schema Enforced db put.0 edit (settled.idle edit.table.tree (taken_by db edit) edit.news) put.1 in
+              let step = one_step schema Enforced db put.0 edit (quiet found.0) put.1 in
               let same : w ≡ record { trees = put.0; rows = edit.news; last = None } = (let e = put.2 in cc) in
               subst (λ (w : Written). Refers All schema w.trees) (sym same) (refers found.0 put.0 found.1 step)
         ]
@@ -310,6 +317,9 @@ module _ (schema : Schema) (settled : IsSettled schema) where
 
       abbrev edit_by : List Row → Rowids → Edit
       edit_by rows rowids = edit_of db table [] rowids 0 rows
+
+      adds : (rows : List Row) (rowids : Rowids) → NeverStops schema db (edit_by rows rowids)
+      adds rows rowids = none_stops schema db (edit_by rows rowids) (no_works schema Enforced 0 table.tree (edit_by rows rowids).news)
 
       -- the fault, or why the edit is refused
       abbrev Stop : Type 0
@@ -332,7 +342,7 @@ module _ (schema : Schema) (settled : IsSettled schema) where
         | inl counter ↦ absurd (let e = MatchBool-at_false _ _ uncounted counter.1 in cc)
         | inr counter ↦ elim counter.2 [
           | inl put ↦
-              let r = edit_refused db (edit_by given.0 (rowids_for table (count_of counter.0))) put.0 e (let e = put.2 in cc) put.1 in
+              let r = edit_refused db (edit_by given.0 (rowids_for table (count_of counter.0))) (adds given.0 (rowids_for table (count_of counter.0))) put.0 e (let e = put.2 in cc) put.1 in
               inr (r.0, subst (λ (d : Edit). IsRefused schema Enforced db d r.0) (same_edit given.0 counter.0 given.1.1) r.1, r.2)
           | inr put ↦ elim put.2 [
             | inl counted ↦ absurd (let e = uncounts table.is_counted _ _ _ uncounted counted.1 in cc)
@@ -351,7 +361,7 @@ module _ (schema : Schema) (settled : IsSettled schema) where
             | inl counted ↦ absurd (let e = counted.2 in cc)
             | inr done ↦
                 let its = edit_by given.0 (rowids_for table (count_of counter.0)) in
-                let step = one_step schema Enforced db put.0 its (settled.idle its.table.tree (taken_by db its) its.news) put.1 in
+                let step = one_step schema Enforced db put.0 its (no_works schema Enforced 0 table.tree its.news) put.1 in
                 let kept : done.0 ≡ put.0 = (let e = uncounts table.is_counted _ _ _ uncounted done.1 in cc) in
                 let same : w ≡ record { trees = done.0; rows = its.news; last = w.last } = (let e = done.2 in cc) in
                 let end : w.trees ≡ put.0 = ap (λ (x : Written). x.trees) same ∙ kept in
@@ -374,7 +384,7 @@ module _ (schema : Schema) (settled : IsSettled schema) where
         | inl counter ↦ absurd (let e = MatchBool-at_false _ _ uncounted counter.1 in cc)
         | inr counter ↦ elim counter.2 [
           | inl put ↦
-              let r = edit_large db (edit_by given.0 (rowids_for table (count_of counter.0))) put.0 (let e = put.2 in cc) put.1 in
+              let r = edit_large db (edit_by given.0 (rowids_for table (count_of counter.0))) (adds given.0 (rowids_for table (count_of counter.0))) put.0 (let e = put.2 in cc) put.1 in
               (r.0, subst (λ (d : Edit). Has d.news r.0) (same_edit given.0 counter.0 given.1.1) r.1, r.2)
           | inr put ↦ elim put.2 [
             | inl counted ↦ absurd (let e = uncounts table.is_counted _ _ _ uncounted counted.1 in cc)

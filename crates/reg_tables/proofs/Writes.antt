@@ -20,9 +20,10 @@ use Rattle.sqlite.specs.declared.error.Error.{Error}
 use Rattle.sqlite.proofs.Callers.{one_step}
 use Rattle.sqlite_schema.specs.declared.schema.Keys.TheVariants.{Enforced}
 use Rattle.sqlite_schema.specs.declared.program.Program.{Program}
-use Rattle.sqlite_rules.specs.Action.{works}
 use Rattle.sqlite_rules.specs.Action as action
 use Rattle.sqlite_rules.specs.Calls.{ids_of}
+use Rattle.sqlite_rules.proofs.ActionLemmas.{no_works}
+use Rattle.reg_tables.specs.Inside.KeyedLaws.{IsIdle}
 
 -- a part that gave a value did not stop on the way
 pub went : {B E R : Type 0} {b : B} {Stops : E → Type 0} → ((stop : E) × Stops stop × (Ok b ≡ Err stop)) ⊎ R → R
@@ -42,7 +43,7 @@ pub record IsStep (schema : Schema) (old new : State) (edit : Edit) : Type 0 whe
   pub same : new.now.schema ≡ schema
   pub applies : Applies schema Enforced old.now.trees edit new.now.trees
 
-module _ (schema : Schema) (idle : (tree : ℕ) (olds news : List Row) → works schema Enforced 0 tree olds news ≡ []) (at : ℕ) (table : Table) (there : slice_get schema.tables at ≡ Some table)
+module _ (schema : Schema) (at : ℕ) (table : Table) (there : slice_get schema.tables at ≡ Some table)
     (old new : State) (has : old.now.schema ≡ schema) (text : List ℕ) (params : Row) (count : ℕ) where
   abbrev task : Task
   task = record { limit = old.step_limit; keys = Enforced; schema = schema; table = table; params = params }
@@ -72,7 +73,7 @@ module _ (schema : Schema) (idle : (tree : ℕ) (olds news : List Row) → works
       let top = count_of counter.0 in
       let chosen : rowids_for table top ≡ Chosen = ap (λ b. if b then Above top else Chosen) uncounted in
       let steps = subst (λ (r : Rowids). action.Writes schema Enforced db (edit_of db table [] r 0 given.0) (Ok put.0)) chosen put.1 in
-      let step : Applies schema Enforced db edit put.0 = one_step schema Enforced db put.0 edit (idle edit.table.tree (taken_by db edit) edit.news) steps in
+      let step : Applies schema Enforced db edit put.0 = one_step schema Enforced db put.0 edit (no_works schema Enforced 0 table.tree edit.news) steps in
       let end : put.0 ≡ wrote.0.trees = sym (ap (λ (it : Written). it.trees) (same_value counted.2) ∙ same_value (uncounts table.is_counted _ _ _ uncounted counted.1)) in
       let now : put.0 ≡ new.now.trees = end ∙ ap (λ (d : Database). d.trees) (sym wrote.2) in
       record {
@@ -89,15 +90,15 @@ module _ (schema : Schema) (idle : (tree : ℕ) (olds news : List Row) → works
       (ran.0, ran.1, ap (λ (p : Tally × Database). p.1) (same_value {E = Option Error} shown.2))
 
   -- the query gives the rowids
-  pub deleted : (q : Program) → Writes old new None (Delete at q) text params count
+  pub deleted : IsIdle schema table.tree → (q : Program) → Writes old new None (Delete at q) text params count
       → (found : List Row) × Answers (record { schema = schema; trees = old.now.trees }) q params found × IsStep schema old new (edit_of old.now.trees table (ids_of found) Given 0 [])
-  deleted q w =
+  deleted idle q w =
       let wrote = delete_wrote q w in
       let asked = went wrote.1 in
       let cut = went asked.2 in
       let db = old.now.trees in
       let edit = edit_of db table (ids_of asked.0) Given 0 [] in
-      let step : Applies schema Enforced db edit cut.0 = one_step schema Enforced db cut.0 edit (idle edit.table.tree (taken_by db edit) edit.news) cut.1 in
+      let step : Applies schema Enforced db edit cut.0 = one_step schema Enforced db cut.0 edit (idle (taken_by db edit) edit.news) cut.1 in
       let now : cut.0 ≡ new.now.trees = sym (ap (λ (it : Written). it.trees) (same_value cut.2)) ∙ ap (λ (d : Database). d.trees) (sym wrote.2) in
       (asked.0, asked.1, record { same = ap (λ (d : Database). d.schema) wrote.2; applies = subst (Applies schema Enforced db edit) now step })
 
@@ -110,14 +111,14 @@ module _ (schema : Schema) (idle : (tree : ℕ) (olds news : List Row) → works
       (ran.0, ran.1, ap (λ (p : Tally × Database). p.1) (same_value {E = Option Error} shown.2))
 
   -- the query gives the rowids, and the rows that take their places
-  pub updated : (q : Program) → Writes old new None (Update at q) text params count
+  pub updated : IsIdle schema table.tree → (q : Program) → Writes old new None (Update at q) text params count
       → (found : List Row) × Answers (record { schema = schema; trees = old.now.trees }) q params found × IsStep schema old new (edit_of old.now.trees table (ids_of found) Given 1 found)
-  updated q w =
+  updated idle q w =
       let wrote = update_wrote q w in
       let asked = went wrote.1 in
       let put = went asked.2 in
       let db = old.now.trees in
       let edit = edit_of db table (ids_of asked.0) Given 1 asked.0 in
-      let step : Applies schema Enforced db edit put.0 = one_step schema Enforced db put.0 edit (idle edit.table.tree (taken_by db edit) edit.news) put.1 in
+      let step : Applies schema Enforced db edit put.0 = one_step schema Enforced db put.0 edit (idle (taken_by db edit) edit.news) put.1 in
       let now : put.0 ≡ new.now.trees = sym (ap (λ (it : Written). it.trees) (same_value put.2)) ∙ ap (λ (d : Database). d.trees) (sym wrote.2) in
       (asked.0, asked.1, record { same = ap (λ (d : Database). d.schema) wrote.2; applies = subst (Applies schema Enforced db edit) now step })

@@ -5,12 +5,16 @@ use Rattle.sqlite.specs.Order.{Row}
 use Rattle.sqlite.specs.Tree.{rowid}
 use Rattle.sqlite.specs.Edit.{next_rowid}
 use Rattle.sqlite.specs.Table.{Table}
+use Rattle.sqlite.specs.Schema.{Schema}
 use Rattle.sqlite_rules.specs.Edit.{IsOversized}
 use Rattle.reg_tables.specs.Layout.{layout}
 
 -- a row with these cells can be stored, whatever its rowid
+abbrev pub CanBeStoredIn : Schema → Table → Row → Type 0
+CanBeStoredIn schema table cells = (id : ℤ) → ¬ IsOversized schema table (Int id ∷ cells)
+
 abbrev pub CanBeStored : Table → Row → Type 0
-CanBeStored table cells = (id : ℤ) → ¬ IsOversized layout table (Int id ∷ cells)
+CanBeStored = CanBeStoredIn layout
 
 -- the rows stand in the order of their rowids, which are at least this
 abbrev pub Ascends : ℕ → List Row → Type 0

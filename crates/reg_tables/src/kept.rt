@@ -6,7 +6,8 @@ ghost use Rattle.sqlite.specs.Order.{column};
 ghost use Rattle.sqlite.specs.Held.{state};
 ghost use Rattle.reg_tables.specs.Frames.{state_in, StaysInside, StaysIdle};
 ghost use Rattle.sqlite.specs.State.{HasCleanDisk};
-ghost use Rattle.reg_tables.specs.Contents.{KeptRow, Contents, kept_cells, IsReadableReply, Holds};
+ghost use Rattle.reg_tables.specs.Layout.{IsLayout, layout};
+ghost use Rattle.reg_tables.specs.Contents.{KeptRow, Contents, kept_cells, IsReadableReply, Holds, AreReadable, HoldsIn};
 ghost use Rattle.reg_tables.specs.Changes.{with_kept};
 ghost use Rattle.reg_tables.specs.Reads.{CanBeRead};
 ghost use Rattle.reg_tables.specs.FailedCalls.{IsFault, IsInsertFault};
@@ -48,11 +49,19 @@ struct Kept;
 impl KeyedTable for Kept {
     type Found = KeptReply;
 
+    ghost Tables = { Contents };
+
     ghost Key = { List ℕ };
 
     ghost Value = { KeptRow };
 
-    ghost table = { kept_table };
+    ghost Holds = { HoldsIn };
+
+    ghost Known = { IsLayout };
+
+    ghost Readable = { AreReadable };
+
+    ghost table = { λ schema. kept_table };
 
     ghost value_of = { kept_row };
 
@@ -62,6 +71,8 @@ impl KeyedTable for Kept {
 }
 
 impl FilledTable for Kept {
+    ghost Written = { λ schema. schema ≡ layout };
+
     fn put_sql() -> &'static str {
         "INSERT INTO kept (key, command, status, body) VALUES (?1, ?2, ?3, ?4)"
     }

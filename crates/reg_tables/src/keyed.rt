@@ -3,57 +3,71 @@
 ghost use Rattle.std.specs.Prelude.{◌≡◌, ◌+◌, ◌∷◌, ℕ, ℤ, List, [], IsUtf8, IsTrue, string_bytes, None, Some, OnOk, IfOk, IfErr, MatchOption, false};
 ghost use Rattle.std.specs.FinMap.{get};
 ghost use Rattle.sqlite.specs.Order.{column};
+ghost use Rattle.sqlite.specs.Schema.{Schema};
+ghost use Rattle.sqlite.specs.Effect.{Database};
 ghost use Rattle.sqlite.specs.Held.{state};
 ghost use Rattle.sqlite.specs.State.{HasCleanDisk};
 ghost use Rattle.sqlite.specs.Values.{bound};
-ghost use Rattle.reg_tables.specs.Layout.{layout};
 ghost use Rattle.reg_tables.specs.Frames.{state_in, StaysInside, StaysIdle};
-ghost use Rattle.reg_tables.specs.Contents.{text_cells, Contents, AreReadable, HoldsIn, Holds};
-ghost use Rattle.reg_tables.specs.Rooms.{HasRoom, CanBeStored};
-ghost use Rattle.reg_tables.specs.Reads.{CanBeRead};
+ghost use Rattle.reg_tables.specs.Contents.{text_cells};
+ghost use Rattle.reg_tables.specs.Rooms.{HasRoom, CanBeStoredIn};
 ghost use Rattle.reg_tables.specs.FailedCalls.{IsFault, IsWriteFault, IsInsertFault};
 ghost use Rattle.reg_tables.specs.Inside.Keyed.{Keyed, cells_of, with_entry, without_entry, IsFreeKey};
-ghost use Rattle.reg_tables.specs.Inside.KeyedLaws.{IsKeyed, PutsRow, DropsRow, FindsRow};
+ghost use Rattle.reg_tables.specs.Inside.KeyedLaws.{IsKeyed, PutsRow, DropsRow, FindsRow, HoldsSome};
 
 use crate::statement::{Line, first, run};
 use sqlite::types::ValueRef;
 use sqlite::{Alter, Connection, Error, ErrorCode, Row, Transaction};
 
-/// A table that has one row for each key, and the line that its values are read as.
+/// A table that has one row for each key, in the layouts that have it, and the line that its values
+/// are read as.
 pub(crate) trait KeyedTable {
     type Found: Line;
+
+    /// What the tables of a layout hold.
+    ghost Tables: { Type 0 };
 
     ghost Key: { Type 0 };
 
     ghost Value: { Type 0 };
 
-    ghost table: { Keyed Contents Key Value };
+    ghost Holds: { Schema → Database → Tables → Type 0 };
+
+    /// The schemas in which it is read.
+    ghost Known: { Schema → Type 0 };
+
+    ghost Readable: { Tables → Type 0 };
+
+    ghost table: { Schema → Keyed Tables Key Value };
 
     ghost value_of: { Self.Found → Value };
 
     /// The SELECT of a value, by the columns of its key.
     fn find_sql() -> &'static str
-        ensures finds { FindsRow HoldsIn table result.now }
-        ensures read { (found : Self.Found) (value : Value)
-            → Self.Found.shown (table.form.value_cells value) ≡ Self.Found.cells found → value_of found ≡ value }
-        ensures readable { (contents : Contents) → AreReadable contents → (key : Key) (value : Value)
-            → get (table.map_of contents) key ≡ Some value → Self.Found.is_readable (table.form.value_cells value) };
+        ensures finds { (schema : Schema) → Known schema → FindsRow schema (Holds schema) (table schema) result.now }
+        ensures read { (schema : Schema) (found : Self.Found) (value : Value)
+            → Self.Found.shown ((table schema).form.value_cells value) ≡ Self.Found.cells found → value_of found ≡ value }
+        ensures readable { (schema : Schema) (tables : Tables) → Readable tables → (key : Key) (value : Value)
+            → get ((table schema).map_of tables) key ≡ Some value → Self.Found.is_readable ((table schema).form.value_cells value) };
 }
 
-/// A table that rows are put into, and to which no other table refers.
+/// A table that rows are put into.
 pub(crate) trait FilledTable: KeyedTable {
+    /// The schemas in which it is written.
+    ghost Written: { Schema → Type 0 };
+
     /// The INSERT of a row, by the columns of its key and then of its value.
     fn put_sql() -> &'static str
-        ensures keyed { IsKeyed layout Holds Self.table }
-        ensures puts { PutsRow layout Self.table result.now };
+        ensures keyed { (schema : Schema) → Written schema → IsKeyed schema (Self.Holds schema) (Self.table schema) }
+        ensures puts { (schema : Schema) → Written schema → PutsRow schema (Self.table schema) result.now };
 }
 
-/// One whose rows are dropped too.
+/// One whose rows are dropped too, and no others with them.
 pub(crate) trait ChangedTable: FilledTable {
     /// The DELETE of a row, by the columns of its key.
     fn drop_sql() -> &'static str
-        ensures keyed { IsKeyed layout Holds Self.table }
-        ensures drops { DropsRow layout Self.table result.now };
+        ensures keyed { (schema : Schema) → Self.Written schema → IsKeyed schema (Self.Holds schema) (Self.table schema) }
+        ensures drops { (schema : Schema) → Self.Written schema → DropsRow schema (Self.table schema) result.now };
 }
 
 impl Line for String {
@@ -74,24 +88,28 @@ pub(crate) fn put<S: Alter, T: FilledTable>(
     values: &[ValueRef<'_>],
 ) -> Result<(), Error>
     ensures frame { StaysInside S.Store tx.old tx.new result }
-    ensures put { HasCleanDisk (state_in S.Store tx.new) → OnOk result ((key : T.Key) (value : T.Value)
-        → bound values.now ≡ cells_of T.table key value
-        → (contents : Contents) → Holds (state_in S.Store tx.old).now contents → IsFreeKey T.table key contents
-        → Holds (state_in S.Store tx.new).now (with_entry T.table key value contents)) }
-    ensures fault { HasCleanDisk (state_in S.Store tx.new) → IfErr result (λ e. (key : T.Key) (value : T.Value)
-        → bound values.now ≡ cells_of T.table key value
-        → (contents : Contents) → Holds (state_in S.Store tx.old).now contents → IsFreeKey T.table key contents
-        → IsTrue (T.table.refers contents value)
+    ensures put { HasCleanDisk (state_in S.Store tx.new) → OnOk result ((schema : Schema) → T.Written schema
+        → (key : T.Key) (value : T.Value)
+        → bound values.now ≡ cells_of (T.table schema) key value
+        → (tables : T.Tables) → T.Holds schema (state_in S.Store tx.old).now tables → IsFreeKey (T.table schema) key tables
+        → T.Holds schema (state_in S.Store tx.new).now (with_entry (T.table schema) key value tables)) }
+    ensures fault { HasCleanDisk (state_in S.Store tx.new) → IfErr result (λ e. (schema : Schema) → T.Written schema
+        → (key : T.Key) (value : T.Value)
+        → bound values.now ≡ cells_of (T.table schema) key value
+        → (tables : T.Tables) → T.Holds schema (state_in S.Store tx.old).now tables → IsFreeKey (T.table schema) key tables
+        → IsTrue ((T.table schema).refers tables key value)
         → IsInsertFault (state_in S.Store tx.old) (state_in S.Store tx.new) e) }
-    ensures room { HasCleanDisk (state_in S.Store tx.new) → OnOk result ((key : T.Key) (value : T.Value)
-        → bound values.now ≡ cells_of T.table key value
-        → (contents : Contents) → Holds (state_in S.Store tx.old).now contents → IsFreeKey T.table key contents
-        → (n : ℕ) → HasRoom ((state_in S.Store tx.old).now.trees T.table.table.tree) (n + 1) → HasRoom ((state_in S.Store tx.new).now.trees T.table.table.tree) n) }
-    ensures fits { HasCleanDisk (state_in S.Store tx.new) → IfErr result (λ e. (key : T.Key) (value : T.Value)
-        → bound values.now ≡ cells_of T.table key value
-        → (contents : Contents) → Holds (state_in S.Store tx.old).now contents → IsFreeKey T.table key contents
-        → IsTrue (T.table.refers contents value) → (n : ℕ) → HasRoom ((state_in S.Store tx.old).now.trees T.table.table.tree) (n + 1)
-        → CanBeStored T.table.table (cells_of T.table key value)
+    ensures room { HasCleanDisk (state_in S.Store tx.new) → OnOk result ((schema : Schema) → T.Written schema
+        → (key : T.Key) (value : T.Value)
+        → bound values.now ≡ cells_of (T.table schema) key value
+        → (tables : T.Tables) → T.Holds schema (state_in S.Store tx.old).now tables → IsFreeKey (T.table schema) key tables
+        → (n : ℕ) → HasRoom ((state_in S.Store tx.old).now.trees (T.table schema).table.tree) (n + 1) → HasRoom ((state_in S.Store tx.new).now.trees (T.table schema).table.tree) n) }
+    ensures fits { HasCleanDisk (state_in S.Store tx.new) → IfErr result (λ e. (schema : Schema) → T.Written schema
+        → (key : T.Key) (value : T.Value)
+        → bound values.now ≡ cells_of (T.table schema) key value
+        → (tables : T.Tables) → T.Holds schema (state_in S.Store tx.old).now tables → IsFreeKey (T.table schema) key tables
+        → IsTrue ((T.table schema).refers tables key value) → (n : ℕ) → HasRoom ((state_in S.Store tx.old).now.trees (T.table schema).table.tree) (n + 1)
+        → CanBeStoredIn schema (T.table schema).table (cells_of (T.table schema) key value)
         → IsWriteFault (state_in S.Store tx.old) (state_in S.Store tx.new) e) }
 {
     run(tx, T::put_sql(), values)
@@ -103,15 +121,17 @@ pub(crate) fn drop<S: Alter, T: ChangedTable>(
     values: &[ValueRef<'_>],
 ) -> Result<(), Error>
     ensures frame { StaysInside S.Store tx.old tx.new result }
-    ensures dropped { HasCleanDisk (state_in S.Store tx.new) → OnOk result ((key : T.Key)
-        → bound values.now ≡ T.table.form.key_cells key
-        → (contents : Contents) → Holds (state_in S.Store tx.old).now contents
-        → Holds (state_in S.Store tx.new).now (without_entry T.table key contents)) }
-    ensures fault { HasCleanDisk (state_in S.Store tx.new) → IfErr result (λ e. (key : T.Key)
-        → bound values.now ≡ T.table.form.key_cells key
-        → (contents : Contents) → Holds (state_in S.Store tx.old).now contents
+    ensures dropped { HasCleanDisk (state_in S.Store tx.new) → OnOk result ((schema : Schema) → T.Written schema
+        → (key : T.Key)
+        → bound values.now ≡ (T.table schema).form.key_cells key
+        → (tables : T.Tables) → T.Holds schema (state_in S.Store tx.old).now tables
+        → T.Holds schema (state_in S.Store tx.new).now (without_entry (T.table schema) key tables)) }
+    ensures fault { HasCleanDisk (state_in S.Store tx.new) → IfErr result (λ e. (schema : Schema) → T.Written schema
+        → (key : T.Key)
+        → bound values.now ≡ (T.table schema).form.key_cells key
+        → (tables : T.Tables) → T.Holds schema (state_in S.Store tx.old).now tables
         → IsWriteFault (state_in S.Store tx.old) (state_in S.Store tx.new) e) }
-    ensures keyed { IsKeyed layout Holds T.table }
+    ensures keyed { (schema : Schema) → T.Written schema → IsKeyed schema (T.Holds schema) (T.table schema) }
 {
     run(tx, T::drop_sql(), values)
 }
@@ -123,14 +143,16 @@ pub(crate) fn set<S: Alter, T: ChangedTable>(
     values: &[ValueRef<'_>],
 ) -> Result<(), Error>
     ensures frame { StaysInside S.Store tx.old tx.new result }
-    ensures set { HasCleanDisk (state_in S.Store tx.new) → OnOk result ((key : T.Key) (value : T.Value)
-        → bound key_values.now ≡ T.table.form.key_cells key → bound values.now ≡ cells_of T.table key value
-        → (contents : Contents) → Holds (state_in S.Store tx.old).now contents
-        → Holds (state_in S.Store tx.new).now (with_entry T.table key value contents)) }
-    ensures fault { HasCleanDisk (state_in S.Store tx.new) → IfErr result (λ e. (key : T.Key) (value : T.Value)
-        → bound key_values.now ≡ T.table.form.key_cells key → bound values.now ≡ cells_of T.table key value
-        → (contents : Contents) → Holds (state_in S.Store tx.old).now contents
-        → IsTrue (T.table.refers (without_entry T.table key contents) value)
+    ensures set { HasCleanDisk (state_in S.Store tx.new) → OnOk result ((schema : Schema) → T.Written schema
+        → (key : T.Key) (value : T.Value)
+        → bound key_values.now ≡ (T.table schema).form.key_cells key → bound values.now ≡ cells_of (T.table schema) key value
+        → (tables : T.Tables) → T.Holds schema (state_in S.Store tx.old).now tables
+        → T.Holds schema (state_in S.Store tx.new).now (with_entry (T.table schema) key value tables)) }
+    ensures fault { HasCleanDisk (state_in S.Store tx.new) → IfErr result (λ e. (schema : Schema) → T.Written schema
+        → (key : T.Key) (value : T.Value)
+        → bound key_values.now ≡ (T.table schema).form.key_cells key → bound values.now ≡ cells_of (T.table schema) key value
+        → (tables : T.Tables) → T.Holds schema (state_in S.Store tx.old).now tables
+        → IsTrue ((T.table schema).refers (without_entry (T.table schema) key tables) key value)
         → IsInsertFault (state_in S.Store tx.old) (state_in S.Store tx.new) e) }
 {
     drop::<S, T>(tx, key_values)?;
@@ -144,14 +166,15 @@ pub(crate) fn find<S: Alter, T: KeyedTable>(
 ) -> Result<Option<T::Found>, Error>
     requires idle { conn.old.in_transaction ≡ false }
     ensures frame { StaysIdle S.Store conn.old conn.new result }
-    ensures found { HasCleanDisk (state S.Store conn.new) → IfOk result (λ found. (key : T.Key)
-        → bound values.now ≡ T.table.form.key_cells key
-        → (contents : Contents) → Holds (state S.Store conn.old).now contents
-        → MatchOption found (get (T.table.map_of contents) key ≡ None)
-        (λ line. get (T.table.map_of contents) key ≡ Some (T.value_of line))) }
+    ensures found { HasCleanDisk (state S.Store conn.new) → IfOk result (λ found. (schema : Schema) → T.Known schema
+        → (key : T.Key)
+        → bound values.now ≡ (T.table schema).form.key_cells key
+        → (tables : T.Tables) → T.Holds schema (state S.Store conn.old).now tables
+        → MatchOption found (get ((T.table schema).map_of tables) key ≡ None)
+        (λ line. get ((T.table schema).map_of tables) key ≡ Some (T.value_of line))) }
     ensures fault { HasCleanDisk (state S.Store conn.new) → IfErr result (λ e. (key : T.Key)
-        → bound values.now ≡ T.table.form.key_cells key
-        → CanBeRead (state S.Store conn.old)
+        → ((schema : Schema) → T.Known schema → bound values.now ≡ (T.table schema).form.key_cells key)
+        → (IsTrue (state S.Store conn.old).is_open → HoldsSome T.Known T.Holds T.Readable (state S.Store conn.old).now)
         → IsFault (state S.Store conn.old) (state S.Store conn.new) e) }
 {
     first(conn, T::find_sql(), values)

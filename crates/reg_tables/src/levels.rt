@@ -5,7 +5,8 @@ ghost use Rattle.std.specs.FinMap.{get};
 ghost use Rattle.sqlite.specs.Held.{state};
 ghost use Rattle.reg_tables.specs.Frames.{state_in, StaysInside, StaysIdle};
 ghost use Rattle.sqlite.specs.State.{HasCleanDisk};
-ghost use Rattle.reg_tables.specs.Contents.{Contents, Holds};
+ghost use Rattle.reg_tables.specs.Layout.{IsLayout, layout};
+ghost use Rattle.reg_tables.specs.Contents.{Contents, Holds, AreReadable, HoldsIn};
 ghost use Rattle.reg_tables.specs.Changes.{Changes, with_level, without_level};
 ghost use Rattle.reg_tables.specs.Reads.{CanBeRead};
 ghost use Rattle.reg_tables.specs.FailedCalls.{IsFault, IsWriteFault, IsInsertFault};
@@ -20,11 +21,19 @@ struct Levels;
 impl KeyedTable for Levels {
     type Found = String;
 
+    ghost Tables = { Contents };
+
     ghost Key = { List ℕ };
 
     ghost Value = { List ℕ };
 
-    ghost table = { levels_table };
+    ghost Holds = { HoldsIn };
+
+    ghost Known = { IsLayout };
+
+    ghost Readable = { AreReadable };
+
+    ghost table = { λ schema. levels_table };
 
     ghost value_of = { string_bytes };
 
@@ -34,6 +43,8 @@ impl KeyedTable for Levels {
 }
 
 impl FilledTable for Levels {
+    ghost Written = { λ schema. schema ≡ layout };
+
     fn put_sql() -> &'static str {
         "INSERT INTO levels (subject, level) VALUES (?1, ?2)"
     }

@@ -6,9 +6,9 @@ ghost use Rattle.sqlite.specs.Held.{state};
 ghost use Rattle.reg_tables.specs.Frames.{state_in, StaysInside, StaysIdle};
 ghost use Rattle.sqlite.specs.State.{HasCleanDisk};
 ghost use Rattle.sqlite.specs.declared.types.Value.TheVariants.{Text};
-ghost use Rattle.reg_tables.specs.Layout.{meta};
+ghost use Rattle.reg_tables.specs.Layout.{meta, IsLayout, layout};
 ghost use Rattle.reg_tables.specs.Rooms.{HasRoom, CanBeStored};
-ghost use Rattle.reg_tables.specs.Contents.{Contents, Holds};
+ghost use Rattle.reg_tables.specs.Contents.{Contents, Holds, AreReadable, HoldsIn};
 ghost use Rattle.reg_tables.specs.Changes.{Changes, with_meta, with_global};
 ghost use Rattle.reg_tables.specs.Reads.{CanBeRead};
 ghost use Rattle.reg_tables.specs.FailedCalls.{IsFault, IsWriteFault, IsInsertFault};
@@ -23,11 +23,19 @@ struct Meta;
 impl KeyedTable for Meta {
     type Found = String;
 
+    ghost Tables = { Contents };
+
     ghost Key = { List ℕ };
 
     ghost Value = { List ℕ };
 
-    ghost table = { meta_table };
+    ghost Holds = { HoldsIn };
+
+    ghost Known = { IsLayout };
+
+    ghost Readable = { AreReadable };
+
+    ghost table = { λ schema. meta_table };
 
     ghost value_of = { string_bytes };
 
@@ -37,6 +45,8 @@ impl KeyedTable for Meta {
 }
 
 impl FilledTable for Meta {
+    ghost Written = { λ schema. schema ≡ layout };
+
     fn put_sql() -> &'static str {
         "INSERT INTO meta (name, value) VALUES (?1, ?2)"
     }

@@ -5,7 +5,8 @@ ghost use Rattle.std.specs.FinMap.{get};
 ghost use Rattle.sqlite.specs.Held.{state};
 ghost use Rattle.reg_tables.specs.Frames.{state_in, StaysInside, StaysIdle};
 ghost use Rattle.sqlite.specs.State.{HasCleanDisk};
-ghost use Rattle.reg_tables.specs.Contents.{Contents, number_cells, Holds};
+ghost use Rattle.reg_tables.specs.Layout.{IsLayout};
+ghost use Rattle.reg_tables.specs.Contents.{Contents, number_cells, Holds, AreReadable, HoldsIn};
 ghost use Rattle.reg_tables.specs.Changes.{with_text};
 ghost use Rattle.reg_tables.specs.Reads.{CanBeRead};
 ghost use Rattle.reg_tables.specs.FailedCalls.{IsFault, IsPutFault};
@@ -21,11 +22,19 @@ struct Texts;
 impl KeyedTable for Texts {
     type Found = String;
 
+    ghost Tables = { Contents };
+
     ghost Key = { ℕ };
 
     ghost Value = { List ℕ };
 
-    ghost table = { texts_table };
+    ghost Holds = { HoldsIn };
+
+    ghost Known = { IsLayout };
+
+    ghost Readable = { AreReadable };
+
+    ghost table = { λ schema. texts_table };
 
     ghost value_of = { string_bytes };
 

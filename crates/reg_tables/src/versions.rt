@@ -6,7 +6,8 @@ ghost use Rattle.sqlite.specs.Order.{column};
 ghost use Rattle.sqlite.specs.Held.{state};
 ghost use Rattle.reg_tables.specs.Frames.{state_in, StaysInside, StaysIdle};
 ghost use Rattle.sqlite.specs.State.{HasCleanDisk};
-ghost use Rattle.reg_tables.specs.Contents.{VersionRow, Contents, version_cells, Holds};
+ghost use Rattle.reg_tables.specs.Layout.{IsLayout, layout};
+ghost use Rattle.reg_tables.specs.Contents.{VersionRow, Contents, version_cells, Holds, AreReadable, HoldsIn};
 ghost use Rattle.reg_tables.specs.Changes.{Changes, with_version, without_version, with_deleted};
 ghost use Rattle.reg_tables.specs.Reads.{CanBeRead};
 ghost use Rattle.reg_tables.specs.FailedCalls.{IsFault, IsWriteFault, IsInsertFault};
@@ -46,11 +47,19 @@ struct Versions;
 impl KeyedTable for Versions {
     type Found = VersionEntry;
 
+    ghost Tables = { Contents };
+
     ghost Key = { List ℕ × ℕ };
 
     ghost Value = { VersionRow };
 
-    ghost table = { versions_table };
+    ghost Holds = { HoldsIn };
+
+    ghost Known = { IsLayout };
+
+    ghost Readable = { AreReadable };
+
+    ghost table = { λ schema. versions_table };
 
     ghost value_of = { version_row };
 
@@ -60,6 +69,8 @@ impl KeyedTable for Versions {
 }
 
 impl FilledTable for Versions {
+    ghost Written = { λ schema. schema ≡ layout };
+
     fn put_sql() -> &'static str {
         "INSERT INTO versions (subject, version, id, deleted) VALUES (?1, ?2, ?3, ?4)"
     }

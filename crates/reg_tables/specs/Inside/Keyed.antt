@@ -21,7 +21,7 @@ pub record Keyed (C K V : Type 0) : Type 0 where
   pub map_of : C → FinMap cmp V
   pub with_map : C → FinMap cmp V → C
   -- what the entry refers to is there
-  pub refers : C → V → Bool
+  pub refers : C → K → V → Bool
 
 -- a row after its rowid, which SQLite chooses
 abbrev pub cells_of : {C K V : Type 0} → Keyed C K V → K → V → Row
@@ -40,16 +40,16 @@ IsFreeKey t key contents = get (t.map_of contents) key ≡ None
 -- ---- the tables of layout 1
 
 abbrev pub texts_table : Keyed Contents ℕ (List ℕ)
-texts_table = record { at = 0; table = texts; form = text_form; cmp = nat_cmp; tests = by_id; map_of = λ contents. contents.texts; with_map = λ contents map. record contents { texts = map }; refers = λ contents text. true }
+texts_table = record { at = 0; table = texts; form = text_form; cmp = nat_cmp; tests = by_id; map_of = λ contents. contents.texts; with_map = λ contents map. record contents { texts = map }; refers = λ contents id text. true }
 
 abbrev pub versions_table : Keyed Contents (List ℕ × ℕ) VersionRow
-versions_table = record { at = 1; table = versions; form = version_form; cmp = version_cmp; tests = by_version; map_of = λ contents. contents.versions; with_map = λ contents map. record contents { versions = map }; refers = λ contents version. is_some (get contents.texts version.id) }
+versions_table = record { at = 1; table = versions; form = version_form; cmp = version_cmp; tests = by_version; map_of = λ contents. contents.versions; with_map = λ contents map. record contents { versions = map }; refers = λ contents key version. is_some (get contents.texts version.id) }
 
 abbrev pub levels_table : Keyed Contents (List ℕ) (List ℕ)
-levels_table = record { at = 2; table = levels; form = pair_form; cmp = text_cmp; tests = by_key; map_of = λ contents. contents.levels; with_map = λ contents map. record contents { levels = map }; refers = λ contents level. true }
+levels_table = record { at = 2; table = levels; form = pair_form; cmp = text_cmp; tests = by_key; map_of = λ contents. contents.levels; with_map = λ contents map. record contents { levels = map }; refers = λ contents subject level. true }
 
 abbrev pub kept_table : Keyed Contents (List ℕ) KeptRow
-kept_table = record { at = 3; table = kept; form = kept_form; cmp = text_cmp; tests = by_key; map_of = λ contents. contents.kept; with_map = λ contents map. record contents { kept = map }; refers = λ contents reply. true }
+kept_table = record { at = 3; table = kept; form = kept_form; cmp = text_cmp; tests = by_key; map_of = λ contents. contents.kept; with_map = λ contents map. record contents { kept = map }; refers = λ contents key reply. true }
 
 abbrev pub meta_table : Keyed Contents (List ℕ) (List ℕ)
-meta_table = record { at = 4; table = meta; form = pair_form; cmp = text_cmp; tests = by_key; map_of = λ contents. contents.meta; with_map = λ contents map. record contents { meta = map }; refers = λ contents value. true }
+meta_table = record { at = 4; table = meta; form = pair_form; cmp = text_cmp; tests = by_key; map_of = λ contents. contents.meta; with_map = λ contents map. record contents { meta = map }; refers = λ contents name value. true }

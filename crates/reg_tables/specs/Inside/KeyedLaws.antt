@@ -8,7 +8,7 @@ use Rattle.std.specs.Cmp.{IsTotalOrder}
 use Rattle.sqlite.specs.declared.types.Value.TheVariants.{Int}
 use Rattle.sqlite.specs.Order.{Row}
 use Rattle.sqlite.specs.Term.{Term, col, eval_all}
-use Rattle.sqlite.specs.Tree.{Trees}
+use Rattle.sqlite.specs.Tree.{Trees, IsAscending}
 use Rattle.sqlite.specs.Table.{Table}
 use Rattle.sqlite.specs.Schema.{Schema}
 use Rattle.sqlite.specs.Command.TheVariants.{Insert, Delete}
@@ -19,12 +19,13 @@ use Rattle.sqlite.specs.Edit.{edit_of, next_rowid}
 use Rattle.sqlite.specs.Effect.{Database, IsDatabase, value_rows}
 use Rattle.sqlite.specs.Listing.{understood}
 use Rattle.sqlite_schema.specs.declared.schema.Among.TheVariants.{All}
+use Rattle.sqlite_schema.specs.declared.schema.Keys.TheVariants.{Enforced}
 use Rattle.sqlite_schema.specs.declared.program.Program.{Program}
 use Rattle.sqlite_schema.specs.Rules.{agree, guards, are_typed, has_computed, are_present, passes_checks, Refers, references_fit}
 use Rattle.sqlite_schema.specs.declared.schema.Index.{Index}
+use Rattle.sqlite_rules.specs.Action.{works}
 use Rattle.sqlite_rules.specs.Lists.{Has}
 use Rattle.sqlite_typing.specs.Types.{accepts_program, accepts_terms}
-use Rattle.reg_tables.specs.Layout.{IsLayout}
 use Rattle.reg_tables.specs.TableMaps.{IsEntry, ShowsMap, Form}
 use Rattle.reg_tables.specs.Inside.Keyed.{Keyed, cells_of}
 use Rattle.reg_tables.specs.Inside.Statements.{IsCommand, IsWhole, TableQuery, IsQuery, Takes, all_rows, plain_query, passes_tests}
@@ -33,6 +34,14 @@ use Rattle.reg_tables.specs.Inside.Statements.{IsCommand, IsWhole, TableQuery, I
 pub record IsKeyOrder {K : Type 0} (R : K → K → Ordering) : Type 0 where
   pub total : IsTotalOrder R
   pub antisymmetric : IsAntisymmetric R
+
+-- the tables have trees of their own
+abbrev pub AreApart : Schema → Type 0
+AreApart schema = IsAscending (λ (a : Table) (b : Table). a.tree ≡ b.tree → ⊥) schema.tables
+
+-- no foreign key acts where rows of this tree are taken out or change
+abbrev pub IsIdle : Schema → ℕ → Type 0
+IsIdle schema tree = (olds news : List Row) → works schema Enforced 0 tree olds news ≡ []
 
 -- the tables but one have the rows that they had
 abbrev pub KeepsOthers : Schema → ℕ → Trees → Trees → Type 0
@@ -83,8 +92,9 @@ pub record PutsRow {C K V : Type 0} (schema : Schema) (t : Keyed C K V) (sql : L
 abbrev pub deleting : {C K V : Type 0} → Keyed C K V → Program
 deleting t = record { lets = []; body = plain_query t.table.tree t.tests (col 1 0 ∷ []) }
 
--- the text is a DELETE of the row of a key
+-- the text is a DELETE of the row of a key, to which no foreign key adds
 pub record DropsRow {C K V : Type 0} (schema : Schema) (t : Keyed C K V) (sql : List ℕ) : Type 0 where
+  pub idle : IsIdle schema t.table.tree
   pub is : IsCommand schema sql (Delete t.at (deleting t))
   pub whole : (key : K) → IsWhole sql (length (t.form.key_cells key)) (understood schema sql)
   pub typed : (key : K) → accepts_program schema [] (plain_query t.table.tree t.tests (col 1 0 ∷ [])) (t.form.key_cells key) ≡ true
@@ -97,6 +107,7 @@ pub record HasKey {C K V : Type 0} (t : Keyed C K V) : Type 0 where
 
 -- what the contents are in each database of this schema, and where a write leaves them
 pub record IsKeyed {C K V : Type 0} (schema : Schema) (Holds : Database → C → Type 0) (t : Keyed C K V) : Type 0 where
+  pub apart : AreApart schema
   pub is_at : IsAt schema t.at t.table
   pub uncounted : t.table.is_counted ≡ false
   pub key : HasKey t
@@ -108,7 +119,7 @@ pub record IsKeyed {C K V : Type 0} (schema : Schema) (Holds : Database → C �
   pub shows : (db : Database) (contents : C) → Holds db contents → ShowsMap t.form (db.trees t.table.tree) (get (t.map_of contents))
   pub turned : (old new : Database) (contents : C) → Holds old contents → (later : FinMap t.cmp V) → TurnsTable schema t.form t.table.tree old new (get later) → Holds new (t.with_map contents later)
   -- a row that refers to what is there breaks no reference, and no reference is to the table
-  pub put_refers : (db : Database) (contents : C) → Holds db contents → (key : K) (value : V) → IsTrue (t.refers contents value) → (row : Row) → IsEntry t.form row key value
+  pub put_refers : (db : Database) (contents : C) → Holds db contents → (key : K) (value : V) → IsTrue (t.refers contents key value) → (row : Row) → IsEntry t.form row key value
       → (next : Trees) → KeepsOthers schema t.table.tree db.trees next → ((r : Row) → Has (next t.table.tree) r → (r ≡ row) ⊎ Has (db.trees t.table.tree) r) → Refers All schema db.trees → Refers All schema next
   pub drop_refers : (old new : Trees) → KeepsOthers schema t.table.tree old new → ((r : Row) → Has (new t.table.tree) r → Has (old t.table.tree) r) → Refers All schema old → Refers All schema new
   pub map_is : (contents : C) (map : FinMap t.cmp V) → t.map_of (t.with_map contents map) ≡ map
@@ -118,12 +129,21 @@ pub record IsKeyed {C K V : Type 0} (schema : Schema) (Holds : Database → C �
 abbrev pub find_query : {C K V : Type 0} → Keyed C K V → List Term → List (List ℕ) → List ℕ → TableQuery
 find_query t shown names sql = record { sql = sql; tree = t.table.tree; tests = t.tests; shown = shown; names = names; order = []; limit = all_rows }
 
--- the text is a SELECT of the value of a key, with or without the index
-pub record FindsRow {C K V : Type 0} (Holds : Schema → Database → C → Type 0) (t : Keyed C K V) (sql : List ℕ) : Type 0 where
+-- in this schema the text is a SELECT of the value of a key
+pub record FindsRow {C K V : Type 0} (schema : Schema) (Holds : Database → C → Type 0) (t : Keyed C K V) (sql : List ℕ) : Type 0 where
   pub key : HasKey t
-  pub shows : (schema : Schema) (db : Database) (contents : C) → Holds schema db contents → ShowsMap t.form (db.trees t.table.tree) (get (t.map_of contents))
+  pub declared : (db : Database) (contents : C) → Holds db contents → db.schema ≡ schema
+  pub shows : (db : Database) (contents : C) → Holds db contents → ShowsMap t.form (db.trees t.table.tree) (get (t.map_of contents))
   pub shown : List Term
   pub names : List (List ℕ)
-  pub is : (schema : Schema) → IsLayout schema → IsQuery (find_query t shown names sql) schema
-  pub takes : (key : K) (schema : Schema) → IsLayout schema → Takes (find_query t shown names sql) (t.form.key_cells key) schema
+  pub is : IsQuery (find_query t shown names sql) schema
+  pub takes : (key : K) → Takes (find_query t shown names sql) (t.form.key_cells key) schema
   pub whole : (row : Row) (key : K) → eval_all shown (t.form.key_cells key ∷ row ∷ []) ≡ t.form.value_of row
+
+-- the database has one of these schemas, and holds what can be read
+pub record HoldsSome {C : Type 0} (Known : Schema → Type 0) (Holds : Schema → Database → C → Type 0) (Readable : C → Type 0) (db : Database) : Type 0 where
+  pub schema : Schema
+  pub known : Known schema
+  pub contents : C
+  pub holds : Holds schema db contents
+  pub readable : Readable contents

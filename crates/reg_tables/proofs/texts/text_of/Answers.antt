@@ -1,9 +1,11 @@
-use Rattle.std.proofs.Common.{refl}
+use Rattle.std.proofs.Common.{inl, refl}
+use Rattle.reg_tables.specs.Layout.{layout}
+use Rattle.reg_tables.proofs.LayoutTables.{holds_some}
 use Rattle.reg_tables.proofs.Transactions.{if_ok, if_err}
 use Rattle.reg_tables.proofs.texts.text_of.Goals as goal
 
 pub returns-clause-found : goal.returns-clause-found
-returns-clause-found g c clean = if_ok c.find.result (λ found is. is c.args.id (rw c.params-to_sql.ensures refl)) (c.find.ensures.found clean)
+returns-clause-found g c clean = if_ok c.find.result (λ found is. is layout (inl refl) c.args.id (rw c.params-to_sql.ensures refl)) (c.find.ensures.found clean)
 
 pub returns-clause-fault : goal.returns-clause-fault
-returns-clause-fault g c clean = if_err c.find.result (λ e fault. fault c.args.id (rw c.params-to_sql.ensures refl)) (c.find.ensures.fault clean)
+returns-clause-fault g c clean = if_err c.find.result (λ e fault can. fault c.args.id (λ schema known. (rw c.params-to_sql.ensures refl)) (λ is_open. holds_some (can is_open))) (c.find.ensures.fault clean)

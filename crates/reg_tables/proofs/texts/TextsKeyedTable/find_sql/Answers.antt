@@ -8,18 +8,19 @@ use Rattle.reg_tables.proofs.texts.TextsKeyedTable.find_sql.Goals as goal
 
 pub returns-clause-finds : goal.returns-clause-finds
 unfolding understood everything
-returns-clause-finds c = record {
+returns-clause-finds c = in_layouts _ (λ tables indexes. record {
   key = texts_key;
-  shows = λ schema db contents h. h.texts;
+  declared = λ db contents h. h.declared;
+  shows = λ db contents h. h.texts;
   shown = col 1 2 ∷ [];
   names = codes "text" ∷ [];
-  is = in_layouts _ (λ tables indexes. record { command = record { is = refl; plain = (refl, refl) }; unlisted = refl });
-  takes = λ key. in_layouts _ (λ tables indexes. record { whole = (lit≤ tt, refl); typed = refl });
+  is = record { command = record { is = refl; plain = (refl, refl) }; unlisted = refl };
+  takes = λ key. record { whole = (lit≤ tt, refl); typed = refl };
   whole = λ row key. refl;
-}
+})
 
 pub returns-clause-read : goal.returns-clause-read
-returns-clause-read c = text_is_read
+returns-clause-read c schema = text_is_read
 
 pub returns-clause-readable : goal.returns-clause-readable
-returns-clause-readable c contents readable key value is = (value, refl, (readable.texts key value is).1)
+returns-clause-readable c schema contents readable key value is = (value, refl, (readable.texts key value is).1)
