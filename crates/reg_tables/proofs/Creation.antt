@@ -28,30 +28,44 @@ and_one : {X : Type 0} (P : X → Type 0) (xs : List X) (x : X) → AllByRecursi
 and_one P [] x all h = (h, tt)
 and_one P (y ∷ xs) x all h = (all.0, and_one P xs x all.1 h)
 
--- one more table is there, with no row
-pub makes_bare : (sql : List ℕ) (before : Schema) (table : Table) (after : Schema) → MakesTable sql before table after → (old new : State) (count : ℕ) → IsBare before old.now → Executes sql [] old new (Ok count) → IsBare after new.now
-makes_bare sql before table after m old new count bare h =
-    let w = subst (λ t. Writes old new None CreateTable t [] count) m.text (runs_as sql [] old new before bare.declared CreateTable m.command.is m.command.plain count h) in
+-- one more table is there, with no row, and the others have the rows that they had
+pub record MakesMore (before : Schema) (after : Schema) (old new : Database) : Type 0 where
+  pub declared : new.schema ≡ after
+  pub sound : IsDatabase new
+  pub others : KeepsRows before.tables old.trees new.trees
+  pub empty : new.trees (next_tree before) ≡ []
+
+pub makes_more : (sql : List ℕ) (before : Schema) (table : Table) (after : Schema) → MakesTable sql before table after → (old new : State) (count : ℕ) → old.now.schema ≡ before → Executes sql [] old new (Ok count) → MakesMore before after old.now new.now
+makes_more sql before table after m old new count declared h =
+    let w = subst (λ t. Writes old new None CreateTable t [] count) m.text (runs_as sql [] old new before declared CreateTable m.command.is m.command.plain count h) in
     let all = went w.changed in
     let first = went all.1 in
     let made = first.1 in
     let both : Ok made.table ≡ Ok table = sym made.defined ∙ m.defined in
     let same : made.table ≡ table = cc in
-    let schema : first.0.schema ≡ created before table = made.is ∙ ap (λ s. created s made.table) bare.declared ∙ ap (created before) same in
+    let schema : first.0.schema ≡ created before table = made.is ∙ ap (λ s. created s made.table) declared ∙ ap (created before) same in
     let plain : lacks_sequence first.0.schema ≡ false = ap lacks_sequence (schema ∙ m.is) ∙ m.whole in
     let now : new.now ≡ first.0 = ap (λ (p : Tally × Database). p.1) (same_value all.2) ∙ same_value (rw plain at first.2) in
-    let kept = subst (λ (s : Schema). KeepsRows s.tables old.now.trees first.0.trees) bare.declared made.others in
-    let last = subst (λ s. first.0.trees (next_tree s) ≡ []) bare.declared made.empty in
-    let empty : AllByRecursion (λ t. first.0.trees t.tree ≡ []) (created before table).tables =
-    and_one (λ (t : Table). first.0.trees t.tree ≡ []) before.tables (record table { tree = next_tree before }) (still_empty before.tables old.now.trees first.0.trees kept bare.empty) last in
+    let kept = subst (λ (s : Schema). KeepsRows s.tables old.now.trees first.0.trees) declared made.others in
+    let last = subst (λ s. first.0.trees (next_tree s) ≡ []) declared made.empty in
     record {
       declared = ap (λ (d : Database). d.schema) now ∙ schema ∙ m.is;
-      empty = subst (λ (d : Database). AllByRecursion (λ t. d.trees t.tree ≡ []) after.tables) (sym now) (subst (λ (s : Schema). AllByRecursion (λ t. first.0.trees t.tree ≡ []) s.tables) m.is empty);
+      sound = (runs_as sql [] old new before declared CreateTable m.command.is m.command.plain count h).sound;
+      others = subst (λ (d : Database). KeepsRows before.tables old.now.trees d.trees) (sym now) kept;
+      empty = subst (λ (d : Database). d.trees (next_tree before) ≡ []) (sym now) last;
     }
+
+-- one more table is there, and none has a row
+pub makes_bare : (sql : List ℕ) (before : Schema) (table : Table) (after : Schema) → MakesTable sql before table after → (old new : State) (count : ℕ) → IsBare before old.now → Executes sql [] old new (Ok count) → IsBare after new.now
+makes_bare sql before table after m old new count bare h =
+    let made = makes_more sql before table after m old new count bare.declared h in
+    let empty : AllByRecursion (λ t. new.now.trees t.tree ≡ []) (created before table).tables =
+    and_one (λ (t : Table). new.now.trees t.tree ≡ []) before.tables (record table { tree = next_tree before }) (still_empty before.tables old.now.trees new.now.trees made.others bare.empty) made.empty in
+    record { declared = made.declared; empty = subst (λ (s : Schema). AllByRecursion (λ t. new.now.trees t.tree ≡ []) s.tables) m.is empty }
 
 -- and what was made is sound
 pub makes_sound : (sql : List ℕ) (before : Schema) (table : Table) (after : Schema) → MakesTable sql before table after → (old new : State) (count : ℕ) → IsBare before old.now → Executes sql [] old new (Ok count) → IsDatabase new.now
-makes_sound sql before table after m old new count bare h = (runs_as sql [] old new before bare.declared CreateTable m.command.is m.command.plain count h).sound
+makes_sound sql before table after m old new count bare h = (makes_more sql before table after m old new count bare.declared h).sound
 
 -- the index is there too, and the tables hold what they held
 pub indexes : (old new : State) (count : ℕ) (contents : Contents) → HoldsIn unindexed old.now contents → Executes make_versions_of_id [] old new (Ok count) → Holds new.now contents

@@ -16,8 +16,8 @@ use Rattle.reg_tables.specs.Contents.{text_cmp, version_cmp, text_cells, Version
 use Rattle.reg_tables.specs.KeptRows.{kept_row}
 use Rattle.reg_tables.specs.Entries.{version_row}
 use Rattle.reg_tables.specs.Inside.Keyed.{texts_table, versions_table, levels_table, kept_table, meta_table}
-use Rattle.reg_tables.specs.Inside.KeyedLaws.{HasKey, IsKeyed, HoldsSome}
-use Rattle.reg_tables.specs.Reads.{HoldsReadable}
+use Rattle.reg_tables.specs.Inside.KeyedLaws.{HasKey, IsKeyed}
+use Rattle.reg_tables.specs.Reads.{HoldsReadable, HoldsSome}
 use Rattle.reg_tables.proofs.Opening.{distinct_version_rows, distinct_kept_rows}
 use Rattle.reg_tables.proofs.Settled.{layout_apart}
 use Rattle.reg_tables.proofs.MapLemmas.{same_key}
@@ -51,12 +51,12 @@ pub versions_key : HasKey versions_table
 versions_key = record { order = version_order; distinct = distinct_versions; test = λ row k q is. by_version_test row k q is }
 
 -- rows that agree in their first columns have one text key
-texts_agree : (a b : Row) (q k : List ℕ) → column a 1 ∷ [] ≡ text_cells q → column b 1 ∷ [] ≡ text_cells k → agree (record { digits = 0 }) (1 ∷ []) a (1 ∷ []) b ≡ true → q ≡ k
+pub texts_agree : (a b : Row) (q k : List ℕ) → column a 1 ∷ [] ≡ text_cells q → column b 1 ∷ [] ≡ text_cells k → agree (record { digits = 0 }) (1 ∷ []) a (1 ∷ []) b ≡ true → q ≡ k
 unfolding first_key
 texts_agree a b q k of_a of_b same = let its : column b 1 ≡ Text k = cc in same_key text_cmp text_order q k (sym (by_key_test a k q of_a) ∙ (rw its at same))
 
 -- rows that agree in their first two columns have one version's key
-versions_agree : (a b : Row) (q k : List ℕ × ℕ) → column a 1 ∷ column a 2 ∷ [] ≡ version_key_cells q → column b 1 ∷ column b 2 ∷ [] ≡ version_key_cells k → agree (record { digits = 0 }) (1 ∷ 2 ∷ []) a (1 ∷ 2 ∷ []) b ≡ true → q ≡ k
+pub versions_agree : (a b : Row) (q k : List ℕ × ℕ) → column a 1 ∷ column a 2 ∷ [] ≡ version_key_cells q → column b 1 ∷ column b 2 ∷ [] ≡ version_key_cells k → agree (record { digits = 0 }) (1 ∷ 2 ∷ []) a (1 ∷ 2 ∷ []) b ≡ true → q ≡ k
 unfolding first_key
 versions_agree a b q k of_a of_b same =
     let subject : column b 1 ≡ Text k.0 = cc in

@@ -37,3 +37,7 @@ pub mod TableFaults
 pub mod FailedVersions
 pub mod FailedMarks
 pub mod CreationFaults
+pub mod SecondReferences
+pub mod SecondTables
+pub mod SecondLines
+pub mod SecondCreation

@@ -16,13 +16,13 @@ use Rattle.reg_tables.specs.Contents.{version_cells, text_form, version_form, pa
 use Rattle.reg_tables.specs.Inside.ReadableRows.{IsReadableText, IsReadableVersion, IsReadablePair, IsReadableKept}
 
 -- what follows of a row's entry
-by_entry : {K V : Type 0} (form : Form K V) (rows : List Row) (value_at : K → Option V) → ShowsMap form rows value_at → (row : Row) → Has rows row → (P : Type 0)
+pub by_entry : {K V : Type 0} (form : Form K V) (rows : List Row) (value_at : K → Option V) → ShowsMap form rows value_at → (row : Row) → Has rows row → (P : Type 0)
     → ((key : K) (value : V) → rowid row ≡ Int (id_in (rowid row)) → value_at key ≡ Some value → IsEntry form row key value → P) → P
 by_entry form rows value_at shows row has P each =
     let entry = shows.sound row has in
     each entry.0 entry.1 (int_is (rowid row) (all_has _ rows row shows.rowids.1 has)) entry.2 entry.3
 
-pair_is : (row : Row) (key value : List ℕ) → rowid row ≡ Int (id_in (rowid row)) → IsEntry pair_form row key value → rowid row ∷ column row 1 ∷ column row 2 ∷ [] ≡ Int (id_in (rowid row)) ∷ Text key ∷ Text value ∷ []
+pub pair_is : (row : Row) (key value : List ℕ) → rowid row ≡ Int (id_in (rowid row)) → IsEntry pair_form row key value → rowid row ∷ column row 1 ∷ column row 2 ∷ [] ≡ Int (id_in (rowid row)) ∷ Text key ∷ Text value ∷ []
 pair_is row key value rowid_is is =
     ap (λ (r : Row). rowid row ∷ column row 1 ∷ r) is.1 ∙ ap (λ (r : Row). rowid row ∷ column r 0 ∷ Text value ∷ []) is.0 ∙ ap (λ v. v ∷ Text key ∷ Text value ∷ []) rowid_is
 

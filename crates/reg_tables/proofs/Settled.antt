@@ -12,11 +12,11 @@ use Rattle.sqlite_rules.specs.Action.{works}
 use Rattle.reg_tables.specs.Layout.{layout}
 use Rattle.reg_tables.specs.Inside.KeyedLaws.{AreApart, IsIdle}
 
-pub is_apart_from : ℕ → List Table → Bool
+unfoldable pub is_apart_from : ℕ → List Table → Bool
 is_apart_from tree [] = true
 is_apart_from tree (t ∷ tables) = not (t.tree == tree) && is_apart_from tree tables
 
-pub are_apart : List Table → Bool
+unfoldable pub are_apart : List Table → Bool
 are_apart [] = true
 are_apart (t ∷ tables) = is_apart_from t.tree tables && are_apart tables
 

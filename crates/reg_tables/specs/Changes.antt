@@ -53,10 +53,24 @@ with_deleted key contents = record contents { versions = altered contents.versio
 abbrev pub no_contents : Contents
 no_contents = record { texts = empty; versions = empty; levels = empty; kept = empty; meta = empty }
 
+-- the format and the layout's number
+abbrev pub numbered_meta : List ℕ → TextMap (List ℕ)
+numbered_meta number = insert (insert empty (codes "format") (codes "avroreg")) (codes "layout") number
+
+-- the rows of `meta` in the layout of this number, but for the mode
+abbrev pub meta_as : List ℕ → List ℕ → TextMap (List ℕ)
+meta_as number level = insert (numbered_meta number) (codes "global") level
+
 -- the rows of `meta` in layout 1
 abbrev pub meta_of : List ℕ → TextMap (List ℕ)
-meta_of level = insert (insert (insert empty (codes "format") (codes "avroreg")) (codes "layout") (codes "1")) (codes "global") level
+meta_of = meta_as (codes "1")
 
 -- Schema Registry API reference, Config: a new registry's level is BACKWARD
+abbrev pub numbered_contents : List ℕ → Contents
+numbered_contents number = record no_contents { meta = numbered_meta number }
+
+abbrev pub contents_as : List ℕ → Contents
+contents_as number = record no_contents { meta = meta_as number (codes "BACKWARD") }
+
 abbrev pub new_contents : Contents
-new_contents = record no_contents { meta = meta_of (codes "BACKWARD") }
+new_contents = contents_as (codes "1")

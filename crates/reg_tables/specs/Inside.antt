@@ -6,3 +6,4 @@ pub mod Keyed
 pub mod Statements
 pub mod FailedLists
 pub mod KeyedLaws
+pub mod SecondKeyed

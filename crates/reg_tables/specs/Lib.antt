@@ -9,4 +9,7 @@ pub mod Entries
 pub mod Listings
 pub mod Frames
 pub mod Rooms
+pub mod SecondLayout
+pub mod SecondContents
+pub mod SecondListings
 pub mod Inside

@@ -21,6 +21,14 @@ pub record HoldsReadable (db : Database) : Type 0 where
   pub holds : HoldsIn schema db contents
   pub readable : AreReadable contents
 
+-- the database has one of these schemas, and holds what can be read
+pub record HoldsSome {C : Type 0} (Known : Schema → Type 0) (Holds : Schema → Database → C → Type 0) (Readable : C → Type 0) (db : Database) : Type 0 where
+  pub schema : Schema
+  pub known : Known schema
+  pub contents : C
+  pub holds : Holds schema db contents
+  pub readable : Readable contents
+
 -- while the connection is open, its tables hold what can be read
 abbrev pub CanBeRead : State → Type 0
 CanBeRead s = IsTrue s.is_open → HoldsReadable s.now

@@ -11,9 +11,10 @@ ghost use Rattle.sqlite.specs.Values.{bound};
 ghost use Rattle.reg_tables.specs.Frames.{state_in, StaysInside, StaysIdle};
 ghost use Rattle.reg_tables.specs.Contents.{text_cells};
 ghost use Rattle.reg_tables.specs.Rooms.{HasRoom, CanBeStoredIn};
+ghost use Rattle.reg_tables.specs.Reads.{HoldsSome};
 ghost use Rattle.reg_tables.specs.FailedCalls.{IsFault, IsWriteFault, IsInsertFault};
 ghost use Rattle.reg_tables.specs.Inside.Keyed.{Keyed, cells_of, with_entry, without_entry, IsFreeKey};
-ghost use Rattle.reg_tables.specs.Inside.KeyedLaws.{IsKeyed, PutsRow, DropsRow, FindsRow, HoldsSome};
+ghost use Rattle.reg_tables.specs.Inside.KeyedLaws.{IsKeyed, PutsRow, DropsRow, FindsRow};
 
 use crate::statement::{Line, first, run};
 use sqlite::types::ValueRef;

@@ -1,12 +1,13 @@
 //! How the tables are made.
 
-ghost use Rattle.std.specs.Prelude.{◌≡◌, OnOk, IfErr};
+ghost use Rattle.std.specs.Prelude.{◌≡◌, ◌⊎◌, codes, OnOk, IfErr};
 ghost use Rattle.reg_tables.specs.Frames.{state_in, StaysInside};
 ghost use Rattle.sqlite.specs.State.{HasCleanDisk};
-ghost use Rattle.reg_tables.specs.Layout.{no_schema, begun, unindexed, IsBare};
+ghost use Rattle.reg_tables.specs.Layout.{no_schema, begun, unindexed, IsBare, meta};
 ghost use Rattle.reg_tables.specs.Contents.{Contents, HoldsIn, Holds};
+ghost use Rattle.reg_tables.specs.Rooms.{HasRoom};
 ghost use Rattle.reg_tables.specs.FailedCalls.{IsWriteFault};
-ghost use Rattle.reg_tables.specs.Changes.{no_contents, new_contents};
+ghost use Rattle.reg_tables.specs.Changes.{no_contents, new_contents, numbered_contents, contents_as};
 
 use crate::meta::put_meta;
 use crate::statement::run;
@@ -93,6 +94,42 @@ fn make_tables<S: Alter>(tx: &mut Transaction<'_, S>) -> Result<(), Error>
     index_versions(tx)
 }
 
+/// Makes the tables of layout 1, and says the format and a layout's number.
+fn make_numbered<S: Alter>(tx: &mut Transaction<'_, S>, number: &str) -> Result<(), Error>
+    requires known { (number.now ≡ codes "1") ⊎ (number.now ≡ codes "2") }
+    ensures frame { StaysInside S.Store tx.old tx.new result }
+    ensures made { HasCleanDisk (state_in S.Store tx.new)
+        → OnOk result ((state_in S.Store tx.old).now.schema ≡ no_schema
+        → Holds (state_in S.Store tx.new).now (numbered_contents number.now)) }
+    ensures room { HasCleanDisk (state_in S.Store tx.new)
+        → OnOk result ((state_in S.Store tx.old).now.schema ≡ no_schema
+        → HasRoom ((state_in S.Store tx.new).now.trees meta.tree) 2) }
+    ensures fault { HasCleanDisk (state_in S.Store tx.new) → IfErr result (λ e.
+        (state_in S.Store tx.old).now.schema ≡ no_schema → IsWriteFault (state_in S.Store tx.old) (state_in S.Store tx.new) e) }
+{
+    make_tables(tx)?;
+    put_meta(tx, "format", "avroreg")?;
+    put_meta(tx, "layout", number)
+}
+
+/// Makes the tables of layout 1 with the rows of `meta` that both layouts have, the number being
+/// that of either.
+pub(crate) fn create_as<S: Alter>(tx: &mut Transaction<'_, S>, number: &str) -> Result<(), Error>
+    requires known { (number.now ≡ codes "1") ⊎ (number.now ≡ codes "2") }
+    ensures frame { StaysInside S.Store tx.old tx.new result }
+    ensures made { HasCleanDisk (state_in S.Store tx.new)
+        → OnOk result ((state_in S.Store tx.old).now.schema ≡ no_schema
+        → Holds (state_in S.Store tx.new).now (contents_as number.now)) }
+    ensures room { HasCleanDisk (state_in S.Store tx.new)
+        → OnOk result ((state_in S.Store tx.old).now.schema ≡ no_schema
+        → HasRoom ((state_in S.Store tx.new).now.trees meta.tree) 1) }
+    ensures fault { HasCleanDisk (state_in S.Store tx.new) → IfErr result (λ e.
+        (state_in S.Store tx.old).now.schema ≡ no_schema → IsWriteFault (state_in S.Store tx.old) (state_in S.Store tx.new) e) }
+{
+    make_numbered(tx, number)?;
+    put_meta(tx, "global", "BACKWARD")
+}
+
 /// Makes the tables of a new registry in a database that has none (`has_no_tables`), with the global
 /// level BACKWARD. (Schema Registry API reference, Config.)
 ///
@@ -109,8 +146,5 @@ pub fn create<S: Alter>(tx: &mut Transaction<'_, S>) -> Result<(), Error>
     ensures fault { HasCleanDisk (state_in S.Store tx.new) → IfErr result (λ e.
         (state_in S.Store tx.old).now.schema ≡ no_schema → IsWriteFault (state_in S.Store tx.old) (state_in S.Store tx.new) e) }
 {
-    make_tables(tx)?;
-    put_meta(tx, "format", "avroreg")?;
-    put_meta(tx, "layout", "1")?;
-    put_meta(tx, "global", "BACKWARD")
+    create_as(tx, "1")
 }

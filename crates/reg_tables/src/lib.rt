@@ -19,6 +19,8 @@ mod levels;
 mod lines;
 mod listed;
 mod meta;
+mod modes;
+mod second;
 mod statement;
 mod text_lines;
 mod texts;
@@ -38,6 +40,8 @@ pub use listed::{
     last_live_version_of, last_version_of, next_version_of, versions_of, versions_of_id,
 };
 pub use meta::{global_level, set_global};
+pub use modes::{ModeLine, drop_mode, mode_lines, own_mode, set_mode};
+pub use second::{add_tables, create_second};
 pub use text_lines::{text_ids, texts_between};
 pub use texts::{id_of, last_id, put_text, text_of};
 pub use versions::{VersionEntry, drop_version, mark_deleted, put_version, version_of};

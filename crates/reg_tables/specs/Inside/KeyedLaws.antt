@@ -139,11 +139,3 @@ pub record FindsRow {C K V : Type 0} (schema : Schema) (Holds : Database → C �
   pub is : IsQuery (find_query t shown names sql) schema
   pub takes : (key : K) → Takes (find_query t shown names sql) (t.form.key_cells key) schema
   pub whole : (row : Row) (key : K) → eval_all shown (t.form.key_cells key ∷ row ∷ []) ≡ t.form.value_of row
-
--- the database has one of these schemas, and holds what can be read
-pub record HoldsSome {C : Type 0} (Known : Schema → Type 0) (Holds : Schema → Database → C → Type 0) (Readable : C → Type 0) (db : Database) : Type 0 where
-  pub schema : Schema
-  pub known : Known schema
-  pub contents : C
-  pub holds : Holds schema db contents
-  pub readable : Readable contents

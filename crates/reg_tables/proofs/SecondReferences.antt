@@ -1,0 +1,73 @@
+-- What the foreign keys of layout 2 ask of the rows.
+use Rattle.std.proofs.Common.{◌≡◌, ◌≢◌, ℕ, ◌+◌, List, [], ◌∷◌, Bool, true, refl, sym, subst, ◌||◌, ◌&&◌}
+use Rattle.std.specs.List.{AllByRecursion, list_any}
+use Rattle.std.proofs.lemmas.Bool.{and_from, and_parts}
+use Rattle.sqlite.specs.Order.{Row}
+use Rattle.sqlite.specs.Tree.{Trees}
+use Rattle.sqlite_schema.specs.declared.schema.Among.TheVariants.{All}
+use Rattle.sqlite_schema.specs.declared.schema.Index.{Index}
+use Rattle.sqlite_schema.specs.Names.{same_name}
+use Rattle.sqlite_schema.specs.Rules.{agree, has_null, Refers}
+use Rattle.sqlite_value.specs.Keys.{plain, joined}
+use Rattle.sqlite_rules.specs.Lists.{Has}
+use Rattle.sqlite_rules.proofs.ListLemmas.{all_has, all_from}
+use Rattle.reg_tables.specs.Layout.{begins}
+use Rattle.reg_tables.specs.SecondLayout.{added}
+use Rattle.reg_tables.specs.Inside.KeyedLaws.{KeepsOthers}
+
+-- the id in this column is that of a text
+abbrev pub has_text_at : ℕ → List Row → Row → Bool
+has_text_at place parents row = has_null (place ∷ []) row || list_any (λ parent. agree plain (0 ∷ []) parent (place ∷ []) row) parents
+
+-- the first two columns are those of a version
+abbrev pub has_version : List Row → Row → Bool
+has_version parents row = has_null (1 ∷ 2 ∷ []) row || list_any (λ parent. agree plain (1 ∷ 2 ∷ []) parent (1 ∷ 2 ∷ []) row) parents
+
+-- the references of each table, one by one
+pub record Refer (first : ℕ) (db : Trees) : Type 0 where
+  pub versions : (r : Row) → Has (db 2) r → has_text_at 3 (db 0) r ≡ true
+  pub evidence : (r : Row) → Has (db (first + 2)) r → has_version (db 2) r ≡ true
+  pub places : (r : Row) → Has (db (first + 4)) r → has_version (db 2) r ≡ true
+  pub seen : (r : Row) → Has (db (first + 4)) r → has_text_at 4 (db 0) r ≡ true
+
+module _ (first : ℕ) (indexes : List Index) where
+  pub refer_if : (db : Trees) → Refers All (begins (added first) indexes) db → Refer first db
+  unfolding same_name joined
+  refer_if db h =
+      let of_versions : AllByRecursion (λ row. (has_text_at 3 (db 0) row && true) ≡ true) (db 2) = h.1.0 in
+      let of_evidence : AllByRecursion (λ row. (has_version (db 2) row && true) ≡ true) (db (first + 2)) = h.1.1.1.1.1.1.0 in
+      let of_places : AllByRecursion (λ row. (has_text_at 4 (db 0) row && (has_version (db 2) row && true)) ≡ true) (db (first + 4)) = h.1.1.1.1.1.1.1.0 in
+      record {
+        versions = λ r there. (and_parts _ _ (all_has (λ row. (has_text_at 3 (db 0) row && true) ≡ true) (db 2) r of_versions there)).0;
+        evidence = λ r there. (and_parts _ _ (all_has (λ row. (has_version (db 2) row && true) ≡ true) (db (first + 2)) r of_evidence there)).0;
+        places = λ r there. (and_parts _ _ (and_parts _ _ (all_has (λ row. (has_text_at 4 (db 0) row && (has_version (db 2) row && true)) ≡ true) (db (first + 4)) r of_places there)).1).0;
+        seen = λ r there. (and_parts _ _ (all_has (λ row. (has_text_at 4 (db 0) row && (has_version (db 2) row && true)) ≡ true) (db (first + 4)) r of_places there)).0;
+      }
+
+  pub refers_if : (db : Trees) → Refer first db → Refers All (begins (added first) indexes) db
+  unfolding same_name joined
+  refers_if db h =
+      let of_versions : AllByRecursion (λ row. (has_text_at 3 (db 0) row && true) ≡ true) (db 2) = all_from _ (db 2) (λ r there. and_from _ _ (h.versions r there) refl) in
+      let of_evidence : AllByRecursion (λ row. (has_version (db 2) row && true) ≡ true) (db (first + 2)) = all_from _ (db (first + 2)) (λ r there. and_from _ _ (h.evidence r there) refl) in
+      let of_places : AllByRecursion (λ row. (has_text_at 4 (db 0) row && (has_version (db 2) row && true)) ≡ true) (db (first + 4)) =
+      all_from _ (db (first + 4)) (λ r there. and_from _ _ (h.seen r there) (and_from _ _ (h.places r there) refl)) in
+      (each (db 0), (of_versions, (each (db 4), (each (db 6), (each (db 8), (each (db first), (of_evidence, (of_places, tt))))))))
+    where
+      each : (rows : List Row) → AllByRecursion (λ (row : Row). true ≡ true) rows
+      each [] = tt
+      each (row ∷ rows) = (refl, each rows)
+
+  -- a write to a table that refers to nothing, and to which nothing refers, breaks none
+  pub beside_refers : (tree : ℕ) → 0 ≢ tree → 2 ≢ tree → first + 2 ≢ tree → first + 4 ≢ tree → (old new : Trees) → KeepsOthers (begins (added first) indexes) tree old new → Refers All (begins (added first) indexes) old → Refers All (begins (added first) indexes) new
+  beside_refers tree not_texts not_versions not_evidence not_against old new same h =
+      let had = refer_if old h in
+      let texts : new 0 ≡ old 0 = same.0 not_texts in
+      let versions : new 2 ≡ old 2 = same.1.0 not_versions in
+      let evidence : new (first + 2) ≡ old (first + 2) = same.1.1.1.1.1.1.0 not_evidence in
+      let against : new (first + 4) ≡ old (first + 4) = same.1.1.1.1.1.1.1.0 not_against in
+      refers_if new (record {
+        versions = λ r there. subst (λ l. has_text_at 3 l r ≡ true) (sym texts) (had.versions r (subst (λ l. Has l r) versions there));
+        evidence = λ r there. subst (λ l. has_version l r ≡ true) (sym versions) (had.evidence r (subst (λ l. Has l r) evidence there));
+        places = λ r there. subst (λ l. has_version l r ≡ true) (sym versions) (had.places r (subst (λ l. Has l r) against there));
+        seen = λ r there. subst (λ l. has_text_at 4 l r ≡ true) (sym texts) (had.seen r (subst (λ l. Has l r) against there));
+      })

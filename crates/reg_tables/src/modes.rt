@@ -1,0 +1,177 @@
+//! The own modes of subjects, which layout 2 has.
+
+ghost use Rattle.std.specs.Prelude.{◌≡◌, ◌⊎◌, ℕ, List, None, Some, OnOk, IfOk, IfErr, MatchOption, false, string_bytes};
+ghost use Rattle.std.specs.FinMap.{get};
+ghost use Rattle.sqlite.specs.Schema.{Schema};
+ghost use Rattle.sqlite.specs.Held.{state};
+ghost use Rattle.sqlite.specs.State.{HasCleanDisk};
+ghost use Rattle.reg_tables.specs.Frames.{state_in, StaysInside, StaysIdle};
+ghost use Rattle.reg_tables.specs.Contents.{pair_form};
+ghost use Rattle.reg_tables.specs.Listings.{RowParts, parts_of, entry_parts};
+ghost use Rattle.reg_tables.specs.SecondLayout.{IsSecond, HasSecondTables};
+ghost use Rattle.reg_tables.specs.SecondContents.{SecondContents, HoldsAllIn, AreAllReadable, CanBeReadSecond, HasSecondLayout, ChangesSecond, with_mode, without_mode};
+ghost use Rattle.reg_tables.specs.SecondListings.{mode_entry, ListsModes};
+ghost use Rattle.reg_tables.specs.FailedCalls.{IsFault, IsWriteFault, IsInsertFault, IsUnreadable};
+ghost use Rattle.reg_tables.specs.Inside.ReadableRows.{IsReadablePair};
+ghost use Rattle.reg_tables.specs.Inside.SecondKeyed.{modes_table};
+
+use crate::keyed::{ChangedTable, FilledTable, KeyedTable, drop, find, set};
+use crate::statement::{Line, list};
+use sqlite::{Alter, Connection, Error, Row, Transaction, params};
+use std::alloc::Global;
+
+/// The table `modes`.
+struct Modes;
+
+impl KeyedTable for Modes {
+    type Found = String;
+
+    ghost Tables = { SecondContents };
+
+    ghost Key = { List ℕ };
+
+    ghost Value = { List ℕ };
+
+    ghost Holds = { HoldsAllIn };
+
+    ghost Known = { HasSecondTables };
+
+    ghost Readable = { AreAllReadable };
+
+    ghost table = { modes_table };
+
+    ghost value_of = { string_bytes };
+
+    fn find_sql() -> &'static str {
+        "SELECT mode FROM modes WHERE subject = ?1"
+    }
+}
+
+impl FilledTable for Modes {
+    ghost Written = { IsSecond };
+
+    fn put_sql() -> &'static str {
+        "INSERT INTO modes (subject, mode) VALUES (?1, ?2)"
+    }
+}
+
+impl ChangedTable for Modes {
+    fn drop_sql() -> &'static str {
+        "DELETE FROM modes WHERE subject = ?1"
+    }
+}
+
+/// A row of `modes`.
+#[derive(Debug, Drop)]
+pub struct ModeLine {
+    pub rowid: i64,
+    pub subject: String,
+    pub mode: String,
+}
+
+impl Line for ModeLine {
+    ghost Cells = { RowParts };
+
+    ghost shown = { parts_of pair_form };
+
+    ghost cells = { λ line. entry_parts pair_form (mode_entry line) };
+
+    ghost is_readable = { IsReadablePair };
+
+    fn read(row: &Row) -> Result<ModeLine, Error> {
+        Ok(ModeLine {
+            rowid: row.get(0)?,
+            subject: row.get(1)?,
+            mode: row.get(2)?,
+        })
+    }
+}
+
+/// Drops the own mode of a subject, if it has one.
+///
+/// # Errors
+///
+/// `OutOfMemory`, a fault of the disk, `OperationInterrupted` at the limit on steps, or
+/// `TransactionState` where a failure has ended the transaction; another where the tables aren't
+/// the layout's. Nothing is committed, and the transaction is to be rolled back.
+pub fn drop_mode<S: Alter>(tx: &mut Transaction<'_, S>, subject: &str) -> Result<(), Error>
+    ensures frame { StaysInside S.Store tx.old tx.new result }
+    ensures dropped { HasCleanDisk (state_in S.Store tx.new)
+        → OnOk result (ChangesSecond (state_in S.Store tx.old) (state_in S.Store tx.new)
+        (without_mode subject.now)) }
+    ensures fault { HasCleanDisk (state_in S.Store tx.new) → IfErr result (λ e.
+        (schema : Schema) → IsSecond schema
+        → (contents : SecondContents) → HoldsAllIn schema (state_in S.Store tx.old).now contents
+        → IsWriteFault (state_in S.Store tx.old) (state_in S.Store tx.new) e) }
+{
+    drop::<S, Modes>(tx, params![subject])
+}
+
+/// Sets the own mode of a subject, in place of the one that it may have.
+///
+/// # Errors
+///
+/// `OutOfMemory`, a fault of the disk, `OperationInterrupted` at the limit on steps,
+/// `TransactionState` where a failure has ended the transaction, `TooBig` for a row that is too
+/// large, or `NoRowid` or `ConstraintViolation(PrimaryKey)` where no rowid is free behind the last
+/// row; another where the tables aren't the layout's. Nothing is committed, and the transaction is
+/// to be rolled back.
+pub fn set_mode<S: Alter>(
+    tx: &mut Transaction<'_, S>,
+    subject: &str,
+    mode: &str,
+) -> Result<(), Error>
+    ensures frame { StaysInside S.Store tx.old tx.new result }
+    ensures set { HasCleanDisk (state_in S.Store tx.new)
+        → OnOk result (ChangesSecond (state_in S.Store tx.old) (state_in S.Store tx.new)
+        (with_mode subject.now mode.now)) }
+    ensures fault { HasCleanDisk (state_in S.Store tx.new) → IfErr result (λ e.
+        (schema : Schema) → IsSecond schema
+        → (contents : SecondContents) → HoldsAllIn schema (state_in S.Store tx.old).now contents
+        → IsInsertFault (state_in S.Store tx.old) (state_in S.Store tx.new) e) }
+{
+    set::<S, Modes>(tx, params![subject], params![subject, mode])
+}
+
+/// The own mode of a subject, if it has one.
+///
+/// # Errors
+///
+/// `OutOfMemory`, a fault of the disk, or `OperationInterrupted` at the limit on steps; where the
+/// tables can't be read, another error too. Nothing is changed.
+pub fn own_mode<S: Alter>(conn: &mut Connection<S>, subject: &str) -> Result<Option<String>, Error>
+    requires idle { conn.old.in_transaction ≡ false }
+    ensures frame { StaysIdle S.Store conn.old conn.new result }
+    ensures found { HasCleanDisk (state S.Store conn.new) → IfOk result (λ found.
+        (schema : Schema) → HasSecondTables schema
+        → (contents : SecondContents) → HoldsAllIn schema (state S.Store conn.old).now contents
+        → MatchOption found (get contents.modes subject.now ≡ None)
+        (λ mode. get contents.modes subject.now ≡ Some (string_bytes mode))) }
+    ensures fault { HasCleanDisk (state S.Store conn.new) → IfErr result (λ e.
+        CanBeReadSecond (state S.Store conn.old)
+        → IsFault (state S.Store conn.old) (state S.Store conn.new) e) }
+{
+    find::<S, Modes>(conn, params![subject])
+}
+
+/// All rows of `modes`, in any order.
+///
+/// # Errors
+///
+/// `OutOfMemory`, a fault of the disk, or `OperationInterrupted` at the limit on steps; another
+/// where a row holds what the line can't. Nothing is changed.
+pub fn mode_lines<S: Alter>(alloc: Global, conn: &mut Connection<S>) -> Result<Vec<ModeLine>, Error>
+    requires idle { conn.old.in_transaction ≡ false }
+    ensures frame { StaysIdle S.Store conn.old conn.new result }
+    ensures listed { HasCleanDisk (state S.Store conn.new) → IfOk result (λ lines.
+        HasSecondTables (state S.Store conn.old).now.schema
+        → ListsModes (state S.Store conn.old).now lines.items) }
+    ensures fault { HasCleanDisk (state S.Store conn.new) → IfErr result (λ e.
+        CanBeReadSecond (state S.Store conn.old)
+        → IsFault (state S.Store conn.old) (state S.Store conn.new) e) }
+    ensures told { HasCleanDisk (state S.Store conn.new) → IfErr result (λ e.
+        HasSecondLayout (state S.Store conn.old)
+        → IsFault (state S.Store conn.old) (state S.Store conn.new) e ⊎ IsUnreadable e) }
+{
+    list(alloc, conn, "SELECT rowid, subject, mode FROM modes", &[])
+}
