@@ -1,11 +1,13 @@
 -- The tables of layout 1 that have one row for each key.
-use Rattle.std.proofs.Common.{◌≡◌, inl, inr, ℕ, pos, List, [], ◌∷◌, refl, sym, ap, subst, arith, true, ◌∙◌}
+use Rattle.std.proofs.Common.{◌≡◌, inl, inr, ℕ, pos, List, [], ◌∷◌, refl, sym, ap, subst, arith, true, lit≤, ◌∙◌}
 use Rattle.std.specs.Prelude.{String, string_bytes}
 use Rattle.std.specs.declared.alloc.Global.{Global}
 use Rattle.std.specs.FinMap.{get}
 use Rattle.sqlite.specs.declared.types.Value.TheVariants.{Text, Int}
 use Rattle.sqlite.specs.Order.{Row, column}
 use Rattle.sqlite.specs.Schema.{Schema}
+use Rattle.sqlite.specs.Listing.{understood}
+use Rattle.sqlite_tied.specs.Compute.{everything}
 use Rattle.sqlite.specs.Effect.{Database}
 use Rattle.sqlite_schema.specs.Rules.{agree}
 use Rattle.sqlite_value.specs.Keys.{first_key}
@@ -16,10 +18,11 @@ use Rattle.reg_tables.specs.Contents.{text_cmp, version_cmp, text_cells, Version
 use Rattle.reg_tables.specs.KeptRows.{kept_row}
 use Rattle.reg_tables.specs.Entries.{version_row}
 use Rattle.reg_tables.specs.Inside.Keyed.{texts_table, versions_table, levels_table, kept_table, meta_table}
-use Rattle.reg_tables.specs.Inside.KeyedLaws.{HasKey, IsKeyed}
+use Rattle.reg_tables.specs.Inside.KeyedLaws.{HasKey, IsKeyed, DropsRow}
 use Rattle.reg_tables.specs.Reads.{HoldsReadable, HoldsSome}
 use Rattle.reg_tables.proofs.Opening.{distinct_version_rows, distinct_kept_rows}
-use Rattle.reg_tables.proofs.Settled.{layout_apart}
+use Rattle.reg_tables.proofs.Settled.{layout_apart, layout_idle}
+use Rattle.reg_tables.proofs.Statements.{drop_version}
 use Rattle.reg_tables.proofs.MapLemmas.{same_key}
 use Rattle.reg_tables.proofs.KeyedTables.{text_order, distinct_texts, by_key_test, number_order, distinct_numbers, by_id_test, version_order, distinct_versions, by_version_test}
 use Rattle.reg_tables.proofs.TableFaults.{versions_at, levels_at, kept_at, meta_at, has_text, refers_if, beside_refers}
@@ -91,6 +94,10 @@ versions_keyed = record {
   map_is = λ contents map. refl;
   last_map = λ contents first last. refl;
 }
+
+pub drops_version_row : DropsRow layout versions_table drop_version
+unfolding understood everything
+drops_version_row = record { idle = layout_idle versions.tree; is = record { is = refl; plain = (refl, refl) }; whole = λ key. (lit≤ tt, refl); typed = λ key. refl }
 
 pub levels_keyed : IsKeyed layout (HoldsIn layout) levels_table
 levels_keyed = record {

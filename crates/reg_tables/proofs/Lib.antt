@@ -32,6 +32,7 @@ pub mod CheckLemmas
 pub mod UniqueKeys
 pub mod References
 pub mod UniqueLemmas
+pub mod Cascades
 pub mod WriteFaults
 pub mod TableFaults
 pub mod FailedVersions
@@ -41,3 +42,5 @@ pub mod SecondReferences
 pub mod SecondTables
 pub mod SecondLines
 pub mod SecondCreation
+pub mod Drops
+pub mod SecondDrops

@@ -65,7 +65,7 @@ same_if_tied (r ∷ rows) a b up (inr h) (inl k) tie =
     absurd (both_ways _ (all_has _ rows a up.0.0 h) (ap (λ (x : Row). is_eq (value_cmp (rowid x) (rowid a))) (sym k) ∙ ap is_eq (tied_back value_cmp_total (rowid a) (rowid b) tie)))
 same_if_tied (r ∷ rows) a b up (inr h) (inr k) tie = same_if_tied rows a b (up.0.1, up.1.1) h k tie
 
-rowids_left : (rows : List Row) (ids : List ℤ) → HaveRowids rows → HaveRowids (without_all rows ids)
+pub rowids_left : (rows : List Row) (ids : List ℤ) → HaveRowids rows → HaveRowids (without_all rows ids)
 rowids_left rows [] h = h
 rowids_left rows (id ∷ ids) h = rowids_left (without_rowid id rows) ids (ascending-filter HaveOwnRowids (λ r. not (has_rowid id r)) rows h.0, all-filter _ (λ r. not (has_rowid id r)) rows h.1)
 
@@ -102,7 +102,7 @@ module _ (p : Row → Bool) (rest : Row → Row) (rows found : List Row) (shaped
             both_ways _ lacks tied),
       )
 
-  fails_left : (x : Row) → Has rows x → p x ≡ false → Has (without_all rows (ids_of found)) x
+  pub fails_left : (x : Row) → Has rows x → p x ≡ false → Has (without_all rows (ids_of found)) x
   fails_left x h fails = lacks_left (ids_of found) rows x h (λ id there. false_from_ne_true (has_rowid id x) (λ tied.
       let from = has_mapped (λ (r : Row). id_in (rowid r)) found id there in
       let r = finds.sound from.0 from.1 in

@@ -112,6 +112,9 @@ pub mark_version_is : IsCommand layout mark_version (Update 1 (record { lets = [
 unfolding understood everything
 mark_version_is = record { is = refl; plain = (refl, refl) }
 
+abbrev pub drop_version : List ℕ
+drop_version = codes "DELETE FROM versions WHERE subject = ?1 AND version = ?2"
+
 -- the text is the parameter
 abbrev pub by_text : List Term
 by_text = op2 (Compare Eq Binary) (col 1 2) (col 0 0) ∷ []

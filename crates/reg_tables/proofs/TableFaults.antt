@@ -54,6 +54,7 @@ use Rattle.reg_tables.specs.FailedCalls.{IsFault, IsInsertFault}
 use Rattle.reg_tables.specs.Inside.KeyedLaws.{AreApart, IsIdle, HasKeys, IsAt, KeepsOthers}
 use Rattle.reg_tables.specs.Inside.Statements.{plain_query, IsCommand, IsWhole}
 use Rattle.sqlite.specs.Schema.{Schema}
+use Rattle.reg_tables.proofs.Cascades.{delete_allowed}
 use Rattle.reg_tables.proofs.UniqueLemmas.{with_tree_there, with_tree_elsewhere, stays_unique}
 use Rattle.reg_tables.proofs.WriteFaults.{NeverStops, none_stops, delete_fits, delete_refused, insert_too_large, insert_refused, refused_by}
 
@@ -139,33 +140,6 @@ beside_refers table not_texts not_versions old new same =
     let texts_same : new 0 ≡ old 0 = same.0 not_texts in
     let versions_same : new 2 ≡ old 2 = same.1.0 not_versions in
     refers_if old new (λ had row there. subst (λ l. has_text l row ≡ true) (sym texts_same) (had row (subst (λ l. Has l row) versions_same there)))
-
--- ---- rows that are taken out
-
-module _ (schema : Schema) (apart : AreApart schema) (old : State) (table : Table) (listed : Has schema.tables table) (keys : HasKeys schema table) (lawful : Obeys schema old.now.trees) (found : List Row) where
-  abbrev db : Trees
-  db = old.now.trees
-
-  abbrev left : List Row
-  left = left_by db (edit_of db table (ids_of found) Given 0 [])
-
-  -- fewer rows share no key
-  fewer : Keeps Unique schema (with_tree db table.tree left)
-  fewer = stays_unique schema db (with_tree db table.tree left) table [] apart listed (λ t known other. with_tree_elsewhere db table.tree left t.tree other)
-      (λ r there. inr (without_all_has (ids_of found) (db table.tree) r (subst (λ l. Has l r) (with_tree_there db table.tree left) there))) (λ i known on r fresh there none. absurd none) (lawful.rules Unique)
-
-  -- rows may be taken out
-  delete_allowed : (why : Refusal) → IsRefused schema Enforced db (edit_of db table (ids_of found) Given 0 []) why → ⊥
-  delete_allowed (Violates Datatype) h = cc
-  delete_allowed (Violates NotNull) h = cc
-  delete_allowed (Violates Check) h = cc
-  delete_allowed (Violates PrimaryKey) h = cc
-  delete_allowed (Violates Unique) h = h fewer
-  delete_allowed (Violates ForeignKey) h = h
-  delete_allowed Mismatch h = cc
-  delete_allowed NoRowid h = cc
-  delete_allowed BadReference h = both_ways _ h (keys false (nat_lt 0 (length (ids_of found))))
-  delete_allowed TooDeep h = h
 
 -- ---- a row that shares no key
 
@@ -303,7 +277,7 @@ module _ (schema : Schema) (apart : AreApart schema) (at : ℕ) (table : Table) 
         | inr rest ↦ elim rest [
           | inl large ↦ absurd (delete_fits schema at table its.there old new (statement_of sql (understood schema sql)) params e q typed (plain_fits old.now.trees params table.tree tests (col 1 0 ∷ [])) (ends idle) large.1)
           | inr does ↦ delete_refused schema at table its.there old new (statement_of sql (understood schema sql)) params e q typed (plain_fits old.now.trees params table.tree tests (col 1 0 ∷ [])) (ends idle)
-              (λ found why. delete_allowed schema apart old table listed its.keys lawful found why) (λ found next asked wrote. refers found next (one_step schema Enforced old.now.trees next (cut found) (idle (taken_by old.now.trees (cut found)) []) wrote) (lawful.rules ForeignKey)) does
+              (λ found why. delete_allowed schema apart old.now.trees table listed (λ gone. its.keys false gone) (lawful.rules Unique) (ids_of found) why) (λ found next asked wrote. refers found next (one_step schema Enforced old.now.trees next (cut found) (idle (taken_by old.now.trees (cut found)) []) wrote) (lawful.rules ForeignKey)) does
         ]
       ]
 

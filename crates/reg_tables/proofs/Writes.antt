@@ -89,18 +89,26 @@ module _ (schema : Schema) (at : ℕ) (table : Table) (there : slice_get schema.
       let shown = went tested.2 in
       (ran.0, ran.1, ap (λ (p : Tally × Database). p.1) (same_value {E = Option Error} shown.2))
 
-  -- the query gives the rowids
-  pub deleted : IsIdle schema table.tree → (q : Program) → Writes old new None (Delete at q) text params count
-      → (found : List Row) × Answers (record { schema = schema; trees = old.now.trees }) q params found × IsStep schema old new (edit_of old.now.trees table (ids_of found) Given 0 [])
-  deleted idle q w =
+  -- the query gives the rowids, and the actions of foreign keys follow
+  pub cuts : (q : Program) → Writes old new None (Delete at q) text params count
+      → (found : List Row) × Answers (record { schema = schema; trees = old.now.trees }) q params found × (new.now.schema ≡ schema)
+      × action.Writes schema Enforced old.now.trees (edit_of old.now.trees table (ids_of found) Given 0 []) (Ok new.now.trees)
+  cuts q w =
       let wrote = delete_wrote q w in
       let asked = went wrote.1 in
       let cut = went asked.2 in
-      let db = old.now.trees in
-      let edit = edit_of db table (ids_of asked.0) Given 0 [] in
-      let step : Applies schema Enforced db edit cut.0 = one_step schema Enforced db cut.0 edit (idle (taken_by db edit) edit.news) cut.1 in
+      let edit = edit_of old.now.trees table (ids_of asked.0) Given 0 [] in
       let now : cut.0 ≡ new.now.trees = sym (ap (λ (it : Written). it.trees) (same_value cut.2)) ∙ ap (λ (d : Database). d.trees) (sym wrote.2) in
-      (asked.0, asked.1, record { same = ap (λ (d : Database). d.schema) wrote.2; applies = subst (Applies schema Enforced db edit) now step })
+      (asked.0, asked.1, ap (λ (d : Database). d.schema) wrote.2, subst (λ t. action.Writes schema Enforced old.now.trees edit (Ok t)) now cut.1)
+
+  -- where no action follows
+  pub deleted : IsIdle schema table.tree → (q : Program) → Writes old new None (Delete at q) text params count
+      → (found : List Row) × Answers (record { schema = schema; trees = old.now.trees }) q params found × IsStep schema old new (edit_of old.now.trees table (ids_of found) Given 0 [])
+  deleted idle q w =
+      let cut = cuts q w in
+      let db = old.now.trees in
+      let edit = edit_of db table (ids_of cut.0) Given 0 [] in
+      (cut.0, cut.1, record { same = cut.2; applies = one_step schema Enforced db new.now.trees edit (idle (taken_by db edit) edit.news) cut.3 })
 
   update_wrote : (q : Program) → Writes old new None (Update at q) text params count → Wrote (Update at q)
   update_wrote q w =

@@ -1,9 +1,9 @@
 -- What the tables of layout 2 hold.
-use Rattle.std.specs.Prelude.{◌≡◌, ℕ, pos, List, [], ◌∷◌, Option, None, Some, slice_get, take, codes, IsTrue, IsUtf8}
+use Rattle.std.specs.Prelude.{◌≡◌, ℕ, pos, List, [], ◌∷◌, Option, None, Some, slice_get, take, not, codes, IsTrue, IsUtf8}
 use Rattle.std.specs.List.{AllByRecursion}
 use Rattle.std.specs.declared.cmp.Ordering.{Ordering}
-use Rattle.std.specs.Ordering.{nat_cmp, on, then_cmp}
-use Rattle.std.specs.FinMap.{FinMap, get, insert, remove, empty}
+use Rattle.std.specs.Ordering.{is_eq, nat_cmp, on, then_cmp}
+use Rattle.std.specs.FinMap.{FinMap, get, insert, remove, retain_keys, empty}
 use Rattle.sqlite.specs.declared.types.Value.TheVariants.{Int, Text}
 use Rattle.sqlite.specs.Order.{Row, column}
 use Rattle.sqlite.specs.Table.{Table}
@@ -13,7 +13,7 @@ use Rattle.sqlite.specs.Tree.{Trees}
 use Rattle.sqlite.specs.Effect.{Database}
 use Rattle.reg_tables.specs.TableMaps.{Form, ShowsMap}
 use Rattle.reg_tables.specs.Contents.{TextMap, version_cmp, text_cells, number_cells, version_key_cells, pair_form, Contents, HoldsIn, AreReadable}
-use Rattle.reg_tables.specs.Changes.{with_meta, contents_as}
+use Rattle.reg_tables.specs.Changes.{with_meta, without_version, contents_as}
 use Rattle.reg_tables.specs.Reads.{HoldsSome}
 use Rattle.reg_tables.specs.SecondLayout.{IsSecond, HasSecondTables, extended, added}
 
@@ -100,6 +100,18 @@ with_no_more contents = record { base = contents; modes = empty; evidence = empt
 -- a new registry in layout 2: its level is BACKWARD, and its mode READWRITE
 abbrev pub second_new_contents : SecondContents
 second_new_contents = with_no_more (with_meta (codes "mode") (codes "READWRITE") (contents_as (codes "2")))
+
+-- no place of the version
+abbrev pub without_places : FinMap place_cmp ℕ → List ℕ × ℕ → FinMap place_cmp ℕ
+without_places places key = retain_keys places (λ place. not (is_eq (version_cmp place.0 key)))
+
+-- the version goes, and its evidence with it
+abbrev pub without_evidence : List ℕ × ℕ → SecondContents → SecondContents
+without_evidence key contents = record contents {
+  base = without_version key contents.base;
+  evidence = remove contents.evidence key;
+  against = without_places contents.against key;
+}
 
 abbrev pub with_mode : List ℕ → List ℕ → SecondContents → SecondContents
 with_mode subject mode contents = record contents { modes = insert contents.modes subject mode }

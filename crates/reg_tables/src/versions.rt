@@ -8,13 +8,16 @@ ghost use Rattle.reg_tables.specs.Frames.{state_in, StaysInside, StaysIdle};
 ghost use Rattle.sqlite.specs.State.{HasCleanDisk};
 ghost use Rattle.reg_tables.specs.Layout.{IsLayout, layout};
 ghost use Rattle.reg_tables.specs.Contents.{VersionRow, Contents, version_cells, Holds, AreReadable, HoldsIn};
+ghost use Rattle.sqlite.specs.Schema.{Schema};
+ghost use Rattle.reg_tables.specs.SecondLayout.{IsSecond};
+ghost use Rattle.reg_tables.specs.SecondContents.{SecondContents, HoldsAllIn, ChangesSecond, without_evidence};
 ghost use Rattle.reg_tables.specs.Changes.{Changes, with_version, without_version, with_deleted};
 ghost use Rattle.reg_tables.specs.Reads.{CanBeRead};
 ghost use Rattle.reg_tables.specs.FailedCalls.{IsFault, IsWriteFault, IsInsertFault};
 ghost use Rattle.reg_tables.specs.Entries.{version_row};
 ghost use Rattle.reg_tables.specs.Inside.Keyed.{versions_table};
 
-use crate::keyed::{ChangedTable, FilledTable, KeyedTable, drop, find, put};
+use crate::keyed::{FilledTable, KeyedTable, find, put};
 use crate::lines::flag_in;
 use crate::statement::{Line, run};
 use sqlite::{Alter, Connection, Error, ErrorCode, Row, Transaction, params};
@@ -76,12 +79,6 @@ impl FilledTable for Versions {
     }
 }
 
-impl ChangedTable for Versions {
-    fn drop_sql() -> &'static str {
-        "DELETE FROM versions WHERE subject = ?1 AND version = ?2"
-    }
-}
-
 /// Puts a version of a subject under its number, which the caller has seen to have none.
 ///
 /// # Errors
@@ -112,13 +109,14 @@ pub fn put_version<S: Alter>(
     put::<S, Versions>(tx, params![subject, number, id, deleted])
 }
 
-/// Drops the version of a subject that has the number, if there is one.
+/// Drops the version of a subject that has the number, if there is one, and its evidence, which
+/// layout 2 has.
 ///
 /// # Errors
 ///
 /// `OutOfMemory`, a fault of the disk, `OperationInterrupted` at the limit on steps, or
 /// `TransactionState` where a failure has ended the transaction; another where the tables aren't
-/// the layout's. Nothing is committed, and the transaction is to be rolled back.
+/// a layout's. Nothing is committed, and the transaction is to be rolled back.
 pub fn drop_version<S: Alter>(
     tx: &mut Transaction<'_, S>,
     subject: &str,
@@ -131,8 +129,19 @@ pub fn drop_version<S: Alter>(
     ensures fault { HasCleanDisk (state_in S.Store tx.new) → IfErr result (λ e.
         (contents : Contents) → Holds (state_in S.Store tx.old).now contents
         → IsWriteFault (state_in S.Store tx.old) (state_in S.Store tx.new) e) }
+    ensures dropped_second { HasCleanDisk (state_in S.Store tx.new)
+        → OnOk result (ChangesSecond (state_in S.Store tx.old) (state_in S.Store tx.new)
+        (without_evidence (subject.now, number))) }
+    ensures fault_second { HasCleanDisk (state_in S.Store tx.new) → IfErr result (λ e.
+        (schema : Schema) → IsSecond schema
+        → (contents : SecondContents) → HoldsAllIn schema (state_in S.Store tx.old).now contents
+        → IsWriteFault (state_in S.Store tx.old) (state_in S.Store tx.new) e) }
 {
-    drop::<S, Versions>(tx, params![subject, number])
+    run(
+        tx,
+        "DELETE FROM versions WHERE subject = ?1 AND version = ?2",
+        params![subject, number],
+    )
 }
 
 /// Marks the version of a subject that has the number as deleted, if there is one.
