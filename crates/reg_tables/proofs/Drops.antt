@@ -1,14 +1,14 @@
 -- What the DELETE of a version takes out of each table.
 use Rattle.std.proofs.Common.{◌≡◌, ◌≢◌, ◌≤◌, ◌+◌, ◌⊎◌, inl, inr, arith, ℕ, ℤ, pos, List, [], ◌∷◌, ◌++◌, Bool, true, false, Equal, cond, ◌||◌, Some, None, Ok, Option, refl, sym, ap, subst, ◌∙◌}
-use Rattle.std.specs.List.{AllByRecursion, list_any, cons_option}
-use Rattle.std.specs.Prelude.{find, unwrap_or, slice_get}
+use Rattle.std.specs.List.{list_any, cons_option}
+use Rattle.std.specs.Prelude.{find, unwrap_or}
 use Rattle.std.specs.Ordering.{is_eq}
 use Rattle.std.specs.FinMap.{FinMap, get}
 use Rattle.std.proofs.lemmas.Bool.{cases_eq, both_ways, and_parts, and_from, or_cases}
 use Rattle.std.proofs.lemmas.Cmp.{tied_itself}
 use Rattle.sqlite.specs.declared.types.Value.TheVariants.{Int, Text}
 use Rattle.sqlite.specs.Order.{Row, column, value_cmp}
-use Rattle.sqlite.specs.Tree.{Trees, IsAscending, rowid, has_rowid}
+use Rattle.sqlite.specs.Tree.{Trees, rowid, has_rowid}
 use Rattle.sqlite.specs.Table.{Table}
 use Rattle.sqlite.specs.Edit.{Edit, edit_of, id_in, taken_by, row_at, without_all}
 use Rattle.sqlite.specs.Rowids.TheVariants.{Given}

@@ -1,5 +1,5 @@
 -- What the look-up of a key shows of a table that has one row for each key, and why it fails.
-use Rattle.std.proofs.Common.{ℕ, ◌≡◌, inl, inr, true, IsTrue, subst₂, List, [], ◌∷◌, All, Option, Some, None, MatchOption, slice_get, refl, sym, ap, subst, ◌∙◌}
+use Rattle.std.proofs.Common.{ℕ, ◌≡◌, inl, inr, IsTrue, subst₂, List, [], ◌∷◌, All, Option, Some, None, MatchOption, slice_get, refl, sym, ap, subst, ◌∙◌}
 use Rattle.std.specs.Prelude.{option_map}
 use Rattle.std.specs.FinMap.{get}
 use Rattle.std.proofs.lemmas.Bool.{cases_Bool, both_ways}

@@ -44,3 +44,4 @@ pub mod SecondLines
 pub mod SecondCreation
 pub mod Drops
 pub mod SecondDrops
+pub mod SecondEvidence

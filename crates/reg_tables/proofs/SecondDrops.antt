@@ -34,14 +34,14 @@ use Rattle.sqlite_tied.specs.Compute.{everything}
 use Rattle.reg_tables.specs.Layout.{begins, texts, versions, levels, kept, meta}
 use Rattle.reg_tables.specs.SecondLayout.{modes, evidence, against, added}
 use Rattle.reg_tables.specs.TableMaps.{Form, ShowsMap, HaveRowids}
-use Rattle.reg_tables.specs.Contents.{version_cmp, version_key_cells, VersionRow, version_form}
+use Rattle.reg_tables.specs.Contents.{version_cmp, version_key_cells, version_form}
 use Rattle.reg_tables.specs.SecondContents.{SecondContents, PlaceKey, place_cmp, evidence_form, against_form, HoldsAllIn, without_evidence, without_places}
 use Rattle.reg_tables.specs.FailedCalls.{IsFault}
-use Rattle.reg_tables.specs.Inside.KeyedLaws.{AreApart, IsAt, IsKeyOrder}
+use Rattle.reg_tables.specs.Inside.KeyedLaws.{AreApart, IsAt}
 use Rattle.reg_tables.specs.Inside.Statements.{IsCommand, plain_query, by_version}
 use Rattle.reg_tables.proofs.MapLemmas.{same_key}
 use Rattle.reg_tables.proofs.Queries.{passes}
-use Rattle.reg_tables.proofs.RowLemmas.{FindsRowids, same_rows}
+use Rattle.reg_tables.proofs.RowLemmas.{same_rows}
 use Rattle.reg_tables.proofs.Writes.{cuts}
 use Rattle.reg_tables.proofs.KeyedTables.{version_order, by_version_test, finds_one}
 use Rattle.reg_tables.proofs.Statements.{drop_version}

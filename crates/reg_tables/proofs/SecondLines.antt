@@ -1,5 +1,5 @@
 -- What the queries of all rows of the tables that layout 2 adds list.
-use Rattle.std.proofs.Common.{◌≡◌, ◌⊎◌, inl, inr, false, ℕ, ℤ, List, [], ◌∷◌, map, All, IsTrue, lit≤, codes, refl, sym, subst}
+use Rattle.std.proofs.Common.{◌≡◌, ◌⊎◌, inl, inr, false, ℕ, ℤ, List, [], ◌∷◌, map, lit≤, codes, refl, sym, subst}
 use Rattle.std.proofs.lemmas.Bool.{cases_Bool, both_ways}
 use Rattle.std.specs.FinMap.{get}
 use Rattle.sqlite.specs.declared.error.Error.{Error}
@@ -18,14 +18,13 @@ use Rattle.reg_tables.specs.Layout.{begins}
 use Rattle.reg_tables.specs.Contents.{pair_form}
 use Rattle.reg_tables.specs.FailedCalls.{IsFault, IsUnreadable}
 use Rattle.reg_tables.specs.Listings.{parts_of, entry_parts, Lists}
-use Rattle.reg_tables.specs.Reads.{HoldsSome}
 use Rattle.reg_tables.specs.SecondLayout.{added, HasSecondTables, table_at}
 use Rattle.reg_tables.specs.SecondContents.{SecondContents, HoldsAllIn, AreAllReadable, CanBeReadSecond, HasSecondLayout}
 use Rattle.reg_tables.specs.Inside.ReadableRows.{IsReadablePair}
 use Rattle.reg_tables.specs.Inside.FailedLists.{FailsToList}
 use Rattle.reg_tables.specs.Inside.Statements.{TableQuery, all_rows, IsQuery, Takes}
 use Rattle.reg_tables.proofs.ReadableRows.{by_entry, pair_is}
-use Rattle.reg_tables.proofs.TableLines.{ShowsTable, lists_lines, lines_fault, lines_told, known_list_fault, list_told}
+use Rattle.reg_tables.proofs.TableLines.{ShowsTable, lists_lines, lines_fault, lines_told, known_list_fault}
 
 -- where the modes stand in this tree
 abbrev all_modes : ℕ → TableQuery

@@ -87,6 +87,9 @@ makes_versions_of_id = record { command = record { is = refl; plain = (refl, ref
 abbrev pub two_terms : List Term
 two_terms = lit Null ∷ col 0 0 ∷ col 0 1 ∷ []
 
+abbrev pub three_terms : List Term
+three_terms = lit Null ∷ col 0 0 ∷ col 0 1 ∷ col 0 2 ∷ []
+
 abbrev pub four_terms : List Term
 four_terms = lit Null ∷ col 0 0 ∷ col 0 1 ∷ col 0 2 ∷ col 0 3 ∷ []
 
@@ -111,6 +114,12 @@ mark_version = codes "UPDATE versions SET deleted = 1 WHERE subject = ?1 AND ver
 pub mark_version_is : IsCommand layout mark_version (Update 1 (record { lets = []; body = plain_query 2 by_version (col 1 0 ∷ with_flag) }))
 unfolding understood everything
 mark_version_is = record { is = refl; plain = (refl, refl) }
+
+abbrev pub put_evidence : List ℕ
+put_evidence = codes "INSERT INTO evidence (subject, version, level) VALUES (?1, ?2, ?3)"
+
+abbrev pub put_against : List ℕ
+put_against = codes "INSERT INTO against (subject, version, position, id) VALUES (?1, ?2, ?3, ?4)"
 
 abbrev pub drop_version : List ℕ
 drop_version = codes "DELETE FROM versions WHERE subject = ?1 AND version = ?2"

@@ -17,7 +17,7 @@ use Rattle.sqlite.specs.declared.types.Value.TheVariants.{Null, Int}
 use Rattle.sqlite.specs.Command.TheVariants.{Insert, Delete}
 use Rattle.sqlite.specs.Source.TheVariants.{Values}
 use Rattle.sqlite.specs.Rows.{stamped}
-use Rattle.sqlite.specs.Edit.{Edit, edit_of, edited, taken_by, left_by, id_in, is_taken, are_fresh, Applies, IsRefused, next_rowid}
+use Rattle.sqlite.specs.Edit.{Edit, edit_of, edited, taken_by, id_in, is_taken, are_fresh, Applies, IsRefused, next_rowid}
 use Rattle.sqlite.specs.Rowids.{Rowids}
 use Rattle.sqlite.specs.Rowids.TheVariants.{Chosen, Given}
 use Rattle.sqlite.specs.Effect.{Database, IsDatabase, value_rows, edit_error}
@@ -39,7 +39,7 @@ use Rattle.sqlite_rules.specs.Calls.{ids_of}
 use Rattle.sqlite_rules.specs.Edit.{IsOversized}
 use Rattle.sqlite_rules.specs.Lists.{Has}
 use Rattle.sqlite_rules.proofs.ListLemmas.{some_has, any_has, all_has, all_from, has_got}
-use Rattle.sqlite_rules.proofs.TableLemmas.{without_all_has, put_all_has}
+use Rattle.sqlite_rules.proofs.TableLemmas.{put_all_has}
 use Rattle.sqlite_schema.specs.declared.schema.Index.{Index}
 use Rattle.sqlite_sql.specs.Ops.{binary, is_null, is_true, from_truth, fits_i64}
 use Rattle.sqlite_sql.specs.Program.{ProgramOverflows}

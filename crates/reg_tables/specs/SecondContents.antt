@@ -113,6 +113,12 @@ without_evidence key contents = record contents {
   against = without_places contents.against key;
 }
 
+abbrev pub with_evidence : List ℕ × ℕ → List ℕ → SecondContents → SecondContents
+with_evidence key level contents = record contents { evidence = insert contents.evidence key level }
+
+abbrev pub with_against : PlaceKey → ℕ → SecondContents → SecondContents
+with_against key id contents = record contents { against = insert contents.against key id }
+
 abbrev pub with_mode : List ℕ → List ℕ → SecondContents → SecondContents
 with_mode subject mode contents = record contents { modes = insert contents.modes subject mode }
 

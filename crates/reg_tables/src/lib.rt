@@ -12,6 +12,7 @@
 #![tactic(auto)]
 
 mod declared;
+mod evidence;
 mod kept;
 mod keyed;
 mod layout;
@@ -28,6 +29,7 @@ mod versions;
 mod with_id;
 
 pub use declared::{has_layout, has_no_tables, is_unindexed};
+pub use evidence::{put_against, put_evidence};
 pub use kept::{KeptReply, keep_reply, kept_reply};
 pub use layout::{create, index_versions};
 pub use levels::{drop_level, own_level, set_level};

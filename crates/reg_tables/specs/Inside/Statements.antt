@@ -91,6 +91,10 @@ by_key = op2 (Compare Eq Binary) (col 1 1) (col 0 0) ∷ []
 abbrev pub by_version : List Term
 by_version = op2 (Compare Eq Binary) (col 1 1) (col 0 0) ∷ op2 (Compare Eq Binary) (col 1 2) (col 0 1) ∷ []
 
+-- the first three columns are the parameters
+abbrev pub by_place : List Term
+by_place = op2 (Compare Eq Binary) (col 1 1) (col 0 0) ∷ op2 (Compare Eq Binary) (col 1 2) (col 0 1) ∷ op2 (Compare Eq Binary) (col 1 3) (col 0 2) ∷ []
+
 -- the rowid is the parameter
 abbrev pub by_id : List Term
 by_id = op2 (Compare Eq Binary) (col 1 0) (col 0 0) ∷ []

@@ -1,4 +1,4 @@
-use Rattle.std.proofs.Common.{◌≡◌, ◌∙◌, List, ℕ, None, arith, lit<, lit≤, codes, [], ◌∷◌}
+use Rattle.std.proofs.Common.{◌≡◌, ◌∙◌, None, arith, lit<, lit≤, codes, [], ◌∷◌}
 use Rattle.std.specs.FinMap.{get, insert, empty, get-empty, get-insert}
 use Rattle.std.proofs.lemmas.Cmp.{nat_list_cmp_total}
 use Rattle.sqlite.specs.Held.{state}
