@@ -10,7 +10,8 @@ use Rattle.reg_store.specs.declared.error.StoreError.{StoreError}
 use Rattle.reg_store.specs.declared.error.StoreError.TheVariants.{Disk}
 use Rattle.reg_store.specs.declared.store.Store.{Store}
 use Rattle.reg_store.specs.Inside.Reads.{Stored, Reads}
-use Rattle.reg_store.specs.Stores.{state_of, has_failed, KeepsStore}
+use Rattle.reg_store.specs.Stores.{state_of, has_failed, KeepsStore, ReadsStore}
+use Rattle.reg_store.proofs.ReadLemmas.{tells_stored}
 
 -- the law of a store: while it is open, a crash leaves its last commit alone
 abbrev pub Settles : {S : Type 0} → Ghosts S → Type 0
@@ -54,3 +55,16 @@ opens_none old new (Err e) was keeps is_open = keeps.was_open is_open
 pub keeps_reads : {S T : Type 0} {g : Ghosts S} {Tells : Stored → T → Type 0} (settles : Settles g) (old new : Store S g) (r : Result T StoreError) → has_failed old ≡ false → ((r ≡ Err Disk) ↔ IsTrue (has_failed new)) → Reads old.db new.db r Tells
     → KeepsStore old new r
 keeps_reads settles old new r unfailed failed_now reads = keeps_store settles old new r unfailed failed_now _ reads.may.rests.survives reads.was_open (λ clean. (reads.may.rests.commit_stays clean).was_open)
+
+-- and what it tells
+pub reads_store : {S T : Type 0} {g : Ghosts S} {Tells : Stored → T → Type 0} {r : Result T StoreError} (settles : Settles g) {old new : Store S g} → has_failed old ≡ false → ((r ≡ Err Disk) ↔ IsTrue (has_failed new)) → Reads old.db new.db r Tells → ReadsStore old new r Tells
+reads_store {r = r} settles {old} {new} unfailed failed_now reads = record {
+  frame = keeps_reads settles old new r unfailed failed_now reads;
+  tells = tells_stored reads;
+}
+
+pub reads_failed : {S T : Type 0} {g : Ghosts S} {Tells : Stored → T → Type 0} (settles : Settles g) (s : Store S g) → IsTrue (has_failed s) → ReadsStore s s (Err Disk) Tells
+reads_failed settles s failed = record {
+  frame = keeps_if_failed settles s s (Err Disk) failed refl refl;
+  tells = λ clean. record { answers = λ was over unfailed. absurd (both_ways _ unfailed failed); same = λ was over. over; crash = λ db it. it };
+}

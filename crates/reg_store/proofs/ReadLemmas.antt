@@ -1,5 +1,5 @@
 -- Reads of what is stored: alone, and one after the other.
-use Rattle.std.proofs.Common.{◌≡◌, inl, Ok, Err, Result, IsTrue, refl, sym, subst, ◌∙◌, arith}
+use Rattle.std.proofs.Common.{◌≡◌, inl, inr, Ok, Err, Result, IsTrue, refl, sym, subst, ◌∙◌, arith}
 use Rattle.std.specs.Prelude.{OnOk, OnErr, IfOk, IfErr, IsErrAnd, MatchResult}
 use Rattle.sqlite.specs.Held.{Held, state}
 use Rattle.sqlite.specs.State.{State, HasCleanDisk}
@@ -14,11 +14,10 @@ use Rattle.reg_tables.proofs.Transactions.{keeps_then, survives_both}
 use Rattle.reg_store.specs.declared.error.StoreError.{StoreError}
 use Rattle.reg_store.specs.declared.error.StoreError.TheVariants.{Memory}
 use Rattle.reg_store.specs.declared.idle.Idle.{Idle}
-use Rattle.reg_core.specs.Registry.{Registry}
-use Rattle.reg_core.specs.KeptReplies.{Kept}
-use Rattle.reg_store.specs.Spells.{IsOpenOver, SpellsWhileOpen}
-use Rattle.reg_store.specs.Failures.{failure_of, IsFaultBy, IsTold, IsFaultOver}
+use Rattle.reg_store.specs.Spells.{IsOpenOver}
+use Rattle.reg_store.specs.Failures.{failure_of, IsFaultBy, IsTold}
 use Rattle.reg_store.specs.Inside.Reads.{Stored, shown, Spell, Rests, MayRead, Reads}
+use Rattle.reg_store.specs.Stores.{TellsStored}
 use Rattle.reg_store.proofs.Failing.{by_since, fault_by, told_since, can_be_read}
 use Rattle.reg_store.proofs.Committing.{still_spells}
 
@@ -210,21 +209,9 @@ module _ {S : Type 0} {g : Ghosts S} where
 
   -- ---- what a caller learns of it
 
-  module _ {X : Type 0} {Tells : Stored → X → Type 0} {a b : Idle S g} {r : Result X StoreError} (reads : Reads a b r Tells) where
-    pub told : HasCleanDisk (shown b) → IfOk r (λ x. (registry : Registry) (k : Kept) → SpellsWhileOpen (shown a) registry k → Tells (record { registry = registry; replies = k }) x)
-    told clean = go r (reads.may.answers clean)
-      where
-        go : (r : Result X StoreError) → ((was : Stored) → Spell (shown a) was → MatchResult r (Tells was) (IsFaultBy (shown a) (shown b)))
-            → IfOk r (λ x. (registry : Registry) (k : Kept) → SpellsWhileOpen (shown a) registry k → Tells (record { registry = registry; replies = k }) x)
-        go (Ok x) f = λ registry k over. f (record { registry = registry; replies = k }) over
-        go (Err e) f = tt
-
-    pub faulted : HasCleanDisk (shown b) → IfErr r (IsFaultOver (shown a) (shown b))
-    faulted clean = go r (reads.may.answers clean)
-      where
-        go : (r : Result X StoreError) → ((was : Stored) → Spell (shown a) was → MatchResult r (Tells was) (IsFaultBy (shown a) (shown b))) → IfErr r (IsFaultOver (shown a) (shown b))
-        go (Ok x) f = tt
-        go (Err e) f = λ registry k over. f (record { registry = registry; replies = k }) over
-
-    pub same : HasCleanDisk (shown b) → (registry : Registry) (k : Kept) → SpellsWhileOpen (shown a) registry k → SpellsWhileOpen (shown b) registry k
-    same clean registry k = spell_on (shown a) (shown b) reads.may.rests clean (record { registry = registry; replies = k })
+  pub tells_stored : {X Goes : Type 0} {Tells : Stored → X → Type 0} {a b : Idle S g} {r : Result X StoreError} → Reads a b r Tells → HasCleanDisk (shown b) → TellsStored (shown a) (shown b) Goes r Tells
+  tells_stored {a} {b} {r = r} reads clean = record {
+    answers = λ was over. match_each r (λ x told. told) (λ e fault _. fault) (reads.may.answers clean was over);
+    same = spell_on (shown a) (shown b) reads.may.rests clean;
+    crash = λ db it. elim (reads.may.rests.survives.crash clean db it) [ inl was ↦ was | inr none ↦ absurd none ];
+  }

@@ -1,5 +1,5 @@
 -- What a store is seen as.
-use Rattle.std.specs.Prelude.{◌≡◌, ◌⊎◌, ◌↔◌, ◌≤◌, Bool, IsTrue, Result, Err, OnOk}
+use Rattle.std.specs.Prelude.{◌≡◌, ◌⊎◌, ◌↔◌, ◌≤◌, Bool, false, IsTrue, Result, Err, OnOk, MatchResult}
 use Rattle.sqlite_disk.specs.Disk.{MoreFaults}
 use Rattle.sqlite.specs.Held.{Held, state}
 use Rattle.sqlite.specs.Tree.{Trees}
@@ -8,6 +8,8 @@ use Rattle.sqlite_trees.specs.declared.store.Store.{Ghosts}
 use Rattle.reg_store.specs.declared.error.StoreError.{StoreError}
 use Rattle.reg_store.specs.declared.error.StoreError.TheVariants.{Memory, Disk}
 use Rattle.reg_store.specs.declared.store.Store.{Store}
+use Rattle.reg_store.specs.Failures.{IsFaultBy}
+use Rattle.reg_store.specs.Inside.Reads.{Stored, Spell}
 
 -- SQLite, connections: the store's one
 abbrev pub connection_of : {S : Type 0} {g : Ghosts S} → Store S g → Held S
@@ -25,11 +27,15 @@ has_failed store = store.failed
 abbrev pub LeavesCommit : State → Type 0
 LeavesCommit s = IsTrue s.is_open → (db : Trees) → s.may_leave db → db ≡ s.committed.trees
 
+-- SQLite, transactions: a crash leaves nothing that it didn't leave before
+abbrev pub LeavesNoMore : State → State → Type 0
+LeavesNoMore old new = (db : Trees) → new.may_leave db → old.may_leave db
+
 -- this project's choice: where the error isn't `Disk`, a crash leaves what it left before and no more; but the disk may fail while memory is refused
 abbrev pub LeavesBefore : State → State → StoreError → Type 0
 LeavesBefore old new Disk = Unit {0}
-LeavesBefore old new Memory = ((db : Trees) → new.may_leave db → old.may_leave db) ⊎ MoreFaults old.faults new.faults
-LeavesBefore old new _ = (db : Trees) → new.may_leave db → old.may_leave db
+LeavesBefore old new Memory = LeavesNoMore old new ⊎ MoreFaults old.faults new.faults
+LeavesBefore old new _ = LeavesNoMore old new
 
 -- SQLite, connections: no fault is forgotten, no connection is opened, and only a fault of the disk shuts one
 pub record KeepsOpen (old new : State) : Type 0 where
@@ -57,3 +63,18 @@ pub record KeepsLent {S T : Type 0} {g : Ghosts S} (old new : Store S g) (result
   pub was_open : HasCleanDisk (state_of new) → OnOk result (IsTrue (state_of old).is_open)
   pub connection : KeepsOpen (state_of old) (state_of new)
   pub settled : LeavesCommit (state_of new)
+
+-- this project's choice: the tables spell what they spelled
+abbrev pub SpellsOn : State → State → Type 0
+SpellsOn old new = (was : Stored) → Spell old was → Spell new was
+
+-- this project's choice: what a call that only reads says of what the tables spell, and leaves of it. An Ok tells of what is stored; an Err is a fault, unless the call stopped before (`Goes`)
+pub record TellsStored {T : Type 0} (old new : State) (Goes : Type 0) (result : Result T StoreError) (Tells : Stored → T → Type 0) : Type 0 where
+  pub answers : (was : Stored) → Spell old was → MatchResult result (Tells was) (λ e. Goes → IsFaultBy old new e)
+  pub same : SpellsOn old new
+  pub crash : LeavesNoMore old new
+
+-- this project's choice: what each call of a store that only reads keeps, and tells
+pub record ReadsStore {S T : Type 0} {g : Ghosts S} (old new : Store S g) (result : Result T StoreError) (Tells : Stored → T → Type 0) : Type 0 where
+  pub frame : KeepsStore old new result
+  pub tells : HasCleanDisk (state_of new) → TellsStored (state_of old) (state_of new) (has_failed old ≡ false) result Tells

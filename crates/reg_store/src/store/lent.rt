@@ -1,14 +1,10 @@
 //! Lines of a listing that the store lends, one at a time.
 
 ghost use Rattle.std.specs.Prelude.{◌≡◌, [], List, None, Some, Err, IfOk, IfErr, IfSome, OnOk, IsTrue, false};
-ghost use Rattle.sqlite.specs.Tree.{Trees};
 ghost use Rattle.sqlite.specs.State.{HasCleanDisk};
 ghost use Rattle.reg_core.specs.Registry.{Registry};
-ghost use Rattle.reg_core.specs.KeptReplies.{Kept};
 ghost use Rattle.reg_store.specs.declared.listing.Listing.{Listing};
-ghost use Rattle.reg_store.specs.Spells.{SpellsWhileOpen};
-ghost use Rattle.reg_store.specs.Failures.{IsFaultOver};
-ghost use Rattle.reg_store.specs.Stores.{state_of, has_failed, KeepsLent};
+ghost use Rattle.reg_store.specs.Stores.{state_of, has_failed, KeepsLent, TellsStored};
 ghost use Rattle.reg_store.specs.Listings.{Fields};
 ghost use Rattle.reg_store.specs.Handing.{IsAt, store_of, failure_in, HasHanded, HandsOn};
 ghost use Rattle.reg_store.specs.Lending.{StoreRests};
@@ -89,22 +85,14 @@ impl<S: Alter> Lines<'_, S> {
     pub fn next(&mut self) -> Result<Option<Vec<String>>, StoreError>
         ensures same_reference { self.new.store.ghost_name ≡ self.old.store.ghost_name }
         ensures frame { KeepsLent (store_of self.old) (store_of self.new) result }
-        ensures hands { HasCleanDisk (state_of (store_of self.new)) → IfOk result (λ line.
-            (kind : Listing) (g : Registry) (k : Kept) (done : List Fields)
-            → SpellsWhileOpen (state_of (store_of self.old)) g k
-            → HasHanded self.old kind g done → HandsOn self.new kind g done line) }
+        ensures tells { HasCleanDisk (state_of (store_of self.new)) → TellsStored
+            (state_of (store_of self.old)) (state_of (store_of self.new)) (failure_in self.old ≡ None) result
+            (λ was line. (kind : Listing) (done : List Fields)
+            → HasHanded self.old kind was.registry done → HandsOn self.new kind was.registry done line) }
         ensures again { IfSome (failure_in self.old) (λ e.
             (result ≡ Err e) × (store_of self.new ≡ store_of self.old)) }
         ensures going { OnOk result (failure_in self.new ≡ None) }
         ensures remembered { IfErr result (λ e. failure_in self.new ≡ Some e) }
-        ensures fault { HasCleanDisk (state_of (store_of self.new)) → failure_in self.old ≡ None
-            → IfErr result (IsFaultOver (state_of (store_of self.old)) (state_of (store_of self.new))) }
-        ensures same { HasCleanDisk (state_of (store_of self.new)) → (g : Registry) (k : Kept)
-            → SpellsWhileOpen (state_of (store_of self.old)) g k
-            → SpellsWhileOpen (state_of (store_of self.new)) g k }
-        ensures crash { HasCleanDisk (state_of (store_of self.new)) → (db : Trees)
-            → (state_of (store_of self.new)).may_leave db
-            → (state_of (store_of self.old)).may_leave db }
     {
         if let Some(error) = self.failure {
             return Err(error);

@@ -1,14 +1,8 @@
 //! Listings.
 
-ghost use Rattle.std.specs.Prelude.{◌≡◌, IfOk, IfErr, false, map};
+ghost use Rattle.std.specs.Prelude.{◌≡◌, map};
 ghost use Rattle.std.specs.FinMap.{entries};
-ghost use Rattle.sqlite.specs.Tree.{Trees};
-ghost use Rattle.sqlite.specs.State.{HasCleanDisk};
-ghost use Rattle.reg_core.specs.Registry.{Registry};
-ghost use Rattle.reg_core.specs.KeptReplies.{Kept};
-ghost use Rattle.reg_store.specs.Spells.{SpellsWhileOpen};
-ghost use Rattle.reg_store.specs.Failures.{IsFaultOver};
-ghost use Rattle.reg_store.specs.Stores.{state_of, has_failed, KeepsStore};
+ghost use Rattle.reg_store.specs.Stores.{ReadsStore};
 ghost use Rattle.reg_store.specs.Listings.{lines_of, listing_lines, version_line};
 ghost use Rattle.reg_store.specs.Inside.Reads.{Reads};
 
@@ -31,16 +25,8 @@ impl<S: Alter> Store<S> {
     /// `Memory`, `Disk`, and `NotARegistry` where the tables no longer spell one. Whatever is
     /// answered, nothing is changed.
     pub fn rows(&mut self, kind: Listing) -> Result<Vec<Vec<String>>, StoreError>
-        ensures frame { KeepsStore self.old self.new result }
-        ensures rows { HasCleanDisk (state_of self.new) → IfOk result (λ rows.
-            (g : Registry) (k : Kept) → SpellsWhileOpen (state_of self.old) g k
-            → lines_of rows ≡ listing_lines kind g) }
-        ensures fault { HasCleanDisk (state_of self.new) → has_failed self.old ≡ false
-            → IfErr result (IsFaultOver (state_of self.old) (state_of self.new)) }
-        ensures same { HasCleanDisk (state_of self.new) → (g : Registry) (k : Kept)
-            → SpellsWhileOpen (state_of self.old) g k → SpellsWhileOpen (state_of self.new) g k }
-        ensures crash { HasCleanDisk (state_of self.new) → (db : Trees)
-            → (state_of self.new).may_leave db → (state_of self.old).may_leave db }
+        ensures { ReadsStore self.old self.new result (λ was rows.
+            lines_of rows ≡ listing_lines kind was.registry) }
     {
         if self.failed {
             return Err(StoreError::Disk);

@@ -1,16 +1,12 @@
 //! What is kept under a key, and the text of an id.
 
-ghost use Rattle.std.specs.Prelude.{◌≡◌, None, IfOk, IfErr, OnErr, false, option_map, string_bytes};
-ghost use Rattle.sqlite.specs.Tree.{Trees};
-ghost use Rattle.sqlite.specs.State.{HasCleanDisk};
-ghost use Rattle.reg_core.specs.Registry.{Registry};
+ghost use Rattle.std.specs.Prelude.{◌≡◌, None, IfOk, OnErr, option_map, string_bytes};
 ghost use Rattle.reg_core.specs.Replies.{IsKeptStatus};
 ghost use Rattle.reg_core.specs.Rows.{text_at};
 ghost use Rattle.reg_tables.specs.KeptRows.{kept_row};
-ghost use Rattle.reg_core.specs.KeptReplies.{Kept, entry_told};
-ghost use Rattle.reg_store.specs.Spells.{SpellsWhileOpen, row_of};
-ghost use Rattle.reg_store.specs.Failures.{IsFaultOver};
-ghost use Rattle.reg_store.specs.Stores.{state_of, has_failed, KeepsStore};
+ghost use Rattle.reg_core.specs.KeptReplies.{entry_told};
+ghost use Rattle.reg_store.specs.Spells.{row_of};
+ghost use Rattle.reg_store.specs.Stores.{ReadsStore};
 ghost use Rattle.reg_store.specs.Inside.Reads.{Reads};
 
 use crate::error::StoreError;
@@ -29,16 +25,8 @@ impl<S: Alter> Store<S> {
     /// `Memory`, `Disk`, and `NotARegistry` where the tables no longer spell one. Whatever is
     /// answered, nothing is changed.
     pub fn kept(&mut self, key: &Key<'_>) -> Result<Option<(String, Reply)>, StoreError>
-        ensures frame { KeepsStore self.old self.new result }
-        ensures found { HasCleanDisk (state_of self.new) → IfOk result (λ found.
-            (g : Registry) (k : Kept) → SpellsWhileOpen (state_of self.old) g k
-            → k key.now ≡ option_map (λ kept. entry_told (string_bytes kept.0) kept.1) found) }
-        ensures fault { HasCleanDisk (state_of self.new) → has_failed self.old ≡ false
-            → IfErr result (IsFaultOver (state_of self.old) (state_of self.new)) }
-        ensures same { HasCleanDisk (state_of self.new) → (g : Registry) (k : Kept)
-            → SpellsWhileOpen (state_of self.old) g k → SpellsWhileOpen (state_of self.new) g k }
-        ensures crash { HasCleanDisk (state_of self.new) → (db : Trees)
-            → (state_of self.new).may_leave db → (state_of self.old).may_leave db }
+        ensures { ReadsStore self.old self.new result (λ was found.
+            was.replies key.now ≡ option_map (λ kept. entry_told (string_bytes kept.0) kept.1) found) }
     {
         if self.failed {
             return Err(StoreError::Disk);
@@ -55,16 +43,8 @@ impl<S: Alter> Store<S> {
     /// `Memory`, `Disk`, and `NotARegistry` where the tables no longer spell one. Whatever is
     /// answered, nothing is changed.
     pub fn text_of(&mut self, id: u32) -> Result<Option<String>, StoreError>
-        ensures frame { KeepsStore self.old self.new result }
-        ensures found { HasCleanDisk (state_of self.new) → IfOk result (λ found.
-            (g : Registry) (k : Kept) → SpellsWhileOpen (state_of self.old) g k
-            → option_map string_bytes found ≡ text_at g.schemas id) }
-        ensures fault { HasCleanDisk (state_of self.new) → has_failed self.old ≡ false
-            → IfErr result (IsFaultOver (state_of self.old) (state_of self.new)) }
-        ensures same { HasCleanDisk (state_of self.new) → (g : Registry) (k : Kept)
-            → SpellsWhileOpen (state_of self.old) g k → SpellsWhileOpen (state_of self.new) g k }
-        ensures crash { HasCleanDisk (state_of self.new) → (db : Trees)
-            → (state_of self.new).may_leave db → (state_of self.old).may_leave db }
+        ensures { ReadsStore self.old self.new result (λ was found.
+            option_map string_bytes found ≡ text_at was.registry.schemas id) }
     {
         if self.failed {
             return Err(StoreError::Disk);

@@ -1,13 +1,7 @@
 //! The line of a listing behind a cursor.
 
-ghost use Rattle.std.specs.Prelude.{ℕ, None, IfOk, IfErr};
-ghost use Rattle.sqlite.specs.Tree.{Trees};
-ghost use Rattle.sqlite.specs.State.{HasCleanDisk};
-ghost use Rattle.reg_core.specs.Registry.{Registry};
-ghost use Rattle.reg_core.specs.KeptReplies.{Kept};
-ghost use Rattle.reg_store.specs.Spells.{SpellsWhileOpen};
-ghost use Rattle.reg_store.specs.Failures.{IsFaultOver};
-ghost use Rattle.reg_store.specs.Stores.{state_of, KeepsLent};
+ghost use Rattle.std.specs.Prelude.{ℕ, None};
+ghost use Rattle.reg_store.specs.Stores.{KeepsLent};
 ghost use Rattle.reg_store.specs.declared.listing.Listing.{Listing};
 ghost use Rattle.reg_store.specs.Handing.{IsAt, LeadsOn};
 ghost use Rattle.reg_store.specs.Inside.Reads.{Reads};
@@ -31,16 +25,8 @@ impl<S: Alter> Store<S> {
         cursor: Cursor,
     ) -> Result<(Option<Vec<String>>, Cursor), StoreError>
         ensures frame { KeepsLent self.old self.new result }
-        ensures found { HasCleanDisk (state_of self.new) → IfOk result (λ found.
-            (kind : Listing) (g : Registry) (k : Kept) (count : ℕ)
-            → SpellsWhileOpen (state_of self.old) g k
-            → IsAt kind g count cursor → LeadsOn kind g count found) }
-        ensures fault { HasCleanDisk (state_of self.new)
-            → IfErr result (IsFaultOver (state_of self.old) (state_of self.new)) }
-        ensures same { HasCleanDisk (state_of self.new) → (g : Registry) (k : Kept)
-            → SpellsWhileOpen (state_of self.old) g k → SpellsWhileOpen (state_of self.new) g k }
-        ensures crash { HasCleanDisk (state_of self.new) → (db : Trees)
-            → (state_of self.new).may_leave db → (state_of self.old).may_leave db }
+        ensures reads { Reads self.old.db self.new.db result (λ was found.
+            (kind : Listing) (count : ℕ) → IsAt kind was.registry count cursor → LeadsOn kind was.registry count found) }
     {
         line_at(self.alloc, &mut self.db, cursor)
     }

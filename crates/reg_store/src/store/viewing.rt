@@ -1,17 +1,11 @@
 //! What a command needs to know of the registry.
 
-ghost use Rattle.std.specs.Prelude.{◌≡◌, IfOk, IfErr, IsTrue, length, false, option_map, option_and_then, option_copied};
-ghost use Rattle.sqlite.specs.Tree.{Trees};
-ghost use Rattle.sqlite.specs.State.{HasCleanDisk};
+ghost use Rattle.std.specs.Prelude.{◌≡◌, IsTrue, length, option_map, option_and_then, option_copied};
 ghost use Rattle.avro_nodes.specs.Identity.{identity as identity_text};
-ghost use Rattle.reg_core.specs.Registry.{Registry};
 ghost use Rattle.reg_core.specs.Rows.{id_of};
-ghost use Rattle.reg_core.specs.KeptReplies.{Kept};
 ghost use Rattle.reg_core.specs.Machine.{schema_sent};
 ghost use Rattle.reg_core.specs.Views.{IsViewOf};
-ghost use Rattle.reg_store.specs.Spells.{SpellsWhileOpen};
-ghost use Rattle.reg_store.specs.Failures.{IsFaultOver};
-ghost use Rattle.reg_store.specs.Stores.{state_of, has_failed, KeepsStore};
+ghost use Rattle.reg_store.specs.Stores.{ReadsStore};
 ghost use Rattle.reg_store.specs.Inside.Viewing.{IsViewButTexts};
 ghost use Rattle.reg_store.specs.Inside.Reads.{MayRead, Reads};
 
@@ -35,17 +29,9 @@ impl<S: Alter> Store<S> {
     /// `Memory`, `Disk`, and `NotARegistry` where the tables no longer spell one. Whatever is
     /// answered, nothing is changed.
     pub fn view(&mut self, command: &Command, identity: Option<&str>) -> Result<View, StoreError>
-        ensures frame { KeepsStore self.old self.new result }
-        ensures view { HasCleanDisk (state_of self.new) → IfOk result (λ view.
-            (g : Registry) (k : Kept) → SpellsWhileOpen (state_of self.old) g k
-            → option_copied identity.entry ≡ option_map identity_text (schema_sent command.now)
-            → IsViewOf view g command.now) }
-        ensures fault { HasCleanDisk (state_of self.new) → has_failed self.old ≡ false
-            → IfErr result (IsFaultOver (state_of self.old) (state_of self.new)) }
-        ensures same { HasCleanDisk (state_of self.new) → (g : Registry) (k : Kept)
-            → SpellsWhileOpen (state_of self.old) g k → SpellsWhileOpen (state_of self.new) g k }
-        ensures crash { HasCleanDisk (state_of self.new) → (db : Trees)
-            → (state_of self.new).may_leave db → (state_of self.old).may_leave db }
+        ensures { ReadsStore self.old self.new result (λ was view.
+            option_copied identity.entry ≡ option_map identity_text (schema_sent command.now)
+            → IsViewOf view was.registry command.now) }
     {
         if self.failed {
             return Err(StoreError::Disk);

@@ -1,11 +1,13 @@
-use Rattle.reg_store.proofs.ReadLemmas.{told, faulted, same}
+use Rattle.std.proofs.Common.{◌≡◌, Err, IsTrue, rules}
+use Rattle.std.specs.Prelude.{◌↔◌}
+use Rattle.reg_store.specs.declared.error.StoreError.TheVariants.{Disk}
+use Rattle.reg_store.proofs.Keeping.{reads_failed, reads_store}
 use Rattle.reg_store.proofs.store.Store.view.Goals as goal
 
-pub returns-clause-view : goal.returns-clause-view
-returns-clause-view g c = told c.view_for-view.ensures
+pub returns-then-self : goal.returns-then-self
+returns-then-self g c = reads_failed g.met.S.Store.settled c.args.self.now c.if-self.true
 
-pub returns-clause-fault : goal.returns-clause-fault
-returns-clause-fault g c clean unfailed = faulted c.view_for-view.ensures clean
-
-pub returns-clause-same : goal.returns-clause-same
-returns-clause-same g c = same c.view_for-view.ensures
+pub returns : goal.returns
+returns g c =
+    let failed_now : (c.view_for-view.result ≡ Err Disk) ↔ IsTrue c.match-matches.self = search rules in
+    reads_store g.met.S.Store.settled c.if-self.false failed_now c.view_for-view.ensures
