@@ -14,11 +14,12 @@ use Rattle.reg_core.specs.Registry.{Registry}
 use Rattle.reg_core.specs.Replies.{Told, IsOwnReply, fault}
 use Rattle.reg_core.specs.KeptReplies.{Kept, Entry, kept_with}
 use Rattle.reg_store.specs.Spells.{Leaves, IsOpenOver, SpellsWhileOpen}
+use Rattle.reg_store.specs.Stores.{LeavesNoMore}
 use Rattle.reg_store.proofs.Committing.{leaves_if_spelled}
 use Rattle.reg_core.specs.declared.delivery.Delivery.{Delivery}
 use Rattle.reg_service.specs.Deliveries.{Exchange, key_of, is_first, firsts, kept_after, reply_after, served, is_backend_fault, Serves}
 use Rattle.reg_service.specs.Services.{ServesOver}
-use Rattle.reg_service.specs.Crashes.{LeavesAfter, LeavesUnderWay, IsFoundAfter, reply_of, LeavesOne, LeavesNoMore}
+use Rattle.reg_service.specs.Crashes.{LeavesAfter, LeavesUnderWay, IsFoundAfter, reply_of, LeavesOne}
 use Rattle.reg_service.proofs.JoinedExchanges.{kept_after-append, is_first-append, registry-append, serves_none}
 use Rattle.reg_service.proofs.ExchangeLists.{served-append, zip-push}
 use Rattle.reg_service.proofs.SingleDeliveries.{is_first-keyless, is_first-keyed, kept_after-keyed, kept_after-known, run_commands-one, serves_keyless, serves_first, serves_again, serves_refused}

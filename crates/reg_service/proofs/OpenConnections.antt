@@ -1,13 +1,17 @@
 -- What calls leave of the connection, and what a service keeps, one call after the other.
-use Rattle.std.proofs.Common.{◌≡◌, inl, inr, ℕ, ◌+◌, ◌≤◌, ◌++◌, ◌∷◌, List, [], min, arith}
+use Rattle.std.proofs.Common.{◌≡◌, inl, inr, sym, subst, Result, Ok, Err, IsTrue, ℕ, ◌+◌, ◌≤◌, ◌++◌, ◌∷◌, List, [], min, arith}
+use Rattle.std.specs.Prelude.{OnOk}
 use Rattle.std.proofs.lemmas.List.Elements.{All-push, All-same}
 use Rattle.sqlite.specs.State.{State, HasCleanDisk}
 use Rattle.sqlite_trees.specs.declared.store.Store.{Ghosts}
 use Rattle.reg_core.specs.declared.code.Code.TheVariants.{BackendFault}
 use Rattle.reg_core.specs.Replies.{Told, fault}
-use Rattle.reg_store.specs.Stores.{KeepsOpen}
+use Rattle.reg_store.specs.declared.error.StoreError.{StoreError}
+use Rattle.reg_store.specs.declared.store.Store.{Store}
+use Rattle.reg_store.specs.Inside.Reads.{Stored}
+use Rattle.reg_store.specs.Stores.{has_failed, KeepsOpen, ReadsStore}
 use Rattle.reg_service.specs.declared.service.Service.{Service}
-use Rattle.reg_service.specs.Services.{state_in, KeepsService, AreUnanswered}
+use Rattle.reg_service.specs.Services.{store_in, state_in, KeepsService, AreUnanswered}
 
 -- more faults stay more
 still_more : (top a b c : ℕ) → min (a + 1) top ≤ b → b ≤ c → min (a + 1) top ≤ c
@@ -57,3 +61,26 @@ module _ {S : Type 0} {g : Ghosts S} where
     where
       all : AreUnanswered replies → reply ≡ fault BackendFault → AreUnanswered more
       all them it = All-same (λ told. told ≡ fault BackendFault) more (replies ++ reply ∷ []) longer (All-push (λ told. told ≡ fault BackendFault) replies reply them it)
+
+-- a call that only reads the store, and fails where that fails
+module _ {S T : Type 0} {g : Ghosts S} {Tells : Stored → T → Type 0} {GivesNone : Type 0} {old new : Service S g} where
+  pub keeps_reading : {r : Result T StoreError} → ReadsStore (store_in old) (store_in new) r Tells → (OnOk r ⊥ → GivesNone) → KeepsService old new GivesNone
+  keeps_reading {r} reads none = record {
+    failed = λ failed. let was = reads.frame.failed_before failed in (none (subst (λ (q : Result T StoreError). OnOk q ⊥) (sym was.0) tt), subst (λ (s : Store S g). IsTrue (has_failed s)) (sym was.1) failed);
+    shut = λ clean is_shut. (none (fails r (reads.frame.was_open clean) is_shut), (reads.tells clean).crash);
+    clean = reads.frame.clean;
+    connection = reads.frame.connection;
+  }
+    where
+      fails : (r : Result T StoreError) → OnOk r (IsTrue (state_in old).is_open) → (IsTrue (state_in old).is_open → ⊥) → OnOk r ⊥
+      fails (Ok x) is_open is_shut = is_shut is_open
+      fails (Err e) is_open is_shut = tt
+
+  -- one that succeeds, and then a call of a service
+  pub keeps_read_then : {x : T} {mid : Service S g} → ReadsStore (store_in old) (store_in mid) (Ok x) Tells → KeepsService mid new GivesNone → KeepsService old new GivesNone
+  keeps_read_then {x} {mid} reads one = record {
+    failed = λ failed. absurd (let was = (reads.frame.failed_before failed).0 in cc);
+    shut = λ clean is_shut. absurd (is_shut (reads.frame.was_open (one.clean clean)));
+    clean = λ clean. reads.frame.clean (one.clean clean);
+    connection = keeps_then (state_in old) (state_in mid) (state_in new) one.clean reads.frame.connection one.connection;
+  }

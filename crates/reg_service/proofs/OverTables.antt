@@ -10,9 +10,10 @@ use Rattle.reg_core.specs.Registry.{Registry}
 use Rattle.reg_core.specs.Replies.{Told, IsOwnReply, fault}
 use Rattle.reg_core.specs.KeptReplies.{Kept, Entry, kept_with}
 use Rattle.reg_store.specs.Spells.{SpellsWhileOpen}
+use Rattle.reg_store.specs.Stores.{SpellsOn}
 use Rattle.reg_core.specs.declared.delivery.Delivery.{Delivery}
 use Rattle.reg_service.specs.Deliveries.{Exchange, Serves, key_of, served, is_backend_fault}
-use Rattle.reg_service.specs.Services.{SpellsOn, ServesTo, ServesOver}
+use Rattle.reg_service.specs.Services.{ServesTo, ServesOver}
 use Rattle.reg_service.proofs.SingleDeliveries.{serves_keyless, serves_first, serves_again, serves_refused}
 use Rattle.reg_service.proofs.JoinedExchanges.{serves_none, kept_after-nil}
 use Rattle.std.proofs.lemmas.Slice.Eq.{bytes_eq-Decides}
@@ -52,7 +53,7 @@ again_over new d reply key text g k entry some is has same other spells =
 
 -- one that wasn't answered
 pub refused_over : (old new : State) (d : Delivery) (reply : Told) → reply ≡ fault BackendFault → SpellsOn old new → ServesOver old new (served ((d, reply) ∷ []))
-refused_over old new d reply is same = λ g k over. led g k g k (serves_refused g g k k d reply is refl refl) (same g k over)
+refused_over old new d reply is same = λ g k over. led g k g k (serves_refused g g k k d reply is refl refl) (same (record { registry = g; replies = k }) over)
 
 -- nothing leads nowhere
 pub none_over : (old : State) → ServesOver old old []

@@ -9,8 +9,12 @@ use Rattle.reg_core.specs.Registry.{Registry}
 use Rattle.reg_core.specs.Views.{after_changes}
 use Rattle.reg_core.specs.declared.decision.Change.{Change}
 use Rattle.reg_core.specs.KeptReplies.{Kept}
+use Rattle.reg_store.specs.Inside.Reads.{Stored}
 use Rattle.reg_store.specs.Spells.{SpellsWhileOpen}
-use Rattle.reg_service.specs.Services.{SpellsOn}
+use Rattle.reg_store.specs.Stores.{SpellsOn}
+
+abbrev pub stored : Registry → Kept → Stored
+stored registry k = record { registry = registry; replies = k }
 
 -- what holds anyway holds where a result is an error
 pub whatever_fails : {X E P : Type 0} (r : Result X E) → P → OnErr r P
@@ -18,7 +22,7 @@ whatever_fails (Ok x) p = tt
 whatever_fails (Err e) p = p
 
 pub on_then : (a b c : State) → SpellsOn a b → SpellsOn b c → SpellsOn a c
-on_then a b c f h g k s = h g k (f g k s)
+on_then a b c f h was s = h was (f was s)
 
 is_zero : (n : ℕ) → (n == 0) ≡ true → n ≡ 0
 is_zero n e = grind (arith, nat_tests)

@@ -39,7 +39,3 @@ reply_of (Err e) = fault BackendFault
 abbrev pub LeavesOne : {X E : Type 0} → Result X E → State → Trees → Registry → Kept → Type 0
 LeavesOne (Ok x) old db g k = Leaves db g k
 LeavesOne (Err e) old db g k = old.may_leave db ⊎ Leaves db g k
-
--- SQLite, transactions: a crash leaves nothing that it didn't leave before
-abbrev pub LeavesNoMore : State → State → Type 0
-LeavesNoMore old new = (db : Trees) → new.may_leave db → old.may_leave db

@@ -8,11 +8,10 @@ use Rattle.reg_core.specs.KeptReplies.{Kept}
 use Rattle.reg_core.specs.Replies.{Told, fault}
 use Rattle.reg_core.specs.declared.code.Code.TheVariants.{BackendFault}
 use Rattle.reg_store.specs.Spells.{SpellsWhileOpen}
-use Rattle.reg_store.specs.Stores.{state_of, has_failed, KeepsOpen}
+use Rattle.reg_store.specs.Stores.{state_of, has_failed, KeepsOpen, LeavesNoMore}
 use Rattle.reg_store.specs.declared.store.Store.{Store}
 use Rattle.reg_service.specs.declared.service.Service.{Service}
 use Rattle.reg_service.specs.Deliveries.{Exchange, Serves, KeepsAll}
-use Rattle.reg_service.specs.Crashes.{LeavesNoMore}
 
 -- this project's choice: the tables that the service stands on
 abbrev pub store_in : {S : Type 0} {g : Ghosts S} → Service S g → Store S g
@@ -21,10 +20,6 @@ store_in service = service.store
 -- SQLite, transactions: what their connection shows
 abbrev pub state_in : {S : Type 0} {g : Ghosts S} → Service S g → State
 state_in service = state_of (store_in service)
-
--- this project's choice: the tables spell what they spelled
-abbrev pub SpellsOn : State → State → Type 0
-SpellsOn old new = (g : Registry) (k : Kept) → SpellsWhileOpen old g k → SpellsWhileOpen new g k
 
 -- this project's choice: the exchanges lead from the registry g and the kept replies k to those that the tables spell
 pub record ServesTo (g : Registry) (k : Kept) (xs : List Exchange) (new : State) : Type 0 where

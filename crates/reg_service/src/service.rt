@@ -10,11 +10,11 @@ ghost use Rattle.reg_core.specs.Replies.{IsOwnReply, fault};
 ghost use Rattle.reg_core.specs.Views.{ChangesFit, after_changes};
 ghost use Rattle.reg_core.specs.KeptReplies.{Kept, kept_with};
 ghost use Rattle.reg_store.specs.Spells.{Leaves, IsOpenOver, SpellsWhileOpen};
-ghost use Rattle.reg_store.specs.Stores.{has_failed};
+ghost use Rattle.reg_store.specs.Stores.{has_failed, LeavesNoMore, SpellsOn};
 ghost use Rattle.reg_service.specs.Deliveries.{served, RepeatsAgree, NoOtherAnswers};
 ghost use Rattle.reg_service.specs.Admissions.{AllAdmitted};
-ghost use Rattle.reg_service.specs.Crashes.{IsFoundAfter, reply_of, LeavesOne, LeavesNoMore};
-ghost use Rattle.reg_service.specs.Services.{store_in, state_in, SpellsOn, ServesOver, AreUnanswered, KeepsService};
+ghost use Rattle.reg_service.specs.Crashes.{IsFoundAfter, reply_of, LeavesOne};
+ghost use Rattle.reg_service.specs.Services.{store_in, state_in, ServesOver, AreUnanswered, KeepsService};
 
 use crate::delivery::retry_key;
 use crate::error::Unanswered;

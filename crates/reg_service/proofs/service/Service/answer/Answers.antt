@@ -11,10 +11,10 @@ pub returns-in-Err-clause-served : goal.returns-in-Err-clause-served
 returns-in-Err-clause-served g c clean = refused_over _ _ c.args.delivery.now _ c.fault.ensures (c.in-Err.ensures.err clean)
 
 pub returns-in-Ok-clause-fault : goal.returns-in-Ok-clause-fault
-returns-in-Ok-clause-fault g c clean is registry k over = fault_over _ c.args.delivery.now c.in-Ok.reply registry k is (c.in-Ok.ensures.served clean registry k over)
+returns-in-Ok-clause-fault g c clean is was over = fault_over _ c.args.delivery.now c.in-Ok.reply was.registry was.replies is (c.in-Ok.ensures.served clean was.registry was.replies over)
 
 pub returns-in-Err-clause-fault : goal.returns-in-Err-clause-fault
-returns-in-Err-clause-fault g c clean is registry k over = c.in-Err.ensures.err clean registry k over
+returns-in-Err-clause-fault g c clean is = c.in-Err.ensures.err clean
 
 pub returns-in-Ok-clause-settled : goal.returns-in-Ok-clause-settled
 returns-in-Ok-clause-settled g c registry k over db it = leaves_open (state_in c.try_answer.new.self) registry k db (g.met.S.Store.settled c.try_answer.new.self.store.db.conn.store db) over it

@@ -7,7 +7,7 @@ use Rattle.reg_core.specs.Views.{ChangesFit, after_changes}
 use Rattle.reg_core.specs.KeptReplies.{kept_with}
 use Rattle.reg_store.specs.Spells.{Leaves}
 use Rattle.reg_service.specs.Services.{state_in}
-use Rattle.reg_service.proofs.StoreCalls.{whatever_fails}
+use Rattle.reg_service.proofs.StoreCalls.{stored, whatever_fails}
 use Rattle.reg_service.proofs.CrashLemmas.{leaves_failed}
 use Rattle.reg_service.proofs.service.Service.answer_first.Goals as goal
 
@@ -16,11 +16,11 @@ returns-in_err-changes-clause-err g c clean = whatever_fails c.from_residual.res
 
 pub returns-in_err-apply-clause-err : goal.returns-in_err-apply-clause-err
 returns-in_err-apply-clause-err g c clean =
-    whatever_fails c.from_residual-in_err-apply.result (λ registry k over. c.in_err-apply.ensures.nothing clean registry k (c.in_ok-changes.ensures.same (c.apply.ensures.frame.clean clean) registry k over))
+    whatever_fails c.from_residual-in_err-apply.result (λ was over. c.in_err-apply.ensures.nothing clean was.registry was.replies (c.in_ok-changes.ensures.same (c.apply.ensures.frame.clean clean) was over))
 
 pub returns-clause-done : goal.returns-clause-done
 returns-clause-done g c clean registry k over fresh =
-    let mid = c.in_ok-changes.ensures.same (c.apply.ensures.frame.clean clean) registry k over in
+    let mid = c.in_ok-changes.ensures.same (c.apply.ensures.frame.clean clean) (stored registry k) over in
     let decided = c.in_ok-changes.ensures.decided (c.apply.ensures.frame.clean clean) registry k over in
     let fit = subst (λ l. ChangesFit l registry) (sym c.deref.ensures.value) decided.2 in
     let made = rw c.deref.ensures.value at (c.in_ok-apply.ensures.done clean registry k mid fresh fit) in
@@ -29,7 +29,7 @@ returns-clause-done g c clean registry k over fresh =
 pub returns-in_err-apply-clause-crash : goal.returns-in_err-apply-clause-crash
 returns-in_err-apply-clause-crash g c clean registry k over fresh db it =
     let early = c.apply.ensures.frame.clean clean in
-    let mid = c.in_ok-changes.ensures.same early registry k over in
+    let mid = c.in_ok-changes.ensures.same early (stored registry k) over in
     let decided = c.in_ok-changes.ensures.decided early registry k over in
     let none : OnOk c.from_residual-in_err-apply.result ⊥ = search rules in
     let kept = λ (t : Told). kept_with k c.args.key.now (record { text = c.args.text.now; reply = t }) in
@@ -43,7 +43,7 @@ returns-in_err-apply-clause-crash g c clean registry k over fresh db it =
 pub returns-clause-crash : goal.returns-clause-crash
 returns-clause-crash g c clean registry k over fresh db it =
     let early = c.apply.ensures.frame.clean clean in
-    let mid = c.in_ok-changes.ensures.same early registry k over in
+    let mid = c.in_ok-changes.ensures.same early (stored registry k) over in
     let decided = c.in_ok-changes.ensures.decided early registry k over in
     let kept = λ (t : Told). kept_with k c.args.key.now (record { text = c.args.text.now; reply = t }) in
     let fit = subst (λ l. ChangesFit l registry) (sym c.deref.ensures.value) decided.2 in

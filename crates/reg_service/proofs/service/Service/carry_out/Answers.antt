@@ -5,7 +5,7 @@ use Rattle.reg_core.specs.Registry.{Registry}
 use Rattle.reg_core.specs.Views.{ChangesFit, after_changes}
 use Rattle.reg_store.specs.Spells.{Leaves}
 use Rattle.reg_service.specs.Services.{state_in}
-use Rattle.reg_service.proofs.StoreCalls.{whatever_fails, no_changes, some_changes, spells_changed}
+use Rattle.reg_service.proofs.StoreCalls.{stored, whatever_fails, no_changes, some_changes, spells_changed}
 use Rattle.reg_service.proofs.CrashLemmas.{leaves_open, leaves_failed}
 use Rattle.reg_service.proofs.service.Service.carry_out.Goals as goal
 use Rattle.reg_service.proofs.service.Service.carry_out.Goals.{then-not-is_empty+in_ok-apply, else-not-is_empty}
@@ -15,19 +15,19 @@ returns-in_err-changes-clause-err g c clean = whatever_fails c.from_residual.res
 
 pub returns-in_err-apply-clause-err : goal.returns-in_err-apply-clause-err
 returns-in_err-apply-clause-err g c clean =
-    whatever_fails c.from_residual-in_err-apply.result (λ registry k over. c.in_err-apply.ensures.nothing clean registry k (c.in_ok-changes.ensures.same (c.apply.ensures.frame.clean clean) registry k over))
+    whatever_fails c.from_residual-in_err-apply.result (λ was over. c.in_err-apply.ensures.nothing clean was.registry was.replies (c.in_ok-changes.ensures.same (c.apply.ensures.frame.clean clean) was over))
 
 pub returns-clause-done : goal.returns-clause-done
 returns-clause-done g c =
     elim c.if-not-is_empty.branch [
       | then-not-is_empty+in_ok-apply w ↦ rw w.self-is (λ clean registry k over.
-          let mid = c.in_ok-changes.ensures.same (w.in_ok-apply.ensures.frame.clean clean) registry k over in
+          let mid = c.in_ok-changes.ensures.same (w.in_ok-apply.ensures.frame.clean clean) (stored registry k) over in
           let decided = c.in_ok-changes.ensures.decided (w.in_ok-apply.ensures.frame.clean clean) registry k over in
           let fit = subst (λ l. ChangesFit l registry) (sym w.deref.ensures.value) decided.2 in
           let made = rw w.deref.ensures.value at (w.in_ok-apply.ensures.done clean registry k mid tt fit) in
           (decided.0, λ _. rw (← decided.1) made))
       | else-not-is_empty w ↦ rw w.self-is (λ clean registry k over.
-          let mid = c.in_ok-changes.ensures.same clean registry k over in
+          let mid = c.in_ok-changes.ensures.same clean (stored registry k) over in
           let decided = c.in_ok-changes.ensures.decided clean registry k over in
           let none = no_changes c.in_ok-changes.field-0.changes (sym c.is_empty.ensures ∙ w.if-not-is_empty.false) in
           (decided.0, spells_changed _ registry _ k c.in_ok-changes.field-0.changes.items none decided.1 mid))
@@ -36,7 +36,7 @@ returns-clause-done g c =
 pub returns-in_err-apply-clause-crash : goal.returns-in_err-apply-clause-crash
 returns-in_err-apply-clause-crash g c clean registry k over db it =
     let early = c.apply.ensures.frame.clean clean in
-    let mid = c.in_ok-changes.ensures.same early registry k (λ _. over) in
+    let mid = c.in_ok-changes.ensures.same early (stored registry k) (λ _. over) in
     let decided = c.in_ok-changes.ensures.decided early registry k (λ _. over) in
     let some = some_changes c.in_ok-changes.field-0.changes (sym c.is_empty.ensures ∙ c.if-not-is_empty.true) in
     let none : OnOk c.from_residual-in_err-apply.result ⊥ = search rules in
@@ -51,7 +51,7 @@ returns-clause-crash g c =
     elim c.if-not-is_empty.branch [
       | then-not-is_empty+in_ok-apply w ↦ rw w.self-is (λ clean registry k over db it.
           let early = w.in_ok-apply.ensures.frame.clean clean in
-          let mid = c.in_ok-changes.ensures.same early registry k (λ _. over) in
+          let mid = c.in_ok-changes.ensures.same early (stored registry k) (λ _. over) in
           let decided = c.in_ok-changes.ensures.decided early registry k (λ _. over) in
           let fit = subst (λ l. ChangesFit l registry) (sym w.deref.ensures.value) decided.2 in
           let made = w.in_ok-apply.ensures.done clean registry k mid tt fit in

@@ -1,10 +1,12 @@
 use Rattle.std.proofs.Common.{rules, ◌≡◌, ◌∙◌, ap}
-use Rattle.std.specs.Prelude.{option_copied, option_map}
+use Rattle.std.specs.Prelude.{OnOk, option_copied, option_map}
 use Rattle.avro_nodes.specs.Nodes.{nodes_view}
 use Rattle.avro_nodes.specs.Identity.{identity}
 use Rattle.reg_core.specs.Machine.{schema_sent}
 use Rattle.reg_core.specs.Views.{IsGround, schema_taken}
 use Rattle.reg_core.proofs.ViewLemmas.{taken-sent}
+use Rattle.reg_service.proofs.StoreCalls.{stored}
+use Rattle.reg_service.proofs.OpenConnections.{keeps_reading}
 use Rattle.reg_service.proofs.service.Service.decision.Goals as goal
 
 pub returns-clause-decided : goal.returns-clause-decided
@@ -15,7 +17,36 @@ returns-clause-decided g c clean registry k over =
     let ground : IsGround registry command (schema_taken command (option_map nodes_view (option_copied c.as_ref-2.result))) c.in_ok-view.view = record {
       registry = (over (c.in_ok-view.ensures.frame.was_open clean)).spells.spelled.registry;
       sent = ap (schema_taken command) sent ∙ taken-sent command;
-      shows = c.in_ok-view.ensures.view clean registry k over text;
+      shows = (c.in_ok-view.ensures.tells clean).answers (stored registry k) over text;
     } in
     let decides = c.in_ok-decide_with.ensures in
     (decides.reply registry ground, decides.changes registry ground, decides.fit registry ground)
+
+pub returns-in_err-view-clause-frame : goal.returns-in_err-view-clause-frame
+returns-in_err-view-clause-frame g c =
+    let none : OnOk c.from_residual-in_err-view.result ⊥ = search rules in
+    keeps_reading c.view.ensures (λ _. none)
+
+pub returns-in_err-decide_with-clause-frame : goal.returns-in_err-decide_with-clause-frame
+returns-in_err-decide_with-clause-frame g c = keeps_reading c.in_ok-view.ensures (λ none. absurd none)
+
+pub returns-clause-frame : goal.returns-clause-frame
+returns-clause-frame g c = keeps_reading c.in_ok-view.ensures (λ none. none)
+
+pub returns-in_err-view-clause-same : goal.returns-in_err-view-clause-same
+returns-in_err-view-clause-same g c clean = (c.view.ensures.tells clean).same
+
+pub returns-in_err-decide_with-clause-same : goal.returns-in_err-decide_with-clause-same
+returns-in_err-decide_with-clause-same g c clean = (c.view.ensures.tells clean).same
+
+pub returns-clause-same : goal.returns-clause-same
+returns-clause-same g c clean = (c.view.ensures.tells clean).same
+
+pub returns-in_err-view-clause-crash : goal.returns-in_err-view-clause-crash
+returns-in_err-view-clause-crash g c clean = (c.view.ensures.tells clean).crash
+
+pub returns-in_err-decide_with-clause-crash : goal.returns-in_err-decide_with-clause-crash
+returns-in_err-decide_with-clause-crash g c clean = (c.view.ensures.tells clean).crash
+
+pub returns-clause-crash : goal.returns-clause-crash
+returns-clause-crash g c clean = (c.view.ensures.tells clean).crash
