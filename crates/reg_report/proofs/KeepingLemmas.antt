@@ -1,20 +1,19 @@
 -- What several calls of lines that are lent keep of the store.
-use Rattle.std.proofs.Common.{◌≡◌, inl, inr, Result, IsTrue, refl, ◌∙◌, arith}
-use Rattle.std.specs.Prelude.{Ok, Err, OnErr, OnOk}
-use Rattle.sqlite.specs.Tree.{Trees}
+use Rattle.std.proofs.Common.{◌≡◌, inl, inr, Result, IsTrue, refl, sym, subst, ◌∙◌, arith}
+use Rattle.std.specs.Prelude.{Ok, Err, OnErr, OnOk, IfErr, IsErrAnd}
 use Rattle.sqlite.specs.State.{State, HasCleanDisk}
 use Rattle.sqlite_trees.specs.declared.store.Store.{Ghosts}
-use Rattle.reg_core.specs.Registry.{Registry}
-use Rattle.reg_core.specs.KeptReplies.{Kept}
 use Rattle.reg_store.specs.declared.error.StoreError.{StoreError}
 use Rattle.reg_store.specs.declared.store.Store.{Store}
 use Rattle.reg_store.specs.Failures.{IsFaultOver}
-use Rattle.reg_store.specs.Spells.{SpellsWhileOpen}
-use Rattle.reg_store.specs.Stores.{state_of, has_failed, KeepsOpen, KeepsLent, LeavesCommit}
+use Rattle.reg_store.specs.Inside.Reads.{Stored}
+use Rattle.reg_store.specs.Stores.{state_of, has_failed, KeepsOpen, KeepsLent, LeavesCommit, LeavesNoMore, SpellsOn, TellsStored}
 use Rattle.reg_store.proofs.Failing.{by_since}
 use Rattle.reg_store.proofs.Keeping.{Settles}
 use Rattle.reg_report.specs.declared.error.ReportError.{ReportError}
+use Rattle.reg_report.specs.declared.error.ReportError.TheVariants.{Store as Stops}
 use Rattle.reg_report.specs.Keeping.{KeepsListed}
+use Rattle.reg_report.specs.StoreAnswers.{store_answer}
 
 -- what holds, holds after an error
 pub after_err : {T E : Type 0} (r : Result T E) (P : Type 0) → P → OnErr r P
@@ -27,8 +26,8 @@ pub record Keeps {S : Type 0} {g : Ghosts S} (old new : Store S g) : Type 0 wher
   pub clean : HasCleanDisk (state_of new) → HasCleanDisk (state_of old)
   pub connection : KeepsOpen (state_of old) (state_of new)
   pub settled : LeavesCommit (state_of new)
-  pub same : HasCleanDisk (state_of new) → (registry : Registry) (k : Kept) → SpellsWhileOpen (state_of old) registry k → SpellsWhileOpen (state_of new) registry k
-  pub crash : HasCleanDisk (state_of new) → (db : Trees) → (state_of new).may_leave db → (state_of old).may_leave db
+  pub same : HasCleanDisk (state_of new) → SpellsOn (state_of old) (state_of new)
+  pub crash : HasCleanDisk (state_of new) → LeavesNoMore (state_of old) (state_of new)
 
 opens_then : (a b c : State) → (HasCleanDisk c → HasCleanDisk b) → KeepsOpen a b → KeepsOpen b c → KeepsOpen a c
 opens_then a b c clean_before p q = record {
@@ -48,21 +47,19 @@ module _ {S : Type 0} {g : Ghosts S} where
     clean = λ clean. clean;
     connection = record { counts = omega arith; stays_shut = λ _ is_open. is_open; closes = λ _ is_open. inl is_open };
     settled = λ is_open db it. settles s.db.conn.store db is_open it;
-    same = λ _ registry k over. over;
+    same = λ _ was over. over;
     crash = λ _ db it. it;
   }
 
   -- one call after others
-  pub keeps_then : {T : Type 0} (a b c : Store S g) (r : Result T StoreError) → Keeps a b → KeepsLent b c r
-      → (HasCleanDisk (state_of c) → (registry : Registry) (k : Kept) → SpellsWhileOpen (state_of b) registry k → SpellsWhileOpen (state_of c) registry k)
-      → (HasCleanDisk (state_of c) → (db : Trees) → (state_of c).may_leave db → (state_of b).may_leave db) → Keeps a c
-  keeps_then a b c r p q same crash = record {
+  pub keeps_then : {T Goes : Type 0} {Tells : Stored → T → Type 0} (a b c : Store S g) (r : Result T StoreError) → Keeps a b → KeepsLent b c r → (HasCleanDisk (state_of c) → TellsStored (state_of b) (state_of c) Goes r Tells) → Keeps a c
+  keeps_then a b c r p q tells = record {
     failed = q.failed ∙ p.failed;
     clean = λ clean. p.clean (q.clean clean);
     connection = opens_then (state_of a) (state_of b) (state_of c) q.clean p.connection q.connection;
     settled = q.settled;
-    same = λ clean registry k over. same clean registry k (p.same (q.clean clean) registry k over);
-    crash = λ clean db it. p.crash (q.clean clean) db (crash clean db it);
+    same = λ clean was over. (tells clean).same was (p.same (q.clean clean) was over);
+    crash = λ clean db it. p.crash (q.clean clean) db ((tells clean).crash db it);
   }
 
   -- what they answer succeeds over an open connection alone
@@ -70,7 +67,14 @@ module _ {S : Type 0} {g : Ghosts S} where
   keeps_listed old new r p was_open = record { failed = p.failed; clean = p.clean; was_open = was_open; connection = p.connection; settled = p.settled }
 
   -- a fault that the last call tells is one of all
-  pub fault_on : {T : Type 0} (a b c : Store S g) (r : Result T StoreError) → Keeps a b → KeepsLent b c r → HasCleanDisk (state_of c) → (e : StoreError) → IsFaultOver (state_of b) (state_of c) e → IsFaultOver (state_of a) (state_of c) e
-  fault_on a b c r p q clean e fault registry k over =
+  pub fault_on : {T Goes : Type 0} {Tells : Stored → T → Type 0} (a b c : Store S g) (e : StoreError) → Keeps a b → KeepsLent {T = T} b c (Err e) → HasCleanDisk (state_of c) → TellsStored {T = T} (state_of b) (state_of c) Goes (Err e) Tells → Goes
+      → IsFaultOver (state_of a) (state_of c) e
+  fault_on a b c e p q clean tells going registry k over =
       let early = q.clean clean in
-      by_since (state_of a) (state_of b) (state_of c) (p.connection.closes early) p.connection.counts q.connection.counts e (fault registry k (p.same early registry k over))
+      let was : Stored = record { registry = registry; replies = k } in
+      by_since (state_of a) (state_of b) (state_of c) (p.connection.closes early) p.connection.counts q.connection.counts e (tells.answers was (p.same early was over) going)
+
+-- an error of the store that `?` passes on
+pub passed_store : {T : Type 0} (P : StoreError → Type 0) (r : Result T ReportError) (e : StoreError) → IsErrAnd r (λ failure. failure ≡ Stops e) → P e → IfErr (store_answer r) P
+passed_store P (Ok x) e is h = absurd is
+passed_store P (Err failure) e is h = subst (λ (f : ReportError). IfErr (store_answer {T = Unit {0}} (Err f)) P) (sym is) h
