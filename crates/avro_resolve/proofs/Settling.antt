@@ -9,7 +9,7 @@ use Rattle.avro_resolve.specs.declared.table.Table.{Table}
 use Rattle.avro_resolve.specs.Resolution.{Supports}
 use Rattle.avro_resolve.specs.Inside.Places.{IsWhole}
 use Rattle.avro_resolve.specs.Witnesses.{Pair, member}
-use Rattle.avro_resolve.specs.Inside.Left.{left, count_left, held, AreOut, Settled, AllSettled, Lists, Ignores}
+use Rattle.avro_resolve.specs.Inside.Left.{left, count_left, held, AreOut, GoesWith, Settled, AllSettled, Lists, Ignores}
 use Rattle.avro_resolve.proofs.Monotone.{supports_within}
 use Rattle.avro_resolve.proofs.PairLemmas.{member_back, member_after}
 use Rattle.avro_resolve.proofs.PairLists.{member-nil, member_front, member_last, push_cases}
@@ -92,6 +92,10 @@ settled_supported w r t ps i j ww wr s l = supports_within (left t) (held t ps) 
 -- what is settled stays so
 pub settled_on : (w r : List NodeView) (t v : Table) (ps qs : List Pair) (i j : ℕ) → IsWhole w → IsWhole r → Lists t ps v qs → Settled w r t ps i j → Settled w r v qs i j
 settled_on w r t v ps qs i j ww wr h s l = supports_within (held t ps) (held v qs) h.held w r i j (s (h.fewer i j l))
+
+-- what goes with a branch stays so
+pub goes_on : (t v : Table) (ps qs : List Pair) (i branch j : ℕ) → Lists t ps v qs → GoesWith t ps i branch j → GoesWith v qs i branch j
+goes_on t v ps qs i branch j h g l = h.held branch j (g (h.fewer i j l))
 
 onto : (v : Table) (qs more : List Pair) (a b : ℕ) → held v qs a b ≡ true → held v (qs ++ more) a b ≡ true
 onto v qs more a b h = elim (or_cases (left v a b) (member qs a b) h) [

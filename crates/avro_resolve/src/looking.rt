@@ -2,10 +2,11 @@
 //! branch by branch.
 
 ghost use Rattle.std.specs.Prelude.{◌≡◌, ℕ, ◌<◌, false, length, List, OnOk, All, Some, [], ◌∷◌, ◌++◌, slice_get};
-ghost use Rattle.avro_nodes.specs.Nodes.{union};
+ghost use Rattle.avro_nodes.specs.Nodes.{NodeView, union};
 ghost use Rattle.avro_resolve.specs.Resolution.{Supports};
 ghost use Rattle.avro_resolve.specs.Inside.Sides.{columns, rows, IsSides};
-ghost use Rattle.avro_resolve.specs.Inside.Left.{left, IsRest, Lists, Rests, Settled, AllSettled};
+ghost use Rattle.avro_resolve.specs.Inside.Askers.{HasBranch};
+ghost use Rattle.avro_resolve.specs.Inside.Left.{left, GoesWith, IsRest, Lists, Rests, Settled, AllSettled};
 
 use crate::sides::Sides;
 use crate::support::any_left;
@@ -68,6 +69,81 @@ pub fn strike_down(
 {
     for i in above {
         strike_unsupported(sides, *i, told.1, progress)?;
+    }
+    Ok(())
+}
+
+/// Strikes out the pair of a writer's union, if that of this branch of it isn't left.
+fn look_at_branch(
+    sides: &Sides,
+    i: u32,
+    branch: u32,
+    j: u32,
+    progress: &mut Progress,
+) -> Result<(), AllocError>
+    requires sides { IsSides sides.now }
+    requires rest { IsRest (rows sides.now) (columns sides.now) progress.old.table }
+    requires i_in { i < length sides.now.writer.schema.now }
+    requires j_in { j < length sides.now.reader.schema.now }
+    requires branch_in { branch < length sides.now.writer.schema.now }
+    requires has_branch { (a : NodeView) → slice_get (rows sides.now) i ≡ Some a → HasBranch a branch }
+    ensures rest { OnOk result (IsRest (rows sides.now) (columns sides.now) progress.new.table) }
+    ensures lists { OnOk result (Lists progress.old.table progress.old.struck.items progress.new.table progress.new.struck.items) }
+    ensures goes { OnOk result (GoesWith progress.new.table progress.new.struck.items i branch j) }
+{
+    if !progress.table.has(i, j) {
+        return Ok(());
+    }
+    if progress.table.has(branch, j) {
+        return Ok(());
+    }
+    strike_unsupported(sides, i, j, progress)?;
+    Ok(())
+}
+
+/// Does so with each of the reader's places.
+fn look_along_branch(
+    sides: &Sides,
+    i: u32,
+    branch: u32,
+    progress: &mut Progress,
+) -> Result<(), AllocError>
+    requires sides { IsSides sides.now }
+    requires rest { IsRest (rows sides.now) (columns sides.now) progress.old.table }
+    requires i_in { i < length sides.now.writer.schema.now }
+    requires branch_in { branch < length sides.now.writer.schema.now }
+    requires has_branch { (a : NodeView) → slice_get (rows sides.now) i ≡ Some a → HasBranch a branch }
+    ensures rest { OnOk result (IsRest (rows sides.now) (columns sides.now) progress.new.table) }
+    ensures lists { OnOk result (Lists progress.old.table progress.old.struck.items progress.new.table progress.new.struck.items) }
+    ensures goes { OnOk result ((j : ℕ) → j < length sides.now.reader.schema.now
+        → GoesWith progress.new.table progress.new.struck.items i branch j) }
+{
+    for j in 0..sides.reader.places() {
+        look_at_branch(sides, i, branch, j, progress)?;
+    }
+    Ok(())
+}
+
+/// Looks at all pairs of a writer's union, a branch after the other, so that the table is passed row
+/// by row.
+pub fn look_along_union(
+    sides: &Sides,
+    i: u32,
+    branches: &[u32],
+    progress: &mut Progress,
+) -> Result<(), AllocError>
+    requires sides { IsSides sides.now }
+    requires rest { IsRest (rows sides.now) (columns sides.now) progress.old.table }
+    requires i_in { i < length sides.now.writer.schema.now }
+    requires is_union { slice_get (rows sides.now) i ≡ Some (union branches.now) }
+    requires branches_in { All (λ p. p < length sides.now.writer.schema.now) branches.now }
+    ensures rest { OnOk result (IsRest (rows sides.now) (columns sides.now) progress.new.table) }
+    ensures lists { OnOk result (Lists progress.old.table progress.old.struck.items progress.new.table progress.new.struck.items) }
+    ensures settled { OnOk result ((j : ℕ) → j < length sides.now.reader.schema.now
+        → Settled (rows sides.now) (columns sides.now) progress.new.table progress.new.struck.items i j) }
+{
+    for branch in branches {
+        look_along_branch(sides, i, *branch, progress)?;
     }
     Ok(())
 }

@@ -13,10 +13,11 @@ ghost use Rattle.avro_resolve.specs.Inside.Sources.{AreSources, IsEntry};
 use crate::aliased::{Aliased, Numbered, firsts_of, row_of};
 use crate::desk::{lay, lift, make_room};
 use crate::lists::empty_lists;
-use crate::looking::{Progress, strike_unsupported};
+use crate::looking::{Progress, look_along_union, strike_unsupported};
 use crate::readable::Row;
 use crate::sides::Sides;
 use crate::support::supports;
+use avro_nodes::Node;
 use std::alloc::{AllocError, Global};
 
 /// Strikes the pair of the writer's place and this one of the reader out and lists it, if the rest
@@ -51,6 +52,10 @@ fn look_along_row(sides: &Sides, row: &Row, progress: &mut Progress) -> Result<(
     ensures settled { OnOk result ((j : ℕ) → j < length sides.now.reader.schema.now
         → Settled (rows sides.now) (columns sides.now) progress.new.table progress.new.struck.items row.now.place j) }
 {
+    if let Node::Union { branches } = sides.writer.node(row.place) {
+        look_along_union(sides, row.place, branches, progress)?;
+        return Ok(());
+    }
     for j in (0..sides.reader.places()).rev() {
         look(sides, row, j, progress)?;
     }

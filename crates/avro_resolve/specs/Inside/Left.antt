@@ -57,6 +57,10 @@ Settled w r t ps i j = IsTrue (left t i j) → Supports w r (held t ps) i j
 abbrev pub AllSettled : List NodeView → List NodeView → Table → List Pair → Type 0
 AllSettled w r t ps = (i j : ℕ) → i < length w → j < length r → Settled w r t ps i j
 
+-- the pair of i and j is left only where that of the branch and j is left or listed
+abbrev pub GoesWith : Table → List Pair → ℕ → ℕ → ℕ → Type 0
+GoesWith t ps i branch j = IsTrue (left t i j) → IsTrue (held t ps branch j)
+
 -- no listed pair is left
 abbrev pub AreOut : Table → List Pair → Type 0
 AreOut t ps = All (λ (p : Pair). left t p.0 p.1 ≡ false) ps

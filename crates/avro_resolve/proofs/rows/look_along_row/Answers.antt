@@ -1,4 +1,8 @@
-use Rattle.std.proofs.Common.{◌≡◌, ◌-◌, ℕ, subst, inl, inr, arith}
+use Rattle.std.proofs.Common.{◌≡◌, ◌-◌, ◌<◌, ℕ, Some, ap, length, subst, ◌∙◌, inl, inr, arith}
+use Rattle.std.proofs.lemmas.List.{length-map}
+use Rattle.avro_nodes.specs.Nodes.{node_view, union}
+use Rattle.avro_resolve.specs.Inside.Places.{Names}
+use Rattle.avro_resolve.proofs.Monotone.{at_place}
 use Rattle.std.proofs.lemmas.Bool.{cases_lt}
 use Rattle.avro_resolve.specs.Inside.Sides.{columns, rows}
 use Rattle.avro_resolve.specs.Inside.Left.{Settled}
@@ -17,3 +21,12 @@ loop-j-preserved c =
         | inr g ↦ settled_on w r u v qs rs i b c.requires.sides.writer.whole c.requires.sides.reader.whole c.in_ok-look.ensures.lists (c.loop-j.invariant.settled b g hi)
       ];
     }
+
+pub look_along_union-requires-clause-is_union : goal.look_along_union-requires-clause-is_union
+look_along_union-requires-clause-is_union c = rw (← c.deref.ensures.value) at (c.node.ensures.node ∙ ap (λ n. Some (node_view n)) c.in-Union.is)
+
+pub look_along_union-requires-clause-branches_in : goal.look_along_union-requires-clause-branches_in
+look_along_union-requires-clause-branches_in c =
+    let s = c.args.sides.now.writer.schema.now in let w = rows c.args.sides.now in let places = c.in-Union.branches.items in
+    let whole = at_place w (Names (length w)) c.args.row.now.place (union places) c.requires.sides.writer.whole (c.node.ensures.node ∙ ap (λ n. Some (node_view n)) c.in-Union.is) in
+    rw (← c.deref.ensures.value) at (subst (λ (n : ℕ). Names n (union places)) (length-map s node_view) whole)
