@@ -9,11 +9,12 @@ ghost use Rattle.avro_schema.specs.Index.{AreFieldsRanked, IsFieldRanked};
 ghost use Rattle.avro_resolve.specs.Inside.Agreeing.{fields_of};
 ghost use Rattle.avro_resolve.specs.Inside.Laying.{names_in, AreLaid};
 ghost use Rattle.avro_resolve.specs.Inside.Sides.{columns, names_of, nodes_of, rows, IsSide, IsSides};
-ghost use Rattle.avro_resolve.specs.Inside.Sources.{code, code_at, field_at, IsEntry};
+ghost use Rattle.avro_resolve.specs.Inside.Sources.{code, code_at, field_at, IsEntry, IsWanted};
 
 use crate::desk::place_of;
 use crate::lists::list_of;
 use crate::sides::{Fields, Side, Sides};
+use avro_nodes::Field;
 use avro_schema::FieldRanks;
 use std::alloc::{AllocError, Global};
 
@@ -32,6 +33,69 @@ pub struct Numbered<'a> {
     pub aliased: &'a [Aliased],
     /// for each place of the reader's the number of its first such field, if it has one
     pub firsts: &'a [usize],
+    /// what else is asked of each of these fields
+    pub wanted: &'a [Wanted],
+}
+
+/// What is asked of a reader's field beside its source.
+#[derive(Clone, Copy)]
+pub struct Wanted {
+    /// the place of its type
+    pub place: u32,
+    pub has_default: bool,
+}
+
+/// The field that is meant.
+fn field_of<'a>(side: &'a Side, aliased: Aliased) -> Option<&'a Field>
+    requires { IsSide side.now }
+    ensures { (f : FieldView) → field_at (nodes_of side.now) aliased ≡ Some f
+        → MatchOption result ⊥ (λ x. field_view x.now ≡ f) }
+{
+    if aliased.place >= side.places() {
+        return None;
+    }
+    let fields = side.fields(aliased.place).fields;
+    if aliased.index >= fields.len() {
+        return None;
+    }
+    Some(&fields[aliased.index])
+}
+
+/// What is asked of the field.
+fn wanted_of(side: &Side, aliased: Aliased) -> Wanted
+    requires { IsSide side.now }
+    ensures { IsWanted (nodes_of side.now) aliased result }
+{
+    match field_of(side, aliased) {
+        Some(field) => Wanted {
+            place: field.place,
+            has_default: field.value.is_some(),
+        },
+        None => Wanted {
+            place: 0,
+            has_default: false,
+        },
+    }
+}
+
+/// The same of each of these fields.
+///
+/// # Errors
+///
+/// `AllocError` where memory for it is refused.
+pub fn all_wanted(
+    alloc: Global,
+    side: &Side,
+    aliased: &[Aliased],
+) -> Result<Vec<Wanted>, AllocError>
+    requires { IsSide side.now }
+    ensures { IfOk result (λ v. AllZip (IsWanted (nodes_of side.now)) aliased.now v.items) }
+{
+    let mut wanted = Vec::with_capacity(alloc, aliased.len())?;
+    for field in aliased {
+        wanted.push(wanted_of(side, *field))?;
+    }
+    Ok(wanted)
 }
 
 /// For each place the number of its first field, if it has one of these.

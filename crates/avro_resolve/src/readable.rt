@@ -1,14 +1,14 @@
 //! Whether a reader's fields can be read, where the fields of a writer's place are laid.
 
-ghost use Rattle.std.specs.Prelude.{◌≡◌, ◌<◌, ◌↔◌, All, IsTrue, List, Some, length, map, slice_get};
+ghost use Rattle.std.specs.Prelude.{◌≡◌, ◌<◌, ◌↔◌, All, IfSome, IsTrue, List, Some, length, map, slice_get};
 ghost use Rattle.std.specs.Option.{ForSome};
 ghost use Rattle.avro_nodes.specs.Nodes.{FieldView, NodeView, field_view};
-ghost use Rattle.avro_resolve.specs.Asking.{source_place};
+ghost use Rattle.avro_schema.specs.Index.{IsFieldRanked};
 ghost use Rattle.avro_resolve.specs.Resolution.{Readable};
 ghost use Rattle.avro_resolve.specs.Inside.Agreeing.{fields_of};
 ghost use Rattle.avro_resolve.specs.Inside.Left.{left};
-ghost use Rattle.avro_resolve.specs.Inside.Rows.{row_fields, AreNamesOf, IsRow};
-ghost use Rattle.avro_resolve.specs.Inside.Sides.{columns, IsSides};
+ghost use Rattle.avro_resolve.specs.Inside.Rows.{row_fields, IsFound, IsRow};
+ghost use Rattle.avro_resolve.specs.Inside.Sides.{columns, names_of, IsSides};
 ghost use Rattle.avro_resolve.specs.Inside.Sources.{field_at};
 
 use crate::aliased::{Aliased, Numbered, entry_at, first_number, place_told};
@@ -32,37 +32,88 @@ pub struct Row<'a> {
     pub entries: &'a [u16],
 }
 
-/// The place of the type of the writer's field that a reader's field is read from, if there is one:
-/// by its entry, if the number is that of the field, and else from the boxes.
-fn source_in(
+/// What reading a reader's field rests on.
+#[derive(Clone, Copy)]
+struct Found {
+    /// the place of the type of the writer's field that it is read from, if there is one
+    source: Option<u32>,
+    /// the place of its own type
+    place: u32,
+    has_default: bool,
+    /// whether this was told by the field's number
+    numbered: bool,
+}
+
+/// What is told of the field of a number, if this is that field.
+fn told_at(sides: &Sides, row: &Row, number: usize, field: Aliased) -> Option<Found>
+    requires sides { IsSides sides.now }
+    requires row { IsRow sides.now row.now }
+    ensures { IfSome result (λ found. (f : FieldView) → field_at (columns sides.now) field ≡ Some f
+        → IsFound (row_fields row.now) found f) }
+{
+    let _sides = sides;
+    let Some(entry) = entry_at(row.entries, row.numbered.aliased, number, field) else {
+        return None;
+    };
+    if number >= row.numbered.wanted.len() {
+        return None;
+    }
+    let wanted = row.numbered.wanted[number];
+    Some(Found {
+        source: place_told(entry),
+        place: wanted.place,
+        has_default: wanted.has_default,
+        numbered: true,
+    })
+}
+
+/// What is found of a field in the boxes.
+fn look_up(sides: &Sides, row: &Row, field: &Field, names: &FieldRanks) -> Found
+    requires sides { IsSides sides.now }
+    requires row { IsRow sides.now row.now }
+    requires named { IsFieldRanked (names_of sides.now.reader) (field_view field.now) names.now }
+    ensures { IsFound (row_fields row.now) result (field_view field.now) }
+{
+    Found {
+        source: place_of(row.boxes, sides, row.fields.fields, row.fields.ranks, names),
+        place: field.place,
+        has_default: field.value.is_some(),
+        numbered: false,
+    }
+}
+
+/// What is found of the reader's field at this index of its record: by its number, if it has this
+/// one, and else in the boxes.
+fn find(
     sides: &Sides,
     row: &Row,
     number: usize,
-    field: Aliased,
+    at: Aliased,
+    field: &Field,
     names: &FieldRanks,
-) -> Option<u32>
+) -> Found
     requires sides { IsSides sides.now }
     requires row { IsRow sides.now row.now }
-    requires named { AreNamesOf sides.now field names.now }
-    ensures { (f : FieldView) → field_at (columns sides.now) field ≡ Some f
-        → result ≡ source_place (row_fields row.now) f }
+    requires named { IsFieldRanked (names_of sides.now.reader) (field_view field.now) names.now }
+    requires there { field_at (columns sides.now) at ≡ Some (field_view field.now) }
+    ensures { IsFound (row_fields row.now) result (field_view field.now) }
 {
-    match entry_at(row.entries, row.numbered.aliased, number, field) {
-        Some(entry) => place_told(entry),
-        None => place_of(row.boxes, sides, row.fields.fields, row.fields.ranks, names),
+    match told_at(sides, row, number, at) {
+        Some(found) => found,
+        None => look_up(sides, row, field, names),
     }
 }
 
 /// Whether a reader's field can be read: from its source, or by its default.
-fn is_readable(source: Option<u32>, f: &Field, table: &Table) -> bool
-    requires source_in { ForSome source (λ p. p < table.now.writers) }
-    requires f_in { f.now.place < table.now.readers }
-    ensures { (fields : List FieldView) → source ≡ source_place fields (field_view f.now)
-        → IsTrue result ↔ Readable (left table.now) fields (field_view f.now) }
+fn is_readable(found: Found, table: &Table) -> bool
+    requires source_in { ForSome found.source (λ p. p < table.now.writers) }
+    requires place_in { found.place < table.now.readers }
+    ensures { (fields : List FieldView) (f : FieldView) → IsFound fields found f
+        → IsTrue result ↔ Readable (left table.now) fields f }
 {
-    match source {
-        Some(place) => table.has(place, f.place),
-        None => f.value.is_some(),
+    match found.source {
+        Some(place) => table.has(place, found.place),
+        None => found.has_default,
     }
 }
 
@@ -79,12 +130,19 @@ pub fn all_readable(sides: &Sides, row: &Row, j: u32, table: &Table) -> bool
     let wanted = sides.reader.fields(j);
     let mut number = first_number(row.numbered, j);
     for index in 0..wanted.fields.len() {
-        let names = &wanted.ranks[index];
-        let source = source_in(sides, row, number, Aliased { place: j, index }, names);
-        if !is_readable(source, &wanted.fields[index], table) {
+        let (field, names) = (&wanted.fields[index], &wanted.ranks[index]);
+        let found = find(
+            sides,
+            row,
+            number,
+            Aliased { place: j, index },
+            field,
+            names,
+        );
+        if !is_readable(found, table) {
             return false;
         }
-        if !names.aliases.is_empty() {
+        if found.numbered {
             number = number.saturating_add(1);
         }
     }

@@ -8,9 +8,9 @@ ghost use Rattle.avro_resolve.specs.Inside.Laying.{IsClear};
 ghost use Rattle.avro_resolve.specs.Inside.Left.{AllSettled, IsRest, Lists, Settled};
 ghost use Rattle.avro_resolve.specs.Inside.Rows.{IsRow};
 ghost use Rattle.avro_resolve.specs.Inside.Sides.{columns, names_of, rows, IsSides};
-ghost use Rattle.avro_resolve.specs.Inside.Sources.{AreSources, IsEntry};
+ghost use Rattle.avro_resolve.specs.Inside.Sources.{AreSources, IsEntry, IsWanted};
 
-use crate::aliased::{Aliased, Numbered, firsts_of, row_of};
+use crate::aliased::{Aliased, Numbered, all_wanted, firsts_of, row_of};
 use crate::desk::{lay, lift, make_room};
 use crate::lists::empty_lists;
 use crate::looking::{Progress, look_along_union, strike_unsupported};
@@ -76,6 +76,7 @@ fn look_at_row(
     requires place_in { place < length sides.now.writer.schema.now }
     requires clear { IsClear boxes.old }
     requires room { length (names_of sides.now.reader) ≤ length boxes.old }
+    requires wanted { AllZip (IsWanted (columns sides.now)) numbered.aliased.now numbered.wanted.now }
     requires rest { IsRest (rows sides.now) (columns sides.now) progress.old.table }
     ensures clear { OnOk result (IsClear boxes.new) }
     ensures entries { IfOk result (λ v. (a : NodeView) → slice_get (rows sides.now) place ≡ Some a
@@ -112,6 +113,7 @@ fn look_at_rows(
     requires sides { IsSides sides.now }
     requires clear { IsClear boxes.old }
     requires room { length (names_of sides.now.reader) ≤ length boxes.old }
+    requires wanted { AllZip (IsWanted (columns sides.now)) numbered.aliased.now numbered.wanted.now }
     requires rest { IsRest (rows sides.now) (columns sides.now) progress.old.table }
     ensures sources { IfOk result (λ v. AreSources (rows sides.now) (columns sides.now) numbered.entry.aliased.now v.items) }
     ensures rest { OnOk result (IsRest (rows sides.now) (columns sides.now) progress.new.table) }
@@ -151,9 +153,11 @@ pub fn look_everywhere(
     let mut boxes = Vec::new(alloc);
     make_room(&mut boxes, sides.reader.index.names.len())?;
     let firsts = firsts_of(alloc, sides.reader.places() as usize, aliased)?;
+    let wanted = all_wanted(alloc, &sides.reader, aliased)?;
     let numbered = Numbered {
         aliased,
         firsts: &firsts,
+        wanted: &wanted,
     };
     look_at_rows(alloc, sides, numbered, &mut boxes, progress)
 }

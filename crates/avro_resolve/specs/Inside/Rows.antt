@@ -1,16 +1,18 @@
 -- A writer's place, while its fields lie in the boxes (this project's choice).
-use Rattle.std.specs.Prelude.{◌≡◌, ◌<◌, ◌≤◌, List, All, Some, length, map, slice_get}
+use Rattle.std.specs.Prelude.{◌≡◌, ◌<◌, ◌≤◌, ◌↔◌, List, All, IsSome, IsTrue, Some, length, map, slice_get}
 use Rattle.std.specs.List.{AllZip}
 use Rattle.avro_nodes.specs.Nodes.{FieldView, NodeView, field_view}
 use Rattle.avro_schema.specs.declared.index.FieldRanks.{FieldRanks}
 use Rattle.avro_schema.specs.Index.{AreFieldsRanked, IsFieldRanked}
 use Rattle.avro_resolve.specs.declared.aliased.Aliased.{Aliased}
+use Rattle.avro_resolve.specs.declared.readable.Found.{Found}
 use Rattle.avro_resolve.specs.declared.readable.Row.{Row}
 use Rattle.avro_resolve.specs.declared.sides.Sides.{Sides}
+use Rattle.avro_resolve.specs.Asking.{source_place}
 use Rattle.avro_resolve.specs.Inside.Agreeing.{fields_of}
 use Rattle.avro_resolve.specs.Inside.Laying.{names_in, AreLaid}
 use Rattle.avro_resolve.specs.Inside.Sides.{columns, names_of, rows}
-use Rattle.avro_resolve.specs.Inside.Sources.{field_at, IsEntry}
+use Rattle.avro_resolve.specs.Inside.Sources.{field_at, IsEntry, IsWanted}
 
 -- the fields of the place
 abbrev pub row_fields : Row → List FieldView
@@ -25,7 +27,8 @@ pub record IsRow (sides : Sides) (row : Row) : Type 0 where
   pub laid : AreLaid sides.met.ranks.items (names_in row.fields.ranks.now) 0 row.boxes.now
   pub room : length (names_of sides.reader) ≤ length row.boxes.now
   pub entries : AllZip (IsEntry (columns sides) (row_fields row)) row.numbered.aliased.now row.entries.now
+  pub wanted : AllZip (IsWanted (columns sides)) row.numbered.aliased.now row.numbered.wanted.now
 
--- the names of a reader's field, by their ranks
-abbrev pub AreNamesOf : Sides → Aliased → FieldRanks → Type 0
-AreNamesOf sides field names = (f : FieldView) × (field_at (columns sides) field ≡ Some f) × IsFieldRanked (names_of sides.reader) f names
+-- what reading a reader's field from these fields rests on
+abbrev pub IsFound : List FieldView → Found → FieldView → Type 0
+IsFound fields found f = (found.source ≡ source_place fields f) × (found.place ≡ f.place) × (IsTrue found.has_default ↔ IsSome f.value)

@@ -1,9 +1,10 @@
 -- The sources of a reader's fields that have aliases, by the writer's places (this project's choice).
-use Rattle.std.specs.Prelude.{◌≡◌, ℕ, ◌+◌, List, Option, None, Some, get_or, option_and_then, slice_get, Vec}
+use Rattle.std.specs.Prelude.{◌≡◌, ◌↔◌, ℕ, ◌+◌, List, Option, None, Some, IsSome, IsTrue, get_or, option_and_then, slice_get, Vec}
 use Rattle.std.specs.List.{AllZip}
 use Rattle.std.specs.declared.alloc.Global.{Global}
 use Rattle.avro_nodes.specs.Nodes.{FieldView, NodeView}
 use Rattle.avro_resolve.specs.declared.aliased.Aliased.{Aliased}
+use Rattle.avro_resolve.specs.declared.aliased.Wanted.{Wanted}
 use Rattle.avro_resolve.specs.Asking.{source_place}
 use Rattle.avro_resolve.specs.Inside.Agreeing.{fields_of}
 use Rattle.avro_resolve.specs.Inside.Lists.{list_at}
@@ -20,6 +21,10 @@ field_at nodes aliased = option_and_then (λ a. slice_get (fields_of a) aliased.
 -- it tells the source of the field, if there is such a field
 abbrev pub IsEntry : List NodeView → List FieldView → Aliased → ℕ → Type 0
 IsEntry nodes fields aliased entry = (f : FieldView) → field_at nodes aliased ≡ Some f → entry ≡ code (source_place fields f)
+
+-- it tells the place of the field's type, and whether the field has a default, if there is such a field
+abbrev pub IsWanted : List NodeView → Aliased → Wanted → Type 0
+IsWanted nodes aliased wanted = (f : FieldView) → field_at nodes aliased ≡ Some f → (wanted.place ≡ f.place) × (IsTrue wanted.has_default ↔ IsSome f.value)
 
 -- those of all listed fields, for each of the writer's nodes
 abbrev pub AreSources : List NodeView → List NodeView → List Aliased → List (Vec ℕ Global) → Type 0

@@ -15,55 +15,56 @@ use Rattle.avro_resolve.proofs.Sourcing.{field_named, nth}
 use Rattle.avro_resolve.proofs.SupportLemmas.{place_within, readable_as}
 use Rattle.avro_resolve.proofs.readable.all_readable.Goals as goal
 
-pub source_in-source-requires-clause-named : goal.source_in-source-requires-clause-named
-source_in-source-requires-clause-named c =
-    let sides = c.args.sides.now in let j = c.args.j in let wanted = c.fields-wanted.result in let n = c.loop-index.index in let x = c.index-wanted-index.result in
+pub find-found-requires-clause-named : goal.find-found-requires-clause-named
+find-found-requires-clause-named c =
+    let sides = c.args.sides.now in let j = c.args.j in let wanted = c.fields-wanted.result in let n = c.loop-index.index in let x = c.index-wanted-index-in-loop-index.result in let y = c.index-wanted-index.result in
     let view = length-map sides.reader.schema.now node_view in
     let l : j < length (columns sides) = omega arith in let within : n < length wanted.ranks.now = omega arith in
-    let b = nth (columns sides) j l in let f = nth wanted.fields.now n c.loop-index-test.true in
-    let is = field_named sides j n wanted b.0 b.1 (c.fields-wanted.ensures.are b.0 b.1) c.fields-wanted.ensures.ranked f.0 (get_or wanted.ranks.now n x) f.1 (slice_get-get_or wanted.ranks.now n x within) in
-    (field_view f.0, is.0, is.1)
+    let b = nth (columns sides) j l in
+    (field_named sides j n wanted b.0 b.1 (c.fields-wanted.ensures.are b.0 b.1) c.fields-wanted.ensures.ranked (get_or wanted.fields.now n y) (get_or wanted.ranks.now n x) (slice_get-get_or wanted.fields.now n y c.loop-index-test.true) (slice_get-get_or wanted.ranks.now n x within)).1
+
+pub find-found-requires-clause-there : goal.find-found-requires-clause-there
+find-found-requires-clause-there c =
+    let sides = c.args.sides.now in let j = c.args.j in let wanted = c.fields-wanted.result in let n = c.loop-index.index in let x = c.index-wanted-index-in-loop-index.result in let y = c.index-wanted-index.result in
+    let view = length-map sides.reader.schema.now node_view in
+    let l : j < length (columns sides) = omega arith in let within : n < length wanted.ranks.now = omega arith in
+    let b = nth (columns sides) j l in
+    (field_named sides j n wanted b.0 b.1 (c.fields-wanted.ensures.are b.0 b.1) c.fields-wanted.ensures.ranked (get_or wanted.fields.now n y) (get_or wanted.ranks.now n x) (slice_get-get_or wanted.fields.now n y c.loop-index-test.true) (slice_get-get_or wanted.ranks.now n x within)).0
 
 pub is_readable-requires-clause-source_in : goal.is_readable-requires-clause-source_in
 is_readable-requires-clause-source_in c = λ p e.
-    let sides = c.args.sides.now in let row = c.args.row.now in let j = c.args.j in let wanted = c.fields-wanted.result in let n = c.loop-index.index in let x = c.index-wanted-index.result in
-    let view = length-map sides.reader.schema.now node_view in
-    let l : j < length (columns sides) = omega arith in let within : n < length wanted.ranks.now = omega arith in
-    let b = nth (columns sides) j l in let f = nth wanted.fields.now n c.loop-index-test.true in
-    let is = field_named sides j n wanted b.0 b.1 (c.fields-wanted.ensures.are b.0 b.1) c.fields-wanted.ensures.ranked f.0 (get_or wanted.ranks.now n x) f.1 (slice_get-get_or wanted.ranks.now n x within) in
+    let sides = c.args.sides.now in let row = c.args.row.now in let wanted = c.fields-wanted.result in let n = c.loop-index.index in let y = c.index-wanted-index.result in
+    let f = field_view (get_or wanted.fields.now n y) in
     let m = length sides.writer.schema.now in
-    let below : p < m = place_within m (row_fields row) (field_view f.0) (source (row_fields row) (field_view f.0)) p (All-map (λ (g : FieldView). g.place < m) field_view row.fields.fields.now c.requires.row.places) refl (sym e ∙ c.source_in-source.ensures (field_view f.0) is.0) in
+    let below : p < m = place_within m (row_fields row) f (source (row_fields row) f) p (All-map (λ (g : FieldView). g.place < m) field_view row.fields.fields.now c.requires.row.places) refl (sym e ∙ c.find-found.ensures.0) in
+    omega arith
+
+pub is_readable-requires-clause-place_in : goal.is_readable-requires-clause-place_in
+is_readable-requires-clause-place_in c =
+    let wanted = c.fields-wanted.result in let n = c.loop-index.index in
+    let same = c.find-found.ensures.1 in let below = c.fields-wanted.ensures.in_schema n c.index-wanted-index.result c.loop-index-test.true in
     omega arith
 
 pub returns-then-not-is_readable : goal.returns-then-not-is_readable
 returns-then-not-is_readable c = λ b e.
-    let sides = c.args.sides.now in let row = c.args.row.now in let j = c.args.j in let wanted = c.fields-wanted.result in let n = c.loop-index.index in let x = c.index-wanted-index.result in
-    let t = left c.args.table.now in let f = get_or wanted.fields.now n c.index-wanted-index-in-loop-index.result in
-    let within : n < length wanted.ranks.now = omega arith in
-    let at : slice_get wanted.fields.now n ≡ Some f = slice_get-get_or wanted.fields.now n c.index-wanted-index-in-loop-index.result c.loop-index-test.true in
-    let is = field_named sides j n wanted b e (c.fields-wanted.ensures.are b e) c.fields-wanted.ensures.ranked f (get_or wanted.ranks.now n x) at (slice_get-get_or wanted.ranks.now n x within) in
-    let told = c.is_readable.ensures (row_fields row) (c.source_in-source.ensures (field_view f) is.0) in
+    let row = c.args.row.now in let wanted = c.fields-wanted.result in let n = c.loop-index.index in
+    let t = left c.args.table.now in let f = get_or wanted.fields.now n c.index-wanted-index.result in
+    let told = c.is_readable.ensures (row_fields row) (field_view f) c.find-found.ensures in
     readable_as t (row_fields row) _ row.fields.fields.now wanted.fields.now refl (c.fields-wanted.ensures.are b e) false (
       (λ h. absurd (true≢false (sym h))),
-      (λ h. sym c.if-not-is_readable.true ∙ told.1 (h n c.index-wanted-index-in-loop-index.result c.loop-index-test.true)),
+      (λ h. sym c.if-not-is_readable.true ∙ told.1 (h n c.index-wanted-index.result c.loop-index-test.true)),
     )
 
 pub loop-index-preserved : goal.loop-index-preserved
 loop-index-preserved c = λ k d l.
-    let sides = c.args.sides.now in let row = c.args.row.now in let j = c.args.j in let wanted = c.fields-wanted.result in let n = c.loop-index.index in let x = c.index-wanted-index.result in
-    let t = left c.args.table.now in let f = get_or wanted.fields.now n c.index-wanted-index-in-loop-index.result in
-    let within : n < length wanted.ranks.now = omega arith in
-    let view = length-map sides.reader.schema.now node_view in
-    let inside : j < length (columns sides) = omega arith in
-    let b = nth (columns sides) j inside in
-    let at : slice_get wanted.fields.now n ≡ Some f = slice_get-get_or wanted.fields.now n c.index-wanted-index-in-loop-index.result c.loop-index-test.true in
-    let is = field_named sides j n wanted b.0 b.1 (c.fields-wanted.ensures.are b.0 b.1) c.fields-wanted.ensures.ranked f (get_or wanted.ranks.now n x) at (slice_get-get_or wanted.ranks.now n x within) in
-    let told = c.is_readable.ensures (row_fields row) (c.source_in-source.ensures (field_view f) is.0) in
+    let row = c.args.row.now in let wanted = c.fields-wanted.result in let n = c.loop-index.index in
+    let t = left c.args.table.now in let f = get_or wanted.fields.now n c.index-wanted-index.result in
+    let told = c.is_readable.ensures (row_fields row) (field_view f) c.find-found.ensures in
     let readable = λ (g : Field). Readable t (row_fields row) (field_view g) in
     let here : readable f = told.0 c.if-not-is_readable.false in
     elim (cases_lt k n) [
       | inl g ↦ c.loop-index.invariant k d g
-      | inr g ↦ (let same : n ≡ k = omega arith in subst (λ (i : ℕ). readable (get_or wanted.fields.now i d)) same (subst readable (get_or_any wanted.fields.now n c.index-wanted-index-in-loop-index.result d c.loop-index-test.true) here))
+      | inr g ↦ (let same : n ≡ k = omega arith in subst (λ (i : ℕ). readable (get_or wanted.fields.now i d)) same (subst readable (get_or_any wanted.fields.now n c.index-wanted-index.result d c.loop-index-test.true) here))
     ]
 
 pub returns : goal.returns

@@ -37,6 +37,7 @@ look_along_row-requires-clause-row c =
       laid = c.lay.ensures;
       room = omega arith;
       entries = subst (λ (xs : List ℕ). AllZip (IsEntry (columns sides) (map field_view c.fields-fields.result.fields.now)) c.args.numbered.aliased.now xs) (sym c.deref.ensures.value) c.in_ok-entries.ensures;
+      wanted = c.requires.wanted;
     }
 
 pub lift-requires-clause-holds : goal.lift-requires-clause-holds
