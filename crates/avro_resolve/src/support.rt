@@ -23,16 +23,18 @@ fn all_left(places: &[u32], j: u32, table: &Table) -> bool
     places.iter().all(|p| table.has(*p, j))
 }
 
-/// The first branch of a reader's union, from this one on, with which the writer's place is left.
-fn next_left(i: u32, places: &[u32], from: usize, table: &Table) -> Option<usize>
+/// The first branch of a reader's union, from this one up to another, with which the writer's place is
+/// left.
+fn next_left(i: u32, places: &[u32], from: usize, to: usize, table: &Table) -> Option<usize>
     requires within { All (λ p. p < table.now.readers) places.now }
     requires i_in { i < table.now.writers }
+    requires to_in { to ≤ length places.now }
     ensures found { IfSome result (λ at. at < length places.now
         × IsTrue (left table.now i (get_or places.now at 0))) }
-    ensures none { result ≡ None → (k d : ℕ) → from ≤ k → k < length places.now
+    ensures none { result ≡ None → (k d : ℕ) → from ≤ k → k < to
         → left table.now i (get_or places.now k d) ≡ false }
 {
-    for at in from..places.len() {
+    for at in from..to {
         if table.has(i, places[at]) {
             return Some(at);
         }
@@ -41,19 +43,19 @@ fn next_left(i: u32, places: &[u32], from: usize, table: &Table) -> Option<usize
 }
 
 /// Whether the writer's place is left with some branch of the reader's union at j. It looks first
-/// where one was left last: as none comes back, each branch is passed once, and all once more.
+/// where one was left last, and goes on there: each branch is passed once.
 pub fn any_left(i: u32, j: u32, places: &[u32], table: &Table) -> bool
     requires within { All (λ p. p < table.now.readers) places.now }
     requires i_in { i < table.now.writers }
     requires j_in { j < table.now.readers }
     ensures { IsTrue result ↔ Any (λ p. IsTrue (left table.now i p)) places.now }
 {
-    let from = table.hint(i, j);
-    if let Some(at) = next_left(i, places, from, table) {
+    let from = table.hint(i, j).min(places.len());
+    if let Some(at) = next_left(i, places, from, places.len(), table) {
         table.set_hint(i, j, at);
         return true;
     }
-    next_left(i, places, 0, table).is_some()
+    next_left(i, places, 0, from, table).is_some()
 }
 
 /// Whether what is left has the pairs that the pair of the nodes at these places asks for, by the

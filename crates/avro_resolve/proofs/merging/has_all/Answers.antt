@@ -1,8 +1,16 @@
-use Rattle.std.proofs.Common.{◌∙◌, ℕ, ◌≤◌, List, length, take_all, subst, sym, arith, true≢false, refl}
+use Rattle.std.proofs.Common.{◌∙◌, ℕ, ◌≤◌, List, length, take_all, subst, sym, arith, true, true≢false, refl}
 use Rattle.std.specs.Prelude.{All, Contains}
-use Rattle.std.proofs.lemmas.List.Elements.{All-more, Contains-get_or}
+use Rattle.std.proofs.lemmas.Bool.Decides.{Decides-eqb}
+use Rattle.std.proofs.lemmas.Slice.Eq.{slice_eq-Decides}
+use Rattle.std.proofs.lemmas.List.Elements.{All-contains_itself, All-more, Contains-get_or}
 use Rattle.avro_resolve.proofs.Merges.{below_later, not_there}
 use Rattle.avro_resolve.proofs.merging.has_all.Goals as goal
+
+pub returns-then-eq : goal.returns-then-eq
+returns-then-eq c =
+    let list = c.args.list.now in
+    let same = (slice_eq-Decides Decides-eqb list c.args.numbers.now true c.if-eq.ensures).0 refl in
+    ((λ _. subst (λ (xs : List ℕ). All (Contains list) xs) same (All-contains_itself list)), (λ _. refl))
 
 pub returns-then-not-is_at : goal.returns-then-not-is_at
 returns-then-not-is_at c =

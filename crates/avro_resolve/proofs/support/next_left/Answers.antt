@@ -7,7 +7,8 @@ use Rattle.avro_resolve.proofs.support.next_left.Goals as goal
 pub loop-at-preserved : goal.loop-at-preserved
 loop-at-preserved c = λ k d lo hi le.
     let ps = c.args.places.now in let at = c.loop-at.at in
-    let within : at < length ps = c.loop-at-test.true in
+    let more : at < c.args.to = c.loop-at-test.true in let to_in = c.requires.to_in in
+    let within : at < length ps = omega arith in
     let none = λ (p : ℕ). left c.args.table.now c.args.i p ≡ false in
     elim (cases_lt k at) [
       | inl g ↦ c.loop-at.invariant k d lo g le
