@@ -40,8 +40,6 @@ struct Found {
     /// the place of its own type
     place: u32,
     has_default: bool,
-    /// whether this was told by the field's number
-    numbered: bool,
 }
 
 /// What is told of the field of a number, if this is that field.
@@ -63,7 +61,6 @@ fn told_at(sides: &Sides, row: &Row, number: usize, field: Aliased) -> Option<Fo
         source: place_told(entry),
         place: wanted.place,
         has_default: wanted.has_default,
-        numbered: true,
     })
 }
 
@@ -78,29 +75,6 @@ fn look_up(sides: &Sides, row: &Row, field: &Field, names: &FieldRanks) -> Found
         source: place_of(row.boxes, sides, row.fields.fields, row.fields.ranks, names),
         place: field.place,
         has_default: field.value.is_some(),
-        numbered: false,
-    }
-}
-
-/// What is found of the reader's field at this index of its record: by its number, if it has this
-/// one, and else in the boxes.
-fn find(
-    sides: &Sides,
-    row: &Row,
-    number: usize,
-    at: Aliased,
-    field: &Field,
-    names: &FieldRanks,
-) -> Found
-    requires sides { IsSides sides.now }
-    requires row { IsRow sides.now row.now }
-    requires named { IsFieldRanked (names_of sides.now.reader) (field_view field.now) names.now }
-    requires there { field_at (columns sides.now) at ≡ Some (field_view field.now) }
-    ensures { IsFound (row_fields row.now) result (field_view field.now) }
-{
-    match told_at(sides, row, number, at) {
-        Some(found) => found,
-        None => look_up(sides, row, field, names),
     }
 }
 
@@ -117,6 +91,30 @@ fn is_readable(found: Found, table: &Table) -> bool
     }
 }
 
+/// Whether a field of the reader's can be read: by what its number told of it, or else by what is found
+/// in the boxes. Each way ends by itself, so that a field that is told isn't looked at.
+fn is_field_readable(
+    sides: &Sides,
+    row: &Row,
+    told: Option<Found>,
+    field: &Field,
+    names: &FieldRanks,
+    table: &Table,
+) -> bool
+    requires sides { IsSides sides.now }
+    requires row { IsRow sides.now row.now }
+    requires told { ForSome told (λ found. IsFound (row_fields row.now) found (field_view field.now)) }
+    requires named { IsFieldRanked (names_of sides.now.reader) (field_view field.now) names.now }
+    requires writers { table.now.writers ≡ length sides.now.writer.schema.now }
+    requires place_in { field.now.place < table.now.readers }
+    ensures { IsTrue result ↔ Readable (left table.now) (row_fields row.now) (field_view field.now) }
+{
+    match told {
+        Some(found) => is_readable(found, table),
+        None => is_readable(look_up(sides, row, field, names), table),
+    }
+}
+
 /// Whether each field of the reader's record at a place can be read from the writer's place.
 pub fn all_readable(sides: &Sides, row: &Row, j: u32, table: &Table) -> bool
     requires sides { IsSides sides.now }
@@ -130,19 +128,12 @@ pub fn all_readable(sides: &Sides, row: &Row, j: u32, table: &Table) -> bool
     let wanted = sides.reader.fields(j);
     let mut number = first_number(row.numbered, j);
     for index in 0..wanted.fields.len() {
+        let told = told_at(sides, row, number, Aliased { place: j, index });
         let (field, names) = (&wanted.fields[index], &wanted.ranks[index]);
-        let found = find(
-            sides,
-            row,
-            number,
-            Aliased { place: j, index },
-            field,
-            names,
-        );
-        if !is_readable(found, table) {
+        if !is_field_readable(sides, row, told, field, names, table) {
             return false;
         }
-        if found.numbered {
+        if told.is_some() {
             number = number.saturating_add(1);
         }
     }
