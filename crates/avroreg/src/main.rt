@@ -10,7 +10,7 @@ mod server;
 use avro_nodes::OutOfMemory;
 use database::{FileDatabase, close};
 use opening::HostFiles;
-use reg_jobs::{Job, LineFault, Opened, Task, do_job, open_for, task_of};
+use reg_jobs::{Errors, Job, LineFault, Opened, Task, do_job, open_for, task_of};
 use server::serve;
 use std::alloc::{AllocError, AllocFailed, Global};
 use std::io;
@@ -86,7 +86,7 @@ fn do_and_close(rt: &HostRuntime, job: &Job, opened: Opened<FileDatabase>) -> u8
         opened,
         &mut rt.stdin(),
         &mut rt.stdout(),
-        &mut rt.stderr(),
+        &mut Errors::to(rt.stderr()),
     );
     if let (Some(file), Some(connection)) = (database_of(job), connection) {
         close(rt, file, connection);

@@ -2,7 +2,7 @@
 
 use crate::Unbegun;
 use crate::database::{FileDatabase, close, opened_database};
-use reg_jobs::{Outcome, Server, report, serve_with_clock, store_in};
+use reg_jobs::{Errors, Outcome, Server, report, serve_with_clock, store_in};
 use reg_service::Service;
 use reg_store::Store;
 use sqlite::Connection;
@@ -42,7 +42,7 @@ pub fn serve(rt: &HostRuntime, server: &Server) -> Result<u8, Unbegun> {
         Err((error, connection)) => (Some(Outcome::Unopened(error)), connection),
     };
     let status = match fault {
-        Some(outcome) => report(&mut rt.stderr(), outcome, file),
+        Some(outcome) => report(&mut Errors::to(rt.stderr()), outcome, file),
         None => 0,
     };
     if let Some(connection) = connection {

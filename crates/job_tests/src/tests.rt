@@ -6,4 +6,5 @@ mod listings;
 mod loopback;
 mod outcomes;
 mod schema_files;
+mod unmade;
 mod waiting;

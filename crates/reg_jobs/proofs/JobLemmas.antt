@@ -1,6 +1,7 @@
 -- Sessions over what was opened, and listings of it.
 use Rattle.std.proofs.Common.{ℕ, List, refl}
 use Rattle.std.specs.Prelude.{IsTrue, Option}
+use Rattle.sqlite.specs.Held.{state}
 use Rattle.sqlite.specs.State.{State}
 use Rattle.sqlite_trees.specs.declared.store.Store.{Ghosts}
 use Rattle.reg_core.specs.Registry.{new_registry}
@@ -15,12 +16,13 @@ use Rattle.reg_core.specs.KeptReplies.{Kept}
 use Rattle.reg_store.specs.declared.error.StoreError.{StoreError}
 use Rattle.reg_store.specs.declared.error.StoreError.TheVariants.{Memory, Disk, NotARegistry, OldLayout, NewerLayout}
 use Rattle.reg_store.specs.Failures.{IsFaultBy, IsFaultOver, is_fault}
+use Rattle.reg_store.specs.Opening.{OpensOver}
 use Rattle.reg_store.specs.Spells.{SpellsWhileOpen}
 use Rattle.reg_words.specs.declared.task.Listing.{Listing}
 use Rattle.reg_jobs.specs.declared.listings.ListOutcome.{ListOutcome}
 use Rattle.reg_jobs.specs.declared.listings.ListOutcome.TheVariants.{Whole, Unread, NotWritten, OutOfMemory}
 use Rattle.reg_jobs.specs.Listings.{IfUnread, ListsAs, table_of}
-use Rattle.reg_jobs.specs.Jobs.{HasRegistry, ListsOver, SessionOver}
+use Rattle.reg_jobs.specs.Jobs.{HasRegistry, ListsOver, OverDatabase, SessionOver}
 
 -- a session over the registry of what was opened
 pub SessionOver-has : {S : Type 0} (g : Ghosts S) (opened : Opened S) (begun new : State) (reader reader' writer writer' : Option (List ℕ)) (ended : Ended)
@@ -50,24 +52,21 @@ IfUnread-fault (Unread error) begun new b k fault spells = is_fault-by begun new
 IfUnread-fault NotWritten begun new b k fault spells = tt
 IfUnread-fault OutOfMemory begun new b k fault spells = tt
 
--- a listing of the registry of what was opened
-pub ListsOver-has : {S : Type 0} (g : Ghosts S) (opened : Opened S) (kind : Listing) (begun new : State) (writer writer' : Option (List ℕ)) (listed : ListOutcome)
-    → HasRegistry g opened begun → ((b : Registry) (k : Kept) → SpellsWhileOpen begun b k → ListsAs (table_of kind) b writer writer' listed)
+-- what holds of the database that was opened
+pub OverDatabase-map : {S : Type 0} (g : Ghosts S) (opened : Opened S) (P Q : State → Type 0) → ((old : State) → P old → Q old) → OverDatabase g opened P → OverDatabase g opened Q
+OverDatabase-map g Nothing P Q follows over = over
+OverDatabase-map g (Texts texts) P Q follows over = over
+OverDatabase-map g Failed P Q follows over = over
+OverDatabase-map g Empty P Q follows over = over
+OverDatabase-map g (Fresh old) P Q follows over = over
+OverDatabase-map g (Database old) P Q follows over = follows (state g old) over
+
+-- a listing of the registry of a database
+pub ListsOver-found : (old begun new : State) (kind : Listing) (writer writer' : Option (List ℕ)) (listed : ListOutcome)
+    → OpensOver old begun → ((b : Registry) (k : Kept) → SpellsWhileOpen begun b k → ListsAs (table_of kind) b writer writer' listed)
     → IfUnread listed (IsFaultOver begun new)
-    → ((b : Registry) (k : Kept) → SpellsWhileOpen begun b k → SpellsWhileOpen new b k) → ListsOver g opened kind writer writer' listed new
-ListsOver-has g Nothing kind begun new writer writer' listed has lists fault same = absurd has
-ListsOver-has g (Texts texts) kind begun new writer writer' listed has lists fault same = absurd has
-ListsOver-has g Failed kind begun new writer writer' listed has lists fault same = absurd has
-ListsOver-has g Empty kind begun new writer writer' listed has lists fault same = absurd has
-ListsOver-has g (Fresh old) kind begun new writer writer' listed has lists fault same = record {
-  registry = new_registry;
-  kept = nothing_kept;
-  begins = (has.empty, refl, refl);
-  lists = lists new_registry nothing_kept has.spells;
-  fault = IfUnread-fault listed begun new new_registry nothing_kept fault has.spells;
-  spells = same new_registry nothing_kept has.spells;
-}
-ListsOver-has g (Database old) kind begun new writer writer' listed has lists fault same = record {
+    → ((b : Registry) (k : Kept) → SpellsWhileOpen begun b k → SpellsWhileOpen new b k) → ListsOver old kind writer writer' listed new
+ListsOver-found old begun new kind writer writer' listed has lists fault same = record {
   registry = has.registry;
   kept = has.kept;
   begins = has.spelled;

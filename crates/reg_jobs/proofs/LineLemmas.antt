@@ -1,28 +1,54 @@
--- Lines on standard error, written in parts.
-use Rattle.std.proofs.Common.{◌≡◌, ℕ, ◌+◌, ◌<◌, ◌≤◌, List, [], ◌∷◌, ◌++◌, take, drop, length, get_or, sym, ap, ◌∙◌, subst, append_assoc, append-nil}
-use Rattle.std.specs.Prelude.{Option}
+-- Lines on standard error, put in parts.
+use Rattle.std.proofs.Common.{◌≡◌, ℕ, ◌+◌, ◌<◌, ◌≤◌, Bool, true, false, not, List, [], ◌∷◌, ◌++◌, take, drop, length, get_or, refl, sym, ap, ◌∙◌, subst, append_assoc, append-nil}
+use Rattle.std.specs.Prelude.{IsTrue, Option}
 use Rattle.std.specs.List.{flat_map}
 use Rattle.std.specs.Io.KnownBytes.{Appends}
-use Rattle.std.proofs.KnownBytes.{Appends-trans}
+use Rattle.std.proofs.KnownBytes.{Appends-nil, Appends-trans}
 use Rattle.std.proofs.lemmas.List.{take-append-drop, take_more}
 use Rattle.std.proofs.lemmas.List.Concat.{flat_map-append}
 use Rattle.reg_http.specs.Output.{Begins}
-
-pub Begins-take : (old new : Option (List ℕ)) (n : ℕ) (xs : List ℕ) → Appends old new (take n xs) → Begins old new xs
-Begins-take old new n xs a = (take n xs, (drop n xs, take-append-drop n xs), a)
-
--- the same, of what the bytes are known to be
-pub Begins-same : (old new : Option (List ℕ)) (xs ys : List ℕ) → (n : ℕ) × (n ≤ length xs) × Appends old new (take n xs) → xs ≡ ys → Begins old new ys
-Begins-same old new xs ys a e = subst (Begins old new) e (Begins-take old new a.0 xs a.2)
-
--- more would have followed
-pub Begins-more : (old new : Option (List ℕ)) (xs ys : List ℕ) → Begins old new xs → Begins old new (xs ++ ys)
-Begins-more old new xs ys b = (b.0, (b.1.0 ++ ys, sym (append_assoc b.0 b.1.0 ys) ∙ ap (λ t. t ++ ys) b.1.1), b.2)
+use Rattle.reg_jobs.specs.declared.errors.Errors.{Errors}
+use Rattle.reg_jobs.specs.Errors.{Puts, WritesUnlessLost}
 
 -- after what was written whole
-pub Begins-after : (old mid new : Option (List ℕ)) (xs ys : List ℕ) → Appends old mid xs → Begins mid new ys → Begins old new (xs ++ ys)
+Begins-after : (old mid new : Option (List ℕ)) (xs ys : List ℕ) → Appends old mid xs → Begins mid new ys → Begins old new (xs ++ ys)
 Begins-after old mid new xs ys a b =
     (xs ++ b.0, (b.1.0, append_assoc xs b.0 b.1.0 ∙ ap (λ t. xs ++ t) b.1.1), Appends-trans old mid new xs b.0 a b.2)
+
+-- more would have followed, of which nothing was written
+Begins-more : (old mid new : Option (List ℕ)) (xs ys : List ℕ) → Begins old mid xs → Appends mid new [] → Begins old new (xs ++ ys)
+Begins-more old mid new xs ys b none =
+    (b.0, (b.1.0 ++ ys, sym (append_assoc b.0 b.1.0 ys) ∙ ap (λ t. t ++ ys) b.1.1), subst (Appends old new) (append-nil b.0) (Appends-trans old mid new b.0 [] b.2 none))
+
+-- what a writer took of bytes, where nothing was lost before
+pub WritesUnlessLost-taken : (written : Bool) (old new : Option (List ℕ)) (bytes : List ℕ) → (n : ℕ) × (n ≤ length bytes) × Appends old new (take n bytes)
+    → (IsTrue written → Appends old new bytes) → WritesUnlessLost false (not written) old new bytes
+WritesUnlessLost-taken true old new bytes front whole = whole refl
+WritesUnlessLost-taken false old new bytes front whole = (take front.0 bytes, (drop front.0 bytes, take-append-drop front.0 bytes), front.2)
+
+WritesUnlessLost-append : (l m n : Bool) (old mid new : Option (List ℕ)) (xs ys : List ℕ)
+    → WritesUnlessLost l m old mid xs → WritesUnlessLost m n mid new ys → WritesUnlessLost l n old new (xs ++ ys)
+WritesUnlessLost-append false false false old mid new xs ys p q = Appends-trans old mid new xs ys p q
+WritesUnlessLost-append false false true old mid new xs ys p q = Begins-after old mid new xs ys p q
+WritesUnlessLost-append false true false old mid new xs ys p q = absurd q
+WritesUnlessLost-append false true true old mid new xs ys p q = Begins-more old mid new xs ys p q
+WritesUnlessLost-append true false n old mid new xs ys p q = absurd p
+WritesUnlessLost-append true true false old mid new xs ys p q = absurd q
+WritesUnlessLost-append true true true old mid new xs ys p q = Appends-trans old mid new [] [] p q
+
+WritesUnlessLost-none : (lost : Bool) (old : Option (List ℕ)) → WritesUnlessLost lost lost old old []
+WritesUnlessLost-none false old = Appends-nil old
+WritesUnlessLost-none true old = Appends-nil old
+
+-- nothing was put yet
+pub Puts-none : {E : Type 0} (contents : E → Option (List ℕ)) (a : Errors E) → Puts contents a a []
+Puts-none contents a = WritesUnlessLost-none a.has_lost (contents a.writer)
+
+-- bytes, and then more
+pub Puts-append : {E : Type 0} (contents : E → Option (List ℕ)) (a b c : Errors E) (xs ys : List ℕ)
+    → Puts contents a b xs → Puts contents b c ys → Puts contents a c (xs ++ ys)
+Puts-append contents a b c xs ys p q =
+    WritesUnlessLost-append a.has_lost b.has_lost c.has_lost (contents a.writer) (contents b.writer) (contents c.writer) xs ys p q
 
 -- what a list's first items are written as, and one more
 flat_map-more : {A : Type 0} (text : A → List ℕ) (items : List A) (i : ℕ) (d : A) → i < length items
@@ -30,13 +56,8 @@ flat_map-more : {A : Type 0} (text : A → List ℕ) (items : List A) (i : ℕ) 
 flat_map-more text items i d lt =
     ap (flat_map text) (take_more items i d lt) ∙ (flat_map-append text (take i items) (get_or items i d ∷ []) ∙ ap (λ t. flat_map text (take i items) ++ t) (append-nil (text (get_or items i d))))
 
--- the items before one were written whole, and a beginning of that one
-pub Begins-item : {A : Type 0} (text : A → List ℕ) (old mid new : Option (List ℕ)) (items : List A) (i : ℕ) (d : A) → i < length items
-    → Appends old mid (flat_map text (take i items)) → Begins mid new (text (get_or items i d)) → Begins old new (flat_map text items)
-Begins-item text old mid new items i d lt a b =
-    let here = text (get_or items i d) in
-    let before = flat_map text (take i items) in
-    let after = flat_map text (drop (i + 1) items) in
-    let whole : (before ++ here) ++ after ≡ flat_map text items =
-    ap (λ t. t ++ after) (sym (flat_map-more text items i d lt)) ∙ (sym (flat_map-append text (take (i + 1) items) (drop (i + 1) items)) ∙ ap (flat_map text) (take-append-drop (i + 1) items)) in
-    subst (Begins old new) whole (Begins-more old new (before ++ here) after (Begins-after old mid new before here a b))
+-- the items before one, and then that one
+pub Puts-item : {A E : Type 0} (contents : E → Option (List ℕ)) (text : A → List ℕ) (a b c : Errors E) (items : List A) (i : ℕ) (d : A) → i < length items
+    → Puts contents a b (flat_map text (take i items)) → Puts contents b c (text (get_or items i d)) → Puts contents a c (flat_map text (take (i + 1) items))
+Puts-item contents text a b c items i d lt p q =
+    subst (Puts contents a c) (sym (flat_map-more text items i d lt)) (Puts-append contents a b c (flat_map text (take i items)) (text (get_or items i d)) p q)

@@ -19,6 +19,7 @@ use Rattle.reg_jobs.specs.declared.files.CheckOutcome.{CheckOutcome}
 use Rattle.reg_words.specs.declared.task.Job.{Job}
 use Rattle.reg_words.specs.declared.task.Job.TheVariants.{Run, Text as TextJob, Check as CheckJob, List as ListJob}
 use Rattle.reg_words.specs.declared.task.Listing.{Listing}
+use Rattle.reg_jobs.specs.declared.errors.Errors.{Errors}
 use Rattle.reg_jobs.specs.declared.job.Opened.{Opened}
 use Rattle.reg_jobs.specs.declared.job.Opened.TheVariants.{Nothing, Texts, Failed, Empty, Fresh, Database}
 use Rattle.reg_jobs.specs.declared.outcome.Fault.{Fault}
@@ -136,19 +137,37 @@ abbrev pub RunsAsked : {S : Type 0} (g : Ghosts S) → Opened S → Bool → Opt
 RunsAsked g opened false back reader reader' writer writer' outcome = (back ≡ connection_in opened) × RunsAs reader reader' writer writer' outcome
 RunsAsked g opened true back reader reader' writer writer' outcome = RunsOn g opened back reader reader' writer writer' outcome
 
--- a listing of the registry of what was opened, which the tables still spell
-pub record ListsOver {S : Type 0} (g : Ghosts S) (opened : Opened S) (kind : Listing) (writer writer' : Option (List ℕ)) (listed : ListOutcome) (new : State) : Type 0 where
+-- what was opened is a database, and this holds of it
+abbrev pub OverDatabase : {S : Type 0} (g : Ghosts S) → Opened S → (State → Type 0) → Type 0
+OverDatabase g Nothing P = ⊥
+OverDatabase g (Texts texts) P = ⊥
+OverDatabase g Failed P = ⊥
+OverDatabase g Empty P = ⊥
+OverDatabase g (Fresh old) P = ⊥
+OverDatabase g (Database old) P = P (state g old)
+
+-- why a job that only reads finds no registry in what was opened, and the connection that comes back: it makes none in an empty database, which comes back as it is
+abbrev pub FindsNone : {S : Type 0} (g : Ghosts S) → Opened S → Option (Held S) → StoreError → Type 0
+FindsNone g Nothing back error = LacksRegistry g Nothing back error
+FindsNone g (Texts texts) back error = LacksRegistry g (Texts texts) back error
+FindsNone g Failed back error = LacksRegistry g Failed back error
+FindsNone g Empty back error = LacksRegistry g Empty back error
+FindsNone g (Fresh old) back error = (back ≡ Some old) × (error ≡ NotARegistry)
+FindsNone g (Database old) back error = LacksRegistry g (Database old) back error
+
+-- a listing of the registry of a database, which the tables still spell
+pub record ListsOver (old : State) (kind : Listing) (writer writer' : Option (List ℕ)) (listed : ListOutcome) (new : State) : Type 0 where
   pub registry : Registry
   pub kept : Kept
-  pub begins : BeginsWith g opened registry kept
+  pub begins : SpellsUnopened old.now registry kept
   pub lists : ListsAs (table_of kind) registry writer writer' listed
   pub fault : IfUnread listed (λ error. IsTrue (is_fault error))
   pub spells : SpellsWhileOpen new registry kept
 
--- there was no registry, and nothing was written
+-- no registry was found, and nothing was written
 pub record ListsNothing {S : Type 0} (g : Ghosts S) (opened : Opened S) (back : Option (Held S)) (writer writer' : Option (List ℕ)) (error : StoreError) : Type 0 where
   pub unwritten : writer' ≡ writer
-  pub lacks : LacksRegistry g opened back error
+  pub lacks : FindsNone g opened back error
 
 -- how a listing of what was opened comes out
 abbrev pub ListsOn : {S : Type 0} (g : Ghosts S) → Opened S → Listing → Option (Held S) → Option (List ℕ) → Option (List ℕ) → Outcome → Type 0
@@ -157,7 +176,7 @@ ListsOn g opened kind back writer writer' (Unopened error) = ListsNothing g open
 ListsOn g opened kind back writer writer' (NotListening port) = ⊥
 ListsOn g opened kind back writer writer' (TextEnded printed) = ⊥
 ListsOn g opened kind back writer writer' (CheckEnded checked) = ⊥
-ListsOn g opened kind back writer writer' (ListEnded listed) = GivesBack g back (ListsOver g opened kind writer writer' listed)
+ListsOn g opened kind back writer writer' (ListEnded listed) = OverDatabase g opened (λ old. GivesBack g back (ListsOver old kind writer writer' listed))
 
 -- a schema's text was to be printed
 pub record TextsAs (file writer writer' : Option (List ℕ)) (outcome : Outcome) : Type 0 where
@@ -179,9 +198,9 @@ ComesOut g (CheckJob r w) opened back reader reader' writer writer' outcome = (b
 ComesOut g (ListJob database kind) opened back reader reader' writer writer' outcome = (reader' ≡ reader) × ListsOn g opened kind back writer writer' outcome
 
 -- a job that was done, with the connection that comes back, its line on standard error and the status
-pub record DoesAs {S : Type 0} (g : Ghosts S) (job : Job) (opened : Opened S) (back : Option (Held S))
-    (reader reader' writer writer' errors errors' : Option (List ℕ)) (status : ℕ) : Type 0 where
+pub record DoesAs {S E : Type 0} (g : Ghosts S) (contents : E → Option (List ℕ)) (job : Job) (opened : Opened S) (back : Option (Held S))
+    (reader reader' writer writer' : Option (List ℕ)) (errors errors' : Errors E) (status : ℕ) : Type 0 where
   pub outcome : Outcome
   pub comes_out : ComesOut g job opened back reader reader' writer writer' outcome
-  pub tells : TellsFault (job_answer job outcome) errors errors'
+  pub tells : TellsFault contents (job_answer job outcome) errors errors'
   pub status_is : status ≡ status_of (job_answer job outcome)

@@ -1,8 +1,7 @@
 -- What jobs answer, by how they come out: the program's status, or a fault, its file and its line.
-use Rattle.std.specs.Prelude.{ℕ, true, false, List, [], ◌++◌, codes, Option, Result, Ok, Err}
+use Rattle.std.specs.Prelude.{◌≡◌, ℕ, true, false, List, ◌++◌, codes, Option, Result, Ok, Err}
 use Rattle.std.specs.Fmt.{decimal}
 use Rattle.std.specs.List.{flat_map}
-use Rattle.std.specs.Io.KnownBytes.{Appends}
 use denote.Ref.{Bor}
 use Rattle.reg_store.specs.declared.error.StoreError.{StoreError}
 use Rattle.reg_store.specs.declared.error.StoreError.TheVariants.{Memory as NoMemory, Disk, NotARegistry, OldLayout, NewerLayout}
@@ -18,7 +17,8 @@ use Rattle.reg_jobs.specs.declared.outcome.Trouble.{Trouble}
 use Rattle.reg_jobs.specs.declared.outcome.Fault.{Fault}
 use Rattle.reg_jobs.specs.declared.outcome.Fault.TheVariants.{ReadFailed as FaultReadFailed, WriteFailed as FaultWriteFailed, MalformedInput as FaultMalformedInput, OutOfMemory as FaultOutOfMemory, CannotRead as FaultCannotRead, NotSchema as FaultNotSchema, CannotOpen as FaultCannotOpen, NotRegistry as FaultNotRegistry, OldLayout as FaultOldLayout, NewerLayout as FaultNewerLayout, CannotListen}
 use Rattle.reg_jobs.specs.declared.line.Line.{Line}
-use Rattle.reg_http.specs.Output.{Begins}
+use Rattle.reg_jobs.specs.declared.errors.Errors.{Errors}
+use Rattle.reg_jobs.specs.Errors.{Puts}
 use Rattle.reg_jobs.specs.Names.{shown_name}
 
 abbrev pub fault_of_file : FileFault → Fault
@@ -100,7 +100,7 @@ text_of_parts parts = flat_map (λ part. part.now) parts
 abbrev pub text_of_line : Line → List ℕ
 text_of_line line = line.front.now ++ (shown_name line.name.now ++ text_of_parts line.rest)
 
--- the line of a fault was written, or a beginning of it
-abbrev pub TellsFault : Result ℕ (Fault × List ℕ) → Option (List ℕ) → Option (List ℕ) → Type 0
-TellsFault (Ok status) old new = Appends old new []
-TellsFault (Err trouble) old new = Begins old new (line_of trouble.0 trouble.1)
+-- the line of a fault was put, and without a fault nothing was written or lost
+abbrev pub TellsFault : {E : Type 0} → (E → Option (List ℕ)) → Result ℕ (Fault × List ℕ) → Errors E → Errors E → Type 0
+TellsFault contents (Ok status) old new = new ≡ old
+TellsFault contents (Err trouble) old new = Puts contents old new (line_of trouble.0 trouble.1)

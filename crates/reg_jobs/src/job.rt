@@ -2,10 +2,12 @@
 
 ghost use Rattle.std.specs.Prelude.{◌≡◌, IfOk, IfErr, false, option_map};
 ghost use Rattle.sqlite.specs.State.{HasCleanDisk};
+ghost use Rattle.reg_store.specs.Opening.{OpensOver};
 ghost use Rattle.reg_store.specs.Stores.{has_failed, state_of};
-ghost use Rattle.reg_jobs.specs.Jobs.{DoesAs, HasRegistry, LacksRegistry, ListsOn, RunsAs, RunsAsked, RunsOn, file_of, writer_of};
+ghost use Rattle.reg_jobs.specs.Jobs.{DoesAs, FindsNone, HasRegistry, LacksRegistry, ListsOn, OverDatabase, RunsAs, RunsAsked, RunsOn, file_of, writer_of};
 
 use crate::database::{create_in, open_in, run_on_store};
+use crate::errors::Errors;
 use crate::files::{check, print_text};
 use crate::line::tell_answer;
 use crate::listings::{list_store, table_of};
@@ -103,6 +105,29 @@ fn run_in_memory<R: Read, W: Write>(alloc: Global, reader: &mut R, writer: &mut 
     Outcome::Session(serve(alloc, reader, writer, &mut service))
 }
 
+/// The registry of what was opened, for a job that only reads: that of a database. It makes none.
+///
+/// # Errors
+///
+/// `Disk` where no database was opened, `NotARegistry` for a file that holds nothing yet and for an empty
+/// database, which comes back as it is, and else why the database gives none, with the connection.
+fn found_in<S: Alter + Drop>(
+    alloc: Global,
+    opened: Opened<S>,
+) -> Result<Store<S>, (StoreError, Option<Connection<S>>)>
+    ensures over { IfOk result (λ store. OverDatabase S.Store opened
+        (λ old. HasCleanDisk (state_of store) → OpensOver old (state_of store))) }
+    ensures unfailed { IfOk result (λ store. has_failed store ≡ false) }
+    ensures none { IfErr result (λ e. FindsNone S.Store opened e.1 e.0) }
+{
+    match opened {
+        Opened::Database(connection) => open_in(alloc, connection),
+        Opened::Fresh(connection) => Err((StoreError::NotARegistry, Some(connection))),
+        Opened::Empty => Err((StoreError::NotARegistry, None)),
+        _ => Err((StoreError::Disk, None)),
+    }
+}
+
 /// The registry of what was opened: a new one in an empty database, or that of a database.
 ///
 /// # Errors
@@ -119,9 +144,7 @@ pub fn store_in<S: Alter + Drop>(
 {
     match opened {
         Opened::Fresh(connection) => create_in(alloc, connection),
-        Opened::Database(connection) => open_in(alloc, connection),
-        Opened::Empty => Err((StoreError::NotARegistry, None)),
-        _ => Err((StoreError::Disk, None)),
+        opened => found_in(alloc, opened),
     }
 }
 
@@ -174,7 +197,7 @@ fn list_on<S: Alter + Drop, W: Write>(
 ) -> (Outcome, Option<Connection<S>>)
     ensures { ListsOn S.Store opened kind result.1 (W.contents writer.old) (W.contents writer.new) result.0 }
 {
-    match store_in(alloc, opened) {
+    match found_in(alloc, opened) {
         Ok(store) => {
             let (listed, connection) = list_store(alloc, store, table_of(kind), writer);
             (Outcome::List(listed), Some(connection))
@@ -185,17 +208,16 @@ fn list_on<S: Alter + Drop, W: Write>(
 
 /// Does a job with what was opened for it, and answers the program's status: 0, 1 for a verdict
 /// of incompatible, or 2 after a fault, whose line goes to `errors`. A connection is given back.
-pub fn do_job<S: Alter + Drop, R: Read, W: Write, E: Write>(
+pub fn do_job<S: Alter + Drop, R: Read, W: Write, E: Write + Drop>(
     alloc: Global,
     job: &Job,
     opened: Opened<S>,
     reader: &mut R,
     writer: &mut W,
-    errors: &mut E,
+    errors: &mut Errors<E>,
 ) -> (u8, Option<Connection<S>>)
-    ensures { DoesAs S.Store job.now opened result.1 (R.remaining reader.old) (R.remaining reader.new)
-        (W.contents writer.old) (W.contents writer.new)
-        (E.contents errors.old) (E.contents errors.new) result.0 }
+    ensures { DoesAs S.Store E.contents job.now opened result.1 (R.remaining reader.old) (R.remaining reader.new)
+        (W.contents writer.old) (W.contents writer.new) errors.old errors.new result.0 }
 {
     let (outcome, connection) = match job {
         Job::Run { database } => run(alloc, database.is_some(), opened, reader, writer),

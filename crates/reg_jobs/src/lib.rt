@@ -4,6 +4,7 @@
 #![tactic(auto)]
 
 mod database;
+mod errors;
 mod files;
 mod job;
 mod line;
@@ -13,6 +14,7 @@ mod name;
 mod opening;
 mod outcome;
 
+pub use errors::Errors;
 pub use job::{Opened, do_job, store_in};
 pub use line::report;
 pub use listening::{serve_on, serve_with_clock};

@@ -1,14 +1,14 @@
 //! Lines on standard error.
 
 ghost use Rattle.std.specs.Prelude.{◌≡◌};
-ghost use Rattle.reg_http.specs.Output.{Begins};
+ghost use Rattle.reg_jobs.specs.Errors.{Puts};
 ghost use Rattle.reg_jobs.specs.Names.{shown_name};
 ghost use Rattle.reg_jobs.specs.Outcomes.{TellsFault, answer_of, line_of, line_with, named, number_of, status_of, text_of_line, text_of_parts};
 
+use crate::errors::Errors;
 use crate::name::put_name;
 use crate::outcome::{Fault, Outcome, Trouble, answer_of, status_of};
 use itoa::Buffer;
-use reg_http::write_whole;
 use std::io::Write;
 
 /// A line: a text, the name of a file that it may name, and what follows, in three parts at most.
@@ -76,33 +76,27 @@ fn line_of<'a>(fault: Fault, file: &'a str, digits: &'a str) -> Line<'a>
     }
 }
 
-/// Writes the parts in order. What can't be written is lost.
-fn put_parts<E: Write>(errors: &mut E, parts: &[&str])
-    ensures { Begins (E.contents errors.old) (E.contents errors.new) (text_of_parts parts.now) }
+/// Writes the parts in order.
+fn put_parts<E: Write + Drop>(errors: &mut Errors<E>, parts: &[&str])
+    ensures { Puts E.contents errors.old errors.new (text_of_parts parts.now) }
 {
     for part in parts {
-        if !write_whole(errors, part.as_bytes()) {
-            return;
-        }
+        errors.put(part.as_bytes());
     }
 }
 
-/// Writes a line, the file's name as it is shown. What can't be written is lost.
-fn put_line<E: Write>(errors: &mut E, line: Line)
-    ensures { Begins (E.contents errors.old) (E.contents errors.new) (text_of_line line.entry) }
+/// Writes a line, the file's name as it is shown.
+fn put_line<E: Write + Drop>(errors: &mut Errors<E>, line: Line)
+    ensures { Puts E.contents errors.old errors.new (text_of_line line.entry) }
 {
-    if !write_whole(errors, line.front.as_bytes()) {
-        return;
-    }
-    if !put_name(errors, line.name) {
-        return;
-    }
+    errors.put(line.front.as_bytes());
+    put_name(errors, line.name);
     put_parts(errors, &line.rest);
 }
 
-/// Writes the line for trouble. What can't be written is lost.
-fn tell<E: Write>(errors: &mut E, trouble: Trouble)
-    ensures { Begins (E.contents errors.old) (E.contents errors.new) (line_of trouble.entry.fault trouble.entry.file.now) }
+/// Writes the line for trouble.
+fn tell<E: Write + Drop>(errors: &mut Errors<E>, trouble: Trouble)
+    ensures { Puts E.contents errors.old errors.new (line_of trouble.entry.fault trouble.entry.file.now) }
 {
     let mut digits = Buffer::new();
     let number = digits.format(number_of(trouble.fault));
@@ -110,8 +104,8 @@ fn tell<E: Write>(errors: &mut E, trouble: Trouble)
 }
 
 /// Writes the line for what a job answers, where that is trouble, and answers the program's status.
-pub fn tell_answer<E: Write>(errors: &mut E, answer: Result<u8, Trouble>) -> u8
-    ensures tells { TellsFault (named answer.entry) (E.contents errors.old) (E.contents errors.new) }
+pub fn tell_answer<E: Write + Drop>(errors: &mut Errors<E>, answer: Result<u8, Trouble>) -> u8
+    ensures tells { TellsFault E.contents (named answer.entry) errors.old errors.new }
     ensures status { result ≡ status_of (named answer.entry) }
 {
     if let Err(trouble) = answer {
@@ -122,8 +116,8 @@ pub fn tell_answer<E: Write>(errors: &mut E, answer: Result<u8, Trouble>) -> u8
 
 /// Writes the line for an outcome on a file, where it is trouble, and answers the program's status for
 /// it.
-pub fn report<E: Write>(errors: &mut E, outcome: Outcome, file: &str) -> u8
-    ensures tells { TellsFault (answer_of outcome file.now file.now) (E.contents errors.old) (E.contents errors.new) }
+pub fn report<E: Write + Drop>(errors: &mut Errors<E>, outcome: Outcome, file: &str) -> u8
+    ensures tells { TellsFault E.contents (answer_of outcome file.now file.now) errors.old errors.new }
     ensures status { result ≡ status_of (answer_of outcome file.now file.now) }
 {
     let answer = answer_of(outcome, file, file);

@@ -1,11 +1,10 @@
 //! The names of files, as a line on standard error shows them.
 
-ghost use Rattle.std.specs.Prelude.{◌≡◌, ◌<◌, IsTrue};
-ghost use Rattle.std.specs.Io.KnownBytes.{Appends};
-ghost use Rattle.reg_http.specs.Output.{Begins};
+ghost use Rattle.std.specs.Prelude.{◌≡◌, ◌<◌};
+ghost use Rattle.reg_jobs.specs.Errors.{Puts};
 ghost use Rattle.reg_jobs.specs.Names.{hex_digit, shown_name, shown_byte, HasNoControl};
 
-use reg_http::write_whole;
+use crate::errors::Errors;
 use std::io::Write;
 
 /// The hexadecimal digit of a number below 16.
@@ -16,40 +15,32 @@ fn hex_digit(n: u8) -> u8
     b"0123456789abcdef"[usize::from(n)]
 }
 
-/// Writes a byte of a name: a control character's escape, or the byte as it is. Where it answers
-/// false, a beginning of that went out.
-fn put_byte<E: Write>(errors: &mut E, byte: u8) -> bool
-    ensures front { Begins (E.contents errors.old) (E.contents errors.new) (shown_byte byte) }
-    ensures whole { IsTrue result
-        → Appends (E.contents errors.old) (E.contents errors.new) (shown_byte byte) }
+/// Writes a byte of a name: a control character's escape, or the byte as it is.
+fn put_byte<E: Write + Drop>(errors: &mut Errors<E>, byte: u8)
+    ensures { Puts E.contents errors.old errors.new (shown_byte byte) }
 {
     if !byte.is_ascii_control() {
-        return write_whole(errors, &[byte]);
+        errors.put(&[byte]);
+        return;
     }
     match byte {
-        b'\t' => write_whole(errors, b"\\t"),
-        b'\n' => write_whole(errors, b"\\n"),
-        b'\r' => write_whole(errors, b"\\r"),
+        b'\t' => errors.put(b"\\t"),
+        b'\n' => errors.put(b"\\n"),
+        b'\r' => errors.put(b"\\r"),
         _ => {
             let (high, low) = (hex_digit(byte / 16), hex_digit(byte % 16));
-            write_whole(errors, &[b'\\', b'u', b'{', high, low, b'}'])
+            errors.put(&[b'\\', b'u', b'{', high, low, b'}']);
         }
     }
 }
 
-/// Writes a file's name, each control character as its escape, so that a line stays one line. Where
-/// it answers false, a beginning of that went out.
-pub fn put_name<E: Write>(errors: &mut E, name: &str) -> bool
-    ensures front { Begins (E.contents errors.old) (E.contents errors.new) (shown_name name.now) }
-    ensures whole { IsTrue result
-        → Appends (E.contents errors.old) (E.contents errors.new) (shown_name name.now) }
+/// Writes a file's name, each control character as its escape, so that a line stays one line.
+pub fn put_name<E: Write + Drop>(errors: &mut Errors<E>, name: &str)
+    ensures puts { Puts E.contents errors.old errors.new (shown_name name.now) }
     ensures no_control { HasNoControl (shown_name name.now) }
     ensures same { HasNoControl name.now → shown_name name.now ≡ name.now }
 {
     for byte in name.as_bytes() {
-        if !put_byte(errors, *byte) {
-            return false;
-        }
+        put_byte(errors, *byte);
     }
-    true
 }

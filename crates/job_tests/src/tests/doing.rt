@@ -1,6 +1,6 @@
 //! What a job does, without what it promises.
 
-use reg_jobs::{Job, Opened, do_job};
+use reg_jobs::{Errors, Job, Opened, do_job};
 use sqlite::{Alter, Connection};
 use std::alloc::{AllocError, Global};
 use std::io::{Read, Write};
@@ -16,9 +16,9 @@ pub(super) fn done<S: Alter + Drop, R: Read, W: Write>(
     reader: &mut R,
     writer: &mut W,
 ) -> Told<S> {
-    let mut told = Vec::new(alloc);
-    let (status, connection) = do_job(alloc, job, opened, reader, writer, &mut told);
-    (told, status, connection)
+    let mut errors = Errors::to(Vec::new(alloc));
+    let (status, connection) = do_job(alloc, job, opened, reader, writer, &mut errors);
+    (errors.into_writer(), status, connection)
 }
 
 /// Runs over a database in the file F.

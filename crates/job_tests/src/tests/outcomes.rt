@@ -1,7 +1,7 @@
 //! What is told on standard error, and the status, by how a server or a job comes out.
 
 use reg_http::Ended;
-use reg_jobs::{ListOutcome, Outcome, report};
+use reg_jobs::{Errors, ListOutcome, Outcome, report};
 use reg_store::StoreError;
 use reg_testing::Failing;
 use std::test::Fail;
@@ -35,14 +35,18 @@ const FAULTS: [(Outcome, &str); 19] = [
 fn each_fault_has_its_line(rt: HostRuntime) -> Result<(), Fail> {
     for (outcome, line) in FAULTS {
         for writes in 0..=line.len() {
-            let mut errors = Failing {
+            let mut errors = Errors::to(Failing {
                 taken: Vec::new(rt.alloc()),
                 writes,
                 takes_nothing: false,
-            };
+            });
             assert_eq!(rt; report(&mut errors, outcome, "F"), 2, "{line}");
-            let taken = errors.taken.as_slice();
-            assert!(rt; line.as_bytes().get(..writes) == Some(taken), "{line}");
+            assert_eq!(rt; errors.has_lost(), writes < line.len(), "{line}");
+            let taken = errors.into_writer().taken;
+            assert!(rt;
+                line.as_bytes().get(..writes) == Some(taken.as_slice()),
+                "{line}"
+            );
         }
     }
     Ok(())
@@ -55,8 +59,9 @@ fn an_end_in_order_has_no_line(rt: HostRuntime) {
         Outcome::Session(Ended::Closed),
         Outcome::List(ListOutcome::Whole),
     ] {
-        let mut errors = Vec::new(rt.alloc());
+        let mut errors = Errors::to(Vec::new(rt.alloc()));
         assert_eq!(rt; report(&mut errors, outcome, "F"), 0);
-        assert!(rt; errors.is_empty());
+        assert!(rt; !errors.has_lost());
+        assert!(rt; errors.into_writer().is_empty());
     }
 }

@@ -18,6 +18,6 @@ returns g c =
     ] in
     let answer : named c.answer_of-answer.result ≡ job_answer c.args.job.now c.match-job.outcome.0 =
     rw (c.file_of.ensures, c.writer_of.ensures) at c.answer_of-answer.ensures in
-    let tells : TellsFault (job_answer c.args.job.now c.match-job.outcome.0) (g.E.Write.contents c.args.errors.now) (g.E.Write.contents c.tell_answer.new.errors) =
+    let tells : TellsFault g.E.Write.contents (job_answer c.args.job.now c.match-job.outcome.0) c.args.errors.now c.tell_answer.new.errors =
     rw answer at c.tell_answer.ensures.tells in
     record { outcome = c.match-job.outcome.0; comes_out = comes; tells = tells; status_is = c.tell_answer.ensures.status ∙ ap status_of answer }

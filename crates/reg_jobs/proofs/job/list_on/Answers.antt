@@ -1,16 +1,19 @@
 use Rattle.std.proofs.Common.{refl}
-use Rattle.reg_jobs.proofs.JobLemmas.{ListsOver-has}
+use Rattle.reg_jobs.proofs.JobLemmas.{ListsOver-found, OverDatabase-map}
 use Rattle.reg_jobs.proofs.job.list_on.Goals as goal
 
 pub returns-in-Ok : goal.returns-in-Ok
-returns-in-Ok g c = record {
-  connection = c.list_store-listed.result.1;
-  given = refl;
-  holds = λ clean. ListsOver-has g.S.Store c.args.opened c.args.kind _ _ _ _ c.list_store-listed.result.0
-      (c.in-Ok.ensures.has (c.list_store-listed.ensures.clean clean))
-      (rw c.table_of.ensures at c.list_store-listed.ensures.lists clean) (c.list_store-listed.ensures.fault clean c.in-Ok.ensures.unfailed)
-      (c.list_store-listed.ensures.same clean);
-}
+returns-in-Ok g c =
+    OverDatabase-map g.S.Store c.args.opened _ _
+    (λ old opens. record {
+      connection = c.list_store-listed.result.1;
+      given = refl;
+      holds = λ clean. ListsOver-found old _ _ c.args.kind _ _ c.list_store-listed.result.0
+          (opens (c.list_store-listed.ensures.clean clean))
+          (rw c.table_of.ensures at c.list_store-listed.ensures.lists clean) (c.list_store-listed.ensures.fault clean c.in-Ok.ensures.unfailed)
+          (c.list_store-listed.ensures.same clean);
+    })
+    c.in-Ok.ensures.over
 
 pub returns-in-Err : goal.returns-in-Err
-returns-in-Err g c = record { unwritten = refl; lacks = c.in-Err.ensures.lacks }
+returns-in-Err g c = record { unwritten = refl; lacks = c.in-Err.ensures.none }
