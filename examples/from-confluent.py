@@ -1,0 +1,724 @@
+#!/usr/bin/env python3
+"""Moves what a registry of schemas holds into avroreg: subjects, versions, ids, soft-deleted versions, levels, modes.
+
+    python3 examples/from-confluent.py [options] FROM TO
+    python3 examples/from-confluent.py --dry-run https://registry.example.org http://127.0.0.1:8081
+
+FROM is a running registry that answers as Confluent's does, or as avroreg: the second is a copy of a registry that runs.
+It is only read. TO is an avroreg that holds nothing yet: a new file. Python's standard library is all that this needs.
+
+All is read first, until two readings in a row say the same, and nothing is written before it is known that it can be. A
+subject keeps the numbers of its versions, and a schema its id. Where that can't be, it says of which, and writes nothing
+until a flag says how to go on:
+
+  --skip           leaves out what avroreg doesn't take: other types than Avro, references, metadata, rule sets, schemas
+                   that avroreg's check of a schema refuses (as a number that isn't whole), a second live version with the
+                   schema of a first one, subjects of a context, and what a level has beside it. The numbers of versions
+                   that are left out stay unused, and so do their ids, which need one of the next two then.
+  --fill-ids       keeps ids that can't come as 1, 2, 3.. by themselves: what has an id that no version has any more, or
+                   one that comes behind a later one, is registered under a subject made for this, which is removed. An id
+                   that no version has is then used up, as it is at FROM.
+  --new-ids        gives new ids, and prints what each one becomes. Messages that were written with the old ones can't be
+                   read by them any more.
+  --without-modes  leaves out modes that TO doesn't have, also where it has none at all: all is READWRITE there.
+
+avroreg gives numbers and ids in order, so a gap in the numbers is made by what makes one: the next schema is registered,
+softly deleted, registered again, and the first one removed. All is written under the level NONE; levels and modes come last.
+At the end TO is read, and compared with what it has to hold.
+
+Every write has a retry key, made of FROM, subject, version, step and the name of the run, so this can be killed, and run
+again with the same words: what was done is answered again, and acts no second time. Where FROM has changed meanwhile, or
+other flags are given, that can't go on, and needs another new file.
+
+A registry that somebody writes to is read as it was at one moment, and what comes later isn't moved: freeze FROM (mode
+READONLY), or its writers, before a move. Not seen over HTTP, so not moved: levels and modes of subjects without versions,
+what was kept for retry keys, evidence, schemas that no version has, and how many ids were given after the last that is seen.
+
+A password is taken from the environment: FROM_PASSWORD beside --from-user, TO_PASSWORD beside --to-user.
+
+Status: 0  all is moved, or with --dry-run: can be
+        1  it can't be moved so: what stands against it, and the flag; nothing was written
+        2  a registry can't be asked, or FROM changes all the time; run it again
+        3  TO answered a write otherwise than it has to, or differs at the end: take a new file
+        64 other words
+"""
+from __future__ import annotations
+
+import argparse
+import base64
+import hashlib
+import heapq
+import http.client
+import json
+import os
+import ssl
+import sys
+import time
+import urllib.parse
+from collections.abc import Iterator
+from dataclasses import dataclass, field, replace
+
+LEVELS = {"NONE", "BACKWARD", "FORWARD", "FULL", "BACKWARD_TRANSITIVE", "FORWARD_TRANSITIVE", "FULL_TRANSITIVE"}
+MODES = {"READWRITE", "READONLY"}
+NO_LEVEL = {"compatibility": "no level"}  # which is refused, so a command that changes nothing
+PAUSES = [0, 0.1, 0.3, 1, 3, 5]  # seconds before a request is sent again
+READINGS = 5  # of FROM, until two in a row are equal
+BODY = 1_048_576  # bytes of a request's body that avroreg takes
+MOST = 100_000  # unused numbers in front of a version, and unused ids in all, that are made
+SKIP, FILL, NEW, MODELESS = "--skip", "--fill-ids", "--new-ids", "--without-modes"
+CANNOT, UNASKED, DIFFERS, USAGE = 1, 2, 3, 64
+
+
+class Stop(Exception):
+    """Ends the program with a status and what there is to say."""
+
+    def __init__(self, status: int, text: str):
+        super().__init__(text)
+        self.status = status
+
+
+class Changed(Exception):
+    """A version that was listed isn't there any more."""
+
+
+# Asking
+
+
+@dataclass(frozen=True)
+class Answer:
+    status: int
+    value: object
+
+    @property
+    def code(self):
+        """The `error_code` of a fault."""
+        return self.value.get("error_code") if isinstance(self.value, dict) else None
+
+    def __str__(self):
+        return f"{self.status} {json.dumps(self.value, ensure_ascii=False)[:300]}"
+
+
+class Server:
+    """A registry, asked on a connection that is kept."""
+
+    def __init__(self, url: str, user: str | None, password: str | None, authority: str | None):
+        parts = urllib.parse.urlsplit(url)
+        self.url, self.path = url.rstrip("/"), parts.path.rstrip("/")
+        self.fields = {"Accept": "application/vnd.schemaregistry.v1+json, application/json"}
+        if user is not None:
+            self.fields["Authorization"] = "Basic " + base64.b64encode(f"{user}:{password}".encode()).decode()
+        if parts.scheme == "https":
+            context = ssl.create_default_context(cafile=authority)
+            self.connection = http.client.HTTPSConnection(parts.hostname, parts.port, timeout=60, context=context)
+        else:
+            self.connection = http.client.HTTPConnection(parts.hostname, parts.port, timeout=60)
+
+    def ask(self, method: str, path: str, body: object = None, key: str | None = None) -> Answer:
+        """The answer; asked again where none comes, or the server can't give one now. A write has a key, so it acts once."""
+        problem = None
+        for pause in PAUSES:
+            time.sleep(pause)
+            try:
+                answer = self.once(method, path, body, key)
+            except ssl.SSLCertVerificationError as fault:
+                raise Stop(UNASKED, f"{self.url}: {fault}") from fault
+            except (OSError, http.client.HTTPException, ValueError) as fault:
+                self.connection.close()
+                problem = f"{type(fault).__name__}: {fault}"
+            else:
+                if answer.status not in (429, 500, 502, 503, 504):
+                    return answer
+                problem = answer
+        raise Stop(UNASKED, f"{self.url}{path}: {problem}")
+
+    def once(self, method: str, path: str, body: object, key: str | None) -> Answer:
+        fields = dict(self.fields)
+        if key:
+            fields["Registry-Retry-Key"] = key
+        if body is not None:
+            fields["Content-Type"] = "application/vnd.schemaregistry.v1+json"
+            body = body_of(body)
+        self.connection.request(method, self.path + path, body, fields)
+        answer = self.connection.getresponse()
+        data = answer.read()
+        try:
+            return Answer(answer.status, json.loads(data))
+        except ValueError:
+            return Answer(answer.status, data.decode(errors="replace"))
+
+    def find(self, path: str) -> object:
+        """What a path shows, or None where the registry says that there is none."""
+        answer = self.ask("GET", path)
+        if answer.status == 404 and answer.code is not None:
+            return None
+        if answer.status != 200 or isinstance(answer.value, str):
+            raise Stop(UNASKED, f"{self.url}{path}: {answer}")
+        return answer.value
+
+    def get(self, path: str) -> object:
+        found = self.find(path)
+        if found is None:
+            raise Stop(UNASKED, f"{self.url}{path}: 404")
+        return found
+
+    def offers(self, path: str) -> bool:
+        """Whether the registry has this path, which not all have."""
+        answer = self.ask("GET", path)
+        if answer.status not in (200, 404, 405):
+            raise Stop(UNASKED, f"{self.url}{path}: {answer}")
+        return answer.status == 200
+
+
+def body_of(value: object) -> bytes:
+    return json.dumps(value, ensure_ascii=False).encode()
+
+
+def quoted(name: str) -> str:
+    return urllib.parse.quote(name, safe="")
+
+
+def versions_of(name: str) -> str:
+    return f"/subjects/{quoted(name)}/versions"
+
+
+# Reading
+
+
+@dataclass(frozen=True)
+class Version:
+    number: int
+    id: int
+    text: str
+    deleted: bool = False
+    beside: tuple[str, ...] = ()  # what it has that avroreg doesn't take
+
+
+@dataclass(frozen=True)
+class Subject:
+    versions: tuple[Version, ...]
+    level: str | None = None
+    mode: str | None = None
+    beside: tuple[str, ...] = ()
+    context: bool = False  # whether it is one of a context
+
+
+@dataclass(frozen=True)
+class Registry:
+    subjects: dict[str, Subject]
+    level: str
+    mode: str | None  # None where it has no modes
+    beside: tuple[str, ...] = ()
+
+    def versions(self) -> Iterator[tuple[str, Version]]:
+        return ((name, version) for name, subject in self.subjects.items() for version in subject.versions)
+
+    def __str__(self):
+        versions = [version for _, version in self.versions()]
+        return (f"{len(self.subjects)} subjects, {len(versions)} versions, {sum(it.deleted for it in versions)} of them "
+                f"soft-deleted, {len({it.id for it in versions})} ids, "
+                f"{sum(it.level is not None for it in self.subjects.values())} own levels, "
+                f"{sum(it.mode is not None for it in self.subjects.values())} own modes")
+
+
+def beside_schema(shown: dict) -> Iterator[str]:
+    if shown.get("schemaType") not in (None, "AVRO"):
+        yield f"schemaType {shown['schemaType']}"
+    yield from (member for member in ("references", "metadata", "ruleSet") if shown.get(member))
+
+
+def beside_level(shown: dict | None) -> tuple[str, ...]:
+    return tuple(member for member, value in sorted((shown or {}).items()) if value and member != "compatibilityLevel")
+
+
+def read_version(server: Server, name: str, number: int, deleted: bool) -> Version:
+    shown = server.find(f"{versions_of(name)}/{number}?deleted=true")
+    if shown is None:
+        raise Changed
+    return Version(number, shown["id"], shown["schema"], deleted, tuple(beside_schema(shown)))
+
+
+def read_subject(server: Server, name: str, modes: bool, contexts: bool) -> Subject:
+    live = server.find(versions_of(name)) or []
+    numbers = sorted(server.find(f"{versions_of(name)}?deleted=true") or [])
+    versions = tuple(read_version(server, name, number, number not in live) for number in numbers)
+    level = server.find(f"/config/{quoted(name)}")
+    mode = server.find(f"/mode/{quoted(name)}") if modes else None
+    return Subject(versions, level and level["compatibilityLevel"], mode and mode["mode"], beside_level(level),
+                   contexts and name.startswith(":."))
+
+
+def read(server: Server) -> Registry:
+    names = sorted(server.get("/subjects?deleted=true"))
+    modes, contexts = server.offers("/mode"), server.offers("/contexts")
+    level, mode = server.get("/config"), server.get("/mode")["mode"] if modes else None
+    subjects = {name: read_subject(server, name, modes, contexts) for name in names}
+    return Registry({name: subject for name, subject in subjects.items() if subject.versions},
+                    level["compatibilityLevel"], mode, beside_level(level))
+
+
+def read_at_one_moment(server: Server) -> Registry:
+    """The registry as two readings in a row say that it is: so it was at each moment between them."""
+    last = None
+    for _ in range(READINGS):
+        try:
+            found = read(server)
+        except Changed:
+            found = None
+        if found is not None and found == last:
+            return found
+        last = found
+    raise Stop(UNASKED, f"{server.url} changes all the time: freeze it, or its writers")
+
+
+# The identity text of a schema, by docs/avro-registry-profile.md. It is known to be one, since the target has taken it.
+
+PRIMITIVES = {"null", "boolean", "int", "long", "float", "double", "bytes", "string"}
+
+
+def compact(value: object) -> str:
+    return json.dumps(value, ensure_ascii=False, separators=(",", ":"), sort_keys=True)
+
+
+def in_space(name: str, space: str) -> str:
+    return name if "." in name or not space else f"{space}.{name}"
+
+
+def plain_reference(name: str, space: str, known: set[str]) -> str:
+    full = in_space(name, space)
+    return full if full in known else name
+
+
+def plain_field(member: dict, space: str, known: set[str]) -> dict:
+    found = {**member, "type": plain(member["type"], space, known)}
+    if found.get("aliases") == []:
+        del found["aliases"]
+    if found.get("order") == "ascending":
+        del found["order"]
+    return found
+
+
+def plain_definition(schema: dict, outer: str, known: set[str]) -> dict:
+    full = in_space(schema["name"], schema.get("namespace", outer))
+    space = full.rpartition(".")[0]
+    known.add(full)
+    found = {**schema, "name": full}
+    found.pop("namespace", None)
+    if outer and not space:
+        found["namespace"] = ""
+    found["aliases"] = [in_space(alias, space) for alias in schema.get("aliases", [])]
+    if not found["aliases"]:
+        del found["aliases"]
+    if schema["type"] == "record":
+        found["fields"] = [plain_field(member, space, known) for member in schema["fields"]]
+    return found
+
+
+def plain(schema: object, space: str, known: set[str]) -> object:
+    if isinstance(schema, list):
+        return [plain(branch, space, known) for branch in schema]
+    kind = schema if isinstance(schema, str) else schema["type"]
+    if kind in PRIMITIVES:
+        return kind if schema == kind or len(schema) == 1 else schema
+    if kind in ("record", "enum", "fixed") and kind is not schema:
+        return plain_definition(schema, space, known)
+    if kind in ("array", "map") and kind is not schema:
+        inner = "items" if kind == "array" else "values"
+        return {**schema, inner: plain(schema[inner], space, known)}
+    return plain_reference(kind, space, known)
+
+
+def identity(text: str) -> str:
+    return compact(plain(json.loads(text, parse_float=lambda number: int(number.partition(".")[0])), "", set()))
+
+
+# Planning
+
+
+@dataclass(frozen=True)
+class Trouble:
+    """What can't be moved as it is, and the flag with which the rest can."""
+    flag: str
+    where: str
+    what: str
+
+
+@dataclass(frozen=True)
+class Step:
+    """A write, and the answer that it has to get."""
+    subject: str
+    version: int  # 0 where it is of none
+    name: str
+    method: str
+    path: str
+    body: dict | None
+    wanted: object
+
+    def key(self, source: str, run: str) -> str:
+        named = [source, self.subject, self.version, self.name, run]
+        return hashlib.sha256(json.dumps(named).encode()).hexdigest()
+
+
+@dataclass
+class Plan:
+    steps: list[Step] = field(default_factory=list)
+    troubles: list[Trouble] = field(default_factory=list)
+    renumbered: dict[int, int] = field(default_factory=dict)
+    wanted: Registry | None = None  # what the target holds at the end
+
+    def trouble(self, flag: str, where: str, what: str):
+        self.troubles.append(Trouble(flag, where, what))
+
+    def step(self, *members):
+        self.steps.append(Step(*members))
+
+    def register(self, name: str, number: int, text: str, identifier: int):
+        self.step(name, number, "register", "POST", versions_of(name), {"schema": text}, {"id": identifier})
+
+    def delete(self, name: str, number: int):
+        self.step(name, number, "delete", "DELETE", f"{versions_of(name)}/{number}", None, number)
+
+    def remove(self, name: str, number: int):
+        self.step(name, number, "remove", "DELETE", f"{versions_of(name)}/{number}?permanent=true", None, number)
+
+    def remove_subject(self, name: str, count: int):
+        numbers = list(range(1, count + 1))
+        self.step(name, 0, "delete", "DELETE", f"/subjects/{quoted(name)}", None, numbers)
+        self.step(name, 0, "remove", "DELETE", f"/subjects/{quoted(name)}?permanent=true", None, numbers)
+
+    def put(self, kind: str, name: str, member: str, value: str):
+        path = f"/{kind}/{quoted(name)}" if name else f"/{kind}"
+        self.step(name, 0, kind, "PUT", path, {member: value}, {member: value})
+
+
+def spare_subject(registry: Registry) -> str:
+    """A subject that the registry doesn't have."""
+    name = "from-confluent"
+    while name in registry.subjects:
+        name += "-"
+    return name
+
+
+def refusals(target: Server, registry: Registry, spare: str) -> dict[str, str]:
+    """What the target says to each text that it doesn't take, asked by the check of a schema, which writes nothing."""
+    refused = {}
+    for text in sorted({version.text for _, version in registry.versions() if not version.beside}):
+        if len(body_of({"schema": text})) > BODY:
+            refused[text] = f"takes a request of more than {BODY:,} bytes"
+            continue
+        answer = target.ask("POST", f"/compatibility{versions_of(spare)}", {"schema": text})
+        if answer.status in (400, 413, 422):
+            refused[text] = f"avroreg answers {answer}"
+        elif answer.status != 200:
+            raise Stop(UNASKED, f"{target.url}: the check of a schema is answered {answer}")
+    return refused
+
+
+def is_subject(name: str) -> bool:
+    return 1 <= len(name.encode()) <= 255 and all(letter >= " " and letter != "\x7f" for letter in name)
+
+
+def taken_versions(plan: Plan, name: str, subject: Subject, refused: dict[str, str]) -> Iterator[Version]:
+    """The versions that can be moved, by their identity texts."""
+    live, last = {}, 0
+    for version in subject.versions:
+        against = list(version.beside)
+        if version.text in refused:
+            against.append(refused[version.text])
+        if not against:
+            version = replace(version, text=identity(version.text))
+            if version.text in live:
+                against.append(f"has the schema of version {live[version.text]}, which is live")
+        if version.number - last > MOST:
+            against.append(f"has more than {MOST:,} unused numbers in front of it")
+        if against:
+            plan.trouble(SKIP, f"{name} {version.number}", ", ".join(against))
+            continue
+        last = version.number
+        if not version.deleted:
+            live[version.text] = version.number
+        yield version
+
+
+def taken_level(plan: Plan, where: str, level: str | None, beside: tuple[str, ...]) -> str | None:
+    for member in beside:
+        plan.trouble(SKIP, where, f"has {member} beside its level")
+    if level is None or level in LEVELS:
+        return level
+    plan.trouble(SKIP, where, f"has the level {level}")
+    return None
+
+
+def taken_mode(plan: Plan, where: str, mode: str | None, has_modes: bool) -> str | None:
+    if mode is None or (mode in MODES and (has_modes or mode == "READWRITE")):
+        return mode if has_modes else None
+    plan.trouble(MODELESS, where, f"has the mode {mode}")
+    return None
+
+
+def taken(plan: Plan, registry: Registry, refused: dict[str, str], has_modes: bool) -> Registry:
+    """What of a registry can be moved, by identity texts."""
+    subjects = {}
+    for name, subject in registry.subjects.items():
+        if subject.context or not is_subject(name):
+            plan.trouble(SKIP, name, "stands in a context" if subject.context else "is too long, or has control characters")
+            continue
+        versions = tuple(taken_versions(plan, name, subject, refused))
+        level = taken_level(plan, name, subject.level, subject.beside)
+        mode = taken_mode(plan, name, subject.mode, has_modes)
+        if versions:
+            subjects[name] = Subject(versions, level, mode)
+    level = taken_level(plan, "The registry", registry.level, registry.beside) or "BACKWARD"
+    mode = taken_mode(plan, "The registry", registry.mode, has_modes)
+    return Registry(subjects, level, mode or ("READWRITE" if has_modes else None))
+
+
+def look_at_twins(plan: Plan, registry: Registry):
+    """Ids that can't be kept in any order: two with one schema here, and one with two."""
+    texts, ids = {}, {}
+    for name, version in registry.versions():
+        first = ids.setdefault(version.text, version.id)
+        if first != version.id:
+            plan.trouble(NEW, f"{name} {version.number}", f"has the id {version.id}, and here the schema of id {first}")
+        elif texts.setdefault(version.id, version.text) != version.text:
+            plan.trouble(NEW, f"{name} {version.number}", f"has the id {version.id}, as another schema has")
+
+
+def by_ids(registry: Registry) -> Iterator[tuple[str, Version]]:
+    """All versions, those of a subject in their order, each time the one with the least id. So ids come in order where an
+    order of the versions has them so."""
+    rows = {name: subject.versions for name, subject in registry.subjects.items()}
+    queue = [(versions[0].id, name, 0) for name, versions in rows.items()]
+    heapq.heapify(queue)
+    while queue:
+        _, name, at = heapq.heappop(queue)
+        yield name, rows[name][at]
+        if at + 1 < len(rows[name]):
+            heapq.heappush(queue, (rows[name][at + 1].id, name, at + 1))
+
+
+def look_at_ids(plan: Plan, registry: Registry):
+    """Says which ids don't come as 1, 2, 3.. by themselves."""
+    given, came = 0, set()
+    for name, version in by_ids(registry):
+        if version.id < given and version.id not in came:
+            plan.trouble(FILL, f"{name} {version.number}", f"has the id {version.id}, and stands behind id {given}")
+        came.add(version.id)
+        given = max(given, version.id)
+    numbers = sorted(came)
+    flag = NEW if given - len(numbers) > MOST else FILL
+    for before, after in zip([0, *numbers], numbers):
+        if after - before > 1:
+            ids = f"Id {before + 1}" if after - before == 2 else f"Ids {before + 1} to {after - 1}"
+            plan.trouble(flag, ids, "no version has any more")
+
+
+def renumber(registry: Registry) -> tuple[Registry, dict[int, int]]:
+    """The registry with the ids that its schemas get where they are registered by the order of their ids."""
+    given, becomes = {}, {}
+    for _, version in by_ids(registry):
+        becomes[version.id] = given.setdefault(version.text, len(given) + 1)
+    subjects = {name: replace(subject, versions=tuple(replace(it, id=given[it.text]) for it in subject.versions))
+                for name, subject in registry.subjects.items()}
+    return replace(registry, subjects=subjects), becomes
+
+
+def write_version(plan: Plan, name: str, version: Version, last: int):
+    """A version behind the last one of its subject. Numbers between them are used by its own schema, and given up."""
+    gap = range(last + 1, version.number)
+    for number in gap:
+        plan.register(name, number, version.text, version.id)
+        plan.delete(name, number)
+    plan.register(name, version.number, version.text, version.id)
+    if version.deleted:
+        plan.delete(name, version.number)
+    for number in gap:
+        plan.remove(name, number)
+
+
+def placeholder(identifier: int) -> str:
+    """A schema for an id that no version has."""
+    return compact({"name": f"from_confluent.unused_{identifier}", "size": 0, "type": "fixed"})
+
+
+def write_versions(plan: Plan, registry: Registry, spare: str):
+    """All versions, and under the spare subject the schemas of the ids that don't come by themselves."""
+    texts = {version.id: version.text for _, version in registry.versions()}
+    given, filled, last = 0, 0, {}
+    for name, version in by_ids(registry):
+        for missing in range(given + 1, version.id):
+            filled += 1
+            plan.register(spare, filled, texts.get(missing) or placeholder(missing), missing)
+        given = max(given, version.id)
+        write_version(plan, name, version, last.get(name, 0))
+        last[name] = version.number
+    if filled:
+        plan.remove_subject(spare, filled)
+
+
+def write_settings(plan: Plan, registry: Registry):
+    """Levels, and then modes, which forbid writes."""
+    for name, subject in registry.subjects.items():
+        if subject.level is not None:
+            plan.put("config", name, "compatibility", subject.level)
+    plan.put("config", "", "compatibility", registry.level)
+    for name, subject in registry.subjects.items():
+        if subject.mode is not None:
+            plan.put("mode", name, "mode", subject.mode)
+    if registry.mode is not None:
+        plan.put("mode", "", "mode", registry.mode)
+
+
+def lay_out(plan: Plan, spare: str):
+    """The steps of the plan. The first one's key is that of a run with exactly these."""
+    write_versions(plan, plan.wanted, spare)
+    write_settings(plan, plan.wanted)
+    steps = json.dumps([vars(step) for step in plan.steps])
+    level = {"compatibility": "NONE"}
+    plan.steps.insert(0, Step("", 0, f"begin {hashlib.sha256(steps.encode()).hexdigest()}", "PUT", "/config", level, level))
+
+
+def plan_of(source: Registry, target: Server, spare: str, flags: argparse.Namespace) -> Plan:
+    """What is moved and what stands against it, without its steps."""
+    plan = Plan()
+    has_modes = target.offers("/mode")
+    registry = taken(plan, source, refusals(target, source, spare), has_modes)
+    if flags.new_ids:
+        registry, plan.renumbered = renumber(registry)
+    else:
+        look_at_twins(plan, registry)
+        look_at_ids(plan, registry)
+    plan.wanted = registry
+    return plan
+
+
+# What stands against a plan
+
+
+def look_at_flags(plan: Plan, flags: argparse.Namespace):
+    given = {SKIP: flags.skip, FILL: flags.fill_ids, NEW: flags.new_ids, MODELESS: flags.without_modes}
+    for trouble in plan.troubles:
+        print(f"{trouble.where}: {trouble.what}")
+    missing = {trouble.flag for trouble in plan.troubles if not given[trouble.flag]}
+    if missing:
+        words = [f"{FILL} or {NEW}" if flag == FILL and NEW not in missing else flag for flag in sorted(missing)]
+        if NEW in missing:
+            words = [word for word in words if word != FILL]
+        raise Stop(CANNOT, f"nothing was written: this needs {', '.join(words)}, which --help explains")
+
+
+def look_at_keys(target: Server):
+    """Whether the target looks at retry keys: a level that is none isn't set in any case."""
+    if target.ask("PUT", "/config", NO_LEVEL, "no key").code != 40001:
+        raise Stop(CANNOT, f"{target.url} is no avroreg, or doesn't get the field Registry-Retry-Key")
+
+
+def look_at_target(target: Server, plan: Plan, source: str, run: str, dry: bool):
+    """Whether the target is empty, or the one in which this run has begun: then the first key is known there, and another
+    command under it is refused for that."""
+    if target.get("/subjects?deleted=true"):
+        if dry:
+            print(f"{target.url} isn't empty: a move goes on only where it has begun there")
+        elif target.ask("PUT", "/config", NO_LEVEL, plan.steps[0].key(source, run)).code != 42290:
+            raise Stop(CANNOT, f"{target.url} isn't empty, and no run named {run} with these steps has begun there: "
+                               "take a new file")
+    elif target.offers("/mode") and target.get("/mode")["mode"] != "READWRITE":
+        raise Stop(CANNOT, f"{target.url} forbids writes by its mode")
+
+
+# Writing, and comparing
+
+
+def write(target: Server, plan: Plan, source: str, run: str):
+    for count, step in enumerate(plan.steps, 1):
+        answer = target.ask(step.method, step.path, step.body, step.key(source, run))
+        if answer != Answer(200, step.wanted):
+            raise Stop(DIFFERS, f"{step.method} {step.path} had to be answered {Answer(200, step.wanted)}, and was {answer}")
+        if count % 100 == 0 or count == len(plan.steps):
+            print(f"written {count} of {len(plan.steps)}", flush=True)
+
+
+def members(registry: Registry) -> dict[str, object]:
+    """A registry as a list of facts."""
+    found = {"level": registry.level, "mode": registry.mode}
+    for name, subject in registry.subjects.items():
+        found |= {f"level of {name}": subject.level, f"mode of {name}": subject.mode}
+        found |= {f"version {it.number} of {name}": it for it in subject.versions}
+    return {name: value for name, value in found.items() if value is not None}
+
+
+def compare(wanted: Registry, target: Server):
+    wanted, found = members(wanted), members(read(target))
+    differences = [name for name in sorted(wanted.keys() | found.keys()) if wanted.get(name) != found.get(name)]
+    for name in differences[:20]:
+        print(f"{name}: wanted {wanted.get(name)}, found {found.get(name)}")
+    if differences:
+        raise Stop(DIFFERS, f"{len(differences)} differences: {target.url} isn't as it has to be")
+
+
+# The words
+
+
+class Words(argparse.ArgumentParser):
+    def error(self, message):
+        self.print_usage(sys.stderr)
+        self.exit(USAGE, f"{self.prog}: {message}\n")
+
+
+def url(text: str) -> str:
+    parts = urllib.parse.urlsplit(text)
+    if parts.scheme not in ("http", "https") or not parts.hostname or parts.username or parts.query:
+        raise argparse.ArgumentTypeError("a URL is http://HOST[:PORT][/PATH] or https://.., without a user")
+    return text
+
+
+def words() -> argparse.Namespace:
+    parser = Words(prog="from-confluent.py", description=__doc__, allow_abbrev=False,
+                   formatter_class=argparse.RawDescriptionHelpFormatter)
+    parser.add_argument("source", metavar="FROM", type=url, help="the registry that is read")
+    parser.add_argument("target", metavar="TO", type=url, help="the avroreg that is written to")
+    parser.add_argument("--dry-run", action="store_true", help="says what it would do, and writes nothing")
+    parser.add_argument("--run", metavar="NAME", default="move", help="the name of the run, a part of its keys; %(default)s")
+    parser.add_argument(SKIP, action="store_true", help="leaves out what avroreg doesn't take")
+    ids = parser.add_mutually_exclusive_group()
+    ids.add_argument(FILL, action="store_true", help="keeps ids that don't come by themselves")
+    ids.add_argument(NEW, action="store_true", help="gives new ids")
+    parser.add_argument(MODELESS, action="store_true", help="leaves out modes that TO doesn't have")
+    for side, name in (("from", "FROM"), ("to", "TO")):
+        parser.add_argument(f"--{side}-user", metavar="USER", help=f"the user at {name}; {name}_PASSWORD has the password")
+        parser.add_argument(f"--{side}-ca", metavar="FILE", help=f"the certificates by which {name} is known")
+    return parser.parse_args()
+
+
+def move(flags: argparse.Namespace):
+    source = Server(flags.source, flags.from_user, os.environ.get("FROM_PASSWORD", ""), flags.from_ca)
+    target = Server(flags.target, flags.to_user, os.environ.get("TO_PASSWORD", ""), flags.to_ca)
+    look_at_keys(target)
+    registry = read_at_one_moment(source)
+    print(f"{source.url} has {registry}", flush=True)
+    spare = spare_subject(registry)
+    plan = plan_of(registry, target, spare, flags)
+    look_at_flags(plan, flags)
+    lay_out(plan, spare)
+    look_at_target(target, plan, source.url, flags.run, flags.dry_run)
+    for old, new in sorted(plan.renumbered.items()):
+        if old != new:
+            print(f"id {old} becomes {new}")
+    print(f"{target.url} gets {plan.wanted}, by {len(plan.steps)} writes", flush=True)
+    if not flags.dry_run:
+        write(target, plan, source.url, flags.run)
+        compare(plan.wanted, target)
+        print(f"{target.url} was read, and has {plan.wanted}, each as it has to be")
+
+
+def main():
+    flags = words()
+    try:
+        move(flags)
+    except Stop as stop:
+        sys.stdout.flush()
+        print(f"from-confluent.py: {stop}", file=sys.stderr)
+        sys.exit(stop.status)
+
+
+if __name__ == "__main__":
+    main()
