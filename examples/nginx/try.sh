@@ -1,6 +1,7 @@
 #!/usr/bin/env bash
-# Runs avroreg alone and avroreg behind nginx, on new files and free ports, and holds the second to the first; then
-# runs the clients of examples/clients eight at once, and eight clients at a steady rate. Installs what it needs.
+# Runs avroreg alone and avroreg behind nginx, on new files and free ports, and holds the second to the first; sends writes
+# as pages of this origin and of others would; then runs the clients of examples/clients eight at once, and eight clients
+# at a steady rate. Installs what it needs.
 # Ends with status 0 where no request was lost and each answer was as it has to be.
 #
 #   AVROREG=PROGRAM examples/nginx/try.sh [SECONDS] [RATE]     of the steady run: 20 seconds, 20 a second and client
@@ -16,6 +17,32 @@ alone=${url##*:}
 start_server "$scratch/behind.db"
 start_nginx same "${url##*:}"
 "$python" "$here/same.py" "$alone" "$front" || fail "an answer behind nginx differed"
+
+# page STATUS ORIGIN METHOD PATH [BODY]: what a page of an origin gets; the body as a page may send it without asking first.
+page() {
+  local found
+  found=$(curl -s -o "$scratch/page" -w '%{http_code}' -H "Origin: $2" -H 'Content-Type: text/plain' -X "$3" ${5:+-d "$5"} \
+    "http://127.0.0.1:$front$4")
+  [ "$found" = "$1" ] || fail "$3 $4 of a page of $2 was answered $found"
+  [ "$1" != 403 ] || [ "$(cat "$scratch/page")" = '{"error_code":403,"message":"Origin is another one"}' ] ||
+    fail "a page of $2 was answered $(cat "$scratch/page")"
+}
+
+own=http://127.0.0.1:$front
+schema='{"schema":"\"int\""}'
+for origin in http://example.org "${own/http/https}" "$own.example.org" "${own/:$front/:8081}" null; do
+  page 403 "$origin" POST /subjects/pages/versions "$schema"
+  page 403 "$origin" POST /subjects/pages "$schema"
+  page 403 "$origin" PUT /config '{"compatibility":"NONE"}'
+  page 403 "$origin" DELETE /subjects/pages
+  page 200 "$origin" GET /config
+  page 404 "$origin" GET /subjects/pages/versions
+done
+page 200 "$own" POST /subjects/pages/versions "$schema"
+page 200 "$own" PUT /config/pages '{"compatibility":"FULL"}'
+page 200 "$own" GET /subjects/pages/versions
+page 200 "$own" DELETE /subjects/pages
+echo "writes of pages of five other origins: 403; of its own: 200"
 
 for at in 1 2 3 4 5 6 7 8; do
   "$python" "$examples/clients/confluent.py" "http://127.0.0.1:$front" "client$at." >"$scratch/client$at" 2>&1 &
