@@ -30,9 +30,10 @@ Every write has a retry key, made of FROM, subject, version, step and the name o
 again with the same words: what was done is answered again, and acts no second time. Where FROM has changed meanwhile, or
 other flags are given, that can't go on, and needs another new file.
 
-A registry that somebody writes to is read as it was at one moment, and what comes later isn't moved: freeze FROM (mode
-READONLY), or its writers, before a move. Not seen over HTTP, so not moved: levels and modes of subjects without versions,
-what was kept for retry keys, evidence, schemas that no version has, and how many ids were given after the last that is seen.
+A registry that somebody writes to is read as it was at one moment, and what comes later isn't moved: stop the writers
+before a move, or set FROM's mode to READONLY, which is moved too. Not seen over HTTP, so not moved: levels and modes of
+subjects without versions, what was kept for retry keys, evidence, schemas that no version has, and how many ids were given
+after the last that is seen.
 
 A password is taken from the environment: FROM_PASSWORD beside --from-user, TO_PASSWORD beside --to-user.
 
@@ -64,7 +65,7 @@ NO_LEVEL = {"compatibility": "no level"}  # which is refused, so a command that 
 PAUSES = [0, 0.1, 0.3, 1, 3, 5]  # seconds before a request is sent again
 READINGS = 5  # of FROM, until two in a row are equal
 BODY = 1_048_576  # bytes of a request's body that avroreg takes
-MOST = 100_000  # unused numbers in front of a version, and unused ids in all, that are made
+MOST = 1_000_000  # unused numbers in front of a version, and unused ids in all, that are made
 SKIP, FILL, NEW, MODELESS = "--skip", "--fill-ids", "--new-ids", "--without-modes"
 CANNOT, UNASKED, DIFFERS, USAGE = 1, 2, 3, 64
 
@@ -77,8 +78,11 @@ class Stop(Exception):
         self.status = status
 
 
-class Changed(Exception):
+class Changed(Stop):
     """A version that was listed isn't there any more."""
+
+    def __init__(self, where: str):
+        super().__init__(UNASKED, f"{where} went while it was read")
 
 
 # Asking
@@ -147,7 +151,7 @@ class Server:
             return Answer(answer.status, data.decode(errors="replace"))
 
     def find(self, path: str) -> object:
-        """What a path shows, or None where the registry says that there is none."""
+        """What a path shows, or None where the registry says that there is no such thing."""
         answer = self.ask("GET", path)
         if answer.status == 404 and answer.code is not None:
             return None
@@ -233,12 +237,12 @@ def beside_level(shown: dict | None) -> tuple[str, ...]:
 def read_version(server: Server, name: str, number: int, deleted: bool) -> Version:
     shown = server.find(f"{versions_of(name)}/{number}?deleted=true")
     if shown is None:
-        raise Changed
+        raise Changed(f"{server.url}{versions_of(name)}/{number}")
     return Version(number, shown["id"], shown["schema"], deleted, tuple(beside_schema(shown)))
 
 
 def read_subject(server: Server, name: str, modes: bool, contexts: bool) -> Subject:
-    live = server.find(versions_of(name)) or []
+    live = set(server.find(versions_of(name)) or [])
     numbers = sorted(server.find(f"{versions_of(name)}?deleted=true") or [])
     versions = tuple(read_version(server, name, number, number not in live) for number in numbers)
     level = server.find(f"/config/{quoted(name)}")
@@ -264,6 +268,8 @@ def read_at_one_moment(server: Server) -> Registry:
             found = read(server)
         except Changed:
             found = None
+        except (KeyError, TypeError) as fault:
+            raise Stop(UNASKED, f"{server.url} answers in a form that isn't known: {fault!r}") from fault
         if found is not None and found == last:
             return found
         last = found
@@ -362,6 +368,7 @@ class Step:
 class Plan:
     steps: list[Step] = field(default_factory=list)
     troubles: list[Trouble] = field(default_factory=list)
+    spelt: dict[str, str] = field(default_factory=dict)  # by identity text, a text as the source has it
     renumbered: dict[int, int] = field(default_factory=dict)
     wanted: Registry | None = None  # what the target holds at the end
 
@@ -372,7 +379,8 @@ class Plan:
         self.steps.append(Step(*members))
 
     def register(self, name: str, number: int, text: str, identifier: int):
-        self.step(name, number, "register", "POST", versions_of(name), {"schema": text}, {"id": identifier})
+        body = {"schema": self.spelt.get(text, text)}
+        self.step(name, number, "register", "POST", versions_of(name), body, {"id": identifier})
 
     def delete(self, name: str, number: int):
         self.step(name, number, "delete", "DELETE", f"{versions_of(name)}/{number}", None, number)
@@ -425,7 +433,8 @@ def taken_versions(plan: Plan, name: str, subject: Subject, refused: dict[str, s
         if version.text in refused:
             against.append(refused[version.text])
         if not against:
-            version = replace(version, text=identity(version.text))
+            spelt, version = version.text, replace(version, text=identity(version.text))
+            plan.spelt.setdefault(version.text, spelt)
             if version.text in live:
                 against.append(f"has the schema of version {live[version.text]}, which is live")
         if version.number - last > MOST:
@@ -463,10 +472,9 @@ def taken(plan: Plan, registry: Registry, refused: dict[str, str], has_modes: bo
             plan.trouble(SKIP, name, "stands in a context" if subject.context else "is too long, or has control characters")
             continue
         versions = tuple(taken_versions(plan, name, subject, refused))
-        level = taken_level(plan, name, subject.level, subject.beside)
-        mode = taken_mode(plan, name, subject.mode, has_modes)
         if versions:
-            subjects[name] = Subject(versions, level, mode)
+            level = taken_level(plan, name, subject.level, subject.beside)
+            subjects[name] = Subject(versions, level, taken_mode(plan, name, subject.mode, has_modes))
     level = taken_level(plan, "The registry", registry.level, registry.beside) or "BACKWARD"
     mode = taken_mode(plan, "The registry", registry.mode, has_modes)
     return Registry(subjects, level, mode or ("READWRITE" if has_modes else None))
@@ -500,7 +508,9 @@ def look_at_ids(plan: Plan, registry: Registry):
     """Says which ids don't come as 1, 2, 3.. by themselves."""
     given, came = 0, set()
     for name, version in by_ids(registry):
-        if version.id < given and version.id not in came:
+        if version.id < 1:
+            plan.trouble(NEW, f"{name} {version.number}", f"has the id {version.id}")
+        elif version.id < given and version.id not in came:
             plan.trouble(FILL, f"{name} {version.number}", f"has the id {version.id}, and stands behind id {given}")
         came.add(version.id)
         given = max(given, version.id)
@@ -599,11 +609,11 @@ def look_at_flags(plan: Plan, flags: argparse.Namespace):
     for trouble in plan.troubles:
         print(f"{trouble.where}: {trouble.what}")
     missing = {trouble.flag for trouble in plan.troubles if not given[trouble.flag]}
+    if NEW in missing:
+        missing.discard(FILL)  # new ids need no other flag for ids
     if missing:
-        words = [f"{FILL} or {NEW}" if flag == FILL and NEW not in missing else flag for flag in sorted(missing)]
-        if NEW in missing:
-            words = [word for word in words if word != FILL]
-        raise Stop(CANNOT, f"nothing was written: this needs {', '.join(words)}, which --help explains")
+        words = ", ".join(f"{FILL} or {NEW}" if flag == FILL else flag for flag in sorted(missing))
+        raise Stop(CANNOT, f"nothing was written: this needs {words}, which --help explains")
 
 
 def look_at_keys(target: Server):
@@ -666,7 +676,7 @@ class Words(argparse.ArgumentParser):
 
 def url(text: str) -> str:
     parts = urllib.parse.urlsplit(text)
-    if parts.scheme not in ("http", "https") or not parts.hostname or parts.username or parts.query:
+    if parts.scheme not in ("http", "https") or not parts.hostname or parts.username or parts.query or parts.port == 0:
         raise argparse.ArgumentTypeError("a URL is http://HOST[:PORT][/PATH] or https://.., without a user")
     return text
 
@@ -677,7 +687,7 @@ def words() -> argparse.Namespace:
     parser.add_argument("source", metavar="FROM", type=url, help="the registry that is read")
     parser.add_argument("target", metavar="TO", type=url, help="the avroreg that is written to")
     parser.add_argument("--dry-run", action="store_true", help="says what it would do, and writes nothing")
-    parser.add_argument("--run", metavar="NAME", default="move", help="the name of the run, a part of its keys; %(default)s")
+    parser.add_argument("--run", metavar="NAME", default="move", help="the run's name, a part of its keys (%(default)s)")
     parser.add_argument(SKIP, action="store_true", help="leaves out what avroreg doesn't take")
     ids = parser.add_mutually_exclusive_group()
     ids.add_argument(FILL, action="store_true", help="keeps ids that don't come by themselves")

@@ -58,6 +58,7 @@ is_new() {
     fail "$1 was written to"
 }
 
+python3 "$here/identities.py" || fail "an identity text differs"
 start_server "$scratch/killed.db"
 first=$url
 modes=()
