@@ -46,7 +46,7 @@ module _ {S : Type 0} {g : Ghosts S} where
     failed = refl;
     clean = λ clean. clean;
     connection = record { counts = omega arith; stays_shut = λ _ is_open. is_open; closes = λ _ is_open. inl is_open };
-    settled = λ is_open db it. settles s.db.conn.store db is_open it;
+    settled = λ is_open db it. settles s.db.idle.conn.store db is_open it;
     same = λ _ was over. over;
     crash = λ _ db it. it;
   }

@@ -27,7 +27,7 @@ module _ {S T : Type 0} {g : Ghosts S} (settles : Settles g) (old new : Store S 
         clean = λ clean. clean;
         was_open = λ _. tt;
         connection = record { counts = omega arith; stays_shut = λ _ is_open. is_open; closes = λ _ is_open. inl is_open };
-        settled = λ is_open db it. settles old.db.conn.store db is_open it;
+        settled = λ is_open db it. settles old.db.idle.conn.store db is_open it;
       }))
 
   module _ (unfailed : has_failed old ≡ false) (failed_now : (result ≡ Err Disk) ↔ IsTrue (has_failed new)) (P : Trees → Type 0) (survives : Survives (state_of old) (state_of new) P)
@@ -39,7 +39,7 @@ module _ {S T : Type 0} {g : Ghosts S} (settles : Settles g) (old new : Store S 
       clean = λ clean. omega (arith, survives.clean);
       was_open = was_open;
       connection = record { counts = survives.counts; stays_shut = stays_shut; closes = survives.closes };
-      settled = λ is_open db it. settles new.db.conn.store db is_open it;
+      settled = λ is_open db it. settles new.db.idle.conn.store db is_open it;
     }
 
     -- a call that only reads

@@ -114,23 +114,23 @@ module _ {S : Type 0} {g : Ghosts S} where
 
   module _ {X : Type 0} {Tells : Stored → X → Type 0} {old new : Idle S g} {r : Result X StoreError} where
     -- a table was read
-    pub read : {Y : Type 0} {y : Y} → StaysIdle {E = Error} g old.conn new.conn (Ok y)
+    pub read : {Y : Type 0} {y : Y} → StaysIdle {E = Error} g old.idle.conn new.idle.conn (Ok y)
         → (HasCleanDisk (shown new) → (was : Stored) → IsOpenOver (shown old) was.registry was.replies → MatchResult r (Tells was) (IsFaultBy (shown old) (shown new))) → Reads old new r Tells
     read {y = y} frame answers = record {
-      may = record { rests = rests_read g old.conn new.conn (Ok y) frame; answers = λ clean was over. answers clean was (over (frame.was_open clean)) };
+      may = record { rests = rests_read g old.idle.conn new.idle.conn (Ok y) frame; answers = λ clean was over. answers clean was (over (frame.was_open clean)) };
       was_open = λ clean. on_ok_each r (frame.was_open clean);
     }
 
     -- it was, and then memory was refused
-    pub read_refused : {Y : Type 0} {y : Y} → StaysIdle {E = Error} g old.conn new.conn (Ok y) → IsErrAnd r (λ failure. failure ≡ Memory) → Reads old new r Tells
+    pub read_refused : {Y : Type 0} {y : Y} → StaysIdle {E = Error} g old.idle.conn new.idle.conn (Ok y) → IsErrAnd r (λ failure. failure ≡ Memory) → Reads old new r Tells
     read_refused frame is = read frame (λ clean was over. passed_on (Tells was) (IsFaultBy (shown old) (shown new)) r Memory is tt)
 
     -- it wasn't
-    pub not_read : {Y : Type 0} {e : Error} → StaysIdle {X = Y} g old.conn new.conn (Err e) → (HasCleanDisk (shown new) → CanBeRead (shown old) → IsFault (shown old) (shown new) e)
+    pub not_read : {Y : Type 0} {e : Error} → StaysIdle {X = Y} g old.idle.conn new.idle.conn (Err e) → (HasCleanDisk (shown new) → CanBeRead (shown old) → IsFault (shown old) (shown new) e)
         → IsErrAnd r (λ failure. failure ≡ failure_of e) → Reads old new r Tells
     not_read {e = e} frame fault is = record {
       may = record {
-        rests = rests_read g old.conn new.conn (Err e) frame;
+        rests = rests_read g old.idle.conn new.idle.conn (Err e) frame;
         answers = λ clean was over. passed_on (Tells was) (IsFaultBy (shown old) (shown new)) r (failure_of e) is (fault_by (shown old) (shown new) e old.unlimited (fault clean (can_be_read (shown old) was.registry was.replies over)));
       };
       was_open = λ clean. none_ok (IsTrue (shown old).is_open) r (failure_of e) is;

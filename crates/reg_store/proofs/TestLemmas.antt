@@ -144,7 +144,7 @@ unopened_can_be_read s g k over = λ is_open.
 
 module _ {S X : Type 0} (g : Ghosts S) (old new : Held S) where
   pub framed : {Y E F : Type 0} (a : Result X E) (b : Result Y F) → StaysIdle g old new a → (HasCleanDisk (state g new) → OnOk b (IsTrue (state g old).is_open)) → StaysIdle g old new b
-  framed a b f was_open = record { idle = f.idle; was_open = was_open; only_reads = f.only_reads; survives = f.survives }
+  framed a b f was_open = record { was_open = was_open; only_reads = f.only_reads; survives = f.survives }
 
   -- the table wasn't read
   pub test_unread : {P : Database → Type 0} (r : Result (Unit {0}) StoreError) (e : Error) → old.step_limit ≡ None → StaysIdle {X = X} {E = Error} g old new (Err e) → (HasCleanDisk (state g new) → CanBeRead (state g old) → IsFault (state g old) (state g new) e)
@@ -190,7 +190,6 @@ module _ {S : Type 0} (g : Ghosts S) (a b c : Held S) (settled : IsTrue (state g
   pub tests_then : {P Q : Database → Type 0} {x : Unit {0}} (r : Result (Unit {0}) StoreError) → Tests g a b (Ok x) P → Tests g b c r Q → Tests g a c r (λ db. P db × Q db)
   tests_then {P = P} {Q = Q} r one two = record {
     frame = record {
-      idle = two.frame.idle;
       was_open = λ clean. on_any r (one.frame.was_open (before clean));
       only_reads = λ clean. reads_then (state g a) (state g b) (state g c) (one.frame.only_reads (before clean)) (two.frame.only_reads clean);
       survives = survives_both (state g a) (state g b) (state g c) one.frame.survives two.frame.survives;

@@ -83,10 +83,9 @@ module _ (db : Database) (count : ℕ) (numbers : NumbersTexts db count) (fit : 
 
 -- ---- how the test comes out, after the ids were counted
 
-module _ {S : Type 0} (g : Ghosts S) (a b c : Held S) (settled : IsTrue (state g a).is_open → (state g a).now ≡ (state g a).committed) (count : ℕ) (counted : StaysIdle {E = StoreError} g a b (Ok count)) (read : Rests (state g b) (state g c)) (idle : c.in_transaction ≡ false) where
+module _ {S : Type 0} (g : Ghosts S) (a b c : Held S) (settled : IsTrue (state g a).is_open → (state g a).now ≡ (state g a).committed) (count : ℕ) (counted : StaysIdle {E = StoreError} g a b (Ok count)) (read : Rests (state g b) (state g c)) where
   stays : {X : Type 0} (r : Result X StoreError) → StaysIdle g a c r
   stays r = record {
-    idle = idle;
     was_open = λ clean. on_ok_each r (counted.was_open (clean_at (state g a) (state g b) (state g c) read clean));
     only_reads = λ clean.
         (let first = counted.only_reads (clean_at (state g a) (state g b) (state g c) read clean) in record {

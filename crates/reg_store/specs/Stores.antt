@@ -13,7 +13,7 @@ use Rattle.reg_store.specs.Inside.Reads.{Stored, Spell}
 
 -- SQLite, connections: the store's one
 abbrev pub connection_of : {S : Type 0} {g : Ghosts S} → Store S g → Held S
-connection_of store = store.db.conn
+connection_of store = store.db.idle.conn
 
 -- SQLite, transactions: what its connection shows
 abbrev pub state_of : {S : Type 0} {g : Ghosts S} → Store S g → State

@@ -1,13 +1,13 @@
 //! Connections between transactions.
 
-ghost use Rattle.std.specs.Prelude.{◌≡◌, None, false};
+ghost use Rattle.std.specs.Prelude.{◌≡◌, None};
 
-use sqlite::{Alter, Connection};
+use sqlite::Alter;
 
-/// A connection outside a transaction, without a limit on steps. Who uses it leaves it so.
+/// A connection outside a transaction (`reg_tables`), without a limit on steps. Who uses it leaves
+/// it so.
 #[derive(Drop)]
 pub struct Idle<S: Alter> {
-    pub(crate) conn: Connection<S>,
-    ghost idle: { conn.in_transaction ≡ false },
-    ghost unlimited: { conn.step_limit ≡ None },
+    pub(crate) idle: reg_tables::Idle<S>,
+    ghost unlimited: { idle.conn.step_limit ≡ None },
 }

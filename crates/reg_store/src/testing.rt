@@ -143,37 +143,37 @@ fn allow(passes: bool) -> Result<(), StoreError>
 
 /// Reads `versions`, and tests it.
 fn test_versions<S: Alter>(alloc: Global, db: &mut Idle<S>) -> Result<(), StoreError>
-    ensures tests { Tests S.Store db.old.conn db.new.conn result VersionsPass }
+    ensures tests { Tests S.Store db.old.idle.conn db.new.idle.conn result VersionsPass }
     ensures plain { IfErr result IsNumberless }
 {
-    let lines = version_lines(alloc, &mut db.conn)?;
+    let lines = version_lines(alloc, &mut db.idle)?;
     allow(pass(alloc, &lines)?)
 }
 
 /// Reads `levels`, and tests it.
 fn test_levels<S: Alter>(alloc: Global, db: &mut Idle<S>) -> Result<(), StoreError>
-    ensures tests { Tests S.Store db.old.conn db.new.conn result LevelsPass }
+    ensures tests { Tests S.Store db.old.idle.conn db.new.idle.conn result LevelsPass }
     ensures plain { IfErr result IsNumberless }
 {
-    let lines = level_lines(alloc, &mut db.conn)?;
+    let lines = level_lines(alloc, &mut db.idle)?;
     allow(pass(alloc, &lines)?)
 }
 
 /// Reads `kept`, and tests it.
 fn test_kept<S: Alter>(alloc: Global, db: &mut Idle<S>) -> Result<(), StoreError>
-    ensures tests { Tests S.Store db.old.conn db.new.conn result KeptPass }
+    ensures tests { Tests S.Store db.old.idle.conn db.new.idle.conn result KeptPass }
     ensures plain { IfErr result IsNumberless }
 {
-    let lines = kept_lines(alloc, &mut db.conn)?;
+    let lines = kept_lines(alloc, &mut db.idle)?;
     allow(pass(alloc, &lines)?)
 }
 
 /// Reads all tables but `meta`, and tests them.
 fn test_rest<S: Alter>(alloc: Global, db: &mut Idle<S>) -> Result<(), StoreError>
-    ensures tests { Tests S.Store db.old.conn db.new.conn result RestPasses }
+    ensures tests { Tests S.Store db.old.idle.conn db.new.idle.conn result RestPasses }
     ensures plain { IfErr result IsNumberless }
 {
-    let _idle = db.conn.is_autocommit();
+    let _idle = db.idle.conn.is_autocommit();
     test_versions(alloc, db)?;
     test_texts(alloc, db)?;
     test_levels(alloc, db)?;
@@ -219,7 +219,7 @@ fn judge_meta(alloc: Global, lines: Vec<MetaLine>) -> Result<(), StoreError>
 
 /// Reads `meta`, and tests it: the format, then the layout, then the rest.
 fn test_meta<S: Alter>(alloc: Global, db: &mut Idle<S>) -> Result<(), StoreError>
-    ensures tests { Tests S.Store db.old.conn db.new.conn result MetaPass }
+    ensures tests { Tests S.Store db.old.idle.conn db.new.idle.conn result MetaPass }
     ensures passed { HasCleanDisk (shown db.new)
         → OnOk result (HasTablesFirst (shown db.old).now.schema → MetaPass (shown db.old).now) }
     ensures refused { HasCleanDisk (shown db.new)
@@ -227,21 +227,21 @@ fn test_meta<S: Alter>(alloc: Global, db: &mut Idle<S>) -> Result<(), StoreError
     ensures newer { HasCleanDisk (shown db.new)
         → IfErr result (TellsNewer (shown db.old)) }
 {
-    let lines = meta_lines(alloc, &mut db.conn)?;
+    let lines = meta_lines(alloc, &mut db.idle)?;
     judge_meta(alloc, lines)
 }
 
 /// Tests the tables.
 pub(crate) fn test<S: Alter>(alloc: Global, db: &mut Idle<S>) -> Result<(), StoreError>
-    ensures tests { Tests S.Store db.old.conn db.new.conn result TablesPass }
+    ensures tests { Tests S.Store db.old.idle.conn db.new.idle.conn result TablesPass }
     ensures known { OnOk result (IsLayout (shown db.old).now.schema) }
     ensures refused { HasCleanDisk (shown db.new)
         → IfErr result (IsRefusedBy (shown db.old).now) }
     ensures newer { HasCleanDisk (shown db.new)
         → IfErr result (TellsNewer (shown db.old)) }
 {
-    let _idle = db.conn.is_autocommit();
-    let known = has_layout(&db.conn) || is_unindexed(&db.conn);
+    let _idle = db.idle.conn.is_autocommit();
+    let known = has_layout(&db.idle.conn) || is_unindexed(&db.idle.conn);
     test_meta(alloc, db)?;
     allow(known)?;
     test_rest(alloc, db)

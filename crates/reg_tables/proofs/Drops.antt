@@ -1,5 +1,5 @@
 -- What the DELETE of a version takes out of each table.
-use Rattle.std.proofs.Common.{◌≡◌, ◌≢◌, ◌≤◌, ◌+◌, ◌⊎◌, inl, inr, arith, ℕ, ℤ, pos, List, [], ◌∷◌, ◌++◌, Bool, true, false, Equal, cond, ◌||◌, Some, None, Ok, Option, refl, sym, ap, subst, ◌∙◌}
+use Rattle.std.proofs.Common.{◌≡◌, ◌≢◌, ◌≤◌, ◌+◌, ◌⊎◌, inl, inr, arith, ℕ, ℤ, pos, List, [], ◌∷◌, ◌++◌, Bool, true, false, Equal, cond, Some, None, Ok, Option, refl, sym, ap, subst, ◌∙◌}
 use Rattle.std.specs.List.{list_any, cons_option}
 use Rattle.std.specs.Prelude.{find, unwrap_or}
 use Rattle.std.specs.Ordering.{is_eq}

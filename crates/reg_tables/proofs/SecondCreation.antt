@@ -1,5 +1,5 @@
 -- What the making of the tables that layout 2 adds leaves, and why they are not made.
-use Rattle.std.proofs.Common.{◌≡◌, ℕ, ◌+◌, List, [], ◌∷◌, ◌++◌, codes, lit<, lit≤, Ok, Err, refl, sym, subst, ◌∙◌}
+use Rattle.std.proofs.Common.{◌≡◌, ℕ, List, [], ◌∷◌, codes, lit<, lit≤, Ok, Err, refl, sym, subst, ◌∙◌}
 use Rattle.std.specs.Prelude.{take}
 use Rattle.std.specs.FinMap.{empty, get}
 use Rattle.sqlite.specs.Order.{value_cmp}

@@ -1,5 +1,5 @@
 -- What the DELETE of a version makes of the tables of layout 2, and why it fails.
-use Rattle.std.proofs.Common.{◌≡◌, ◌≢◌, ◌≤◌, ◌+◌, ◌⊎◌, inl, inr, arith, ℕ, pos, List, [], ◌∷◌, Bool, true, false, not, cond, Some, None, Ok, Err, lit≤, refl, sym, ap, subst, ◌∙◌, Ordering}
+use Rattle.std.proofs.Common.{◌≡◌, ◌≤◌, ◌+◌, inl, inr, arith, ℕ, pos, List, [], ◌∷◌, Bool, true, false, not, cond, Some, None, Ok, Err, lit≤, refl, sym, ap, subst, ◌∙◌, Ordering}
 use Rattle.std.specs.Ordering.{is_eq}
 use Rattle.std.specs.FinMap.{FinMap, get, remove, get-remove, get-retain_keys}
 use Rattle.std.proofs.lemmas.Bool.{both_ways, cases_Bool, or_cases, or_left, or_right}
@@ -32,7 +32,7 @@ use Rattle.sqlite_rules.specs.Lists.{Has}
 use Rattle.sqlite_rules.proofs.ListLemmas.{has_got, some_has, some_from}
 use Rattle.sqlite_tied.specs.Compute.{everything}
 use Rattle.reg_tables.specs.Layout.{begins, texts, versions, levels, kept, meta}
-use Rattle.reg_tables.specs.SecondLayout.{modes, evidence, against, added}
+use Rattle.reg_tables.specs.SecondLayout.{modes, added}
 use Rattle.reg_tables.specs.TableMaps.{Form, ShowsMap, HaveRowids}
 use Rattle.reg_tables.specs.Contents.{version_cmp, version_key_cells, version_form}
 use Rattle.reg_tables.specs.SecondContents.{SecondContents, PlaceKey, place_cmp, evidence_form, against_form, HoldsAllIn, without_evidence, without_places}

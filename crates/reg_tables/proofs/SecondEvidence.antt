@@ -1,5 +1,5 @@
 -- The tables of evidence, which refer to a version and to the texts that it was tested against.
-use Rattle.std.proofs.Common.{◌≡◌, ◌≢◌, ◌≤◌, ◌+◌, ◌⊎◌, ◌||◌, ◌&&◌, Ordering, Less, Equal, Greater, not, inl, inr, arith, ℕ, pos, List, [], ◌∷◌, Bool, true, false, Some, lit≤, refl, sym, ap, subst, ◌∙◌}
+use Rattle.std.proofs.Common.{◌≡◌, ◌≤◌, ◌+◌, ◌||◌, ◌&&◌, Ordering, Less, Equal, Greater, not, inl, inr, arith, ℕ, pos, List, [], ◌∷◌, Bool, true, false, Some, lit≤, refl, sym, ap, subst, ◌∙◌}
 use Rattle.std.specs.List.{list_all}
 use Rattle.std.specs.FinMap.{get}
 use Rattle.std.specs.Prelude.{is_some}

@@ -1,5 +1,5 @@
 -- The tables that layout 2 adds.
-use Rattle.std.proofs.Common.{◌≡◌, ◌≢◌, ◌==◌, ◌≤◌, length, cond, Bool, ◌+◌, ◌||◌, not, inl, inr, ℕ, Ordering, Less, Equal, Greater, List, [], ◌∷◌, true, false, lit≤, refl, sym, subst, arith}
+use Rattle.std.proofs.Common.{◌≡◌, ◌≢◌, ◌==◌, ◌≤◌, length, cond, Bool, ◌||◌, not, inl, inr, ℕ, Ordering, Less, Equal, Greater, List, [], ◌∷◌, true, false, lit≤, refl, sym, subst, arith}
 use Rattle.std.specs.List.{list_all, flat_map, filter_map}
 use Rattle.std.proofs.lemmas.Bool.{ne_eqb}
 use Rattle.std.specs.Ordering.{nat_cmp, ordering_then}

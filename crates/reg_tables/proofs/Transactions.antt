@@ -3,11 +3,14 @@ use Rattle.std.proofs.Common.{◌≡◌, ◌⊎◌, inl, inr, ℕ, List, Option,
 use Rattle.std.specs.Prelude.{IfOk, IfErr, IsErrAnd, OnOk, Vec, IsTrue, true, if◌then◌else◌}
 use Rattle.std.specs.declared.alloc.Global.{Global}
 use Rattle.sqlite.specs.Order.{Row}
+use Rattle.sqlite.specs.Held.{Held, state}
 use Rattle.sqlite.specs.Clock.{timed}
 use Rattle.sqlite.specs.declared.error.Error.{Error}
 use Rattle.sqlite.specs.State.{State, Survives, KeepsCommit, IsUnchanged, IsRolledBack, Shown, ShowsRows, FailsToQuery, FailsToShow, IsNotRun, IsTooLate}
 use Rattle.sqlite.proofs.StateLemmas.{survives_then}
 use Rattle.sqlite_schema.specs.declared.command.Returning.{Returning}
+use Rattle.sqlite_trees.specs.declared.store.Store.{Ghosts}
+use Rattle.reg_tables.specs.Frames.{StaysIdle}
 
 pub keeps_then : (a b c : State) → KeepsCommit a b → KeepsCommit b c → KeepsCommit a c
 keeps_then a b c p q = record { was_open = λ h. p.was_open (q.was_open h); committed = λ h. q.committed h ∙ p.committed (q.was_open h) }
@@ -79,3 +82,20 @@ if_err (Err e) f h = f e h
 pub if_err_is : {X E : Type 0} (r : Result X E) (P : E → Type 0) (first : E) → IsErrAnd r (λ e. e ≡ first) → P first → IfErr r P
 if_err_is (Ok x) P first is h = tt
 if_err_is (Err e) P first is h = subst P (sym is) h
+
+-- ---- what a read leaves, whatever is made of it
+
+module _ {S X Y E F : Type 0} (g : Ghosts S) (a b : Held S) where
+  pub stays_read : {x : X} (r : Result Y F) → StaysIdle {E = E} g a b (Ok x) → StaysIdle g a b r
+  stays_read {x} r frame = record { was_open = λ clean. each r (frame.was_open clean); only_reads = frame.only_reads; survives = frame.survives }
+    where
+      each : (r : Result Y F) → IsTrue (state g a).is_open → OnOk r (IsTrue (state g a).is_open)
+      each (Ok y) h = h
+      each (Err e) h = tt
+
+  pub stays_unread : {e : E} (r : Result Y F) (first : F) → StaysIdle {X = X} g a b (Err e) → IsErrAnd r (λ failure. failure ≡ first) → StaysIdle g a b r
+  stays_unread {e} r first frame is = record { was_open = λ clean. none r is; only_reads = frame.only_reads; survives = frame.survives }
+    where
+      none : (r : Result Y F) → IsErrAnd r (λ failure. failure ≡ first) → OnOk r (IsTrue (state g a).is_open)
+      none (Ok y) is = absurd is
+      none (Err e) is = tt

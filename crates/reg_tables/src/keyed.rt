@@ -1,24 +1,24 @@
 //! The statements of a table that has one row for each key.
 
-ghost use Rattle.std.specs.Prelude.{◌≡◌, ◌+◌, ◌∷◌, ℕ, ℤ, List, [], IsUtf8, IsTrue, string_bytes, None, Some, OnOk, IfOk, IfErr, MatchOption, false};
+ghost use Rattle.std.specs.Prelude.{◌≡◌, ◌+◌, ◌∷◌, ℕ, List, [], IsUtf8, IsTrue, string_bytes, None, Some, OnOk, IfOk, IfErr, MatchOption};
 ghost use Rattle.std.specs.FinMap.{get};
 ghost use Rattle.sqlite.specs.Order.{column};
-ghost use Rattle.sqlite.specs.Schema.{Schema};
-ghost use Rattle.sqlite.specs.Effect.{Database};
-ghost use Rattle.sqlite.specs.Held.{state};
 ghost use Rattle.sqlite.specs.State.{HasCleanDisk};
 ghost use Rattle.sqlite.specs.Values.{bound};
-ghost use Rattle.reg_tables.specs.Frames.{state_in, StaysInside, StaysIdle};
+ghost use Rattle.reg_tables.specs.Frames.{shown, state_in, StaysInside, StaysIdle};
 ghost use Rattle.reg_tables.specs.Contents.{text_cells};
 ghost use Rattle.reg_tables.specs.Rooms.{HasRoom, CanBeStoredIn};
+ghost use Rattle.sqlite.specs.Schema.{Schema};
+ghost use Rattle.sqlite.specs.Effect.{Database};
 ghost use Rattle.reg_tables.specs.Reads.{HoldsSome};
 ghost use Rattle.reg_tables.specs.FailedCalls.{IsFault, IsWriteFault, IsInsertFault};
 ghost use Rattle.reg_tables.specs.Inside.Keyed.{Keyed, cells_of, with_entry, without_entry, IsFreeKey};
 ghost use Rattle.reg_tables.specs.Inside.KeyedLaws.{IsKeyed, PutsRow, DropsRow, FindsRow};
 
+use crate::idle::Idle;
 use crate::statement::{Line, first, run};
 use sqlite::types::ValueRef;
-use sqlite::{Alter, Connection, Error, ErrorCode, Row, Transaction};
+use sqlite::{Alter, Error, ErrorCode, Row, Transaction};
 
 /// A table that has one row for each key, in the layouts that have it, and the line that its values
 /// are read as.
@@ -162,21 +162,20 @@ pub(crate) fn set<S: Alter, T: ChangedTable>(
 
 /// The value of a key, if it has one.
 pub(crate) fn find<S: Alter, T: KeyedTable>(
-    conn: &mut Connection<S>,
+    db: &mut Idle<S>,
     values: &[ValueRef<'_>],
 ) -> Result<Option<T::Found>, Error>
-    requires idle { conn.old.in_transaction ≡ false }
-    ensures frame { StaysIdle S.Store conn.old conn.new result }
-    ensures found { HasCleanDisk (state S.Store conn.new) → IfOk result (λ found. (schema : Schema) → T.Known schema
+    ensures frame { StaysIdle S.Store db.old.conn db.new.conn result }
+    ensures found { HasCleanDisk (shown db.new) → IfOk result (λ found. (schema : Schema) → T.Known schema
         → (key : T.Key)
         → bound values.now ≡ (T.table schema).form.key_cells key
-        → (tables : T.Tables) → T.Holds schema (state S.Store conn.old).now tables
+        → (tables : T.Tables) → T.Holds schema (shown db.old).now tables
         → MatchOption found (get ((T.table schema).map_of tables) key ≡ None)
         (λ line. get ((T.table schema).map_of tables) key ≡ Some (T.value_of line))) }
-    ensures fault { HasCleanDisk (state S.Store conn.new) → IfErr result (λ e. (key : T.Key)
+    ensures fault { HasCleanDisk (shown db.new) → IfErr result (λ e. (key : T.Key)
         → ((schema : Schema) → T.Known schema → bound values.now ≡ (T.table schema).form.key_cells key)
-        → (IsTrue (state S.Store conn.old).is_open → HoldsSome T.Known T.Holds T.Readable (state S.Store conn.old).now)
-        → IsFault (state S.Store conn.old) (state S.Store conn.new) e) }
+        → (IsTrue (shown db.old).is_open → HoldsSome T.Known T.Holds T.Readable (shown db.old).now)
+        → IsFault (shown db.old) (shown db.new) e) }
 {
-    first(conn, T::find_sql(), values)
+    first(db, T::find_sql(), values)
 }

@@ -1,19 +1,19 @@
 //! The own levels of subjects. (Schema Registry API reference, Config.)
 
-ghost use Rattle.std.specs.Prelude.{◌≡◌, ℕ, List, None, Some, OnOk, IfOk, IfErr, MatchOption, false, string_bytes};
+ghost use Rattle.std.specs.Prelude.{◌≡◌, ℕ, List, None, Some, OnOk, IfErr, MatchOption, string_bytes};
 ghost use Rattle.std.specs.FinMap.{get};
-ghost use Rattle.sqlite.specs.Held.{state};
-ghost use Rattle.reg_tables.specs.Frames.{state_in, StaysInside, StaysIdle};
+ghost use Rattle.reg_tables.specs.Frames.{state_in, StaysInside};
 ghost use Rattle.sqlite.specs.State.{HasCleanDisk};
-ghost use Rattle.reg_tables.specs.Layout.{IsLayout, layout};
 ghost use Rattle.reg_tables.specs.Contents.{Contents, Holds, AreReadable, HoldsIn};
+ghost use Rattle.reg_tables.specs.Lookups.{Finds};
+ghost use Rattle.reg_tables.specs.Layout.{IsLayout, layout};
 ghost use Rattle.reg_tables.specs.Changes.{Changes, with_level, without_level};
-ghost use Rattle.reg_tables.specs.Reads.{CanBeRead};
-ghost use Rattle.reg_tables.specs.FailedCalls.{IsFault, IsWriteFault, IsInsertFault};
+ghost use Rattle.reg_tables.specs.FailedCalls.{IsWriteFault, IsInsertFault};
 ghost use Rattle.reg_tables.specs.Inside.Keyed.{levels_table};
 
+use crate::idle::Idle;
 use crate::keyed::{ChangedTable, FilledTable, KeyedTable, drop, find, set};
-use sqlite::{Alter, Connection, Error, Transaction, params};
+use sqlite::{Alter, Error, Transaction, params};
 
 /// The table `levels`.
 struct Levels;
@@ -106,16 +106,10 @@ pub fn set_level<S: Alter>(
 ///
 /// `OutOfMemory`, a fault of the disk, or `OperationInterrupted` at the limit on steps; where the
 /// tables can't be read, another error too. Nothing is changed.
-pub fn own_level<S: Alter>(conn: &mut Connection<S>, subject: &str) -> Result<Option<String>, Error>
-    requires idle { conn.old.in_transaction ≡ false }
-    ensures frame { StaysIdle S.Store conn.old conn.new result }
-    ensures found { HasCleanDisk (state S.Store conn.new) → IfOk result (λ found.
-        (contents : Contents) → Holds (state S.Store conn.old).now contents
-        → MatchOption found (get contents.levels subject.now ≡ None)
+pub fn own_level<S: Alter>(db: &mut Idle<S>, subject: &str) -> Result<Option<String>, Error>
+    ensures { Finds db.old db.new result (λ contents found.
+        MatchOption found (get contents.levels subject.now ≡ None)
         (λ level. get contents.levels subject.now ≡ Some (string_bytes level))) }
-    ensures fault { HasCleanDisk (state S.Store conn.new) → IfErr result (λ e.
-        CanBeRead (state S.Store conn.old)
-        → IsFault (state S.Store conn.old) (state S.Store conn.new) e) }
 {
-    find::<S, Levels>(conn, params![subject])
+    find::<S, Levels>(db, params![subject])
 }

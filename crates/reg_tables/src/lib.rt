@@ -3,7 +3,7 @@
 //!
 //! A call that changes the tables takes a transaction. On `Ok` the contents are changed as its
 //! clause says, and whatever it answers nothing is committed: that is the caller's commit.
-//! A call that only reads takes a connection outside a transaction. What a call says of the
+//! A call that only reads takes a connection outside a transaction (`Idle`). What a call says of the
 //! contents holds where the disk has returned what was written to it (`HasCleanDisk`). Errors are
 //! `sqlite`'s, and a clause `fault` says which of them are left where the tables are as it asks:
 //! codes of `SqliteFailure`, where a fault of the disk is `SystemIoFailure`, `DatabaseCorrupt`,
@@ -13,6 +13,7 @@
 
 mod declared;
 mod evidence;
+mod idle;
 mod kept;
 mod keyed;
 mod layout;
@@ -30,6 +31,7 @@ mod with_id;
 
 pub use declared::{has_layout, has_no_tables, is_unindexed};
 pub use evidence::{put_against, put_evidence};
+pub use idle::Idle;
 pub use kept::{KeptReply, keep_reply, kept_reply};
 pub use layout::{create, index_versions};
 pub use levels::{drop_level, own_level, set_level};

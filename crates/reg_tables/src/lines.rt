@@ -1,21 +1,19 @@
 //! All rows of each table, with their rowids, as the test of a database needs them.
 
-ghost use Rattle.std.specs.Prelude.{◌≡◌, ◌⊎◌, ◌<◌, Bool, length, IfOk, IfErr, false};
+ghost use Rattle.std.specs.Prelude.{◌≡◌, ◌<◌, Bool, length, IfOk, IfErr, false};
 ghost use Rattle.sqlite.specs.Order.{column};
-ghost use Rattle.sqlite.specs.Held.{state};
-ghost use Rattle.reg_tables.specs.Frames.{StaysIdle};
-ghost use Rattle.sqlite.specs.State.{HasCleanDisk};
 ghost use Rattle.reg_tables.specs.Layout.{IsLayout, HasTablesFirst};
+ghost use Rattle.reg_tables.specs.Lookups.{Lists};
 ghost use Rattle.reg_tables.specs.Contents.{flag_cell, text_form, version_form, pair_form, kept_form};
 ghost use Rattle.reg_tables.specs.Listings.{RowParts, parts_of, entry_parts, text_entry, version_entry, level_entry, kept_entry, meta_entry, ListsVersions, ListsLevels, ListsKept, ListsMeta};
 ghost use Rattle.reg_tables.specs.Inside.ReadableRows.{IsReadableText, IsReadableVersion, IsReadablePair, IsReadableKept};
-ghost use Rattle.reg_tables.specs.Reads.{CanBeRead, CanTellMeta, HasLayout};
-ghost use Rattle.reg_tables.specs.FailedCalls.{IsFault, IsUnreadable};
+ghost use Rattle.reg_tables.specs.Reads.{CanBeRead, CanTellMeta};
 ghost use Rattle.reg_tables.specs.Inside.FailedLists.{IsReadingError};
 
+use crate::idle::Idle;
 use crate::kept::KeptReply;
 use crate::statement::{Line, list};
-use sqlite::{Alter, Connection, Error, ErrorCode, Row};
+use sqlite::{Alter, Error, ErrorCode, Row};
 use std::alloc::Global;
 
 /// A row of `texts`.
@@ -176,25 +174,12 @@ impl Line for MetaLine {
 ///
 /// `OutOfMemory`, a fault of the disk, or `OperationInterrupted` at the limit on steps; another
 /// where a row holds what the line can't. Nothing is changed.
-pub fn version_lines<S: Alter>(
-    alloc: Global,
-    conn: &mut Connection<S>,
-) -> Result<Vec<VersionLine>, Error>
-    requires idle { conn.old.in_transaction ≡ false }
-    ensures frame { StaysIdle S.Store conn.old conn.new result }
-    ensures listed { HasCleanDisk (state S.Store conn.new) → IfOk result (λ lines.
-        IsLayout (state S.Store conn.old).now.schema
-        → ListsVersions (state S.Store conn.old).now lines.items) }
-    ensures fault { HasCleanDisk (state S.Store conn.new) → IfErr result (λ e.
-        CanBeRead (state S.Store conn.old)
-        → IsFault (state S.Store conn.old) (state S.Store conn.new) e) }
-    ensures told { HasCleanDisk (state S.Store conn.new) → IfErr result (λ e.
-        HasLayout (state S.Store conn.old)
-        → IsFault (state S.Store conn.old) (state S.Store conn.new) e ⊎ IsUnreadable e) }
+pub fn version_lines<S: Alter>(alloc: Global, db: &mut Idle<S>) -> Result<Vec<VersionLine>, Error>
+    ensures { Lists db.old db.new result IsLayout CanBeRead ListsVersions }
 {
     list(
         alloc,
-        conn,
+        db,
         "SELECT rowid, subject, version, id, deleted FROM versions",
         &[],
     )
@@ -206,23 +191,10 @@ pub fn version_lines<S: Alter>(
 ///
 /// `OutOfMemory`, a fault of the disk, or `OperationInterrupted` at the limit on steps; another
 /// where a row holds what the line can't. Nothing is changed.
-pub fn level_lines<S: Alter>(
-    alloc: Global,
-    conn: &mut Connection<S>,
-) -> Result<Vec<LevelLine>, Error>
-    requires idle { conn.old.in_transaction ≡ false }
-    ensures frame { StaysIdle S.Store conn.old conn.new result }
-    ensures listed { HasCleanDisk (state S.Store conn.new) → IfOk result (λ lines.
-        IsLayout (state S.Store conn.old).now.schema
-        → ListsLevels (state S.Store conn.old).now lines.items) }
-    ensures fault { HasCleanDisk (state S.Store conn.new) → IfErr result (λ e.
-        CanBeRead (state S.Store conn.old)
-        → IsFault (state S.Store conn.old) (state S.Store conn.new) e) }
-    ensures told { HasCleanDisk (state S.Store conn.new) → IfErr result (λ e.
-        HasLayout (state S.Store conn.old)
-        → IsFault (state S.Store conn.old) (state S.Store conn.new) e ⊎ IsUnreadable e) }
+pub fn level_lines<S: Alter>(alloc: Global, db: &mut Idle<S>) -> Result<Vec<LevelLine>, Error>
+    ensures { Lists db.old db.new result IsLayout CanBeRead ListsLevels }
 {
-    list(alloc, conn, "SELECT rowid, subject, level FROM levels", &[])
+    list(alloc, db, "SELECT rowid, subject, level FROM levels", &[])
 }
 
 /// All rows of `kept`, in any order.
@@ -231,22 +203,12 @@ pub fn level_lines<S: Alter>(
 ///
 /// `OutOfMemory`, a fault of the disk, or `OperationInterrupted` at the limit on steps; another
 /// where a row holds what the line can't. Nothing is changed.
-pub fn kept_lines<S: Alter>(alloc: Global, conn: &mut Connection<S>) -> Result<Vec<KeptLine>, Error>
-    requires idle { conn.old.in_transaction ≡ false }
-    ensures frame { StaysIdle S.Store conn.old conn.new result }
-    ensures listed { HasCleanDisk (state S.Store conn.new) → IfOk result (λ lines.
-        IsLayout (state S.Store conn.old).now.schema
-        → ListsKept (state S.Store conn.old).now lines.items) }
-    ensures fault { HasCleanDisk (state S.Store conn.new) → IfErr result (λ e.
-        CanBeRead (state S.Store conn.old)
-        → IsFault (state S.Store conn.old) (state S.Store conn.new) e) }
-    ensures told { HasCleanDisk (state S.Store conn.new) → IfErr result (λ e.
-        HasLayout (state S.Store conn.old)
-        → IsFault (state S.Store conn.old) (state S.Store conn.new) e ⊎ IsUnreadable e) }
+pub fn kept_lines<S: Alter>(alloc: Global, db: &mut Idle<S>) -> Result<Vec<KeptLine>, Error>
+    ensures { Lists db.old db.new result IsLayout CanBeRead ListsKept }
 {
     list(
         alloc,
-        conn,
+        db,
         "SELECT rowid, key, command, status, body FROM kept",
         &[],
     )
@@ -258,18 +220,8 @@ pub fn kept_lines<S: Alter>(alloc: Global, conn: &mut Connection<S>) -> Result<V
 ///
 /// `OutOfMemory`, a fault of the disk, or `OperationInterrupted` at the limit on steps; another
 /// where a row holds what the line can't. Nothing is changed.
-pub fn meta_lines<S: Alter>(alloc: Global, conn: &mut Connection<S>) -> Result<Vec<MetaLine>, Error>
-    requires idle { conn.old.in_transaction ≡ false }
-    ensures frame { StaysIdle S.Store conn.old conn.new result }
-    ensures listed { HasCleanDisk (state S.Store conn.new) → IfOk result (λ lines.
-        HasTablesFirst (state S.Store conn.old).now.schema
-        → ListsMeta (state S.Store conn.old).now lines.items) }
-    ensures fault { HasCleanDisk (state S.Store conn.new) → IfErr result (λ e.
-        CanTellMeta (state S.Store conn.old)
-        → IsFault (state S.Store conn.old) (state S.Store conn.new) e) }
-    ensures told { HasCleanDisk (state S.Store conn.new) → IfErr result (λ e.
-        HasLayout (state S.Store conn.old)
-        → IsFault (state S.Store conn.old) (state S.Store conn.new) e ⊎ IsUnreadable e) }
+pub fn meta_lines<S: Alter>(alloc: Global, db: &mut Idle<S>) -> Result<Vec<MetaLine>, Error>
+    ensures { Lists db.old db.new result HasTablesFirst CanTellMeta ListsMeta }
 {
-    list(alloc, conn, "SELECT rowid, name, value FROM meta", &[])
+    list(alloc, db, "SELECT rowid, name, value FROM meta", &[])
 }

@@ -1,21 +1,18 @@
 //! Rows of `versions`, in the order of their subjects and numbers, or one of them.
 
-ghost use Rattle.std.specs.Prelude.{◌≡◌, ◌≢◌, ℕ, List, [], ◌∷◌, IfOk, IfErr, MatchOption, None, Some, false, not, map, filter, find, option_map};
+ghost use Rattle.std.specs.Prelude.{◌≡◌, ◌≢◌, ℕ, List, [], ◌∷◌, MatchOption, None, Some, not, map, filter, find, option_map};
 ghost use Rattle.std.specs.Ordering.{is_gt, nat_cmp};
 ghost use Rattle.std.specs.List.{last_or};
 ghost use Rattle.std.specs.FinMap.{entries, get};
 ghost use Rattle.sqlite.specs.Order.{column};
-ghost use Rattle.sqlite.specs.Held.{state};
-ghost use Rattle.sqlite.specs.State.{HasCleanDisk};
-ghost use Rattle.reg_tables.specs.Frames.{StaysIdle};
-ghost use Rattle.reg_tables.specs.Contents.{VersionRow, Contents, Holds, text_cmp};
+ghost use Rattle.reg_tables.specs.Contents.{VersionRow, text_cmp};
+ghost use Rattle.reg_tables.specs.Lookups.{Finds};
 ghost use Rattle.reg_tables.specs.Entries.{numbered, numbered_cells, subject_versions, IsReadableNumbered, keyed, keyed_cells, id_versions, IsReadableKeyed};
-ghost use Rattle.reg_tables.specs.Reads.{CanBeRead};
-ghost use Rattle.reg_tables.specs.FailedCalls.{IsFault};
 
+use crate::idle::Idle;
 use crate::lines::flag_in;
 use crate::statement::{Line, first, list};
-use sqlite::{Alter, Connection, Error, Row, params};
+use sqlite::{Alter, Error, Row, params};
 use std::alloc::Global;
 
 /// A version of a subject that the caller names.
@@ -76,21 +73,15 @@ impl Line for ListedVersion {
 /// tables can't be read, another error too. Nothing is changed.
 pub fn versions_of<S: Alter>(
     alloc: Global,
-    conn: &mut Connection<S>,
+    db: &mut Idle<S>,
     subject: &str,
 ) -> Result<Vec<SubjectVersion>, Error>
-    requires idle { conn.old.in_transaction ≡ false }
-    ensures frame { StaysIdle S.Store conn.old conn.new result }
-    ensures found { HasCleanDisk (state S.Store conn.new) → IfOk result (λ lines.
-        (contents : Contents) → Holds (state S.Store conn.old).now contents
-        → map numbered lines.items ≡ subject_versions subject.now contents) }
-    ensures fault { HasCleanDisk (state S.Store conn.new) → IfErr result (λ e.
-        CanBeRead (state S.Store conn.old)
-        → IsFault (state S.Store conn.old) (state S.Store conn.new) e) }
+    ensures { Finds db.old db.new result (λ contents lines.
+        map numbered lines.items ≡ subject_versions subject.now contents) }
 {
     list(
         alloc,
-        conn,
+        db,
         "SELECT version, id, deleted FROM versions WHERE subject = ?1 ORDER BY subject, version",
         params![subject],
     )
@@ -103,20 +94,14 @@ pub fn versions_of<S: Alter>(
 /// `OutOfMemory`, a fault of the disk, or `OperationInterrupted` at the limit on steps; where the
 /// tables can't be read, another error too. Nothing is changed.
 pub fn last_version_of<S: Alter>(
-    conn: &mut Connection<S>,
+    db: &mut Idle<S>,
     subject: &str,
 ) -> Result<Option<SubjectVersion>, Error>
-    requires idle { conn.old.in_transaction ≡ false }
-    ensures frame { StaysIdle S.Store conn.old conn.new result }
-    ensures found { HasCleanDisk (state S.Store conn.new) → IfOk result (λ found.
-        (contents : Contents) → Holds (state S.Store conn.old).now contents
-        → option_map numbered found ≡ last_or None (subject_versions subject.now contents)) }
-    ensures fault { HasCleanDisk (state S.Store conn.new) → IfErr result (λ e.
-        CanBeRead (state S.Store conn.old)
-        → IsFault (state S.Store conn.old) (state S.Store conn.new) e) }
+    ensures { Finds db.old db.new result (λ contents found.
+        option_map numbered found ≡ last_or None (subject_versions subject.now contents)) }
 {
     first(
-        conn,
+        db,
         "SELECT version, id, deleted FROM versions WHERE subject = ?1 ORDER BY subject DESC, version DESC LIMIT 1",
         params![subject],
     )
@@ -130,21 +115,15 @@ pub fn last_version_of<S: Alter>(
 /// `OutOfMemory`, a fault of the disk, or `OperationInterrupted` at the limit on steps; where the
 /// tables can't be read, another error too. Nothing is changed.
 pub fn last_live_version_of<S: Alter>(
-    conn: &mut Connection<S>,
+    db: &mut Idle<S>,
     subject: &str,
 ) -> Result<Option<SubjectVersion>, Error>
-    requires idle { conn.old.in_transaction ≡ false }
-    ensures frame { StaysIdle S.Store conn.old conn.new result }
-    ensures found { HasCleanDisk (state S.Store conn.new) → IfOk result (λ found.
-        (contents : Contents) → Holds (state S.Store conn.old).now contents
-        → option_map numbered found
+    ensures { Finds db.old db.new result (λ contents found.
+        option_map numbered found
         ≡ last_or None (filter (λ version. not version.1.deleted) (subject_versions subject.now contents))) }
-    ensures fault { HasCleanDisk (state S.Store conn.new) → IfErr result (λ e.
-        CanBeRead (state S.Store conn.old)
-        → IsFault (state S.Store conn.old) (state S.Store conn.new) e) }
 {
     first(
-        conn,
+        db,
         "SELECT version, id, deleted FROM versions WHERE subject = ?1 AND deleted = 0 ORDER BY subject DESC, version DESC LIMIT 1",
         params![subject],
     )
@@ -157,22 +136,16 @@ pub fn last_live_version_of<S: Alter>(
 /// `OutOfMemory`, a fault of the disk, or `OperationInterrupted` at the limit on steps; where the
 /// tables can't be read, another error too. Nothing is changed.
 pub fn next_version_of<S: Alter>(
-    conn: &mut Connection<S>,
+    db: &mut Idle<S>,
     subject: &str,
     number: u32,
 ) -> Result<Option<SubjectVersion>, Error>
-    requires idle { conn.old.in_transaction ≡ false }
-    ensures frame { StaysIdle S.Store conn.old conn.new result }
-    ensures found { HasCleanDisk (state S.Store conn.new) → IfOk result (λ found.
-        (contents : Contents) → Holds (state S.Store conn.old).now contents
-        → option_map numbered found
+    ensures { Finds db.old db.new result (λ contents found.
+        option_map numbered found
         ≡ find (λ version. is_gt (nat_cmp version.0 number)) (subject_versions subject.now contents)) }
-    ensures fault { HasCleanDisk (state S.Store conn.new) → IfErr result (λ e.
-        CanBeRead (state S.Store conn.old)
-        → IsFault (state S.Store conn.old) (state S.Store conn.new) e) }
 {
     first(
-        conn,
+        db,
         "SELECT version, id, deleted FROM versions WHERE subject = ?1 AND version > ?2 ORDER BY subject, version LIMIT 1",
         params![subject, number],
     )
@@ -185,21 +158,15 @@ pub fn next_version_of<S: Alter>(
 /// `OutOfMemory`, a fault of the disk, or `OperationInterrupted` at the limit on steps; where the
 /// tables can't be read, another error too. Nothing is changed.
 pub fn first_version_behind<S: Alter>(
-    conn: &mut Connection<S>,
+    db: &mut Idle<S>,
     subject: &str,
 ) -> Result<Option<ListedVersion>, Error>
-    requires idle { conn.old.in_transaction ≡ false }
-    ensures frame { StaysIdle S.Store conn.old conn.new result }
-    ensures found { HasCleanDisk (state S.Store conn.new) → IfOk result (λ found.
-        (contents : Contents) → Holds (state S.Store conn.old).now contents
-        → option_map keyed found
+    ensures { Finds db.old db.new result (λ contents found.
+        option_map keyed found
         ≡ find (λ entry. is_gt (text_cmp entry.0.0 subject.now)) (entries contents.versions)) }
-    ensures fault { HasCleanDisk (state S.Store conn.new) → IfErr result (λ e.
-        CanBeRead (state S.Store conn.old)
-        → IsFault (state S.Store conn.old) (state S.Store conn.new) e) }
 {
     first(
-        conn,
+        db,
         "SELECT subject, version, id, deleted FROM versions WHERE subject > ?1 ORDER BY subject, version LIMIT 1",
         params![subject],
     )
@@ -213,21 +180,15 @@ pub fn first_version_behind<S: Alter>(
 /// tables can't be read, another error too. Nothing is changed.
 pub fn versions_of_id<S: Alter>(
     alloc: Global,
-    conn: &mut Connection<S>,
+    db: &mut Idle<S>,
     id: u32,
 ) -> Result<Vec<ListedVersion>, Error>
-    requires idle { conn.old.in_transaction ≡ false }
-    ensures frame { StaysIdle S.Store conn.old conn.new result }
-    ensures found { HasCleanDisk (state S.Store conn.new) → IfOk result (λ lines.
-        (contents : Contents) → Holds (state S.Store conn.old).now contents
-        → map keyed lines.items ≡ id_versions id contents) }
-    ensures fault { HasCleanDisk (state S.Store conn.new) → IfErr result (λ e.
-        CanBeRead (state S.Store conn.old)
-        → IsFault (state S.Store conn.old) (state S.Store conn.new) e) }
+    ensures { Finds db.old db.new result (λ contents lines.
+        map keyed lines.items ≡ id_versions id contents) }
 {
     list(
         alloc,
-        conn,
+        db,
         "SELECT subject, version, id, deleted FROM versions WHERE id = ?1 ORDER BY subject, version",
         params![id],
     )
@@ -239,23 +200,14 @@ pub fn versions_of_id<S: Alter>(
 ///
 /// `OutOfMemory`, a fault of the disk, or `OperationInterrupted` at the limit on steps; where the
 /// tables can't be read, another error too. Nothing is changed.
-pub fn a_version_of_id<S: Alter>(
-    conn: &mut Connection<S>,
-    id: u32,
-) -> Result<Option<ListedVersion>, Error>
-    requires idle { conn.old.in_transaction ≡ false }
-    ensures frame { StaysIdle S.Store conn.old conn.new result }
-    ensures found { HasCleanDisk (state S.Store conn.new) → IfOk result (λ found.
-        (contents : Contents) → Holds (state S.Store conn.old).now contents
-        → MatchOption found ((key : List ℕ × ℕ) (version : VersionRow)
+pub fn a_version_of_id<S: Alter>(db: &mut Idle<S>, id: u32) -> Result<Option<ListedVersion>, Error>
+    ensures { Finds db.old db.new result (λ contents found.
+        MatchOption found ((key : List ℕ × ℕ) (version : VersionRow)
         → get contents.versions key ≡ Some version → version.id ≢ id)
         (λ line. (get contents.versions (keyed line).0 ≡ Some (keyed line).1) × (line.id ≡ id))) }
-    ensures fault { HasCleanDisk (state S.Store conn.new) → IfErr result (λ e.
-        CanBeRead (state S.Store conn.old)
-        → IsFault (state S.Store conn.old) (state S.Store conn.new) e) }
 {
     first(
-        conn,
+        db,
         "SELECT subject, version, id, deleted FROM versions WHERE id = ?1 LIMIT 1",
         params![id],
     )
@@ -267,22 +219,13 @@ pub fn a_version_of_id<S: Alter>(
 ///
 /// `OutOfMemory`, a fault of the disk, or `OperationInterrupted` at the limit on steps; where the
 /// tables can't be read, another error too. Nothing is changed.
-pub fn all_versions<S: Alter>(
-    alloc: Global,
-    conn: &mut Connection<S>,
-) -> Result<Vec<ListedVersion>, Error>
-    requires idle { conn.old.in_transaction ≡ false }
-    ensures frame { StaysIdle S.Store conn.old conn.new result }
-    ensures found { HasCleanDisk (state S.Store conn.new) → IfOk result (λ lines.
-        (contents : Contents) → Holds (state S.Store conn.old).now contents
-        → map keyed lines.items ≡ entries contents.versions) }
-    ensures fault { HasCleanDisk (state S.Store conn.new) → IfErr result (λ e.
-        CanBeRead (state S.Store conn.old)
-        → IsFault (state S.Store conn.old) (state S.Store conn.new) e) }
+pub fn all_versions<S: Alter>(alloc: Global, db: &mut Idle<S>) -> Result<Vec<ListedVersion>, Error>
+    ensures { Finds db.old db.new result (λ contents lines.
+        map keyed lines.items ≡ entries contents.versions) }
 {
     list(
         alloc,
-        conn,
+        db,
         "SELECT subject, version, id, deleted FROM versions ORDER BY subject, version",
         &[],
     )

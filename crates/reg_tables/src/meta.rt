@@ -1,21 +1,21 @@
 //! What the database says of itself: its format, its layout and the global level.
 
-ghost use Rattle.std.specs.Prelude.{◌≡◌, ◌+◌, ℕ, List, [], ◌∷◌, None, Some, OnOk, IfOk, IfErr, MatchOption, false, codes, string_bytes};
+ghost use Rattle.std.specs.Prelude.{◌≡◌, ◌+◌, ℕ, List, [], ◌∷◌, None, Some, OnOk, IfErr, MatchOption, codes, string_bytes};
 ghost use Rattle.std.specs.FinMap.{get};
-ghost use Rattle.sqlite.specs.Held.{state};
-ghost use Rattle.reg_tables.specs.Frames.{state_in, StaysInside, StaysIdle};
+ghost use Rattle.reg_tables.specs.Frames.{state_in, StaysInside};
 ghost use Rattle.sqlite.specs.State.{HasCleanDisk};
 ghost use Rattle.sqlite.specs.declared.types.Value.TheVariants.{Text};
 ghost use Rattle.reg_tables.specs.Layout.{meta, IsLayout, layout};
+ghost use Rattle.reg_tables.specs.Lookups.{Finds};
 ghost use Rattle.reg_tables.specs.Rooms.{HasRoom, CanBeStored};
 ghost use Rattle.reg_tables.specs.Contents.{Contents, Holds, AreReadable, HoldsIn};
 ghost use Rattle.reg_tables.specs.Changes.{Changes, with_meta, with_global};
-ghost use Rattle.reg_tables.specs.Reads.{CanBeRead};
-ghost use Rattle.reg_tables.specs.FailedCalls.{IsFault, IsWriteFault, IsInsertFault};
+ghost use Rattle.reg_tables.specs.FailedCalls.{IsWriteFault, IsInsertFault};
 ghost use Rattle.reg_tables.specs.Inside.Keyed.{meta_table};
 
+use crate::idle::Idle;
 use crate::keyed::{ChangedTable, FilledTable, KeyedTable, find, put, set};
-use sqlite::{Alter, Connection, Error, Transaction, params};
+use sqlite::{Alter, Error, Transaction, params};
 
 /// The table `meta`.
 struct Meta;
@@ -111,16 +111,10 @@ pub fn set_global<S: Alter>(tx: &mut Transaction<'_, S>, level: &str) -> Result<
 ///
 /// `OutOfMemory`, a fault of the disk, or `OperationInterrupted` at the limit on steps; where the
 /// tables can't be read, another error too. Nothing is changed.
-pub fn global_level<S: Alter>(conn: &mut Connection<S>) -> Result<Option<String>, Error>
-    requires idle { conn.old.in_transaction ≡ false }
-    ensures frame { StaysIdle S.Store conn.old conn.new result }
-    ensures found { HasCleanDisk (state S.Store conn.new) → IfOk result (λ found.
-        (contents : Contents) → Holds (state S.Store conn.old).now contents
-        → MatchOption found (get contents.meta (codes "global") ≡ None)
+pub fn global_level<S: Alter>(db: &mut Idle<S>) -> Result<Option<String>, Error>
+    ensures { Finds db.old db.new result (λ contents found.
+        MatchOption found (get contents.meta (codes "global") ≡ None)
         (λ level. get contents.meta (codes "global") ≡ Some (string_bytes level))) }
-    ensures fault { HasCleanDisk (state S.Store conn.new) → IfErr result (λ e.
-        CanBeRead (state S.Store conn.old)
-        → IsFault (state S.Store conn.old) (state S.Store conn.new) e) }
 {
-    find::<S, Meta>(conn, params!["global"])
+    find::<S, Meta>(db, params!["global"])
 }

@@ -1,11 +1,10 @@
 //! The own modes of subjects, which layout 2 has.
 
-ghost use Rattle.std.specs.Prelude.{◌≡◌, ◌⊎◌, ℕ, List, None, Some, OnOk, IfOk, IfErr, MatchOption, false, string_bytes};
+ghost use Rattle.std.specs.Prelude.{◌≡◌, ◌⊎◌, ℕ, List, None, Some, OnOk, IfOk, IfErr, MatchOption, string_bytes};
 ghost use Rattle.std.specs.FinMap.{get};
 ghost use Rattle.sqlite.specs.Schema.{Schema};
-ghost use Rattle.sqlite.specs.Held.{state};
 ghost use Rattle.sqlite.specs.State.{HasCleanDisk};
-ghost use Rattle.reg_tables.specs.Frames.{state_in, StaysInside, StaysIdle};
+ghost use Rattle.reg_tables.specs.Frames.{shown, state_in, StaysInside, StaysIdle};
 ghost use Rattle.reg_tables.specs.Contents.{pair_form};
 ghost use Rattle.reg_tables.specs.Listings.{RowParts, parts_of, entry_parts};
 ghost use Rattle.reg_tables.specs.SecondLayout.{IsSecond, HasSecondTables};
@@ -15,9 +14,10 @@ ghost use Rattle.reg_tables.specs.FailedCalls.{IsFault, IsWriteFault, IsInsertFa
 ghost use Rattle.reg_tables.specs.Inside.ReadableRows.{IsReadablePair};
 ghost use Rattle.reg_tables.specs.Inside.SecondKeyed.{modes_table};
 
+use crate::idle::Idle;
 use crate::keyed::{ChangedTable, FilledTable, KeyedTable, drop, find, set};
 use crate::statement::{Line, list};
-use sqlite::{Alter, Connection, Error, Row, Transaction, params};
+use sqlite::{Alter, Error, Row, Transaction, params};
 use std::alloc::Global;
 
 /// The table `modes`.
@@ -139,19 +139,21 @@ pub fn set_mode<S: Alter>(
 ///
 /// `OutOfMemory`, a fault of the disk, or `OperationInterrupted` at the limit on steps; where the
 /// tables can't be read, another error too. Nothing is changed.
-pub fn own_mode<S: Alter>(conn: &mut Connection<S>, subject: &str) -> Result<Option<String>, Error>
-    requires idle { conn.old.in_transaction ≡ false }
-    ensures frame { StaysIdle S.Store conn.old conn.new result }
-    ensures found { HasCleanDisk (state S.Store conn.new) → IfOk result (λ found.
+pub fn own_mode<S: Alter>(
+    db: &mut Idle<S>,
+    subject: &str,
+) -> Result<Option<String>, Error>
+    ensures frame { StaysIdle S.Store db.old.conn db.new.conn result }
+    ensures found { HasCleanDisk (shown db.new) → IfOk result (λ found.
         (schema : Schema) → HasSecondTables schema
-        → (contents : SecondContents) → HoldsAllIn schema (state S.Store conn.old).now contents
+        → (contents : SecondContents) → HoldsAllIn schema (shown db.old).now contents
         → MatchOption found (get contents.modes subject.now ≡ None)
         (λ mode. get contents.modes subject.now ≡ Some (string_bytes mode))) }
-    ensures fault { HasCleanDisk (state S.Store conn.new) → IfErr result (λ e.
-        CanBeReadSecond (state S.Store conn.old)
-        → IsFault (state S.Store conn.old) (state S.Store conn.new) e) }
+    ensures fault { HasCleanDisk (shown db.new) → IfErr result (λ e.
+        CanBeReadSecond (shown db.old)
+        → IsFault (shown db.old) (shown db.new) e) }
 {
-    find::<S, Modes>(conn, params![subject])
+    find::<S, Modes>(db, params![subject])
 }
 
 /// All rows of `modes`, in any order.
@@ -160,18 +162,20 @@ pub fn own_mode<S: Alter>(conn: &mut Connection<S>, subject: &str) -> Result<Opt
 ///
 /// `OutOfMemory`, a fault of the disk, or `OperationInterrupted` at the limit on steps; another
 /// where a row holds what the line can't. Nothing is changed.
-pub fn mode_lines<S: Alter>(alloc: Global, conn: &mut Connection<S>) -> Result<Vec<ModeLine>, Error>
-    requires idle { conn.old.in_transaction ≡ false }
-    ensures frame { StaysIdle S.Store conn.old conn.new result }
-    ensures listed { HasCleanDisk (state S.Store conn.new) → IfOk result (λ lines.
-        HasSecondTables (state S.Store conn.old).now.schema
-        → ListsModes (state S.Store conn.old).now lines.items) }
-    ensures fault { HasCleanDisk (state S.Store conn.new) → IfErr result (λ e.
-        CanBeReadSecond (state S.Store conn.old)
-        → IsFault (state S.Store conn.old) (state S.Store conn.new) e) }
-    ensures told { HasCleanDisk (state S.Store conn.new) → IfErr result (λ e.
-        HasSecondLayout (state S.Store conn.old)
-        → IsFault (state S.Store conn.old) (state S.Store conn.new) e ⊎ IsUnreadable e) }
+pub fn mode_lines<S: Alter>(
+    alloc: Global,
+    db: &mut Idle<S>,
+) -> Result<Vec<ModeLine>, Error>
+    ensures frame { StaysIdle S.Store db.old.conn db.new.conn result }
+    ensures listed { HasCleanDisk (shown db.new) → IfOk result (λ lines.
+        HasSecondTables (shown db.old).now.schema
+        → ListsModes (shown db.old).now lines.items) }
+    ensures fault { HasCleanDisk (shown db.new) → IfErr result (λ e.
+        CanBeReadSecond (shown db.old)
+        → IsFault (shown db.old) (shown db.new) e) }
+    ensures told { HasCleanDisk (shown db.new) → IfErr result (λ e.
+        HasSecondLayout (shown db.old)
+        → IsFault (shown db.old) (shown db.new) e ⊎ IsUnreadable e) }
 {
-    list(alloc, conn, "SELECT rowid, subject, mode FROM modes", &[])
+    list(alloc, db, "SELECT rowid, subject, mode FROM modes", &[])
 }

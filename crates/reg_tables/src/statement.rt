@@ -4,13 +4,14 @@
 ghost use Rattle.std.specs.Prelude.{◌≡◌, ◌⊎◌, ◌≤◌, ℕ, Ok, Err, IfErr, OnOk, IfOk, List, map, slice_get, option_map, All, false};
 ghost use Rattle.sqlite.specs.Order.{Row as SqlRow};
 ghost use Rattle.sqlite.specs.Held.{Held, state};
-ghost use Rattle.reg_tables.specs.Frames.{once_begun, state_in, StaysInside, StaysIdle};
+ghost use Rattle.reg_tables.specs.Frames.{once_begun, shown, state_in, StaysInside, StaysIdle};
 ghost use Rattle.sqlite.specs.State.{HasCleanDisk, ExecutesInside, Shown, FailsToQuery, IsTooLate};
 ghost use Rattle.sqlite.specs.Values.{bound};
 ghost use Rattle.reg_tables.specs.Inside.FailedLists.{IsReadingError, FailsToList};
 
+use crate::idle::Idle;
 use sqlite::types::ValueRef;
-use sqlite::{Alter, Connection, Error, ErrorCode, Row, Transaction};
+use sqlite::{Alter, Error, ErrorCode, Row, Transaction};
 use std::alloc::Global;
 
 /// Runs one statement that shows no rows.
@@ -35,23 +36,22 @@ pub(crate) fn run<S: Alter>(
 
 /// The rows that a query shows. Whatever the text is, nothing is committed.
 pub(crate) fn ask<S: Alter>(
-    conn: &mut Connection<S>,
+    db: &mut Idle<S>,
     sql: &str,
     values: &[ValueRef<'_>],
 ) -> Result<Vec<Row>, Error>
-    requires idle { conn.old.in_transaction ≡ false }
-    ensures frame { StaysIdle S.Store conn.old conn.new result }
-    ensures shown { HasCleanDisk (state S.Store conn.new) → IfOk result (λ rows. (last : Held S)
-        × Shown sql.now (bound values.now) (once_begun S.Store conn.old)
+    ensures frame { StaysIdle S.Store db.old.conn db.new.conn result }
+    ensures shown { HasCleanDisk (shown db.new) → IfOk result (λ rows. (last : Held S)
+        × Shown sql.now (bound values.now) (once_begun S.Store db.old.conn)
         (state S.Store last) rows.items) }
-    ensures failed { HasCleanDisk (state S.Store conn.new) → IfErr result (λ e. (last : Held S)
-        × ((state S.Store last).faults ≤ (state S.Store conn.new).faults)
-        × (FailsToQuery sql.now (bound values.now) (once_begun S.Store conn.old)
+    ensures failed { HasCleanDisk (shown db.new) → IfErr result (λ e. (last : Held S)
+        × ((state S.Store last).faults ≤ (shown db.new).faults)
+        × (FailsToQuery sql.now (bound values.now) (once_begun S.Store db.old.conn)
         (state S.Store last) e
-        ⊎ IsTooLate sql.now (bound values.now) (once_begun S.Store conn.old)
+        ⊎ IsTooLate sql.now (bound values.now) (once_begun S.Store db.old.conn)
         (state S.Store last) e)) }
 {
-    let mut tx = conn.transaction();
+    let mut tx = db.conn.transaction();
     let rows = tx.query_all(sql, values);
     tx.rollback();
     rows
@@ -92,41 +92,39 @@ fn lines_in<L: Line + Drop>(alloc: Global, rows: Vec<Row>) -> Result<Vec<L>, Err
 /// The lines of the rows that a query shows.
 pub(crate) fn list<S: Alter, L: Line + Drop>(
     alloc: Global,
-    conn: &mut Connection<S>,
+    db: &mut Idle<S>,
     sql: &str,
     values: &[ValueRef<'_>],
 ) -> Result<Vec<L>, Error>
-    requires idle { conn.old.in_transaction ≡ false }
-    ensures frame { StaysIdle S.Store conn.old conn.new result }
-    ensures read { HasCleanDisk (state S.Store conn.new) → IfOk result (λ lines. (last : Held S)
+    ensures frame { StaysIdle S.Store db.old.conn db.new.conn result }
+    ensures read { HasCleanDisk (shown db.new) → IfOk result (λ lines. (last : Held S)
         × (found : List SqlRow)
-        × Shown sql.now (bound values.now) (once_begun S.Store conn.old) (state S.Store last) found
+        × Shown sql.now (bound values.now) (once_begun S.Store db.old.conn) (state S.Store last) found
         × (map L.shown found ≡ map L.cells lines.items)) }
-    ensures failed { HasCleanDisk (state S.Store conn.new) → IfErr result (λ e. (last : Held S)
-        × FailsToList L.is_readable sql.now (bound values.now) (once_begun S.Store conn.old)
-        (state S.Store last) (state S.Store conn.new) e) }
+    ensures failed { HasCleanDisk (shown db.new) → IfErr result (λ e. (last : Held S)
+        × FailsToList L.is_readable sql.now (bound values.now) (once_begun S.Store db.old.conn)
+        (state S.Store last) (shown db.new) e) }
 {
-    let rows = ask(conn, sql, values)?;
+    let rows = ask(db, sql, values)?;
     lines_in(alloc, rows)
 }
 
 /// The line of the first row that a query shows, if it shows one.
 pub(crate) fn first<S: Alter, L: Line>(
-    conn: &mut Connection<S>,
+    db: &mut Idle<S>,
     sql: &str,
     values: &[ValueRef<'_>],
 ) -> Result<Option<L>, Error>
-    requires idle { conn.old.in_transaction ≡ false }
-    ensures frame { StaysIdle S.Store conn.old conn.new result }
-    ensures read { HasCleanDisk (state S.Store conn.new) → IfOk result (λ line. (last : Held S)
+    ensures frame { StaysIdle S.Store db.old.conn db.new.conn result }
+    ensures read { HasCleanDisk (shown db.new) → IfOk result (λ line. (last : Held S)
         × (found : List SqlRow)
-        × Shown sql.now (bound values.now) (once_begun S.Store conn.old) (state S.Store last) found
+        × Shown sql.now (bound values.now) (once_begun S.Store db.old.conn) (state S.Store last) found
         × (option_map L.shown (slice_get found 0) ≡ option_map L.cells line)) }
-    ensures failed { HasCleanDisk (state S.Store conn.new) → IfErr result (λ e. (last : Held S)
-        × FailsToList L.is_readable sql.now (bound values.now) (once_begun S.Store conn.old)
-        (state S.Store last) (state S.Store conn.new) e) }
+    ensures failed { HasCleanDisk (shown db.new) → IfErr result (λ e. (last : Held S)
+        × FailsToList L.is_readable sql.now (bound values.now) (once_begun S.Store db.old.conn)
+        (state S.Store last) (shown db.new) e) }
 {
-    let rows = ask(conn, sql, values)?;
+    let rows = ask(db, sql, values)?;
     match rows.first() {
         None => Ok(None),
         Some(row) => Ok(Some(L::read(row)?)),

@@ -1,20 +1,20 @@
 //! The texts of schemas, by their ids.
 
-ghost use Rattle.std.specs.Prelude.{List, ◌≡◌, ◌≢◌, ◌≤◌, ◌<◌, ◌^◌, ℕ, None, Some, IsSome, OnOk, IfOk, IfErr, MatchOption, false, string_bytes};
+ghost use Rattle.std.specs.Prelude.{List, ◌≡◌, ◌≢◌, ◌≤◌, ◌<◌, ◌^◌, ℕ, None, Some, IsSome, OnOk, IfOk, IfErr, MatchOption, string_bytes};
 ghost use Rattle.std.specs.FinMap.{get};
-ghost use Rattle.sqlite.specs.Held.{state};
-ghost use Rattle.reg_tables.specs.Frames.{state_in, StaysInside, StaysIdle};
+ghost use Rattle.reg_tables.specs.Frames.{state_in, StaysInside};
 ghost use Rattle.sqlite.specs.State.{HasCleanDisk};
-ghost use Rattle.reg_tables.specs.Layout.{IsLayout};
 ghost use Rattle.reg_tables.specs.Contents.{Contents, number_cells, Holds, AreReadable, HoldsIn};
+ghost use Rattle.reg_tables.specs.Lookups.{Finds};
+ghost use Rattle.reg_tables.specs.Layout.{IsLayout};
 ghost use Rattle.reg_tables.specs.Changes.{with_text};
-ghost use Rattle.reg_tables.specs.Reads.{CanBeRead};
-ghost use Rattle.reg_tables.specs.FailedCalls.{IsFault, IsPutFault};
+ghost use Rattle.reg_tables.specs.FailedCalls.{IsPutFault};
 ghost use Rattle.reg_tables.specs.Inside.Keyed.{texts_table};
 
+use crate::idle::Idle;
 use crate::keyed::{KeyedTable, find};
 use crate::statement::{ask, run};
-use sqlite::{Alter, Connection, Error, ErrorCode, Row, Transaction, params};
+use sqlite::{Alter, Error, ErrorCode, Row, Transaction, params};
 
 /// The table `texts`, by id.
 struct Texts;
@@ -75,18 +75,12 @@ pub fn put_text<S: Alter>(tx: &mut Transaction<'_, S>, id: u32, text: &str) -> R
 ///
 /// `OutOfMemory`, a fault of the disk, or `OperationInterrupted` at the limit on steps; where the
 /// tables can't be read, another error too. Nothing is changed.
-pub fn text_of<S: Alter>(conn: &mut Connection<S>, id: u32) -> Result<Option<String>, Error>
-    requires idle { conn.old.in_transaction ≡ false }
-    ensures frame { StaysIdle S.Store conn.old conn.new result }
-    ensures found { HasCleanDisk (state S.Store conn.new) → IfOk result (λ found.
-        (contents : Contents) → Holds (state S.Store conn.old).now contents
-        → MatchOption found (get contents.texts id ≡ None)
+pub fn text_of<S: Alter>(db: &mut Idle<S>, id: u32) -> Result<Option<String>, Error>
+    ensures { Finds db.old db.new result (λ contents found.
+        MatchOption found (get contents.texts id ≡ None)
         (λ text. get contents.texts id ≡ Some (string_bytes text))) }
-    ensures fault { HasCleanDisk (state S.Store conn.new) → IfErr result (λ e.
-        CanBeRead (state S.Store conn.old)
-        → IsFault (state S.Store conn.old) (state S.Store conn.new) e) }
 {
-    find::<S, Texts>(conn, params![id])
+    find::<S, Texts>(db, params![id])
 }
 
 /// The number in a row's one column.
@@ -104,18 +98,12 @@ fn number_in(row: &Row) -> Result<u32, Error>
 ///
 /// `OutOfMemory`, a fault of the disk, or `OperationInterrupted` at the limit on steps; where the
 /// tables can't be read, another error too. Nothing is changed.
-pub fn id_of<S: Alter>(conn: &mut Connection<S>, text: &str) -> Result<Option<u32>, Error>
-    requires idle { conn.old.in_transaction ≡ false }
-    ensures frame { StaysIdle S.Store conn.old conn.new result }
-    ensures found { HasCleanDisk (state S.Store conn.new) → IfOk result (λ found.
-        (contents : Contents) → Holds (state S.Store conn.old).now contents
-        → MatchOption found ((id : ℕ) → get contents.texts id ≢ Some text.now)
+pub fn id_of<S: Alter>(db: &mut Idle<S>, text: &str) -> Result<Option<u32>, Error>
+    ensures { Finds db.old db.new result (λ contents found.
+        MatchOption found ((id : ℕ) → get contents.texts id ≢ Some text.now)
         (λ id. get contents.texts id ≡ Some text.now)) }
-    ensures fault { HasCleanDisk (state S.Store conn.new) → IfErr result (λ e.
-        CanBeRead (state S.Store conn.old)
-        → IsFault (state S.Store conn.old) (state S.Store conn.new) e) }
 {
-    let rows = ask(conn, "SELECT id FROM texts WHERE text = ?1", params![text])?;
+    let rows = ask(db, "SELECT id FROM texts WHERE text = ?1", params![text])?;
     match rows.first() {
         None => Ok(None),
         Some(row) => Ok(Some(number_in(row)?)),
@@ -128,19 +116,13 @@ pub fn id_of<S: Alter>(conn: &mut Connection<S>, text: &str) -> Result<Option<u3
 ///
 /// `OutOfMemory`, a fault of the disk, or `OperationInterrupted` at the limit on steps; where the
 /// tables can't be read, another error too. Nothing is changed.
-pub fn last_id<S: Alter>(conn: &mut Connection<S>) -> Result<Option<u32>, Error>
-    requires idle { conn.old.in_transaction ≡ false }
-    ensures frame { StaysIdle S.Store conn.old conn.new result }
-    ensures found { HasCleanDisk (state S.Store conn.new) → IfOk result (λ found.
-        (contents : Contents) → Holds (state S.Store conn.old).now contents
-        → MatchOption found ((id : ℕ) → get contents.texts id ≡ None)
+pub fn last_id<S: Alter>(db: &mut Idle<S>) -> Result<Option<u32>, Error>
+    ensures { Finds db.old db.new result (λ contents found.
+        MatchOption found ((id : ℕ) → get contents.texts id ≡ None)
         (λ id. IsSome (get contents.texts id)
         × ((other : ℕ) → IsSome (get contents.texts other) → other ≤ id))) }
-    ensures fault { HasCleanDisk (state S.Store conn.new) → IfErr result (λ e.
-        CanBeRead (state S.Store conn.old)
-        → IsFault (state S.Store conn.old) (state S.Store conn.new) e) }
 {
-    let rows = ask(conn, "SELECT id FROM texts ORDER BY id DESC LIMIT 1", &[])?;
+    let rows = ask(db, "SELECT id FROM texts ORDER BY id DESC LIMIT 1", &[])?;
     match rows.first() {
         None => Ok(None),
         Some(row) => Ok(Some(number_in(row)?)),

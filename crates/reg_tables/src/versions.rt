@@ -1,26 +1,26 @@
 //! The versions of subjects: one is put, dropped, marked as deleted or found, by its subject and its number.
 
-ghost use Rattle.std.specs.Prelude.{List, [], ◌∷◌, ◌≡◌, ◌<◌, ◌^◌, ℕ, None, Some, IsSome, OnOk, IfOk, IfErr, MatchOption, false};
+ghost use Rattle.std.specs.Prelude.{List, [], ◌∷◌, ◌≡◌, ◌<◌, ◌^◌, ℕ, None, Some, IsSome, OnOk, IfErr, MatchOption};
 ghost use Rattle.std.specs.FinMap.{get};
 ghost use Rattle.sqlite.specs.Order.{column};
-ghost use Rattle.sqlite.specs.Held.{state};
-ghost use Rattle.reg_tables.specs.Frames.{state_in, StaysInside, StaysIdle};
+ghost use Rattle.reg_tables.specs.Frames.{state_in, StaysInside};
 ghost use Rattle.sqlite.specs.State.{HasCleanDisk};
-ghost use Rattle.reg_tables.specs.Layout.{IsLayout, layout};
 ghost use Rattle.reg_tables.specs.Contents.{VersionRow, Contents, version_cells, Holds, AreReadable, HoldsIn};
+ghost use Rattle.reg_tables.specs.Lookups.{Finds};
+ghost use Rattle.reg_tables.specs.Layout.{IsLayout, layout};
 ghost use Rattle.sqlite.specs.Schema.{Schema};
 ghost use Rattle.reg_tables.specs.SecondLayout.{IsSecond};
 ghost use Rattle.reg_tables.specs.SecondContents.{SecondContents, HoldsAllIn, ChangesSecond, without_evidence};
 ghost use Rattle.reg_tables.specs.Changes.{Changes, with_version, without_version, with_deleted};
-ghost use Rattle.reg_tables.specs.Reads.{CanBeRead};
-ghost use Rattle.reg_tables.specs.FailedCalls.{IsFault, IsWriteFault, IsInsertFault};
+ghost use Rattle.reg_tables.specs.FailedCalls.{IsWriteFault, IsInsertFault};
 ghost use Rattle.reg_tables.specs.Entries.{version_row};
 ghost use Rattle.reg_tables.specs.Inside.Keyed.{versions_table};
 
+use crate::idle::Idle;
 use crate::keyed::{FilledTable, KeyedTable, find, put};
 use crate::lines::flag_in;
 use crate::statement::{Line, run};
-use sqlite::{Alter, Connection, Error, ErrorCode, Row, Transaction, params};
+use sqlite::{Alter, Error, ErrorCode, Row, Transaction, params};
 
 /// What a version of a subject is: the id of its text, and whether it is marked as deleted.
 #[derive(Debug, Clone, Copy)]
@@ -180,19 +180,13 @@ pub fn mark_deleted<S: Alter>(
 /// `OutOfMemory`, a fault of the disk, or `OperationInterrupted` at the limit on steps; where the
 /// tables can't be read, another error too. Nothing is changed.
 pub fn version_of<S: Alter>(
-    conn: &mut Connection<S>,
+    db: &mut Idle<S>,
     subject: &str,
     number: u32,
 ) -> Result<Option<VersionEntry>, Error>
-    requires idle { conn.old.in_transaction ≡ false }
-    ensures frame { StaysIdle S.Store conn.old conn.new result }
-    ensures found { HasCleanDisk (state S.Store conn.new) → IfOk result (λ found.
-        (contents : Contents) → Holds (state S.Store conn.old).now contents
-        → MatchOption found (get contents.versions (subject.now, number) ≡ None)
+    ensures { Finds db.old db.new result (λ contents found.
+        MatchOption found (get contents.versions (subject.now, number) ≡ None)
         (λ entry. get contents.versions (subject.now, number) ≡ Some (version_row entry))) }
-    ensures fault { HasCleanDisk (state S.Store conn.new) → IfErr result (λ e.
-        CanBeRead (state S.Store conn.old)
-        → IsFault (state S.Store conn.old) (state S.Store conn.new) e) }
 {
-    find::<S, Versions>(conn, params![subject, number])
+    find::<S, Versions>(db, params![subject, number])
 }

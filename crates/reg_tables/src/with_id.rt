@@ -1,18 +1,14 @@
 //! Versions that have an id: some of all subjects', and the last of a subject's.
 
-ghost use Rattle.std.specs.Prelude.{◌≡◌, ◌==◌, ◌&&◌, ◌||◌, IfOk, IfErr, None, false, not, map, filter, option_map};
+ghost use Rattle.std.specs.Prelude.{◌≡◌, ◌==◌, ◌&&◌, ◌||◌, None, not, map, filter, option_map};
 ghost use Rattle.std.specs.List.{last_or};
-ghost use Rattle.sqlite.specs.Held.{state};
-ghost use Rattle.sqlite.specs.State.{HasCleanDisk};
-ghost use Rattle.reg_tables.specs.Frames.{StaysIdle};
-ghost use Rattle.reg_tables.specs.Contents.{Contents, Holds};
+ghost use Rattle.reg_tables.specs.Lookups.{Finds};
 ghost use Rattle.reg_tables.specs.Entries.{AreOfId, keyed, most, numbered, subject_versions};
-ghost use Rattle.reg_tables.specs.Reads.{CanBeRead};
-ghost use Rattle.reg_tables.specs.FailedCalls.{IsFault};
 
+use crate::idle::Idle;
 use crate::listed::{ListedVersion, SubjectVersion};
 use crate::statement::{first, list};
-use sqlite::{Alter, Connection, Error, params};
+use sqlite::{Alter, Error, params};
 use std::alloc::Global;
 
 /// So many versions of an id are told at most.
@@ -27,21 +23,15 @@ pub const MOST: usize = 33;
 /// tables can't be read, another error too. Nothing is changed.
 pub fn some_versions_of_id<S: Alter>(
     alloc: Global,
-    conn: &mut Connection<S>,
+    db: &mut Idle<S>,
     id: u32,
 ) -> Result<Vec<ListedVersion>, Error>
-    requires idle { conn.old.in_transaction ≡ false }
-    ensures frame { StaysIdle S.Store conn.old conn.new result }
-    ensures found { HasCleanDisk (state S.Store conn.new) → IfOk result (λ lines.
-        (contents : Contents) → Holds (state S.Store conn.old).now contents
-        → AreOfId id contents (map keyed lines.items)) }
-    ensures fault { HasCleanDisk (state S.Store conn.new) → IfErr result (λ e.
-        CanBeRead (state S.Store conn.old)
-        → IsFault (state S.Store conn.old) (state S.Store conn.new) e) }
+    ensures { Finds db.old db.new result (λ contents lines.
+        AreOfId id contents (map keyed lines.items)) }
 {
     list(
         alloc,
-        conn,
+        db,
         "SELECT subject, version, id, deleted FROM versions WHERE id = ?1 LIMIT 33",
         params![id],
     )
@@ -56,24 +46,18 @@ pub fn some_versions_of_id<S: Alter>(
 /// `OutOfMemory`, a fault of the disk, or `OperationInterrupted` at the limit on steps; where the
 /// tables can't be read, another error too. Nothing is changed.
 pub fn last_version_with_id<S: Alter>(
-    conn: &mut Connection<S>,
+    db: &mut Idle<S>,
     subject: &str,
     id: u32,
     deleted: bool,
 ) -> Result<Option<SubjectVersion>, Error>
-    requires idle { conn.old.in_transaction ≡ false }
-    ensures frame { StaysIdle S.Store conn.old conn.new result }
-    ensures found { HasCleanDisk (state S.Store conn.new) → IfOk result (λ found.
-        (contents : Contents) → Holds (state S.Store conn.old).now contents
-        → option_map numbered found
+    ensures { Finds db.old db.new result (λ contents found.
+        option_map numbered found
         ≡ last_or None (filter (λ version. (deleted || not version.1.deleted) && (version.1.id == id))
         (subject_versions subject.now contents))) }
-    ensures fault { HasCleanDisk (state S.Store conn.new) → IfErr result (λ e.
-        CanBeRead (state S.Store conn.old)
-        → IsFault (state S.Store conn.old) (state S.Store conn.new) e) }
 {
     first(
-        conn,
+        db,
         "SELECT version, id, deleted FROM versions WHERE subject = ?1 AND id = ?2 AND deleted <= ?3 ORDER BY subject DESC, version DESC LIMIT 1",
         params![subject, id, deleted],
     )

@@ -17,7 +17,7 @@ pub record Stored : Type 0 where
 
 -- SQLite, transactions: what the connection shows
 abbrev pub shown : {S : Type 0} {g : Ghosts S} → Idle S g → State
-shown {S} {g} db = state g db.conn
+shown {S} {g} db = state g db.idle.conn
 
 -- as long as the connection is open, its tables spell what is stored
 abbrev pub Spell : State → Stored → Type 0

@@ -45,7 +45,7 @@ fn commit_all<S: Alter>(
         → IsTrue (shown db.old).is_open ⊎ ActsOn changes.now keep.entry
         → Leaves left (after_changes changes.now g) (with_reply keep.entry k)) }
 {
-    let mut tx = db.conn.transaction();
+    let mut tx = db.idle.conn.transaction();
     make_all(&mut tx, changes)?;
     keep_reply(&mut tx, keep)?;
     tx.commit()
@@ -98,7 +98,7 @@ impl<S: Alter> Store<S> {
             return Err(StoreError::Disk);
         }
         let done = commit_all(&mut self.db, changes, keep);
-        let _idle = self.db.conn.is_autocommit();
+        let _idle = self.db.idle.conn.is_autocommit();
         let done = done.map_err(StoreError::from);
         self.failed = matches!(done, Err(StoreError::Disk));
         done

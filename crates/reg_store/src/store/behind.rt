@@ -73,7 +73,7 @@ fn number_behind<S: Alter>(
     ensures { Reads db.old db.new result (λ was found.
         found ≡ find (λ row. bytes_eq row.0.0 subject.now && is_gt (nat_cmp row.0.1 number)) (entries was.registry.rows)) }
 {
-    match next_version_of(&mut db.conn, subject.as_str(), number)? {
+    match next_version_of(&mut db.idle, subject.as_str(), number)? {
         None => Ok(None),
         Some(line) => {
             let owner = subject.try_clone()?;
@@ -87,7 +87,7 @@ fn first_behind<S: Alter>(db: &mut Idle<S>, subject: &str) -> Result<Option<Row>
     ensures { Reads db.old db.new result (λ was found.
         found ≡ find (λ row. is_gt (text_cmp row.0.0 subject.now)) (entries was.registry.rows)) }
 {
-    match first_version_behind(&mut db.conn, subject)? {
+    match first_version_behind(&mut db.idle, subject)? {
         None => Ok(None),
         Some(line) => Ok(Some(row_in(line)?)),
     }

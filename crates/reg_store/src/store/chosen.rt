@@ -79,7 +79,7 @@ fn shown_line<S: Alter>(
         ≡ Some (row_numbered subject.now (numbered line)).1)
         × (line.number ≡ number) × ((deleted || not line.deleted) ≡ true))) }
 {
-    match version_of(&mut db.conn, subject.as_str(), number)? {
+    match version_of(&mut db.idle, subject.as_str(), number)? {
         Some(entry) if deleted || !entry.deleted => Ok(Some(SubjectVersion {
             number,
             id: entry.id,
@@ -114,9 +114,9 @@ pub(crate) fn last_line<S: Alter>(
         ≡ last_or None (shown_rows deleted (rows_of was.registry subject.now))) }
 {
     if deleted {
-        Ok(last_version_of(&mut db.conn, subject.as_str())?)
+        Ok(last_version_of(&mut db.idle, subject.as_str())?)
     } else {
-        Ok(last_live_version_of(&mut db.conn, subject.as_str())?)
+        Ok(last_live_version_of(&mut db.idle, subject.as_str())?)
     }
 }
 
@@ -159,7 +159,7 @@ fn some_row<S: Alter>(alloc: Global, db: &mut Idle<S>, id: u32) -> Result<Vec<Ro
         map (λ row. row.1.id) (latest rows.items)
         ≡ map (λ row. row.1.id) (latest (rows_with id (entries was.registry.rows)))) }
 {
-    match a_version_of_id(&mut db.conn, id)? {
+    match a_version_of_id(&mut db.idle, id)? {
         None => Ok(Vec::new(alloc)),
         Some(line) => one_row(alloc, line),
     }

@@ -44,7 +44,7 @@ fn lines_of_id<S: Alter>(
     ensures { Reads db.old db.new result (λ was lines.
         AreSome (map (λ line. row_spelled (keyed line)) lines.items) (rows_with id (entries was.registry.rows))) }
 {
-    Ok(some_versions_of_id(alloc, &mut db.conn, id)?)
+    Ok(some_versions_of_id(alloc, &mut db.idle, id)?)
 }
 
 /// The line that `line_with_id` tells, found among the subject's versions.
@@ -58,7 +58,7 @@ fn line_of_subject<S: Alter>(
         option_map (λ line. row_numbered subject.now (numbered line)) found
         ≡ last_or None (rows_with id (shown_rows deleted (rows_of was.registry subject.now)))) }
 {
-    Ok(last_version_with_id(&mut db.conn, subject.as_str(), id, deleted)?)
+    Ok(last_version_with_id(&mut db.idle, subject.as_str(), id, deleted)?)
 }
 
 /// The last of the lines that are of the subject and are shown, if there is one.

@@ -52,7 +52,7 @@ pub(crate) fn own<S: Alter>(
 ) -> Result<Option<Level>, StoreError>
     ensures { Reads db.old db.new result (λ was own. own ≡ was.registry.own subject.now) }
 {
-    match own_level(&mut db.conn, subject.as_str())? {
+    match own_level(&mut db.idle, subject.as_str())? {
         None => Ok(None),
         Some(text) => Ok(Some(level_in(text.as_str())?)),
     }
@@ -62,7 +62,7 @@ pub(crate) fn own<S: Alter>(
 fn global<S: Alter>(db: &mut Idle<S>) -> Result<Level, StoreError>
     ensures { Reads db.old db.new result (λ was level. HasNoModes was.registry × (level ≡ was.registry.global)) }
 {
-    match global_level(&mut db.conn)? {
+    match global_level(&mut db.idle)? {
         None => Err(StoreError::NotARegistry),
         Some(text) => level_in(text.as_str()),
     }

@@ -69,9 +69,11 @@ impl<S: Alter> Store<S> {
             let _idle = connection.is_autocommit();
             return Err((StoreError::NotARegistry, connection));
         }
-        let mut db = Idle { conn: connection };
+        let mut db = Idle {
+            idle: reg_tables::Idle { conn: connection },
+        };
         let made = make_in(&mut db);
-        let _idle = db.conn.is_autocommit();
+        let _idle = db.idle.conn.is_autocommit();
         match made {
             Ok(()) => Ok(Store {
                 alloc,
@@ -79,7 +81,8 @@ impl<S: Alter> Store<S> {
                 failed: false,
             }),
             Err(error) => {
-                let Idle { conn } = db;
+                let Idle { idle } = db;
+                let reg_tables::Idle { conn } = idle;
                 Err((StoreError::from(error), conn))
             }
         }
@@ -102,7 +105,8 @@ impl<S: Alter> Store<S> {
             db,
             failed: _,
         } = self;
-        let Idle { conn } = db;
+        let Idle { idle } = db;
+        let reg_tables::Idle { conn } = idle;
         conn
     }
 }
@@ -122,7 +126,7 @@ fn make_in<S: Alter>(db: &mut Idle<S>) -> Result<(), Error>
     ensures survives { Survives (shown db.old) (shown db.new) (λ left.
         (shown db.old).now.schema ≡ no_schema → Leaves left new_registry nothing_kept) }
 {
-    let mut tx = db.conn.transaction();
+    let mut tx = db.idle.conn.transaction();
     reg_tables::create(&mut tx)?;
     tx.commit()
 }

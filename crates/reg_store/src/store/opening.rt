@@ -79,7 +79,9 @@ impl<S: Alter> Store<S> {
     {
         connection.set_step_limit(None);
         let _idle = connection.is_autocommit();
-        let mut db = Idle { conn: connection };
+        let mut db = Idle {
+            idle: reg_tables::Idle { conn: connection },
+        };
         match make_ready(alloc, &mut db) {
             Ok(()) => Ok(Store {
                 alloc,
@@ -87,7 +89,8 @@ impl<S: Alter> Store<S> {
                 failed: false,
             }),
             Err(error) => {
-                let Idle { conn } = db;
+                let Idle { idle } = db;
+                let reg_tables::Idle { conn } = idle;
                 Err((error, conn))
             }
         }
@@ -113,14 +116,14 @@ fn make_ready<S: Alter>(alloc: Global, db: &mut Idle<S>) -> Result<(), StoreErro
     ensures survives { Survives (shown db.old) (shown db.new)
         (IsIndexed (shown db.old).now) }
 {
-    let _live = db.conn.schema();
-    let _idle = db.conn.is_autocommit();
+    let _live = db.idle.conn.schema();
+    let _idle = db.idle.conn.is_autocommit();
     test(alloc, db)?;
-    if !is_unindexed(&db.conn) {
+    if !is_unindexed(&db.idle.conn) {
         return Ok(());
     }
     let made = make_index(db);
-    let _settled = db.conn.is_autocommit();
+    let _settled = db.idle.conn.is_autocommit();
     Ok(made?)
 }
 
@@ -142,7 +145,7 @@ fn make_index<S: Alter>(db: &mut Idle<S>) -> Result<(), Error>
     ensures survives { Survives (shown db.old) (shown db.new)
         (λ left. IsTrue (shown db.old).is_open × TakesIndex (shown db.old).now left) }
 {
-    let mut tx = db.conn.transaction();
+    let mut tx = db.idle.conn.transaction();
     index_versions(&mut tx)?;
     tx.commit()
 }

@@ -63,7 +63,7 @@ fn kept_under<S: Alter>(
     ensures { Reads db.old db.new result (λ was found.
         was.replies key.now ≡ option_map (λ kept. entry_told (string_bytes kept.0) kept.1) found) }
 {
-    match kept_reply(&mut db.conn, key.as_str())? {
+    match kept_reply(&mut db.idle, key.as_str())? {
         None => Ok(None),
         Some(row) => Ok(Some(told_in(row)?)),
     }

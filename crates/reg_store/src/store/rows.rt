@@ -95,7 +95,7 @@ pub(crate) fn subject_rows<S: Alter>(
     ensures { Reads db.old db.new result (λ was rows.
         rows.items ≡ rows_of was.registry subject.now) }
 {
-    let lines = versions_of(alloc, &mut db.conn, subject.as_str())?;
+    let lines = versions_of(alloc, &mut db.idle, subject.as_str())?;
     Ok(rows_under(alloc, subject, lines)?)
 }
 
@@ -104,7 +104,7 @@ fn id_rows<S: Alter>(alloc: Global, db: &mut Idle<S>, id: u32) -> Result<Vec<Row
     ensures { Reads db.old db.new result (λ was rows.
         rows.items ≡ rows_with id (entries was.registry.rows)) }
 {
-    let lines = versions_of_id(alloc, &mut db.conn, id)?;
+    let lines = versions_of_id(alloc, &mut db.idle, id)?;
     rows_in(alloc, lines)
 }
 
@@ -112,7 +112,7 @@ fn id_rows<S: Alter>(alloc: Global, db: &mut Idle<S>, id: u32) -> Result<Vec<Row
 pub(crate) fn all_rows<S: Alter>(alloc: Global, db: &mut Idle<S>) -> Result<Vec<Row>, StoreError>
     ensures { Reads db.old db.new result (λ was rows. rows.items ≡ entries was.registry.rows) }
 {
-    let lines = all_versions(alloc, &mut db.conn)?;
+    let lines = all_versions(alloc, &mut db.idle)?;
     rows_in(alloc, lines)
 }
 

@@ -18,7 +18,7 @@ pub(crate) fn text_under<S: Alter>(db: &mut Idle<S>, id: u32) -> Result<Option<S
     ensures { Reads db.old db.new result (λ was found.
         option_map string_bytes found ≡ text_at was.registry.schemas id) }
 {
-    Ok(text_of(&mut db.conn, id)?)
+    Ok(text_of(&mut db.idle, id)?)
 }
 
 /// The id of the schema with this identity text, if there is one.
@@ -26,14 +26,14 @@ fn id_under<S: Alter>(db: &mut Idle<S>, text: &str) -> Result<Option<u32>, Store
     ensures { Reads db.old db.new result (λ was found.
         found ≡ id_of was.registry.schemas text.now) }
 {
-    Ok(id_of(&mut db.conn, text)?)
+    Ok(id_of(&mut db.idle, text)?)
 }
 
 /// The number of schemas.
 pub(crate) fn count<S: Alter>(db: &mut Idle<S>) -> Result<u32, StoreError>
     ensures { Reads db.old db.new result (λ was count. count ≡ length was.registry.schemas) }
 {
-    match last_id(&mut db.conn)? {
+    match last_id(&mut db.idle)? {
         None => Ok(0),
         Some(id) => Ok(id),
     }

@@ -39,7 +39,7 @@ fn are_identities(alloc: Global, lines: &[TextLine]) -> Result<bool, OutOfMemory
 
 /// How many texts there are, if their ids are the numbers from 1 on.
 fn count_texts<S: Alter>(alloc: Global, db: &mut Idle<S>) -> Result<u32, StoreError>
-    ensures frame { StaysIdle S.Store db.old.conn db.new.conn result }
+    ensures frame { StaysIdle S.Store db.old.idle.conn db.new.idle.conn result }
     ensures counted { HasCleanDisk (shown db.new) → IfOk result (λ count.
         IsLayout (shown db.old).now.schema
         → NumbersTexts (shown db.old).now count) }
@@ -50,7 +50,7 @@ fn count_texts<S: Alter>(alloc: Global, db: &mut Idle<S>) -> Result<u32, StoreEr
         → IfErr result (IsToldUnopened (shown db.old) (shown db.new)) }
     ensures plain { IfErr result IsNumberless }
 {
-    let mut ids = text_ids(alloc, &mut db.conn)?;
+    let mut ids = text_ids(alloc, &mut db.idle)?;
     ids.sort_unstable();
     allow(are_ids(&ids))?;
     Ok(ids.len() as u32)
@@ -64,7 +64,7 @@ fn judge_some<S: Alter>(
     first: u32,
     last: u32,
 ) -> Result<bool, StoreError>
-    ensures frame { StaysIdle S.Store db.old.conn db.new.conn result }
+    ensures frame { StaysIdle S.Store db.old.idle.conn db.new.idle.conn result }
     ensures judged { HasCleanDisk (shown db.new) → IfOk result (λ fit.
         IsLayout (shown db.old).now.schema
         → Judges (ListsTextsBetween first last (shown db.old).now) fit) }
@@ -75,7 +75,7 @@ fn judge_some<S: Alter>(
         → IfErr result (IsToldUnopened (shown db.old) (shown db.new)) }
     ensures plain { IfErr result IsNumberless }
 {
-    let lines = texts_between(alloc, &mut db.conn, first, last)?;
+    let lines = texts_between(alloc, &mut db.idle, first, last)?;
     Ok(are_identities(alloc, &lines)?)
 }
 
@@ -97,7 +97,7 @@ fn judge_all<S: Alter>(alloc: Global, db: &mut Idle<S>, count: u32) -> Result<bo
         → IfErr result (IsToldUnopened (shown db.old) (shown db.new)) }
     ensures plain { IfErr result IsNumberless }
 {
-    let _idle = db.conn.is_autocommit();
+    let _idle = db.idle.conn.is_autocommit();
     let mut fit = true;
     for chunk in 0..count / TEXTS_AT_ONCE + 1 {
         let before = chunk * TEXTS_AT_ONCE;
@@ -109,10 +109,10 @@ fn judge_all<S: Alter>(alloc: Global, db: &mut Idle<S>, count: u32) -> Result<bo
 
 /// Reads `texts`, and tests it.
 pub(crate) fn test_texts<S: Alter>(alloc: Global, db: &mut Idle<S>) -> Result<(), StoreError>
-    ensures tests { Tests S.Store db.old.conn db.new.conn result TextsPass }
+    ensures tests { Tests S.Store db.old.idle.conn db.new.idle.conn result TextsPass }
     ensures plain { IfErr result IsNumberless }
 {
-    let _idle = db.conn.is_autocommit();
+    let _idle = db.idle.conn.is_autocommit();
     let count = count_texts(alloc, db)?;
     allow(judge_all(alloc, db, count)?)
 }

@@ -1,8 +1,8 @@
 //! The steps that look-ups of versions take: few, whatever else the subject and the id have.
 
 use reg_tables::{
-    create, last_live_version_of, last_version_of, last_version_with_id, put_text, put_version,
-    some_versions_of_id, version_of, versions_of,
+    Idle, create, last_live_version_of, last_version_of, last_version_with_id, put_text,
+    put_version, some_versions_of_id, version_of, versions_of,
 };
 use sqlite::{Alter, Connection, Transaction};
 use std::alloc::Global;
@@ -59,34 +59,25 @@ fn fill<S: Alter>(alloc: Global, connection: &mut Connection<S>) -> Result<(), F
 }
 
 /// Looks the versions of s up by their numbers.
-fn look_up_numbers<S: Alter>(connection: &mut Connection<S>) -> Result<(), Fail> {
-    if !connection.is_autocommit() {
-        return Err("a transaction is open".into());
-    }
-    last_version_of(connection, "s")?;
-    last_live_version_of(connection, "s")?;
-    version_of(connection, "s", 1)?;
+fn look_up_numbers<S: Alter>(db: &mut Idle<S>) -> Result<(), Fail> {
+    last_version_of(db, "s")?;
+    last_live_version_of(db, "s")?;
+    version_of(db, "s", 1)?;
     Ok(())
 }
 
 /// Looks the last version up by its id, and an id that few versions have.
-fn look_up_ids<S: Alter>(alloc: Global, connection: &mut Connection<S>) -> Result<(), Fail> {
-    if !connection.is_autocommit() {
-        return Err("a transaction is open".into());
-    }
-    last_version_with_id(connection, "s", VERSIONS, false)?;
-    some_versions_of_id(alloc, connection, VERSIONS)?;
-    some_versions_of_id(alloc, connection, OTHER)?;
+fn look_up_ids<S: Alter>(alloc: Global, db: &mut Idle<S>) -> Result<(), Fail> {
+    last_version_with_id(db, "s", VERSIONS, false)?;
+    some_versions_of_id(alloc, db, VERSIONS)?;
+    some_versions_of_id(alloc, db, OTHER)?;
     Ok(())
 }
 
 /// Looks an id up that many versions have. As many steps don't reach through the versions of s.
-fn look_up_many<S: Alter>(alloc: Global, connection: &mut Connection<S>) -> Result<(), Fail> {
-    if !connection.is_autocommit() {
-        return Err("a transaction is open".into());
-    }
-    some_versions_of_id(alloc, connection, 1)?;
-    match versions_of(alloc, connection, "s") {
+fn look_up_many<S: Alter>(alloc: Global, db: &mut Idle<S>) -> Result<(), Fail> {
+    some_versions_of_id(alloc, db, 1)?;
+    match versions_of(alloc, db, "s") {
         Ok(_) => Err("the limit is not kept".into()),
         Err(_) => Ok(()),
     }
@@ -99,8 +90,12 @@ fn look_ups_take_few_steps(rt: HostRuntime) -> Result<(), Fail> {
     let mut connection = Connection::open_in_memory(alloc)?;
     fill(alloc, &mut connection)?;
     connection.set_step_limit(Some(12));
-    look_up_numbers(&mut connection)?;
-    look_up_ids(alloc, &mut connection)?;
-    connection.set_step_limit(Some(70));
-    look_up_many(alloc, &mut connection)
+    if !connection.is_autocommit() {
+        return Err("a transaction is open".into());
+    }
+    let mut db = Idle { conn: connection };
+    look_up_numbers(&mut db)?;
+    look_up_ids(alloc, &mut db)?;
+    db.conn.set_step_limit(Some(70));
+    look_up_many(alloc, &mut db)
 }

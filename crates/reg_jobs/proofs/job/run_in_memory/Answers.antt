@@ -16,5 +16,5 @@ returns-in_default-create g c =
 
 pub returns : goal.returns
 returns g c =
-    let s = c.serve.ensures.session (memory_is_clean c.serve.new.service.store.db.conn) new_registry nothing_kept (rw c.new-service.ensures (λ _. c.in-Ok-create.ensures.done (memory_is_clean c.in-Ok-create.store.db.conn))) in
+    let s = c.serve.ensures.session (memory_is_clean c.serve.new.service.store.db.idle.conn) new_registry nothing_kept (rw c.new-service.ensures (λ _. c.in-Ok-create.ensures.done (memory_is_clean c.in-Ok-create.store.db.idle.conn))) in
     record { registry = s.registry; kept = s.kept; ended = c.serve.result; session = s.holds; outcome_is = refl }

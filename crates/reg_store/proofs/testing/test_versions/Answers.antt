@@ -11,17 +11,17 @@ use Rattle.reg_store.proofs.testing.test_versions.Goals as goal
 
 pub returns-in_err-lines-clause-tests : goal.returns-in_err-lines-clause-tests
 returns-in_err-lines-clause-tests g c =
-    test_unread g.S.Store c.args.db.now.conn c.version_lines.new.conn c.from_residual.result c.in_err-lines.field-0.0 c.args.db.now.unlimited c.in_err-lines.ensures.frame c.in_err-lines.ensures.fault c.in_err-lines.ensures.told c.from_residual.ensures.1
+    test_unread g.S.Store c.args.db.now.idle.conn c.version_lines.new.db.conn c.from_residual.result c.in_err-lines.field-0.0 c.args.db.now.unlimited c.in_err-lines.ensures.frame c.in_err-lines.ensures.fault c.in_err-lines.ensures.told c.from_residual.ensures.1
 
 pub returns-in_err-lines-clause-plain : goal.returns-in_err-lines-clause-plain
 returns-in_err-lines-clause-plain g c = passed IsNumberless c.from_residual.result _ c.from_residual.ensures.1 (numberless c.in_err-lines.field-0.0)
 
 pub returns-clause-tests : goal.returns-clause-tests
 returns-clause-tests g c =
-    let db = (state g.S.Store c.args.db.now.conn).now in
+    let db = (state g.S.Store c.args.db.now.idle.conn).now in
     let lines = c.in_ok-lines.lines.items in
     let Passes : List VersionLine → Type 0 = λ l. AreApart (map (λ (line : VersionLine). line.rowid) l) × AllByRecursion version_fits l in
-    test_judged g.S.Store c.args.db.now.conn c.version_lines.new.conn c.allow.result c.in_ok-lines.lines c.in_ok-pass.field-0 c.in_ok-lines.ensures.frame c.allow.ensures.ok c.allow.ensures.err
+    test_judged g.S.Store c.args.db.now.idle.conn c.version_lines.new.db.conn c.allow.result c.in_ok-lines.lines c.in_ok-pass.field-0 c.in_ok-lines.ensures.frame c.allow.ensures.ok c.allow.ensures.err
     (λ clean yes known.
     let both = subst Passes c.deref.ensures.value (c.in_ok-pass.ensures.0 yes) in
     record { lines = lines; lists = c.in_ok-lines.ensures.listed clean known; apart = both.0; fit = both.1 })

@@ -4,8 +4,9 @@ use Rattle.reg_tables.proofs.LayoutTables.{holds_some}
 use Rattle.reg_tables.proofs.Transactions.{if_ok, if_err}
 use Rattle.reg_tables.proofs.kept.kept_reply.Goals as goal
 
-pub returns-clause-found : goal.returns-clause-found
-returns-clause-found g c clean = if_ok c.find.result (λ found is. is layout (inl refl) c.args.key.now (rw c.params-to_sql.ensures refl)) (c.find.ensures.found clean)
-
-pub returns-clause-fault : goal.returns-clause-fault
-returns-clause-fault g c clean = if_err c.find.result (λ e fault can. fault c.args.key.now (λ schema known. (rw c.params-to_sql.ensures refl)) (λ is_open. holds_some (can is_open))) (c.find.ensures.fault clean)
+pub returns : goal.returns
+returns g c = record {
+  frame = c.find.ensures.frame;
+  found = λ clean. if_ok c.find.result (λ found is. is layout (inl refl) c.args.key.now (rw c.params-to_sql.ensures refl)) (c.find.ensures.found clean);
+  fault = λ clean. if_err c.find.result (λ e fault can. fault c.args.key.now (λ schema known. (rw c.params-to_sql.ensures refl)) (λ is_open. holds_some (can is_open))) (c.find.ensures.fault clean);
+}

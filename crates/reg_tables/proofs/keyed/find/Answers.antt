@@ -9,14 +9,14 @@ pub returns-clause-found : goal.returns-clause-found
 returns-clause-found g c clean =
     let sql = c.find_sql.ensures in
     if_ok c.first.result (λ line read schema known key cells contents holds.
-    line_found schema (g.T.KeyedTable.Holds schema) (g.T.KeyedTable.table schema) c.find_sql.result.now (sql.finds schema known) key (once_begun g.S.Store c.args.conn.now) (state g.S.Store read.0) g.T.Found.Line.shown g.T.Found.Line.cells g.T.KeyedTable.value_of (sql.read schema)
+    line_found schema (g.T.KeyedTable.Holds schema) (g.T.KeyedTable.table schema) c.find_sql.result.now (sql.finds schema known) key (once_begun g.S.Store c.args.db.now.conn) (state g.S.Store read.0) g.T.Found.Line.shown g.T.Found.Line.cells g.T.KeyedTable.value_of (sql.read schema)
     contents holds read.1 (rw cells at read.2) line read.3) (c.first.ensures.read clean)
 
 pub returns-clause-fault : goal.returns-clause-fault
 returns-clause-fault g c clean =
     let sql = c.find_sql.ensures in
     if_err c.first.result (λ e why key cells can.
-    find_fault c.find_sql.result.now (once_begun g.S.Store c.args.conn.now) (state g.S.Store why.0) (state g.S.Store c.first.new.conn) g.T.Found.Line.is_readable e (bound c.args.values.now) why.1
+    find_fault c.find_sql.result.now (once_begun g.S.Store c.args.db.now.conn) (state g.S.Store why.0) (state g.S.Store c.first.new.db.conn) g.T.Found.Line.is_readable e (bound c.args.values.now) why.1
     (λ is_open.
     let it = can is_open in
-    reads_by it.schema (g.T.KeyedTable.Holds it.schema) (g.T.KeyedTable.table it.schema) c.find_sql.result.now (sql.finds it.schema it.known) key (once_begun g.S.Store c.args.conn.now) (state g.S.Store why.0) g.T.Found.Line.is_readable it.contents it.holds (sql.readable it.schema it.contents it.readable) (bound c.args.values.now) (cells it.schema it.known))) (c.first.ensures.failed clean)
+    reads_by it.schema (g.T.KeyedTable.Holds it.schema) (g.T.KeyedTable.table it.schema) c.find_sql.result.now (sql.finds it.schema it.known) key (once_begun g.S.Store c.args.db.now.conn) (state g.S.Store why.0) g.T.Found.Line.is_readable it.contents it.holds (sql.readable it.schema it.contents it.readable) (bound c.args.values.now) (cells it.schema it.known))) (c.first.ensures.failed clean)

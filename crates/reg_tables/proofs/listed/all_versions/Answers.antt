@@ -9,14 +9,13 @@ use Rattle.reg_tables.proofs.Statements.{list_versions, list_versions_is}
 use Rattle.reg_tables.proofs.KeyedLists.{all_lines, all_readable}
 use Rattle.reg_tables.proofs.listed.all_versions.Goals as goal
 
-pub returns-clause-found : goal.returns-clause-found
-returns-clause-found g c clean =
-    if_ok c.list.result (λ lines read contents holds. all_lines _ _ layout contents holds (inl refl) read.1 read.2 lines.items read.3)
-    (c.list.ensures.read clean)
-
-pub returns-clause-fault : goal.returns-clause-fault
-returns-clause-fault g c clean =
-    if_err c.list.result (λ e why.
-    list_fault list_versions [] list_versions_is takes_list IsReadableKeyed _ _ (state g.S.Store c.list.new.conn)
-    (λ found shown there. all_readable _ _ there.schema there.contents there.holds there.is_layout found shown there.readable) e why.1)
-    (c.list.ensures.failed clean)
+pub returns : goal.returns
+returns g c = record {
+  frame = c.list.ensures.frame;
+  found = λ clean. if_ok c.list.result (λ lines read contents holds. all_lines _ _ layout contents holds (inl refl) read.1 read.2 lines.items read.3)
+      (c.list.ensures.read clean);
+  fault = λ clean. if_err c.list.result (λ e why.
+      list_fault list_versions [] list_versions_is takes_list IsReadableKeyed _ _ (state g.S.Store c.list.new.db.conn)
+      (λ found shown there. all_readable _ _ there.schema there.contents there.holds there.is_layout found shown there.readable) e why.1)
+      (c.list.ensures.failed clean);
+}

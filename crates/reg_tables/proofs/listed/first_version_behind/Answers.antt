@@ -10,15 +10,14 @@ use Rattle.reg_tables.proofs.Transactions.{if_ok, if_err}
 use Rattle.reg_tables.proofs.TableLines.{list_fault}
 use Rattle.reg_tables.proofs.listed.first_version_behind.Goals as goal
 
-pub returns-clause-found : goal.returns-clause-found
-returns-clause-found g c clean =
-    if_ok c.first.result (λ line read contents holds.
-    line_behind _ _ layout contents holds (inl refl) c.args.subject.now read.1 (rw c.params-to_sql.ensures at read.2) line read.3)
-    (c.first.ensures.read clean)
-
-pub returns-clause-fault : goal.returns-clause-fault
-returns-clause-fault g c clean =
-    if_err c.first.result (λ e why.
-    list_fault find_behind (Text c.args.subject.now ∷ []) find_behind_is (takes_behind c.args.subject.now) IsReadableKeyed _ _ (state g.S.Store c.first.new.conn)
-    (λ found shown there. readable_behind _ _ there.schema there.contents there.holds there.is_layout c.args.subject.now found shown there.readable) e (rw c.params-to_sql.ensures at why.1))
-    (c.first.ensures.failed clean)
+pub returns : goal.returns
+returns g c = record {
+  frame = c.first.ensures.frame;
+  found = λ clean. if_ok c.first.result (λ line read contents holds.
+      line_behind _ _ layout contents holds (inl refl) c.args.subject.now read.1 (rw c.params-to_sql.ensures at read.2) line read.3)
+      (c.first.ensures.read clean);
+  fault = λ clean. if_err c.first.result (λ e why.
+      list_fault find_behind (Text c.args.subject.now ∷ []) find_behind_is (takes_behind c.args.subject.now) IsReadableKeyed _ _ (state g.S.Store c.first.new.db.conn)
+      (λ found shown there. readable_behind _ _ there.schema there.contents there.holds there.is_layout c.args.subject.now found shown there.readable) e (rw c.params-to_sql.ensures at why.1))
+      (c.first.ensures.failed clean);
+}

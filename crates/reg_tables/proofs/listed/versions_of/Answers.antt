@@ -10,15 +10,14 @@ use Rattle.reg_tables.proofs.TableLines.{list_fault}
 use Rattle.reg_tables.proofs.VersionLists.{numbered_lines, readable_numbered}
 use Rattle.reg_tables.proofs.listed.versions_of.Goals as goal
 
-pub returns-clause-found : goal.returns-clause-found
-returns-clause-found g c clean =
-    if_ok c.list.result (λ lines read contents holds.
-    numbered_lines _ _ layout contents holds (inl refl) c.args.subject.now read.1 (rw c.params-to_sql.ensures at read.2) lines.items read.3)
-    (c.list.ensures.read clean)
-
-pub returns-clause-fault : goal.returns-clause-fault
-returns-clause-fault g c clean =
-    if_err c.list.result (λ e why.
-    list_fault find_versions (Text c.args.subject.now ∷ []) find_versions_is (takes_versions c.args.subject.now) IsReadableNumbered _ _ (state g.S.Store c.list.new.conn)
-    (λ found shown there. readable_numbered _ _ there.schema there.contents there.holds there.is_layout c.args.subject.now found shown there.readable) e (rw c.params-to_sql.ensures at why.1))
-    (c.list.ensures.failed clean)
+pub returns : goal.returns
+returns g c = record {
+  frame = c.list.ensures.frame;
+  found = λ clean. if_ok c.list.result (λ lines read contents holds.
+      numbered_lines _ _ layout contents holds (inl refl) c.args.subject.now read.1 (rw c.params-to_sql.ensures at read.2) lines.items read.3)
+      (c.list.ensures.read clean);
+  fault = λ clean. if_err c.list.result (λ e why.
+      list_fault find_versions (Text c.args.subject.now ∷ []) find_versions_is (takes_versions c.args.subject.now) IsReadableNumbered _ _ (state g.S.Store c.list.new.db.conn)
+      (λ found shown there. readable_numbered _ _ there.schema there.contents there.holds there.is_layout c.args.subject.now found shown there.readable) e (rw c.params-to_sql.ensures at why.1))
+      (c.list.ensures.failed clean);
+}

@@ -10,15 +10,14 @@ use Rattle.reg_tables.proofs.Statements.{find_of_id, find_of_id_is}
 use Rattle.reg_tables.proofs.KeyedLists.{lines_of_id, readable_of_id}
 use Rattle.reg_tables.proofs.listed.versions_of_id.Goals as goal
 
-pub returns-clause-found : goal.returns-clause-found
-returns-clause-found g c clean =
-    if_ok c.list.result (λ lines read contents holds.
-    lines_of_id _ _ layout contents holds (inl refl) read.1 c.args.id (rw c.params-to_sql.ensures at read.2) lines.items read.3)
-    (c.list.ensures.read clean)
-
-pub returns-clause-fault : goal.returns-clause-fault
-returns-clause-fault g c clean =
-    if_err c.list.result (λ e why.
-    list_fault find_of_id (Int (pos c.args.id) ∷ []) find_of_id_is (takes_of_id c.args.id) IsReadableKeyed _ _ (state g.S.Store c.list.new.conn)
-    (λ found shown there. readable_of_id _ _ there.schema there.contents there.holds there.is_layout found c.args.id shown there.readable) e (rw c.params-to_sql.ensures at why.1))
-    (c.list.ensures.failed clean)
+pub returns : goal.returns
+returns g c = record {
+  frame = c.list.ensures.frame;
+  found = λ clean. if_ok c.list.result (λ lines read contents holds.
+      lines_of_id _ _ layout contents holds (inl refl) read.1 c.args.id (rw c.params-to_sql.ensures at read.2) lines.items read.3)
+      (c.list.ensures.read clean);
+  fault = λ clean. if_err c.list.result (λ e why.
+      list_fault find_of_id (Int (pos c.args.id) ∷ []) find_of_id_is (takes_of_id c.args.id) IsReadableKeyed _ _ (state g.S.Store c.list.new.db.conn)
+      (λ found shown there. readable_of_id _ _ there.schema there.contents there.holds there.is_layout found c.args.id shown there.readable) e (rw c.params-to_sql.ensures at why.1))
+      (c.list.ensures.failed clean);
+}

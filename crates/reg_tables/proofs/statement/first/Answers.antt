@@ -1,7 +1,7 @@
 use Rattle.std.proofs.Common.{◌≡◌, ◌∙◌, inl, inr, List, [], ◌∷◌, All, Some, slice_get, sym, ap, subst, arith}
 use Rattle.std.specs.Prelude.{option_map}
 use Rattle.sqlite.specs.Order.{Row}
-use Rattle.reg_tables.proofs.Transactions.{if_err_is}
+use Rattle.reg_tables.proofs.Transactions.{if_err_is, stays_read, stays_unread}
 use Rattle.reg_tables.proofs.statement.first.Goals as goal
 
 first_of_all : (P : Row → Type 0) (rows : List Row) (row : Row) → Some row ≡ slice_get rows 0 → All P rows → P row
@@ -30,3 +30,9 @@ returns-in_err-read-in-Some-clause-failed g c clean =
     let row = c.in-Some.ensures.value ∙ ap (λ (l : List Row). slice_get l 0) c.deref.ensures.value in
     if_err_is c.from_residual-in_err-read-in-Some.result _ c.in_err-read-in-Some.field-0.0 c.from_residual-in_err-read-in-Some.ensures.1
     (shown.0, inr (c.in_ok-rows.rows.items, shown.1, (λ all. c.in_err-read-in-Some.ensures.err (first_of_all g.L.Line.is_readable c.in_ok-rows.rows.items c.in-Some.row.now row all)), c.in_err-read-in-Some.ensures.named))
+
+pub returns-in_err-rows-clause-frame : goal.returns-in_err-rows-clause-frame
+returns-in_err-rows-clause-frame g c = stays_unread g.S.Store c.args.db.now.conn c.ask.new.db.conn c.from_residual.result c.in_err-rows.field-0.0 c.in_err-rows.ensures.frame c.from_residual.ensures.1
+
+pub returns-in_err-read-in-Some-clause-frame : goal.returns-in_err-read-in-Some-clause-frame
+returns-in_err-read-in-Some-clause-frame g c = stays_read g.S.Store c.args.db.now.conn c.ask.new.db.conn c.from_residual-in_err-read-in-Some.result c.in_ok-rows.ensures.frame

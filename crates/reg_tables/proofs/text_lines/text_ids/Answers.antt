@@ -8,14 +8,11 @@ use Rattle.reg_tables.proofs.TextLines.{lists_ids, readable_ids}
 use Rattle.reg_tables.proofs.Transactions.{if_ok, if_err}
 use Rattle.reg_tables.proofs.text_lines.text_ids.Goals as goal
 
-pub returns-clause-listed : goal.returns-clause-listed
-returns-clause-listed g c clean = if_ok c.list.result (λ ids read. lists_ids _ _ read.1 read.2 ids.items read.3) (c.list.ensures.read clean)
-
-pub returns-clause-fault : goal.returns-clause-fault
-returns-clause-fault g c clean =
-    if_err c.list.result (λ e why. list_fault all_ids [] all_ids_is takes_all_ids IsReadableId _ _ (state g.S.Store c.list.new.conn) (λ found shown there. readable_ids _ _ found shown there) e why.1)
-    (c.list.ensures.failed clean)
-
-pub returns-clause-told : goal.returns-clause-told
-returns-clause-told g c clean =
-    if_err c.list.result (λ e why. list_told all_ids [] all_ids_is takes_all_ids IsReadableId _ _ (state g.S.Store c.list.new.conn) e why.1) (c.list.ensures.failed clean)
+pub returns : goal.returns
+returns g c = record {
+  frame = c.list.ensures.frame;
+  listed = λ clean. if_ok c.list.result (λ ids read. lists_ids _ _ read.1 read.2 ids.items read.3) (c.list.ensures.read clean);
+  fault = λ clean. if_err c.list.result (λ e why. list_fault all_ids [] all_ids_is takes_all_ids IsReadableId _ _ (state g.S.Store c.list.new.db.conn) (λ found shown there. readable_ids _ _ found shown there) e why.1)
+      (c.list.ensures.failed clean);
+  told = λ clean. if_err c.list.result (λ e why. list_told all_ids [] all_ids_is takes_all_ids IsReadableId _ _ (state g.S.Store c.list.new.db.conn) e why.1) (c.list.ensures.failed clean);
+}

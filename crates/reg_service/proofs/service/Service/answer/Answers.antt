@@ -17,10 +17,10 @@ pub returns-in-Err-clause-fault : goal.returns-in-Err-clause-fault
 returns-in-Err-clause-fault g c clean is = c.in-Err.ensures.err clean
 
 pub returns-in-Ok-clause-settled : goal.returns-in-Ok-clause-settled
-returns-in-Ok-clause-settled g c registry k over db it = leaves_open (state_in c.try_answer.new.self) registry k db (g.met.S.Store.settled c.try_answer.new.self.store.db.conn.store db) over it
+returns-in-Ok-clause-settled g c registry k over db it = leaves_open (state_in c.try_answer.new.self) registry k db (g.met.S.Store.settled c.try_answer.new.self.store.db.idle.conn.store db) over it
 
 pub returns-in-Err-clause-settled : goal.returns-in-Err-clause-settled
-returns-in-Err-clause-settled g c registry k over db it = leaves_open (state_in c.try_answer.new.self) registry k db (g.met.S.Store.settled c.try_answer.new.self.store.db.conn.store db) over it
+returns-in-Err-clause-settled g c registry k over db it = leaves_open (state_in c.try_answer.new.self) registry k db (g.met.S.Store.settled c.try_answer.new.self.store.db.idle.conn.store db) over it
 
 pub returns-in-Ok-clause-admitted : goal.returns-in-Ok-clause-admitted
 returns-in-Ok-clause-admitted g c clean registry k over = all_admitted registry k over.spells.spelled.registry _

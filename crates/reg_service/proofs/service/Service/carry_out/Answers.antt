@@ -59,6 +59,6 @@ returns-clause-crash g c =
       | else-not-is_empty w ↦ rw w.self-is (λ clean registry k over db it.
           let decided = c.in_ok-changes.ensures.decided clean registry k (λ _. over) in
           let none = no_changes c.in_ok-changes.field-0.changes (sym c.is_empty.ensures ∙ w.if-not-is_empty.false) in
-          let left = leaves_open (state_in c.args.self.now) registry k db (g.met.S.Store.settled c.args.self.now.store.db.conn.store db) over (c.in_ok-changes.ensures.crash clean db it) in
+          let left = leaves_open (state_in c.args.self.now) registry k db (g.met.S.Store.settled c.args.self.now.store.db.idle.conn.store db) over (c.in_ok-changes.ensures.crash clean db it) in
           subst (λ (r : Registry). Leaves db r k) (ap (λ l. after_changes l registry) (sym none) ∙ decided.1) left)
     ]

@@ -23,7 +23,7 @@ loop-delivery-init g c =
       room = new.capacity;
       frame = subst (λ items. KeepsService c.args.self.now c.args.self.now (AreUnanswered items)) (sym new.items) (keeps_still c.args.self.now (AreUnanswered []) (All-nil (λ reply. reply ≡ fault BackendFault)));
       served = λ h. none_over _;
-      crash = λ h registry k over. found_none registry k (state_in c.args.self.now).may_leave (λ db it. leaves_open (state_in c.args.self.now) registry k db (g.met.S.Store.settled c.args.self.now.store.db.conn.store db) over it);
+      crash = λ h registry k over. found_none registry k (state_in c.args.self.now).may_leave (λ db it. leaves_open (state_in c.args.self.now) registry k db (g.met.S.Store.settled c.args.self.now.store.db.idle.conn.store db) over it);
     }
 
 pub loop-delivery-preserved : goal.loop-delivery-preserved
@@ -61,10 +61,10 @@ returns-clause-crash g c clean registry k over =
     subst (λ (list : List Delivery). IsFoundAfter registry k (zip list c.loop-delivery.replies.items) (state_in c.loop-delivery.self).may_leave) all (c.loop-delivery.invariant.crash clean registry k over)
 
 pub returns-in_err-replies-clause-settled : goal.returns-in_err-replies-clause-settled
-returns-in_err-replies-clause-settled g c registry k over db it = leaves_open (state_in c.args.self.now) registry k db (g.met.S.Store.settled c.args.self.now.store.db.conn.store db) over it
+returns-in_err-replies-clause-settled g c registry k over db it = leaves_open (state_in c.args.self.now) registry k db (g.met.S.Store.settled c.args.self.now.store.db.idle.conn.store db) over it
 
 pub returns-clause-settled : goal.returns-clause-settled
-returns-clause-settled g c registry k over db it = leaves_open (state_in c.loop-delivery.self) registry k db (g.met.S.Store.settled c.loop-delivery.self.store.db.conn.store db) over it
+returns-clause-settled g c registry k over db it = leaves_open (state_in c.loop-delivery.self) registry k db (g.met.S.Store.settled c.loop-delivery.self.store.db.idle.conn.store db) over it
 
 pub returns-clause-admitted : goal.returns-clause-admitted
 returns-clause-admitted g c clean registry k over = all_admitted registry k over.spells.spelled.registry _

@@ -37,19 +37,19 @@ pub returns-in_default-clause-crash : goal.returns-in_default-clause-crash
 returns-in_default-clause-crash g c clean registry k over =
     let old = state_in c.args.self.now in
     found_keyless registry k c.args.delivery.now (state_in c.carry_out.new.self).may_leave old (state_in c.carry_out.new.self) c.carry_out.result (sym c.in_default.ensures)
-    (λ db. leaves_open old registry k db (g.met.S.Store.settled c.args.self.now.store.db.conn.store db) over) (λ _. over)
+    (λ db. leaves_open old registry k db (g.met.S.Store.settled c.args.self.now.store.db.idle.conn.store db) over) (λ _. over)
     (c.carry_out.ensures.done clean) c.carry_out.ensures.own (c.carry_out.ensures.crash clean registry k over)
 
 pub returns-in_err-text-clause-crash : goal.returns-in_err-text-clause-crash
 returns-in_err-text-clause-crash g c clean registry k over =
     let none : OnOk c.from_residual.result ⊥ = search rules in
-    found_failed registry k c.args.delivery.now (state_in c.args.self.now).may_leave c.from_residual.result none (λ db it. leaves_open (state_in c.args.self.now) registry k db (g.met.S.Store.settled c.args.self.now.store.db.conn.store db) over it)
+    found_failed registry k c.args.delivery.now (state_in c.args.self.now).may_leave c.from_residual.result none (λ db it. leaves_open (state_in c.args.self.now) registry k db (g.met.S.Store.settled c.args.self.now.store.db.idle.conn.store db) over it)
 
 pub returns-in_err-kept-clause-crash : goal.returns-in_err-kept-clause-crash
 returns-in_err-kept-clause-crash g c clean registry k over =
     let none : OnOk c.from_residual-in_err-kept.result ⊥ = search rules in
     found_failed registry k c.args.delivery.now (state_of c.kept.new.self).may_leave c.from_residual-in_err-kept.result none
-    (λ db it. leaves_open (state_in c.args.self.now) registry k db (g.met.S.Store.settled c.args.self.now.store.db.conn.store db) over ((c.kept.ensures.tells clean).crash db it))
+    (λ db it. leaves_open (state_in c.args.self.now) registry k db (g.met.S.Store.settled c.args.self.now.store.db.idle.conn.store db) over ((c.kept.ensures.tells clean).crash db it))
 
 pub returns-in-Some-2-clause-crash : goal.returns-in-Some-2-clause-crash
 returns-in-Some-2-clause-crash g c clean registry k over =
@@ -57,7 +57,7 @@ returns-in-Some-2-clause-crash g c clean registry k over =
     let has : k c.in-Some.key.now ≡ Some (entry_told (string_bytes c.in-Some-2.kept) c.in-Some-2.reply) = rw c.in-Some-2.is at ((c.in_ok-kept.ensures.tells clean).answers (stored registry k) (λ _. over)) in
     found_again registry k c.args.delivery.now (state_of c.kept.new.self).may_leave c.in-Some.key.now c.as_str.result.now (entry_told (string_bytes c.in-Some-2.kept) c.in-Some-2.reply) c.answer_again.result (sym c.in-Some.ensures) text has
     c.answer_again.ensures.same c.answer_again.ensures.other
-    (λ db it. leaves_open (state_in c.args.self.now) registry k db (g.met.S.Store.settled c.args.self.now.store.db.conn.store db) over ((c.in_ok-kept.ensures.tells clean).crash db it))
+    (λ db it. leaves_open (state_in c.args.self.now) registry k db (g.met.S.Store.settled c.args.self.now.store.db.idle.conn.store db) over ((c.in_ok-kept.ensures.tells clean).crash db it))
 
 pub returns-clause-crash : goal.returns-clause-crash
 returns-clause-crash g c clean registry k over =
@@ -66,7 +66,7 @@ returns-clause-crash g c clean registry k over =
     let fresh : k c.in-Some.key.now ≡ None = rw c.in-None.is at ((c.in_ok-kept.ensures.tells early).answers (stored registry k) (λ _. over)) in
     let mid = (c.in_ok-kept.ensures.tells early).same (stored registry k) (λ _. over) in
     found_first registry k c.args.delivery.now (state_in c.answer_first.new.self).may_leave (state_of c.kept.new.self) (state_in c.answer_first.new.self) c.answer_first.result c.in-Some.key.now c.as_str-in-None.result.now (sym c.in-Some.ensures) text fresh
-    (λ db was. leaves_open (state_in c.args.self.now) registry k db (g.met.S.Store.settled c.args.self.now.store.db.conn.store db) over ((c.in_ok-kept.ensures.tells early).crash db was)) mid
+    (λ db was. leaves_open (state_in c.args.self.now) registry k db (g.met.S.Store.settled c.args.self.now.store.db.idle.conn.store db) over ((c.in_ok-kept.ensures.tells early).crash db was)) mid
     (c.answer_first.ensures.done clean) c.answer_first.ensures.own (c.answer_first.ensures.crash clean registry k mid fresh)
 
 pub returns-in_err-kept-clause-frame : goal.returns-in_err-kept-clause-frame

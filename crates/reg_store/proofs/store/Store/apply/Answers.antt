@@ -18,31 +18,31 @@ use Rattle.reg_store.proofs.store.Store.apply.Goals as goal
 pub returns-clause-nothing : goal.returns-clause-nothing
 returns-clause-nothing g c clean =
     let idle : IsTrue c.is_autocommit-idle.result = search rules in
-    let old = state g.S.Store c.args.self.now.db.conn in
-    let new = state g.S.Store c.commit_all-done.new.db.conn in
+    let old = state g.S.Store c.args.self.now.db.idle.conn in
+    let new = state g.S.Store c.commit_all-done.new.db.idle.conn in
     on_err_same c.commit_all-done.result c.map_err-done.result c.map_err-done.ensures.variant (λ keeps registry k over. still_spells old new registry k keeps (c.is_autocommit-idle.ensures.settled idle) over) (c.commit_all-done.ensures.nothing clean)
 
 pub returns-clause-settled : goal.returns-clause-settled
 returns-clause-settled g c registry k over db it =
-    leaves_if_spelled db (state g.S.Store c.commit_all-done.new.db.conn).now registry k (g.met.S.Store.settled c.commit_all-done.new.db.conn.store db over.is_open it ∙ ap (λ (d : Database). d.trees) over.settled) over.spells
+    leaves_if_spelled db (state g.S.Store c.commit_all-done.new.db.idle.conn).now registry k (g.met.S.Store.settled c.commit_all-done.new.db.idle.conn.store db over.is_open it ∙ ap (λ (d : Database). d.trees) over.settled) over.spells
 
 pub returns-clause-crash : goal.returns-clause-crash
 returns-clause-crash g c clean registry k over fresh fits db it =
-    let old = state g.S.Store c.args.self.now.db.conn in
+    let old = state g.S.Store c.args.self.now.db.idle.conn in
     elim (c.commit_all-done.ensures.survives.crash clean db it) [
-      | inl was ↦ inl (leaves_if_spelled db old.now registry k (g.met.S.Store.settled c.args.self.now.db.conn.store db over.is_open was ∙ ap (λ (d : Database). d.trees) over.settled) over.spells)
+      | inl was ↦ inl (leaves_if_spelled db old.now registry k (g.met.S.Store.settled c.args.self.now.db.idle.conn.store db over.is_open was ∙ ap (λ (d : Database). d.trees) over.settled) over.spells)
       | inr made ↦ inr (made registry k (λ _. over) fresh fits (inl over.is_open))
     ]
 
 pub returns-clause-fault : goal.returns-clause-fault
 returns-clause-fault g c clean =
-    mapped_err (λ e. (registry : Registry) (k : Kept) → SpellsWhileOpen (state g.S.Store c.args.self.now.db.conn) registry k → IsNewTo k c.args.keep → ChangesFit c.args.changes.now registry → IsTrue (is_fault e)) c.commit_all-done.result c.map_err-done.result c.map_err-done.ensures.cases
+    mapped_err (λ e. (registry : Registry) (k : Kept) → SpellsWhileOpen (state g.S.Store c.args.self.now.db.idle.conn) registry k → IsNewTo k c.args.keep → ChangesFit c.args.changes.now registry → IsTrue (is_fault e)) c.commit_all-done.result c.map_err-done.result c.map_err-done.ensures.cases
     (c.commit_all-done.ensures.fault clean)
 
 pub returns-clause-frame : goal.returns-clause-frame
 returns-clause-frame g c =
-    let old = state g.S.Store c.args.self.now.db.conn in
-    let new = state g.S.Store c.commit_all-done.new.db.conn in
+    let old = state g.S.Store c.args.self.now.db.idle.conn in
+    let new = state g.S.Store c.commit_all-done.new.db.idle.conn in
     let it = c.commit_all-done.ensures in
     let failed_now : (c.map_err-done.result ≡ Err Disk) ↔ IsTrue c.match-matches.self = search rules in
     keeps_store g.met.S.Store.settled c.args.self.now _ c.map_err-done.result c.if-self.false failed_now _ it.survives
@@ -55,6 +55,6 @@ returns-clause-crash_shut g c clean registry k over fresh fits acts db it =
 
 pub returns-clause-before : goal.returns-clause-before
 returns-clause-before g c clean =
-    let old = state g.S.Store c.args.self.now.db.conn in
-    let new = state g.S.Store c.commit_all-done.new.db.conn in
+    let old = state g.S.Store c.args.self.now.db.idle.conn in
+    let new = state g.S.Store c.commit_all-done.new.db.idle.conn in
     mapped_err (λ e. IsTrue old.is_open → LeavesBefore old new e) c.commit_all-done.result c.map_err-done.result c.map_err-done.ensures.cases (c.commit_all-done.ensures.before clean)

@@ -42,7 +42,7 @@ returns-clause-done g c clean =
 pub returns-clause-survives : goal.returns-clause-survives
 returns-clause-survives g c =
     let end = c.commit.new.self.0 in
-    let first = state g.S.Store c.args.db.now.conn in
+    let first = state g.S.Store c.args.db.now.idle.conn in
     let begun = state g.S.Store c.transaction-tx.result.conn.now in
     let mid = state g.S.Store c.make_all.new.tx.conn.now in
     let last = state g.S.Store c.keep_reply.new.tx.conn.now in
@@ -64,12 +64,12 @@ returns-clause-survives g c =
     let put = c.in_ok-keep_reply.ensures.put clean_last (after_changes c.args.changes.now registry) k made fresh in
     leaves_if_spelled db last.now (after_changes c.args.changes.now registry) (with_reply c.args.keep k) is put in
     let whole = survives_then first last (state g.S.Store end) _ _ P (λ _ db none. absurd none) commits
-    (survives_begin g.S.Store c.args.db.now.conn last _ (rw c.transaction-tx.ensures.begun at inside)) c.commit.ensures.survives in
+    (survives_begin g.S.Store c.args.db.now.idle.conn last _ (rw c.transaction-tx.ensures.begun at inside)) c.commit.ensures.survives in
     whole
 
 pub returns-in_err-make_all-clause-fault : goal.returns-in_err-make_all-clause-fault
 returns-in_err-make_all-clause-fault g c clean =
-    let first = state g.S.Store c.args.db.now.conn in
+    let first = state g.S.Store c.args.db.now.idle.conn in
     let begun = state g.S.Store c.transaction-tx.result.conn.now in
     let is = c.transaction-tx.ensures.begun in
     let e = c.in_err-make_all.field-0.0 in
@@ -77,11 +77,11 @@ returns-in_err-make_all-clause-fault g c clean =
     let clean_mid : HasCleanDisk (state g.S.Store c.make_all.new.tx.conn.now) = omega (arith, c.drop-tx.ensures.survives.clean) in
     erred_with c.from_residual.result e (λ e. (registry : Registry) (k : Kept) → SpellsWhileOpen first registry k → IsNewTo k c.args.keep → ChangesFit c.args.changes.now registry → IsTrue (is_fault (failure_of e))) c.from_residual.ensures.1
     (λ registry k over fresh fits. is_fault_of_insert begun (state g.S.Store c.make_all.new.tx.conn.now) e (ap (λ (h : Held _). h.step_limit) is ∙ c.args.db.now.unlimited) (ap (λ (h : Held _). h.in_transaction) is)
-    (c.in_err-make_all.ensures.fault clean_mid registry k (begun_spells g.S.Store c.args.db.now.conn c.transaction-tx.result.conn.now is registry k over) fits))
+    (c.in_err-make_all.ensures.fault clean_mid registry k (begun_spells g.S.Store c.args.db.now.idle.conn c.transaction-tx.result.conn.now is registry k over) fits))
 
 pub returns-in_err-keep_reply-clause-fault : goal.returns-in_err-keep_reply-clause-fault
 returns-in_err-keep_reply-clause-fault g c clean =
-    let first = state g.S.Store c.args.db.now.conn in
+    let first = state g.S.Store c.args.db.now.idle.conn in
     let begun = state g.S.Store c.transaction-tx.result.conn.now in
     let mid = state g.S.Store c.make_all.new.tx.conn.now in
     let is = c.transaction-tx.ensures.begun in
@@ -91,7 +91,7 @@ returns-in_err-keep_reply-clause-fault g c clean =
     let clean_mid : HasCleanDisk mid = omega (arith, c.keep_reply.ensures.frame.survives.clean) in
     erred_with c.from_residual-in_err-keep_reply.result e (λ e. (registry : Registry) (k : Kept) → SpellsWhileOpen first registry k → IsNewTo k c.args.keep → ChangesFit c.args.changes.now registry → IsTrue (is_fault (failure_of e))) c.from_residual-in_err-keep_reply.ensures.1
     (λ registry k over fresh fits.
-    let spelled = begun_spells g.S.Store c.args.db.now.conn c.transaction-tx.result.conn.now is registry k over in
+    let spelled = begun_spells g.S.Store c.args.db.now.idle.conn c.transaction-tx.result.conn.now is registry k over in
     is_fault_of_insert begun (state g.S.Store c.keep_reply.new.tx.conn.now) e (ap (λ (h : Held _). h.step_limit) is ∙ c.args.db.now.unlimited) (ap (λ (h : Held _). h.in_transaction) is)
     (fault_later begun mid (state g.S.Store c.keep_reply.new.tx.conn.now) c.make_all.ensures.frame.survives clean_mid c.keep_reply.ensures.frame.survives.counts (c.in_ok-make_all.ensures.goes_on clean_mid) e
     (c.in_err-keep_reply.ensures.fault clean_last (after_changes c.args.changes.now registry) k
@@ -124,11 +124,11 @@ pub returns-in_err-make_all-clause-nothing : goal.returns-in_err-make_all-clause
 returns-in_err-make_all-clause-nothing g c clean =
     let end = c.drop-tx.new.self.0 in
     let late : HasCleanDisk (state g.S.Store end) = search rules in
-    let first = state g.S.Store c.args.db.now.conn in
+    let first = state g.S.Store c.args.db.now.idle.conn in
     let begun = state g.S.Store c.transaction-tx.result.conn.now in
     let mid = state g.S.Store c.make_all.new.tx.conn.now in
     let clean_mid : HasCleanDisk mid = omega (arith, c.drop-tx.ensures.survives.clean) in
-    let all = keeps_begin g.S.Store c.args.db.now.conn c.transaction-tx.result.conn.now (state g.S.Store end) c.transaction-tx.ensures.begun
+    let all = keeps_begin g.S.Store c.args.db.now.idle.conn c.transaction-tx.result.conn.now (state g.S.Store end) c.transaction-tx.ensures.begun
     (keeps_then begun mid (state g.S.Store end) (c.make_all.ensures.frame.commit_stays clean_mid) (keeps_if_undone mid (state g.S.Store end) (c.drop-tx.ensures.undone late))) in
     on_err_each c.from_residual.result all
 
@@ -136,14 +136,14 @@ pub returns-in_err-keep_reply-clause-nothing : goal.returns-in_err-keep_reply-cl
 returns-in_err-keep_reply-clause-nothing g c clean =
     let end = c.drop-tx-in_err-keep_reply.new.self.0 in
     let late : HasCleanDisk (state g.S.Store end) = search rules in
-    let first = state g.S.Store c.args.db.now.conn in
+    let first = state g.S.Store c.args.db.now.idle.conn in
     let begun = state g.S.Store c.transaction-tx.result.conn.now in
     let mid = state g.S.Store c.make_all.new.tx.conn.now in
     let last = state g.S.Store c.keep_reply.new.tx.conn.now in
     let clean_last : HasCleanDisk last = omega (arith, c.drop-tx-in_err-keep_reply.ensures.survives.clean) in
     let clean_mid : HasCleanDisk mid = omega (arith, c.keep_reply.ensures.frame.survives.clean) in
     let ended = keeps_if_undone last (state g.S.Store end) (c.drop-tx-in_err-keep_reply.ensures.undone late) in
-    let all = keeps_begin g.S.Store c.args.db.now.conn c.transaction-tx.result.conn.now (state g.S.Store end) c.transaction-tx.ensures.begun
+    let all = keeps_begin g.S.Store c.args.db.now.idle.conn c.transaction-tx.result.conn.now (state g.S.Store end) c.transaction-tx.ensures.begun
     (keeps_then begun mid (state g.S.Store end) (c.make_all.ensures.frame.commit_stays clean_mid) (keeps_then mid last (state g.S.Store end) (c.keep_reply.ensures.frame.commit_stays clean_last) ended)) in
     on_err_each c.from_residual-in_err-keep_reply.result all
 
@@ -151,32 +151,32 @@ pub returns-clause-nothing : goal.returns-clause-nothing
 returns-clause-nothing g c clean =
     let end = c.commit.new.self.0 in
     let late : HasCleanDisk (state g.S.Store end) = search rules in
-    let first = state g.S.Store c.args.db.now.conn in
+    let first = state g.S.Store c.args.db.now.idle.conn in
     let begun = state g.S.Store c.transaction-tx.result.conn.now in
     let mid = state g.S.Store c.make_all.new.tx.conn.now in
     let last = state g.S.Store c.keep_reply.new.tx.conn.now in
     let clean_last : HasCleanDisk last = omega (arith, c.commit.ensures.survives.clean) in
     let clean_mid : HasCleanDisk mid = omega (arith, c.keep_reply.ensures.frame.survives.clean) in
     on_err c.commit.result (λ e fails.
-    let all = keeps_begin g.S.Store c.args.db.now.conn c.transaction-tx.result.conn.now (state g.S.Store end) c.transaction-tx.ensures.begun
+    let all = keeps_begin g.S.Store c.args.db.now.idle.conn c.transaction-tx.result.conn.now (state g.S.Store end) c.transaction-tx.ensures.begun
     (keeps_then begun mid (state g.S.Store end) (c.make_all.ensures.frame.commit_stays clean_mid) (keeps_then mid last (state g.S.Store end) (c.keep_reply.ensures.frame.commit_stays clean_last) (keeps_if_failed last (state g.S.Store end) e fails))) in
     all) (c.commit.ensures.err late)
 
 pub returns-in_err-make_all-clause-before : goal.returns-in_err-make_all-clause-before
 returns-in_err-make_all-clause-before g c clean =
-    let first = state g.S.Store c.args.db.now.conn in
+    let first = state g.S.Store c.args.db.now.idle.conn in
     let begun = state g.S.Store c.transaction-tx.result.conn.now in
     let mid = state g.S.Store c.make_all.new.tx.conn.now in
     let end = state g.S.Store c.drop-tx.new.self.0 in
     let late : HasCleanDisk end = search rules in
     let e = c.in_err-make_all.field-0.0 in
     let inside = survives_both begun mid end c.make_all.ensures.frame.survives c.drop-tx.ensures.survives in
-    let whole = survives_begin g.S.Store c.args.db.now.conn end _ (rw c.transaction-tx.ensures.begun at inside) in
+    let whole = survives_begin g.S.Store c.args.db.now.idle.conn end _ (rw c.transaction-tx.ensures.begun at inside) in
     erred_with c.from_residual.result e (λ x. IsTrue first.is_open → LeavesBefore first (state g.S.Store c.drop-tx.new.self.0) (failure_of x)) c.from_residual.ensures.1 (λ is_open. before_if_undone first end (failure_of e) whole late)
 
 pub returns-in_err-keep_reply-clause-before : goal.returns-in_err-keep_reply-clause-before
 returns-in_err-keep_reply-clause-before g c clean =
-    let first = state g.S.Store c.args.db.now.conn in
+    let first = state g.S.Store c.args.db.now.idle.conn in
     let begun = state g.S.Store c.transaction-tx.result.conn.now in
     let mid = state g.S.Store c.make_all.new.tx.conn.now in
     let last = state g.S.Store c.keep_reply.new.tx.conn.now in
@@ -184,13 +184,13 @@ returns-in_err-keep_reply-clause-before g c clean =
     let late : HasCleanDisk end = search rules in
     let e = c.in_err-keep_reply.field-0.0 in
     let inside = survives_both begun last end (survives_both begun mid last c.make_all.ensures.frame.survives c.keep_reply.ensures.frame.survives) c.drop-tx-in_err-keep_reply.ensures.survives in
-    let whole = survives_begin g.S.Store c.args.db.now.conn end _ (rw c.transaction-tx.ensures.begun at inside) in
+    let whole = survives_begin g.S.Store c.args.db.now.idle.conn end _ (rw c.transaction-tx.ensures.begun at inside) in
     erred_with c.from_residual-in_err-keep_reply.result e (λ x. IsTrue first.is_open → LeavesBefore first (state g.S.Store c.drop-tx-in_err-keep_reply.new.self.0) (failure_of x)) c.from_residual-in_err-keep_reply.ensures.1
     (λ is_open. before_if_undone first end (failure_of e) whole late)
 
 pub returns-clause-before : goal.returns-clause-before
 returns-clause-before g c clean =
-    let conn = c.args.db.now.conn in
+    let conn = c.args.db.now.idle.conn in
     let begun = c.transaction-tx.result.conn.now in
     let mid = state g.S.Store c.make_all.new.tx.conn.now in
     let last = state g.S.Store c.keep_reply.new.tx.conn.now in

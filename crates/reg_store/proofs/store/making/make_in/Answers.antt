@@ -37,7 +37,7 @@ returns-clause-done g c clean =
 pub returns-clause-survives : goal.returns-clause-survives
 returns-clause-survives g c =
     let end = c.commit.new.self.0 in
-    let first = state g.S.Store c.args.db.now.conn in
+    let first = state g.S.Store c.args.db.now.idle.conn in
     let last = state g.S.Store c.create.new.tx.conn.now in
     let P = λ (db : Trees). first.now.schema ≡ no_schema → Leaves db new_registry nothing_kept in
     let commits = λ (clean : HasCleanDisk (state g.S.Store end)) (db : Trees) (is : db ≡ last.now.trees) (none : first.now.schema ≡ no_schema).
@@ -45,12 +45,12 @@ returns-clause-survives g c =
     let made = c.in_ok-create.ensures.made clean_last (ap (λ (h : Held _). h.schema) c.transaction-tx.ensures.begun ∙ none) in
     leaves_if_spelled db last.now new_registry nothing_kept is (spells_new last.now made) in
     let whole = survives_then first last (state g.S.Store end) _ _ P (λ _ db none. absurd none) commits
-    (survives_begin g.S.Store c.args.db.now.conn last _ (rw c.transaction-tx.ensures.begun at c.create.ensures.frame.keeps.survives)) c.commit.ensures.survives in
+    (survives_begin g.S.Store c.args.db.now.idle.conn last _ (rw c.transaction-tx.ensures.begun at c.create.ensures.frame.keeps.survives)) c.commit.ensures.survives in
     whole
 
 pub returns-in_err-create-clause-fault : goal.returns-in_err-create-clause-fault
 returns-in_err-create-clause-fault g c clean =
-    let conn = c.args.db.now.conn in
+    let conn = c.args.db.now.idle.conn in
     let begun = c.transaction-tx.result.conn.now in
     let last = c.create.new.tx.conn.now in
     let end = c.drop-tx.new.self.0 in
@@ -79,19 +79,19 @@ returns-clause-fault g c clean =
 
 pub returns-in_err-create-clause-before : goal.returns-in_err-create-clause-before
 returns-in_err-create-clause-before g c clean =
-    let first = state g.S.Store c.args.db.now.conn in
+    let first = state g.S.Store c.args.db.now.idle.conn in
     let begun = state g.S.Store c.transaction-tx.result.conn.now in
     let last = state g.S.Store c.create.new.tx.conn.now in
     let end = state g.S.Store c.drop-tx.new.self.0 in
     let late : HasCleanDisk end = search rules in
     let e = c.in_err-create.field-0.0 in
     let inside = survives_both begun last end c.create.ensures.frame.keeps.survives c.drop-tx.ensures.survives in
-    let whole = survives_begin g.S.Store c.args.db.now.conn end _ (rw c.transaction-tx.ensures.begun at inside) in
+    let whole = survives_begin g.S.Store c.args.db.now.idle.conn end _ (rw c.transaction-tx.ensures.begun at inside) in
     erred_with c.from_residual.result e (λ x. IsTrue first.is_open → LeavesBefore first (state g.S.Store c.drop-tx.new.self.0) (failure_of x)) c.from_residual.ensures.1 (λ is_open. before_if_undone first end (failure_of e) whole late)
 
 pub returns-clause-before : goal.returns-clause-before
 returns-clause-before g c clean =
-    let conn = c.args.db.now.conn in
+    let conn = c.args.db.now.idle.conn in
     let begun = c.transaction-tx.result.conn.now in
     let last = state g.S.Store c.create.new.tx.conn.now in
     let end = c.commit.new.self.0 in

@@ -22,7 +22,7 @@ use Rattle.reg_store.proofs.store.opening.make_index.Goals as goal
 pub returns-clause-done : goal.returns-clause-done
 returns-clause-done g c clean =
     let end = c.commit.new.self.0 in
-    let first = state g.S.Store c.args.db.now.conn in
+    let first = state g.S.Store c.args.db.now.idle.conn in
     let last = state g.S.Store c.index_versions.new.tx.conn.now in
     let late : HasCleanDisk (state g.S.Store end) = search rules in
     let clean_last : HasCleanDisk last = omega (arith, c.commit.ensures.survives.clean) in
@@ -37,7 +37,7 @@ returns-clause-done g c clean =
 pub returns-clause-survives : goal.returns-clause-survives
 returns-clause-survives g c =
     let end = c.commit.new.self.0 in
-    let first = state g.S.Store c.args.db.now.conn in
+    let first = state g.S.Store c.args.db.now.idle.conn in
     let last = state g.S.Store c.index_versions.new.tx.conn.now in
     let P = λ (db : Trees). IsTrue first.is_open × TakesIndex first.now db in
     let commits = λ (clean : HasCleanDisk (state g.S.Store end)) (db : Trees) (is : db ≡ last.now.trees).
@@ -49,14 +49,14 @@ returns-clause-survives g c =
     let both : P db = (was_open, indexed) in
     both in
     let whole = survives_then first last (state g.S.Store end) _ _ P (λ _ db none. absurd none) commits
-    (survives_begin g.S.Store c.args.db.now.conn last _ (rw c.transaction-tx.ensures.begun at c.index_versions.ensures.frame.keeps.survives)) c.commit.ensures.survives in
+    (survives_begin g.S.Store c.args.db.now.idle.conn last _ (rw c.transaction-tx.ensures.begun at c.index_versions.ensures.frame.keeps.survives)) c.commit.ensures.survives in
     whole
 
 pub returns-clause-fault : goal.returns-clause-fault
 returns-clause-fault g c clean =
     let end = c.commit.new.self.0 in
     let late : HasCleanDisk (state g.S.Store end) = search rules in
-    let first = state g.S.Store c.args.db.now.conn in
+    let first = state g.S.Store c.args.db.now.idle.conn in
     let begun = state g.S.Store c.transaction-tx.result.conn.now in
     let last = state g.S.Store c.index_versions.new.tx.conn.now in
     let clean_last : HasCleanDisk last = omega (arith, c.commit.ensures.survives.clean) in
@@ -70,7 +70,7 @@ pub returns-in_err-index_versions-clause-fault : goal.returns-in_err-index_versi
 returns-in_err-index_versions-clause-fault g c clean =
     let end = c.drop-tx.new.self.0 in
     let late : HasCleanDisk (state g.S.Store end) = search rules in
-    let first = state g.S.Store c.args.db.now.conn in
+    let first = state g.S.Store c.args.db.now.idle.conn in
     let begun = state g.S.Store c.transaction-tx.result.conn.now in
     let last = state g.S.Store c.index_versions.new.tx.conn.now in
     let clean_last : HasCleanDisk last = omega (arith, c.drop-tx.ensures.survives.clean) in
@@ -91,19 +91,19 @@ returns-in_err-index_versions-clause-fault g c clean =
 
 pub returns-in_err-index_versions-clause-before : goal.returns-in_err-index_versions-clause-before
 returns-in_err-index_versions-clause-before g c clean =
-    let first = state g.S.Store c.args.db.now.conn in
+    let first = state g.S.Store c.args.db.now.idle.conn in
     let begun = state g.S.Store c.transaction-tx.result.conn.now in
     let last = state g.S.Store c.index_versions.new.tx.conn.now in
     let end = state g.S.Store c.drop-tx.new.self.0 in
     let late : HasCleanDisk end = search rules in
     let e = c.in_err-index_versions.field-0.0 in
     let inside = survives_both begun last end c.index_versions.ensures.frame.keeps.survives c.drop-tx.ensures.survives in
-    let whole = survives_begin g.S.Store c.args.db.now.conn end _ (rw c.transaction-tx.ensures.begun at inside) in
+    let whole = survives_begin g.S.Store c.args.db.now.idle.conn end _ (rw c.transaction-tx.ensures.begun at inside) in
     erred_with c.from_residual.result e (λ x. IsTrue first.is_open → LeavesBefore first (state g.S.Store c.drop-tx.new.self.0) (failure_of x)) c.from_residual.ensures.1 (λ is_open. before_if_undone first end (failure_of e) whole late)
 
 pub returns-clause-before : goal.returns-clause-before
 returns-clause-before g c clean =
-    let conn = c.args.db.now.conn in
+    let conn = c.args.db.now.idle.conn in
     let begun = c.transaction-tx.result.conn.now in
     let last = state g.S.Store c.index_versions.new.tx.conn.now in
     let end = c.commit.new.self.0 in

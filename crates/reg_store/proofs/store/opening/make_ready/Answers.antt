@@ -20,8 +20,8 @@ use Rattle.reg_store.proofs.store.opening.make_ready.Goals as goal
 pub returns-then-not-is_unindexed-clause-done : goal.returns-then-not-is_unindexed-clause-done
 returns-then-not-is_unindexed-clause-done g c clean =
     let idle : IsTrue c.is_autocommit-idle.result = search rules in
-    let old = state g.S.Store c.args.db.now.conn in
-    let mid = state g.S.Store c.test.new.db.conn in
+    let old = state g.S.Store c.args.db.now.idle.conn in
+    let mid = state g.S.Store c.test.new.db.idle.conn in
     let t = c.in_ok-test.ensures in
     let was_open = t.tests.frame.was_open clean in
     opens_as_it_is old mid (t.tests.frame.only_reads clean) (c.is_autocommit-idle.ensures.settled idle) t.known (c.schema-live.ensures.live was_open).0 (t.tests.passes clean t.known)
@@ -29,17 +29,17 @@ returns-then-not-is_unindexed-clause-done g c clean =
 
 pub returns-in_err-made-clause-newer : goal.returns-in_err-made-clause-newer
 returns-in_err-made-clause-newer g c clean =
-    let old = state g.S.Store c.args.db.now.conn in
-    let early : HasCleanDisk (state g.S.Store c.test.new.db.conn) = omega (arith, c.make_index-made.ensures.survives.clean) in
+    let old = state g.S.Store c.args.db.now.idle.conn in
+    let early : HasCleanDisk (state g.S.Store c.test.new.db.idle.conn) = omega (arith, c.make_index-made.ensures.survives.clean) in
     let t = c.in_ok-test.ensures in
     passed (TellsNewer old) c.from_residual-in_err-made.result _ c.from_residual-in_err-made.ensures.1 (λ number is_open out. absurd (not_outdated old.now number (t.tests.passes early t.known).meta out))
 
 pub returns-clause-done : goal.returns-clause-done
 returns-clause-done g c clean =
     let idle : IsTrue c.is_autocommit-idle.result = search rules in
-    let old = state g.S.Store c.args.db.now.conn in
-    let mid = state g.S.Store c.test.new.db.conn in
-    let new = state g.S.Store c.make_index-made.new.db.conn in
+    let old = state g.S.Store c.args.db.now.idle.conn in
+    let mid = state g.S.Store c.test.new.db.idle.conn in
+    let new = state g.S.Store c.make_index-made.new.db.idle.conn in
     let early : HasCleanDisk mid = omega (arith, c.make_index-made.ensures.survives.clean) in
     let t = c.in_ok-test.ensures in
     let made = c.in_ok-made.ensures.done clean in
@@ -49,9 +49,9 @@ returns-clause-done g c clean =
 pub returns-clause-survives : goal.returns-clause-survives
 returns-clause-survives g c =
     let idle : IsTrue c.is_autocommit-idle.result = search rules in
-    let old = state g.S.Store c.args.db.now.conn in
-    let mid = state g.S.Store c.test.new.db.conn in
-    let new = state g.S.Store c.make_index-made.new.db.conn in
+    let old = state g.S.Store c.args.db.now.idle.conn in
+    let mid = state g.S.Store c.test.new.db.idle.conn in
+    let new = state g.S.Store c.make_index-made.new.db.idle.conn in
     let t = c.in_ok-test.ensures in
     let settled = c.is_autocommit-idle.ensures.settled idle in
     let frame = t.tests.frame in
@@ -64,9 +64,9 @@ returns-clause-survives g c =
 pub returns-in_err-made-clause-survives : goal.returns-in_err-made-clause-survives
 returns-in_err-made-clause-survives g c =
     let idle : IsTrue c.is_autocommit-idle.result = search rules in
-    let old = state g.S.Store c.args.db.now.conn in
-    let mid = state g.S.Store c.test.new.db.conn in
-    let new = state g.S.Store c.make_index-made.new.db.conn in
+    let old = state g.S.Store c.args.db.now.idle.conn in
+    let mid = state g.S.Store c.test.new.db.idle.conn in
+    let new = state g.S.Store c.make_index-made.new.db.idle.conn in
     let t = c.in_ok-test.ensures in
     let settled = c.is_autocommit-idle.ensures.settled idle in
     let frame = t.tests.frame in
@@ -79,12 +79,12 @@ returns-in_err-made-clause-survives g c =
 pub returns-in_err-made-clause-fault : goal.returns-in_err-made-clause-fault
 returns-in_err-made-clause-fault g c clean =
     let idle : IsTrue c.is_autocommit-idle.result = search rules in
-    let old = state g.S.Store c.args.db.now.conn in
-    let mid = state g.S.Store c.test.new.db.conn in
+    let old = state g.S.Store c.args.db.now.idle.conn in
+    let mid = state g.S.Store c.test.new.db.idle.conn in
     let early : HasCleanDisk mid = omega (arith, c.make_index-made.ensures.survives.clean) in
     let t = c.in_ok-test.ensures in
     let e = c.in_err-made.field-0.0 in
-    let new = state g.S.Store c.make_index-made.new.db.conn in
+    let new = state g.S.Store c.make_index-made.new.db.idle.conn in
     let same = same_now old mid (t.tests.frame.only_reads early) (c.is_autocommit-idle.ensures.settled idle) in
     let bare = λ (mid_open : IsTrue mid.is_open). sym (ap (λ (d : Database). d.schema) (same mid_open)) ∙ c.is_unindexed.ensures.0 c.if-not-is_unindexed.false in
     passed (IsFaultUnopened old new) c.from_residual-in_err-made.result (failure_of e) c.from_residual-in_err-made.ensures.1
@@ -97,25 +97,25 @@ returns-in_err-made-clause-fault g c clean =
 pub returns-in_err-made-clause-nothing : goal.returns-in_err-made-clause-nothing
 returns-in_err-made-clause-nothing g c clean =
     let idle : IsTrue c.is_autocommit-settled.result = search rules in
-    let old = state g.S.Store c.args.db.now.conn in
-    let mid = state g.S.Store c.test.new.db.conn in
-    let new = state g.S.Store c.make_index-made.new.db.conn in
+    let old = state g.S.Store c.args.db.now.idle.conn in
+    let mid = state g.S.Store c.test.new.db.idle.conn in
+    let new = state g.S.Store c.make_index-made.new.db.idle.conn in
     let early : HasCleanDisk mid = omega (arith, c.make_index-made.ensures.survives.clean) in
     let kept = keeps_then old mid new (c.in_ok-test.ensures.tests.frame.only_reads early).commit_stays (c.in_err-made.ensures.nothing clean) in
     on_err_each c.from_residual-in_err-made.result (only_reads old new kept (c.is_autocommit-settled.ensures.settled idle))
 
 pub returns-in_err-test-clause-before : goal.returns-in_err-test-clause-before
 returns-in_err-test-clause-before g c clean =
-    let old = state g.S.Store c.args.db.now.conn in
-    let mid = state g.S.Store c.test.new.db.conn in
+    let old = state g.S.Store c.args.db.now.idle.conn in
+    let mid = state g.S.Store c.test.new.db.idle.conn in
     passed (λ e. IsTrue old.is_open → LeavesBefore old mid e) c.from_residual.result c.in_err-test.field-0.0 c.from_residual.ensures.1 (λ is_open. before_if_undone old mid c.in_err-test.field-0.0 c.in_err-test.ensures.tests.frame.survives clean)
 
 pub returns-in_err-made-clause-before : goal.returns-in_err-made-clause-before
 returns-in_err-made-clause-before g c clean =
     let idle : IsTrue c.is_autocommit-idle.result = search rules in
-    let old = state g.S.Store c.args.db.now.conn in
-    let mid = state g.S.Store c.test.new.db.conn in
-    let new = state g.S.Store c.make_index-made.new.db.conn in
+    let old = state g.S.Store c.args.db.now.idle.conn in
+    let mid = state g.S.Store c.test.new.db.idle.conn in
+    let new = state g.S.Store c.make_index-made.new.db.idle.conn in
     let early : HasCleanDisk mid = omega (arith, c.make_index-made.ensures.survives.clean) in
     let t = c.in_ok-test.ensures in
     let frame = t.tests.frame in
@@ -133,9 +133,9 @@ returns-in_err-made-clause-before g c clean =
 pub returns-in_err-made-clause-told : goal.returns-in_err-made-clause-told
 returns-in_err-made-clause-told g c clean =
     let idle : IsTrue c.is_autocommit-idle.result = search rules in
-    let old = state g.S.Store c.args.db.now.conn in
-    let mid = state g.S.Store c.test.new.db.conn in
-    let new = state g.S.Store c.make_index-made.new.db.conn in
+    let old = state g.S.Store c.args.db.now.idle.conn in
+    let mid = state g.S.Store c.test.new.db.idle.conn in
+    let new = state g.S.Store c.make_index-made.new.db.idle.conn in
     let early : HasCleanDisk mid = omega (arith, c.make_index-made.ensures.survives.clean) in
     let t = c.in_ok-test.ensures in
     let frame = t.tests.frame in

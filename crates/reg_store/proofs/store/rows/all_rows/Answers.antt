@@ -17,4 +17,4 @@ returns g c =
     let it = over.spells in
     let lines = c.in_ok-lines.ensures.found clean it.contents it.holds in
     match_of c.rows_in.result (λ rows is. is ∙ sym (map-map row_spelled keyed c.in_ok-lines.lines.items) ∙ ap (map row_spelled) lines ∙ all_spelled it.contents was.registry it.spelled.versions)
-    (λ e only. by_memory (state g.S.Store c.args.db.now.conn) (state g.S.Store c.all_versions.new.conn) e (only (all_lines it.contents was.registry was.replies it.spelled c.in_ok-lines.lines.items lines))) c.rows_in.ensures.ok c.rows_in.ensures.err)
+    (λ e only. by_memory (state g.S.Store c.args.db.now.idle.conn) (state g.S.Store c.all_versions.new.db.conn) e (only (all_lines it.contents was.registry was.replies it.spelled c.in_ok-lines.lines.items lines))) c.rows_in.ensures.ok c.rows_in.ensures.err)

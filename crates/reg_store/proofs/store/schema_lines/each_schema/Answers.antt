@@ -9,9 +9,9 @@ use Rattle.reg_store.proofs.store.schema_lines.each_schema.Goals as goal
 
 pub loop-index-preserved : goal.loop-index-preserved
 loop-index-preserved g c =
-    let old = state g.S.Store c.args.db.now.conn in
-    let mid = state g.S.Store c.loop-index.db.conn in
-    let new = state g.S.Store c.listed_schema.new.db.conn in
+    let old = state g.S.Store c.args.db.now.idle.conn in
+    let mid = state g.S.Store c.loop-index.db.idle.conn in
+    let new = state g.S.Store c.listed_schema.new.db.idle.conn in
     let before = c.loop-index.invariant in
     let it = c.in_ok-listed_schema.ensures in
     let i = c.loop-index.index in
@@ -25,13 +25,13 @@ loop-index-preserved g c =
 
 pub returns-in_err-listed_schema-clause-rests : goal.returns-in_err-listed_schema-clause-rests
 returns-in_err-listed_schema-clause-rests g c =
-    rests_on (state g.S.Store c.args.db.now.conn) (state g.S.Store c.loop-index.db.conn) (state g.S.Store c.listed_schema.new.db.conn) c.loop-index.invariant.rests c.in_err-listed_schema.ensures.rests
+    rests_on (state g.S.Store c.args.db.now.idle.conn) (state g.S.Store c.loop-index.db.idle.conn) (state g.S.Store c.listed_schema.new.db.idle.conn) c.loop-index.invariant.rests c.in_err-listed_schema.ensures.rests
 
 pub returns-in_err-listed_schema-clause-answers : goal.returns-in_err-listed_schema-clause-answers
 returns-in_err-listed_schema-clause-answers g c clean was over many =
-    let old = state g.S.Store c.args.db.now.conn in
-    let mid = state g.S.Store c.loop-index.db.conn in
-    let new = state g.S.Store c.listed_schema.new.db.conn in
+    let old = state g.S.Store c.args.db.now.idle.conn in
+    let mid = state g.S.Store c.loop-index.db.idle.conn in
+    let new = state g.S.Store c.listed_schema.new.db.idle.conn in
     let before = c.loop-index.invariant in
     let it = c.in_err-listed_schema.ensures in
     let early = clean_at old mid new it.rests clean in

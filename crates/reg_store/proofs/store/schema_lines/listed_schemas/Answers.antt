@@ -7,9 +7,9 @@ returns-in_err-count g c = fail c.in_err-count.ensures c.from_residual.ensures.1
 
 pub returns : goal.returns
 returns g c =
-    let old = state g.S.Store c.args.db.now.conn in
-    let mid = state g.S.Store c.count.new.db.conn in
-    let new = state g.S.Store c.each_schema.new.db.conn in
+    let old = state g.S.Store c.args.db.now.idle.conn in
+    let mid = state g.S.Store c.count.new.db.idle.conn in
+    let new = state g.S.Store c.each_schema.new.db.idle.conn in
     let first = c.in_ok-count.ensures in
     let last = c.each_schema.ensures in
     record {

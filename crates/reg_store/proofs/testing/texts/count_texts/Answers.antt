@@ -15,15 +15,15 @@ use Rattle.reg_store.proofs.testing.texts.count_texts.Goals as goal
 
 pub returns-in_err-ids-clause-fault : goal.returns-in_err-ids-clause-fault
 returns-in_err-ids-clause-fault g c clean =
-    let old = state g.S.Store c.args.db.now.conn in
-    let new = state g.S.Store c.text_ids.new.conn in
+    let old = state g.S.Store c.args.db.now.idle.conn in
+    let new = state g.S.Store c.text_ids.new.db.conn in
     passed (IsFaultUnopened old new) c.from_residual.result _ c.from_residual.ensures.1
     (λ registry k over. fault_by old new c.in_err-ids.field-0.0 c.args.db.now.unlimited (c.in_err-ids.ensures.fault clean (unopened_can_be_read old registry k over)))
 
 pub returns-in_err-allow-clause-fault : goal.returns-in_err-allow-clause-fault
 returns-in_err-allow-clause-fault g c clean =
-    let old = state g.S.Store c.args.db.now.conn in
-    let new = state g.S.Store c.text_ids.new.conn in
+    let old = state g.S.Store c.args.db.now.idle.conn in
+    let new = state g.S.Store c.text_ids.new.db.conn in
     let sorted = c.sort_unstable.new.self.items in
     passed (IsFaultUnopened old new) c.from_residual-in_err-allow.result _ c.from_residual-in_err-allow.ensures.1
     (λ registry k over.
@@ -36,7 +36,7 @@ returns-in_err-allow-clause-fault g c clean =
 
 pub returns-clause-counted : goal.returns-clause-counted
 returns-clause-counted g c clean known =
-    let db = (state g.S.Store c.args.db.now.conn).now in
+    let db = (state g.S.Store c.args.db.now.idle.conn).now in
     let sorted = c.sort_unstable.new.self.items in
     let fit = subst (λ (l : List ℕ). AreNumbered 1 l × (length l ≤ max_number)) c.deref.ensures.value (c.are_ids.ensures.0 c.in_ok-allow.ensures.ok) in
     let few = fit.1 in
@@ -45,12 +45,12 @@ returns-clause-counted g c clean known =
 
 pub returns-in_err-ids-clause-told : goal.returns-in_err-ids-clause-told
 returns-in_err-ids-clause-told g c clean =
-    let old = state g.S.Store c.args.db.now.conn in
-    let new = state g.S.Store c.text_ids.new.conn in
+    let old = state g.S.Store c.args.db.now.idle.conn in
+    let new = state g.S.Store c.text_ids.new.db.conn in
     passed (IsToldUnopened old new) c.from_residual.result _ c.from_residual.ensures.1 (λ known. told_by old new c.in_err-ids.field-0.0 c.args.db.now.unlimited (c.in_err-ids.ensures.told clean known))
 
 pub returns-in_err-allow-clause-told : goal.returns-in_err-allow-clause-told
 returns-in_err-allow-clause-told g c clean =
-    let old = state g.S.Store c.args.db.now.conn in
-    let new = state g.S.Store c.text_ids.new.conn in
+    let old = state g.S.Store c.args.db.now.idle.conn in
+    let new = state g.S.Store c.text_ids.new.db.conn in
     passed (IsToldUnopened old new) c.from_residual-in_err-allow.result _ c.from_residual-in_err-allow.ensures.1 (λ known. subst (IsTold old new) (sym c.in_err-allow.ensures.err.0) tt)

@@ -14,16 +14,16 @@ use Rattle.reg_store.proofs.testing.texts.judge_all.Goals as goal
 use Rattle.reg_store.proofs.testing.texts.judge_all.Goals.{then-fit, else-fit}
 
 pub loop-chunk-init : goal.loop-chunk-init
-loop-chunk-init g c = record { rests = rests_still (state g.S.Store c.args.db.now.conn); was_open = λ some. absurd (omega (arith, some)); judged = λ clean known have. judges_none (state g.S.Store c.args.db.now.conn).now have }
+loop-chunk-init g c = record { rests = rests_still (state g.S.Store c.args.db.now.idle.conn); was_open = λ some. absurd (omega (arith, some)); judged = λ clean known have. judges_none (state g.S.Store c.args.db.now.idle.conn).now have }
 
 pub returns-in_err-some-clause-fault : goal.returns-in_err-some-clause-fault
 returns-in_err-some-clause-fault g c clean =
     let idle : IsTrue c.is_autocommit-idle.result = search rules in
-    let old = state g.S.Store c.args.db.now.conn in
-    let mid = state g.S.Store c.loop-chunk.db.conn in
-    let new = state g.S.Store c.judge_some.new.db.conn in
+    let old = state g.S.Store c.args.db.now.idle.conn in
+    let mid = state g.S.Store c.loop-chunk.db.idle.conn in
+    let new = state g.S.Store c.judge_some.new.db.idle.conn in
     let before = c.loop-chunk.invariant in
-    let step = rests_read g.S.Store c.loop-chunk.db.conn c.judge_some.new.db.conn c.judge_some.result c.judge_some.ensures.frame in
+    let step = rests_read g.S.Store c.loop-chunk.db.idle.conn c.judge_some.new.db.idle.conn c.judge_some.result c.judge_some.ensures.frame in
     let early = clean_at old mid new step clean in
     passed (λ e. CanBeRead old → IsFaultBy old new e) c.from_residual.result _ c.from_residual.ensures.1
     (λ can. fault_of_all old mid new before.rests step clean _ (c.in_err-some.ensures.fault clean (readable_on old mid before.rests (c.is_autocommit-idle.ensures.settled idle) early can)))
@@ -31,11 +31,11 @@ returns-in_err-some-clause-fault g c clean =
 pub returns-in_err-some-clause-told : goal.returns-in_err-some-clause-told
 returns-in_err-some-clause-told g c clean =
     let idle : IsTrue c.is_autocommit-idle.result = search rules in
-    let old = state g.S.Store c.args.db.now.conn in
-    let mid = state g.S.Store c.loop-chunk.db.conn in
-    let new = state g.S.Store c.judge_some.new.db.conn in
+    let old = state g.S.Store c.args.db.now.idle.conn in
+    let mid = state g.S.Store c.loop-chunk.db.idle.conn in
+    let new = state g.S.Store c.judge_some.new.db.idle.conn in
     let before = c.loop-chunk.invariant in
-    let step = rests_read g.S.Store c.loop-chunk.db.conn c.judge_some.new.db.conn c.judge_some.result c.judge_some.ensures.frame in
+    let step = rests_read g.S.Store c.loop-chunk.db.idle.conn c.judge_some.new.db.idle.conn c.judge_some.result c.judge_some.ensures.frame in
     let early = clean_at old mid new step clean in
     passed (IsToldUnopened old new) c.from_residual.result _ c.from_residual.ensures.1
     (λ known. told_of_all old mid new before.rests step clean _ (c.in_err-some.ensures.told clean (layout_on old mid before.rests (c.is_autocommit-idle.ensures.settled idle) early known)))
@@ -43,12 +43,12 @@ returns-in_err-some-clause-told g c clean =
 pub loop-chunk-preserved : goal.loop-chunk-preserved
 loop-chunk-preserved g c =
     let idle : IsTrue c.is_autocommit-idle.result = search rules in
-    let old = state g.S.Store c.args.db.now.conn in
-    let mid = state g.S.Store c.loop-chunk.db.conn in
-    let new = state g.S.Store c.judge_some.new.db.conn in
+    let old = state g.S.Store c.args.db.now.idle.conn in
+    let mid = state g.S.Store c.loop-chunk.db.idle.conn in
+    let new = state g.S.Store c.judge_some.new.db.idle.conn in
     let before = c.loop-chunk.invariant in
     let it = c.in_ok-some.ensures in
-    let step = rests_read g.S.Store c.loop-chunk.db.conn c.judge_some.new.db.conn c.judge_some.result c.judge_some.ensures.frame in
+    let step = rests_read g.S.Store c.loop-chunk.db.idle.conn c.judge_some.new.db.idle.conn c.judge_some.result c.judge_some.ensures.frame in
     let n : ℕ = c.loop-chunk.chunk * 16 in
     let db : Database = old.now in
     let a : Bool = c.loop-chunk.fit in
@@ -68,7 +68,7 @@ loop-chunk-preserved g c =
 
 pub returns-clause-judged : goal.returns-clause-judged
 returns-clause-judged g c clean known numbers =
-    let db = (state g.S.Store c.args.db.now.conn).now in
+    let db = (state g.S.Store c.args.db.now.idle.conn).now in
     judges_all db c.args.count (c.loop-chunk.chunk * 16) numbers (omega (arith, c.loop-chunk-test.false)) c.loop-chunk.fit (c.loop-chunk.invariant.judged clean known (have_ids db numbers.ids numbers.lists))
 
 pub returns-clause-open : goal.returns-clause-open
