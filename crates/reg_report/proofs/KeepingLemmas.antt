@@ -6,7 +6,7 @@ use Rattle.sqlite_trees.specs.declared.store.Store.{Ghosts}
 use Rattle.reg_store.specs.declared.error.StoreError.{StoreError}
 use Rattle.reg_store.specs.declared.store.Store.{Store}
 use Rattle.reg_store.specs.Failures.{IsFaultOver}
-use Rattle.reg_store.specs.Inside.Reads.{Stored}
+use Rattle.reg_store.specs.Spells.{Stored}
 use Rattle.reg_store.specs.Stores.{state_of, has_failed, KeepsOpen, KeepsLent, LeavesCommit, LeavesNoMore, SpellsOn, TellsStored}
 use Rattle.reg_store.proofs.Failing.{by_since}
 use Rattle.reg_store.proofs.Keeping.{Settles}

@@ -8,7 +8,7 @@ use Rattle.reg_core.specs.declared.code.Code.TheVariants.{BackendFault}
 use Rattle.reg_core.specs.Replies.{Told, fault}
 use Rattle.reg_store.specs.declared.error.StoreError.{StoreError}
 use Rattle.reg_store.specs.declared.store.Store.{Store}
-use Rattle.reg_store.specs.Inside.Reads.{Stored}
+use Rattle.reg_store.specs.Spells.{Stored}
 use Rattle.reg_store.specs.Stores.{has_failed, KeepsOpen, ReadsStore}
 use Rattle.reg_service.specs.declared.service.Service.{Service}
 use Rattle.reg_service.specs.Services.{store_in, state_in, KeepsService, AreUnanswered}

@@ -9,8 +9,7 @@ use Rattle.reg_core.specs.Registry.{Registry}
 use Rattle.reg_core.specs.Views.{after_changes}
 use Rattle.reg_core.specs.declared.decision.Change.{Change}
 use Rattle.reg_core.specs.KeptReplies.{Kept}
-use Rattle.reg_store.specs.Inside.Reads.{Stored}
-use Rattle.reg_store.specs.Spells.{SpellsWhileOpen}
+use Rattle.reg_store.specs.Spells.{Stored, SpellsWhileOpen}
 use Rattle.reg_store.specs.Stores.{SpellsOn}
 
 abbrev pub stored : Registry → Kept → Stored

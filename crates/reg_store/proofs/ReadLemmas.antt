@@ -14,9 +14,9 @@ use Rattle.reg_tables.proofs.Transactions.{keeps_then, survives_both}
 use Rattle.reg_store.specs.declared.error.StoreError.{StoreError}
 use Rattle.reg_store.specs.declared.error.StoreError.TheVariants.{Memory}
 use Rattle.reg_store.specs.declared.idle.Idle.{Idle}
-use Rattle.reg_store.specs.Spells.{IsOpenOver}
+use Rattle.reg_store.specs.Spells.{IsOpenOver, Stored, Spell}
 use Rattle.reg_store.specs.Failures.{failure_of, IsFaultBy, IsTold}
-use Rattle.reg_store.specs.Inside.Reads.{Stored, shown, Spell, Rests, MayRead, Reads}
+use Rattle.reg_store.specs.Inside.Reads.{shown, Rests, MayRead, Reads}
 use Rattle.reg_store.specs.Stores.{TellsStored}
 use Rattle.reg_store.proofs.Failing.{by_since, fault_by, told_since, can_be_read}
 use Rattle.reg_store.proofs.Committing.{still_spells}

@@ -85,3 +85,12 @@ pub record IsOpenOver (s : State) (g : Registry) (k : Kept) : Type 0 where
 -- SQLite, transactions: as long as the connection is open, it is open over them; a fault may shut it
 abbrev pub SpellsWhileOpen : State → Registry → Kept → Type 0
 SpellsWhileOpen s g k = IsTrue s.is_open → IsOpenOver s g k
+
+-- what is stored: a registry, and the replies that it keeps
+pub record Stored : Type 0 where
+  pub registry : Registry
+  pub replies : Kept
+
+-- SQLite, transactions: as long as the connection is open, its tables spell what is stored
+abbrev pub Spell : State → Stored → Type 0
+Spell s was = SpellsWhileOpen s was.registry was.replies

@@ -9,7 +9,7 @@ use Rattle.reg_store.specs.declared.error.StoreError.{StoreError}
 use Rattle.reg_store.specs.declared.error.StoreError.TheVariants.{Memory, Disk}
 use Rattle.reg_store.specs.declared.store.Store.{Store}
 use Rattle.reg_store.specs.Failures.{IsFaultBy}
-use Rattle.reg_store.specs.Inside.Reads.{Stored, Spell}
+use Rattle.reg_store.specs.Spells.{Stored, Spell}
 
 -- SQLite, connections: the store's one
 abbrev pub connection_of : {S : Type 0} {g : Ghosts S} → Store S g → Held S

@@ -139,10 +139,7 @@ pub fn set_mode<S: Alter>(
 ///
 /// `OutOfMemory`, a fault of the disk, or `OperationInterrupted` at the limit on steps; where the
 /// tables can't be read, another error too. Nothing is changed.
-pub fn own_mode<S: Alter>(
-    db: &mut Idle<S>,
-    subject: &str,
-) -> Result<Option<String>, Error>
+pub fn own_mode<S: Alter>(db: &mut Idle<S>, subject: &str) -> Result<Option<String>, Error>
     ensures frame { StaysIdle S.Store db.old.conn db.new.conn result }
     ensures found { HasCleanDisk (shown db.new) → IfOk result (λ found.
         (schema : Schema) → HasSecondTables schema
@@ -162,10 +159,7 @@ pub fn own_mode<S: Alter>(
 ///
 /// `OutOfMemory`, a fault of the disk, or `OperationInterrupted` at the limit on steps; another
 /// where a row holds what the line can't. Nothing is changed.
-pub fn mode_lines<S: Alter>(
-    alloc: Global,
-    db: &mut Idle<S>,
-) -> Result<Vec<ModeLine>, Error>
+pub fn mode_lines<S: Alter>(alloc: Global, db: &mut Idle<S>) -> Result<Vec<ModeLine>, Error>
     ensures frame { StaysIdle S.Store db.old.conn db.new.conn result }
     ensures listed { HasCleanDisk (shown db.new) → IfOk result (λ lines.
         HasSecondTables (shown db.old).now.schema

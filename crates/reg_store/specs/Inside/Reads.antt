@@ -3,25 +3,14 @@ use Rattle.std.specs.Prelude.{◌≡◌, IsTrue, Result, OnOk, MatchResult}
 use Rattle.sqlite.specs.Held.{state}
 use Rattle.sqlite.specs.State.{State, HasCleanDisk, KeepsCommit, Survives}
 use Rattle.sqlite_trees.specs.declared.store.Store.{Ghosts}
-use Rattle.reg_core.specs.Registry.{Registry}
-use Rattle.reg_core.specs.KeptReplies.{Kept}
 use Rattle.reg_store.specs.declared.error.StoreError.{StoreError}
 use Rattle.reg_store.specs.declared.idle.Idle.{Idle}
-use Rattle.reg_store.specs.Spells.{SpellsWhileOpen}
+use Rattle.reg_store.specs.Spells.{Stored, Spell}
 use Rattle.reg_store.specs.Failures.{IsFaultBy}
-
--- what is stored: a registry, and the replies that it keeps
-pub record Stored : Type 0 where
-  pub registry : Registry
-  pub replies : Kept
 
 -- SQLite, transactions: what the connection shows
 abbrev pub shown : {S : Type 0} {g : Ghosts S} → Idle S g → State
 shown {S} {g} db = state g db.idle.conn
-
--- as long as the connection is open, its tables spell what is stored
-abbrev pub Spell : State → Stored → Type 0
-Spell s was = SpellsWhileOpen s was.registry was.replies
 
 -- nothing is committed, and a connection that showed its last commit shows it still
 pub record Rests (old new : State) : Type 0 where

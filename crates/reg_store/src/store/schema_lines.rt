@@ -5,7 +5,8 @@ ghost use Rattle.sqlite.specs.State.{HasCleanDisk};
 ghost use Rattle.reg_core.specs.Rows.{text_at};
 ghost use Rattle.reg_store.specs.Failures.{IsFaultBy};
 ghost use Rattle.reg_store.specs.Listings.{fields_of, lines_of, schema_line, schema_lines};
-ghost use Rattle.reg_store.specs.Inside.Reads.{Reads, Rests, Spell, Stored, shown};
+ghost use Rattle.reg_store.specs.Spells.{Spell, Stored};
+ghost use Rattle.reg_store.specs.Inside.Reads.{Reads, Rests, shown};
 
 use crate::error::StoreError;
 use crate::idle::Idle;

@@ -3,7 +3,7 @@ use Rattle.std.specs.Prelude.{string_bytes}
 use Rattle.std.specs.Io.KnownBytes.{Appends}
 use Rattle.csv.specs.Writing.{default_writer, row_text}
 use Rattle.csv.proofs.WriteFacts.{appends-none, appends-more}
-use Rattle.reg_store.specs.Inside.Reads.{Stored}
+use Rattle.reg_store.specs.Spells.{Stored}
 use Rattle.reg_store.specs.Failures.{IsFaultOver}
 use Rattle.reg_store.specs.Handing.{store_of}
 use Rattle.reg_store.specs.Listings.{fields_of}

@@ -1,6 +1,7 @@
 use Rattle.std.proofs.Common.{◌≡◌, length, take}
 use Rattle.sqlite.specs.State.{HasCleanDisk}
-use Rattle.reg_store.specs.Inside.Reads.{Stored, Rests, Spell, shown}
+use Rattle.reg_store.specs.Spells.{Stored, Spell}
+use Rattle.reg_store.specs.Inside.Reads.{Rests, shown}
 use Rattle.reg_store.specs.Listings.{lines_of, schema_lines}
 use Rattle.reg_store.proofs.store.schema_lines.each_schema.Given as goal
 
