@@ -29,9 +29,9 @@ size (Some e) = length e.1.text
 abbrev pub max_entries : ℕ
 max_entries = 256
 
--- the most bytes of texts in all: 1 MiB
+-- the most bytes of texts in all: 384 KiB
 abbrev pub max_total : ℕ
-max_total = 1048576
+max_total = 393216
 
 -- the most bytes of one text: 64 KiB
 abbrev pub max_remembered : ℕ

@@ -41,7 +41,7 @@ impl WhenFull {
 }
 
 /// A memory of schemas that were read, found by the ids of their texts. It has at most 256 of them,
-/// whose texts have at most 1 MiB in all and 64 KiB each.
+/// whose texts have at most 384 KiB in all and 64 KiB each.
 #[derive(Drop)]
 pub struct Memory {
     shelf: Option<Shelf>,

@@ -11,8 +11,9 @@ use std::alloc::{AllocError, Global};
 use std::marker::Model;
 use std::num::NonZeroUsize;
 
-/// The most bytes of texts in all.
-pub const MAX_TOTAL: usize = 1048576;
+/// The most bytes of texts in all: 384 KiB. What was read of texts full of small objects takes some
+/// 130 times their bytes, so 50 MB at most.
+pub const MAX_TOTAL: usize = 393216;
 
 /// The most entries.
 pub const MAX_ENTRIES: usize = 256;

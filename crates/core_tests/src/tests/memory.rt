@@ -84,7 +84,7 @@ fn the_least_recently_used_go(rt: HostRuntime) -> Result<(), Fail> {
         let outcome = outcome(alloc, &mut memory, id, text.as_str(), WhenFull::Replace)?;
         assert_eq!(rt; outcome.as_str(), "\"long\" kept");
     }
-    assert_eq!(rt; memory.sizes(), (16, 1048576));
+    assert_eq!(rt; memory.sizes(), (6, 393216));
     Ok(())
 }
 
@@ -103,9 +103,9 @@ fn a_long_scan_keeps_what_is_there(rt: HostRuntime) -> Result<(), Fail> {
 #[test]
 fn a_scan_is_long_by_its_schemas_or_its_texts(rt: HostRuntime) {
     for (schemas, bytes, when_full) in [
-        (256, 1048576, WhenFull::Replace),
+        (256, 393216, WhenFull::Replace),
         (257, 0, WhenFull::Keep),
-        (1, 1048577, WhenFull::Keep),
+        (1, 393217, WhenFull::Keep),
     ] {
         assert_eq!(rt; WhenFull::of_scan(schemas, bytes), when_full);
     }
