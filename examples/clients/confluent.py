@@ -7,7 +7,9 @@ import logging
 import sys
 
 import confluent_kafka
+import requests
 from confluent_kafka import avro
+from confluent_kafka.avro import AvroProducer, ClientError
 from confluent_kafka.avro.cached_schema_registry_client import CachedSchemaRegistryClient
 from confluent_kafka.avro.serializer.message_serializer import MessageSerializer
 from confluent_kafka.schema_registry import Schema, SchemaReference, SchemaRegistryClient
@@ -35,6 +37,27 @@ def refused(status, code, call, *arguments):
         same((status, code), (error.http_status_code, error.error_code))
     else:
         raise AssertionError(f"wanted {code}, found {found!r}")
+
+
+def fails(beginning, call, *arguments):
+    """The call has to fail with a message that begins so."""
+    try:
+        found = call(*arguments)
+    except ClientError as error:
+        same(beginning, error.message[:len(beginning)])
+    else:
+        raise AssertionError(f"wanted {beginning}, found {found!r}")
+
+
+def send(producer, topic, value):
+    producer.produce(topic=topic, value=value)
+
+
+def set_mode(url, subject, mode):
+    """Sets the mode of a subject, and gives whether this registry has modes."""
+    answer = requests.put(f"{url}/mode/{subject}", json={"mode": mode})
+    assert answer.status_code in (200, 404), answer.text
+    return answer.status_code == 200
 
 
 def client_of_today(url, prefix):
@@ -105,11 +128,33 @@ def client_of_avro_producer(url, prefix):
         same((None, None, None), client.get_latest_schema(subject))
 
 
+def client_that_registers_nothing(url, prefix):
+    """`AvroProducer` with the setting of docs/clients.md: a schema that isn't registered stops a message before it is sent,
+    to a Kafka that isn't there. And what its client says of refusals."""
+    topic = f"{prefix}refunds"
+    subject = f"{topic}-value"
+    first, second = (avro.loads(record(f"{prefix}Refund", *fields)) for fields in ((ID,), (ID, TOTAL)))
+    producer = AvroProducer({"bootstrap.servers": "127.0.0.1:9", "log_level": 0, "schema.registry.url": url,
+                             "schema.registry.auto.register.schemas": False}, default_value_schema=second)
+    with CachedSchemaRegistryClient({"url": url}) as client:
+        for _ in "without versions", "with another one":
+            fails("Schema or subject not found:404", send, producer, topic, {"id": 7, "total": 1.0})
+            number = client.register(subject, first)
+        same(number, client.check_registration(subject, first))
+        fails("Incompatible Avro schema:409", client.register, subject, second)
+        if set_mode(url, subject, "READONLY"):
+            fails("Invalid Avro schema:422", client.register, subject, second)
+            with SchemaRegistryClient({"url": url}) as other:
+                refused(422, 42205, other.register_schema, subject, Schema(record(f"{prefix}Refund", ID, NOTE), "AVRO"))
+            set_mode(url, subject, "READWRITE")
+
+
 def main():
     url, prefix = sys.argv[1], sys.argv[2] if len(sys.argv) > 2 else ""
     logging.disable()
     client_of_today(url, prefix)
     client_of_avro_producer(url, prefix)
+    client_that_registers_nothing(url, prefix)
     print(f"confluent-kafka {confluent_kafka.version()[0]}: both clients got what they have to")
 
 
