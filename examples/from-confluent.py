@@ -217,11 +217,12 @@ class Registry:
         return ((name, version) for name, subject in self.subjects.items() for version in subject.versions)
 
     def __str__(self):
-        versions = [version for _, version in self.versions()]
-        return (f"{len(self.subjects)} subjects, {len(versions)} versions, {sum(it.deleted for it in versions)} of them "
-                f"soft-deleted, {len({it.id for it in versions})} ids, "
-                f"{sum(it.level is not None for it in self.subjects.values())} own levels, "
-                f"{sum(it.mode is not None for it in self.subjects.values())} own modes")
+        subjects, versions = self.subjects.values(), [version for _, version in self.versions()]
+        gaps = sum(subject.versions[-1].number - len(subject.versions) for subject in subjects)
+        return (f"{len(subjects)} subjects, {len(versions)} versions ({sum(it.deleted for it in versions)} soft-deleted, "
+                f"{gaps} numbers unused), {len({it.id for it in versions})} ids, "
+                f"{sum(it.level is not None for it in subjects)} own levels, "
+                f"{sum(it.mode is not None for it in subjects)} own modes")
 
 
 def beside_schema(shown: dict) -> Iterator[str]:

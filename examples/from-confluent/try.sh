@@ -73,10 +73,10 @@ writes=$(sed -n 's/.* by \([0-9]*\) writes$/\1/p' "$scratch/moved")
 for sixth in 1 2 3 4 5; do
   move_killed $((writes * sixth / 600 * 100)) "$source" "$url"
 done
-move 0 "$source" "$url"
+for again in 1 2; do
+  move 0 "$source" "$url"
+done
 tail -n 1 "$scratch/moved"
-same "$source" "$url" "$avroreg"
-move 0 "$source" "$url"
 move 1 --run another "$source" "$url"
 tail -n 1 "$scratch/moved"
 same "$source" "$url" "$avroreg"
@@ -87,8 +87,8 @@ stand_in --lost-ids
 rest=$source
 stand_in --lost-ids --foreign
 move 1 "$source" "$url"
-grep -v '^Id' "$scratch/moved"
-echo "and $(grep -c '^Ids\? ' "$scratch/moved") lines on ids"
+grep -v -e '^Ids\? ' -e ' stands behind id ' "$scratch/moved"
+echo "and $(grep -c -e '^Ids\? ' -e ' stands behind id ' "$scratch/moved") lines on ids"
 is_new "$url"
 move 1 --skip --without-modes "$source" "$url"
 move 1 --fill-ids --without-modes "$source" "$url"
