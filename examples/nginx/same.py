@@ -135,8 +135,8 @@ def main():
     compare(alone, behind)
     chunks(alone, behind)
     first, second = waited(alone), waited(behind)
-    assert first > 5 and second < 1, (first, second)
-    print(f"beside a silent client: {first:.1f} s alone, {second:.3f} s behind nginx")
+    assert first > 0.2 and second < 1, (first, second)  # alone the silent one gives way after a quarter of a second
+    print(f"beside a silent client: {first:.3f} s alone, {second:.3f} s behind nginx")
 
 
 if __name__ == "__main__":
