@@ -618,9 +618,12 @@ def look_at_flags(plan: Plan, flags: argparse.Namespace):
 
 
 def look_at_keys(target: Server):
-    """Whether the target looks at retry keys: a level that is none isn't set in any case."""
-    if target.ask("PUT", "/config", NO_LEVEL, "no key").code != 40001:
+    """Whether the target looks at retry keys: then one that is none is refused, and else a level that is none."""
+    answer = target.ask("PUT", "/config", NO_LEVEL, "no key")
+    if answer.code == 42203:
         raise Stop(CANNOT, f"{target.url} is no avroreg, or doesn't get the field Registry-Retry-Key")
+    if answer.code != 40001:
+        raise Stop(UNASKED, f"{target.url}/config: {answer}")
 
 
 def look_at_target(target: Server, plan: Plan, source: str, run: str, dry: bool):
