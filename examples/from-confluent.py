@@ -32,8 +32,8 @@ other flags are given, that can't go on, and needs another new file.
 
 A registry that somebody writes to is read as it was at one moment, and what comes later isn't moved: stop the writers
 before a move, or set FROM's mode to READONLY, which is moved too. Not seen over HTTP, so not moved: levels and modes of
-subjects without versions, what was kept for retry keys, evidence, schemas that no version has, and how many ids were given
-after the last that is seen.
+subjects without versions, what was kept for retry keys, schemas that no version has, and how many ids were given after the
+last that is seen.
 
 A password is taken from the environment: FROM_PASSWORD beside --from-user, TO_PASSWORD beside --to-user.
 
