@@ -1,0 +1,663 @@
+#!/usr/bin/env python3
+"""Drives headless Chromium through the page, and holds what it shows to what the registry answers. try.sh calls it.
+
+Each of the functions that begin with `look_at` or `try` is one part, in the order in which `main` has them, since what one
+changes the next one finds. A fault is an AssertionError with the part's line.
+"""
+import argparse
+import http.client
+import json
+import os
+import re
+import signal
+import threading
+import time
+import urllib.parse
+
+from selenium import webdriver
+from selenium.common.exceptions import NoAlertPresentException, StaleElementReferenceException
+from selenium.webdriver.chrome.service import Service
+from selenium.webdriver.common.action_chains import ActionChains
+from selenium.webdriver.common.by import By
+from selenium.webdriver.common.keys import Keys
+
+HOSTILE = "<img src=x onerror=alert(1)>"
+SUBJECTS = 2000
+WIDE, PHONE = (1280, 900), (360, 780)
+
+STRINGS = [{"name": "id", "type": "long", "doc": "The order's number."}, {"name": "note", "type": ["null", "string"], "default": None}]
+ORDERS = [
+    {"type": "record", "name": "Order", "namespace": "shop", "doc": "An order, as the shop took it.", "fields": [
+        {"name": "id", "type": "long", "doc": "Its number, for good."},
+        {"name": "placed", "type": {"type": "long", "logicalType": "timestamp-millis"}},
+        {"name": "total", "type": {"type": "bytes", "logicalType": "decimal", "precision": 9, "scale": 2}, "doc": "With taxes."},
+        {"name": "state", "type": {"type": "enum", "name": "State", "symbols": ["NEW", "PAID", "SENT"], "default": "NEW"}, "default": "NEW"},
+        {"name": "limit", "type": "long", "default": 9223372036854775807, "aliases": ["most", "cap"]},
+        {"name": "customer", "type": {"type": "record", "name": "Customer", "doc": "Who ordered.", "fields": [
+            {"name": "name", "type": "string"},
+            {"name": "address", "type": ["null", {"type": "record", "name": "Address", "fields": [
+                {"name": "street", "type": "string"}, {"name": "zip", "type": {"type": "fixed", "name": "Zip", "size": 5}}]}],
+             "default": None}]}},
+        {"name": "lines", "type": {"type": "array", "items": {"type": "record", "name": "Line", "fields": [
+            {"name": "sku", "type": "string"}, {"name": "pieces", "type": "int", "default": 1}]}}, "default": []},
+    ]},
+]
+for added in ({"name": "channel", "type": "string", "default": "web", "doc": "Where it was placed."},
+              {"name": "tags", "type": {"type": "map", "values": "string"}, "default": {}}):
+    ORDERS.append({**ORDERS[-1], "fields": [*ORDERS[-1]["fields"][:2], added, *ORDERS[-1]["fields"][2:]]})
+HOSTILE_SCHEMA = {"type": "record", "name": "Hostile", "doc": HOSTILE, "fields": [
+    {"name": "text", "type": "string", "default": HOSTILE, "doc": HOSTILE},
+    {"name": "moment", "type": {"type": "long", "logicalType": HOSTILE}}]}
+
+
+def path(*parts):
+    return "/" + "/".join(urllib.parse.quote(part, safe="") for part in parts)
+
+
+class Registry:
+    """The registry, asked without the page."""
+
+    def __init__(self, port):
+        self.port = port
+
+    def ask(self, method, target, body=None):
+        connection = http.client.HTTPConnection("127.0.0.1", self.port, timeout=60)
+        connection.request(method, target, body and json.dumps(body), {"Connection": "close"})
+        answer = connection.getresponse()
+        return answer.status, json.loads(answer.read())
+
+    def get(self, target):
+        status, answer = self.ask("GET", target)
+        assert status == 200, (target, status, answer)
+        return answer
+
+    def register(self, subject, schema):
+        status, answer = self.ask("POST", path("subjects", subject, "versions"), {"schema": json.dumps(schema)})
+        assert status == 200, (subject, status, answer)
+
+    def fill(self):
+        """2,000 subjects, of which one is soft-deleted, one has three versions, and some have names that are hard to show."""
+        names = ["orders", "gone", HOSTILE, "a/b?c#d%e&f=g+h", "größe \u202e x", "x" * 255]
+        shops = ["billing", "catalogue", "delivery", "payments", "returns", "stock", "support", "tracking"]
+        names += [f"{shops[at % 8]}.event-{at:04}-value" for at in range(SUBJECTS + 1 - len(names))]
+        connection = http.client.HTTPConnection("127.0.0.1", self.port, timeout=60)
+        for at, name in enumerate(names):
+            fields = STRINGS + [{"name": f"f{at % 7}", "type": "double", "default": 0}]
+            schema = {"type": "record", "name": f"Event{at % 50}", "namespace": "shop.events", "fields": fields}
+            schema = {"orders": ORDERS[0], HOSTILE: HOSTILE_SCHEMA}.get(name, schema)
+            connection.request("POST", path("subjects", name, "versions"), json.dumps({"schema": json.dumps(schema)}))
+            answer = connection.getresponse()
+            assert answer.status == 200, (name, answer.read())
+            answer.read()
+        connection.close()
+        for schema in ORDERS[1:]:
+            self.register("orders", schema)
+        assert self.ask("DELETE", "/subjects/gone")[0] == 200
+        assert self.ask("PUT", "/config/orders", {"compatibility": "FULL"})[0] == 200
+
+
+class Page:
+    """The page in a browser."""
+
+    def __init__(self, port, log, shots):
+        self.origin, self.log, self.shots = f"http://127.0.0.1:{port}", log, shots
+        options = webdriver.ChromeOptions()
+        options.binary_location = "/usr/bin/chromium"
+        for word in ("--headless=new", "--no-sandbox", "--disable-gpu", "--disable-dev-shm-usage"):
+            options.add_argument(word)
+        options.set_capability("goog:loggingPrefs", {"browser": "ALL"})
+        self.driver = webdriver.Chrome(service=Service("/usr/bin/chromedriver"), options=options)
+        self.light(True)
+        self.size(WIDE)
+
+    def size(self, size):
+        self.width = size[0]
+        self.driver.execute_cdp_cmd("Emulation.setDeviceMetricsOverride",
+                                    {"width": size[0], "height": size[1], "deviceScaleFactor": 1, "mobile": size == PHONE})
+
+    def light(self, is_light):
+        features = [{"name": "prefers-color-scheme", "value": "light" if is_light else "dark"}]
+        self.driver.execute_cdp_cmd("Emulation.setEmulatedMedia", {"features": features})
+
+    def open(self, **parameters):
+        """Loads the page anew at a view."""
+        self.driver.get("about:blank")
+        self.driver.get(f"{self.origin}/page/#{urllib.parse.urlencode(parameters)}")
+        self.settle()
+
+    def settle(self):
+        """Waits until the view stands and each row in view has what it asks for."""
+        self.until(lambda: self.run("return !document.querySelector('main[aria-busy]') && !!document.querySelector('h1')"))
+        self.until(lambda: self.run("""return [...document.querySelectorAll('.subjects tbody tr')].every((row) => {
+          const {top, bottom} = row.getBoundingClientRect();
+          return bottom < 1 || top > innerHeight - 1 || !row.textContent.includes('…'); })"""))
+
+    def run(self, script, *arguments):
+        return self.driver.execute_script(script, *arguments)
+
+    def until(self, holds, seconds=30, what="nothing came of it"):
+        end = time.monotonic() + seconds
+        while time.monotonic() < end:
+            try:
+                found = holds()
+                if found:
+                    return found
+            except StaleElementReferenceException:
+                pass
+            time.sleep(0.05)
+        raise AssertionError(f"{what}; the page shows: {self.text('main')[:400]}")
+
+    def all(self, selector):
+        return self.driver.find_elements(By.CSS_SELECTOR, selector)
+
+    def one(self, selector):
+        return self.until(lambda: self.all(selector), what=f"there is no {selector}")[0]
+
+    def texts(self, selector):
+        return self.run("return [...document.querySelectorAll(arguments[0])].map((node) => node.textContent)", selector)
+
+    def text(self, selector):
+        return "\n".join(self.texts(selector))
+
+    def button(self, words, within=""):
+        return self.until(lambda: [each for each in self.all(f"{within} button") if each.text == words], what=f"no button {words}")[0]
+
+    def message(self, kind, words):
+        """Waits for a message of the kind that has the words."""
+        return self.until(lambda: [text for text in self.texts(f".message.{kind}") if words in text], what=f"no {kind} {words}")[0]
+
+    def shot(self, name):
+        """Screenshots at both widths, light and dark; no view is wider than its window, and each text has contrast."""
+        for size, width in ((WIDE, "wide"), (PHONE, "phone")):
+            self.size(size)
+            self.settle()
+            wide = self.run("return document.scrollingElement.scrollWidth")
+            assert wide <= size[0], (name, width, wide)
+            for is_light, light in ((True, "light"), (False, "dark")):
+                self.light(is_light)
+                time.sleep(0.1)
+                faint = self.run(CONTRAST)
+                assert not faint, (name, width, light, faint)
+                self.driver.save_screenshot(f"{self.shots}/{name}-{width}-{light}.png")
+        self.light(True)
+        self.size(WIDE)
+
+    def lines(self):
+        """The requests that nginx has answered so far."""
+        time.sleep(0.1)
+        with open(self.log, encoding="utf-8") as log:
+            return log.read().splitlines()
+
+    def press(self, *keys):
+        ActionChains(self.driver).send_keys(*keys).perform()
+
+    def tab_to(self, script, most=60, back=False):
+        """Presses Tab until the focus is on what the script says of `at`; what has it on the way is visibly so."""
+        for _ in range(most):
+            if back:
+                ActionChains(self.driver).key_down(Keys.SHIFT).send_keys(Keys.TAB).key_up(Keys.SHIFT).perform()
+            else:
+                self.press(Keys.TAB)
+            seen = self.run("const at = document.activeElement; return at === document.body || getComputedStyle(at).outlineStyle !== 'none'")
+            assert seen, self.run("return document.activeElement.outerHTML")
+            if self.run(f"const at = document.activeElement; return {script}"):
+                return
+        raise AssertionError(f"the keyboard doesn't come to {script}")
+
+
+# The texts whose contrast with what is behind them is less than 4.5 (WCAG 2.2, success criterion 1.4.3).
+CONTRAST = """
+const parts = (color) => color.match(/[\\d.]+/g).map(Number);
+const light = ([r, g, b]) => [r, g, b].map((c) => c / 255).map((c) => c <= 0.04045 ? c / 12.92 : ((c + 0.055) / 1.055) ** 2.4)
+  .reduce((sum, c, at) => sum + c * [0.2126, 0.7152, 0.0722][at], 0);
+const behind = (node) => { for (; node; node = node.parentElement) {
+  const found = parts(getComputedStyle(node).backgroundColor); if (found.length === 3 || found[3] === 1) return found; }
+  return [255, 255, 255]; };
+const found = [];
+const walk = document.createTreeWalker(document.body, NodeFilter.SHOW_TEXT);
+for (let node = walk.nextNode(); node; node = walk.nextNode()) {
+  const box = node.parentElement;
+  if (!node.data.trim() || !box.checkVisibility() || box.closest('option, [aria-disabled]')) continue;
+  const [a, b] = [light(parts(getComputedStyle(box).color)), light(behind(box))];
+  const contrast = (Math.max(a, b) + 0.05) / (Math.min(a, b) + 0.05);
+  if (contrast < 4.5) found.push([node.data, contrast]);
+}
+return found;"""
+
+
+def type_text(kind):
+    """A type on one line, as the page has to show it."""
+    if isinstance(kind, str):
+        return kind
+    if isinstance(kind, list):
+        return " | ".join(map(type_text, kind))
+    if kind["type"] in ("array", "map"):
+        return f"{kind['type']}<{type_text(kind['items' if kind['type'] == 'array' else 'values'])}>"
+    name = f"{kind['type']} {kind['name']}" if "name" in kind else kind["type"]
+    facts = [str(kind[fact]) for fact in ("logicalType", "precision", "scale") if fact in kind]
+    return f"{name} ({' '.join(facts)})" if facts else name
+
+
+def records(kind):
+    """The records that a type defines, outermost and first ones first."""
+    if isinstance(kind, list):
+        return [found for branch in kind for found in records(branch)]
+    if not isinstance(kind, dict):
+        return []
+    if kind["type"] == "record":
+        return [kind] + [found for field in kind["fields"] for found in records(field["type"])]
+    return records(kind.get("items", kind.get("values")))
+
+
+def look_at_heads(page):
+    status, head = 0, {}
+    for name in ("", "page.css", "page.js"):
+        connection = http.client.HTTPConnection(page.origin[7:], timeout=10)
+        connection.request("GET", f"/page/{name}")
+        answer = connection.getresponse()
+        status, head = answer.status, {name.lower(): value for name, value in answer.getheaders()}
+        body = answer.read().decode()
+        assert status == 200 and "default-src 'self';" in head["content-security-policy"], (name, status, head)
+        assert head["x-content-type-options"] == "nosniff", head
+        assert not re.search(r"https?://|@import|innerHTML|outerHTML|insertAdjacent|document\.write|\beval\b", body), name
+    print("the page, its style and its script: one origin, with a Content-Security-Policy of default-src 'self'")
+
+
+def look_at_subjects(page, registry):
+    """The first rows of 2,000 subjects, with few requests."""
+    before = len(page.lines())
+    page.open()
+    asked = [line for line in page.lines()[before:] if " /page/" not in line and "favicon" not in line]
+    assert len(asked) <= 100, len(asked)
+    wanted = registry.get("/subjects")
+    assert len(wanted) == SUBJECTS and f"{SUBJECTS:,} subjects" in page.text(".told"), page.text(".told")
+    names = page.texts(".subjects tbody th a")
+    assert 30 < len(names) <= 200 and names == wanted[:len(names)], names
+    level, filled = registry.get("/config")["compatibilityLevel"], 0
+    for name, (latest, schema, shown_level) in zip(names, page.run("""return [...document.querySelectorAll('.subjects tbody tr')]
+        .map((row) => [...row.querySelectorAll('td')].map((cell) => cell.textContent))""")):
+        if latest == "…":
+            continue
+        found = registry.get(path("subjects", name, "versions", "latest"))
+        assert (latest, schema) == (f"{found['version']} id {found['id']}", type_text(json.loads(found["schema"]))), (name, latest, schema)
+        status, own = registry.ask("GET", path("config", name))
+        assert shown_level == (own["compatibilityLevel"] if status == 200 else level), (name, shown_level)
+        filled += 1
+    assert filled >= 15, filled
+    page.shot("subjects")
+    print(f"the first {filled} rows of {SUBJECTS:,} subjects, as the registry answers them: {len(asked)} requests")
+
+    page.open()
+    page.until(lambda: page.run("""scrollTo(0, document.body.scrollHeight);
+      return document.querySelectorAll('.subjects tbody tr').length""") == SUBJECTS)
+    page.settle()
+    assert page.texts(".subjects tbody th a") == wanted
+    print("all of them, when scrolled to the end")
+
+
+def look_for_subjects(page, registry):
+    """The search box, and the switch for soft-deleted ones."""
+    page.open()
+    page.one("#search").send_keys("ORDER")
+    page.until(lambda: page.texts(".subjects tbody th a") == ["orders"])
+    page.settle()
+    assert page.texts(".subjects tbody td")[2] == "FULL"
+    page.one("#search").send_keys("no such")
+    page.until(lambda: "No subject has" in page.text(".told"))
+    page.shot("no-match")
+    page.one("#search").clear()
+    page.one("#search").send_keys("gone")
+    page.until(lambda: "No subject has" in page.text(".told"))
+    page.one("#deleted").click()
+    page.until(lambda: page.texts(".subjects tbody th") == ["gone soft-deleted"])
+    assert page.run("return document.activeElement.id") == "deleted"
+    page.settle()
+    found = registry.get("/subjects/gone/versions/latest?deleted=true")
+    assert page.texts(".subjects tbody td")[0] == f"{found['version']} id {found['id']}"
+    page.one("#search").clear()
+    page.one("#search").send_keys(Keys.BACKSPACE)
+    page.until(lambda: f"{len(registry.get('/subjects?deleted=true')):,} subjects" in page.text(".told"))
+    print("search and the switch for soft-deleted ones")
+
+
+def look_at_fields(page, registry):
+    """A schema as tables of fields."""
+    page.open(subject="orders")
+    found = registry.get("/subjects/orders/versions/latest")
+    assert page.texts(".versions li") == ["3", "2", "1"] and page.text("h2").startswith(f"Version 3 id {found['id']}")
+    schema = json.loads(found["schema"])
+    tables = page.run("""return [...document.querySelectorAll('table.fields')].map((table) =>
+      [...table.tBodies[0].rows].filter((row) => row.className !== 'inside')
+        .map((row) => Object.fromEntries([...row.cells].map((cell) => [cell.dataset.name, cell.textContent]))))""")
+    wanted = []
+    for record in records(schema):
+        rows = []
+        for field in record["fields"]:
+            row = {"Field": field["name"], "Type": type_text(field["type"]), "Default": "none"}
+            if "default" in field:
+                row["Default"] = json.dumps(field["default"], separators=(",", ":"))
+            if any("doc" in each for each in record["fields"]):
+                row["Doc"] = field.get("doc", "")
+            if any("aliases" in each for each in record["fields"]):
+                row["Aliases"] = ", ".join(field.get("aliases", []))
+            rows.append(row)
+        wanted.append(rows)
+    assert tables == wanted, (tables, wanted)
+    assert schema["doc"] in page.text(".definition > .doc") and "9223372036854775807" in page.text(".fields")
+    assert page.run("return [...document.querySelectorAll('details')].every((each) => !each.open)")
+    page.shot("fields")
+    for summary in page.all(".version > .definition > table > tbody > .inside > td > details > summary"):
+        summary.click()
+    page.all("details[open] summary")[-1].click()
+    page.shot("folds")
+    print(f"fields of {len(tables)} records: name, type, default, doc, aliases; inner ones fold")
+
+
+def compact(text):
+    """A text that the page has indented, without what it put in."""
+    lines = [re.sub(r'^("(?:[^"\\]|\\.)*"): ', r"\1:", line.strip(" ")) for line in text.split("\n")]
+    return "".join(lines)
+
+
+def look_at_json(page, registry):
+    page.open(subject="orders", version=2, view="json")
+    assert compact(page.text("pre")) == registry.get("/subjects/orders/versions/2")["schema"]
+    assert json.loads(page.text("pre")) == json.loads(registry.get("/subjects/orders/versions/2")["schema"])
+    page.shot("json")
+    print("JSON, byte for byte but for the indentation")
+
+
+def look_at_differences(page, registry):
+    page.open(subject="orders", version=3, view="compare", against=1)
+    rows = page.run("""return [...document.querySelectorAll('.difference tbody tr')].map((row) =>
+      [row.className, ...[...row.cells].map((cell) => cell.querySelector('code')?.textContent ?? null)])""")
+    for side, version in ((1, 1), (2, 3)):
+        text = "\n".join(row[side] for row in rows if row[side] is not None)
+        assert compact(text) == registry.get(f"/subjects/orders/versions/{version}")["schema"]
+    assert all(name == ("same" if left == right else "differs") for name, left, right in rows)
+    # what version 3 has more than 1 is two fields: they are marked, and nothing else
+    marked = [row for row in rows if row[0] == "differs"]
+    assert all(left is None for _, left, _ in marked) and len(marked) == 16, marked
+    page.shot("compare")
+    page.run("const box = document.querySelector('#against'); box.value = '2'; box.dispatchEvent(new Event('change'))")
+    page.until(lambda: page.text(".difference thead").startswith("Version 2"))
+    print(f"versions 1 and 3 side by side: {len(rows)} rows, {len(marked)} marked")
+
+
+def look_at_hostile_names(page, registry):
+    """Texts of the registry stay texts, in each place where they stand."""
+    for name in (HOSTILE, "a/b?c#d%e&f=g+h", "größe \u202e x", "x" * 255):
+        page.open()
+        page.one("#search").send_keys(name)
+        page.until(lambda: page.texts(".subjects tbody th a") == [name])
+        page.one(".subjects tbody th a").click()
+        page.until(lambda: page.texts("h1") == [name] and page.all(".version"))
+        schema = registry.get(path("subjects", name, "versions", "latest"))["schema"]
+        page.one(".tabs a:nth-child(2)").click()
+        page.until(lambda: page.all("pre"))
+        assert compact(page.text("pre")) == schema
+        for width in (PHONE, WIDE):
+            page.size(width)
+            assert page.run("return document.scrollingElement.scrollWidth") <= width[0], name
+    page.open(subject=HOSTILE)
+    cells = page.run("return [...document.querySelectorAll('.fields tbody tr > *')].map((cell) => cell.textContent)")
+    assert cells == ["text", "string", json.dumps(HOSTILE), HOSTILE, "moment", f"long ({HOSTILE})", "none", ""], cells
+    assert page.texts(".definition > .doc") == [HOSTILE]
+    page.shot("hostile")
+    page.button("Delete subject…").click()
+    assert page.texts("dialog h2") == [f"Delete {HOSTILE} softly?"]
+    page.press(Keys.ESCAPE)
+    for dots in (".", ".."):
+        page.open(subject=dots)
+        assert "No browser can ask" in page.message("bad", "named")
+    assert not page.all("img, iframe, object, body script")
+    print("a subject, a doc, a default and an attribute of HTML, and subjects of odd letters, are shown as they are")
+
+
+def try_new_versions(page, registry):
+    """Check and register, refused and not, and the level."""
+    page.open(subject="orders")
+    bad = {**ORDERS[2], "fields": ORDERS[2]["fields"] + [{"name": "needed", "type": "string"}]}
+    good = {**ORDERS[2], "fields": ORDERS[2]["fields"] + [{"name": "extra", "type": "string", "default": "a\\nb"}]}
+    box = page.one("#new-schema")
+    box.send_keys("{")
+    page.button("Check").click()
+    assert page.message("bad", "42201 Invalid schema.")
+    page.button("Register").click()
+    assert page.message("bad", "42201 Invalid schema.")
+    box.clear()
+    box.send_keys(json.dumps(bad))
+    page.button("Check").click()
+    assert page.message("bad", "The level FULL doesn't admit it.")
+    page.button("Register").click()
+    assert page.message("bad", "409 Schema is incompatible with an earlier version.")
+    page.run("document.querySelector('.new').scrollIntoView()")
+    page.shot("refused")
+    assert registry.get("/subjects/orders/versions") == [1, 2, 3]
+    box.clear()
+    box.send_keys(json.dumps(good))
+    page.button("Check").click()
+    assert page.message("good", "The level FULL admits it.")
+    before = len(page.lines())
+    ActionChains(page.driver).double_click(page.button("Register")).perform()
+    assert page.message("good", "Version 4 of orders has this schema") and "Sent once" in page.text(".said")
+    time.sleep(0.5)
+    sent = [line for line in page.lines()[before:] if line.endswith(" POST /subjects/orders/versions")]
+    assert sent == ["200 POST /subjects/orders/versions"], sent
+    assert registry.get("/subjects/orders/versions") == [1, 2, 3, 4]
+    assert json.loads(registry.get("/subjects/orders/versions/4")["schema"])["fields"][-1]["default"] == "a\\nb"
+    page.shot("registered")
+    print("a schema is checked, refused with code and message, and registered; a double click sends one request")
+
+    page.run("document.querySelector('#config-own').value = 'NONE'")
+    page.button("Set").click()
+    assert page.message("good", "Level is NONE.")
+    assert registry.get("/config/orders") == {"compatibilityLevel": "NONE"}
+    page.open()
+    page.run("document.querySelector('#config-all').value = 'FORWARD'")
+    page.button("Set").click()
+    assert page.message("good", "Level is FORWARD.")
+    assert registry.get("/config") == {"compatibilityLevel": "FORWARD"}
+    print("the level of a subject and of all is changed")
+
+
+def try_lost_answers(page, registry, server):
+    """An answer is lost, though the registry acted: sent again, it acts once."""
+    page.open(new="")
+    page.one("#new-subject").send_keys("lost")
+    page.one("#new-schema").send_keys('"int"')
+    os.kill(server, signal.SIGSTOP)
+    page.button("Register").click()
+    said = page.message("open", "it is open whether this acted")
+    os.kill(server, signal.SIGCONT)
+    key = re.search("[0-9a-f]{32}", said)[0]
+    page.until(lambda: registry.ask("GET", "/subjects/lost/versions")[0] == 200)
+    page.shot("lost")
+    before = len(page.lines())
+    page.button("Register").click()
+    said = page.message("good", "Version 1 of lost has this schema")
+    assert f"Sent 2 times, and acted once, under the retry key {key}" in said, said
+    sent = [line for line in page.lines() if line.endswith("POST /subjects/lost/versions")]
+    assert sent == ["504 POST /subjects/lost/versions", "200 POST /subjects/lost/versions"], sent
+    status, answer = registry.ask("DELETE", "/subjects/lost")
+    assert (status, answer) == (200, [1]), answer
+    page.driver.execute_cdp_cmd("Network.enable", {})
+    page.open(subject="orders")
+    page.driver.execute_cdp_cmd("Network.emulateNetworkConditions", {"offline": True, "latency": 0, "downloadThroughput": -1, "uploadThroughput": -1})
+    page.one(".versions ol a").click()
+    page.one(".versions li:last-child a").click()
+    assert page.message("open", "No answer came")
+    page.shot("offline")
+    page.driver.execute_cdp_cmd("Network.emulateNetworkConditions", {"offline": False, "latency": 0, "downloadThroughput": -1, "uploadThroughput": -1})
+    page.button("Try again").click()
+    page.until(lambda: page.all(".version"))
+    assert before
+    print("a lost answer: the page says that it is open, sends the request again under the same key, and it acts once")
+
+
+def try_deletions(page, registry):
+    """A deletion asks first."""
+    page.open(subject="orders", version=2)
+    page.button("Delete version…").click()
+    assert page.run("return document.activeElement.textContent") == "Cancel"
+    page.shot("question")
+    page.press(Keys.ENTER)
+    page.until(lambda: not page.all("dialog"))
+    page.button("Delete version…").click()
+    page.press(Keys.ESCAPE)
+    page.until(lambda: not page.all("dialog"))
+    assert registry.get("/subjects/orders/versions") == [1, 2, 3, 4]
+    page.button("Delete version…").click()
+    page.button("Delete", "dialog").click()
+    assert page.message("good", "Deleted version 2 of orders softly.")
+    assert registry.get("/subjects/orders/versions") == [1, 3, 4]
+    page.one("#deleted").click()
+    page.until(lambda: page.texts(".versions li") == ["4", "3", "2", "1"])
+    page.one(".versions li:nth-child(3) a").click()
+    page.button("Delete version for good…")
+    page.shot("deleted")
+    page.button("Delete version for good…").click()
+    page.button("Delete for good", "dialog").click()
+    assert page.message("good", "Deleted version 2 of orders for good.")
+    assert registry.get("/subjects/orders/versions?deleted=true") == [1, 3, 4]
+    page.button("Delete subject…").click()
+    page.button("Delete", "dialog").click()
+    assert page.message("good", "Deleted orders softly.")
+    assert registry.ask("GET", "/subjects/orders/versions")[1]["error_code"] == 40401
+    page.button("Delete subject for good…").click()
+    page.button("Delete for good", "dialog").click()
+    assert page.message("good", "Deleted orders for good.")
+    assert registry.ask("GET", "/subjects/orders/versions?deleted=true")[1]["error_code"] == 40401
+    page.open(subject="orders")
+    assert page.message("bad", "40401 Subject not found.")
+    page.shot("not-found")
+    print("versions and subjects are deleted, softly and for good, once a person has said yes")
+
+
+def try_keyboard(page, registry):
+    """All by the keyboard: a new subject, a second version, a fold, a comparison, a level, a deletion."""
+    page.open()
+    page.tab_to("at.textContent === 'New subject'")
+    page.press(Keys.ENTER)
+    page.until(lambda: page.texts("h1") == ["New subject"])
+    page.tab_to("at.id === 'new-subject'")
+    page.press("keys")
+    page.tab_to("at.id === 'new-schema'")
+    inner = {"type": "record", "name": "In", "fields": []}
+    schema = {"type": "record", "name": "Keys", "fields": [{"name": "a", "type": inner}]}
+    page.press(json.dumps(schema))
+    page.tab_to("at.textContent === 'Register'")
+    page.press(Keys.SPACE)
+    page.message("good", "Version 1 of keys has this schema")
+    page.tab_to("at.tagName === 'SUMMARY'")
+    page.press(Keys.ENTER)
+    assert page.run("return document.querySelector('details').open")
+    page.tab_to("at.id === 'new-schema'")
+    schema["fields"].append({"name": "b", "type": "int", "default": 0})
+    page.press(json.dumps(schema))
+    page.tab_to("at.textContent === 'Check'")
+    page.press(Keys.ENTER)
+    page.message("good", "admits it.")
+    page.tab_to("at.textContent === 'Register'")
+    page.press(Keys.ENTER)
+    page.message("good", "Version 2 of keys has this schema")
+    page.tab_to("at.textContent === 'Compare'")
+    page.press(Keys.ENTER)
+    page.until(lambda: page.all(".differs"))
+    assert page.run("return document.activeElement.textContent") == "Compare"
+    page.tab_to("at.id === 'config-own'", back=True)
+    page.press("FULL")
+    page.tab_to("at.textContent === 'Set'")
+    page.press(Keys.ENTER)
+    page.message("good", "Level is FULL.")
+    assert registry.get("/config/keys") == {"compatibilityLevel": "FULL"}
+    page.tab_to("at.textContent === 'Delete subject…'")
+    page.press(Keys.ENTER)
+    page.tab_to("at.textContent === 'Delete'")
+    page.press(Keys.ENTER)
+    page.message("good", "Deleted keys softly.")
+    assert registry.ask("GET", "/subjects/keys/versions")[0] == 404
+    page.tab_to("at.textContent === 'Subjects'", back=True)
+    page.press(Keys.ENTER)
+    page.until(lambda: page.all("#search"))
+    page.tab_to("at.id === 'search'")
+    page.press("event-0001")
+    page.until(lambda: len(page.all(".subjects tbody tr")) == 1)
+    page.tab_to("at.closest('.subjects')")
+    page.press(Keys.ENTER)
+    page.until(lambda: page.all(".version"))
+    assert "event-0001" in page.text("h1")
+    page.shot("keyboard")
+    print("all of that by the keyboard alone, the focus always to be seen")
+
+
+def try_modes(page, port):
+    """Without modes the page asks for them once and shows none; with them it shows and sets them."""
+    asked = [line for line in page.lines() if line.endswith("/mode")]
+    loads = [line for line in page.lines() if line.endswith(" GET /page/")]
+    assert asked and set(asked) == {"404 GET /mode"} and len(asked) <= len(loads), (asked, loads)
+    assert not page.all("[id^=mode-]")
+    page.origin = f"http://127.0.0.1:{port}"
+    page.open()
+    assert page.text(".subjects thead") == "SubjectLatestSchemaLevelMode"
+    assert page.texts(".subjects tbody td")[3] == "READWRITE"
+    page.run("document.querySelector('#mode-all').value = 'READONLY'")
+    page.one("#mode-all + button").click()
+    assert page.message("good", "Mode is READONLY.")
+    page.shot("modes")
+    print("modes: none where /mode is 404, else shown and set (by a stand-in)")
+
+
+def look_at_nothing(page, registry):
+    """A registry without subjects."""
+    threads = [threading.Thread(target=lambda part=part: [registry.ask("DELETE", path("subjects", name)) for name in part])
+               for part in (registry.get("/subjects"),)]
+    for thread in threads:
+        thread.start()
+    for thread in threads:
+        thread.join()
+    page.open()
+    assert "There are no subjects yet." in page.text(".empty")
+    page.shot("empty")
+    print("an empty registry")
+
+
+def main():
+    parser = argparse.ArgumentParser()
+    for name in ("registry", "server", "page", "modes"):
+        parser.add_argument(f"--{name}", type=int, required=True)
+    for name in ("log", "shots"):
+        parser.add_argument(f"--{name}", required=True)
+    given = parser.parse_args()
+    registry = Registry(given.registry)
+    registry.fill()
+    page = Page(given.page, given.log, given.shots)
+    try:
+        look_at_heads(page)
+        look_at_subjects(page, registry)
+        look_for_subjects(page, registry)
+        look_at_fields(page, registry)
+        look_at_json(page, registry)
+        look_at_differences(page, registry)
+        look_at_hostile_names(page, registry)
+        try_new_versions(page, registry)
+        try_lost_answers(page, registry, given.server)
+        try_deletions(page, registry)
+        try_keyboard(page, registry)
+        look_at_nothing(page, registry)
+        try_modes(page, given.modes)
+        told = [entry for entry in page.driver.get_log("browser") if "Failed to load resource" not in entry["message"]]
+        assert not told, told
+        try:
+            raise AssertionError(page.driver.switch_to.alert.text)
+        except NoAlertPresentException:
+            print("no text ran as a script, and the browser had nothing to complain of")
+    except AssertionError:
+        page.driver.save_screenshot(f"{given.shots}/failed.png")
+        raise
+    finally:
+        page.driver.quit()
+
+
+if __name__ == "__main__":
+    main()

@@ -1,0 +1,40 @@
+#!/usr/bin/env bash
+# Serves a new registry of 2,000 subjects and the page beside it, and drives Chromium through the page as a person would.
+# Installs what it needs. Ends with status 0 where the page showed what the registry answers, and did what it has to.
+#
+#   AVROREG=PROGRAM [SHOTS=FOLDER] examples/page/try.sh     screenshots go to the folder, else to a temporary one that stays
+set -u
+source "$(dirname "$0")/../serving.sh"
+packages nginx curl chromium chromium-driver python3-selenium
+here=$examples/page
+shots=${SHOTS:-$(mktemp -d "${TMPDIR:-/tmp}/avroreg-page.XXXXXX")}
+mkdir -p "$shots"
+
+# nginx reads the page as another user than the one that has this folder, and answers 504 sooner than it would else.
+mkdir "$scratch/page"
+cp "$here"/index.html "$here"/page.css "$here"/page.js "$scratch/page/"
+sed "s,/usr/local/share/avroreg/page,$scratch/page," "$here/page.conf" >"$scratch/page.conf"
+with_page="s,^    location / {,    include $scratch/page.conf;\n&,; s,\(proxy_read_timeout *\)60s,\13s,"
+
+# What a registry with modes would answer, for the page is ready for them.
+cat >"$scratch/modes.conf" <<'CONF'
+location /mode {
+    default_type application/vnd.schemaregistry.v1+json;
+    if ($request_method = PUT) {
+        return 200 '{"mode":"READONLY"}';
+    }
+    return 200 '{"mode":"READWRITE"}';
+}
+location /mode/ {
+    default_type application/vnd.schemaregistry.v1+json;
+    return 404 '{"error_code":40409,"message":"Subject has no mode of its own"}';
+}
+CONF
+
+start_server "$scratch/page.db"
+start_nginx front "${url##*:}" "$with_page"
+page=$front
+start_nginx modes "${url##*:}" "$with_page; s,^    location / {,    include $scratch/modes.conf;\n&,"
+/usr/bin/python3 "$here/look.py" --registry "${url##*:}" --server "$server" --page "$page" --modes "$front" \
+  --log "$scratch/front/access.log" --shots "$shots" || fail "the page isn't as it has to be"
+echo "screenshots: $shots"
