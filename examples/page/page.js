@@ -150,7 +150,7 @@ function typeText(type) {
   const base = IS_NAMED.has(type.type) ? `${type.type} ${type.name}` : type.type;
   if (type.logicalType === undefined) return base;
   const digits = [type.precision, type.scale].filter((number) => number !== undefined).map(plain);
-  return `${base} (${[plain(type.logicalType), ...digits].join(" ")})`;
+  return `${base} (${plain(type.logicalType)}${digits.length ? " " + digits.join(", ") : ""})`;
 }
 
 /** The named types that a type defines, but for those inside of them. */
@@ -293,6 +293,7 @@ async function act(form, place, action) {
   } catch (fault) {
     place.replaceChildren(faultMessage(fault));
   }
+  place.scrollIntoView({ block: "nearest" });
   for (const each of buttons) each.removeAttribute("aria-disabled");
 }
 
@@ -413,10 +414,10 @@ function differenceView(old, oldText, version, text) {
     ? element("td", { class: `${side} nothing` })
     : element("td", { class: side }, element("span", { class: "sign" }, sign), element("code", {}, lines[at]));
   return [
-    element("p", { class: "faint" }, different ? `${count(different, "row")} of ${rows.length} differ.` : "No line differs."),
+    element("p", { class: "faint" }, different ? `${different.toLocaleString("en")} of ${count(rows.length, "row")} differ.` : "No line differs."),
     element("table", { class: "difference" },
       element("thead", {}, element("tr", {},
-        element("th", { scope: "col" }, `Version ${old}`), element("th", { scope: "col" }, `Version ${version}`))),
+        element("th", { scope: "col" }, `− Version ${old}`), element("th", { scope: "col" }, `+ Version ${version}`))),
       element("tbody", {}, rows.map((row) => element("tr", { class: row.isSame ? "same" : "differs" },
         cell(left, row.left, "left", row.isSame ? "" : "−"), cell(right, row.right, "right", row.isSame ? "" : "+"))))),
   ];
