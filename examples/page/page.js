@@ -38,7 +38,8 @@ async function ask(method, path, body, headers = {}) {
   }
   const answer = valueOf(text);
   if (response.ok && answer !== undefined) return answer;
-  const { error_code: code = response.status, message = response.statusText || "No answer of the registry" } = answer ?? {};
+  const other = (!response.ok && response.statusText) || "This is no answer of the registry";
+  const { error_code: code = response.status, message = other } = answer ?? {};
   throw new Fault(code, message, response.status >= 500);
 }
 
@@ -102,9 +103,18 @@ const writes = (() => {
 const settings = (() => {
   let served;
 
+  async function whichAreServed() {
+    try {
+      return (await readOr(null, pathOf(MODE.place))) ? [LEVEL, MODE] : [LEVEL];
+    } catch (fault) {
+      served = undefined;
+      throw fault;
+    }
+  }
+
   /** The settings that the registry serves; it is asked once. */
-  async function all() {
-    served ??= (await readOr(null, pathOf(MODE.place))) ? [LEVEL, MODE] : [LEVEL];
+  function all() {
+    served ??= whichAreServed();
     return served;
   }
 
@@ -163,20 +173,16 @@ function definitions(type) {
 
 /** A JSON text with a member or an item on each line. Its numbers and the order of its members stay. */
 function indented(text) {
-  const tokens = text.match(/"(?:[^"\\]|\\.)*"|[{}[\],:]|[^\s{}[\],:"]+/g) ?? [];
-  let depth = 0;
-  let out = "";
-  const line = () => "\n" + "  ".repeat(depth);
-  tokens.forEach((token, at) => {
-    const isEmpty = /[{[]/.test(tokens[at - 1]) && /[}\]]/.test(token);
-    if (/^[}\]]/.test(token)) out += (depth--, isEmpty ? token : line() + token);
-    else {
-      if (/^[{[]$/.test(tokens[at - 1] ?? "")) out += line();
-      out += token === ":" ? ": " : token;
-      if (/^[{[]$/.test(token)) depth += 1;
-      if (token === ",") out += line();
-    }
-  });
+  let [depth, before, out] = [0, "", ""];
+  for (const token of text.match(/"(?:[^"\\]|\\.)*"|[{}[\],:]|[^\s{}[\],:"]+/g) ?? []) {
+    const closes = token === "}" || token === "]";
+    const wasOpened = before === "{" || before === "[";
+    if (closes) depth -= 1;
+    if (wasOpened ? !closes : closes || before === ",") out += "\n" + "  ".repeat(depth);
+    out += token === ":" ? ": " : token;
+    if (token === "{" || token === "[") depth += 1;
+    before = token;
+  }
   return out;
 }
 
@@ -263,7 +269,7 @@ function faultMessage(fault) {
   if (!fault.key) return message("bad", code, code && " ", text, ". Try again.");
   return message(
     "open", code, code && " ", text,
-    `. So it is open whether this acted. Send it again: it goes out under the same retry key, ${fault.key}, and acts once.`,
+    `. Whether this acted is open. Send it again: it goes out under the same retry key, ${fault.key}, and acts once.`,
   );
 }
 
@@ -384,6 +390,7 @@ function definition(type) {
     facts.push(element("p", { class: "symbols" }, type.symbols.map((symbol) => [element("code", {}, symbol), " "]).flat()));
     if ("default" in type) facts.push(element("p", {}, "Default ", element("code", {}, plain(type.default))));
   }
+  if (type.type === "fixed") facts.push(element("p", {}, `Size ${plain(type.size)}`));
   if (type.type === "record") {
     facts.push(type.fields.length ? fieldTable(type.fields) : element("p", { class: "faint" }, "It has no fields."));
   }

@@ -14,7 +14,7 @@ mkdir -p "$shots"
 mkdir "$scratch/page"
 cp "$here"/index.html "$here"/page.css "$here"/page.js "$scratch/page/"
 sed "s,/usr/local/share/avroreg/page,$scratch/page," "$here/page.conf" >"$scratch/page.conf"
-with_page="s,^    location / {,    include $scratch/page.conf;\n&,; s,\(proxy_read_timeout *\)60s,\13s,"
+with_page="s,^    location / {,    include $scratch/page.conf;\n&,; s,\(proxy_read_timeout *\)60s,\110s,"
 
 # What a registry with modes would answer, for the page is ready for them.
 cat >"$scratch/modes.conf" <<'CONF'
@@ -35,6 +35,6 @@ start_server "$scratch/page.db"
 start_nginx front "${url##*:}" "$with_page"
 page=$front
 start_nginx modes "${url##*:}" "$with_page; s,^    location / {,    include $scratch/modes.conf;\n&,"
-/usr/bin/python3 "$here/look.py" --registry "${url##*:}" --server "$server" --page "$page" --modes "$front" \
+/usr/bin/python3 -u "$here/look.py" --registry "${url##*:}" --server "$server" --page "$page" --modes "$front" \
   --log "$scratch/front/access.log" --shots "$shots" || fail "the page isn't as it has to be"
 echo "screenshots: $shots"
