@@ -252,7 +252,7 @@ function element(name, attributes = {}, ...children) {
   return node;
 }
 
-const count = (number, one, many = one + "s") => `${number.toLocaleString("en")} ${number === 1 ? one : many}`;
+const count = (number, one) => `${number.toLocaleString("en")} ${one}${number === 1 ? "" : "s"}`;
 
 /** The address of a view on this page. */
 const address = (parameters) => "#" + new URLSearchParams(parameters);
@@ -263,7 +263,7 @@ function message(kind, ...content) {
 }
 
 function faultMessage(fault) {
-  const code = fault.code === "" ? null : element("b", {}, String(fault.code));
+  const code = fault.code ? element("b", {}, String(fault.code)) : null;
   const text = fault instanceof Fault ? fault.message : `The page failed: ${fault.message}`;
   if (!fault.isOpen) return message("bad", code, code && " ", text, ".");
   if (!fault.key) return message("bad", code, code && " ", text, ". Try again.");
