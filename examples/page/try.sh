@@ -34,7 +34,7 @@ CONF
 start_server "$scratch/page.db"
 start_nginx front "${url##*:}" "$with_page"
 page=$front
-start_nginx modes "${url##*:}" "$with_page; s,^    location / {,    include $scratch/modes.conf;\n&,"
+start_nginx modes "${url##*:}" "$with_page; s,^    merge_slashes .*,&\n    include $scratch/modes.conf;,"
 /usr/bin/python3 -u "$here/look.py" --registry "${url##*:}" --server "$server" --page "$page" --modes "$front" \
   --log "$scratch/front/access.log" --shots "$shots" || fail "the page isn't as it has to be"
 echo "screenshots: $shots"
