@@ -489,7 +489,7 @@ def try_lost_answers(page, registry, server):
     page.open(subject="orders")
     page.offline(True)
     page.one(".versions li:last-child a").click()
-    assert page.message("bad", "No answer came. Try again.")
+    assert page.message("bad", "No answer came.")
     page.shot("offline")
     page.offline(False)
     page.button("Try again").click()

@@ -265,8 +265,7 @@ function message(kind, ...content) {
 function faultMessage(fault) {
   const code = fault.code ? element("b", {}, String(fault.code)) : null;
   const text = fault instanceof Fault ? fault.message : `The page failed: ${fault.message}`;
-  if (!fault.isOpen) return message("bad", code, code && " ", text, ".");
-  if (!fault.key) return message("bad", code, code && " ", text, ". Try again.");
+  if (!fault.isOpen || !fault.key) return message("bad", code, code && " ", text, ".");
   return message(
     "open", code, code && " ", text,
     `. Whether this acted is open. Send it again: it goes out under the same retry key, ${fault.key}, and acts once.`,
