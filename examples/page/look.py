@@ -5,6 +5,7 @@ Each of the functions that begin with `look_at` or `try` is one part, in the ord
 changes the next one finds. A fault is an AssertionError with the part's line.
 """
 import argparse
+import contextlib
 import http.client
 import json
 import os
@@ -47,6 +48,16 @@ for added in ({"name": "channel", "type": "string", "default": "web", "doc": "Wh
 HOSTILE_SCHEMA = {"type": "record", "name": "Hostile", "doc": HOSTILE, "fields": [
     {"name": "text", "type": "string", "default": HOSTILE, "doc": HOSTILE},
     {"name": "moment", "type": {"type": "long", "logicalType": HOSTILE}}]}
+
+
+@contextlib.contextmanager
+def standing_still(server):
+    """The server takes requests meanwhile, and answers none before the end."""
+    os.kill(server, signal.SIGSTOP)
+    try:
+        yield
+    finally:
+        os.kill(server, signal.SIGCONT)
 
 
 def path(*parts):
@@ -418,7 +429,7 @@ def look_at_hostile_names(page, registry):
     print("a subject, a doc, a default and an attribute of HTML, and subjects of odd letters, are shown as they are")
 
 
-def try_new_versions(page, registry):
+def try_new_versions(page, registry, server):
     """Check and register, refused and not, and the level."""
     page.open(subject="orders")
     bad = {**ORDERS[2], "fields": ORDERS[2]["fields"] + [{"name": "needed", "type": "string"}]}
@@ -443,7 +454,9 @@ def try_new_versions(page, registry):
     page.button("Check").click()
     assert page.message("good", "The level FULL admits it.")
     before = len(page.lines())
-    ActionChains(page.driver).double_click(page.button("Register")).perform()
+    with standing_still(server):
+        ActionChains(page.driver).double_click(page.button("Register")).perform()
+        time.sleep(1)
     assert page.message("good", "Version 4 of orders has this schema") and "Sent once" in page.text(".said")
     time.sleep(0.5)
     sent = [line for line in page.lines()[before:] if line.endswith(" POST /subjects/orders/versions")]
@@ -470,12 +483,9 @@ def try_lost_answers(page, registry, server):
     page.open(new="")
     page.one("#new-subject").send_keys("lost")
     page.one("#new-schema").send_keys('"int"')
-    os.kill(server, signal.SIGSTOP)
-    try:
+    with standing_still(server):
         page.button("Register").click()
         said = page.message("open", "Whether this acted is open")
-    finally:
-        os.kill(server, signal.SIGCONT)
     key = re.search("[0-9a-f]{32}", said)[0]
     page.until(lambda: registry.ask("GET", "/subjects/lost/versions")[0] == 200)
     page.shot("lost")
@@ -639,7 +649,7 @@ def main():
         look_at_json(page, registry)
         look_at_differences(page, registry)
         look_at_hostile_names(page, registry)
-        try_new_versions(page, registry)
+        try_new_versions(page, registry, given.server)
         try_lost_answers(page, registry, given.server)
         try_deletions(page, registry)
         try_keyboard(page, registry)
