@@ -6,5 +6,4 @@ mod listings;
 mod loopback;
 mod outcomes;
 mod schema_files;
-mod unmade;
 mod waiting;
