@@ -219,6 +219,11 @@ class Page:
                 return
         raise AssertionError(f"the keyboard doesn't come to {script}")
 
+    def press_at(self, script, keys, back=False):
+        """Goes by Tab to what the script says of `at`, and presses keys there."""
+        self.tab_to(script, back=back)
+        self.press(keys)
+
 
 # The texts whose contrast with what is behind them is less than 4.5 (WCAG 2.2, success criterion 1.4.3).
 CONTRAST = """
@@ -550,54 +555,40 @@ def try_deletions(page, registry):
 def try_keyboard(page, registry):
     """All by the keyboard: a new subject, a second version, a fold, a comparison, a level, a deletion."""
     page.open()
-    page.tab_to("at.textContent === 'New subject'")
-    page.press(Keys.ENTER)
+    page.press_at("at.textContent === 'New subject'", Keys.ENTER)
     page.until(lambda: page.texts("h1") == ["New subject"])
-    page.tab_to("at.id === 'new-subject'")
-    page.press("keys")
+    page.press_at("at.id === 'new-subject'", "keys")
     page.tab_to("at.id === 'new-schema'")
     inner = {"type": "record", "name": "In", "fields": []}
     schema = {"type": "record", "name": "Keys", "fields": [{"name": "a", "type": inner}]}
     page.press(json.dumps(schema))
-    page.tab_to("at.textContent === 'Register'")
-    page.press(Keys.SPACE)
+    page.press_at("at.textContent === 'Register'", Keys.SPACE)
     page.message("good", "Version 1 of keys has this schema")
-    page.tab_to("at.tagName === 'SUMMARY'")
-    page.press(Keys.ENTER)
+    page.press_at("at.tagName === 'SUMMARY'", Keys.ENTER)
     assert page.run("return document.querySelector('details').open")
     page.tab_to("at.id === 'new-schema'")
     schema["fields"].append({"name": "b", "type": "int", "default": 0})
     page.press(json.dumps(schema))
-    page.tab_to("at.textContent === 'Check'")
-    page.press(Keys.ENTER)
+    page.press_at("at.textContent === 'Check'", Keys.ENTER)
     page.message("good", "admits it.")
-    page.tab_to("at.textContent === 'Register'")
-    page.press(Keys.ENTER)
+    page.press_at("at.textContent === 'Register'", Keys.ENTER)
     page.message("good", "Version 2 of keys has this schema")
-    page.tab_to("at.textContent === 'Compare'")
-    page.press(Keys.ENTER)
+    page.press_at("at.textContent === 'Compare'", Keys.ENTER)
     page.until(lambda: page.all(".differs"))
     assert page.run("return document.activeElement.textContent") == "Compare"
-    page.tab_to("at.id === 'config-own'", back=True)
-    page.press(Keys.END)
-    page.tab_to("at.textContent === 'Set'")
-    page.press(Keys.ENTER)
+    page.press_at("at.id === 'config-own'", Keys.END, back=True)
+    page.press_at("at.textContent === 'Set'", Keys.ENTER)
     page.message("good", "Level is NONE.")
     assert registry.get("/config/keys") == {"compatibilityLevel": "NONE"}
-    page.tab_to("at.textContent === 'Delete subject…'")
-    page.press(Keys.ENTER)
-    page.tab_to("at.textContent === 'Delete'")
-    page.press(Keys.ENTER)
+    page.press_at("at.textContent === 'Delete subject…'", Keys.ENTER)
+    page.press_at("at.textContent === 'Delete'", Keys.ENTER)
     page.message("good", "Deleted keys softly.")
     assert registry.ask("GET", "/subjects/keys/versions")[0] == 404
-    page.tab_to("at.textContent === 'Subjects'", back=True)
-    page.press(Keys.ENTER)
+    page.press_at("at.textContent === 'Subjects'", Keys.ENTER, back=True)
     page.until(lambda: page.all("#search"))
-    page.tab_to("at.id === 'search'")
-    page.press("event-0001")
+    page.press_at("at.id === 'search'", "event-0001")
     page.until(lambda: len(page.all(".subjects tbody tr")) == 1)
-    page.tab_to("at.closest('.subjects')")
-    page.press(Keys.ENTER)
+    page.press_at("at.closest('.subjects')", Keys.ENTER)
     page.until(lambda: page.all(".version"))
     assert "event-0001" in page.text("h1")
     page.shot("keyboard")
