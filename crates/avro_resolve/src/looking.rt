@@ -39,6 +39,7 @@ pub fn strike_unsupported(
     ensures lists { OnOk result (Lists progress.old.table progress.old.struck.items progress.new.table progress.new.struck.items) }
     ensures settled { OnOk result (Settled (rows sides.now) (columns sides.now) progress.new.table
         progress.new.struck.items i j) }
+    ensures gone { OnOk result (left progress.new.table i j ≡ false) }
 {
     if !progress.table.has(i, j) {
         return Ok(());
@@ -66,6 +67,7 @@ pub fn strike_down(
     ensures lists { OnOk result (Lists progress.old.table progress.old.struck.items progress.new.table progress.new.struck.items) }
     ensures settled { OnOk result (All (λ i. Settled (rows sides.now) (columns sides.now)
         progress.new.table progress.new.struck.items i told.1) above.now) }
+    ensures gone { OnOk result (All (λ i. left progress.new.table i told.1 ≡ false) above.now) }
 {
     for i in above {
         strike_unsupported(sides, *i, told.1, progress)?;

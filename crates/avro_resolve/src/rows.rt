@@ -56,7 +56,7 @@ fn look_along_row(sides: &Sides, row: &Row, progress: &mut Progress) -> Result<(
         look_along_union(sides, row.place, branches, progress)?;
         return Ok(());
     }
-    for j in (0..sides.reader.places()).rev() {
+    for j in 0..sides.reader.places() {
         look(sides, row, j, progress)?;
     }
     Ok(())
@@ -101,8 +101,9 @@ fn look_at_row(
     Ok(entries)
 }
 
-/// Looks at all pairs, from the writer's last place to its first, and answers the sources of the
-/// reader's fields that have aliases by the writer's places.
+/// Looks at all pairs, from the writer's first place to its last, since most references are to what
+/// was defined before, and answers the sources of the reader's fields that have aliases by the
+/// writer's places.
 fn look_at_rows(
     alloc: Global,
     sides: &Sides,
@@ -122,7 +123,7 @@ fn look_at_rows(
         progress.new.struck.items) }
 {
     let mut sources = empty_lists(alloc, sides.writer.places())?;
-    for place in (0..sides.writer.places()).rev() {
+    for place in 0..sides.writer.places() {
         let entries = look_at_row(alloc, sides, place, numbered, boxes, progress)?;
         sources[place as usize] = entries;
     }

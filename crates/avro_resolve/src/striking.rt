@@ -1,12 +1,13 @@
 //! Striking out the pairs that the rest doesn't support, until none is left to strike.
 
-ghost use Rattle.std.specs.Prelude.{◌≡◌, ◌<◌, ◌≤◌, ◌++◌, ◌∷◌, [], false, IfOk, OnOk, length};
-ghost use Rattle.avro_nodes.specs.Nodes.{nodes_view};
+ghost use Rattle.std.specs.Prelude.{◌≡◌, ◌<◌, ◌≤◌, ◌++◌, ◌∷◌, ◌⊎◌, ℕ, List, [], All, false, IfOk, None, OnOk, Some, get_or, length, slice_get};
+ghost use Rattle.avro_nodes.specs.Nodes.{nodes_view, union};
 ghost use Rattle.avro_schema.specs.Texts.{IsSchema};
 ghost use Rattle.avro_resolve.specs.Resolution.{Closed};
 ghost use Rattle.avro_resolve.specs.Inside.Sides.{columns, rows, IsSides};
-ghost use Rattle.avro_resolve.specs.Inside.Left.{left, AreOut, IsLeft, IsRest, Lists, AllSettled};
-ghost use Rattle.avro_resolve.specs.Inside.Askers.{AreAskers};
+ghost use Rattle.avro_resolve.specs.Inside.Left.{left, AreOut, IsLeft, IsRest, Lists, Rests, Settled, AllSettled};
+ghost use Rattle.avro_resolve.specs.Inside.Lists.{list_at};
+ghost use Rattle.avro_resolve.specs.Inside.Askers.{AreAskers, AreNoted, IsNoted};
 
 use crate::askers::Askers;
 use crate::joining::strike_joined;
@@ -16,8 +17,10 @@ use crate::looking::{Progress, look_along, strike_down};
 use crate::met::Met;
 use crate::rows::look_everywhere;
 use crate::sides::{Side, Sides};
+use crate::support::none_left;
 use crate::sweeping::sweep;
 use crate::table::Table;
+use crate::unions::{Noted, is_noted, note_at};
 use avro_nodes::Node;
 use avro_schema::Schema;
 use std::alloc::{AllocError, Global};
@@ -31,6 +34,85 @@ struct Asking {
     sources: Vec<Vec<u16>>,
 }
 
+/// Strikes out the pairs of the reader's place of a pair that is told with the writer's unions that have
+/// its writer's place as a branch, unless those of another place were, which are the same.
+fn strike_unions(
+    sides: &Sides,
+    unions: &[Vec<u32>],
+    told: (u32, u32),
+    noted: &mut Vec<Option<u32>>,
+    progress: &mut Progress,
+) -> Result<(), AllocError>
+    requires sides { IsSides sides.now }
+    requires rest { IsRest (rows sides.now) (columns sides.now) progress.old.table }
+    requires out { left progress.old.table told.0 told.1 ≡ false }
+    requires rests { All (λ i. Rests (rows sides.now) (columns sides.now) i told.1 told.0 told.1) (list_at unions.now told.0) }
+    requires above_in { All (λ i. i < length sides.now.writer.schema.now) (list_at unions.now told.0) }
+    requires j_in { told.1 < length sides.now.reader.schema.now }
+    requires noted { AreNoted (left progress.old.table) unions.now noted.old.items }
+    ensures rest { OnOk result (IsRest (rows sides.now) (columns sides.now) progress.new.table) }
+    ensures lists { OnOk result (Lists progress.old.table progress.old.struck.items progress.new.table progress.new.struck.items) }
+    ensures settled { OnOk result (All (λ i. Settled (rows sides.now) (columns sides.now)
+        progress.new.table progress.new.struck.items i told.1) (list_at unions.now told.0)) }
+    ensures noted { OnOk result (AreNoted (left progress.new.table) unions.now noted.new.items) }
+{
+    let above = list_of(unions, told.0 as usize);
+    if is_noted(unions, noted, told.1, above) {
+        return Ok(());
+    }
+    strike_down(sides, above, told, progress)?;
+    note_at(noted, told.1, told.0);
+    Ok(())
+}
+
+/// Notes the reader's place of a pair for its writer's, if this is left with none of these unions.
+fn note_if_none(told: (u32, u32), beside: &[u32], noted: &mut Vec<Option<u32>>, table: &Table)
+    requires within { All (λ p. p < table.now.readers) beside.now }
+    requires i_in { told.0 < table.now.writers }
+    ensures { (k p : ℕ) → get_or noted.new.items k None ≡ Some p
+        → ((k ≡ told.0) × (p ≡ told.1) × All (λ u. left table.now told.0 u ≡ false) beside.now)
+        ⊎ (get_or noted.old.items k None ≡ Some p) }
+{
+    if !none_left(told.0, beside, table) {
+        return;
+    }
+    note_at(noted, told.0, told.1);
+}
+
+/// Looks again at the pairs of the writer's place of a pair that is told with the reader's unions that
+/// have its reader's place as a branch, unless none is left, as is known of another place, which has the
+/// same.
+fn look_along_unions(
+    sides: &Sides,
+    unions: &[Vec<u32>],
+    told: (u32, u32),
+    noted: &mut Vec<Option<u32>>,
+    progress: &mut Progress,
+) -> Result<(), AllocError>
+    requires sides { IsSides sides.now }
+    requires rest { IsRest (rows sides.now) (columns sides.now) progress.old.table }
+    requires out { left progress.old.table told.0 told.1 ≡ false }
+    requires before { AllSettled (rows sides.now) (columns sides.now) progress.old.table
+        (progress.old.struck.items ++ told ∷ []) }
+    requires i_in { told.0 < length sides.now.writer.schema.now }
+    requires beside_in { All (λ j. j < length sides.now.reader.schema.now) (list_at unions.now told.1) }
+    requires are_unions { All (λ j. (places : List ℕ) × (slice_get (columns sides.now) j ≡ Some (union places))) (list_at unions.now told.1) }
+    requires noted { AreNoted (λ u i. left progress.old.table i u) unions.now noted.old.items }
+    ensures rest { OnOk result (IsRest (rows sides.now) (columns sides.now) progress.new.table) }
+    ensures lists { OnOk result (Lists progress.old.table progress.old.struck.items progress.new.table progress.new.struck.items) }
+    ensures settled { OnOk result (All (Settled (rows sides.now) (columns sides.now) progress.new.table
+        progress.new.struck.items told.0) (list_at unions.now told.1)) }
+    ensures noted { OnOk result (AreNoted (λ u i. left progress.new.table i u) unions.now noted.new.items) }
+{
+    let beside = list_of(unions, told.1 as usize);
+    if is_noted(unions, noted, told.0, beside) {
+        return Ok(());
+    }
+    look_along(sides, beside, told, progress)?;
+    note_if_none(told, beside, noted, &progress.table);
+    Ok(())
+}
+
 /// Tells a pair that was struck out to the pairs that ask for it: writers' unions with its reader's
 /// place, and what refers to its two places by one label, are struck out; its writer's place with
 /// readers' unions is looked at again. What is no pair of places isn't asked for.
@@ -38,6 +120,7 @@ fn tell(
     sides: &Sides,
     asking: &Asking,
     told: (u32, u32),
+    noted: &mut Noted,
     progress: &mut Progress,
 ) -> Result<(), AllocError>
     requires sides { IsSides sides.now }
@@ -46,27 +129,49 @@ fn tell(
     requires out { left progress.old.table told.0 told.1 ≡ false }
     requires before { AllSettled (rows sides.now) (columns sides.now) progress.old.table
         (progress.old.struck.items ++ told ∷ []) }
+    requires noted { IsNoted progress.old.table asking.now.rows.unions.items asking.now.columns.unions.items noted.old }
     ensures rest { OnOk result (IsRest (rows sides.now) (columns sides.now) progress.new.table) }
     ensures lists { OnOk result (Lists progress.old.table progress.old.struck.items progress.new.table progress.new.struck.items) }
     ensures settled { OnOk result (AllSettled (rows sides.now) (columns sides.now) progress.new.table
         progress.new.struck.items) }
+    ensures noted { OnOk result (IsNoted progress.new.table asking.now.rows.unions.items asking.now.columns.unions.items noted.new) }
 {
     let (i, j) = told;
     if i >= sides.writer.places() || j >= sides.reader.places() {
         return Ok(());
     }
-    let unions = list_of(&asking.rows.unions, i as usize);
-    strike_down(sides, unions, told, progress)?;
-    let readers_unions = list_of(&asking.columns.unions, j as usize);
-    look_along(sides, readers_unions, told, progress)?;
+    strike_unions(sides, &asking.rows.unions, told, &mut noted.down, progress)?;
+    look_along_unions(
+        sides,
+        &asking.columns.unions,
+        told,
+        &mut noted.along,
+        progress,
+    )?;
     let links = list_of(&asking.rows.links.lists, i as usize);
     let readers_links = list_of(&asking.columns.links.lists, j as usize);
     strike_joined(sides, &asking.sources, links, readers_links, told, progress)?;
     Ok(())
 }
 
+/// Nothing noted yet.
+fn nothing_noted(alloc: Global, sides: &Sides) -> Result<Noted, AllocError>
+    ensures down { IfOk result (λ noted. (k p : ℕ) → get_or noted.down.items k None ≡ Some p → ⊥) }
+    ensures along { IfOk result (λ noted. (k p : ℕ) → get_or noted.along.items k None ≡ Some p → ⊥) }
+{
+    let (rows, columns) = (sides.writer.places(), sides.reader.places());
+    let down = vec![in alloc; None; columns as usize]?;
+    let along = vec![in alloc; None; rows as usize]?;
+    Ok(Noted { down, along })
+}
+
 /// Tells the listed pairs to those that ask for them, until none is listed.
-fn tell_listed(sides: &Sides, asking: &Asking, progress: &mut Progress) -> Result<(), AllocError>
+fn tell_listed(
+    alloc: Global,
+    sides: &Sides,
+    asking: &Asking,
+    progress: &mut Progress,
+) -> Result<(), AllocError>
     requires sides { IsSides sides.now }
     requires askers { AreAskers sides.now asking.now.rows asking.now.columns asking.now.sources.items }
     requires rest { IsRest (rows sides.now) (columns sides.now) progress.old.table }
@@ -75,9 +180,10 @@ fn tell_listed(sides: &Sides, asking: &Asking, progress: &mut Progress) -> Resul
     ensures rest { OnOk result (IsRest (rows sides.now) (columns sides.now) progress.new.table) }
     ensures closed { OnOk result (AllSettled (rows sides.now) (columns sides.now) progress.new.table []) }
 {
+    let mut noted = nothing_noted(alloc, sides)?;
     while let Some((i, j)) = progress.struck.pop() {
         let told = (i as u32, j as u32);
-        tell(sides, asking, told, progress)?;
+        tell(sides, asking, told, &mut noted, progress)?;
     }
     Ok(())
 }
@@ -107,7 +213,7 @@ fn strike_out(alloc: Global, sides: &Sides, progress: &mut Progress) -> Result<(
         columns,
         sources,
     };
-    tell_listed(sides, &asking, progress)?;
+    tell_listed(alloc, sides, &asking, progress)?;
     Ok(())
 }
 

@@ -23,6 +23,15 @@ fn all_left(places: &[u32], j: u32, table: &Table) -> bool
     places.iter().all(|p| table.has(*p, j))
 }
 
+/// Whether the writer's place is left with none of these places of the reader.
+pub fn none_left(i: u32, places: &[u32], table: &Table) -> bool
+    requires within { All (λ p. p < table.now.readers) places.now }
+    requires i_in { i < table.now.writers }
+    ensures { IsTrue result → All (λ p. left table.now i p ≡ false) places.now }
+{
+    places.iter().all(|p| !table.has(i, *p))
+}
+
 /// The first branch of a reader's union, from this one up to another, with which the writer's place is
 /// left.
 fn next_left(i: u32, places: &[u32], from: usize, to: usize, table: &Table) -> Option<usize>

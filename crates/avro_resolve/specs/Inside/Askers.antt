@@ -1,5 +1,5 @@
 -- What asks for a place: unions for their branches, and what refers to it by a label.
-use Rattle.std.specs.Prelude.{◌≡◌, ◌⊎◌, ℕ, ◌+◌, ◌<◌, List, [], Bool, true, false, All, Contains, Option, None, Some, length, slice_get, Vec}
+use Rattle.std.specs.Prelude.{◌≡◌, ◌⊎◌, ℕ, ◌+◌, ◌<◌, List, [], Bool, true, false, All, Contains, Option, None, Some, get_or, length, slice_get, Vec}
 use Rattle.std.specs.List.Sorted.{IsNonDecreasingBy}
 use Rattle.std.specs.declared.alloc.Global.{Global}
 use Rattle.avro_nodes.specs.Nodes.{FieldView, NodeView, primitive, array, mapping, union, enumeration, fixed, rec}
@@ -12,7 +12,11 @@ use Rattle.avro_resolve.specs.declared.links.Way.{Way}
 use Rattle.avro_resolve.specs.declared.links.Way.TheVariants.{OfContents, ByName, ByAlias}
 use Rattle.avro_resolve.specs.declared.links.Links.{Links}
 use Rattle.avro_resolve.specs.declared.sides.Sides.{Sides}
+use Rattle.avro_resolve.specs.declared.table.Table.{Table}
+use Rattle.avro_resolve.specs.declared.unions.Noted.{Noted}
+use Rattle.avro_resolve.specs.Resolution.{Pairs}
 use Rattle.avro_resolve.specs.Inside.Agreeing.{fields_of}
+use Rattle.avro_resolve.specs.Inside.Left.{left}
 use Rattle.avro_resolve.specs.Inside.Lists.{list_at, Adds, StandsAt}
 use Rattle.avro_resolve.specs.Inside.Meeting.{met_at}
 use Rattle.avro_resolve.specs.Inside.Sides.{columns, names_of, rows}
@@ -43,6 +47,15 @@ pub record HasUnions (nodes : List NodeView) (lists : List (Vec ℕ Global)) : T
   pub within : (i place : ℕ) → StandsAt lists i place → i < length nodes
   pub named : (i : ℕ) (a : NodeView) → slice_get nodes i ≡ Some a → IsUnionListed lists i a
   pub meant : (i place : ℕ) → StandsAt lists i place → (a : NodeView) → slice_get nodes i ≡ Some a → HasBranch a place
+
+-- where a place is noted for another one, this one is left with none of the unions that have the noted one as a branch
+abbrev pub AreNoted : Pairs → List (Vec ℕ Global) → List (Option ℕ) → Type 0
+AreNoted R unions noted = (k p : ℕ) → get_or noted k None ≡ Some p → All (λ u. R u k ≡ false) (list_at unions p)
+
+-- the same both ways, for the unions of the writer and of the reader
+pub record IsNoted (t : Table) (above beside : List (Vec ℕ Global)) (noted : Noted) : Type 0 where
+  pub down : AreNoted (left t) above noted.down.items
+  pub along : AreNoted (λ u i. left t i u) beside noted.along.items
 
 -- the link has the label, and refers in this way
 abbrev pub HasLabel : ℕ → Way → Link → Type 0

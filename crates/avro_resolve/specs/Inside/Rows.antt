@@ -2,9 +2,7 @@
 use Rattle.std.specs.Prelude.{◌≡◌, ◌<◌, ◌≤◌, ◌↔◌, List, All, IsSome, IsTrue, Some, length, map, slice_get}
 use Rattle.std.specs.List.{AllZip}
 use Rattle.avro_nodes.specs.Nodes.{FieldView, NodeView, field_view}
-use Rattle.avro_schema.specs.declared.index.FieldRanks.{FieldRanks}
-use Rattle.avro_schema.specs.Index.{AreFieldsRanked, IsFieldRanked}
-use Rattle.avro_resolve.specs.declared.aliased.Aliased.{Aliased}
+use Rattle.avro_schema.specs.Index.{AreFieldsRanked}
 use Rattle.avro_resolve.specs.declared.readable.Found.{Found}
 use Rattle.avro_resolve.specs.declared.readable.Row.{Row}
 use Rattle.avro_resolve.specs.declared.sides.Sides.{Sides}
@@ -12,7 +10,7 @@ use Rattle.avro_resolve.specs.Asking.{source_place}
 use Rattle.avro_resolve.specs.Inside.Agreeing.{fields_of}
 use Rattle.avro_resolve.specs.Inside.Laying.{names_in, AreLaid}
 use Rattle.avro_resolve.specs.Inside.Sides.{columns, names_of, rows}
-use Rattle.avro_resolve.specs.Inside.Sources.{field_at, IsEntry, IsWanted}
+use Rattle.avro_resolve.specs.Inside.Sources.{IsEntry, IsWanted}
 
 -- the fields of the place
 abbrev pub row_fields : Row → List FieldView

@@ -1,4 +1,4 @@
-use Rattle.std.proofs.Common.{ap, subst, ◌∙◌}
+use Rattle.std.proofs.Common.{ap, subst}
 use Rattle.std.specs.Prelude.{◌↔◌, IsSome, IsTrue}
 use Rattle.avro_nodes.specs.Nodes.{FieldView}
 use Rattle.avro_resolve.proofs.SupportLemmas.{default_told}

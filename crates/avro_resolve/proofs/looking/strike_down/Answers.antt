@@ -1,4 +1,4 @@
-use Rattle.std.proofs.Common.{◌≡◌, ◌<◌, ℕ, get_or, length, subst, inl, inr, arith}
+use Rattle.std.proofs.Common.{◌≡◌, ◌<◌, ℕ, false, get_or, length, subst, inl, inr, arith}
 use Rattle.std.proofs.lemmas.Bool.{cases_lt}
 use Rattle.avro_resolve.specs.Inside.Sides.{columns, rows}
 use Rattle.avro_resolve.specs.Inside.Left.{left, Settled}
@@ -17,6 +17,10 @@ loop-i-preserved c =
       settled = λ k d l. elim (cases_lt k at) [
         | inl g ↦ settled_on w r u v qs rs (get_or is k d) j c.requires.sides.writer.whole c.requires.sides.reader.whole c.in_ok-strike_unsupported.ensures.lists (c.loop-i.invariant.settled k d g)
         | inr g ↦ (let e : at ≡ k = omega arith in subst (λ (x : ℕ). Settled w r v rs (get_or is x d) j) e (subst (λ (x : ℕ). Settled w r v rs x j) (get_or_any is at 0 d within) c.in_ok-strike_unsupported.ensures.settled))
+      ];
+      gone = λ k d l. elim (cases_lt k at) [
+        | inl g ↦ stays_out u v qs rs (get_or is k d) j c.in_ok-strike_unsupported.ensures.lists (c.loop-i.invariant.gone k d g)
+        | inr g ↦ (let e : at ≡ k = omega arith in subst (λ (x : ℕ). left v (get_or is x d) j ≡ false) e (subst (λ (x : ℕ). left v x j ≡ false) (get_or_any is at 0 d within) c.in_ok-strike_unsupported.ensures.gone))
       ];
     }
 

@@ -1,12 +1,11 @@
 use Rattle.std.proofs.Common.{◌≡◌, ◌<◌, ℕ, Option, get_or, length, refl, sym, subst, ◌∙◌, inl, inr, true≢false, Some, false, true, arith}
-use Rattle.std.specs.Prelude.{IfSome, slice_get}
+use Rattle.std.specs.Prelude.{IfSome}
 use Rattle.std.proofs.lemmas.Bool.{cases_lt}
 use Rattle.std.proofs.lemmas.List.{length-map}
-use Rattle.std.proofs.lemmas.List.Elements.{All-map}
 use Rattle.std.proofs.lemmas.Option.{slice_get-get_or}
 use Rattle.avro_nodes.specs.declared.node.Field.{Field}
 use Rattle.avro_nodes.specs.Nodes.{FieldView, field_view, node_view}
-use Rattle.avro_resolve.specs.Resolution.{Readable, source}
+use Rattle.avro_resolve.specs.Resolution.{Readable}
 use Rattle.avro_resolve.specs.Inside.Left.{left}
 use Rattle.avro_resolve.specs.Inside.Rows.{row_fields, IsFound}
 use Rattle.avro_resolve.specs.Inside.Sides.{columns}
@@ -14,7 +13,7 @@ use Rattle.avro_resolve.specs.Inside.Sources.{field_at}
 use Rattle.avro_resolve.specs.declared.readable.Found.{Found}
 use Rattle.avro_resolve.proofs.ListLemmas.{get_or_any}
 use Rattle.avro_resolve.proofs.Sourcing.{field_named, nth}
-use Rattle.avro_resolve.proofs.SupportLemmas.{place_within, readable_as}
+use Rattle.avro_resolve.proofs.SupportLemmas.{readable_as}
 use Rattle.avro_resolve.proofs.readable.all_readable.Goals as goal
 
 pub is_field_readable-requires-clause-named : goal.is_field_readable-requires-clause-named

@@ -1,7 +1,5 @@
-use Rattle.std.proofs.Common.{◌∙◌, ap, sym, subst}
-use Rattle.std.specs.Prelude.{◌↔◌, ℕ, IsTrue}
+use Rattle.std.proofs.Common.{◌∙◌, ap, sym}
 use Rattle.avro_resolve.specs.Inside.Left.{left}
-use Rattle.avro_resolve.specs.Resolution.{Readable}
 use Rattle.avro_resolve.proofs.SupportLemmas.{read_default, read_from}
 use Rattle.avro_resolve.proofs.readable.is_readable.Goals as goal
 

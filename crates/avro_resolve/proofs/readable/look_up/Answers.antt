@@ -1,6 +1,5 @@
 use Rattle.std.proofs.Common.{◌<◌, length, refl, arith}
 use Rattle.std.proofs.lemmas.List.Elements.{All-weaker}
-use Rattle.std.proofs.lemmas.Option.{slice_get_within}
 use Rattle.avro_nodes.specs.Nodes.{field_view}
 use Rattle.avro_resolve.specs.Inside.Sides.{names_of}
 use Rattle.avro_resolve.proofs.Sourcing.{ranks_below}

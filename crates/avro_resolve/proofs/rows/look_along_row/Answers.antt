@@ -1,4 +1,4 @@
-use Rattle.std.proofs.Common.{◌≡◌, ◌-◌, ◌<◌, ℕ, Some, ap, length, subst, ◌∙◌, inl, inr, arith}
+use Rattle.std.proofs.Common.{◌≡◌, ℕ, Some, ap, length, subst, ◌∙◌, inl, inr, arith}
 use Rattle.std.proofs.lemmas.List.{length-map}
 use Rattle.avro_nodes.specs.Nodes.{node_view, union}
 use Rattle.avro_resolve.specs.Inside.Places.{Names}
@@ -16,9 +16,9 @@ loop-j-preserved c =
     record {
       rest = c.in_ok-look.ensures.rest;
       lists = lists_then c.args.progress.now.table u v c.args.progress.now.struck.items qs rs c.loop-j.invariant.lists c.in_ok-look.ensures.lists;
-      settled = λ b lo hi. elim (cases_lt b j) [
-        | inl g ↦ (let e : j - 1 ≡ b = omega arith in subst (λ (x : ℕ). Settled w r v rs i x) e c.in_ok-look.ensures.settled)
-        | inr g ↦ settled_on w r u v qs rs i b c.requires.sides.writer.whole c.requires.sides.reader.whole c.in_ok-look.ensures.lists (c.loop-j.invariant.settled b g hi)
+      settled = λ b lo. elim (cases_lt b j) [
+        | inl g ↦ settled_on w r u v qs rs i b c.requires.sides.writer.whole c.requires.sides.reader.whole c.in_ok-look.ensures.lists (c.loop-j.invariant.settled b g)
+        | inr g ↦ (let e : j ≡ b = omega arith in subst (λ (x : ℕ). Settled w r v rs i x) e c.in_ok-look.ensures.settled)
       ];
     }
 

@@ -1,4 +1,4 @@
-use Rattle.std.proofs.Common.{ℕ, ◌<◌, ◌≤◌, length}
+use Rattle.std.proofs.Common.{ℕ, ◌<◌}
 use Rattle.avro_resolve.specs.Inside.Sides.{columns, rows}
 use Rattle.avro_resolve.specs.Inside.Left.{IsRest, Lists, Settled}
 use Rattle.avro_resolve.proofs.rows.look_along_row.Given as goal
@@ -7,5 +7,5 @@ abbrev pub invariant-loop-j : goal.invariant-loop-j
 invariant-loop-j l = record {
   rest : IsRest (rows l.sides) (columns l.sides) l.progress.table;
   lists : Lists l.initial.progress.table l.initial.progress.struck.items l.progress.table l.progress.struck.items;
-  settled : (b : ℕ) → l.j ≤ b → b < length l.sides.reader.schema.now → Settled (rows l.sides) (columns l.sides) l.progress.table l.progress.struck.items l.row.place b;
+  settled : (b : ℕ) → b < l.j → Settled (rows l.sides) (columns l.sides) l.progress.table l.progress.struck.items l.row.place b;
 }

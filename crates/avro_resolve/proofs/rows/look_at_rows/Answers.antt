@@ -17,19 +17,18 @@ use Rattle.avro_resolve.proofs.rows.look_at_rows.Goals as goal
 pub loop-place-init : goal.loop-place-init
 loop-place-init c =
     let w = rows c.args.sides.now in let view = length-map c.args.sides.now.writer.schema.now node_view in
-    let none = c.places-place.ensures.places in
     record {
       clear = c.requires.clear;
       long = c.in_ok-sources.ensures.long ∙ c.places.ensures.places ∙ sym view;
-      sources = λ i a row lo e f. (let l = slice_get_within w i a e in absurd (omega (arith, l, lo, view, none)));
+      sources = λ i a row lo e f. absurd (omega (arith, lo));
       rest = c.requires.rest;
       lists = lists_none c.args.progress.now.table c.args.progress.now.struck.items;
-      settled = λ a b lo hi l. absurd (omega (arith, lo, hi, none));
+      settled = λ a b lo l. absurd (omega (arith, lo));
     }
 
 pub loop-place-preserved : goal.loop-place-preserved
 loop-place-preserved c =
-    let w = rows c.args.sides.now in let r = columns c.args.sides.now in let n = c.loop-place.place in let p = n - 1 in
+    let w = rows c.args.sides.now in let r = columns c.args.sides.now in let p = c.loop-place.place in
     let u = c.loop-place.progress.table in let v = c.look_at_row.new.progress.table in let qs = c.loop-place.progress.struck.items in let rs = c.look_at_row.new.progress.struck.items in
     let old = c.loop-place.sources.items in let more = c.in_ok-entries.entries in let is = c.in_ok-entries.ensures in let all = c.args.numbered.aliased.now in
     record {
@@ -41,13 +40,13 @@ loop-place-preserved c =
       ];
       rest = is.rest;
       lists = lists_then c.args.progress.now.table u v c.args.progress.now.struck.items qs rs c.loop-place.invariant.lists is.lists;
-      settled = λ a b lo hi l. elim (cases_lt a n) [
-        | inl g ↦ (let e : p ≡ a = omega arith in subst (λ (x : ℕ). Settled w r v rs x b) e (is.settled b l))
-        | inr g ↦ settled_on w r u v qs rs a b c.requires.sides.writer.whole c.requires.sides.reader.whole is.lists (c.loop-place.invariant.settled a b g hi l)
+      settled = λ a b lo l. elim (cases_lt a p) [
+        | inl g ↦ settled_on w r u v qs rs a b c.requires.sides.writer.whole c.requires.sides.reader.whole is.lists (c.loop-place.invariant.settled a b g l)
+        | inr g ↦ (let e : p ≡ a = omega arith in subst (λ (x : ℕ). Settled w r v rs x b) e (is.settled b l))
       ];
     }
 
 pub returns-clause-sources : goal.returns-clause-sources
 returns-clause-sources c =
     let r = columns c.args.sides.now in let all = c.args.numbered.aliased.now in
-    zip_each (λ (a : NodeView) (row : Vec ℕ Global). AllZip (IsEntry r (fields_of a)) all row.items) (rows c.args.sides.now) c.loop-place.sources.items c.loop-place.invariant.long (λ k a row e f. c.loop-place.invariant.sources k a row (omega arith) e f)
+    zip_each (λ (a : NodeView) (row : Vec ℕ Global). AllZip (IsEntry r (fields_of a)) all row.items) (rows c.args.sides.now) c.loop-place.sources.items c.loop-place.invariant.long (λ k a row e f. c.loop-place.invariant.sources k a row (let l = slice_get_within (rows c.args.sides.now) k a e in let view = length-map c.args.sides.now.writer.schema.now node_view in let all = c.places-place-end.ensures.places in omega arith) e f)

@@ -1,4 +1,4 @@
-use Rattle.std.proofs.Common.{◌≡◌, ℕ, ◌<◌, ◌≤◌, length, Some}
+use Rattle.std.proofs.Common.{◌≡◌, ℕ, ◌<◌, length, Some}
 use Rattle.std.specs.Prelude.{slice_get, Vec}
 use Rattle.std.specs.List.{AllZip}
 use Rattle.std.specs.declared.alloc.Global.{Global}
@@ -14,9 +14,9 @@ abbrev pub invariant-loop-place : goal.invariant-loop-place
 invariant-loop-place l = record {
   clear : IsClear l.boxes;
   long : length l.sources.items ≡ length (rows l.sides);
-  sources : (i : ℕ) (a : NodeView) (row : Vec ℕ Global) → l.place ≤ i → slice_get (rows l.sides) i ≡ Some a → slice_get l.sources.items i ≡ Some row
+  sources : (i : ℕ) (a : NodeView) (row : Vec ℕ Global) → i < l.place → slice_get (rows l.sides) i ≡ Some a → slice_get l.sources.items i ≡ Some row
       → AllZip (IsEntry (columns l.sides) (fields_of a)) l.numbered.aliased.now row.items;
   rest : IsRest (rows l.sides) (columns l.sides) l.progress.table;
   lists : Lists l.fn.progress.table l.fn.progress.struck.items l.progress.table l.progress.struck.items;
-  settled : (a b : ℕ) → l.place ≤ a → a < length l.sides.writer.schema.now → b < length l.sides.reader.schema.now → Settled (rows l.sides) (columns l.sides) l.progress.table l.progress.struck.items a b;
+  settled : (a b : ℕ) → a < l.place → b < length l.sides.reader.schema.now → Settled (rows l.sides) (columns l.sides) l.progress.table l.progress.struck.items a b;
 }

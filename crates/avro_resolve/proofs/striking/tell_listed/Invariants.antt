@@ -1,4 +1,5 @@
 use Rattle.std.proofs.Common.{◌+◌, length}
+use Rattle.avro_resolve.specs.Inside.Askers.{IsNoted}
 use Rattle.avro_resolve.specs.Inside.Sides.{columns, rows}
 use Rattle.avro_resolve.specs.Inside.Left.{AreOut, IsRest, AllSettled, count_left}
 use Rattle.avro_resolve.proofs.striking.tell_listed.Given as goal
@@ -6,6 +7,7 @@ use Rattle.avro_resolve.proofs.striking.tell_listed.Given as goal
 abbrev pub invariant-loop-i : goal.invariant-loop-i
 invariant-loop-i l = record {
   rest : IsRest (rows l.sides) (columns l.sides) l.progress.table;
+  noted : IsNoted l.progress.table l.asking.rows.unions.items l.asking.columns.unions.items l.noted;
   out : AreOut l.progress.table l.progress.struck.items;
   settled : AllSettled (rows l.sides) (columns l.sides) l.progress.table l.progress.struck.items;
 }
