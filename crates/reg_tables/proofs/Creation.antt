@@ -6,18 +6,18 @@ use Rattle.std.specs.FinMap.{empty, get}
 use Rattle.sqlite.specs.Tree.{Trees}
 use Rattle.sqlite.specs.Table.{Table}
 use Rattle.sqlite.specs.Schema.{Schema}
-use Rattle.sqlite.specs.Change.{created, indexed, next_tree, KeepsRows}
-use Rattle.sqlite.specs.Command.TheVariants.{CreateTable, CreateIndex}
-use Rattle.sqlite.specs.Does.{Tally, Does, lacks_sequence}
+use Rattle.sqlite.specs.Change.{created, next_tree, KeepsRows}
+use Rattle.sqlite.specs.Command.TheVariants.{CreateTable}
+use Rattle.sqlite.specs.Does.{Tally, lacks_sequence}
 use Rattle.sqlite.specs.Effect.{Database, IsDatabase}
-use Rattle.sqlite.specs.State.{State, Executes, Writes, mode_of}
+use Rattle.sqlite.specs.State.{State, Executes, Writes}
 use Rattle.sqlite.proofs.Callers.{runs_as}
-use Rattle.reg_tables.specs.Layout.{unindexed, versions, versions_of_id, IsBare}
+use Rattle.reg_tables.specs.Layout.{unindexed, IsBare}
 use Rattle.reg_tables.specs.TableMaps.{ShowsMap}
-use Rattle.reg_tables.specs.Contents.{text_cmp, version_cmp, text_form, version_form, pair_form, kept_form, Contents, HoldsIn, Holds}
+use Rattle.reg_tables.specs.Contents.{text_cmp, version_cmp, text_form, version_form, pair_form, kept_form, HoldsIn}
 use Rattle.reg_tables.specs.Changes.{no_contents}
-use Rattle.reg_tables.proofs.RowLemmas.{same_rows, shows_empty}
-use Rattle.reg_tables.proofs.Statements.{MakesTable, make_versions_of_id, makes_versions_of_id}
+use Rattle.reg_tables.proofs.RowLemmas.{shows_empty}
+use Rattle.reg_tables.proofs.Statements.{MakesTable}
 use Rattle.reg_tables.proofs.Writes.{went, same_value}
 
 still_empty : (tables : List Table) (old new : Trees) → KeepsRows tables old new → AllByRecursion (λ t. old t.tree ≡ []) tables → AllByRecursion (λ t. new t.tree ≡ []) tables
@@ -66,28 +66,6 @@ makes_bare sql before table after m old new count bare h =
 -- and what was made is sound
 pub makes_sound : (sql : List ℕ) (before : Schema) (table : Table) (after : Schema) → MakesTable sql before table after → (old new : State) (count : ℕ) → IsBare before old.now → Executes sql [] old new (Ok count) → IsDatabase new.now
 makes_sound sql before table after m old new count bare h = (makes_more sql before table after m old new count bare.declared h).sound
-
--- the index is there too, and the tables hold what they held
-pub indexes : (old new : State) (count : ℕ) (contents : Contents) → HoldsIn unindexed old.now contents → Executes make_versions_of_id [] old new (Ok count) → Holds new.now contents
-indexes old new count contents holds h =
-    let m = makes_versions_of_id in
-    let w = subst (λ t. Writes old new None (CreateIndex 1) t [] count) m.text (runs_as make_versions_of_id [] old new unindexed holds.declared (CreateIndex 1) m.command.is m.command.plain count h) in
-    let done = subst (λ s. Does old.step_limit (mode_of old) [] (record old.now { schema = s }) make_versions_of_id None (CreateIndex 1) (Ok (w.tally, new.now))) holds.declared w.changed in
-    let all = went done in
-    let made = all.1 in
-    let both : Ok made.index ≡ Ok (record versions_of_id { tree = 0 }) = sym made.defined ∙ m.defined in
-    let same : made.index ≡ record versions_of_id { tree = 0 } = cc in
-    let now : new.now ≡ all.0 = ap (λ (p : Tally × Database). p.1) (same_value all.2) in
-    let rows : KeepsRows unindexed.tables old.now.trees new.now.trees = subst (λ (d : Database). KeepsRows unindexed.tables old.now.trees d.trees) (sym now) made.rows in
-    record {
-      declared = ap (λ (d : Database). d.schema) now ∙ made.is ∙ ap (indexed unindexed versions) same ∙ m.is;
-      sound = w.sound;
-      texts = same_rows rows.0 holds.texts;
-      versions = same_rows rows.1.0 holds.versions;
-      levels = same_rows rows.1.1.0 holds.levels;
-      kept = same_rows rows.1.1.1.0 holds.kept;
-      meta = same_rows rows.1.1.1.1.0 holds.meta;
-    }
 
 -- tables with no row hold nothing
 pub holds_nothing : (db : Database) → IsDatabase db → IsBare unindexed db → HoldsIn unindexed db no_contents

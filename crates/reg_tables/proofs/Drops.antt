@@ -111,7 +111,7 @@ agree_by a b q k is its =
     let number : column b 2 ≡ Int (pos k.1) = cc in
     rw (subject, number) (by_version_test a k q is)
 
-not_null : (row : Row) (key : (List ℕ × ℕ)) → HasVersionKey row key → has_null (1 ∷ 2 ∷ []) row ≡ false
+pub not_null : (row : Row) (key : (List ℕ × ℕ)) → HasVersionKey row key → has_null (1 ∷ 2 ∷ []) row ≡ false
 not_null row key is =
     let subject : column row 1 ≡ Text key.0 = cc in
     let number : column row 2 ≡ Int (pos key.1) = cc in

@@ -3,14 +3,14 @@ use Rattle.std.proofs.Common.{arith, ◌≡◌, ◌⊎◌, ◌≤◌, Equal, Som
 use Rattle.std.specs.List.{list_all}
 use Rattle.std.specs.FinMap.{get}
 use Rattle.std.specs.Ordering.{is_eq}
-use Rattle.std.proofs.lemmas.Bool.{both_ways, and_from, not_from_false, false_from_ne_true}
+use Rattle.std.proofs.lemmas.Bool.{both_ways, cases_Bool, and_from, not_from_false, false_from_ne_true}
 use Rattle.std.proofs.lemmas.List.{length-map}
 use Rattle.sqlite.specs.declared.types.Value.{Value}
 use Rattle.sqlite.specs.declared.types.Value.TheVariants.{Null, Int, Text}
 use Rattle.sqlite.specs.Order.{Row, column, value_cmp}
 use Rattle.sqlite.specs.Tree.{Trees, rowid, with_tree}
 use Rattle.sqlite.specs.Cast.{cast_row}
-use Rattle.sqlite.specs.Edit.{Edit, edit_of, edited, taken_by, id_in, is_taken, are_fresh, without_all, Applies, IsRefused}
+use Rattle.sqlite.specs.Edit.{Edit, edit_of, edited, id_in, is_taken, are_fresh, without_all, Applies, IsRefused}
 use Rattle.sqlite.specs.Rowids.TheVariants.{Given}
 use Rattle.sqlite.specs.Term.{col, eval_all}
 use Rattle.sqlite.specs.Command.TheVariants.{Update}
@@ -22,31 +22,36 @@ use Rattle.sqlite.proofs.Callers.{statement_of}
 use Rattle.sqlite_schema.specs.declared.schema.Keys.TheVariants.{Enforced}
 use Rattle.sqlite_schema.specs.declared.schema.Among.TheVariants.{All}
 use Rattle.sqlite_schema.specs.declared.schema.Constraint.TheVariants.{Datatype, NotNull, Check, PrimaryKey, Unique, ForeignKey}
+use Rattle.sqlite.specs.Table.{Table}
+use Rattle.sqlite.specs.Schema.{Schema}
+use Rattle.sqlite_value.specs.Keys.{plain}
 use Rattle.sqlite_schema.specs.declared.schema.Index.{Index}
 use Rattle.sqlite_schema.specs.declared.program.Program.{Program}
-use Rattle.sqlite_schema.specs.Rules.{agree, differ, guards, Keeps, Obeys, Refers}
+use Rattle.sqlite_schema.specs.Rules.{agree, differ, Keeps, Obeys, Refers}
 use Rattle.sqlite_rules.specs.declared.error.Refusal.{Refusal}
 use Rattle.sqlite_rules.specs.declared.error.Refusal.TheVariants.{Violates, Mismatch, NoRowid, BadReference, TooDeep}
 use Rattle.sqlite_rules.specs.Calls.{ids_of}
 use Rattle.sqlite_rules.specs.Lists.{Has}
 use Rattle.sqlite_rules.proofs.ListLemmas.{all_has, has_got, test_from, some_has}
-use Rattle.sqlite_rules.proofs.TableLemmas.{int_is, without_all_has, put_all_has}
+use Rattle.sqlite_rules.proofs.TableLemmas.{int_is, without_all_has, put_all_has, put_all_adds, put_all_keeps}
 use Rattle.sqlite_tied.specs.Compute.{everything}
-use Rattle.reg_tables.specs.Layout.{layout, versions}
+use Rattle.reg_tables.specs.Layout.{begins, versions}
+use Rattle.reg_tables.specs.SecondContents.{SecondContents, HoldsAllIn}
 use Rattle.reg_tables.specs.TableMaps.{IsEntry}
-use Rattle.reg_tables.specs.Contents.{version_cmp, VersionRow, Contents, version_form, Holds}
+use Rattle.reg_tables.specs.Contents.{version_cmp, VersionRow, version_form}
 use Rattle.reg_tables.specs.FailedCalls.{IsInsertFault}
 use Rattle.reg_tables.specs.Inside.Statements.{plain_query, by_version}
-use Rattle.reg_tables.proofs.ListMembers.{has_mapped}
+use Rattle.reg_tables.proofs.ListMembers.{has_mapped, maps_had}
 use Rattle.reg_tables.proofs.MapLemmas.{equal_of, tied_key}
-use Rattle.reg_tables.proofs.RowLemmas.{left_fails, same_if_tied}
+use Rattle.reg_tables.proofs.RowLemmas.{left_fails, fails_left, same_if_tied}
 use Rattle.reg_tables.proofs.Queries.{passes}
 use Rattle.reg_tables.proofs.KeyedTables.{version_order, by_version_test, cast-Int, given_as_is, FindsOne, own_row, finds_one}
 use Rattle.reg_tables.proofs.Statements.{with_flag, mark_version, mark_version_is}
-use Rattle.reg_tables.proofs.UniqueLemmas.{with_tree_there, with_tree_elsewhere, stays_unique}
+use Rattle.reg_tables.proofs.UniqueLemmas.{on_columns, with_tree_there, with_tree_elsewhere, stays_unique}
 use Rattle.reg_tables.proofs.WriteFaults.{refused_by, update_refused}
-use Rattle.reg_tables.proofs.Settled.{layout_apart, layout_idle}
-use Rattle.reg_tables.proofs.TableFaults.{obeys as obeyed, versions_at, has_text, refers_if, differ_itself, plain_fits}
+use Rattle.reg_tables.proofs.SecondReferences.{has_text_at, more_versions}
+use Rattle.reg_tables.proofs.Settled.{IsSettled}
+use Rattle.reg_tables.proofs.TableFaults.{obeys as obeyed, differ_itself, plain_fits}
 use Rattle.reg_tables.proofs.FailedVersions.{version_keys, flag_passes}
 
 -- at most one row, at a rowid that is not taken
@@ -56,14 +61,21 @@ fresh_if rows (x ∷ []) few free = and_from _ _ (not_from_false _ (false_from_n
 fresh_if rows (x ∷ y ∷ more) few free = absurd (omega arith)
 
 -- versions of one id have their text alike
-same_text : (texts : List Row) (a b : Row) → column a 3 ≡ column b 3 → has_text texts a ≡ has_text texts b
-same_text texts a b same = let with_id : Value → Bool = λ v. has_text texts (Null ∷ Null ∷ Null ∷ v ∷ []) in ap with_id same
+same_text : (texts : List Row) (a b : Row) → column a 3 ≡ column b 3 → has_text_at 3 texts a ≡ has_text_at 3 texts b
+same_text texts a b same = let with_id : Value → Bool = λ v. has_text_at 3 texts (Null ∷ Null ∷ Null ∷ v ∷ []) in ap with_id same
+
+-- rows of one key agree with the same rows on it
+same_agreement : (r a b : Row) → column a 1 ≡ column b 1 → column a 2 ≡ column b 2 → agree plain (1 ∷ 2 ∷ []) a (1 ∷ 2 ∷ []) r ≡ agree plain (1 ∷ 2 ∷ []) b (1 ∷ 2 ∷ []) r
+same_agreement r a b subject number = let of_key : Value → Value → Bool = λ v w. agree plain (1 ∷ 2 ∷ []) (Null ∷ v ∷ w ∷ []) (1 ∷ 2 ∷ []) r in λ i. of_key (subject i) (number i)
 
 -- the row that the UPDATE makes of a version's
 abbrev marked_row : ℤ → List ℕ × ℕ → ℕ → Row
 marked_row place key id = Int place ∷ Text key.0 ∷ Int (pos key.1) ∷ Int (pos id) ∷ Int (pos 1) ∷ []
 
-module _ (old new : State) (contents : Contents) (h : Holds old.now contents) (e : Error) (key : List ℕ × ℕ) where
+module _ (tables : List Table) (indexes : List Index) (s : IsSettled tables indexes) (old new : State) (contents : SecondContents) (h : HoldsAllIn (begins tables indexes) old.now contents) (e : Error) (key : List ℕ × ℕ) where
+  abbrev layout : Schema
+  layout = begins tables indexes
+
   abbrev db : Trees
   db = old.now.trees
 
@@ -80,18 +92,18 @@ module _ (old new : State) (contents : Contents) (h : Holds old.now contents) (e
   marking = record { lets = []; body = plain_query 2 by_version (col 1 0 ∷ with_flag) }
 
   obeys : Obeys layout db
-  obeys = obeyed layout old.now h.declared h.sound
+  obeys = obeyed layout old.now h.base.declared h.base.sound
 
   -- a row that passes is the version's
-  its_version : (r : Row) → Has (db 2) r → named r ≡ true → (v : VersionRow) × (get contents.versions key ≡ Some v) × IsEntry version_form r key v
-  its_version = own_row version_form version_cmp version_order db 2 contents.versions h.versions key by_version params (λ row q is. by_version_test row key q is)
+  its_version : (r : Row) → Has (db 2) r → named r ≡ true → (v : VersionRow) × (get contents.base.versions key ≡ Some v) × IsEntry version_form r key v
+  its_version = own_row version_form version_cmp version_order db 2 contents.base.versions h.base.versions key by_version params (λ row q is. by_version_test row key q is)
 
   -- the rows that were found are the version's, if there is one
   abbrev IsFound : List Row → Type 0
   IsFound found = FindsOne named rest (db 2) found
 
   found_as : (found : List Row) → Answers (record { schema = layout; trees = db }) marking params found → IsFound found
-  found_as found it = finds_one version_form version_cmp version_order db 2 contents.versions h.versions key by_version params (λ row q is. by_version_test row key q is) with_flag found (it.answer Null)
+  found_as found it = finds_one version_form version_cmp version_order db 2 contents.base.versions h.base.versions key by_version params (λ row q is. by_version_test row key q is) with_flag found (it.answer Null)
 
   module _ (found : List Row) (f : IsFound found) where
     abbrev edit : Edit
@@ -112,7 +124,7 @@ module _ (old new : State) (contents : Contents) (h : Holds old.now contents) (e
       there : Has (db 2) was
       passing : named was ≡ true
       version : VersionRow
-      known : get contents.versions key ≡ Some version
+      known : get contents.base.versions key ≡ Some version
       entry : IsEntry version_form was key version
       is : x ≡ marked_row (id_in (rowid was)) key version.id
 
@@ -121,7 +133,7 @@ module _ (old new : State) (contents : Contents) (h : Holds old.now contents) (e
         let s = has_mapped source found x (subst (λ l. Has l x) (given_as_is left (map source found)) new) in
         let r = f.finds.sound s.0 s.1 in
         let its = its_version r.0 r.1 r.2 in
-        let place : rowid r.0 ≡ Int (id_in (rowid r.0)) = int_is (rowid r.0) (all_has _ (db 2) r.0 h.versions.rowids.1 r.1) in
+        let place : rowid r.0 ≡ Int (id_in (rowid r.0)) = int_is (rowid r.0) (all_has _ (db 2) r.0 h.base.versions.rowids.1 r.1) in
         let subject : column r.0 1 ≡ Text key.0 = (let k = its.2.0 in cc) in
         let number : column r.0 2 ≡ Int (pos key.1) = (let k = its.2.0 in cc) in
         let id : column r.0 3 ≡ Int (pos its.0.id) = (let v = its.2.1 in cc) in
@@ -133,15 +145,15 @@ module _ (old new : State) (contents : Contents) (h : Holds old.now contents) (e
     each p good fails = both_ways _ fails (test_from p edit.news (λ x new. let it = is_new x new in ap p it.is ∙ good (id_in (rowid it.was)) it.version.id))
 
     place_of : (x : Row) (it : IsNew x) → rowid x ≡ rowid it.was
-    place_of x it = ap (λ (r : Row). rowid r) it.is ∙ sym (int_is (rowid it.was) (all_has _ (db 2) it.was h.versions.rowids.1 it.there))
+    place_of x it = ap (λ (r : Row). rowid r) it.is ∙ sym (int_is (rowid it.was) (all_has _ (db 2) it.was h.base.versions.rowids.1 it.there))
 
     untaken : (x : Row) → Has edit.news x → is_taken left x ≡ true → ⊥
     untaken x new taken =
         let it = is_new x new in
         let r = some_has (λ y. is_eq (value_cmp (rowid y) (rowid x))) left taken in
-        let stood = left_fails named rest (db 2) found h.versions.rowids f.finds r.0 r.1 in
+        let stood = left_fails named rest (db 2) found h.base.versions.rowids f.finds r.0 r.1 in
         let tie = subst (λ v. value_cmp (rowid r.0) v ≡ Equal) (place_of x it) (equal_of _ r.2) in
-        let same : r.0 ≡ it.was = same_if_tied (db 2) r.0 it.was h.versions.rowids stood.0 it.there tie in
+        let same : r.0 ≡ it.was = same_if_tied (db 2) r.0 it.was h.base.versions.rowids stood.0 it.there tie in
         both_ways _ stood.1 (ap named same ∙ it.passing)
 
     fresh : are_fresh left edit.news ≡ true
@@ -161,12 +173,12 @@ module _ (old new : State) (contents : Contents) (h : Holds old.now contents) (e
         elim (came r there) [
           | inl also ↦
               let that = is_new r also in
-              let same : that.was ≡ it.was = h.versions.once that.was it.was that.there it.there (that.entry.0 ∙ sym it.entry.0) in
+              let same : that.was ≡ it.was = h.base.versions.once that.was it.was that.there it.there (that.entry.0 ∙ sym it.entry.0) in
               let place : rowid r ≡ rowid fresh = place_of r that ∙ ap (λ (x : Row). rowid x) same ∙ sym (place_of fresh it) in
               both_ways _ (differ_itself (rowid fresh)) (subst (λ v. differ v (rowid fresh) ≡ true) place differs)
           | inr stays ↦
-              let stood = left_fails named rest (db 2) found h.versions.rowids f.finds r stays in
-              let entry = h.versions.sound r stood.0 in
+              let stood = left_fails named rest (db 2) found h.base.versions.rowids f.finds r stays in
+              let entry = h.base.versions.sound r stood.0 in
               let same : entry.0 ≡ key =
               version_keys (Int (id_in (rowid it.was))) (Int (pos it.version.id) ∷ Int (pos 1) ∷ []) r entry.0 key entry.3.0
               (subst (λ x. agree (record { digits = 0 }) (1 ∷ 2 ∷ []) r (1 ∷ 2 ∷ []) x ≡ true) it.is agrees) in
@@ -175,16 +187,36 @@ module _ (old new : State) (contents : Contents) (h : Holds old.now contents) (e
 
     unique : Keeps Unique layout after
     unique =
-        stays_unique layout db after versions edit.news layout_apart (has_got layout.tables 1 versions refl) (λ t known other. with_tree_elsewhere db 2 (edited db edit) t.tree other)
+        stays_unique layout db after versions edit.news s.apart (has_got layout.tables 1 versions refl) (λ t known other. with_tree_elsewhere db 2 (edited db edit) t.tree other)
         (λ r there. elim (came r there) [ inl new ↦ inl new | inr stays ↦ inr (without_all_has (ids_of found) (db 2) r stays) ])
-        (λ i known. all_has (λ (i : Index). guards i versions ≡ true → (r fresh : Row) → Has (after 2) r → Has edit.news fresh → agree i.order i.columns r i.columns fresh ≡ true → differ (rowid r) (rowid fresh) ≡ true → ⊥) layout.indexes i
-        ((λ on. absurd (cc)), ((λ on. apart), ((λ on. absurd (cc)), ((λ on. absurd (cc)), ((λ on. absurd (cc)), ((λ on. absurd (cc)), tt)))))) known)
+        (λ i known on r fresh there new agrees differs. apart r fresh there new (on_columns indexes versions (1 ∷ 2 ∷ []) s.versions_on i known on r fresh agrees) differs)
         (obeys.rules Unique)
 
-    -- the row keeps its id, so it has its text still
+    -- a version that was there has a row of its key still
+    marks : (was : Row) → Has (db 2) was → named was ≡ true → (x : Row) × Has edit.news x
+    marks was there is = (source (rowid was ∷ rest was), subst (λ l. Has l (source (rowid was ∷ rest was))) (sym (given_as_is left (map source found))) (maps_had source found (rowid was ∷ rest was) (f.finds.complete was there is)))
+
+    still : (next : Trees) → Applies layout Enforced db edit next → (r was : Row) → Has (db 2) was → agree plain (1 ∷ 2 ∷ []) was (1 ∷ 2 ∷ []) r ≡ true → (t : Row) × Has (next 2) t × (agree plain (1 ∷ 2 ∷ []) t (1 ∷ 2 ∷ []) r ≡ true)
+    still next applies r was there agrees = elim (cases_Bool (named was)) [
+      | inl gone ↦
+          let x = marks was there gone in
+          let it = is_new x.0 x.1 in
+          let its = its_version was there gone in
+          let subject : column was 1 ≡ Text key.0 = (let k = its.2.0 in cc) in
+          let number : column was 2 ≡ Int (pos key.1) = (let k = its.2.0 in cc) in (
+            x.0,
+            subst (λ l. Has l x.0) (sym applies.rows) (put_all_adds edit.news left x.0 fresh x.1),
+            same_agreement r x.0 was (ap (λ (y : Row). column y 1) it.is ∙ sym subject) (ap (λ (y : Row). column y 2) it.is ∙ sym number) ∙ agrees,
+          )
+      | inr other ↦ (was, subst (λ l. Has l was) (sym applies.rows) (put_all_keeps edit.news left was fresh (fails_left named rest (db 2) found h.base.versions.rowids f.finds was there other)), agrees)
+    ]
+
+    -- the row keeps its id and its key, so it has its text still, and its evidence has it
     refers : (next : Trees) → Applies layout Enforced db edit next → Refers All layout next
-    refers next applies = refers_if db next (λ had row there.
-        subst (λ l. has_text l row ≡ true) (sym (applies.tables.0 (λ e. omega (arith, e)))) (elim (put_all_has edit.news left row (subst (λ l. Has l row) applies.rows there)) [
+    refers next applies =
+        let texts_same : next 0 ≡ db 0 = applies.tables.0 (λ e. omega (arith, e)) in
+        s.refers versions.tree (lit≤ tt) db next applies.tables (λ place row had. subst (λ l. has_text_at place l row ≡ true) (sym texts_same) had) (λ row had. more_versions (db 2) (next 2) row (still next applies row) had)
+        (λ had row there. subst (λ l. has_text_at 3 l row ≡ true) (sym texts_same) (elim (put_all_has edit.news left row (subst (λ l. Has l row) applies.rows there)) [
           | inl new ↦
               let it = is_new row new in
               let id : column it.was 3 ≡ Int (pos it.version.id) = (let v = it.entry.1 in cc) in
@@ -203,18 +235,18 @@ module _ (old new : State) (contents : Contents) (h : Holds old.now contents) (e
     allowed (Violates ForeignKey) r = absurd r
     allowed Mismatch r = absurd (each _ (λ place id. refl) r)
     allowed NoRowid r = refl
-    allowed BadReference r = absurd (both_ways _ r (versions_at.keys _ _))
+    allowed BadReference r = absurd (both_ways _ r (s.versions_at.keys _ _))
     allowed TooDeep r = absurd r
 
   pub mark_version_fails : ExecutesInside 0 mark_version params old new (Err e) → IsInsertFault old new e
   unfolding understood everything
   mark_version_fails ran =
-      elim (refused_by mark_version params old new layout h.declared (Update 1 marking) mark_version_is (lit≤ tt, refl) (record { silent = refl; stays = refl }) e ran) [
+      elim (refused_by mark_version params old new layout h.base.declared (Update 1 marking) (mark_version_is tables indexes) (lit≤ tt, refl) (record { silent = refl; stays = refl }) e ran) [
         | inl fault ↦ inl (inl (inl fault))
         | inr rest ↦ elim rest [
           | inl large ↦ inl (inr large.0)
           | inr does ↦ elim (update_refused layout 1 versions refl old new (statement_of mark_version (understood layout mark_version)) params e marking refl (plain_fits db params 2 by_version (col 1 0 ∷ with_flag))
-              (λ found. let marks = edit_of db versions (ids_of found) Given 1 found in layout_idle 2 (taken_by db marks) marks.news) (λ found next asked applies. refers found (found_as found asked) next applies) does) [
+              (s.steady db) (λ found next asked applies. refers found (found_as found asked) next applies) does) [
                 | inl fault ↦ inl (inl (inl fault))
                 | inr r ↦ inr (inl (r.4 ∙ ap edit_error (allowed r.0 (found_as r.0 r.2) r.1 r.3)))
               ]

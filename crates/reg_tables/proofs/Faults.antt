@@ -22,82 +22,82 @@ use Rattle.sqlite_resolve.specs.declared.compiled.Compiled.{Compiled}
 use Rattle.sqlite_typing.specs.Types.{accepts_program}
 use Rattle.sqlite_rules.proofs.ListLemmas.{any_has}
 use Rattle.sqlite_tied.specs.Compute.{everything}
-use Rattle.reg_tables.specs.Layout.{IsLayout, HasTablesFirst}
+use Rattle.reg_tables.specs.Layout.{HasTablesFirst}
 use Rattle.reg_tables.specs.Contents.{flag_cell}
 use Rattle.reg_tables.specs.Reads.{CanBeRead}
 use Rattle.reg_tables.specs.FailedCalls.{IsFault}
 use Rattle.reg_tables.specs.Inside.Statements.{IsWhole, Takes, TableQuery, body_of, program_of, IsQuery}
 use Rattle.sqlite.specs.Schema.{Schema}
 use Rattle.reg_tables.proofs.Reasons.{reason_of, reason_if_shut, reason_by, fault_until}
-use Rattle.reg_tables.proofs.Statements.{laid_out, in_layouts, behind_tables, find_id, find_versions, find_last_version, find_last_live, find_last, find_behind, find_next, find_of_id, find_one_of_id, find_some_of_id, find_last_with_id, list_versions, all_ids, texts_between, all_versions, all_levels, all_kept, all_meta}
+use Rattle.reg_tables.proofs.Statements.{laid_out, behind_tables, find_id, find_versions, find_last_version, find_last_live, find_last, find_behind, find_next, find_of_id, find_one_of_id, find_some_of_id, find_last_with_id, list_versions, all_ids, texts_between, all_versions, all_levels, all_kept, all_meta}
 
-pub takes_id : (text : List ℕ) → (schema : Schema) → IsLayout schema → Takes find_id (Text text ∷ []) schema
+pub takes_id : (text : List ℕ) → (schema : Schema) → HasTablesFirst schema → Takes find_id (Text text ∷ []) schema
 unfolding understood everything
-takes_id text = in_layouts (Takes find_id (Text text ∷ [])) (λ tables indexes. record { whole = (lit≤ tt, refl); typed = refl })
+takes_id text = behind_tables (Takes find_id (Text text ∷ [])) (λ tables indexes. record { whole = (lit≤ tt, refl); typed = refl })
 
-pub takes_versions : (subject : List ℕ) → (schema : Schema) → IsLayout schema → Takes find_versions (Text subject ∷ []) schema
+pub takes_versions : (subject : List ℕ) → (schema : Schema) → HasTablesFirst schema → Takes find_versions (Text subject ∷ []) schema
 unfolding understood everything
-takes_versions subject = in_layouts (Takes find_versions (Text subject ∷ [])) (λ tables indexes. record { whole = (lit≤ tt, refl); typed = refl })
+takes_versions subject = behind_tables (Takes find_versions (Text subject ∷ [])) (λ tables indexes. record { whole = (lit≤ tt, refl); typed = refl })
 
-pub takes_last_version : (subject : List ℕ) → (schema : Schema) → IsLayout schema → Takes find_last_version (Text subject ∷ []) schema
+pub takes_last_version : (subject : List ℕ) → (schema : Schema) → HasTablesFirst schema → Takes find_last_version (Text subject ∷ []) schema
 unfolding understood everything
-takes_last_version subject = in_layouts (Takes find_last_version (Text subject ∷ [])) (λ tables indexes. record { whole = (lit≤ tt, refl); typed = refl })
+takes_last_version subject = behind_tables (Takes find_last_version (Text subject ∷ [])) (λ tables indexes. record { whole = (lit≤ tt, refl); typed = refl })
 
-pub takes_last_live : (subject : List ℕ) → (schema : Schema) → IsLayout schema → Takes find_last_live (Text subject ∷ []) schema
+pub takes_last_live : (subject : List ℕ) → (schema : Schema) → HasTablesFirst schema → Takes find_last_live (Text subject ∷ []) schema
 unfolding understood everything
-takes_last_live subject = in_layouts (Takes find_last_live (Text subject ∷ [])) (λ tables indexes. record { whole = (lit≤ tt, refl); typed = refl })
+takes_last_live subject = behind_tables (Takes find_last_live (Text subject ∷ [])) (λ tables indexes. record { whole = (lit≤ tt, refl); typed = refl })
 
-pub takes_last : (schema : Schema) → IsLayout schema → Takes find_last [] schema
+pub takes_last : (schema : Schema) → HasTablesFirst schema → Takes find_last [] schema
 unfolding understood everything
-takes_last = in_layouts (Takes find_last []) (λ tables indexes. record { whole = (lit≤ tt, refl); typed = refl })
+takes_last = behind_tables (Takes find_last []) (λ tables indexes. record { whole = (lit≤ tt, refl); typed = refl })
 
-pub takes_behind : (subject : List ℕ) → (schema : Schema) → IsLayout schema → Takes find_behind (Text subject ∷ []) schema
+pub takes_behind : (subject : List ℕ) → (schema : Schema) → HasTablesFirst schema → Takes find_behind (Text subject ∷ []) schema
 unfolding understood everything
-takes_behind subject = in_layouts (Takes find_behind (Text subject ∷ [])) (λ tables indexes. record { whole = (lit≤ tt, refl); typed = refl })
+takes_behind subject = behind_tables (Takes find_behind (Text subject ∷ [])) (λ tables indexes. record { whole = (lit≤ tt, refl); typed = refl })
 
-pub takes_next : (subject : List ℕ) (number : ℕ) → (schema : Schema) → IsLayout schema → Takes find_next (Text subject ∷ Int (pos number) ∷ []) schema
+pub takes_next : (subject : List ℕ) (number : ℕ) → (schema : Schema) → HasTablesFirst schema → Takes find_next (Text subject ∷ Int (pos number) ∷ []) schema
 unfolding understood everything
-takes_next subject number = in_layouts (Takes find_next (Text subject ∷ Int (pos number) ∷ [])) (λ tables indexes. record { whole = (lit≤ tt, refl); typed = refl })
+takes_next subject number = behind_tables (Takes find_next (Text subject ∷ Int (pos number) ∷ [])) (λ tables indexes. record { whole = (lit≤ tt, refl); typed = refl })
 
-pub takes_of_id : (id : ℕ) → (schema : Schema) → IsLayout schema → Takes find_of_id (Int (pos id) ∷ []) schema
+pub takes_of_id : (id : ℕ) → (schema : Schema) → HasTablesFirst schema → Takes find_of_id (Int (pos id) ∷ []) schema
 unfolding understood everything
-takes_of_id id = in_layouts (Takes find_of_id (Int (pos id) ∷ [])) (λ tables indexes. record { whole = (lit≤ tt, refl); typed = refl })
+takes_of_id id = behind_tables (Takes find_of_id (Int (pos id) ∷ [])) (λ tables indexes. record { whole = (lit≤ tt, refl); typed = refl })
 
-pub takes_one_of_id : (id : ℕ) → (schema : Schema) → IsLayout schema → Takes find_one_of_id (Int (pos id) ∷ []) schema
+pub takes_one_of_id : (id : ℕ) → (schema : Schema) → HasTablesFirst schema → Takes find_one_of_id (Int (pos id) ∷ []) schema
 unfolding understood everything
-takes_one_of_id id = in_layouts (Takes find_one_of_id (Int (pos id) ∷ [])) (λ tables indexes. record { whole = (lit≤ tt, refl); typed = refl })
+takes_one_of_id id = behind_tables (Takes find_one_of_id (Int (pos id) ∷ [])) (λ tables indexes. record { whole = (lit≤ tt, refl); typed = refl })
 
-pub takes_some_of_id : (id : ℕ) → (schema : Schema) → IsLayout schema → Takes find_some_of_id (Int (pos id) ∷ []) schema
+pub takes_some_of_id : (id : ℕ) → (schema : Schema) → HasTablesFirst schema → Takes find_some_of_id (Int (pos id) ∷ []) schema
 unfolding understood everything
-takes_some_of_id id = in_layouts (Takes find_some_of_id (Int (pos id) ∷ [])) (λ tables indexes. record { whole = (lit≤ tt, refl); typed = refl })
+takes_some_of_id id = behind_tables (Takes find_some_of_id (Int (pos id) ∷ [])) (λ tables indexes. record { whole = (lit≤ tt, refl); typed = refl })
 
-pub takes_last_with_id : (subject : List ℕ) (id : ℕ) (deleted : Bool) → (schema : Schema) → IsLayout schema → Takes find_last_with_id (Text subject ∷ Int (pos id) ∷ flag_cell deleted ∷ []) schema
+pub takes_last_with_id : (subject : List ℕ) (id : ℕ) (deleted : Bool) → (schema : Schema) → HasTablesFirst schema → Takes find_last_with_id (Text subject ∷ Int (pos id) ∷ flag_cell deleted ∷ []) schema
 unfolding understood everything
-takes_last_with_id subject id deleted = in_layouts (Takes find_last_with_id (Text subject ∷ Int (pos id) ∷ flag_cell deleted ∷ [])) (λ tables indexes. record { whole = (lit≤ tt, refl); typed = refl })
+takes_last_with_id subject id deleted = behind_tables (Takes find_last_with_id (Text subject ∷ Int (pos id) ∷ flag_cell deleted ∷ [])) (λ tables indexes. record { whole = (lit≤ tt, refl); typed = refl })
 
-pub takes_list : (schema : Schema) → IsLayout schema → Takes list_versions [] schema
+pub takes_list : (schema : Schema) → HasTablesFirst schema → Takes list_versions [] schema
 unfolding understood everything
-takes_list = in_layouts (Takes list_versions []) (λ tables indexes. record { whole = (lit≤ tt, refl); typed = refl })
+takes_list = behind_tables (Takes list_versions []) (λ tables indexes. record { whole = (lit≤ tt, refl); typed = refl })
 
-pub takes_all_ids : (schema : Schema) → IsLayout schema → Takes all_ids [] schema
+pub takes_all_ids : (schema : Schema) → HasTablesFirst schema → Takes all_ids [] schema
 unfolding understood everything
-takes_all_ids = in_layouts (Takes all_ids []) (λ tables indexes. record { whole = (lit≤ tt, refl); typed = refl })
+takes_all_ids = behind_tables (Takes all_ids []) (λ tables indexes. record { whole = (lit≤ tt, refl); typed = refl })
 
-pub takes_between : (low high : ℕ) → (schema : Schema) → IsLayout schema → Takes texts_between (Int (pos low) ∷ Int (pos high) ∷ []) schema
+pub takes_between : (low high : ℕ) → (schema : Schema) → HasTablesFirst schema → Takes texts_between (Int (pos low) ∷ Int (pos high) ∷ []) schema
 unfolding understood everything
-takes_between low high = in_layouts (Takes texts_between (Int (pos low) ∷ Int (pos high) ∷ [])) (λ tables indexes. record { whole = (lit≤ tt, refl); typed = refl })
+takes_between low high = behind_tables (Takes texts_between (Int (pos low) ∷ Int (pos high) ∷ [])) (λ tables indexes. record { whole = (lit≤ tt, refl); typed = refl })
 
-pub takes_all_versions : (schema : Schema) → IsLayout schema → Takes all_versions [] schema
+pub takes_all_versions : (schema : Schema) → HasTablesFirst schema → Takes all_versions [] schema
 unfolding understood everything
-takes_all_versions = in_layouts (Takes all_versions []) (λ tables indexes. record { whole = (lit≤ tt, refl); typed = refl })
+takes_all_versions = behind_tables (Takes all_versions []) (λ tables indexes. record { whole = (lit≤ tt, refl); typed = refl })
 
-pub takes_all_levels : (schema : Schema) → IsLayout schema → Takes all_levels [] schema
+pub takes_all_levels : (schema : Schema) → HasTablesFirst schema → Takes all_levels [] schema
 unfolding understood everything
-takes_all_levels = in_layouts (Takes all_levels []) (λ tables indexes. record { whole = (lit≤ tt, refl); typed = refl })
+takes_all_levels = behind_tables (Takes all_levels []) (λ tables indexes. record { whole = (lit≤ tt, refl); typed = refl })
 
-pub takes_all_kept : (schema : Schema) → IsLayout schema → Takes all_kept [] schema
+pub takes_all_kept : (schema : Schema) → HasTablesFirst schema → Takes all_kept [] schema
 unfolding understood everything
-takes_all_kept = in_layouts (Takes all_kept []) (λ tables indexes. record { whole = (lit≤ tt, refl); typed = refl })
+takes_all_kept = behind_tables (Takes all_kept []) (λ tables indexes. record { whole = (lit≤ tt, refl); typed = refl })
 
 pub takes_all_meta : (schema : Schema) → HasTablesFirst schema → Takes all_meta [] schema
 unfolding understood everything
@@ -150,10 +150,10 @@ module _ {Known : Schema → Type 0} (q : TableQuery) (is : (schema : Schema) �
       let bare = subst IsPlain late.1.is (its late.5.0.was_open).command.plain in
       absurd (let none = subst IsSome bare.0 late.2 in cc)
 
--- in the layouts
-module _ (q : TableQuery) (is : (schema : Schema) → IsLayout schema → IsQuery q schema) (params : Row) (fits : (schema : Schema) → IsLayout schema → Takes q params schema) (old new : State) (can : CanBeRead old) where
+-- where the five tables come first
+module _ (q : TableQuery) (is : (schema : Schema) → HasTablesFirst schema → IsQuery q schema) (params : Row) (fits : (schema : Schema) → HasTablesFirst schema → Takes q params schema) (old new : State) (can : CanBeRead old) where
   pub query_faults : (e : Error) → FailsToQuery q.sql params old new e ⊎ IsTooLate q.sql params old new e → IsFault old new e
-  query_faults = known_query_faults q is params fits old new (λ is_open. let there = can is_open in laid_out there.holds there.is_layout)
+  query_faults = known_query_faults q is params fits old new (λ is_open. let there = can is_open in laid_out there.holds there.known)
 
 -- what can be read is read, but for want of memory
 pub memory_if_readable : (at : ℕ) (value : Value) (e : Error) (P : Type 0) → P → IsReadError at value e → (e ≢ SqliteFailure code.OutOfMemory → ¬ P) → e ≡ SqliteFailure code.OutOfMemory

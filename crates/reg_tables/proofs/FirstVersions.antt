@@ -17,7 +17,7 @@ use Rattle.sqlite_rules.proofs.ListLemmas.{has_filtered, has_kept}
 use Rattle.sqlite_sql.specs.Ops.{binary, is_true, from_truth}
 use Rattle.sqlite_trees.proofs.ListLemmas.{ascending-filter, ascending_weaker}
 use Rattle.sqlite_value.proofs.OrderLemmas.{value_cmp-Int, value_cmp-Text}
-use Rattle.reg_tables.specs.Layout.{IsLayout}
+use Rattle.reg_tables.specs.Layout.{HasTablesFirst}
 use Rattle.reg_tables.specs.TableMaps.{IsEntry, ShowsMap}
 use Rattle.reg_tables.specs.Contents.{text_cmp, version_cmp, version_key_cells, version_form, Contents, AreReadable, HoldsIn}
 use Rattle.reg_tables.specs.Entries.{NumberedVersion, numbered, numbered_cells, subject_versions, IsReadableNumbered, keyed, keyed_cells, IsReadableKeyed}
@@ -112,13 +112,13 @@ by_next subject number row e is =
 abbrev keyed_columns : Row → Row
 keyed_columns row = column row 0 ∷ column row 1 ∷ column row 2 ∷ column row 3 ∷ []
 
-module _ (old new : State) (schema : Schema) (contents : Contents) (h : HoldsIn schema old.now contents) (is_layout : IsLayout schema) (subject : List ℕ) (found : List Row) where
+module _ (old new : State) (schema : Schema) (contents : Contents) (h : HoldsIn schema old.now contents) (first : HasTablesFirst schema) (subject : List ℕ) (found : List Row) where
   module _ (shown : Shown find_behind.sql (Text subject ∷ []) old new found) where
     abbrev is_behind : Entry → Bool
     is_behind e = is_gt (text_cmp e.0.0 subject)
 
     its : IsQuery find_behind old.now.schema
-    its = find_behind_is old.now.schema (laid_out h is_layout)
+    its = find_behind_is old.now.schema (laid_out h first)
 
     pub line_behind : (line : Option ListedVersion) → option_map keyed_columns (slice_get found 0) ≡ option_map (λ (line : ListedVersion). keyed_cells (keyed line)) line
         → option_map keyed line ≡ find is_behind (entries contents.versions)
@@ -135,7 +135,7 @@ module _ (old new : State) (schema : Schema) (contents : Contents) (h : HoldsIn 
     is_next e = bytes_eq e.0.0 subject && is_gt (nat_cmp e.0.1 number)
 
     it : IsQuery find_next old.now.schema
-    it = find_next_is old.now.schema (laid_out h is_layout)
+    it = find_next_is old.now.schema (laid_out h first)
 
     next_entry : find (λ (version : NumberedVersion). is_gt (nat_cmp version.0 number)) (subject_versions subject contents) ≡ option_map entry_version (find is_next (entries contents.versions))
     next_entry =

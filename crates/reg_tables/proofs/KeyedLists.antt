@@ -18,7 +18,7 @@ use Rattle.sqlite_rules.proofs.ListLemmas.{contains_had, has_contained, has_filt
 use Rattle.sqlite_sql.specs.Ops.{binary, is_true, from_truth}
 use Rattle.sqlite_trees.proofs.ListLemmas.{all_of, filter_all}
 use Rattle.sqlite_value.proofs.OrderLemmas.{value_cmp-Int}
-use Rattle.reg_tables.specs.Layout.{IsLayout}
+use Rattle.reg_tables.specs.Layout.{HasTablesFirst}
 use Rattle.reg_tables.specs.TableMaps.{IsEntry}
 use Rattle.reg_tables.specs.Contents.{VersionRow, version_cells, version_cmp, version_form, Contents, AreReadable, HoldsIn}
 use Rattle.reg_tables.specs.Entries.{KeyedVersion, keyed, keyed_cells, id_versions, most, AreOfId, IsReadableKeyed}
@@ -77,10 +77,10 @@ by_its_id_test row id its is = rw (is, value_cmp-Int (pos its) (pos id), same_po
 by_entry_id : (id : ℕ) (row : Row) (e : KeyedVersion) → IsEntry version_form row e.0 e.1 → passes by_its_id (Int (pos id) ∷ []) row ≡ (e.1.id == id)
 by_entry_id id row e is = by_its_id_test row id e.1.id (let v = is.1 in cc)
 
-module _ (old new : State) (schema : Schema) (contents : Contents) (h : HoldsIn schema old.now contents) (is_layout : IsLayout schema) (found : List Row) where
+module _ (old new : State) (schema : Schema) (contents : Contents) (h : HoldsIn schema old.now contents) (first : HasTablesFirst schema) (found : List Row) where
   module _ (id : ℕ) (shown : Shown find_of_id.sql (Int (pos id) ∷ []) old new found) where
     its : IsQuery find_of_id old.now.schema
-    its = find_of_id_is old.now.schema (laid_out h is_layout)
+    its = find_of_id_is old.now.schema (laid_out h first)
 
     pub lines_of_id : (lines : List ListedVersion) → map (λ (row : Row). column row 0 ∷ column row 1 ∷ column row 2 ∷ column row 3 ∷ []) found ≡ map (λ (line : ListedVersion). keyed_cells (keyed line)) lines → map keyed lines ≡ id_versions id contents
     lines_of_id = keyed_lines (id_versions id contents) found (lists_versions find_of_id refl (Int (pos id) ∷ []) old new its found shown contents h.versions (λ e. e.1.id == id) (by_entry_id id) keyed_cells whole)
@@ -90,7 +90,7 @@ module _ (old new : State) (schema : Schema) (contents : Contents) (h : HoldsIn 
 
   module _ (shown : Shown list_versions.sql [] old new found) where
     it : IsQuery list_versions old.now.schema
-    it = list_versions_is old.now.schema (laid_out h is_layout)
+    it = list_versions_is old.now.schema (laid_out h first)
 
     pub all_lines : (lines : List ListedVersion) → map (λ (row : Row). column row 0 ∷ column row 1 ∷ column row 2 ∷ column row 3 ∷ []) found ≡ map (λ (line : ListedVersion). keyed_cells (keyed line)) lines → map keyed lines ≡ entries contents.versions
     all_lines = keyed_lines (entries contents.versions) found
@@ -102,9 +102,9 @@ module _ (old new : State) (schema : Schema) (contents : Contents) (h : HoldsIn 
 
 -- ---- one of the id
 
-module _ (old new : State) (schema : Schema) (contents : Contents) (h : HoldsIn schema old.now contents) (is_layout : IsLayout schema) (found : List Row) (id : ℕ) (shown : Shown find_one_of_id.sql (Int (pos id) ∷ []) old new found) where
+module _ (old new : State) (schema : Schema) (contents : Contents) (h : HoldsIn schema old.now contents) (first : HasTablesFirst schema) (found : List Row) (id : ℕ) (shown : Shown find_one_of_id.sql (Int (pos id) ∷ []) old new found) where
   answer : IsAnswer (body_of find_one_of_id) (overlay old.now.trees []) (Int (pos id) ∷ []) found
-  answer = answered find_one_of_id (Int (pos id) ∷ []) old new (find_one_of_id_is old.now.schema (laid_out h is_layout)) found shown
+  answer = answered find_one_of_id (Int (pos id) ∷ []) old new (find_one_of_id_is old.now.schema (laid_out h first)) found shown
 
   abbrev IsOf : Row → Type 0
   IsOf row = (e : KeyedVersion) × (get contents.versions e.0 ≡ Some e.1) × (e.1.id ≡ id) × (row ≡ keyed_cells e)
@@ -146,9 +146,9 @@ module _ (old new : State) (schema : Schema) (contents : Contents) (h : HoldsIn 
 
 -- ---- some of the id, and all where they are few
 
-module _ (old new : State) (schema : Schema) (contents : Contents) (h : HoldsIn schema old.now contents) (is_layout : IsLayout schema) (found : List Row) (id : ℕ) (shown : Shown find_some_of_id.sql (Int (pos id) ∷ []) old new found) where
+module _ (old new : State) (schema : Schema) (contents : Contents) (h : HoldsIn schema old.now contents) (first : HasTablesFirst schema) (found : List Row) (id : ℕ) (shown : Shown find_some_of_id.sql (Int (pos id) ∷ []) old new found) where
   some_answer : IsAnswer (body_of find_some_of_id) (overlay old.now.trees []) (Int (pos id) ∷ []) found
-  some_answer = answered find_some_of_id (Int (pos id) ∷ []) old new (find_some_of_id_is old.now.schema (laid_out h is_layout)) found shown
+  some_answer = answered find_some_of_id (Int (pos id) ∷ []) old new (find_some_of_id_is old.now.schema (laid_out h first)) found shown
 
   abbrev all_shown : List Row
   all_shown = map (λ (o : Output). o.1) some_answer.ordered

@@ -39,7 +39,7 @@ use Rattle.reg_tables.specs.Rooms.{HasRoom}
 use Rattle.reg_tables.proofs.Rooms.{room_after}
 use Rattle.reg_tables.proofs.ListMembers.{has_mapped, maps_had}
 use Rattle.reg_tables.specs.Contents.{version_cmp, number_cells, version_key_cells, flag_cell, text_cmp, text_cells}
-use Rattle.reg_tables.specs.Inside.KeyedLaws.{IsIdle, TurnsTable, IsKeyOrder}
+use Rattle.reg_tables.specs.Inside.KeyedLaws.{IsIdle, IsSteady, TurnsTable, IsKeyOrder}
 use Rattle.reg_tables.specs.Inside.Statements.{plain_query, IsCommand, TableQuery, body_of, program_of, IsQuery, by_key, by_id, by_version}
 use Rattle.reg_tables.proofs.Queries.{passes, passing, one_passing, found_count, answer_has, has_answer}
 use Rattle.reg_tables.proofs.MapLemmas.{same_key, tied_key}
@@ -256,15 +256,15 @@ module _ (schema : Schema) {K V : Type 0} (form : Form K V) (R : K → K → Ord
       }
 
   -- the query of the UPDATE tests the key, and shows the rowid and then the new row
-  pub alters : IsIdle schema table.tree → (tests shown : List Term) (change : V → V) → IsCommand schema sql (Update at (record { lets = []; body = plain_query table.tree tests (col 1 0 ∷ shown) }))
+  pub alters : IsSteady schema table → (tests shown : List Term) (change : V → V) → IsCommand schema sql (Update at (record { lets = []; body = plain_query table.tree tests (col 1 0 ∷ shown) }))
       → ((row : Row) (q : K) → form.key_of row ≡ form.key_cells q → passes tests params row ≡ is_eq (R q k))
       → ((row : Row) (v : V) → IsEntry form row k v → IsEntry form (cast_row table (eval_all shown (params ∷ row ∷ []))) k (change v)) → Executes sql params old new (Ok count)
       → TurnsTable schema form table.tree old.now new.now (get (altered m k change))
-  alters idle tests shown change it test turns h =
+  alters steady tests shown change it test turns h =
       let db = old.now.trees in
       let q : Program = record { lets = []; body = plain_query table.tree tests (col 1 0 ∷ shown) } in
       let w = runs_as sql params old new schema declared (Update at q) it.is it.plain count h in
-      let put = updated schema at table there old new declared (statement_of sql (understood schema sql)) params count idle q w in
+      let put = updated schema at table there old new declared (statement_of sql (understood schema sql)) params count steady q w in
       let found = put.0 in
       let answer : IsAnswer q.body (overlay db []) params found = put.1.answer Null in
       let step = put.2 in

@@ -1,9 +1,7 @@
 -- What a put and a drop make of a table that has one row for each key, and why they fail.
-use Rattle.std.proofs.Common.{◌||◌, ◌==◌, not, bytes_eq, subst, subst₂, ◌≡◌, ◌⊎◌, inl, inr, ◌+◌, ℕ, true, List, [], ◌∷◌, Ok, Err, refl, ap, ◌∙◌}
+use Rattle.std.proofs.Common.{subst, sym, ◌≡◌, ◌⊎◌, inl, inr, ◌+◌, ℕ, true, List, [], ◌∷◌, Ok, Err, refl, ap, ◌∙◌}
 use Rattle.std.specs.Prelude.{IsTrue}
 use Rattle.std.specs.FinMap.{get, insert, remove}
-use Rattle.std.proofs.lemmas.Bool.{and_parts, eqb-true}
-use Rattle.std.proofs.lemmas.Slice.Eq.{bytes_eq-Decides}
 use Rattle.sqlite.specs.Order.{Row}
 use Rattle.sqlite.specs.Schema.{Schema}
 use Rattle.sqlite.specs.Edit.{next_rowid}
@@ -15,14 +13,15 @@ use Rattle.sqlite_rules.specs.Lists.{Has}
 use Rattle.sqlite_schema.specs.declared.schema.Index.{Index}
 use Rattle.sqlite_rules.specs.Edit.{IsOversized}
 use Rattle.sqlite_rules.specs.Calls.{ids_of}
-use Rattle.sqlite_rules.proofs.ListLemmas.{all_from, test_has}
-use Rattle.sqlite_rules.proofs.TableLemmas.{put_all_has, without_all_has}
+use Rattle.sqlite_rules.proofs.ListLemmas.{all_from}
+use Rattle.sqlite_rules.proofs.TableLemmas.{put_all_has, put_all_keeps, without_all_has}
 use Rattle.reg_tables.specs.FailedCalls.{IsFault, IsInsertFault}
 use Rattle.reg_tables.specs.Rooms.{HasRoom}
 use Rattle.reg_tables.specs.Inside.Keyed.{Keyed, cells_of, with_entry, without_entry, IsFreeKey}
-use Rattle.reg_tables.specs.Inside.KeyedLaws.{TurnsTable, is_on, IsKeyed, PutsRow, DropsRow, new_row}
+use Rattle.reg_tables.specs.Inside.KeyedLaws.{TurnsTable, IsKeyed, PutsRow, DropsRow, new_row}
 use Rattle.reg_tables.proofs.KeyedTables.{inserts, inserts_room, removes}
 use Rattle.reg_tables.proofs.TableFaults.{IsFree, IsRowTrouble, new_key, delete_fails, insert_fails, as_insert_fault, fault_alone}
+use Rattle.reg_tables.proofs.UniqueLemmas.{on_columns}
 use Rattle.reg_tables.proofs.MapLemmas.{get-remove-same, insert-remove}
 
 the_one : (rows : List Row) (r row : Row) → rows ≡ row ∷ [] → Has rows r → r ≡ row
@@ -42,11 +41,7 @@ module _ {C K V : Type 0} (schema : Schema) (Holds : Database → C → Type 0) 
   -- rows that agree where an index guards the table have one key
   same_entry : (i : Index) → Has schema.indexes i → guards i t.table ≡ true → (a b : Row) (q k : K) → t.form.key_of a ≡ t.form.key_cells q → t.form.key_of b ≡ t.form.key_cells k → agree i.order i.columns a i.columns b ≡ true → q ≡ k
   same_entry i known on a b q k of_a of_b same =
-      let is : (not (guards i t.table) || is_on t.table.primary i) ≡ true = test_has (λ i. not (guards i t.table) || is_on t.table.primary i) schema.indexes i its.guarded known in
-      let parts = and_parts (i.order.digits == 0) (bytes_eq i.columns t.table.primary) (rw on at is) in
-      let digits : i.order.digits ≡ 0 = eqb-true i.order.digits 0 parts.0 in
-      let order : i.order ≡ record { digits = 0 } = λ j. record { digits = digits j } in
-      its.agrees a b q k of_a of_b (subst₂ (λ o c. agree o c a c b ≡ true) order ((bytes_eq-Decides i.columns t.table.primary).0 parts.1) same)
+      its.agrees a b q k of_a of_b (on_columns schema.indexes t.table t.table.primary its.guarded i known on a b same)
 
   module _ (old new : State) (contents : C) (h : Holds old.now contents) (key : K) where
     module _ (sql : List ℕ) (p : PutsRow schema t sql) where
@@ -82,7 +77,8 @@ module _ {C K V : Type 0} (schema : Schema) (Holds : Database → C → Type 0) 
               free = all_from (IsFree t.table rows row) schema.indexes (λ i known on. new_key t.form t.cmp (t.map_of contents) rows (its.shows old.now contents h) key free (λ r. agree i.order i.columns r i.columns row ≡ true)
                   (λ r q of_r same. same_entry i known on r row q key of_r (p.entry (next_rowid rows) key value).0 same));
             }) (λ next applies. its.put_refers old.now contents h key value refers row (p.entry (next_rowid rows) key value) next applies.tables (λ r there.
-            elim (put_all_has _ rows r (subst (λ l. Has l r) applies.rows there)) [ inl fresh ↦ inl (the_one _ r row (p.row old.now.trees key value) fresh) | inr was ↦ inr was ])) e ran
+            elim (put_all_has _ rows r (subst (λ l. Has l r) applies.rows there)) [ inl fresh ↦ inl (the_one _ r row (p.row old.now.trees key value) fresh) | inr was ↦ inr was ])
+            (λ r was. subst (λ l. Has l r) (sym applies.rows) (put_all_keeps _ rows r applies.fresh was))) e ran
 
         pub put_fails : (value : V) → IsFreeKey t key contents → IsTrue (t.refers contents key value) → ExecutesInside 0 sql (cells_of t key value) old new (Err e) → IsInsertFault old new e
         put_fails value free refers ran = as_insert_fault schema old new t.table (old.now.trees t.table.tree) (row_of value) e (put_stops value free refers ran)
@@ -103,4 +99,4 @@ module _ {C K V : Type 0} (schema : Schema) (Holds : Database → C → Type 0) 
       pub drop_fails : (e : Error) → ExecutesInside 0 sql (t.form.key_cells key) old new (Err e) → IsFault old new e
       drop_fails e =
           delete_fails schema its.apart t.at t.table its.is_at old new (its.declared old.now contents h) (its.sound old.now contents h) sql (t.form.key_cells key) t.tests d.idle d.is (d.whole key) (d.typed key)
-          (λ found next applies. its.drop_refers old.now.trees next applies.tables (λ r there. without_all_has (ids_of found) (old.now.trees t.table.tree) r (subst (λ l. Has l r) applies.rows there))) e
+          (λ found next applies. d.refers old.now.trees next applies.tables (λ r there. without_all_has (ids_of found) (old.now.trees t.table.tree) r (subst (λ l. Has l r) applies.rows there))) e

@@ -17,7 +17,7 @@ use Rattle.sqlite_rules.specs.Lists.{Has}
 use Rattle.sqlite_rules.proofs.ListLemmas.{all_has}
 use Rattle.sqlite_value.specs.declared.keys.Key.{Key}
 use Rattle.sqlite_value.proofs.OrderLemmas.{value_cmp-Int}
-use Rattle.reg_tables.specs.Layout.{IsLayout}
+use Rattle.reg_tables.specs.Layout.{HasTablesFirst}
 use Rattle.reg_tables.specs.Contents.{number_cells, Contents, HoldsIn}
 use Rattle.reg_tables.specs.Inside.Statements.{body_of}
 use Rattle.reg_tables.proofs.FailedVersions.{value_of}
@@ -26,12 +26,12 @@ use Rattle.reg_tables.proofs.OrderedQueries.{at_most, key_cmp_total}
 use Rattle.reg_tables.proofs.Queries.{ordered_has, has_ordered}
 use Rattle.reg_tables.proofs.Statements.{laid_out, find_last, find_last_is}
 
-module _ (old new : State) (schema : Schema) (contents : Contents) (h : HoldsIn schema old.now contents) (is_layout : IsLayout schema) (found : List Row) (shown : Shown find_last.sql [] old new found) where
+module _ (old new : State) (schema : Schema) (contents : Contents) (h : HoldsIn schema old.now contents) (first : HasTablesFirst schema) (found : List Row) (shown : Shown find_last.sql [] old new found) where
   abbrev cmp : Output → Output → Ordering
   cmp = output_cmp (body_of find_last)
 
   answer : IsAnswer (body_of find_last) (overlay old.now.trees []) [] found
-  answer = answered find_last [] old new (find_last_is old.now.schema (laid_out h is_layout)) found shown
+  answer = answered find_last [] old new (find_last_is old.now.schema (laid_out h first)) found shown
 
   abbrev out : ℕ → Output
   out id = (number_cells id, number_cells id)

@@ -21,7 +21,7 @@ use Rattle.sqlite_sql.specs.Ops.{binary, is_true, from_truth}
 use Rattle.sqlite_trees.proofs.ListLemmas.{all_of, all_both, ascending-filter, ascending_weaker, filter-map}
 use Rattle.sqlite_value.specs.declared.keys.Key.{Key}
 use Rattle.sqlite_value.proofs.OrderLemmas.{value_cmp-Int, value_cmp-Text}
-use Rattle.reg_tables.specs.Layout.{IsLayout}
+use Rattle.reg_tables.specs.Layout.{HasTablesFirst}
 use Rattle.reg_tables.specs.TableMaps.{IsEntry, ShowsMap}
 use Rattle.reg_tables.specs.Contents.{text_cmp, version_cmp, version_key_cells, version_form, flag_cell, Contents, AreReadable, HoldsIn}
 use Rattle.reg_tables.specs.Entries.{NumberedVersion, numbered, numbered_cells, subject_versions, IsReadableNumbered}
@@ -171,13 +171,13 @@ by_shown_subject subject id deleted row e is =
     truth true true false true = refl
     truth true true false false = refl
 
-module _ (old new : State) (schema : Schema) (contents : Contents) (h : HoldsIn schema old.now contents) (is_layout : IsLayout schema) (subject : List ℕ) (found : List Row) where
+module _ (old new : State) (schema : Schema) (contents : Contents) (h : HoldsIn schema old.now contents) (first : HasTablesFirst schema) (subject : List ℕ) (found : List Row) where
   abbrev of_subject : Entry → Bool
   of_subject e = bytes_eq e.0.0 subject
 
   module _ (shown : Shown find_last_version.sql (Text subject ∷ []) old new found) where
     its : IsQuery find_last_version old.now.schema
-    its = find_last_version_is old.now.schema (laid_out h is_layout)
+    its = find_last_version_is old.now.schema (laid_out h first)
 
     pub last_line : (line : Option SubjectVersion) → option_map line_columns (slice_get found 0) ≡ option_map (λ (line : SubjectVersion). numbered_cells (numbered line)) line
         → option_map numbered line ≡ last_or None (subject_versions subject contents)
@@ -191,7 +191,7 @@ module _ (old new : State) (schema : Schema) (contents : Contents) (h : HoldsIn 
     of_live e = of_subject e && not e.1.deleted
 
     it : IsQuery find_last_live old.now.schema
-    it = find_last_live_is old.now.schema (laid_out h is_layout)
+    it = find_last_live_is old.now.schema (laid_out h first)
 
     live_entries : filter (λ (version : NumberedVersion). not version.1.deleted) (subject_versions subject contents) ≡ map entry_version (filter of_live (entries contents.versions))
     live_entries =
@@ -215,7 +215,7 @@ module _ (old new : State) (schema : Schema) (contents : Contents) (h : HoldsIn 
     of_it e = of_subject e && has_it (entry_version e)
 
     that : IsQuery find_last_with_id old.now.schema
-    that = find_last_with_id_is old.now.schema (laid_out h is_layout)
+    that = find_last_with_id_is old.now.schema (laid_out h first)
 
     its_entries : filter has_it (subject_versions subject contents) ≡ map entry_version (filter of_it (entries contents.versions))
     its_entries = filter-map has_it entry_version (filter of_subject (entries contents.versions)) ∙ ap (map entry_version) (filter_both (λ (e : Entry). has_it (entry_version e)) of_subject (entries contents.versions))

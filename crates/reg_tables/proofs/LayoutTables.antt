@@ -1,4 +1,4 @@
--- The tables of layout 1 that have one row for each key.
+-- The five tables that come first, each of which has one row for each key.
 use Rattle.std.proofs.Common.{◌≡◌, inl, inr, ℕ, pos, List, [], ◌∷◌, refl, sym, ap, subst, arith, true, lit≤, ◌∙◌}
 use Rattle.std.specs.Prelude.{String, string_bytes}
 use Rattle.std.specs.declared.alloc.Global.{Global}
@@ -6,35 +6,27 @@ use Rattle.std.specs.FinMap.{get}
 use Rattle.sqlite.specs.declared.types.Value.TheVariants.{Text, Int}
 use Rattle.sqlite.specs.Order.{Row, column}
 use Rattle.sqlite.specs.Schema.{Schema}
-use Rattle.sqlite.specs.Listing.{understood}
-use Rattle.sqlite_tied.specs.Compute.{everything}
-use Rattle.sqlite.specs.Effect.{Database}
+use Rattle.sqlite.specs.Table.{Table}
+use Rattle.sqlite_schema.specs.declared.schema.Index.{Index}
 use Rattle.sqlite_schema.specs.Rules.{agree}
 use Rattle.sqlite_value.specs.Keys.{first_key}
 use Rattle.reg_tables.specs.declared.kept.KeptReply.{KeptReply}
 use Rattle.reg_tables.specs.declared.versions.VersionEntry.{VersionEntry}
-use Rattle.reg_tables.specs.Layout.{layout, IsLayout, versions, levels, kept, meta}
-use Rattle.reg_tables.specs.Contents.{text_cmp, version_cmp, text_cells, VersionRow, version_key_cells, version_cells, KeptRow, kept_cells, HoldsIn, AreReadable}
+use Rattle.reg_tables.specs.Layout.{begins, versions, levels, kept, meta}
+use Rattle.reg_tables.specs.SecondContents.{SecondContents}
+use Rattle.reg_tables.specs.Writing.{HoldsBeside}
+use Rattle.reg_tables.specs.Contents.{text_cmp, version_cmp, text_cells, VersionRow, version_key_cells, version_cells, KeptRow, kept_cells}
 use Rattle.reg_tables.specs.KeptRows.{kept_row}
 use Rattle.reg_tables.specs.Entries.{version_row}
 use Rattle.reg_tables.specs.Inside.Keyed.{texts_table, versions_table, levels_table, kept_table, meta_table}
-use Rattle.reg_tables.specs.Inside.KeyedLaws.{HasKey, IsKeyed, DropsRow}
-use Rattle.reg_tables.specs.Reads.{HoldsReadable, HoldsSome}
+use Rattle.reg_tables.specs.Inside.KeyedLaws.{HasKey, IsKeyed}
 use Rattle.reg_tables.proofs.Opening.{distinct_version_rows, distinct_kept_rows}
-use Rattle.reg_tables.proofs.Settled.{layout_apart, layout_idle}
-use Rattle.reg_tables.proofs.Statements.{drop_version}
+use Rattle.reg_tables.proofs.SecondReferences.{has_text_at, more_versions}
+use Rattle.reg_tables.proofs.Settled.{IsSettled, beside_both}
 use Rattle.reg_tables.proofs.MapLemmas.{same_key}
 use Rattle.reg_tables.proofs.KeyedTables.{text_order, distinct_texts, by_key_test, number_order, distinct_numbers, by_id_test, version_order, distinct_versions, by_version_test}
-use Rattle.reg_tables.proofs.TableFaults.{versions_at, levels_at, kept_at, meta_at, has_text, refers_if, beside_refers}
 use Rattle.reg_tables.proofs.TableWrites.{all_turned}
 use Rattle.reg_tables.proofs.FailedVersions.{text_of_version, value_of}
-
--- what is so of layout 1
-pub at_layout : (P : Schema → Type 0) → P layout → (schema : Schema) → schema ≡ layout → P schema
-at_layout P here schema is = subst P (sym is) here
-
-pub holds_some : {db : Database} → HoldsReadable db → HoldsSome IsLayout HoldsIn AreReadable db
-holds_some h = record { schema = h.schema; known = h.is_layout; contents = h.contents; holds = h.holds; readable = h.readable }
 
 -- ---- keys
 
@@ -68,90 +60,92 @@ versions_agree a b q k of_a of_b same =
 
 -- ---- where the contents are
 
--- a version refers to its text
-pub versions_keyed : IsKeyed layout (HoldsIn layout) versions_table
-versions_keyed = record {
-  apart = layout_apart;
-  is_at = versions_at;
-  uncounted = refl;
-  key = versions_key;
-  guarded = refl;
-  agrees = λ a b q k of_a of_b same. versions_agree a b q k of_a of_b same;
-  declared = λ db contents h. h.declared;
-  sound = λ db contents h. h.sound;
-  shows = λ db contents h. h.versions;
-  turned = λ old new contents h later t. all_turned [] layout.indexes versions.tree old new t.others contents (record contents { versions = later }) h t.declared t.sound (inr (λ e. omega (arith, e), refl)) (inl t.rows) (inr (λ e. omega (arith, e), refl)) (inr (λ e. omega (arith, e), refl)) (inr (λ e. omega (arith, e), refl));
-  put_refers = λ db contents h key version refers row is next others came.
-      (let known = value_of (get contents.texts version.id) refers in
-      let its = h.texts.complete version.id known.0 known.1 in
-      let id : column row 3 ≡ Int (pos version.id) = (let cells = is.1 in cc) in
-      refers_if db.trees next (λ had r there.
-      subst (λ l. has_text l r ≡ true) (sym (others.0 (λ e. omega (arith, e)))) (elim (came r there) [
-        | inl same ↦ text_of_version (db.trees 0) its.0 r version.id its.1 its.2.0 (ap (λ (x : Row). column x 3) same ∙ id)
-        | inr was ↦ had r was
-      ])));
-  drop_refers = λ old new others left. refers_if old new (λ had r there. subst (λ l. has_text l r ≡ true) (sym (others.0 (λ e. omega (arith, e)))) (had r (left r there)));
-  map_is = λ contents map. refl;
-  last_map = λ contents first last. refl;
-}
+module _ (tables : List Table) (indexes : List Index) (s : IsSettled tables indexes) (rest : SecondContents) where
+  abbrev here : Schema
+  here = begins tables indexes
 
-pub drops_version_row : DropsRow layout versions_table drop_version
-unfolding understood everything
-drops_version_row = record { idle = layout_idle versions.tree; is = record { is = refl; plain = (refl, refl) }; whole = λ key. (lit≤ tt, refl); typed = λ key. refl }
+  -- a version refers to its text
+  pub versions_keyed_in : IsKeyed here (HoldsBeside here rest) versions_table
+  versions_keyed_in = record {
+    apart = s.apart;
+    is_at = s.versions_at;
+    uncounted = refl;
+    key = versions_key;
+    guarded = s.versions_on;
+    agrees = λ a b q k of_a of_b same. versions_agree a b q k of_a of_b same;
+    declared = λ db contents h. h.base.declared;
+    sound = λ db contents h. h.base.sound;
+    shows = λ db contents h. h.base.versions;
+    turned = λ old new contents h later t. s.beside versions.tree (lit≤ tt) old new t.others (record rest { base = contents }) h (record contents { versions = later })
+        (all_turned tables indexes versions.tree old new t.others contents (record contents { versions = later }) h.base t.declared t.sound (inr (λ e. omega (arith, e), refl)) (inl t.rows) (inr (λ e. omega (arith, e), refl)) (inr (λ e. omega (arith, e), refl)) (inr (λ e. omega (arith, e), refl)));
+    put_refers = λ db contents h key version refers row is next others came stays.
+        (let known = value_of (get contents.texts version.id) refers in
+        let its = h.base.texts.complete version.id known.0 known.1 in
+        let id : column row 3 ≡ Int (pos version.id) = (let cells = is.1 in cc) in
+        let same : next 0 ≡ db.trees 0 = others.0 (λ e. omega (arith, e)) in
+        s.refers versions.tree (lit≤ tt) db.trees next others (λ place r had. subst (λ l. has_text_at place l r ≡ true) (sym same) had)
+        (λ r had. more_versions (db.trees 2) (next 2) r (λ parent was agrees. (parent, stays parent was, agrees)) had)
+        (λ had r there. subst (λ l. has_text_at 3 l r ≡ true) (sym same) (elim (came r there) [
+          | inl same ↦ text_of_version (db.trees 0) its.0 r version.id its.1 its.2.0 (ap (λ (x : Row). column x 3) same ∙ id)
+          | inr was ↦ had r was
+        ])));
+    map_is = λ contents map. refl;
+    last_map = λ contents first last. refl;
+  }
 
-pub levels_keyed : IsKeyed layout (HoldsIn layout) levels_table
-levels_keyed = record {
-  apart = layout_apart;
-  is_at = levels_at;
-  uncounted = refl;
-  key = levels_key;
-  guarded = refl;
-  agrees = λ a b q k of_a of_b same. texts_agree a b q k of_a of_b same;
-  declared = λ db contents h. h.declared;
-  sound = λ db contents h. h.sound;
-  shows = λ db contents h. h.levels;
-  turned = λ old new contents h later t. all_turned [] layout.indexes levels.tree old new t.others contents (record contents { levels = later }) h t.declared t.sound (inr (λ e. omega (arith, e), refl)) (inr (λ e. omega (arith, e), refl)) (inl t.rows) (inr (λ e. omega (arith, e), refl)) (inr (λ e. omega (arith, e), refl));
-  put_refers = λ db contents h key value refers row is next others came. beside_refers levels (λ e. omega (arith, e)) (λ e. omega (arith, e)) db.trees next others;
-  drop_refers = λ old new others left. beside_refers levels (λ e. omega (arith, e)) (λ e. omega (arith, e)) old new others;
-  map_is = λ contents map. refl;
-  last_map = λ contents first last. refl;
-}
+  pub levels_keyed_in : IsKeyed here (HoldsBeside here rest) levels_table
+  levels_keyed_in = record {
+    apart = s.apart;
+    is_at = s.levels_at;
+    uncounted = refl;
+    key = levels_key;
+    guarded = s.levels_on;
+    agrees = λ a b q k of_a of_b same. texts_agree a b q k of_a of_b same;
+    declared = λ db contents h. h.base.declared;
+    sound = λ db contents h. h.base.sound;
+    shows = λ db contents h. h.base.levels;
+    turned = λ old new contents h later t. s.beside levels.tree (lit≤ tt) old new t.others (record rest { base = contents }) h (record contents { levels = later })
+        (all_turned tables indexes levels.tree old new t.others contents (record contents { levels = later }) h.base t.declared t.sound (inr (λ e. omega (arith, e), refl)) (inr (λ e. omega (arith, e), refl)) (inl t.rows) (inr (λ e. omega (arith, e), refl)) (inr (λ e. omega (arith, e), refl)));
+    put_refers = λ db contents h key value refers row is next others came stays. beside_both tables indexes s levels.tree (lit≤ tt) (λ e. omega (arith, e)) (λ e. omega (arith, e)) db.trees next others;
+    map_is = λ contents map. refl;
+    last_map = λ contents first last. refl;
+  }
 
-pub kept_keyed : IsKeyed layout (HoldsIn layout) kept_table
-kept_keyed = record {
-  apart = layout_apart;
-  is_at = kept_at;
-  uncounted = refl;
-  key = kept_key;
-  guarded = refl;
-  agrees = λ a b q k of_a of_b same. texts_agree a b q k of_a of_b same;
-  declared = λ db contents h. h.declared;
-  sound = λ db contents h. h.sound;
-  shows = λ db contents h. h.kept;
-  turned = λ old new contents h later t. all_turned [] layout.indexes kept.tree old new t.others contents (record contents { kept = later }) h t.declared t.sound (inr (λ e. omega (arith, e), refl)) (inr (λ e. omega (arith, e), refl)) (inr (λ e. omega (arith, e), refl)) (inl t.rows) (inr (λ e. omega (arith, e), refl));
-  put_refers = λ db contents h key value refers row is next others came. beside_refers kept (λ e. omega (arith, e)) (λ e. omega (arith, e)) db.trees next others;
-  drop_refers = λ old new others left. beside_refers kept (λ e. omega (arith, e)) (λ e. omega (arith, e)) old new others;
-  map_is = λ contents map. refl;
-  last_map = λ contents first last. refl;
-}
+  pub kept_keyed_in : IsKeyed here (HoldsBeside here rest) kept_table
+  kept_keyed_in = record {
+    apart = s.apart;
+    is_at = s.kept_at;
+    uncounted = refl;
+    key = kept_key;
+    guarded = s.kept_on;
+    agrees = λ a b q k of_a of_b same. texts_agree a b q k of_a of_b same;
+    declared = λ db contents h. h.base.declared;
+    sound = λ db contents h. h.base.sound;
+    shows = λ db contents h. h.base.kept;
+    turned = λ old new contents h later t. s.beside kept.tree (lit≤ tt) old new t.others (record rest { base = contents }) h (record contents { kept = later })
+        (all_turned tables indexes kept.tree old new t.others contents (record contents { kept = later }) h.base t.declared t.sound (inr (λ e. omega (arith, e), refl)) (inr (λ e. omega (arith, e), refl)) (inr (λ e. omega (arith, e), refl)) (inl t.rows) (inr (λ e. omega (arith, e), refl)));
+    put_refers = λ db contents h key value refers row is next others came stays. beside_both tables indexes s kept.tree (lit≤ tt) (λ e. omega (arith, e)) (λ e. omega (arith, e)) db.trees next others;
+    map_is = λ contents map. refl;
+    last_map = λ contents first last. refl;
+  }
 
-pub meta_keyed : IsKeyed layout (HoldsIn layout) meta_table
-meta_keyed = record {
-  apart = layout_apart;
-  is_at = meta_at;
-  uncounted = refl;
-  key = meta_key;
-  guarded = refl;
-  agrees = λ a b q k of_a of_b same. texts_agree a b q k of_a of_b same;
-  declared = λ db contents h. h.declared;
-  sound = λ db contents h. h.sound;
-  shows = λ db contents h. h.meta;
-  turned = λ old new contents h later t. all_turned [] layout.indexes meta.tree old new t.others contents (record contents { meta = later }) h t.declared t.sound (inr (λ e. omega (arith, e), refl)) (inr (λ e. omega (arith, e), refl)) (inr (λ e. omega (arith, e), refl)) (inr (λ e. omega (arith, e), refl)) (inl t.rows);
-  put_refers = λ db contents h key value refers row is next others came. beside_refers meta (λ e. omega (arith, e)) (λ e. omega (arith, e)) db.trees next others;
-  drop_refers = λ old new others left. beside_refers meta (λ e. omega (arith, e)) (λ e. omega (arith, e)) old new others;
-  map_is = λ contents map. refl;
-  last_map = λ contents first last. refl;
-}
+  pub meta_keyed_in : IsKeyed here (HoldsBeside here rest) meta_table
+  meta_keyed_in = record {
+    apart = s.apart;
+    is_at = s.meta_at;
+    uncounted = refl;
+    key = meta_key;
+    guarded = s.meta_on;
+    agrees = λ a b q k of_a of_b same. texts_agree a b q k of_a of_b same;
+    declared = λ db contents h. h.base.declared;
+    sound = λ db contents h. h.base.sound;
+    shows = λ db contents h. h.base.meta;
+    turned = λ old new contents h later t. s.beside meta.tree (lit≤ tt) old new t.others (record rest { base = contents }) h (record contents { meta = later })
+        (all_turned tables indexes meta.tree old new t.others contents (record contents { meta = later }) h.base t.declared t.sound (inr (λ e. omega (arith, e), refl)) (inr (λ e. omega (arith, e), refl)) (inr (λ e. omega (arith, e), refl)) (inr (λ e. omega (arith, e), refl)) (inl t.rows));
+    put_refers = λ db contents h key value refers row is next others came stays. beside_both tables indexes s meta.tree (lit≤ tt) (λ e. omega (arith, e)) (λ e. omega (arith, e)) db.trees next others;
+    map_is = λ contents map. refl;
+    last_map = λ contents first last. refl;
+  }
 
 -- ---- the lines that hold a value's columns
 

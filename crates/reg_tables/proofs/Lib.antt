@@ -38,10 +38,15 @@ pub mod TableFaults
 pub mod FailedVersions
 pub mod FailedMarks
 pub mod CreationFaults
+pub mod Indexing
 pub mod SecondReferences
 pub mod SecondTables
+pub mod Written
 pub mod SecondLines
 pub mod SecondCreation
 pub mod Drops
 pub mod SecondDrops
 pub mod SecondEvidence
+pub mod SecondKeys
+pub mod SecondOpening
+pub mod EvidenceParents

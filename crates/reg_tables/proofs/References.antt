@@ -1,5 +1,5 @@
 -- What the UNIQUE and the foreign key of the layouts say of the contents: a text has one id, and the id of each version a text.
-use Rattle.std.proofs.Common.{◌≡◌, ℕ, pos, List, [], ◌∷◌, inl, inr, Some, true, codes, refl, sym, ap, subst, ◌∙◌}
+use Rattle.std.proofs.Common.{◌≡◌, ℕ, pos, List, [], ◌∷◌, ◌++◌, inl, inr, Some, true, codes, refl, sym, ap, subst, ◌∙◌}
 use Rattle.std.specs.FinMap.{get}
 use Rattle.std.specs.List.{list_any}
 use Rattle.std.specs.Ordering.{nat_cmp}
@@ -18,14 +18,13 @@ use Rattle.sqlite_value.proofs.OrderLemmas.{value_cmp-Text}
 use Rattle.sqlite_rules.specs.Lists.{Has}
 use Rattle.sqlite_rules.proofs.ListLemmas.{test_has, some_has}
 use Rattle.sqlite_rules.proofs.RuleLemmas.{keeps_at}
-use Rattle.reg_tables.specs.Layout.{automatic_index, layout, IsLayout, texts, versions, to_texts}
+use Rattle.reg_tables.specs.Layout.{automatic_index, unindexed, begins, texts, versions, to_texts}
 use Rattle.reg_tables.specs.Contents.{text_cmp, text_cells, number_cells, VersionRow, Contents, HoldsIn}
 use Rattle.reg_tables.specs.Inside.Statements.{by_id}
 use Rattle.reg_tables.proofs.MapLemmas.{same_key, tied_key}
 use Rattle.reg_tables.proofs.KeyedTables.{text_order, number_order, by_id_test}
 use Rattle.reg_tables.proofs.Queries.{passes}
-use Rattle.reg_tables.proofs.Statements.{laid_out}
-use Rattle.reg_tables.proofs.UniqueKeys.{same_number, one_rowid, has_table, has_index}
+use Rattle.reg_tables.proofs.UniqueKeys.{same_number, one_rowid, HasKeysFirst, has_table, has_index}
 
 -- rows of one text agree on it
 texts_agree : (a b : Row) (text : List ℕ) → column a 2 ∷ [] ≡ text_cells text → column b 2 ∷ [] ≡ text_cells text → agree (record { digits = 0 }) (2 ∷ []) a (2 ∷ []) b ≡ true
@@ -36,23 +35,23 @@ texts_agree a b text here there =
     rw (of_a, of_b, value_cmp-Text text text, tied_key text_cmp text_order text text refl) refl
 
 -- the reference of a version is to the rowid of `texts`
-parent_is : (db : Trees) (schema : Schema) → IsLayout schema → (row : Row) (id : ℕ) → column row 3 ≡ Int (pos id) → has_parent schema.tables db row to_texts ≡ true
+parent_is : (db : Trees) (schema : Schema) → HasKeysFirst schema → (row : Row) (id : ℕ) → column row 3 ≡ Int (pos id) → has_parent schema.tables db row to_texts ≡ true
     → (parent : Row) × Has (db texts.tree) parent × (agree plain (0 ∷ []) parent (3 ∷ []) row ≡ true)
 unfolding same_name joined
 parent_is db schema known row id its held =
-    let here : has_parent layout.tables db row to_texts ≡ true = elim known [ inl e ↦ subst (λ (s : Schema). has_parent s.tables db row to_texts ≡ true) e held | inr e ↦ subst (λ (s : Schema). has_parent s.tables db row to_texts ≡ true) e held ] in
+    let here : has_parent (begins known.tables (unindexed.indexes ++ known.indexes)).tables db row to_texts ≡ true = subst (λ (s : Schema). has_parent s.tables db row to_texts ≡ true) known.is held in
     elim (or_cases (has_null (3 ∷ []) row) (list_any (λ parent. agree plain (0 ∷ []) parent (3 ∷ []) row) (db texts.tree)) here) [ inl null ↦ absurd (let none = rw its at null in cc) | inr some ↦ some_has (λ parent. agree plain (0 ∷ []) parent (3 ∷ []) row) (db texts.tree) some ]
 
--- the parent has the id that the version names
-id_named : (parent row : Row) (id named : ℕ) → column parent 0 ∷ [] ≡ number_cells id → column row 3 ≡ Int (pos named) → agree plain (0 ∷ []) parent (3 ∷ []) row ≡ true → id ≡ named
+-- the parent has the id that the row names in this column
+pub id_named : (place : ℕ) (parent row : Row) (id named : ℕ) → column parent 0 ∷ [] ≡ number_cells id → column row place ≡ Int (pos named) → agree plain (0 ∷ []) parent (place ∷ []) row ≡ true → id ≡ named
 unfolding first_key
-id_named parent row id named is its same =
+id_named place parent row id named is its same =
     let tie : passes by_id (Int (pos named) ∷ []) parent ≡ true = rw its at same in
     same_key nat_cmp number_order id named (sym (by_id_test parent named id is) ∙ tie)
 
-module _ (schema : Schema) (db : Database) (contents : Contents) (known : IsLayout schema) (holds : HoldsIn schema db contents) where
-  laid : IsLayout db.schema
-  laid = laid_out holds known
+module _ (schema : Schema) (db : Database) (contents : Contents) (known : HasKeysFirst schema) (holds : HoldsIn schema db contents) where
+  laid : HasKeysFirst db.schema
+  laid = subst HasKeysFirst (sym holds.declared) known
 
   -- UNIQUE of texts.text
   pub one_id : (i j : ℕ) (text : List ℕ) → get contents.texts i ≡ Some text → get contents.texts j ≡ Some text → i ≡ j
@@ -62,7 +61,7 @@ module _ (schema : Schema) (db : Database) (contents : Contents) (known : IsLayo
       let b = holds.texts.complete j text there in
       let of_a : rowid a.0 ≡ Int (pos i) = (let e = a.2.0 in cc) in
       let of_b : rowid b.0 ≡ Int (pos j) = (let e = b.2.0 in cc) in
-      let one = one_rowid db.schema db.trees holds.sound.obeys texts index (has_table db laid holds.sound texts (inl refl)) (has_index db laid holds.sound index (inl refl) (inl refl)) refl a.0 b.0 a.1 b.1 (texts_agree a.0 b.0 text a.2.1 b.2.1) in
+      let one = one_rowid db.schema db.trees holds.sound.obeys texts index (has_table db laid holds.sound texts (inl refl)) (has_index db laid holds.sound index (inl refl)) refl a.0 b.0 a.1 b.1 (texts_agree a.0 b.0 text a.2.1 b.2.1) in
       let same = same_number (pos i) (pos j) (rw (of_a, of_b) at one) in
       cc
 
@@ -74,4 +73,4 @@ module _ (schema : Schema) (db : Database) (contents : Contents) (known : IsLayo
       let passed = keeps_at ForeignKey db.schema db.trees versions row.0 (holds.sound.obeys.rules ForeignKey) (has_table db laid holds.sound versions (inr (inl refl))) row.1 in
       let parent = parent_is db.trees db.schema laid row.0 version.id its (test_has (has_parent db.schema.tables db.trees row.0) versions.references to_texts passed (inl refl)) in
       let entry = holds.texts.sound parent.0 parent.1 in
-      (entry.1, ap (get contents.texts) (sym (id_named parent.0 row.0 entry.0 version.id entry.3.0 its parent.2)) ∙ entry.2)
+      (entry.1, ap (get contents.texts) (sym (id_named 3 parent.0 row.0 entry.0 version.id entry.3.0 its parent.2)) ∙ entry.2)

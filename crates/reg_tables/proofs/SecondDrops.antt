@@ -2,7 +2,7 @@
 use Rattle.std.proofs.Common.{◌≡◌, ◌≤◌, ◌+◌, inl, inr, arith, ℕ, pos, List, [], ◌∷◌, Bool, true, false, not, cond, Some, None, Ok, Err, lit≤, refl, sym, ap, subst, ◌∙◌, Ordering}
 use Rattle.std.specs.Ordering.{is_eq}
 use Rattle.std.specs.FinMap.{FinMap, get, remove, get-remove, get-retain_keys}
-use Rattle.std.proofs.lemmas.Bool.{both_ways, cases_Bool, or_cases, or_left, or_right}
+use Rattle.std.proofs.lemmas.Bool.{both_ways, cases_Bool}
 use Rattle.sqlite.specs.declared.types.Value.TheVariants.{Null, Int, Text}
 use Rattle.sqlite.specs.Order.{Row, column}
 use Rattle.sqlite.specs.Tree.{Trees}
@@ -22,14 +22,13 @@ use Rattle.sqlite_schema.specs.declared.schema.Among.TheVariants.{All}
 use Rattle.sqlite_schema.specs.declared.schema.Constraint.TheVariants.{Unique, ForeignKey}
 use Rattle.sqlite_schema.specs.declared.schema.Index.{Index}
 use Rattle.sqlite_schema.specs.declared.program.Program.{Program}
-use Rattle.sqlite_schema.specs.Rules.{agree, Obeys, Refers}
-use Rattle.sqlite_value.specs.Keys.{plain}
+use Rattle.sqlite_schema.specs.Rules.{Obeys, Refers}
 use Rattle.sqlite_rules.specs.declared.error.Refusal.{Refusal}
 use Rattle.sqlite_rules.specs.Action.{works}
 use Rattle.sqlite_rules.specs.Action as action
 use Rattle.sqlite_rules.specs.Calls.{ids_of}
 use Rattle.sqlite_rules.specs.Lists.{Has}
-use Rattle.sqlite_rules.proofs.ListLemmas.{has_got, some_has, some_from}
+use Rattle.sqlite_rules.proofs.ListLemmas.{has_got}
 use Rattle.sqlite_tied.specs.Compute.{everything}
 use Rattle.reg_tables.specs.Layout.{begins, texts, versions, levels, kept, meta}
 use Rattle.reg_tables.specs.SecondLayout.{modes, added}
@@ -48,7 +47,7 @@ use Rattle.reg_tables.proofs.Statements.{drop_version}
 use Rattle.reg_tables.proofs.WriteFaults.{NeverStops, refused_by, delete_fits, delete_refused}
 use Rattle.reg_tables.proofs.TableFaults.{obeys, plain_fits}
 use Rattle.reg_tables.proofs.SecondTables.{place_order}
-use Rattle.reg_tables.proofs.SecondReferences.{has_version, has_text_at, Refer, refer_if, refers_if}
+use Rattle.reg_tables.proofs.SecondReferences.{has_version, has_text_at, more_versions, Refer, refer_if, refers_if}
 use Rattle.reg_tables.proofs.Cascades.{Loses, never_stops, delete_allowed}
 use Rattle.reg_tables.proofs.Drops.{HasVersionKey, HasVersions, IsDropped, agree_by, drops, leaves}
 
@@ -92,17 +91,6 @@ place_key row key is =
     let subject : column row 1 ≡ Text key.0.0 = cc in
     let number : column row 2 ≡ Int (pos key.0.1) = cc in
     λ i. subject i ∷ number i ∷ []
-
--- more parents are enough for what fewer were
-more_versions : (old new : List Row) (row : Row) → ((s : Row) → Has old s → agree plain (1 ∷ 2 ∷ []) s (1 ∷ 2 ∷ []) row ≡ true → (t : Row) × Has new t × (agree plain (1 ∷ 2 ∷ []) t (1 ∷ 2 ∷ []) row ≡ true))
-    → has_version old row ≡ true → has_version new row ≡ true
-more_versions old new row kept had = elim (or_cases _ _ had) [
-  | inl null ↦ or_left _ _ null
-  | inr some ↦
-      let s = some_has (λ parent. agree plain (1 ∷ 2 ∷ []) parent (1 ∷ 2 ∷ []) row) old some in
-      let t = kept s.0 s.1 s.2 in
-      or_right _ _ (some_from (λ parent. agree plain (1 ∷ 2 ∷ []) parent (1 ∷ 2 ∷ []) row) new t.0 t.1 t.2)
-]
 
 abbrev dropping : Program
 dropping = record { lets = []; body = plain_query 2 by_version (col 1 0 ∷ []) }

@@ -70,7 +70,7 @@ evidence_keyed_in first indexes high apart at guarded = record {
     evidence = t.rows;
     against = same_rows {form = against_form} (t.others.1.1.1.1.1.1.1.0 (λ e. omega (arith, e))) h.against;
   };
-  put_refers = λ db contents h key level refers row is next others came held.
+  put_refers = λ db contents h key level refers row is next others came stays held.
       (let had = refer_if first indexes db.trees held in
       let texts : next 0 ≡ db.trees 0 = others.0 (λ e. omega (arith, e, high)) in
       let versions : next 2 ≡ db.trees 2 = others.1.0 (λ e. omega (arith, e, high)) in
@@ -86,24 +86,13 @@ evidence_keyed_in first indexes high apart at guarded = record {
         places = λ r there. subst (λ l. has_version l r ≡ true) (sym versions) (had.places r (subst (λ l. Has l r) against there));
         seen = λ r there. subst (λ l. has_text_at 4 l r ≡ true) (sym texts) (had.seen r (subst (λ l. Has l r) against there));
       }));
-  drop_refers = λ old new others left held.
-      (let had = refer_if first indexes old held in
-      let texts : new 0 ≡ old 0 = others.0 (λ e. omega (arith, e, high)) in
-      let versions : new 2 ≡ old 2 = others.1.0 (λ e. omega (arith, e, high)) in
-      let against : new (first + 4) ≡ old (first + 4) = others.1.1.1.1.1.1.1.0 (λ e. omega (arith, e)) in
-      refers_if first indexes new (record {
-        versions = λ r there. subst (λ l. has_text_at 3 l r ≡ true) (sym texts) (had.versions r (subst (λ l. Has l r) versions there));
-        evidence = λ r there. subst (λ l. has_version l r ≡ true) (sym versions) (had.evidence r (left r there));
-        places = λ r there. subst (λ l. has_version l r ≡ true) (sym versions) (had.places r (subst (λ l. Has l r) against there));
-        seen = λ r there. subst (λ l. has_text_at 4 l r ≡ true) (sym texts) (had.seen r (subst (λ l. Has l r) against there));
-      }));
   map_is = λ contents map. refl;
   last_map = λ contents first last. refl;
 }
 
 -- ---- against
 
-distinct_places : (a b : PlaceKey) → place_cells a ≡ place_cells b → a ≡ b
+pub distinct_places : (a b : PlaceKey) → place_cells a ≡ place_cells b → a ≡ b
 distinct_places a b h =
     let subject : a.0.0 ≡ b.0.0 = cc in
     let number : a.0.1 ≡ b.0.1 = cc in
@@ -166,7 +155,7 @@ against_keyed_in first indexes high apart at guarded = record {
     evidence = same_rows {form = evidence_form} (t.others.1.1.1.1.1.1.0 (λ e. omega (arith, e))) h.evidence;
     against = t.rows;
   };
-  put_refers = λ db contents h key id refers row is next others came held.
+  put_refers = λ db contents h key id refers row is next others came stays held.
       (let had = refer_if first indexes db.trees held in
       let texts : next 0 ≡ db.trees 0 = others.0 (λ e. omega (arith, e, high)) in
       let versions : next 2 ≡ db.trees 2 = others.1.0 (λ e. omega (arith, e, high)) in
@@ -188,17 +177,6 @@ against_keyed_in first indexes high apart at guarded = record {
           | inl same ↦ text_there 4 (db.trees 0) its_text.0 r id its_text.1 its_text.2.0 (ap (λ (x : Row). column x 4) same ∙ named)
           | inr was ↦ had.seen r was
         ]);
-      }));
-  drop_refers = λ old new others left held.
-      (let had = refer_if first indexes old held in
-      let texts : new 0 ≡ old 0 = others.0 (λ e. omega (arith, e, high)) in
-      let versions : new 2 ≡ old 2 = others.1.0 (λ e. omega (arith, e, high)) in
-      let evidence : new (first + 2) ≡ old (first + 2) = others.1.1.1.1.1.1.0 (λ e. omega (arith, e)) in
-      refers_if first indexes new (record {
-        versions = λ r there. subst (λ l. has_text_at 3 l r ≡ true) (sym texts) (had.versions r (subst (λ l. Has l r) versions there));
-        evidence = λ r there. subst (λ l. has_version l r ≡ true) (sym versions) (had.evidence r (subst (λ l. Has l r) evidence there));
-        places = λ r there. subst (λ l. has_version l r ≡ true) (sym versions) (had.places r (left r there));
-        seen = λ r there. subst (λ l. has_text_at 4 l r ≡ true) (sym texts) (had.seen r (left r there));
       }));
   map_is = λ contents map. refl;
   last_map = λ contents first last. refl;

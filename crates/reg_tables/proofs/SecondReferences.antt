@@ -1,7 +1,7 @@
 -- What the foreign keys of layout 2 ask of the rows.
-use Rattle.std.proofs.Common.{◌≡◌, ◌≢◌, ℕ, ◌+◌, List, [], ◌∷◌, Bool, true, refl, sym, subst, ◌||◌, ◌&&◌}
+use Rattle.std.proofs.Common.{◌≡◌, ◌≢◌, inl, inr, ℕ, ◌+◌, List, [], ◌∷◌, Bool, true, refl, sym, subst, ◌||◌, ◌&&◌}
 use Rattle.std.specs.List.{AllByRecursion, list_any}
-use Rattle.std.proofs.lemmas.Bool.{and_from, and_parts}
+use Rattle.std.proofs.lemmas.Bool.{and_from, and_parts, or_cases, or_left, or_right}
 use Rattle.sqlite.specs.Order.{Row}
 use Rattle.sqlite.specs.Tree.{Trees}
 use Rattle.sqlite_schema.specs.declared.schema.Among.TheVariants.{All}
@@ -10,7 +10,7 @@ use Rattle.sqlite_schema.specs.Names.{same_name}
 use Rattle.sqlite_schema.specs.Rules.{agree, has_null, Refers}
 use Rattle.sqlite_value.specs.Keys.{plain, joined}
 use Rattle.sqlite_rules.specs.Lists.{Has}
-use Rattle.sqlite_rules.proofs.ListLemmas.{all_has, all_from}
+use Rattle.sqlite_rules.proofs.ListLemmas.{all_has, all_from, some_has, some_from}
 use Rattle.reg_tables.specs.Layout.{begins}
 use Rattle.reg_tables.specs.SecondLayout.{added}
 use Rattle.reg_tables.specs.Inside.KeyedLaws.{KeepsOthers}
@@ -22,6 +22,24 @@ has_text_at place parents row = has_null (place ∷ []) row || list_any (λ pare
 -- the first two columns are those of a version
 abbrev pub has_version : List Row → Row → Bool
 has_version parents row = has_null (1 ∷ 2 ∷ []) row || list_any (λ parent. agree plain (1 ∷ 2 ∷ []) parent (1 ∷ 2 ∷ []) row) parents
+
+-- more parents are enough for what fewer were
+pub more_versions : (old new : List Row) (row : Row) → ((s : Row) → Has old s → agree plain (1 ∷ 2 ∷ []) s (1 ∷ 2 ∷ []) row ≡ true → (t : Row) × Has new t × (agree plain (1 ∷ 2 ∷ []) t (1 ∷ 2 ∷ []) row ≡ true))
+    → has_version old row ≡ true → has_version new row ≡ true
+more_versions old new row kept had = elim (or_cases _ _ had) [
+  | inl null ↦ or_left _ _ null
+  | inr some ↦
+      let s = some_has (λ parent. agree plain (1 ∷ 2 ∷ []) parent (1 ∷ 2 ∷ []) row) old some in
+      let t = kept s.0 s.1 s.2 in
+      or_right _ _ (some_from (λ parent. agree plain (1 ∷ 2 ∷ []) parent (1 ∷ 2 ∷ []) row) new t.0 t.1 t.2)
+]
+
+-- and more texts
+pub more_texts : (old new : List Row) → ((r : Row) → Has old r → Has new r) → (place : ℕ) (row : Row) → has_text_at place old row ≡ true → has_text_at place new row ≡ true
+more_texts old new kept place row had = elim (or_cases _ _ had) [
+  | inl null ↦ or_left _ _ null
+  | inr some ↦ let r = some_has (λ parent. agree plain (0 ∷ []) parent (place ∷ []) row) old some in or_right _ _ (some_from (λ parent. agree plain (0 ∷ []) parent (place ∷ []) row) new r.0 (kept r.0 r.1) r.2)
+]
 
 -- the references of each table, one by one
 pub record Refer (first : ℕ) (db : Trees) : Type 0 where

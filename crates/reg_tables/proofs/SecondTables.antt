@@ -42,7 +42,7 @@ at_seconds P here there schema (inr is) = subst P (sym is) there
 -- ---- actions
 
 -- those of the foreign keys on a table, where rows are taken out, or else change
-abbrev works_if : Schema → ℕ → ℕ → List (Row × Row) → Bool → List Work
+abbrev pub works_if : Schema → ℕ → ℕ → List (Row × Row) → Bool → List Work
 works_if schema depth tree moves deletes = flat_map (λ child. filter_map (λ ref. work_by depth tree moves child ref (deed_of Enforced deletes (cond deletes ref.on_delete ref.on_update)) (parent_key schema.tables ref)) child.references) schema.tables
 
 -- the rows of versions alone take others with them
@@ -93,8 +93,7 @@ modes_keyed_in first indexes high apart at guarded = record {
     evidence = same_rows {form = evidence_form} (t.others.1.1.1.1.1.1.0 (λ e. omega (arith, e))) h.evidence;
     against = same_rows {form = against_form} (t.others.1.1.1.1.1.1.1.0 (λ e. omega (arith, e))) h.against;
   };
-  put_refers = λ db contents h key value refers row is next others came. beside_refers first indexes first (λ e. omega (arith, e, high)) (λ e. omega (arith, e, high)) (λ e. omega (arith, e)) (λ e. omega (arith, e)) db.trees next others;
-  drop_refers = λ old new others left. beside_refers first indexes first (λ e. omega (arith, e, high)) (λ e. omega (arith, e, high)) (λ e. omega (arith, e)) (λ e. omega (arith, e)) old new others;
+  put_refers = λ db contents h key value refers row is next others came stays. beside_refers first indexes first (λ e. omega (arith, e, high)) (λ e. omega (arith, e, high)) (λ e. omega (arith, e)) (λ e. omega (arith, e)) db.trees next others;
   map_is = λ contents map. refl;
   last_map = λ contents first last. refl;
 }
@@ -132,7 +131,7 @@ modes_keyed = at_seconds (λ schema. IsKeyed schema (HoldsAllIn schema) (modes_t
 
 -- ---- versions
 
-second_versions_at : IsAt second 1 versions
+pub second_versions_at : IsAt second 1 versions
 unfolding same_name joined
 second_versions_at = record { there = refl; keys = keys }
   where
@@ -142,7 +141,7 @@ second_versions_at = record { there = refl; keys = keys }
     keys false true = refl
     keys false false = refl
 
-last_versions_at : IsAt second_indexed_last 1 versions
+pub last_versions_at : IsAt second_indexed_last 1 versions
 unfolding same_name joined
 last_versions_at = record { there = refl; keys = keys }
   where

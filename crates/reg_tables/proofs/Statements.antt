@@ -5,9 +5,9 @@ use Rattle.sqlite_value.specs.declared.keys.Key.{Key}
 use Rattle.sqlite.specs.Term.{Term, lit, col, op2}
 use Rattle.sqlite.specs.Collation.TheVariants.{Binary}
 use Rattle.sqlite.specs.Source.TheVariants.{Values}
-use Rattle.sqlite.specs.Command.TheVariants.{Insert, CreateTable, CreateIndex, Update}
-use Rattle.sqlite.specs.Compile.{table_defined_by, index_defined_by}
-use Rattle.sqlite.specs.Change.{created, indexed}
+use Rattle.sqlite.specs.Command.TheVariants.{Insert, CreateTable, Update}
+use Rattle.sqlite.specs.Compile.{table_defined_by}
+use Rattle.sqlite.specs.Change.{created}
 use Rattle.sqlite.specs.Does.{lacks_sequence}
 use Rattle.sqlite.specs.Table.{Table}
 use Rattle.sqlite.specs.Schema.{Schema}
@@ -18,7 +18,8 @@ use Rattle.sqlite.proofs.Callers.{statement_of}
 use Rattle.sqlite_sql.specs.declared.ops.BinaryOp.TheVariants.{Compare}
 use Rattle.sqlite_sql.specs.declared.ops.CompareOp.TheVariants.{Eq, Gt, Ge, Le}
 use Rattle.sqlite_tied.specs.Compute.{everything}
-use Rattle.reg_tables.specs.Layout.{no_schema, begun, begins, layout, unindexed, HasTablesFirst, IsLayout, texts, versions, levels, kept, meta, versions_of_id}
+use Rattle.reg_tables.specs.SecondLayout.{added, second, second_indexed_last, IsSecond}
+use Rattle.reg_tables.specs.Layout.{no_schema, begun, begins, layout, unindexed, HasTablesFirst, IsLayout, texts, versions, levels, kept, meta}
 use Rattle.reg_tables.specs.Inside.Statements.{by_key, by_version, IsCommand, TableQuery, IsQuery, all_rows, plain_query}
 use Rattle.sqlite_schema.specs.declared.schema.Index.{Index}
 
@@ -67,20 +68,6 @@ pub makes_meta : MakesTable make_meta (begun 4) (record meta { tree = 0 }) (begu
 unfolding understood everything
 makes_meta = record { command = record { is = refl; plain = (refl, refl) }; text = refl; defined = refl; is = refl; whole = refl }
 
-abbrev pub make_versions_of_id : List ℕ
-make_versions_of_id = codes "CREATE INDEX versions_of_id ON versions (id)"
-
--- what the CREATE INDEX makes of the five tables
-pub record MakesIndex : Type 0 where
-  pub command : IsCommand unindexed make_versions_of_id (CreateIndex 1)
-  pub text : statement_of make_versions_of_id (understood unindexed make_versions_of_id) ≡ make_versions_of_id
-  pub defined : index_defined_by versions make_versions_of_id ≡ Ok (record versions_of_id { tree = 0 })
-  pub is : indexed unindexed versions (record versions_of_id { tree = 0 }) ≡ layout
-
-pub makes_versions_of_id : MakesIndex
-unfolding understood everything
-makes_versions_of_id = record { command = record { is = refl; plain = (refl, refl) }; text = refl; defined = refl; is = refl }
-
 -- ---- rows that go in and out by a text key
 
 -- the rowid is SQLite's choice, and the columns are the parameters
@@ -100,9 +87,9 @@ text_terms = col 0 0 ∷ lit Null ∷ col 0 1 ∷ []
 abbrev pub put_text : List ℕ
 put_text = codes "INSERT INTO texts (id, text) VALUES (?1, ?2)"
 
-pub put_text_is : IsCommand layout put_text (Insert 0 (Values text_terms 3))
+pub put_text_is : (tables : List Table) (indexes : List Index) → IsCommand (begins tables indexes) put_text (Insert 0 (Values text_terms 3))
 unfolding understood everything
-put_text_is = record { is = refl; plain = (refl, refl) }
+put_text_is tables indexes = record { is = refl; plain = (refl, refl) }
 
 -- the row with another last column, after its rowid
 abbrev pub with_flag : List Term
@@ -111,9 +98,9 @@ with_flag = col 1 0 ∷ col 1 1 ∷ col 1 2 ∷ col 1 3 ∷ lit (Int (pos 1)) �
 abbrev pub mark_version : List ℕ
 mark_version = codes "UPDATE versions SET deleted = 1 WHERE subject = ?1 AND version = ?2"
 
-pub mark_version_is : IsCommand layout mark_version (Update 1 (record { lets = []; body = plain_query 2 by_version (col 1 0 ∷ with_flag) }))
+pub mark_version_is : (tables : List Table) (indexes : List Index) → IsCommand (begins tables indexes) mark_version (Update 1 (record { lets = []; body = plain_query 2 by_version (col 1 0 ∷ with_flag) }))
 unfolding understood everything
-mark_version_is = record { is = refl; plain = (refl, refl) }
+mark_version_is tables indexes = record { is = refl; plain = (refl, refl) }
 
 abbrev pub put_evidence : List ℕ
 put_evidence = codes "INSERT INTO evidence (subject, version, level) VALUES (?1, ?2, ?3)"
@@ -130,26 +117,27 @@ by_text = op2 (Compare Eq Binary) (col 1 2) (col 0 0) ∷ []
 
 -- ---- queries
 
-pub laid_out : {schema : Schema} {db : Database} {contents : Contents} → HoldsIn schema db contents → IsLayout schema → IsLayout db.schema
-laid_out holds is_layout = subst IsLayout (sym holds.declared) is_layout
+pub laid_out : {schema : Schema} {db : Database} {contents : Contents} → HoldsIn schema db contents → HasTablesFirst schema → HasTablesFirst db.schema
+laid_out holds first = subst HasTablesFirst (sym holds.declared) first
 
 pub has_tables_first : (schema : Schema) → IsLayout schema → HasTablesFirst schema
 has_tables_first schema (inl is) = record { tables = []; indexes = layout.indexes; is = is }
 has_tables_first schema (inr is) = record { tables = []; indexes = unindexed.indexes; is = is }
 
+pub second_tables_first : (schema : Schema) → IsSecond schema → HasTablesFirst schema
+second_tables_first schema (inl is) = record { tables = added 11; indexes = second.indexes; is = is }
+second_tables_first schema (inr is) = record { tables = added 10; indexes = second_indexed_last.indexes; is = is }
+
 -- what is so whatever tables and indexes are there beside the five tables
 pub behind_tables : (P : Schema → Type 0) → ((tables : List Table) (indexes : List Index) → P (begins tables indexes)) → (schema : Schema) → HasTablesFirst schema → P schema
 behind_tables P all schema first = subst P (sym first.is) (all first.tables first.indexes)
 
-pub in_layouts : (P : Schema → Type 0) → ((tables : List Table) (indexes : List Index) → P (begins tables indexes)) → (schema : Schema) → IsLayout schema → P schema
-in_layouts P all schema known = behind_tables P all schema (has_tables_first schema known)
-
 abbrev pub find_id : TableQuery
 find_id = record { sql = codes "SELECT id FROM texts WHERE text = ?1"; tree = 0; tests = by_text; shown = col 1 0 ∷ []; names = codes "id" ∷ []; order = []; limit = all_rows }
 
-pub find_id_is : (schema : Schema) → IsLayout schema → IsQuery find_id schema
+pub find_id_is : (schema : Schema) → HasTablesFirst schema → IsQuery find_id schema
 unfolding understood everything
-find_id_is = in_layouts (IsQuery find_id) (λ tables indexes. record { command = record { is = refl; plain = (refl, refl) }; unlisted = refl })
+find_id_is = behind_tables (IsQuery find_id) (λ tables indexes. record { command = record { is = refl; plain = (refl, refl) }; unlisted = refl })
 
 -- LIMIT 1
 abbrev pub first_row : Term
@@ -162,9 +150,9 @@ from_last = (col 1 0, record { collation = Binary; descending = true }) ∷ []
 abbrev pub find_last : TableQuery
 find_last = record { sql = codes "SELECT id FROM texts ORDER BY id DESC LIMIT 1"; tree = 0; tests = []; shown = col 1 0 ∷ []; names = codes "id" ∷ []; order = from_last; limit = first_row }
 
-pub find_last_is : (schema : Schema) → IsLayout schema → IsQuery find_last schema
+pub find_last_is : (schema : Schema) → HasTablesFirst schema → IsQuery find_last schema
 unfolding understood everything
-find_last_is = in_layouts (IsQuery find_last) (λ tables indexes. record { command = record { is = refl; plain = (refl, refl) }; unlisted = refl })
+find_last_is = behind_tables (IsQuery find_last) (λ tables indexes. record { command = record { is = refl; plain = (refl, refl) }; unlisted = refl })
 
 -- by subject and number
 abbrev pub in_order : List (Term × Key)
@@ -173,9 +161,9 @@ in_order = (col 1 1, record { collation = Binary; descending = false }) ∷ (col
 abbrev pub find_versions : TableQuery
 find_versions = record { sql = codes "SELECT version, id, deleted FROM versions WHERE subject = ?1 ORDER BY subject, version"; tree = 2; tests = by_key; shown = col 1 2 ∷ col 1 3 ∷ col 1 4 ∷ []; names = codes "version" ∷ codes "id" ∷ codes "deleted" ∷ []; order = in_order; limit = all_rows }
 
-pub find_versions_is : (schema : Schema) → IsLayout schema → IsQuery find_versions schema
+pub find_versions_is : (schema : Schema) → HasTablesFirst schema → IsQuery find_versions schema
 unfolding understood everything
-find_versions_is = in_layouts (IsQuery find_versions) (λ tables indexes. record { command = record { is = refl; plain = (refl, refl) }; unlisted = refl })
+find_versions_is = behind_tables (IsQuery find_versions) (λ tables indexes. record { command = record { is = refl; plain = (refl, refl) }; unlisted = refl })
 
 -- by subject and number, from the greatest
 abbrev pub from_greatest : List (Term × Key)
@@ -192,9 +180,9 @@ find_last_version = record {
   limit = first_row;
 }
 
-pub find_last_version_is : (schema : Schema) → IsLayout schema → IsQuery find_last_version schema
+pub find_last_version_is : (schema : Schema) → HasTablesFirst schema → IsQuery find_last_version schema
 unfolding understood everything
-find_last_version_is = in_layouts (IsQuery find_last_version) (λ tables indexes. record { command = record { is = refl; plain = (refl, refl) }; unlisted = refl })
+find_last_version_is = behind_tables (IsQuery find_last_version) (λ tables indexes. record { command = record { is = refl; plain = (refl, refl) }; unlisted = refl })
 
 -- the subject is the parameter, and the version is not marked as deleted
 abbrev pub by_live_key : List Term
@@ -211,9 +199,9 @@ find_last_live = record {
   limit = first_row;
 }
 
-pub find_last_live_is : (schema : Schema) → IsLayout schema → IsQuery find_last_live schema
+pub find_last_live_is : (schema : Schema) → HasTablesFirst schema → IsQuery find_last_live schema
 unfolding understood everything
-find_last_live_is = in_layouts (IsQuery find_last_live) (λ tables indexes. record { command = record { is = refl; plain = (refl, refl) }; unlisted = refl })
+find_last_live_is = behind_tables (IsQuery find_last_live) (λ tables indexes. record { command = record { is = refl; plain = (refl, refl) }; unlisted = refl })
 
 -- the subject is behind the parameter
 abbrev pub by_later_subject : List Term
@@ -230,9 +218,9 @@ find_behind = record {
   limit = first_row;
 }
 
-pub find_behind_is : (schema : Schema) → IsLayout schema → IsQuery find_behind schema
+pub find_behind_is : (schema : Schema) → HasTablesFirst schema → IsQuery find_behind schema
 unfolding understood everything
-find_behind_is = in_layouts (IsQuery find_behind) (λ tables indexes. record { command = record { is = refl; plain = (refl, refl) }; unlisted = refl })
+find_behind_is = behind_tables (IsQuery find_behind) (λ tables indexes. record { command = record { is = refl; plain = (refl, refl) }; unlisted = refl })
 
 -- the subject is the first parameter, and the number is above the second
 abbrev pub by_later_number : List Term
@@ -249,9 +237,9 @@ find_next = record {
   limit = first_row;
 }
 
-pub find_next_is : (schema : Schema) → IsLayout schema → IsQuery find_next schema
+pub find_next_is : (schema : Schema) → HasTablesFirst schema → IsQuery find_next schema
 unfolding understood everything
-find_next_is = in_layouts (IsQuery find_next) (λ tables indexes. record { command = record { is = refl; plain = (refl, refl) }; unlisted = refl })
+find_next_is = behind_tables (IsQuery find_next) (λ tables indexes. record { command = record { is = refl; plain = (refl, refl) }; unlisted = refl })
 
 -- the id of the version is the parameter
 abbrev pub by_its_id : List Term
@@ -260,9 +248,9 @@ by_its_id = op2 (Compare Eq Binary) (col 1 3) (col 0 0) ∷ []
 abbrev pub find_of_id : TableQuery
 find_of_id = record { sql = codes "SELECT subject, version, id, deleted FROM versions WHERE id = ?1 ORDER BY subject, version"; tree = 2; tests = by_its_id; shown = col 1 1 ∷ col 1 2 ∷ col 1 3 ∷ col 1 4 ∷ []; names = codes "subject" ∷ codes "version" ∷ codes "id" ∷ codes "deleted" ∷ []; order = in_order; limit = all_rows }
 
-pub find_of_id_is : (schema : Schema) → IsLayout schema → IsQuery find_of_id schema
+pub find_of_id_is : (schema : Schema) → HasTablesFirst schema → IsQuery find_of_id schema
 unfolding understood everything
-find_of_id_is = in_layouts (IsQuery find_of_id) (λ tables indexes. record { command = record { is = refl; plain = (refl, refl) }; unlisted = refl })
+find_of_id_is = behind_tables (IsQuery find_of_id) (λ tables indexes. record { command = record { is = refl; plain = (refl, refl) }; unlisted = refl })
 
 abbrev pub find_one_of_id : TableQuery
 find_one_of_id = record {
@@ -275,9 +263,9 @@ find_one_of_id = record {
   limit = first_row;
 }
 
-pub find_one_of_id_is : (schema : Schema) → IsLayout schema → IsQuery find_one_of_id schema
+pub find_one_of_id_is : (schema : Schema) → HasTablesFirst schema → IsQuery find_one_of_id schema
 unfolding understood everything
-find_one_of_id_is = in_layouts (IsQuery find_one_of_id) (λ tables indexes. record { command = record { is = refl; plain = (refl, refl) }; unlisted = refl })
+find_one_of_id_is = behind_tables (IsQuery find_one_of_id) (λ tables indexes. record { command = record { is = refl; plain = (refl, refl) }; unlisted = refl })
 
 -- LIMIT 33
 abbrev pub first_rows : Term
@@ -294,9 +282,9 @@ find_some_of_id = record {
   limit = first_rows;
 }
 
-pub find_some_of_id_is : (schema : Schema) → IsLayout schema → IsQuery find_some_of_id schema
+pub find_some_of_id_is : (schema : Schema) → HasTablesFirst schema → IsQuery find_some_of_id schema
 unfolding understood everything
-find_some_of_id_is = in_layouts (IsQuery find_some_of_id) (λ tables indexes. record { command = record { is = refl; plain = (refl, refl) }; unlisted = refl })
+find_some_of_id_is = behind_tables (IsQuery find_some_of_id) (λ tables indexes. record { command = record { is = refl; plain = (refl, refl) }; unlisted = refl })
 
 -- the subject and the id are the first two parameters, and the mark is no greater than the third
 abbrev pub by_shown_id : List Term
@@ -313,23 +301,23 @@ find_last_with_id = record {
   limit = first_row;
 }
 
-pub find_last_with_id_is : (schema : Schema) → IsLayout schema → IsQuery find_last_with_id schema
+pub find_last_with_id_is : (schema : Schema) → HasTablesFirst schema → IsQuery find_last_with_id schema
 unfolding understood everything
-find_last_with_id_is = in_layouts (IsQuery find_last_with_id) (λ tables indexes. record { command = record { is = refl; plain = (refl, refl) }; unlisted = refl })
+find_last_with_id_is = behind_tables (IsQuery find_last_with_id) (λ tables indexes. record { command = record { is = refl; plain = (refl, refl) }; unlisted = refl })
 
 abbrev pub list_versions : TableQuery
 list_versions = record { sql = codes "SELECT subject, version, id, deleted FROM versions ORDER BY subject, version"; tree = 2; tests = []; shown = col 1 1 ∷ col 1 2 ∷ col 1 3 ∷ col 1 4 ∷ []; names = codes "subject" ∷ codes "version" ∷ codes "id" ∷ codes "deleted" ∷ []; order = in_order; limit = all_rows }
 
-pub list_versions_is : (schema : Schema) → IsLayout schema → IsQuery list_versions schema
+pub list_versions_is : (schema : Schema) → HasTablesFirst schema → IsQuery list_versions schema
 unfolding understood everything
-list_versions_is = in_layouts (IsQuery list_versions) (λ tables indexes. record { command = record { is = refl; plain = (refl, refl) }; unlisted = refl })
+list_versions_is = behind_tables (IsQuery list_versions) (λ tables indexes. record { command = record { is = refl; plain = (refl, refl) }; unlisted = refl })
 
 abbrev pub all_ids : TableQuery
 all_ids = record { sql = codes "SELECT id FROM texts"; tree = 0; tests = []; shown = col 1 0 ∷ []; names = codes "id" ∷ []; order = []; limit = all_rows }
 
-pub all_ids_is : (schema : Schema) → IsLayout schema → IsQuery all_ids schema
+pub all_ids_is : (schema : Schema) → HasTablesFirst schema → IsQuery all_ids schema
 unfolding understood everything
-all_ids_is = in_layouts (IsQuery all_ids) (λ tables indexes. record { command = record { is = refl; plain = (refl, refl) }; unlisted = refl })
+all_ids_is = behind_tables (IsQuery all_ids) (λ tables indexes. record { command = record { is = refl; plain = (refl, refl) }; unlisted = refl })
 
 -- the rowid is no less than the first parameter, and no greater than the second
 abbrev pub by_range : List Term
@@ -346,30 +334,30 @@ texts_between = record {
   limit = all_rows;
 }
 
-pub texts_between_is : (schema : Schema) → IsLayout schema → IsQuery texts_between schema
+pub texts_between_is : (schema : Schema) → HasTablesFirst schema → IsQuery texts_between schema
 unfolding understood everything
-texts_between_is = in_layouts (IsQuery texts_between) (λ tables indexes. record { command = record { is = refl; plain = (refl, refl) }; unlisted = refl })
+texts_between_is = behind_tables (IsQuery texts_between) (λ tables indexes. record { command = record { is = refl; plain = (refl, refl) }; unlisted = refl })
 
 abbrev pub all_versions : TableQuery
 all_versions = record { sql = codes "SELECT rowid, subject, version, id, deleted FROM versions"; tree = 2; tests = []; shown = col 1 0 ∷ col 1 1 ∷ col 1 2 ∷ col 1 3 ∷ col 1 4 ∷ []; names = codes "rowid" ∷ codes "subject" ∷ codes "version" ∷ codes "id" ∷ codes "deleted" ∷ []; order = []; limit = all_rows }
 
-pub all_versions_is : (schema : Schema) → IsLayout schema → IsQuery all_versions schema
+pub all_versions_is : (schema : Schema) → HasTablesFirst schema → IsQuery all_versions schema
 unfolding understood everything
-all_versions_is = in_layouts (IsQuery all_versions) (λ tables indexes. record { command = record { is = refl; plain = (refl, refl) }; unlisted = refl })
+all_versions_is = behind_tables (IsQuery all_versions) (λ tables indexes. record { command = record { is = refl; plain = (refl, refl) }; unlisted = refl })
 
 abbrev pub all_levels : TableQuery
 all_levels = record { sql = codes "SELECT rowid, subject, level FROM levels"; tree = 4; tests = []; shown = col 1 0 ∷ col 1 1 ∷ col 1 2 ∷ []; names = codes "rowid" ∷ codes "subject" ∷ codes "level" ∷ []; order = []; limit = all_rows }
 
-pub all_levels_is : (schema : Schema) → IsLayout schema → IsQuery all_levels schema
+pub all_levels_is : (schema : Schema) → HasTablesFirst schema → IsQuery all_levels schema
 unfolding understood everything
-all_levels_is = in_layouts (IsQuery all_levels) (λ tables indexes. record { command = record { is = refl; plain = (refl, refl) }; unlisted = refl })
+all_levels_is = behind_tables (IsQuery all_levels) (λ tables indexes. record { command = record { is = refl; plain = (refl, refl) }; unlisted = refl })
 
 abbrev pub all_kept : TableQuery
 all_kept = record { sql = codes "SELECT rowid, key, command, status, body FROM kept"; tree = 6; tests = []; shown = col 1 0 ∷ col 1 1 ∷ col 1 2 ∷ col 1 3 ∷ col 1 4 ∷ []; names = codes "rowid" ∷ codes "key" ∷ codes "command" ∷ codes "status" ∷ codes "body" ∷ []; order = []; limit = all_rows }
 
-pub all_kept_is : (schema : Schema) → IsLayout schema → IsQuery all_kept schema
+pub all_kept_is : (schema : Schema) → HasTablesFirst schema → IsQuery all_kept schema
 unfolding understood everything
-all_kept_is = in_layouts (IsQuery all_kept) (λ tables indexes. record { command = record { is = refl; plain = (refl, refl) }; unlisted = refl })
+all_kept_is = behind_tables (IsQuery all_kept) (λ tables indexes. record { command = record { is = refl; plain = (refl, refl) }; unlisted = refl })
 
 abbrev pub all_meta : TableQuery
 all_meta = record { sql = codes "SELECT rowid, name, value FROM meta"; tree = 8; tests = []; shown = col 1 0 ∷ col 1 1 ∷ col 1 2 ∷ []; names = codes "rowid" ∷ codes "name" ∷ codes "value" ∷ []; order = []; limit = all_rows }

@@ -1,11 +1,11 @@
 -- Why the writes of each table fail.
-use Rattle.std.proofs.Common.{◌+◌, ◌^◌, pos, ◌≡◌, ◌≢◌, ◌⊎◌, inl, inr, ℕ, drop, ◌/◌, not, cond, Ordering, Option, None, List, [], ◌∷◌, length, Bool, true, false, Some, Err, refl, sym, ap, subst, subst₂, ◌||◌, ◌&&◌, ◌∙◌, arith}
+use Rattle.std.proofs.Common.{◌+◌, ◌^◌, pos, ◌≡◌, ◌⊎◌, inl, inr, ℕ, drop, ◌/◌, not, cond, Ordering, Option, None, List, [], ◌∷◌, length, Bool, true, false, Some, Err, refl, sym, ap, subst, subst₂, ◌||◌, ◌&&◌, ◌∙◌, arith}
 use Rattle.std.specs.Prelude.{nat_lt}
 use Rattle.std.specs.Ordering.{is_eq}
 use Rattle.std.specs.declared.cmp.Ordering.TheVariants.{Less}
 use Rattle.sqlite.specs.Order.{value_cmp, Row}
-use Rattle.std.specs.List.{AllByRecursion, list_any, list_all}
-use Rattle.std.proofs.lemmas.Bool.{lt-ltb, both_ways, and_from, and_parts}
+use Rattle.std.specs.List.{AllByRecursion, list_all}
+use Rattle.std.proofs.lemmas.Bool.{lt-ltb, both_ways, and_from}
 use Rattle.std.proofs.lemmas.Cmp.{tied_itself}
 use Rattle.std.specs.FinMap.{FinMap, get}
 use Rattle.sqlite.specs.Term.{Term, col}
@@ -31,27 +31,24 @@ use Rattle.sqlite_schema.specs.declared.schema.Keys.TheVariants.{Enforced}
 use Rattle.sqlite_schema.specs.declared.schema.Among.TheVariants.{All}
 use Rattle.sqlite_schema.specs.declared.schema.Constraint.TheVariants.{Datatype, NotNull, Check, PrimaryKey, Unique, ForeignKey}
 use Rattle.sqlite_schema.specs.declared.program.Program.{Program}
-use Rattle.sqlite_schema.specs.Names.{same_name}
-use Rattle.sqlite_schema.specs.Rules.{agree, differ, guards, has_null, are_typed, has_computed, are_present, passes_checks, Keeps, Obeys, Refers}
+use Rattle.sqlite_schema.specs.Rules.{agree, differ, guards, are_typed, has_computed, are_present, passes_checks, Keeps, Obeys, Refers}
 use Rattle.sqlite_rules.specs.declared.error.Refusal.{Refusal}
 use Rattle.sqlite_rules.specs.declared.error.Refusal.TheVariants.{Violates, Mismatch, NoRowid, BadReference, TooDeep}
 use Rattle.sqlite_rules.specs.Calls.{ids_of}
 use Rattle.sqlite_rules.specs.Edit.{IsOversized}
 use Rattle.sqlite_rules.specs.Lists.{Has}
-use Rattle.sqlite_rules.proofs.ListLemmas.{some_has, any_has, all_has, all_from, has_got}
+use Rattle.sqlite_rules.proofs.ListLemmas.{some_has, any_has, all_has, has_got}
 use Rattle.sqlite_rules.proofs.TableLemmas.{put_all_has}
 use Rattle.sqlite_schema.specs.declared.schema.Index.{Index}
 use Rattle.sqlite_sql.specs.Ops.{binary, is_null, is_true, from_truth, fits_i64}
 use Rattle.sqlite_sql.specs.Program.{ProgramOverflows}
 use Rattle.sqlite_typing.specs.Types.{accepts_program, accepts_terms}
 use Rattle.sqlite_value.proofs.OrderLemmas.{value_cmp_total}
-use Rattle.sqlite_value.specs.Keys.{plain, joined}
-use Rattle.reg_tables.specs.Layout.{layout, texts, versions, levels, kept, meta}
 use Rattle.reg_tables.specs.TableMaps.{Form, ShowsMap}
 use Rattle.reg_tables.specs.Rooms.{HasRoom}
 use Rattle.reg_tables.proofs.Rooms.{above, less}
 use Rattle.reg_tables.specs.FailedCalls.{IsFault, IsInsertFault}
-use Rattle.reg_tables.specs.Inside.KeyedLaws.{AreApart, IsIdle, HasKeys, IsAt, KeepsOthers}
+use Rattle.reg_tables.specs.Inside.KeyedLaws.{AreApart, IsIdle, HasKeys, IsAt}
 use Rattle.reg_tables.specs.Inside.Statements.{plain_query, IsCommand, IsWhole}
 use Rattle.sqlite.specs.Schema.{Schema}
 use Rattle.reg_tables.proofs.Cascades.{delete_allowed}
@@ -61,85 +58,6 @@ use Rattle.reg_tables.proofs.WriteFaults.{NeverStops, none_stops, delete_fits, d
 -- a sound database of this schema obeys it
 pub obeys : (schema : Schema) (db : Database) → db.schema ≡ schema → IsDatabase db → Obeys schema db.trees
 obeys schema db declared sound = (subst (λ s. IsDatabase (record { schema = s; trees = db.trees })) declared sound).obeys
-
-pub texts_at : IsAt layout 0 texts
-unfolding same_name joined
-texts_at = record { there = refl; keys = keys }
-  where
-    keys : HasKeys layout texts
-    keys true true = refl
-    keys true false = refl
-    keys false true = refl
-    keys false false = refl
-
-pub versions_at : IsAt layout 1 versions
-unfolding same_name joined
-versions_at = record { there = refl; keys = keys }
-  where
-    keys : HasKeys layout versions
-    keys true true = refl
-    keys true false = refl
-    keys false true = refl
-    keys false false = refl
-
-pub levels_at : IsAt layout 2 levels
-unfolding same_name joined
-levels_at = record { there = refl; keys = keys }
-  where
-    keys : HasKeys layout levels
-    keys true true = refl
-    keys true false = refl
-    keys false true = refl
-    keys false false = refl
-
-pub kept_at : IsAt layout 3 kept
-unfolding same_name joined
-kept_at = record { there = refl; keys = keys }
-  where
-    keys : HasKeys layout kept
-    keys true true = refl
-    keys true false = refl
-    keys false true = refl
-    keys false false = refl
-
-pub meta_at : IsAt layout 4 meta
-unfolding same_name joined
-meta_at = record { there = refl; keys = keys }
-  where
-    keys : HasKeys layout meta
-    keys true true = refl
-    keys true false = refl
-    keys false true = refl
-    keys false false = refl
-
--- ---- foreign keys
-
--- the version has a text
-abbrev pub has_text : List Row → Row → Bool
-has_text parents row = has_null (3 ∷ []) row || list_any (λ parent. agree plain (0 ∷ []) parent (3 ∷ []) row) parents
-
-abbrev VersionsRefer : List Row → List Row → Type 0
-VersionsRefer parents rows = AllByRecursion (λ row. (has_text parents row && true) ≡ true) rows
-
--- each version had a text, so it is enough that each has one still
-pub refers_if : (old new : Trees) → (((row : Row) → Has (old 2) row → has_text (old 0) row ≡ true) → (row : Row) → Has (new 2) row → has_text (new 0) row ≡ true) → Refers All layout old → Refers All layout new
-unfolding same_name joined
-refers_if old new still h =
-    let had : VersionsRefer (old 0) (old 2) = h.1.0 in
-    let has : VersionsRefer (new 0) (new 2) =
-    all_from (λ row. (has_text (new 0) row && true) ≡ true) (new 2) (λ row there. and_from _ _ (still (λ r was. (and_parts _ _ (all_has (λ row. (has_text (old 0) row && true) ≡ true) (old 2) r had was)).0) row there) refl) in
-    (each (new 0), (has, (each (new 4), (each (new 6), (each (new 8), tt)))))
-  where
-    each : (rows : List Row) → AllByRecursion (λ (row : Row). true ≡ true) rows
-    each [] = tt
-    each (row ∷ rows) = (refl, each rows)
-
--- a write to another table than `texts` and `versions` breaks none
-pub beside_refers : (table : Table) → texts.tree ≢ table.tree → versions.tree ≢ table.tree → (old new : Trees) → KeepsOthers layout table.tree old new → Refers All layout old → Refers All layout new
-beside_refers table not_texts not_versions old new same =
-    let texts_same : new 0 ≡ old 0 = same.0 not_texts in
-    let versions_same : new 2 ≡ old 2 = same.1.0 not_versions in
-    refers_if old new (λ had row there. subst (λ l. has_text l row ≡ true) (sym texts_same) (had row (subst (λ l. Has l row) versions_same there)))
 
 -- ---- a row that shares no key
 

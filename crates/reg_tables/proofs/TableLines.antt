@@ -12,7 +12,7 @@ use Rattle.sqlite.specs.Query.{IsAnswer}
 use Rattle.sqlite.specs.Program.{overlay}
 use Rattle.sqlite.specs.State.{State, Shown}
 use Rattle.sqlite_rules.specs.Lists.{Has}
-use Rattle.reg_tables.specs.Layout.{IsLayout, HasTablesFirst}
+use Rattle.reg_tables.specs.Layout.{HasTablesFirst}
 use Rattle.reg_tables.specs.Reads.{HoldsReadable, CanBeRead, HoldsMeta}
 use Rattle.reg_tables.specs.FailedCalls.{IsFault, IsUnreadable}
 use Rattle.reg_tables.specs.TableMaps.{Form}
@@ -37,16 +37,16 @@ pub record ShowsTable {K V : Type 0} (Known : Schema → Type 0) (Holds : Databa
   pub known : (db : Database) → Holds db → Known db.schema
   pub readable : (db : Database) → Holds db → (row : Row) → Has (db.trees q.tree) row → is_readable (eval_all q.shown ([] ∷ row ∷ []))
 
-of_layout : (db : Database) → HoldsReadable db → IsLayout db.schema
-of_layout db there = laid_out there.holds there.is_layout
+of_layout : (db : Database) → HoldsReadable db → HasTablesFirst db.schema
+of_layout db there = laid_out there.holds there.known
 
-pub shows_versions : ShowsTable IsLayout HoldsReadable version_form IsReadableVersion all_versions
+pub shows_versions : ShowsTable HasTablesFirst HoldsReadable version_form IsReadableVersion all_versions
 shows_versions = record { is = all_versions_is; takes = takes_all_versions; untested = refl; whole = λ row. refl; known = of_layout; readable = readable_version }
 
-pub shows_levels : ShowsTable IsLayout HoldsReadable pair_form IsReadablePair all_levels
+pub shows_levels : ShowsTable HasTablesFirst HoldsReadable pair_form IsReadablePair all_levels
 shows_levels = record { is = all_levels_is; takes = takes_all_levels; untested = refl; whole = λ row. refl; known = of_layout; readable = readable_level }
 
-pub shows_kept : ShowsTable IsLayout HoldsReadable kept_form IsReadableKept all_kept
+pub shows_kept : ShowsTable HasTablesFirst HoldsReadable kept_form IsReadableKept all_kept
 shows_kept = record { is = all_kept_is; takes = takes_all_kept; untested = refl; whole = λ row. refl; known = of_layout; readable = readable_kept }
 
 pub shows_meta : ShowsTable HasTablesFirst HoldsMeta pair_form IsReadablePair all_meta
@@ -72,8 +72,8 @@ module _ {Known : Schema → Type 0} (q : TableQuery) (params : Row) (is : (sche
   list_told old new end e (inl failed) known = inl (read_fault_until old new end failed.0 e (known_query_faults q is params takes old new known e failed.1))
   list_told old new end e (inr read) known = elim read.3 [ inl memory ↦ inl (memory_is_fault old end e memory) | inr unread ↦ inr unread ]
 
--- in a layout it fails with a fault alone
-module _ (q : TableQuery) (params : Row) (is : (schema : Schema) → IsLayout schema → IsQuery q schema) (takes : (schema : Schema) → IsLayout schema → Takes q params schema) (is_readable : Row → Type 0) where
+-- where the five tables come first it fails with a fault alone
+module _ (q : TableQuery) (params : Row) (is : (schema : Schema) → HasTablesFirst schema → IsQuery q schema) (takes : (schema : Schema) → HasTablesFirst schema → Takes q params schema) (is_readable : Row → Type 0) where
   pub list_fault : (old new end : State) → ((found : List Row) → Shown q.sql params old new found → HoldsReadable old.now → All is_readable found) → (e : Error)
       → FailsToList is_readable q.sql params old new end e → CanBeRead old → IsFault old end e
   list_fault = known_list_fault of_layout q params is takes is_readable

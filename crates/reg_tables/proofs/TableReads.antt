@@ -5,7 +5,7 @@ use Rattle.sqlite.specs.declared.types.Value.TheVariants.{Text}
 use Rattle.sqlite.specs.Order.{Row}
 use Rattle.sqlite.specs.State.{State, Shown}
 use Rattle.sqlite.specs.Schema.{Schema}
-use Rattle.reg_tables.specs.Layout.{IsLayout}
+use Rattle.reg_tables.specs.Layout.{HasTablesFirst}
 use Rattle.reg_tables.specs.Contents.{text_cmp, Contents, number_cells, HoldsIn}
 use Rattle.reg_tables.specs.Inside.Statements.{IsQuery}
 use Rattle.reg_tables.proofs.KeyedTables.{text_order, by_text_test, shown_has, has_shown}
@@ -20,9 +20,9 @@ first_shown (r ∷ found) P Q some none None is = absurd (cc)
 first_shown [] P Q some none (Some row) is = absurd (cc)
 first_shown (r ∷ found) P Q some none (Some row) is = let same : row ≡ r = cc in some row (inl same)
 
-module _ (old new : State) (schema : Schema) (contents : Contents) (h : HoldsIn schema old.now contents) (is_layout : IsLayout schema) where
-  laid : IsLayout old.now.schema
-  laid = laid_out h is_layout
+module _ (old new : State) (schema : Schema) (contents : Contents) (h : HoldsIn schema old.now contents) (first : HasTablesFirst schema) where
+  laid : HasTablesFirst old.now.schema
+  laid = laid_out h first
 
   pub finds_id : (text : List ℕ) (found : List Row) (o : Option Row) → o ≡ slice_get found 0 → Shown find_id.sql (Text text ∷ []) old new found
       → MatchOption o ((id : ℕ) → get contents.texts id ≢ Some text) (λ row. (id : ℕ) × (get contents.texts id ≡ Some text) × (row ≡ number_cells id))

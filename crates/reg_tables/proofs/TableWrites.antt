@@ -1,5 +1,5 @@
 -- What each statement makes of the contents.
-use Rattle.std.proofs.Common.{◌≡◌, ◌≢◌, subst, ℕ, pos, List, [], ◌∷◌, None, Ok, refl, arith, Ordering, ◌⊎◌, inl, inr}
+use Rattle.std.proofs.Common.{◌≡◌, ◌≢◌, subst, ℕ, pos, List, [], ◌∷◌, None, Ok, refl, arith, lit≤, Ordering, ◌⊎◌, inl, inr}
 use Rattle.std.specs.Ordering.{nat_cmp}
 use Rattle.std.specs.FinMap.{FinMap, get, insert}
 use Rattle.sqlite.specs.declared.types.Value.TheVariants.{Null, Int, Text}
@@ -9,8 +9,10 @@ use Rattle.sqlite.specs.Table.{Table}
 use Rattle.sqlite.specs.Cast.{cast_row}
 use Rattle.sqlite.specs.Effect.{Database, IsDatabase}
 use Rattle.sqlite.specs.State.{State, Executes}
-use Rattle.reg_tables.specs.Layout.{begins, layout, texts, versions, levels, kept, meta}
-use Rattle.reg_tables.specs.Contents.{version_cmp, VersionRow, Contents, text_form, version_form, pair_form, kept_form, Holds, HoldsIn}
+use Rattle.reg_tables.specs.Layout.{begins, texts, versions, levels, kept, meta}
+use Rattle.reg_tables.specs.Contents.{version_cmp, VersionRow, Contents, text_form, version_form, pair_form, kept_form, HoldsIn}
+use Rattle.reg_tables.specs.SecondContents.{SecondContents, HoldsAllIn}
+use Rattle.reg_tables.specs.Writing.{HoldsBeside}
 use Rattle.reg_tables.specs.TableMaps.{IsEntry, Form, ShowsMap}
 use Rattle.reg_tables.specs.Changes.{altered, as_deleted, with_deleted, with_text}
 use Rattle.reg_tables.specs.Inside.Statements.{by_version}
@@ -18,7 +20,7 @@ use Rattle.reg_tables.specs.Inside.KeyedLaws.{KeepsOthers, TurnsTable}
 use Rattle.reg_tables.proofs.RowLemmas.{same_rows}
 use Rattle.sqlite_schema.specs.declared.schema.Index.{Index}
 use Rattle.reg_tables.proofs.Statements.{text_terms, put_text, put_text_is, with_flag, mark_version, mark_version_is}
-use Rattle.reg_tables.proofs.Settled.{layout_idle}
+use Rattle.reg_tables.proofs.Settled.{IsSettled}
 use Rattle.reg_tables.proofs.KeyedTables.{number_order, distinct_numbers, version_order, distinct_versions, by_version_test, cast-Null, cast-Int, inserts, alters}
 
 -- ---- a write to one table, in a database of the five tables and more
@@ -55,21 +57,22 @@ marked_entry row key version is =
     let id : column row 3 ≡ Int (pos version.id) = cc in
     (rw (subject, number, cast-Int (pos key.1)) refl, rw (id, cast-Int (pos version.id), cast-Int (pos 1)) refl)
 
-module _ (old new : State) (count : ℕ) (contents : Contents) (h : Holds old.now contents) where
-  puts_text_turns : (id : ℕ) (text : List ℕ) → get contents.texts id ≡ None → Executes put_text (Int (pos id) ∷ Text text ∷ []) old new (Ok count) → TurnsTable layout text_form texts.tree old.now new.now (get (insert contents.texts id text))
-  puts_text_turns id text free ran = inserts layout text_form nat_cmp number_order distinct_numbers 0 texts refl old new h.declared contents.texts h.texts id put_text (Int (pos id) ∷ Text text ∷ []) count text_terms 3
-      (Int (pos id) ∷ Null ∷ Text text ∷ []) text refl put_text_is (rw (cast-Null, cast-Int (pos id))) (record { has_id = refl; has_key = refl; has_value = refl }) free ran
+module _ (tables : List Table) (indexes : List Index) (s : IsSettled tables indexes) (old new : State) (count : ℕ) (contents : SecondContents) (h : HoldsAllIn (begins tables indexes) old.now contents) where
+  puts_text_turns : (id : ℕ) (text : List ℕ) → get contents.base.texts id ≡ None → Executes put_text (Int (pos id) ∷ Text text ∷ []) old new (Ok count) → TurnsTable (begins tables indexes) text_form texts.tree old.now new.now (get (insert contents.base.texts id text))
+  puts_text_turns id text free ran = inserts (begins tables indexes) text_form nat_cmp number_order distinct_numbers 0 texts refl old new h.base.declared contents.base.texts h.base.texts id put_text (Int (pos id) ∷ Text text ∷ []) count text_terms 3
+      (Int (pos id) ∷ Null ∷ Text text ∷ []) text refl (put_text_is tables indexes) (rw (cast-Null, cast-Int (pos id))) (record { has_id = refl; has_key = refl; has_value = refl }) free ran
 
-  pub puts_text : (id : ℕ) (text : List ℕ) → get contents.texts id ≡ None → Executes put_text (Int (pos id) ∷ Text text ∷ []) old new (Ok count) → Holds new.now (with_text id text contents)
-  puts_text id text free ran = let t = puts_text_turns id text free ran in all_turned [] layout.indexes texts.tree old.now new.now t.others contents (with_text id text contents) h t.declared t.sound (inl t.rows) (inr (λ e. omega (arith, e), refl)) (inr (λ e. omega (arith, e), refl)) (inr (λ e. omega (arith, e), refl)) (inr (λ e. omega (arith, e), refl))
+  pub puts_text : (id : ℕ) (text : List ℕ) → get contents.base.texts id ≡ None → Executes put_text (Int (pos id) ∷ Text text ∷ []) old new (Ok count) → HoldsBeside (begins tables indexes) contents new.now (with_text id text contents.base)
+  puts_text id text free ran =
+      let t = puts_text_turns id text free ran in
+      s.beside texts.tree (lit≤ tt) old.now new.now t.others contents h (with_text id text contents.base) (all_turned tables indexes texts.tree old.now new.now t.others contents.base (with_text id text contents.base) h.base t.declared t.sound (inl t.rows) (inr (λ e. omega (arith, e), refl)) (inr (λ e. omega (arith, e), refl)) (inr (λ e. omega (arith, e), refl)) (inr (λ e. omega (arith, e), refl)))
 
-  version_held : (later : FinMap version_cmp VersionRow) → TurnsTable layout version_form versions.tree old.now new.now (get later) → Holds new.now (record contents { versions = later })
-  version_held later t = all_turned [] layout.indexes versions.tree old.now new.now t.others contents (record contents { versions = later }) h t.declared t.sound (inr (λ e. omega (arith, e), refl)) (inl t.rows) (inr (λ e. omega (arith, e), refl)) (inr (λ e. omega (arith, e), refl)) (inr (λ e. omega (arith, e), refl))
-
-  marks_version_turns : (key : List ℕ × ℕ) → Executes mark_version (Text key.0 ∷ Int (pos key.1) ∷ []) old new (Ok count) → TurnsTable layout version_form versions.tree old.now new.now (get (altered contents.versions key as_deleted))
+  marks_version_turns : (key : List ℕ × ℕ) → Executes mark_version (Text key.0 ∷ Int (pos key.1) ∷ []) old new (Ok count) → TurnsTable (begins tables indexes) version_form versions.tree old.now new.now (get (altered contents.base.versions key as_deleted))
   marks_version_turns key ran =
-      alters layout version_form version_cmp version_order distinct_versions 1 versions refl old new h.declared contents.versions h.versions key mark_version (Text key.0 ∷ Int (pos key.1) ∷ []) count (layout_idle versions.tree) by_version with_flag as_deleted mark_version_is
+      alters (begins tables indexes) version_form version_cmp version_order distinct_versions 1 versions refl old new h.base.declared contents.base.versions h.base.versions key mark_version (Text key.0 ∷ Int (pos key.1) ∷ []) count s.steady by_version with_flag as_deleted (mark_version_is tables indexes)
       (λ row q is. by_version_test row key q is) (λ row version is. marked_entry row key version is) ran
 
-  pub marks_version : (key : List ℕ × ℕ) → Executes mark_version (Text key.0 ∷ Int (pos key.1) ∷ []) old new (Ok count) → Holds new.now (with_deleted key contents)
-  marks_version key ran = version_held (altered contents.versions key as_deleted) (marks_version_turns key ran)
+  pub marks_version : (key : List ℕ × ℕ) → Executes mark_version (Text key.0 ∷ Int (pos key.1) ∷ []) old new (Ok count) → HoldsBeside (begins tables indexes) contents new.now (with_deleted key contents.base)
+  marks_version key ran =
+      let t = marks_version_turns key ran in
+      s.beside versions.tree (lit≤ tt) old.now new.now t.others contents h (with_deleted key contents.base) (all_turned tables indexes versions.tree old.now new.now t.others contents.base (with_deleted key contents.base) h.base t.declared t.sound (inr (λ e. omega (arith, e), refl)) (inl t.rows) (inr (λ e. omega (arith, e), refl)) (inr (λ e. omega (arith, e), refl)) (inr (λ e. omega (arith, e), refl)))

@@ -16,7 +16,7 @@ use Rattle.sqlite_rules.specs.Lists.{Has}
 use Rattle.sqlite_sql.specs.Ops.{binary, is_true, from_truth}
 use Rattle.sqlite_value.proofs.OrderLemmas.{value_cmp-Int}
 use Rattle.reg_tables.specs.declared.lines.TextLine.{TextLine}
-use Rattle.reg_tables.specs.Layout.{IsLayout}
+use Rattle.reg_tables.specs.Layout.{HasTablesFirst}
 use Rattle.reg_tables.specs.Reads.{HoldsReadable}
 use Rattle.reg_tables.specs.Contents.{text_form}
 use Rattle.reg_tables.specs.Listings.{parts_of, entry_parts, text_entry, ListsIds, ListsTextsBetween, is_between}
@@ -36,10 +36,10 @@ module _ (old new : State) (found : List Row) where
   -- ---- all ids
 
   module _ (h : Shown all_ids.sql [] old new found) where
-    ids_answer : IsLayout old.now.schema → IsAnswer (plain_query 0 [] all_ids.shown) (overlay old.now.trees []) [] found
+    ids_answer : HasTablesFirst old.now.schema → IsAnswer (plain_query 0 [] all_ids.shown) (overlay old.now.trees []) [] found
     ids_answer laid = answered all_ids [] old new (all_ids_is old.now.schema laid) found h
 
-    pub lists_ids : (ids : List ℕ) → map (λ (row : Row). column row 0) found ≡ map (λ id. Int (pos id)) ids → IsLayout old.now.schema → ListsIds old.now ids
+    pub lists_ids : (ids : List ℕ) → map (λ (row : Row). column row 0) found ≡ map (λ id. Int (pos id)) ids → HasTablesFirst old.now.schema → ListsIds old.now ids
     lists_ids ids read laid =
         let show = λ (row : Row). eval_all all_ids.shown ([] ∷ row ∷ []) in
         let rows = old.now.trees 0 in
@@ -49,7 +49,7 @@ module _ (old new : State) (found : List Row) where
 
     pub readable_ids : HoldsReadable old.now → All IsReadableId found
     readable_ids there = all_if_each IsReadableId found (λ x has.
-        let r = answer_has [] [] 0 all_ids.shown (overlay old.now.trees []) found (ids_answer (laid_out there.holds there.is_layout)) x has in
+        let r = answer_has [] [] 0 all_ids.shown (overlay old.now.trees []) found (ids_answer (laid_out there.holds there.known)) x has in
         let it = readable_text old.now there r.0 (subst (λ l. Has l r.0) (with_nothing old.now.trees 0) r.1) in
         subst IsReadableId (sym r.3) (record { id = it.id; is = ap (λ (row : Row). column row 0 ∷ []) it.is; low = it.low }))
 
@@ -89,10 +89,10 @@ module _ (old new : State) (found : List Row) where
         by_value (Blob b) = both_tests (Blob b)
 
     module _ (h : Shown texts_between.sql range old new found) where
-      between_answer : IsLayout old.now.schema → IsAnswer (plain_query 0 by_range texts_between.shown) (overlay old.now.trees []) range found
+      between_answer : HasTablesFirst old.now.schema → IsAnswer (plain_query 0 by_range texts_between.shown) (overlay old.now.trees []) range found
       between_answer laid = answered texts_between range old new (texts_between_is old.now.schema laid) found h
 
-      pub lists_between : (lines : List TextLine) → map (parts_of text_form) found ≡ map (λ line. entry_parts text_form (text_entry line)) lines → IsLayout old.now.schema → ListsTextsBetween low high old.now lines
+      pub lists_between : (lines : List TextLine) → map (parts_of text_form) found ≡ map (λ line. entry_parts text_form (text_entry line)) lines → HasTablesFirst old.now.schema → ListsTextsBetween low high old.now lines
       lists_between lines read laid =
           let show = λ (row : Row). eval_all texts_between.shown (range ∷ row ∷ []) in
           let rows = old.now.trees 0 in
@@ -105,5 +105,5 @@ module _ (old new : State) (found : List Row) where
 
       pub readable_between : HoldsReadable old.now → All IsReadableText found
       readable_between there = all_if_each IsReadableText found (λ x has.
-          let r = answer_has by_range range 0 texts_between.shown (overlay old.now.trees []) found (between_answer (laid_out there.holds there.is_layout)) x has in
+          let r = answer_has by_range range 0 texts_between.shown (overlay old.now.trees []) found (between_answer (laid_out there.holds there.known)) x has in
           subst IsReadableText (sym r.3) (readable_text old.now there r.0 (subst (λ l. Has l r.0) (with_nothing old.now.trees 0) r.1)))

@@ -1,5 +1,5 @@
 -- SQLite keeps a table's keys apart, so that the rowids alone are left to be told apart.
-use Rattle.std.proofs.Common.{◌≡◌, inl, inr, ℕ, ℤ, pos, List, [], ◌∷◌, map, Some, true, false, codes, Ordering, Less, Equal, Greater, refl, sym, ap, subst, ◌∙◌}
+use Rattle.std.proofs.Common.{◌≡◌, inl, inr, ℕ, ℤ, pos, List, [], ◌∷◌, ◌++◌, map, Some, true, false, codes, Ordering, Less, Equal, Greater, refl, sym, ap, subst, ◌∙◌}
 use Rattle.std.specs.Ordering.{is_ne, int_cmp, nat_cmp, eq_by_cmp}
 use Rattle.std.specs.List.{IsDistinct}
 use Rattle.std.specs.FinMap.{int_cmp-IsAntisymmetric}
@@ -22,7 +22,8 @@ use Rattle.sqlite_rules.proofs.ListLemmas.{test_has, some_from}
 use Rattle.sqlite_rules.proofs.RuleLemmas.{keeps_at}
 use Rattle.reg_tables.specs.TableMaps.{Form}
 use Rattle.reg_tables.specs.Contents.{text_cells, version_key_cells, text_cmp, version_cmp, version_form, pair_form, kept_form}
-use Rattle.reg_tables.specs.Layout.{automatic_index, layout, unindexed, IsLayout, versions, levels, kept, meta}
+use Rattle.reg_tables.specs.Layout.{automatic_index, versions_of_id, layout, unindexed, begins, IsLayout, versions, levels, kept, meta}
+use Rattle.reg_tables.specs.SecondLayout.{added, added_indexes, IsSecondLayout}
 use Rattle.reg_tables.specs.Listings.{RowParts, Lists, HasNoTwins, text_entry, version_entry, level_entry, kept_entry, meta_entry, ListsVersions, ListsLevels, ListsKept, ListsMeta}
 use Rattle.reg_tables.specs.declared.lines.TextLine.{TextLine}
 use Rattle.reg_tables.specs.declared.lines.VersionLine.{VersionLine}
@@ -33,7 +34,7 @@ use Rattle.reg_tables.specs.Inside.KeyedLaws.{IsKeyOrder}
 use Rattle.reg_tables.proofs.KeyedTables.{text_order, version_order, number_order, distinct_texts, distinct_versions}
 use Rattle.reg_tables.proofs.ListingLemmas.{stored, keys_distinct}
 use Rattle.reg_tables.proofs.MapLemmas.{tied_key}
-use Rattle.reg_tables.proofs.ListMembers.{has_mapped}
+use Rattle.reg_tables.proofs.ListMembers.{has_mapped, has_front}
 
 -- rowids that don't differ are the same
 pub same_number : (i j : ℤ) → differ (Int i) (Int j) ≡ false → i ≡ j
@@ -45,14 +46,14 @@ same_number i j h = go (int_cmp i j) refl (rw (value_cmp-Int i j) at h)
     go Equal e apart = int_cmp-IsAntisymmetric i j e
     go Greater e apart = absurd (cc)
 
-text_agrees : (a b : Row) (q : List ℕ) → column a 1 ∷ [] ≡ text_cells q → column b 1 ∷ [] ≡ text_cells q → agree (record { digits = 0 }) (1 ∷ []) a (1 ∷ []) b ≡ true
+pub text_agrees : (a b : Row) (q : List ℕ) → column a 1 ∷ [] ≡ text_cells q → column b 1 ∷ [] ≡ text_cells q → agree (record { digits = 0 }) (1 ∷ []) a (1 ∷ []) b ≡ true
 unfolding binary first_key
 text_agrees a b q here there =
     let of_a : column a 1 ≡ Text q = cc in
     let of_b : column b 1 ≡ Text q = cc in
     rw (of_a, of_b, value_cmp-Text q q, tied_key text_cmp text_order q q refl) refl
 
-version_agrees : (a b : Row) (q : List ℕ × ℕ) → column a 1 ∷ column a 2 ∷ [] ≡ version_key_cells q → column b 1 ∷ column b 2 ∷ [] ≡ version_key_cells q
+pub version_agrees : (a b : Row) (q : List ℕ × ℕ) → column a 1 ∷ column a 2 ∷ [] ≡ version_key_cells q → column b 1 ∷ column b 2 ∷ [] ≡ version_key_cells q
     → agree (record { digits = 0 }) (1 ∷ 2 ∷ []) a (1 ∷ 2 ∷ []) b ≡ true
 unfolding binary first_key
 version_agrees a b q here there =
@@ -110,34 +111,49 @@ rowids_of entry rowid_of same (l ∷ ls) = λ i. same l i ∷ rowids_of entry ro
 
 -- ---- the tables of the layouts
 
-module _ (db : Database) (known : IsLayout db.schema) (sound : IsDatabase db) where
-  -- a table of both layouts, and its index
-  pub has_table : (table : Table) → Has layout.tables table → Has db.schema.tables table
-  has_table table here = elim known [ inl e ↦ subst (λ (s : Schema). Has s.tables table) (sym e) here | inr e ↦ subst (λ (s : Schema). Has s.tables table) (sym e) here ]
+-- the five tables come first, and the indexes that SQLite makes of their keys
+pub record HasKeysFirst (schema : Schema) : Type 0 where
+  pub tables : List Table
+  pub indexes : List Index
+  pub is : schema ≡ begins tables (unindexed.indexes ++ indexes)
 
-  pub has_index : (index : Index) → Has unindexed.indexes index → Has layout.indexes index → Has db.schema.indexes index
-  has_index index bare whole = elim known [ inl e ↦ subst (λ (s : Schema). Has s.indexes index) (sym e) whole | inr e ↦ subst (λ (s : Schema). Has s.indexes index) (sym e) bare ]
+pub layout_keys : (schema : Schema) → IsLayout schema → HasKeysFirst schema
+layout_keys schema (inl is) = record { tables = []; indexes = versions_of_id ∷ []; is = is }
+layout_keys schema (inr is) = record { tables = []; indexes = []; is = is }
+
+pub second_keys : (schema : Schema) → IsSecondLayout schema → HasKeysFirst schema
+second_keys schema (inl (inl is)) = record { tables = added 11; indexes = versions_of_id ∷ added_indexes 11; is = is }
+second_keys schema (inl (inr is)) = record { tables = added 10; indexes = added_indexes 10 ++ (record versions_of_id { tree = 16 }) ∷ []; is = is }
+second_keys schema (inr is) = record { tables = added 10; indexes = added_indexes 10; is = is }
+
+module _ (db : Database) (known : HasKeysFirst db.schema) (sound : IsDatabase db) where
+  -- a table that comes first, and its index
+  pub has_table : (table : Table) → Has layout.tables table → Has db.schema.tables table
+  has_table table here = subst (λ (s : Schema). Has s.tables table) (sym known.is) (has_front layout.tables known.tables table here)
+
+  pub has_index : (index : Index) → Has unindexed.indexes index → Has db.schema.indexes index
+  has_index index here = subst (λ (s : Schema). Has s.indexes index) (sym known.is) (has_front unindexed.indexes known.indexes index here)
 
   pub versions_apart : (lines : List VersionLine) → ListsVersions db lines → IsDistinct (eq_by_cmp int_cmp) (map (λ (l : VersionLine). l.rowid) lines) → HasNoTwins version_cmp (map version_entry lines)
   versions_apart lines lists ids =
       let index = automatic_index (codes "sqlite_autoindex_versions_1") 2 (1 ∷ 2 ∷ []) in
-      apart_by_key version_form version_cmp version_order distinct_versions db.schema db.trees sound.obeys versions index (has_table versions (inr (inl refl))) (has_index index (inr (inl refl)) (inr (inl refl))) refl
+      apart_by_key version_form version_cmp version_order distinct_versions db.schema db.trees sound.obeys versions index (has_table versions (inr (inl refl))) (has_index index (inr (inl refl))) refl
       version_agrees (map version_entry lines) lists (subst (IsDistinct (eq_by_cmp int_cmp)) (sym (rowids_of version_entry (λ (l : VersionLine). l.rowid) (λ l. refl) lines)) ids)
 
   pub levels_apart : (lines : List LevelLine) → ListsLevels db lines → IsDistinct (eq_by_cmp int_cmp) (map (λ (l : LevelLine). l.rowid) lines) → HasNoTwins text_cmp (map level_entry lines)
   levels_apart lines lists ids =
       let index = automatic_index (codes "sqlite_autoindex_levels_1") 4 (1 ∷ []) in
-      apart_by_key pair_form text_cmp text_order distinct_texts db.schema db.trees sound.obeys levels index (has_table levels (inr (inr (inl refl)))) (has_index index (inr (inr (inl refl))) (inr (inr (inl refl)))) refl
+      apart_by_key pair_form text_cmp text_order distinct_texts db.schema db.trees sound.obeys levels index (has_table levels (inr (inr (inl refl)))) (has_index index (inr (inr (inl refl)))) refl
       text_agrees (map level_entry lines) lists (subst (IsDistinct (eq_by_cmp int_cmp)) (sym (rowids_of level_entry (λ (l : LevelLine). l.rowid) (λ l. refl) lines)) ids)
 
   pub kept_apart : (lines : List KeptLine) → ListsKept db lines → IsDistinct (eq_by_cmp int_cmp) (map (λ (l : KeptLine). l.rowid) lines) → HasNoTwins text_cmp (map kept_entry lines)
   kept_apart lines lists ids =
       let index = automatic_index (codes "sqlite_autoindex_kept_1") 6 (1 ∷ []) in
-      apart_by_key kept_form text_cmp text_order distinct_texts db.schema db.trees sound.obeys kept index (has_table kept (inr (inr (inr (inl refl))))) (has_index index (inr (inr (inr (inl refl)))) (inr (inr (inr (inl refl))))) refl
+      apart_by_key kept_form text_cmp text_order distinct_texts db.schema db.trees sound.obeys kept index (has_table kept (inr (inr (inr (inl refl))))) (has_index index (inr (inr (inr (inl refl))))) refl
       text_agrees (map kept_entry lines) lists (subst (IsDistinct (eq_by_cmp int_cmp)) (sym (rowids_of kept_entry (λ (l : KeptLine). l.rowid) (λ l. refl) lines)) ids)
 
   pub meta_apart : (lines : List MetaLine) → ListsMeta db lines → IsDistinct (eq_by_cmp int_cmp) (map (λ (l : MetaLine). l.rowid) lines) → HasNoTwins text_cmp (map meta_entry lines)
   meta_apart lines lists ids =
       let index = automatic_index (codes "sqlite_autoindex_meta_1") 8 (1 ∷ []) in
-      apart_by_key pair_form text_cmp text_order distinct_texts db.schema db.trees sound.obeys meta index (has_table meta (inr (inr (inr (inr (inl refl)))))) (has_index index (inr (inr (inr (inr (inl refl))))) (inr (inr (inr (inr (inl refl)))))) refl
+      apart_by_key pair_form text_cmp text_order distinct_texts db.schema db.trees sound.obeys meta index (has_table meta (inr (inr (inr (inr (inl refl)))))) (has_index index (inr (inr (inr (inr (inl refl)))))) refl
       text_agrees (map meta_entry lines) lists (subst (IsDistinct (eq_by_cmp int_cmp)) (sym (rowids_of meta_entry (λ (l : MetaLine). l.rowid) (λ l. refl) lines)) ids)

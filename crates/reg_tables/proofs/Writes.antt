@@ -23,7 +23,7 @@ use Rattle.sqlite_schema.specs.declared.program.Program.{Program}
 use Rattle.sqlite_rules.specs.Action as action
 use Rattle.sqlite_rules.specs.Calls.{ids_of}
 use Rattle.sqlite_rules.proofs.ActionLemmas.{no_works}
-use Rattle.reg_tables.specs.Inside.KeyedLaws.{IsIdle}
+use Rattle.reg_tables.specs.Inside.KeyedLaws.{IsIdle, IsSteady}
 
 -- a part that gave a value did not stop on the way
 pub went : {B E R : Type 0} {b : B} {Stops : E → Type 0} → ((stop : E) × Stops stop × (Ok b ≡ Err stop)) ⊎ R → R
@@ -119,14 +119,14 @@ module _ (schema : Schema) (at : ℕ) (table : Table) (there : slice_get schema.
       (ran.0, ran.1, ap (λ (p : Tally × Database). p.1) (same_value {E = Option Error} shown.2))
 
   -- the query gives the rowids, and the rows that take their places
-  pub updated : IsIdle schema table.tree → (q : Program) → Writes old new None (Update at q) text params count
+  pub updated : IsSteady schema table → (q : Program) → Writes old new None (Update at q) text params count
       → (found : List Row) × Answers (record { schema = schema; trees = old.now.trees }) q params found × IsStep schema old new (edit_of old.now.trees table (ids_of found) Given 1 found)
-  updated idle q w =
+  updated steady q w =
       let wrote = update_wrote q w in
       let asked = went wrote.1 in
       let put = went asked.2 in
       let db = old.now.trees in
       let edit = edit_of db table (ids_of asked.0) Given 1 asked.0 in
-      let step : Applies schema Enforced db edit put.0 = one_step schema Enforced db put.0 edit (idle (taken_by db edit) edit.news) put.1 in
+      let step : Applies schema Enforced db edit put.0 = one_step schema Enforced db put.0 edit (steady db asked.0) put.1 in
       let now : put.0 ≡ new.now.trees = sym (ap (λ (it : Written). it.trees) (same_value put.2)) ∙ ap (λ (d : Database). d.trees) (sym wrote.2) in
       (asked.0, asked.1, record { same = ap (λ (d : Database). d.schema) wrote.2; applies = subst (Applies schema Enforced db edit) now step })

@@ -2,12 +2,7 @@
 use Rattle.std.specs.Prelude.{ℕ, true, List, option_map, unwrap_or, codes}
 use Rattle.std.specs.declared.cmp.Ordering.{Ordering}
 use Rattle.std.specs.FinMap.{FinMap, get, insert, remove, empty}
-use Rattle.sqlite.specs.State.{State}
-use Rattle.reg_tables.specs.Contents.{TextMap, VersionRow, KeptRow, Contents, Holds}
-
--- the tables held some contents, and now hold what the change makes of them
-abbrev pub Changes : State → State → (Contents → Contents) → Type 0
-Changes old new change = (contents : Contents) → Holds old.now contents → Holds new.now (change contents)
+use Rattle.reg_tables.specs.Contents.{TextMap, VersionRow, KeptRow, Contents}
 
 abbrev pub with_meta : List ℕ → List ℕ → Contents → Contents
 with_meta name value contents = record contents { meta = insert contents.meta name value }
@@ -17,6 +12,13 @@ without_meta name contents = record contents { meta = remove contents.meta name 
 
 abbrev pub with_global : List ℕ → Contents → Contents
 with_global level = with_meta (codes "global") level
+
+abbrev pub with_global_mode : List ℕ → Contents → Contents
+with_global_mode mode = with_meta (codes "mode") mode
+
+-- layout 2 by its number; a registry of layout 1 is READWRITE
+abbrev pub numbered_second : Contents → Contents
+numbered_second contents = with_global_mode (codes "READWRITE") (with_meta (codes "layout") (codes "2") contents)
 
 abbrev pub with_level : List ℕ → List ℕ → Contents → Contents
 with_level subject level contents = record contents { levels = insert contents.levels subject level }

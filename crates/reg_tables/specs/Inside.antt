@@ -1,5 +1,6 @@
 pub mod ReadableRows
 pub mod AllLines
+pub mod AllSecondLines
 pub mod Forms
 pub mod Checks
 pub mod Keyed

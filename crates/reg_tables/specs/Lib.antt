@@ -12,5 +12,6 @@ pub mod Lookups
 pub mod Rooms
 pub mod SecondLayout
 pub mod SecondContents
+pub mod Writing
 pub mod SecondListings
 pub mod Inside

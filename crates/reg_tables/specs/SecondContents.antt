@@ -1,5 +1,5 @@
 -- What the tables of layout 2 hold.
-use Rattle.std.specs.Prelude.{◌≡◌, ℕ, pos, List, [], ◌∷◌, Option, None, Some, slice_get, take, not, codes, IsTrue, IsUtf8}
+use Rattle.std.specs.Prelude.{◌≡◌, ℕ, ◌<◌, ◌^◌, pos, List, [], ◌∷◌, Option, None, Some, slice_get, take, not, codes, IsTrue, IsUtf8}
 use Rattle.std.specs.List.{AllByRecursion}
 use Rattle.std.specs.declared.cmp.Ordering.{Ordering}
 use Rattle.std.specs.Ordering.{is_eq, nat_cmp, on, then_cmp}
@@ -13,7 +13,7 @@ use Rattle.sqlite.specs.Tree.{Trees}
 use Rattle.sqlite.specs.Effect.{Database}
 use Rattle.reg_tables.specs.TableMaps.{Form, ShowsMap}
 use Rattle.reg_tables.specs.Contents.{TextMap, version_cmp, text_cells, number_cells, version_key_cells, pair_form, Contents, HoldsIn, AreReadable}
-use Rattle.reg_tables.specs.Changes.{with_meta, without_version, contents_as}
+use Rattle.reg_tables.specs.Changes.{with_global_mode, without_version, contents_as}
 use Rattle.reg_tables.specs.Reads.{HoldsSome}
 use Rattle.reg_tables.specs.SecondLayout.{IsSecond, HasSecondTables, extended, added}
 
@@ -69,10 +69,12 @@ pub record HoldsAllIn (schema : Schema) (db : Database) (contents : SecondConten
   pub evidence : ShowsIn evidence_form db.trees (slice_get schema.tables 6) contents.evidence
   pub against : ShowsIn against_form db.trees (slice_get schema.tables 7) contents.against
 
--- the mode's texts are UTF-8, as a `String` holds them, and what is in the tables of layout 1 can be read
+-- what is in the tables of layout 1 can be read, and so can the others: each text is UTF-8, and each number is below 2^32
 pub record AreAllReadable (contents : SecondContents) : Type 0 where
   pub base : AreReadable contents.base
   pub modes : (subject mode : List ℕ) → get contents.modes subject ≡ Some mode → IsUtf8 subject × IsUtf8 mode
+  pub evidence : (key : List ℕ × ℕ) (level : List ℕ) → get contents.evidence key ≡ Some level → IsUtf8 key.0 × (key.1 < 2 ^ 32) × IsUtf8 level
+  pub against : (key : PlaceKey) (id : ℕ) → get contents.against key ≡ Some id → IsUtf8 key.0.0 × (key.0.1 < 2 ^ 32) × (key.1 < 2 ^ 32) × (id < 2 ^ 32)
 
 -- while the connection is open, its tables are the eight of layout 2, and hold what can be read
 abbrev pub CanBeReadSecond : State → Type 0
@@ -99,7 +101,7 @@ with_no_more contents = record { base = contents; modes = empty; evidence = empt
 
 -- a new registry in layout 2: its level is BACKWARD, and its mode READWRITE
 abbrev pub second_new_contents : SecondContents
-second_new_contents = with_no_more (with_meta (codes "mode") (codes "READWRITE") (contents_as (codes "2")))
+second_new_contents = with_no_more (with_global_mode (codes "READWRITE") (contents_as (codes "2")))
 
 -- no place of the version
 abbrev pub without_places : FinMap place_cmp ℕ → List ℕ × ℕ → FinMap place_cmp ℕ

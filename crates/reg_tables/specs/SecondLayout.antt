@@ -50,9 +50,21 @@ second = begins (added 11) (layout.indexes ++ added_indexes 11)
 abbrev pub second_indexed_last : Schema
 second_indexed_last = begins (added 10) (unindexed.indexes ++ added_indexes 10 ++ (record versions_of_id { tree = 16 }) ∷ [])
 
+-- the tables of layout 2 without the index
+abbrev pub second_unindexed : Schema
+second_unindexed = begins (added 10) (unindexed.indexes ++ added_indexes 10)
+
 -- a database with this schema has the eight tables and the index as they are declared here
 abbrev pub IsSecond : Schema → Type 0
 IsSecond schema = (schema ≡ second) ⊎ (schema ≡ second_indexed_last)
+
+-- the same, with or without the index
+abbrev pub IsSecondLayout : Schema → Type 0
+IsSecondLayout schema = IsSecond schema ⊎ (schema ≡ second_unindexed)
+
+-- the schemas that are written: layout 1 with its index, and layout 2
+abbrev pub IsWritten : Schema → Type 0
+IsWritten schema = (schema ≡ layout) ⊎ IsSecond schema
 
 -- a database with this schema has the eight tables, the new ones made before the index or behind it, with any indexes
 pub record HasSecondTables (schema : Schema) : Type 0 where

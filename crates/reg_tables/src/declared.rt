@@ -1,11 +1,15 @@
-//! Whether the tables of a database are declared as layout 1 says.
+//! Whether the tables of a database are declared as a layout says.
 
 ghost use Rattle.std.specs.Prelude.{◌≡◌, ◌↔◌, IsTrue};
 ghost use Rattle.sqlite.specs.Held.{state};
 ghost use Rattle.reg_tables.specs.Layout.{layout, unindexed, no_schema};
+ghost use Rattle.reg_tables.specs.SecondLayout.{second_unindexed, IsSecond};
+ghost use Rattle.reg_tables.specs.Inside.Forms.{schema_of};
 
-use crate::declared::indexes::{are_automatic_indexes, are_indexes};
-use crate::declared::tables::are_tables;
+use crate::declared::listed_forms::are_declared;
+use crate::declared::schemas::{
+    FIRST, FIRST_UNINDEXED, SECOND, SECOND_INDEXED_LAST, SECOND_UNINDEXED, SchemaForm,
+};
 use sqlite::{Alter, Connection};
 use sqlite_schema::schema::Schema;
 
@@ -13,14 +17,16 @@ mod checks;
 mod forms;
 mod indexes;
 mod keys;
+mod listed_forms;
 mod references;
+mod schemas;
 mod tables;
 
 /// Whether the tables of the database are those of layout 1, declared as `create` declares them.
 pub fn has_layout<S: Alter>(conn: &Connection<S>) -> bool
     ensures { IsTrue result ↔ ((state S.Store conn.now).now.schema ≡ layout) }
 {
-    is_layout(conn.schema())
+    is_schema(conn.schema(), &FIRST)
 }
 
 /// Whether the tables of the database are those of layout 1, and its one index beside SQLite's own
@@ -28,7 +34,23 @@ pub fn has_layout<S: Alter>(conn: &Connection<S>) -> bool
 pub fn is_unindexed<S: Alter>(conn: &Connection<S>) -> bool
     ensures { IsTrue result ↔ ((state S.Store conn.now).now.schema ≡ unindexed) }
 {
-    lacks_index(conn.schema())
+    is_schema(conn.schema(), &FIRST_UNINDEXED)
+}
+
+/// Whether the tables of the database are those of layout 2, declared as `create_second` declares
+/// them, with the index before the new tables or behind them.
+pub fn has_second_layout<S: Alter>(conn: &Connection<S>) -> bool
+    ensures { IsTrue result ↔ IsSecond (state S.Store conn.now).now.schema }
+{
+    is_second(conn.schema())
+}
+
+/// Whether the tables of the database are those of layout 2, and its one index beside SQLite's own
+/// is not there, as `index_versions` asks.
+pub fn is_second_unindexed<S: Alter>(conn: &Connection<S>) -> bool
+    ensures { IsTrue result ↔ ((state S.Store conn.now).now.schema ≡ second_unindexed) }
+{
+    is_schema(conn.schema(), &SECOND_UNINDEXED)
 }
 
 /// Whether the database has no table, index or view, as `create` asks.
@@ -46,16 +68,16 @@ fn is_empty(schema: &Schema) -> bool
         && schema.views.as_slice().is_empty()
 }
 
-fn is_layout(schema: &Schema) -> bool
-    ensures { IsTrue result ↔ (schema.now ≡ layout) }
+fn is_second(schema: &Schema) -> bool
+    ensures { IsTrue result ↔ IsSecond schema.now }
 {
-    are_tables(&schema.tables) && are_indexes(&schema.indexes) && schema.views.as_slice().is_empty()
+    is_schema(schema, &SECOND) || is_schema(schema, &SECOND_INDEXED_LAST)
 }
 
-fn lacks_index(schema: &Schema) -> bool
-    ensures { IsTrue result ↔ (schema.now ≡ unindexed) }
+fn is_schema(schema: &Schema, form: &SchemaForm) -> bool
+    ensures { IsTrue result ↔ (schema.now ≡ schema_of form.now) }
 {
-    are_tables(&schema.tables)
-        && are_automatic_indexes(&schema.indexes)
+    are_declared(schema.tables.as_slice(), form.tables)
+        && are_declared(schema.indexes.as_slice(), form.indexes)
         && schema.views.as_slice().is_empty()
 }

@@ -5,10 +5,13 @@ ghost use Rattle.std.specs.FinMap.{get};
 ghost use Rattle.sqlite.specs.Order.{column};
 ghost use Rattle.reg_tables.specs.Frames.{state_in, StaysInside};
 ghost use Rattle.sqlite.specs.State.{HasCleanDisk};
-ghost use Rattle.reg_tables.specs.Contents.{KeptRow, Contents, kept_cells, IsReadableReply, Holds, AreReadable, HoldsIn};
+ghost use Rattle.reg_tables.specs.Contents.{KeptRow, Contents, kept_cells, IsReadableReply, AreReadable, HoldsIn};
 ghost use Rattle.reg_tables.specs.Lookups.{Finds};
-ghost use Rattle.reg_tables.specs.Layout.{IsLayout, layout};
+ghost use Rattle.reg_tables.specs.Layout.{HasTablesFirst};
+ghost use Rattle.reg_tables.specs.SecondLayout.{IsWritten};
+ghost use Rattle.reg_tables.specs.SecondContents.{SecondContents};
 ghost use Rattle.reg_tables.specs.Changes.{with_kept};
+ghost use Rattle.reg_tables.specs.Writing.{HoldsBeside, WhereHeld, ChangesIf};
 ghost use Rattle.reg_tables.specs.FailedCalls.{IsInsertFault};
 ghost use Rattle.reg_tables.specs.KeptRows.{kept_row};
 ghost use Rattle.reg_tables.specs.Inside.Keyed.{kept_table};
@@ -57,7 +60,11 @@ impl KeyedTable for Kept {
 
     ghost Holds = { HoldsIn };
 
-    ghost Known = { IsLayout };
+    ghost Others = { SecondContents };
+
+    ghost HoldsWith = { HoldsBeside };
+
+    ghost Known = { HasTablesFirst };
 
     ghost Readable = { AreReadable };
 
@@ -71,7 +78,7 @@ impl KeyedTable for Kept {
 }
 
 impl FilledTable for Kept {
-    ghost Written = { λ schema. schema ≡ layout };
+    ghost Written = { IsWritten };
 
     fn put_sql() -> &'static str {
         "INSERT INTO kept (key, command, status, body) VALUES (?1, ?2, ?3, ?4)"
@@ -85,7 +92,7 @@ impl FilledTable for Kept {
 /// `OutOfMemory`, a fault of the disk, `OperationInterrupted` at the limit on steps,
 /// `TransactionState` where a failure has ended the transaction, `TooBig` for a row that is too
 /// large, or `NoRowid` or `ConstraintViolation(PrimaryKey)` where no rowid is free behind the last
-/// row; another where the key has something or the tables aren't the layout's. Nothing is
+/// row; another where the key has something or the tables aren't a layout's. Nothing is
 /// committed, and the transaction is to be rolled back.
 pub fn keep_reply<S: Alter>(
     tx: &mut Transaction<'_, S>,
@@ -95,13 +102,12 @@ pub fn keep_reply<S: Alter>(
     body: &str,
 ) -> Result<(), Error>
     ensures frame { StaysInside S.Store tx.old tx.new result }
-    ensures put { HasCleanDisk (state_in S.Store tx.new) → OnOk result ((contents : Contents)
-        → Holds (state_in S.Store tx.old).now contents → get contents.kept key.now ≡ None
-        → Holds (state_in S.Store tx.new).now (with_kept key.now
-        (record { command = command.now; status = status; body = body.now }) contents)) }
+    ensures put { HasCleanDisk (state_in S.Store tx.new) → OnOk result (ChangesIf (state_in S.Store tx.old) (state_in S.Store tx.new)
+        (λ contents. get contents.kept key.now ≡ None)
+        (with_kept key.now (record { command = command.now; status = status; body = body.now }))) }
     ensures fault { HasCleanDisk (state_in S.Store tx.new) → IfErr result (λ e.
-        (contents : Contents) → Holds (state_in S.Store tx.old).now contents
-        → get contents.kept key.now ≡ None → IsInsertFault (state_in S.Store tx.old) (state_in S.Store tx.new) e) }
+        WhereHeld (state_in S.Store tx.old) (λ contents.
+        get contents.kept key.now ≡ None → IsInsertFault (state_in S.Store tx.old) (state_in S.Store tx.new) e)) }
 {
     put::<S, Kept>(tx, params![key, command, status, body])
 }

@@ -34,6 +34,11 @@ pub(crate) trait KeyedTable {
 
     ghost Holds: { Schema → Database → Tables → Type 0 };
 
+    /// What tables hold that `Tables` lacks, where rows are written.
+    ghost Others: { Type 0 };
+
+    ghost HoldsWith: { Schema → Others → Database → Tables → Type 0 };
+
     /// The schemas in which it is read.
     ghost Known: { Schema → Type 0 };
 
@@ -59,7 +64,7 @@ pub(crate) trait FilledTable: KeyedTable {
 
     /// The INSERT of a row, by the columns of its key and then of its value.
     fn put_sql() -> &'static str
-        ensures keyed { (schema : Schema) → Written schema → IsKeyed schema (Self.Holds schema) (Self.table schema) }
+        ensures keyed { (schema : Schema) → Written schema → (others : Self.Others) → IsKeyed schema (Self.HoldsWith schema others) (Self.table schema) }
         ensures puts { (schema : Schema) → Written schema → PutsRow schema (Self.table schema) result.now };
 }
 
@@ -67,7 +72,7 @@ pub(crate) trait FilledTable: KeyedTable {
 pub(crate) trait ChangedTable: FilledTable {
     /// The DELETE of a row, by the columns of its key.
     fn drop_sql() -> &'static str
-        ensures keyed { (schema : Schema) → Self.Written schema → IsKeyed schema (Self.Holds schema) (Self.table schema) }
+        ensures keyed { (schema : Schema) → Self.Written schema → (others : Self.Others) → IsKeyed schema (Self.HoldsWith schema others) (Self.table schema) }
         ensures drops { (schema : Schema) → Self.Written schema → DropsRow schema (Self.table schema) result.now };
 }
 
@@ -90,25 +95,25 @@ pub(crate) fn put<S: Alter, T: FilledTable>(
 ) -> Result<(), Error>
     ensures frame { StaysInside S.Store tx.old tx.new result }
     ensures put { HasCleanDisk (state_in S.Store tx.new) → OnOk result ((schema : Schema) → T.Written schema
-        → (key : T.Key) (value : T.Value)
+        → (others : T.Others) (key : T.Key) (value : T.Value)
         → bound values.now ≡ cells_of (T.table schema) key value
-        → (tables : T.Tables) → T.Holds schema (state_in S.Store tx.old).now tables → IsFreeKey (T.table schema) key tables
-        → T.Holds schema (state_in S.Store tx.new).now (with_entry (T.table schema) key value tables)) }
+        → (tables : T.Tables) → T.HoldsWith schema others (state_in S.Store tx.old).now tables → IsFreeKey (T.table schema) key tables
+        → T.HoldsWith schema others (state_in S.Store tx.new).now (with_entry (T.table schema) key value tables)) }
     ensures fault { HasCleanDisk (state_in S.Store tx.new) → IfErr result (λ e. (schema : Schema) → T.Written schema
-        → (key : T.Key) (value : T.Value)
+        → (others : T.Others) (key : T.Key) (value : T.Value)
         → bound values.now ≡ cells_of (T.table schema) key value
-        → (tables : T.Tables) → T.Holds schema (state_in S.Store tx.old).now tables → IsFreeKey (T.table schema) key tables
+        → (tables : T.Tables) → T.HoldsWith schema others (state_in S.Store tx.old).now tables → IsFreeKey (T.table schema) key tables
         → IsTrue ((T.table schema).refers tables key value)
         → IsInsertFault (state_in S.Store tx.old) (state_in S.Store tx.new) e) }
     ensures room { HasCleanDisk (state_in S.Store tx.new) → OnOk result ((schema : Schema) → T.Written schema
-        → (key : T.Key) (value : T.Value)
+        → (others : T.Others) (key : T.Key) (value : T.Value)
         → bound values.now ≡ cells_of (T.table schema) key value
-        → (tables : T.Tables) → T.Holds schema (state_in S.Store tx.old).now tables → IsFreeKey (T.table schema) key tables
+        → (tables : T.Tables) → T.HoldsWith schema others (state_in S.Store tx.old).now tables → IsFreeKey (T.table schema) key tables
         → (n : ℕ) → HasRoom ((state_in S.Store tx.old).now.trees (T.table schema).table.tree) (n + 1) → HasRoom ((state_in S.Store tx.new).now.trees (T.table schema).table.tree) n) }
     ensures fits { HasCleanDisk (state_in S.Store tx.new) → IfErr result (λ e. (schema : Schema) → T.Written schema
-        → (key : T.Key) (value : T.Value)
+        → (others : T.Others) (key : T.Key) (value : T.Value)
         → bound values.now ≡ cells_of (T.table schema) key value
-        → (tables : T.Tables) → T.Holds schema (state_in S.Store tx.old).now tables → IsFreeKey (T.table schema) key tables
+        → (tables : T.Tables) → T.HoldsWith schema others (state_in S.Store tx.old).now tables → IsFreeKey (T.table schema) key tables
         → IsTrue ((T.table schema).refers tables key value) → (n : ℕ) → HasRoom ((state_in S.Store tx.old).now.trees (T.table schema).table.tree) (n + 1)
         → CanBeStoredIn schema (T.table schema).table (cells_of (T.table schema) key value)
         → IsWriteFault (state_in S.Store tx.old) (state_in S.Store tx.new) e) }
@@ -123,16 +128,16 @@ pub(crate) fn drop<S: Alter, T: ChangedTable>(
 ) -> Result<(), Error>
     ensures frame { StaysInside S.Store tx.old tx.new result }
     ensures dropped { HasCleanDisk (state_in S.Store tx.new) → OnOk result ((schema : Schema) → T.Written schema
-        → (key : T.Key)
+        → (others : T.Others) (key : T.Key)
         → bound values.now ≡ (T.table schema).form.key_cells key
-        → (tables : T.Tables) → T.Holds schema (state_in S.Store tx.old).now tables
-        → T.Holds schema (state_in S.Store tx.new).now (without_entry (T.table schema) key tables)) }
+        → (tables : T.Tables) → T.HoldsWith schema others (state_in S.Store tx.old).now tables
+        → T.HoldsWith schema others (state_in S.Store tx.new).now (without_entry (T.table schema) key tables)) }
     ensures fault { HasCleanDisk (state_in S.Store tx.new) → IfErr result (λ e. (schema : Schema) → T.Written schema
-        → (key : T.Key)
+        → (others : T.Others) (key : T.Key)
         → bound values.now ≡ (T.table schema).form.key_cells key
-        → (tables : T.Tables) → T.Holds schema (state_in S.Store tx.old).now tables
+        → (tables : T.Tables) → T.HoldsWith schema others (state_in S.Store tx.old).now tables
         → IsWriteFault (state_in S.Store tx.old) (state_in S.Store tx.new) e) }
-    ensures keyed { (schema : Schema) → T.Written schema → IsKeyed schema (T.Holds schema) (T.table schema) }
+    ensures keyed { (schema : Schema) → T.Written schema → (others : T.Others) → IsKeyed schema (T.HoldsWith schema others) (T.table schema) }
 {
     run(tx, T::drop_sql(), values)
 }
@@ -145,14 +150,14 @@ pub(crate) fn set<S: Alter, T: ChangedTable>(
 ) -> Result<(), Error>
     ensures frame { StaysInside S.Store tx.old tx.new result }
     ensures set { HasCleanDisk (state_in S.Store tx.new) → OnOk result ((schema : Schema) → T.Written schema
-        → (key : T.Key) (value : T.Value)
+        → (others : T.Others) (key : T.Key) (value : T.Value)
         → bound key_values.now ≡ (T.table schema).form.key_cells key → bound values.now ≡ cells_of (T.table schema) key value
-        → (tables : T.Tables) → T.Holds schema (state_in S.Store tx.old).now tables
-        → T.Holds schema (state_in S.Store tx.new).now (with_entry (T.table schema) key value tables)) }
+        → (tables : T.Tables) → T.HoldsWith schema others (state_in S.Store tx.old).now tables
+        → T.HoldsWith schema others (state_in S.Store tx.new).now (with_entry (T.table schema) key value tables)) }
     ensures fault { HasCleanDisk (state_in S.Store tx.new) → IfErr result (λ e. (schema : Schema) → T.Written schema
-        → (key : T.Key) (value : T.Value)
+        → (others : T.Others) (key : T.Key) (value : T.Value)
         → bound key_values.now ≡ (T.table schema).form.key_cells key → bound values.now ≡ cells_of (T.table schema) key value
-        → (tables : T.Tables) → T.Holds schema (state_in S.Store tx.old).now tables
+        → (tables : T.Tables) → T.HoldsWith schema others (state_in S.Store tx.old).now tables
         → IsTrue ((T.table schema).refers (without_entry (T.table schema) key tables) key value)
         → IsInsertFault (state_in S.Store tx.old) (state_in S.Store tx.new) e) }
 {

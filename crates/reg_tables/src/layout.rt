@@ -5,6 +5,8 @@ ghost use Rattle.reg_tables.specs.Frames.{state_in, StaysInside};
 ghost use Rattle.sqlite.specs.State.{HasCleanDisk};
 ghost use Rattle.reg_tables.specs.Layout.{no_schema, begun, unindexed, IsBare, meta};
 ghost use Rattle.reg_tables.specs.Contents.{Contents, HoldsIn, Holds};
+ghost use Rattle.reg_tables.specs.SecondLayout.{second_unindexed, second_indexed_last};
+ghost use Rattle.reg_tables.specs.SecondContents.{SecondContents, HoldsAllIn};
 ghost use Rattle.reg_tables.specs.Rooms.{HasRoom};
 ghost use Rattle.reg_tables.specs.FailedCalls.{IsWriteFault};
 ghost use Rattle.reg_tables.specs.Changes.{no_contents, new_contents, numbered_contents, contents_as};
@@ -60,7 +62,8 @@ fn make_other_tables<S: Alter>(tx: &mut Transaction<'_, S>) -> Result<(), Error>
     )
 }
 
-/// Makes the index of `versions`, which tables that another program made may lack (`is_unindexed`).
+/// Makes the index of `versions`, which tables that another program made may lack (`is_unindexed`,
+/// `is_second_unindexed`).
 ///
 /// # Errors
 ///
@@ -73,8 +76,16 @@ pub fn index_versions<S: Alter>(tx: &mut Transaction<'_, S>) -> Result<(), Error
     ensures indexed { HasCleanDisk (state_in S.Store tx.new) → OnOk result ((contents : Contents)
         → HoldsIn unindexed (state_in S.Store tx.old).now contents
         → Holds (state_in S.Store tx.new).now contents) }
+    ensures indexed_second { HasCleanDisk (state_in S.Store tx.new)
+        → OnOk result ((contents : SecondContents)
+        → HoldsAllIn second_unindexed (state_in S.Store tx.old).now contents
+        → HoldsAllIn second_indexed_last (state_in S.Store tx.new).now contents) }
     ensures fault { HasCleanDisk (state_in S.Store tx.new) → IfErr result (λ e.
         (contents : Contents) → HoldsIn unindexed (state_in S.Store tx.old).now contents
+        → IsWriteFault (state_in S.Store tx.old) (state_in S.Store tx.new) e) }
+    ensures fault_second { HasCleanDisk (state_in S.Store tx.new) → IfErr result (λ e.
+        (contents : SecondContents)
+        → HoldsAllIn second_unindexed (state_in S.Store tx.old).now contents
         → IsWriteFault (state_in S.Store tx.old) (state_in S.Store tx.new) e) }
 {
     run(tx, "CREATE INDEX versions_of_id ON versions (id)", &[])

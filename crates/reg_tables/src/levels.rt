@@ -4,10 +4,13 @@ ghost use Rattle.std.specs.Prelude.{◌≡◌, ℕ, List, None, Some, OnOk, IfEr
 ghost use Rattle.std.specs.FinMap.{get};
 ghost use Rattle.reg_tables.specs.Frames.{state_in, StaysInside};
 ghost use Rattle.sqlite.specs.State.{HasCleanDisk};
-ghost use Rattle.reg_tables.specs.Contents.{Contents, Holds, AreReadable, HoldsIn};
+ghost use Rattle.reg_tables.specs.Contents.{Contents, AreReadable, HoldsIn};
 ghost use Rattle.reg_tables.specs.Lookups.{Finds};
-ghost use Rattle.reg_tables.specs.Layout.{IsLayout, layout};
-ghost use Rattle.reg_tables.specs.Changes.{Changes, with_level, without_level};
+ghost use Rattle.reg_tables.specs.Layout.{HasTablesFirst};
+ghost use Rattle.reg_tables.specs.SecondLayout.{IsWritten};
+ghost use Rattle.reg_tables.specs.SecondContents.{SecondContents};
+ghost use Rattle.reg_tables.specs.Changes.{with_level, without_level};
+ghost use Rattle.reg_tables.specs.Writing.{HoldsBeside, WhereHeld, Changes};
 ghost use Rattle.reg_tables.specs.FailedCalls.{IsWriteFault, IsInsertFault};
 ghost use Rattle.reg_tables.specs.Inside.Keyed.{levels_table};
 
@@ -29,7 +32,11 @@ impl KeyedTable for Levels {
 
     ghost Holds = { HoldsIn };
 
-    ghost Known = { IsLayout };
+    ghost Others = { SecondContents };
+
+    ghost HoldsWith = { HoldsBeside };
+
+    ghost Known = { HasTablesFirst };
 
     ghost Readable = { AreReadable };
 
@@ -43,7 +50,7 @@ impl KeyedTable for Levels {
 }
 
 impl FilledTable for Levels {
-    ghost Written = { λ schema. schema ≡ layout };
+    ghost Written = { IsWritten };
 
     fn put_sql() -> &'static str {
         "INSERT INTO levels (subject, level) VALUES (?1, ?2)"
@@ -62,15 +69,15 @@ impl ChangedTable for Levels {
 ///
 /// `OutOfMemory`, a fault of the disk, `OperationInterrupted` at the limit on steps, or
 /// `TransactionState` where a failure has ended the transaction; another where the tables aren't
-/// the layout's. Nothing is committed, and the transaction is to be rolled back.
+/// a layout's. Nothing is committed, and the transaction is to be rolled back.
 pub fn drop_level<S: Alter>(tx: &mut Transaction<'_, S>, subject: &str) -> Result<(), Error>
     ensures frame { StaysInside S.Store tx.old tx.new result }
     ensures dropped { HasCleanDisk (state_in S.Store tx.new)
         → OnOk result (Changes (state_in S.Store tx.old) (state_in S.Store tx.new)
         (without_level subject.now)) }
     ensures fault { HasCleanDisk (state_in S.Store tx.new) → IfErr result (λ e.
-        (contents : Contents) → Holds (state_in S.Store tx.old).now contents
-        → IsWriteFault (state_in S.Store tx.old) (state_in S.Store tx.new) e) }
+        WhereHeld (state_in S.Store tx.old) (λ contents.
+        IsWriteFault (state_in S.Store tx.old) (state_in S.Store tx.new) e)) }
 {
     drop::<S, Levels>(tx, params![subject])
 }
@@ -82,7 +89,7 @@ pub fn drop_level<S: Alter>(tx: &mut Transaction<'_, S>, subject: &str) -> Resul
 /// `OutOfMemory`, a fault of the disk, `OperationInterrupted` at the limit on steps,
 /// `TransactionState` where a failure has ended the transaction, `TooBig` for a row that is too
 /// large, or `NoRowid` or `ConstraintViolation(PrimaryKey)` where no rowid is free behind the last
-/// row; another where the tables aren't the layout's. Nothing is committed, and the transaction is
+/// row; another where the tables aren't a layout's. Nothing is committed, and the transaction is
 /// to be rolled back.
 pub fn set_level<S: Alter>(
     tx: &mut Transaction<'_, S>,
@@ -94,8 +101,8 @@ pub fn set_level<S: Alter>(
         → OnOk result (Changes (state_in S.Store tx.old) (state_in S.Store tx.new)
         (with_level subject.now level.now)) }
     ensures fault { HasCleanDisk (state_in S.Store tx.new) → IfErr result (λ e.
-        (contents : Contents) → Holds (state_in S.Store tx.old).now contents
-        → IsInsertFault (state_in S.Store tx.old) (state_in S.Store tx.new) e) }
+        WhereHeld (state_in S.Store tx.old) (λ contents.
+        IsInsertFault (state_in S.Store tx.old) (state_in S.Store tx.new) e)) }
 {
     set::<S, Levels>(tx, params![subject], params![subject, level])
 }

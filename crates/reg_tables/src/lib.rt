@@ -23,13 +23,16 @@ mod listed;
 mod meta;
 mod modes;
 mod second;
+mod second_lines;
 mod statement;
 mod text_lines;
 mod texts;
 mod versions;
 mod with_id;
 
-pub use declared::{has_layout, has_no_tables, is_unindexed};
+pub use declared::{
+    has_layout, has_no_tables, has_second_layout, is_second_unindexed, is_unindexed,
+};
 pub use evidence::{put_against, put_evidence};
 pub use idle::Idle;
 pub use kept::{KeptReply, keep_reply, kept_reply};
@@ -43,9 +46,10 @@ pub use listed::{
     ListedVersion, SubjectVersion, a_version_of_id, all_versions, first_version_behind,
     last_live_version_of, last_version_of, next_version_of, versions_of, versions_of_id,
 };
-pub use meta::{global_level, set_global};
+pub use meta::{global_level, global_mode, number_second, set_global, set_global_mode};
 pub use modes::{ModeLine, drop_mode, mode_lines, own_mode, set_mode};
 pub use second::{add_tables, create_second};
+pub use second_lines::{AgainstLine, EvidenceLine, against_lines, evidence_lines};
 pub use text_lines::{text_ids, texts_between};
 pub use texts::{id_of, last_id, put_text, text_of};
 pub use versions::{VersionEntry, drop_version, mark_deleted, put_version, version_of};

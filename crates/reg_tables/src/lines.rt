@@ -2,7 +2,7 @@
 
 ghost use Rattle.std.specs.Prelude.{◌≡◌, ◌<◌, Bool, length, IfOk, IfErr, false};
 ghost use Rattle.sqlite.specs.Order.{column};
-ghost use Rattle.reg_tables.specs.Layout.{IsLayout, HasTablesFirst};
+ghost use Rattle.reg_tables.specs.Layout.{HasTablesFirst};
 ghost use Rattle.reg_tables.specs.Lookups.{Lists};
 ghost use Rattle.reg_tables.specs.Contents.{flag_cell, text_form, version_form, pair_form, kept_form};
 ghost use Rattle.reg_tables.specs.Listings.{RowParts, parts_of, entry_parts, text_entry, version_entry, level_entry, kept_entry, meta_entry, ListsVersions, ListsLevels, ListsKept, ListsMeta};
@@ -175,7 +175,7 @@ impl Line for MetaLine {
 /// `OutOfMemory`, a fault of the disk, or `OperationInterrupted` at the limit on steps; another
 /// where a row holds what the line can't. Nothing is changed.
 pub fn version_lines<S: Alter>(alloc: Global, db: &mut Idle<S>) -> Result<Vec<VersionLine>, Error>
-    ensures { Lists db.old db.new result IsLayout CanBeRead ListsVersions }
+    ensures { Lists db.old db.new result HasTablesFirst CanBeRead ListsVersions }
 {
     list(
         alloc,
@@ -192,7 +192,7 @@ pub fn version_lines<S: Alter>(alloc: Global, db: &mut Idle<S>) -> Result<Vec<Ve
 /// `OutOfMemory`, a fault of the disk, or `OperationInterrupted` at the limit on steps; another
 /// where a row holds what the line can't. Nothing is changed.
 pub fn level_lines<S: Alter>(alloc: Global, db: &mut Idle<S>) -> Result<Vec<LevelLine>, Error>
-    ensures { Lists db.old db.new result IsLayout CanBeRead ListsLevels }
+    ensures { Lists db.old db.new result HasTablesFirst CanBeRead ListsLevels }
 {
     list(alloc, db, "SELECT rowid, subject, level FROM levels", &[])
 }
@@ -204,7 +204,7 @@ pub fn level_lines<S: Alter>(alloc: Global, db: &mut Idle<S>) -> Result<Vec<Leve
 /// `OutOfMemory`, a fault of the disk, or `OperationInterrupted` at the limit on steps; another
 /// where a row holds what the line can't. Nothing is changed.
 pub fn kept_lines<S: Alter>(alloc: Global, db: &mut Idle<S>) -> Result<Vec<KeptLine>, Error>
-    ensures { Lists db.old db.new result IsLayout CanBeRead ListsKept }
+    ensures { Lists db.old db.new result HasTablesFirst CanBeRead ListsKept }
 {
     list(
         alloc,

@@ -1,15 +1,18 @@
-//! What the database says of itself: its format, its layout and the global level.
+//! What the database says of itself: its format, its layout, the global level and the global mode.
 
 ghost use Rattle.std.specs.Prelude.{◌≡◌, ◌+◌, ℕ, List, [], ◌∷◌, None, Some, OnOk, IfErr, MatchOption, codes, string_bytes};
 ghost use Rattle.std.specs.FinMap.{get};
 ghost use Rattle.reg_tables.specs.Frames.{state_in, StaysInside};
 ghost use Rattle.sqlite.specs.State.{HasCleanDisk};
 ghost use Rattle.sqlite.specs.declared.types.Value.TheVariants.{Text};
-ghost use Rattle.reg_tables.specs.Layout.{meta, IsLayout, layout};
+ghost use Rattle.reg_tables.specs.Layout.{meta, HasTablesFirst};
 ghost use Rattle.reg_tables.specs.Lookups.{Finds};
 ghost use Rattle.reg_tables.specs.Rooms.{HasRoom, CanBeStored};
 ghost use Rattle.reg_tables.specs.Contents.{Contents, Holds, AreReadable, HoldsIn};
-ghost use Rattle.reg_tables.specs.Changes.{Changes, with_meta, with_global};
+ghost use Rattle.reg_tables.specs.SecondLayout.{IsWritten};
+ghost use Rattle.reg_tables.specs.SecondContents.{SecondContents};
+ghost use Rattle.reg_tables.specs.Changes.{with_meta, with_global, with_global_mode, numbered_second};
+ghost use Rattle.reg_tables.specs.Writing.{HoldsBeside, WhereHeld, Changes};
 ghost use Rattle.reg_tables.specs.FailedCalls.{IsWriteFault, IsInsertFault};
 ghost use Rattle.reg_tables.specs.Inside.Keyed.{meta_table};
 
@@ -31,7 +34,11 @@ impl KeyedTable for Meta {
 
     ghost Holds = { HoldsIn };
 
-    ghost Known = { IsLayout };
+    ghost Others = { SecondContents };
+
+    ghost HoldsWith = { HoldsBeside };
+
+    ghost Known = { HasTablesFirst };
 
     ghost Readable = { AreReadable };
 
@@ -45,7 +52,7 @@ impl KeyedTable for Meta {
 }
 
 impl FilledTable for Meta {
-    ghost Written = { λ schema. schema ≡ layout };
+    ghost Written = { IsWritten };
 
     fn put_sql() -> &'static str {
         "INSERT INTO meta (name, value) VALUES (?1, ?2)"
@@ -84,6 +91,19 @@ pub(crate) fn put_meta<S: Alter>(
     put::<S, Meta>(tx, params![name, value])
 }
 
+/// Says a value under a name, in place of the one that it may have.
+fn set_meta<S: Alter>(tx: &mut Transaction<'_, S>, name: &str, value: &str) -> Result<(), Error>
+    ensures frame { StaysInside S.Store tx.old tx.new result }
+    ensures set { HasCleanDisk (state_in S.Store tx.new)
+        → OnOk result (Changes (state_in S.Store tx.old) (state_in S.Store tx.new)
+        (with_meta name.now value.now)) }
+    ensures fault { HasCleanDisk (state_in S.Store tx.new) → IfErr result (λ e.
+        WhereHeld (state_in S.Store tx.old) (λ contents.
+        IsInsertFault (state_in S.Store tx.old) (state_in S.Store tx.new) e)) }
+{
+    set::<S, Meta>(tx, params![name], params![name, value])
+}
+
 /// Sets the global level, in place of the one that is there.
 ///
 /// # Errors
@@ -91,7 +111,7 @@ pub(crate) fn put_meta<S: Alter>(
 /// `OutOfMemory`, a fault of the disk, `OperationInterrupted` at the limit on steps,
 /// `TransactionState` where a failure has ended the transaction, `TooBig` for a row that is too
 /// large, or `NoRowid` or `ConstraintViolation(PrimaryKey)` where no rowid is free behind the last
-/// row; another where the tables aren't the layout's. Nothing is committed, and the transaction is
+/// row; another where the tables aren't a layout's. Nothing is committed, and the transaction is
 /// to be rolled back.
 pub fn set_global<S: Alter>(tx: &mut Transaction<'_, S>, level: &str) -> Result<(), Error>
     ensures frame { StaysInside S.Store tx.old tx.new result }
@@ -99,10 +119,45 @@ pub fn set_global<S: Alter>(tx: &mut Transaction<'_, S>, level: &str) -> Result<
         → OnOk result (Changes (state_in S.Store tx.old) (state_in S.Store tx.new)
         (with_global level.now)) }
     ensures fault { HasCleanDisk (state_in S.Store tx.new) → IfErr result (λ e.
-        (contents : Contents) → Holds (state_in S.Store tx.old).now contents
-        → IsInsertFault (state_in S.Store tx.old) (state_in S.Store tx.new) e) }
+        WhereHeld (state_in S.Store tx.old) (λ contents.
+        IsInsertFault (state_in S.Store tx.old) (state_in S.Store tx.new) e)) }
 {
-    set::<S, Meta>(tx, params!["global"], params!["global", level])
+    set_meta(tx, "global", level)
+}
+
+/// Sets the global mode, which layout 2 has, in place of the one that is there.
+///
+/// # Errors
+///
+/// As `set_global`.
+pub fn set_global_mode<S: Alter>(tx: &mut Transaction<'_, S>, mode: &str) -> Result<(), Error>
+    ensures frame { StaysInside S.Store tx.old tx.new result }
+    ensures set { HasCleanDisk (state_in S.Store tx.new)
+        → OnOk result (Changes (state_in S.Store tx.old) (state_in S.Store tx.new)
+        (with_global_mode mode.now)) }
+    ensures fault { HasCleanDisk (state_in S.Store tx.new) → IfErr result (λ e.
+        WhereHeld (state_in S.Store tx.old) (λ contents.
+        IsInsertFault (state_in S.Store tx.old) (state_in S.Store tx.new) e)) }
+{
+    set_meta(tx, "mode", mode)
+}
+
+/// Says that the layout is the second, and that the global mode is READWRITE, as a registry's of
+/// layout 1 is. The tables stay those that are there: `add_tables` makes the others.
+///
+/// # Errors
+///
+/// As `set_global`.
+pub fn number_second<S: Alter>(tx: &mut Transaction<'_, S>) -> Result<(), Error>
+    ensures frame { StaysInside S.Store tx.old tx.new result }
+    ensures numbered { HasCleanDisk (state_in S.Store tx.new)
+        → OnOk result (Changes (state_in S.Store tx.old) (state_in S.Store tx.new) numbered_second) }
+    ensures fault { HasCleanDisk (state_in S.Store tx.new) → IfErr result (λ e.
+        WhereHeld (state_in S.Store tx.old) (λ contents.
+        IsInsertFault (state_in S.Store tx.old) (state_in S.Store tx.new) e)) }
+{
+    set_meta(tx, "layout", "2")?;
+    set_global_mode(tx, "READWRITE")
 }
 
 /// The global level, if the database has one.
@@ -117,4 +172,17 @@ pub fn global_level<S: Alter>(db: &mut Idle<S>) -> Result<Option<String>, Error>
         (λ level. get contents.meta (codes "global") ≡ Some (string_bytes level))) }
 {
     find::<S, Meta>(db, params!["global"])
+}
+
+/// The global mode, if the database has one, as layout 2 does.
+///
+/// # Errors
+///
+/// As `global_level`.
+pub fn global_mode<S: Alter>(db: &mut Idle<S>) -> Result<Option<String>, Error>
+    ensures { Finds db.old db.new result (λ contents found.
+        MatchOption found (get contents.meta (codes "mode") ≡ None)
+        (λ mode. get contents.meta (codes "mode") ≡ Some (string_bytes mode))) }
+{
+    find::<S, Meta>(db, params!["mode"])
 }

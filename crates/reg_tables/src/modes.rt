@@ -1,6 +1,6 @@
 //! The own modes of subjects, which layout 2 has.
 
-ghost use Rattle.std.specs.Prelude.{◌≡◌, ◌⊎◌, ℕ, List, None, Some, OnOk, IfOk, IfErr, MatchOption, string_bytes};
+ghost use Rattle.std.specs.Prelude.{◌≡◌, ◌⊎◌, ⊤, ℕ, List, None, Some, OnOk, IfOk, IfErr, MatchOption, string_bytes};
 ghost use Rattle.std.specs.FinMap.{get};
 ghost use Rattle.sqlite.specs.Schema.{Schema};
 ghost use Rattle.sqlite.specs.State.{HasCleanDisk};
@@ -33,6 +33,10 @@ impl KeyedTable for Modes {
     ghost Value = { List ℕ };
 
     ghost Holds = { HoldsAllIn };
+
+    ghost Others = { ⊤ };
+
+    ghost HoldsWith = { λ schema others. HoldsAllIn schema };
 
     ghost Known = { HasSecondTables };
 

@@ -4,7 +4,7 @@ ghost use Rattle.std.specs.Prelude.{pos};
 ghost use Rattle.sqlite.specs.declared.types.Value.{Value};
 ghost use Rattle.sqlite.specs.declared.types.Value.TheVariants.{Int};
 ghost use Rattle.sqlite.specs.Order.{column};
-ghost use Rattle.reg_tables.specs.Layout.{IsLayout};
+ghost use Rattle.reg_tables.specs.Layout.{HasTablesFirst};
 ghost use Rattle.reg_tables.specs.Lookups.{Lists};
 ghost use Rattle.reg_tables.specs.Listings.{ListsIds, ListsTextsBetween};
 ghost use Rattle.reg_tables.specs.Inside.ReadableRows.{IsReadableId};
@@ -38,7 +38,7 @@ impl Line for u32 {
 /// `OutOfMemory`, a fault of the disk, or `OperationInterrupted` at the limit on steps; another
 /// where a rowid is no `u32`. Nothing is changed.
 pub fn text_ids<S: Alter>(alloc: Global, db: &mut Idle<S>) -> Result<Vec<u32>, Error>
-    ensures { Lists db.old db.new result IsLayout CanBeRead ListsIds }
+    ensures { Lists db.old db.new result HasTablesFirst CanBeRead ListsIds }
 {
     list(alloc, db, "SELECT id FROM texts", &[])
 }
@@ -55,7 +55,7 @@ pub fn texts_between<S: Alter>(
     low: u32,
     high: u32,
 ) -> Result<Vec<TextLine>, Error>
-    ensures { Lists db.old db.new result IsLayout CanBeRead (ListsTextsBetween low high) }
+    ensures { Lists db.old db.new result HasTablesFirst CanBeRead (ListsTextsBetween low high) }
 {
     list(
         alloc,

@@ -1,13 +1,14 @@
 //! The texts of schemas, by their ids.
 
-ghost use Rattle.std.specs.Prelude.{List, ◌≡◌, ◌≢◌, ◌≤◌, ◌<◌, ◌^◌, ℕ, None, Some, IsSome, OnOk, IfOk, IfErr, MatchOption, string_bytes};
+ghost use Rattle.std.specs.Prelude.{⊤, List, ◌≡◌, ◌≢◌, ◌≤◌, ◌<◌, ◌^◌, ℕ, None, Some, IsSome, OnOk, IfOk, IfErr, MatchOption, string_bytes};
 ghost use Rattle.std.specs.FinMap.{get};
 ghost use Rattle.reg_tables.specs.Frames.{state_in, StaysInside};
 ghost use Rattle.sqlite.specs.State.{HasCleanDisk};
-ghost use Rattle.reg_tables.specs.Contents.{Contents, number_cells, Holds, AreReadable, HoldsIn};
+ghost use Rattle.reg_tables.specs.Contents.{Contents, number_cells, AreReadable, HoldsIn};
 ghost use Rattle.reg_tables.specs.Lookups.{Finds};
-ghost use Rattle.reg_tables.specs.Layout.{IsLayout};
+ghost use Rattle.reg_tables.specs.Layout.{HasTablesFirst};
 ghost use Rattle.reg_tables.specs.Changes.{with_text};
+ghost use Rattle.reg_tables.specs.Writing.{WhereHeld, ChangesIf};
 ghost use Rattle.reg_tables.specs.FailedCalls.{IsPutFault};
 ghost use Rattle.reg_tables.specs.Inside.Keyed.{texts_table};
 
@@ -30,7 +31,11 @@ impl KeyedTable for Texts {
 
     ghost Holds = { HoldsIn };
 
-    ghost Known = { IsLayout };
+    ghost Others = { ⊤ };
+
+    ghost HoldsWith = { λ schema others. HoldsIn schema };
+
+    ghost Known = { HasTablesFirst };
 
     ghost Readable = { AreReadable };
 
@@ -49,18 +54,16 @@ impl KeyedTable for Texts {
 ///
 /// `OutOfMemory`, a fault of the disk, `OperationInterrupted` at the limit on steps,
 /// `TransactionState` where a failure has ended the transaction, or `TooBig` for a row that is too
-/// large; another where the id or the text is taken, or the tables aren't the layout's. Nothing is
+/// large; another where the id or the text is taken, or the tables aren't a layout's. Nothing is
 /// committed, and the transaction is to be rolled back.
 pub fn put_text<S: Alter>(tx: &mut Transaction<'_, S>, id: u32, text: &str) -> Result<(), Error>
     ensures frame { StaysInside S.Store tx.old tx.new result }
-    ensures put { HasCleanDisk (state_in S.Store tx.new) → OnOk result ((contents : Contents)
-        → Holds (state_in S.Store tx.old).now contents → get contents.texts id ≡ None
-        → Holds (state_in S.Store tx.new).now (with_text id text.now contents)) }
+    ensures put { HasCleanDisk (state_in S.Store tx.new) → OnOk result (ChangesIf (state_in S.Store tx.old) (state_in S.Store tx.new)
+        (λ contents. get contents.texts id ≡ None) (with_text id text.now)) }
     ensures fault { HasCleanDisk (state_in S.Store tx.new) → IfErr result (λ e.
-        (contents : Contents) → Holds (state_in S.Store tx.old).now contents
-        → get contents.texts id ≡ None
+        WhereHeld (state_in S.Store tx.old) (λ contents. get contents.texts id ≡ None
         → ((other : ℕ) → get contents.texts other ≢ Some text.now)
-        → IsPutFault (state_in S.Store tx.old) (state_in S.Store tx.new) e) }
+        → IsPutFault (state_in S.Store tx.old) (state_in S.Store tx.new) e)) }
 {
     run(
         tx,

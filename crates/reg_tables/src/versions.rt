@@ -5,13 +5,13 @@ ghost use Rattle.std.specs.FinMap.{get};
 ghost use Rattle.sqlite.specs.Order.{column};
 ghost use Rattle.reg_tables.specs.Frames.{state_in, StaysInside};
 ghost use Rattle.sqlite.specs.State.{HasCleanDisk};
-ghost use Rattle.reg_tables.specs.Contents.{VersionRow, Contents, version_cells, Holds, AreReadable, HoldsIn};
+ghost use Rattle.reg_tables.specs.Contents.{VersionRow, Contents, version_cells, AreReadable, HoldsIn};
 ghost use Rattle.reg_tables.specs.Lookups.{Finds};
-ghost use Rattle.reg_tables.specs.Layout.{IsLayout, layout};
-ghost use Rattle.sqlite.specs.Schema.{Schema};
-ghost use Rattle.reg_tables.specs.SecondLayout.{IsSecond};
-ghost use Rattle.reg_tables.specs.SecondContents.{SecondContents, HoldsAllIn, ChangesSecond, without_evidence};
-ghost use Rattle.reg_tables.specs.Changes.{Changes, with_version, without_version, with_deleted};
+ghost use Rattle.reg_tables.specs.Layout.{HasTablesFirst};
+ghost use Rattle.reg_tables.specs.SecondLayout.{IsWritten};
+ghost use Rattle.reg_tables.specs.SecondContents.{SecondContents, without_evidence};
+ghost use Rattle.reg_tables.specs.Changes.{with_version, with_deleted};
+ghost use Rattle.reg_tables.specs.Writing.{HoldsBeside, WhereHeld, Changes, ChangesIf, ChangesAll};
 ghost use Rattle.reg_tables.specs.FailedCalls.{IsWriteFault, IsInsertFault};
 ghost use Rattle.reg_tables.specs.Entries.{version_row};
 ghost use Rattle.reg_tables.specs.Inside.Keyed.{versions_table};
@@ -58,7 +58,11 @@ impl KeyedTable for Versions {
 
     ghost Holds = { HoldsIn };
 
-    ghost Known = { IsLayout };
+    ghost Others = { SecondContents };
+
+    ghost HoldsWith = { HoldsBeside };
+
+    ghost Known = { HasTablesFirst };
 
     ghost Readable = { AreReadable };
 
@@ -72,7 +76,7 @@ impl KeyedTable for Versions {
 }
 
 impl FilledTable for Versions {
-    ghost Written = { λ schema. schema ≡ layout };
+    ghost Written = { IsWritten };
 
     fn put_sql() -> &'static str {
         "INSERT INTO versions (subject, version, id, deleted) VALUES (?1, ?2, ?3, ?4)"
@@ -86,7 +90,7 @@ impl FilledTable for Versions {
 /// `OutOfMemory`, a fault of the disk, `OperationInterrupted` at the limit on steps,
 /// `TransactionState` where a failure has ended the transaction, `TooBig` for a row that is too
 /// large, or `NoRowid` or `ConstraintViolation(PrimaryKey)` where no rowid is free behind the last
-/// row; another where the number is taken, no text has the id, or the tables aren't the layout's.
+/// row; another where the number is taken, no text has the id, or the tables aren't a layout's.
 /// Nothing is committed, and the transaction is to be rolled back.
 pub fn put_version<S: Alter>(
     tx: &mut Transaction<'_, S>,
@@ -96,15 +100,13 @@ pub fn put_version<S: Alter>(
     deleted: bool,
 ) -> Result<(), Error>
     ensures frame { StaysInside S.Store tx.old tx.new result }
-    ensures put { HasCleanDisk (state_in S.Store tx.new) → OnOk result ((contents : Contents)
-        → Holds (state_in S.Store tx.old).now contents
-        → get contents.versions (subject.now, number) ≡ None
-        → Holds (state_in S.Store tx.new).now
-        (with_version (subject.now, number) (record { id = id; deleted = deleted }) contents)) }
+    ensures put { HasCleanDisk (state_in S.Store tx.new) → OnOk result (ChangesIf (state_in S.Store tx.old) (state_in S.Store tx.new)
+        (λ contents. get contents.versions (subject.now, number) ≡ None)
+        (with_version (subject.now, number) (record { id = id; deleted = deleted }))) }
     ensures fault { HasCleanDisk (state_in S.Store tx.new) → IfErr result (λ e.
-        (contents : Contents) → Holds (state_in S.Store tx.old).now contents
-        → get contents.versions (subject.now, number) ≡ None → IsSome (get contents.texts id)
-        → IsInsertFault (state_in S.Store tx.old) (state_in S.Store tx.new) e) }
+        WhereHeld (state_in S.Store tx.old) (λ contents.
+        get contents.versions (subject.now, number) ≡ None → IsSome (get contents.texts id)
+        → IsInsertFault (state_in S.Store tx.old) (state_in S.Store tx.new) e)) }
 {
     put::<S, Versions>(tx, params![subject, number, id, deleted])
 }
@@ -124,18 +126,11 @@ pub fn drop_version<S: Alter>(
 ) -> Result<(), Error>
     ensures frame { StaysInside S.Store tx.old tx.new result }
     ensures dropped { HasCleanDisk (state_in S.Store tx.new)
-        → OnOk result (Changes (state_in S.Store tx.old) (state_in S.Store tx.new)
-        (without_version (subject.now, number))) }
-    ensures fault { HasCleanDisk (state_in S.Store tx.new) → IfErr result (λ e.
-        (contents : Contents) → Holds (state_in S.Store tx.old).now contents
-        → IsWriteFault (state_in S.Store tx.old) (state_in S.Store tx.new) e) }
-    ensures dropped_second { HasCleanDisk (state_in S.Store tx.new)
-        → OnOk result (ChangesSecond (state_in S.Store tx.old) (state_in S.Store tx.new)
+        → OnOk result (ChangesAll (state_in S.Store tx.old) (state_in S.Store tx.new)
         (without_evidence (subject.now, number))) }
-    ensures fault_second { HasCleanDisk (state_in S.Store tx.new) → IfErr result (λ e.
-        (schema : Schema) → IsSecond schema
-        → (contents : SecondContents) → HoldsAllIn schema (state_in S.Store tx.old).now contents
-        → IsWriteFault (state_in S.Store tx.old) (state_in S.Store tx.new) e) }
+    ensures fault { HasCleanDisk (state_in S.Store tx.new) → IfErr result (λ e.
+        WhereHeld (state_in S.Store tx.old) (λ contents.
+        IsWriteFault (state_in S.Store tx.old) (state_in S.Store tx.new) e)) }
 {
     run(
         tx,
@@ -151,7 +146,7 @@ pub fn drop_version<S: Alter>(
 /// `OutOfMemory`, a fault of the disk, `OperationInterrupted` at the limit on steps,
 /// `TransactionState` where a failure has ended the transaction, `TooBig` for a row that is too
 /// large, or `NoRowid` or `ConstraintViolation(PrimaryKey)` where rows don't stand in the order of
-/// their rowids; another where the tables aren't the layout's. Nothing is committed, and the
+/// their rowids; another where the tables aren't a layout's. Nothing is committed, and the
 /// transaction is to be rolled back.
 pub fn mark_deleted<S: Alter>(
     tx: &mut Transaction<'_, S>,
@@ -163,8 +158,8 @@ pub fn mark_deleted<S: Alter>(
         → OnOk result (Changes (state_in S.Store tx.old) (state_in S.Store tx.new)
         (with_deleted (subject.now, number))) }
     ensures fault { HasCleanDisk (state_in S.Store tx.new) → IfErr result (λ e.
-        (contents : Contents) → Holds (state_in S.Store tx.old).now contents
-        → IsInsertFault (state_in S.Store tx.old) (state_in S.Store tx.new) e) }
+        WhereHeld (state_in S.Store tx.old) (λ contents.
+        IsInsertFault (state_in S.Store tx.old) (state_in S.Store tx.new) e)) }
 {
     run(
         tx,

@@ -14,8 +14,8 @@ use Rattle.sqlite.specs.Schema.{Schema}
 use Rattle.sqlite.specs.Command.TheVariants.{Insert, Delete}
 use Rattle.sqlite.specs.Source.TheVariants.{Values}
 use Rattle.sqlite.specs.Rows.{stamped}
-use Rattle.sqlite.specs.Rowids.TheVariants.{Chosen}
-use Rattle.sqlite.specs.Edit.{edit_of, next_rowid}
+use Rattle.sqlite.specs.Rowids.TheVariants.{Chosen, Given}
+use Rattle.sqlite.specs.Edit.{edit_of, taken_by, next_rowid}
 use Rattle.sqlite.specs.Effect.{Database, IsDatabase, value_rows}
 use Rattle.sqlite.specs.Listing.{understood}
 use Rattle.sqlite_schema.specs.declared.schema.Among.TheVariants.{All}
@@ -24,6 +24,7 @@ use Rattle.sqlite_schema.specs.declared.program.Program.{Program}
 use Rattle.sqlite_schema.specs.Rules.{agree, guards, are_typed, has_computed, are_present, passes_checks, Refers, references_fit}
 use Rattle.sqlite_schema.specs.declared.schema.Index.{Index}
 use Rattle.sqlite_rules.specs.Action.{works}
+use Rattle.sqlite_rules.specs.Calls.{ids_of}
 use Rattle.sqlite_rules.specs.Lists.{Has}
 use Rattle.sqlite_typing.specs.Types.{accepts_program, accepts_terms}
 use Rattle.reg_tables.specs.TableMaps.{IsEntry, ShowsMap, Form}
@@ -42,6 +43,10 @@ AreApart schema = IsAscending (λ (a : Table) (b : Table). a.tree ≡ b.tree →
 -- no foreign key acts where rows of this tree are taken out or change
 abbrev pub IsIdle : Schema → ℕ → Type 0
 IsIdle schema tree = (olds news : List Row) → works schema Enforced 0 tree olds news ≡ []
+
+-- nor where an UPDATE puts rows of the table in the place of those that it found
+abbrev pub IsSteady : Schema → Table → Type 0
+IsSteady schema table = (db : Trees) (found : List Row) → works schema Enforced 0 table.tree (taken_by db (edit_of db table (ids_of found) Given 1 found)) (edit_of db table (ids_of found) Given 1 found).news ≡ []
 
 -- the tables but one have the rows that they had
 abbrev pub KeepsOthers : Schema → ℕ → Trees → Trees → Type 0
@@ -92,9 +97,10 @@ pub record PutsRow {C K V : Type 0} (schema : Schema) (t : Keyed C K V) (sql : L
 abbrev pub deleting : {C K V : Type 0} → Keyed C K V → Program
 deleting t = record { lets = []; body = plain_query t.table.tree t.tests (col 1 0 ∷ []) }
 
--- the text is a DELETE of the row of a key, to which no foreign key adds
+-- the text is a DELETE of the row of a key, to which no foreign key adds, and no other row refers to what goes
 pub record DropsRow {C K V : Type 0} (schema : Schema) (t : Keyed C K V) (sql : List ℕ) : Type 0 where
   pub idle : IsIdle schema t.table.tree
+  pub refers : (old new : Trees) → KeepsOthers schema t.table.tree old new → ((r : Row) → Has (new t.table.tree) r → Has (old t.table.tree) r) → Refers All schema old → Refers All schema new
   pub is : IsCommand schema sql (Delete t.at (deleting t))
   pub whole : (key : K) → IsWhole sql (length (t.form.key_cells key)) (understood schema sql)
   pub typed : (key : K) → accepts_program schema [] (plain_query t.table.tree t.tests (col 1 0 ∷ [])) (t.form.key_cells key) ≡ true
@@ -118,10 +124,10 @@ pub record IsKeyed {C K V : Type 0} (schema : Schema) (Holds : Database → C �
   pub sound : (db : Database) (contents : C) → Holds db contents → IsDatabase db
   pub shows : (db : Database) (contents : C) → Holds db contents → ShowsMap t.form (db.trees t.table.tree) (get (t.map_of contents))
   pub turned : (old new : Database) (contents : C) → Holds old contents → (later : FinMap t.cmp V) → TurnsTable schema t.form t.table.tree old new (get later) → Holds new (t.with_map contents later)
-  -- a row that refers to what is there breaks no reference, and no reference is to the table
+  -- a row that refers to what is there, beside those that were there, breaks no reference
   pub put_refers : (db : Database) (contents : C) → Holds db contents → (key : K) (value : V) → IsTrue (t.refers contents key value) → (row : Row) → IsEntry t.form row key value
-      → (next : Trees) → KeepsOthers schema t.table.tree db.trees next → ((r : Row) → Has (next t.table.tree) r → (r ≡ row) ⊎ Has (db.trees t.table.tree) r) → Refers All schema db.trees → Refers All schema next
-  pub drop_refers : (old new : Trees) → KeepsOthers schema t.table.tree old new → ((r : Row) → Has (new t.table.tree) r → Has (old t.table.tree) r) → Refers All schema old → Refers All schema new
+      → (next : Trees) → KeepsOthers schema t.table.tree db.trees next → ((r : Row) → Has (next t.table.tree) r → (r ≡ row) ⊎ Has (db.trees t.table.tree) r) → ((r : Row) → Has (db.trees t.table.tree) r → Has (next t.table.tree) r)
+      → Refers All schema db.trees → Refers All schema next
   pub map_is : (contents : C) (map : FinMap t.cmp V) → t.map_of (t.with_map contents map) ≡ map
   pub last_map : (contents : C) (first last : FinMap t.cmp V) → t.with_map (t.with_map contents first) last ≡ t.with_map contents last
 

@@ -41,3 +41,25 @@ pub record IsReadableKept (row : Row) : Type 0 where
   pub is : row ≡ Int rowid ∷ Text key ∷ kept_cells reply
   pub utf8 : IsUtf8 key
   pub readable : IsReadableReply reply
+
+pub record IsReadableEvidence (row : Row) : Type 0 where
+  pub rowid : ℤ
+  pub subject : List ℕ
+  pub number : ℕ
+  pub level : List ℕ
+  pub is : row ≡ Int rowid ∷ Text subject ∷ Int (pos number) ∷ Text level ∷ []
+  pub utf8 : IsUtf8 subject
+  pub low : number < 2 ^ 32
+  pub level_utf8 : IsUtf8 level
+
+pub record IsReadableAgainst (row : Row) : Type 0 where
+  pub rowid : ℤ
+  pub subject : List ℕ
+  pub number : ℕ
+  pub position : ℕ
+  pub id : ℕ
+  pub is : row ≡ Int rowid ∷ Text subject ∷ Int (pos number) ∷ Int (pos position) ∷ Int (pos id) ∷ []
+  pub utf8 : IsUtf8 subject
+  pub low : number < 2 ^ 32
+  pub low_position : position < 2 ^ 32
+  pub low_id : id < 2 ^ 32

@@ -1,4 +1,4 @@
-//! The forms of the tables of layout 1.
+//! The forms of the tables of both layouts.
 
 use sqlite_schema::schema::Kind;
 
@@ -9,11 +9,17 @@ pub enum ColumnForm {
     Required(&'static [u8], Kind),
 }
 
-/// How a table with one key is declared, but for its checks and its references.
+/// How a table refers to another.
+pub enum ReferenceForm {
+    /// The column of this number is the id of a text.
+    ToText(usize),
+    /// The first two columns are the key of a version, with which the row goes.
+    ToVersion,
+}
+
+/// How a table with one key is declared.
 pub struct TableForm {
     pub name: &'static [u8],
-    /// The number of the tree that has the rows. The next tree is the key's index.
-    pub tree: u32,
     /// The name that SQLite gives to the key's index.
     pub index: &'static [u8],
     /// The number of the column that stands for the rowid, from 0.
@@ -21,12 +27,14 @@ pub struct TableForm {
     pub primary: &'static [usize],
     pub unique: &'static [usize],
     pub columns: &'static [ColumnForm],
+    /// Whether its one check is that the fourth column is 0 or 1; else it has none.
+    pub has_flag: bool,
+    pub references: &'static [ReferenceForm],
 }
 
 /// The table `texts`.
 pub const TEXTS: TableForm = TableForm {
     name: b"texts",
-    tree: 0,
     index: b"sqlite_autoindex_texts_1",
     key: Some(0),
     primary: &[0],
@@ -35,12 +43,13 @@ pub const TEXTS: TableForm = TableForm {
         ColumnForm::Nullable(b"id", Kind::Integer),
         ColumnForm::Required(b"text", Kind::Text),
     ],
+    has_flag: false,
+    references: &[],
 };
 
 /// The table `versions`.
 pub const VERSIONS: TableForm = TableForm {
     name: b"versions",
-    tree: 2,
     index: b"sqlite_autoindex_versions_1",
     key: None,
     primary: &[1, 2],
@@ -51,12 +60,13 @@ pub const VERSIONS: TableForm = TableForm {
         ColumnForm::Required(b"id", Kind::Integer),
         ColumnForm::Required(b"deleted", Kind::Integer),
     ],
+    has_flag: true,
+    references: &[ReferenceForm::ToText(3)],
 };
 
 /// The table `levels`.
 pub const LEVELS: TableForm = TableForm {
     name: b"levels",
-    tree: 4,
     index: b"sqlite_autoindex_levels_1",
     key: None,
     primary: &[1],
@@ -65,12 +75,13 @@ pub const LEVELS: TableForm = TableForm {
         ColumnForm::Required(b"subject", Kind::Text),
         ColumnForm::Required(b"level", Kind::Text),
     ],
+    has_flag: false,
+    references: &[],
 };
 
 /// The table `kept`.
 pub const KEPT: TableForm = TableForm {
     name: b"kept",
-    tree: 6,
     index: b"sqlite_autoindex_kept_1",
     key: None,
     primary: &[1],
@@ -81,12 +92,13 @@ pub const KEPT: TableForm = TableForm {
         ColumnForm::Required(b"status", Kind::Integer),
         ColumnForm::Required(b"body", Kind::Text),
     ],
+    has_flag: false,
+    references: &[],
 };
 
 /// The table `meta`.
 pub const META: TableForm = TableForm {
     name: b"meta",
-    tree: 8,
     index: b"sqlite_autoindex_meta_1",
     key: None,
     primary: &[1],
@@ -95,4 +107,54 @@ pub const META: TableForm = TableForm {
         ColumnForm::Required(b"name", Kind::Text),
         ColumnForm::Required(b"value", Kind::Text),
     ],
+    has_flag: false,
+    references: &[],
+};
+
+/// The table `modes` of layout 2.
+pub const MODES: TableForm = TableForm {
+    name: b"modes",
+    index: b"sqlite_autoindex_modes_1",
+    key: None,
+    primary: &[1],
+    unique: &[1],
+    columns: &[
+        ColumnForm::Required(b"subject", Kind::Text),
+        ColumnForm::Required(b"mode", Kind::Text),
+    ],
+    has_flag: false,
+    references: &[],
+};
+
+/// The table `evidence` of layout 2.
+pub const EVIDENCE: TableForm = TableForm {
+    name: b"evidence",
+    index: b"sqlite_autoindex_evidence_1",
+    key: None,
+    primary: &[1, 2],
+    unique: &[1, 2],
+    columns: &[
+        ColumnForm::Required(b"subject", Kind::Text),
+        ColumnForm::Required(b"version", Kind::Integer),
+        ColumnForm::Required(b"level", Kind::Text),
+    ],
+    has_flag: false,
+    references: &[ReferenceForm::ToVersion],
+};
+
+/// The table `against` of layout 2.
+pub const AGAINST: TableForm = TableForm {
+    name: b"against",
+    index: b"sqlite_autoindex_against_1",
+    key: None,
+    primary: &[1, 2, 3],
+    unique: &[1, 2, 3],
+    columns: &[
+        ColumnForm::Required(b"subject", Kind::Text),
+        ColumnForm::Required(b"version", Kind::Integer),
+        ColumnForm::Required(b"position", Kind::Integer),
+        ColumnForm::Required(b"id", Kind::Integer),
+    ],
+    has_flag: false,
+    references: &[ReferenceForm::ToText(4), ReferenceForm::ToVersion],
 };

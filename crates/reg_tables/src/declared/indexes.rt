@@ -1,74 +1,44 @@
-//! Whether indexes are those of layout 1.
+//! Whether indexes are those of a layout.
 
-ghost use Rattle.std.specs.Prelude.{◌≡◌, ◌↔◌, ◌<◌, ◌^◌, [], ◌∷◌, IsTrue};
-ghost use Rattle.reg_tables.specs.Layout.{versions_of_id, layout, unindexed};
-ghost use Rattle.reg_tables.specs.Inside.Forms.{index_of};
+ghost use Rattle.std.specs.Prelude.{◌≡◌, ◌↔◌, ◌+◌, IsTrue};
+ghost use Rattle.reg_tables.specs.Layout.{versions_of_id};
+ghost use Rattle.reg_tables.specs.Inside.Forms.{key_index_of, index_of};
 
-use crate::declared::forms::{KEPT, LEVELS, META, TEXTS, TableForm, VERSIONS};
 use crate::declared::keys::are_numbers;
-use sqlite_items::Items;
+use crate::declared::listed_forms::Form;
+use crate::declared::schemas::{IndexForm, Placed};
 use sqlite_schema::schema::Index;
 
-/// Whether these are the indexes of the layout, with the one on the ids of versions.
-pub fn are_indexes(indexes: &Items<Index>) -> bool
-    ensures { IsTrue result ↔ (indexes.now ≡ layout.indexes) }
-{
-    match indexes.as_slice() {
-        [first, second, third, fourth, fifth, sixth] => {
-            are_key_indexes(first, second, third, fourth, fifth) && is_versions_of_id(sixth)
+impl Form<Index> for IndexForm {
+    ghost meaning = { index_of };
+
+    fn declares(&self, item: &Index) -> bool {
+        match self {
+            IndexForm::OfKey(table) => is_key_index(item, table),
+            IndexForm::OfIds(tree) => is_versions_of_id(item, *tree),
         }
-        _ => false,
     }
 }
 
-/// Whether these are the indexes that SQLite makes for keys, and no other.
-pub fn are_automatic_indexes(indexes: &Items<Index>) -> bool
-    ensures { IsTrue result ↔ (indexes.now ≡ unindexed.indexes) }
+fn is_key_index(index: &Index, table: &Placed) -> bool
+    ensures { IsTrue result ↔ (index.now ≡ key_index_of table.now) }
 {
-    match indexes.as_slice() {
-        [first, second, third, fourth, fifth] => {
-            are_key_indexes(first, second, third, fourth, fifth)
-        }
-        _ => false,
-    }
+    let form = table.form;
+    is_next(index.tree, table.tree)
+        && is_index(index, form.index, index.tree, table.tree, form.unique, true)
 }
 
-/// Whether these are the indexes that SQLite makes for the keys of the five tables.
-fn are_key_indexes(
-    first: &Index,
-    second: &Index,
-    third: &Index,
-    fourth: &Index,
-    fifth: &Index,
-) -> bool
-    ensures { IsTrue result ↔ (first.now ∷ second.now ∷ third.now ∷ fourth.now ∷ fifth.now ∷ []
-        ≡ unindexed.indexes) }
+/// Whether a tree is the one behind another.
+fn is_next(tree: u32, before: u32) -> bool
+    ensures { IsTrue result ↔ (tree ≡ before + 1) }
 {
-    is_key_index(first, &TEXTS)
-        && is_key_index(second, &VERSIONS)
-        && is_key_index(third, &LEVELS)
-        && is_key_index(fourth, &KEPT)
-        && is_key_index(fifth, &META)
+    tree > 0 && tree - 1 == before
 }
 
-fn is_key_index(index: &Index, form: &TableForm) -> bool
-    requires { form.now.tree < 2 ^ 31 }
-    ensures { IsTrue result ↔ (index.now ≡ index_of form.now) }
+fn is_versions_of_id(index: &Index, tree: u32) -> bool
+    ensures { IsTrue result ↔ (index.now ≡ record versions_of_id { tree = tree }) }
 {
-    is_index(
-        index,
-        form.index,
-        form.tree + 1,
-        form.tree,
-        form.unique,
-        true,
-    )
-}
-
-fn is_versions_of_id(index: &Index) -> bool
-    ensures { IsTrue result ↔ (index.now ≡ versions_of_id) }
-{
-    is_index(index, b"versions_of_id", 10, 2, &[3], false)
+    is_index(index, b"versions_of_id", tree, 2, &[3], false)
 }
 
 fn is_index(

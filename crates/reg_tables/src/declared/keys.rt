@@ -22,6 +22,16 @@ pub fn is_one_name(names: &Items<Bytes>, expected: &[u8]) -> bool
     }
 }
 
+/// Whether these are the two names.
+pub fn are_two_names(names: &Items<Bytes>, first: &[u8], second: &[u8]) -> bool
+    ensures { IsTrue result ↔ (names.now ≡ first.now ∷ second.now ∷ []) }
+{
+    match names.as_slice() {
+        [one, other] => is_name(one, first) && is_name(other, second),
+        _ => false,
+    }
+}
+
 /// Whether these are the numbers of a key's columns.
 pub fn are_numbers(numbers: &Items<usize>, expected: &[usize]) -> bool
     ensures { IsTrue result ↔ (numbers.now ≡ expected.now) }

@@ -1,79 +1,69 @@
-//! Whether tables are those of layout 1.
+//! Whether tables are those of a layout.
 
-ghost use Rattle.std.specs.Prelude.{◌≡◌, ◌↔◌, map, [], ◌∷◌, IsTrue, true, false};
+ghost use Rattle.std.specs.Prelude.{◌≡◌, ◌↔◌, [], ◌∷◌, IsTrue, true, false};
 ghost use Rattle.sqlite.specs.declared.types.Value.TheVariants.{Null};
 ghost use Rattle.sqlite.specs.Collation.TheVariants.{Binary};
-ghost use Rattle.reg_tables.specs.Layout.{layout, versions};
-ghost use Rattle.reg_tables.specs.Inside.Forms.{column_of, table_of};
+ghost use Rattle.reg_tables.specs.Inside.Forms.{checks_of, column_of, form_of, table_of};
 
 use crate::declared::checks::are_version_checks;
-use crate::declared::forms::{ColumnForm, KEPT, LEVELS, META, TEXTS, TableForm, VERSIONS};
+use crate::declared::forms::{ColumnForm, TableForm};
 use crate::declared::keys::{are_numbers, is_name, is_one_key};
-use crate::declared::references::is_one_reference;
+use crate::declared::listed_forms::{Form, are_declared};
+use crate::declared::schemas::Placed;
 use sqlite_items::Items;
 use sqlite_schema::code::Terms;
 use sqlite_schema::schema::{Column, Kind, Stamps, Table};
 use sqlite_value::keys::{Collation, Order};
 use sqlite_value::value::Value;
 
-/// Whether these are the five tables, in their order.
-pub fn are_tables(tables: &Items<Table>) -> bool
-    ensures { IsTrue result ↔ (tables.now ≡ layout.tables) }
-{
-    match tables.as_slice() {
-        [first, second, third, fourth, fifth] => {
-            are_five_tables(first, second, third, fourth, fifth)
-        }
-        _ => false,
+impl Form<Table> for Placed {
+    ghost meaning = { table_of };
+
+    fn declares(&self, item: &Table) -> bool {
+        let form = self.form;
+        item.tree == self.tree
+            && has_form(item, form)
+            && are_checks(&item.checks, form.has_flag)
+            && are_declared(item.references.as_slice(), form.references)
     }
 }
 
-fn are_five_tables(
-    first: &Table,
-    second: &Table,
-    third: &Table,
-    fourth: &Table,
-    fifth: &Table,
-) -> bool
-    ensures { IsTrue result ↔ (first.now ∷ second.now ∷ third.now ∷ fourth.now ∷ fifth.now ∷ []
-        ≡ layout.tables) }
-{
-    is_table(first, &TEXTS)
-        && is_versions(second)
-        && is_table(third, &LEVELS)
-        && is_table(fourth, &KEPT)
-        && is_table(fifth, &META)
+impl Form<Column> for ColumnForm {
+    ghost meaning = { column_of };
+
+    fn declares(&self, item: &Column) -> bool {
+        match self {
+            ColumnForm::Nullable(name, kind) => has_type(item, name, *kind) && !item.not_null,
+            ColumnForm::Required(name, kind) => has_type(item, name, *kind) && item.not_null,
+        }
+    }
 }
 
-fn is_table(table: &Table, form: &TableForm) -> bool
-    ensures { IsTrue result ↔ (table.now ≡ table_of form.now) }
+fn are_checks(checks: &Terms, has_flag: bool) -> bool
+    ensures { IsTrue result ↔ (checks.now ≡ checks_of has_flag) }
 {
-    has_form(table, form) && are_none(&table.checks) && table.references.as_slice().is_empty()
+    if has_flag {
+        are_version_checks(checks)
+    } else {
+        are_none(checks)
+    }
 }
 
-fn is_versions(table: &Table) -> bool
-    ensures { IsTrue result ↔ (table.now ≡ versions) }
-{
-    has_form(table, &VERSIONS)
-        && are_version_checks(&table.checks)
-        && is_one_reference(&table.references)
-}
-
-/// What a table has beside its checks and its references.
+/// What a table has beside its tree, its checks and its references.
 fn has_form(table: &Table, form: &TableForm) -> bool
-    ensures { IsTrue result ↔ (table.now ≡ record (table_of form.now) {
+    ensures { IsTrue result ↔ (table.now ≡ record (form_of form.now) {
+      tree = table.now.tree;
       checks = table.now.checks;
       references = table.now.references;
     }) }
 {
     is_name(&table.name, form.name)
-        && table.tree == form.tree
         && table.key == form.key
         && are_numbers(&table.primary, form.primary)
         && is_one_key(&table.uniques, form.unique)
         && is_one_order(&table.orders)
         && has_no_extras(table)
-        && are_columns(table.columns.as_slice(), form.columns)
+        && are_declared(table.columns.as_slice(), form.columns)
 }
 
 /// Whether a table has no computed column, no default that reads the time, and no AUTOINCREMENT.
@@ -85,29 +75,6 @@ fn has_no_extras(table: &Table) -> bool
     }) }
 {
     table.computed.as_slice().is_empty() && has_no_stamps(&table.stamps) && !table.is_counted
-}
-
-fn are_columns(columns: &[Column], forms: &[ColumnForm]) -> bool
-    ensures { IsTrue result ↔ (columns.now ≡ map column_of forms.now) }
-{
-    if columns.len() != forms.len() {
-        return false;
-    }
-    for (at, form) in forms.iter().enumerate() {
-        if !is_column(&columns[at], form) {
-            return false;
-        }
-    }
-    true
-}
-
-fn is_column(column: &Column, form: &ColumnForm) -> bool
-    ensures { IsTrue result ↔ (column.now ≡ column_of form.now) }
-{
-    match form {
-        ColumnForm::Nullable(name, kind) => has_type(column, name, *kind) && !column.not_null,
-        ColumnForm::Required(name, kind) => has_type(column, name, *kind) && column.not_null,
-    }
 }
 
 fn has_type(column: &Column, name: &[u8], kind: Kind) -> bool

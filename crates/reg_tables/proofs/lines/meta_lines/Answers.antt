@@ -1,6 +1,5 @@
 use Rattle.sqlite.specs.Held.{state}
 use Rattle.reg_tables.specs.Listings.{meta_entry}
-use Rattle.reg_tables.proofs.Statements.{has_tables_first}
 use Rattle.reg_tables.proofs.TableLines.{shows_meta, lists_lines, lines_fault, lines_told}
 use Rattle.reg_tables.proofs.Transactions.{if_ok, if_err}
 use Rattle.reg_tables.proofs.lines.meta_lines.Goals as goal
@@ -10,5 +9,5 @@ returns g c = record {
   frame = c.list.ensures.frame;
   listed = λ clean. if_ok c.list.result (λ lines read. lists_lines shows_meta _ _ meta_entry lines.items read.1 read.2 read.3) (c.list.ensures.read clean);
   fault = λ clean. if_err c.list.result (λ e why. lines_fault shows_meta _ _ (state g.S.Store c.list.new.db.conn) e why.1) (c.list.ensures.failed clean);
-  told = λ clean. if_err c.list.result (λ e why laid. lines_told shows_meta _ _ (state g.S.Store c.list.new.db.conn) e why.1 (λ is_open. has_tables_first _ (laid is_open))) (c.list.ensures.failed clean);
+  told = λ clean. if_err c.list.result (λ e why. lines_told shows_meta _ _ (state g.S.Store c.list.new.db.conn) e why.1) (c.list.ensures.failed clean);
 }

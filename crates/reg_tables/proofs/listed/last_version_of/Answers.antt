@@ -1,7 +1,6 @@
-use Rattle.std.proofs.Common.{inl, refl, [], ◌∷◌}
+use Rattle.std.proofs.Common.{[], ◌∷◌}
 use Rattle.sqlite.specs.Held.{state}
 use Rattle.sqlite.specs.declared.types.Value.TheVariants.{Text}
-use Rattle.reg_tables.specs.Layout.{layout}
 use Rattle.reg_tables.specs.Entries.{IsReadableNumbered}
 use Rattle.reg_tables.proofs.Faults.{takes_last_version}
 use Rattle.reg_tables.proofs.Statements.{find_last_version, find_last_version_is}
@@ -13,11 +12,11 @@ use Rattle.reg_tables.proofs.listed.last_version_of.Goals as goal
 pub returns : goal.returns
 returns g c = record {
   frame = c.first.ensures.frame;
-  found = λ clean. if_ok c.first.result (λ line read contents holds.
-      last_line _ _ layout contents holds (inl refl) c.args.subject.now read.1 (rw c.params-to_sql.ensures at read.2) line read.3)
+  found = λ clean. if_ok c.first.result (λ line read schema first contents holds.
+      last_line _ _ schema contents holds first c.args.subject.now read.1 (rw c.params-to_sql.ensures at read.2) line read.3)
       (c.first.ensures.read clean);
   fault = λ clean. if_err c.first.result (λ e why.
       list_fault find_last_version (Text c.args.subject.now ∷ []) find_last_version_is (takes_last_version c.args.subject.now) IsReadableNumbered _ _ (state g.S.Store c.first.new.db.conn)
-      (λ found shown there. readable_last_line _ _ there.schema there.contents there.holds there.is_layout c.args.subject.now found shown there.readable) e (rw c.params-to_sql.ensures at why.1))
+      (λ found shown there. readable_last_line _ _ there.schema there.contents there.holds there.known c.args.subject.now found shown there.readable) e (rw c.params-to_sql.ensures at why.1))
       (c.first.ensures.failed clean);
 }

@@ -1,8 +1,7 @@
-use Rattle.std.proofs.Common.{rules, ◌∙◌, inl, refl, sym, None, Some, ap, slice_get, List, [], ◌∷◌}
+use Rattle.std.proofs.Common.{rules, ◌∙◌, sym, None, Some, ap, slice_get, List, [], ◌∷◌}
 use Rattle.std.specs.FinMap.{get}
 use Rattle.sqlite.specs.Order.{Row}
 use Rattle.sqlite.specs.Held.{state}
-use Rattle.reg_tables.specs.Layout.{layout}
 use Rattle.reg_tables.specs.Frames.{once_begun}
 use Rattle.reg_tables.proofs.TableReads.{finds_id}
 use Rattle.reg_tables.proofs.Transactions.{stays_read, stays_unread}
@@ -14,9 +13,9 @@ use Rattle.reg_tables.proofs.texts.id_of.Goals as goal
 pub returns-in-None : goal.returns-in-None
 returns-in-None g c = record {
   frame = stays_read g.S.Store c.args.db.now.conn c.ask.new.db.conn _ c.in_ok-rows.ensures.frame;
-  found = λ clean contents holds.
+  found = λ clean schema first contents holds.
       let shown = c.in_ok-rows.ensures.shown clean in
-      finds_id (once_begun g.S.Store c.args.db.now.conn) (state g.S.Store shown.0) layout contents holds (inl refl) c.args.text.now c.in_ok-rows.rows.items None
+      finds_id (once_begun g.S.Store c.args.db.now.conn) (state g.S.Store shown.0) schema contents holds first c.args.text.now c.in_ok-rows.rows.items None
       (c.in-None.ensures.value ∙ ap (λ (l : List Row). slice_get l 0) c.deref.ensures.value) (rw c.params-to_sql.ensures at shown.1);
   fault = λ clean. tt;
 }
@@ -24,9 +23,9 @@ returns-in-None g c = record {
 pub returns : goal.returns
 returns g c = record {
   frame = stays_read g.S.Store c.args.db.now.conn c.ask.new.db.conn _ c.in_ok-rows.ensures.frame;
-  found = λ clean contents holds.
+  found = λ clean schema first contents holds.
       let shown = c.in_ok-rows.ensures.shown clean in
-      let found = finds_id (once_begun g.S.Store c.args.db.now.conn) (state g.S.Store shown.0) layout contents holds (inl refl) c.args.text.now c.in_ok-rows.rows.items (Some c.in-Some.row.now)
+      let found = finds_id (once_begun g.S.Store c.args.db.now.conn) (state g.S.Store shown.0) schema contents holds first c.args.text.now c.in_ok-rows.rows.items (Some c.in-Some.row.now)
       (c.in-Some.ensures.value ∙ ap (λ (l : List Row). slice_get l 0) c.deref.ensures.value) (rw c.params-to_sql.ensures at shown.1) in
       ap (get contents.texts) (sym (c.in_ok-number_in-in-Some.ensures.ok found.0 found.2)) ∙ found.1;
   fault = λ clean. tt;
@@ -53,7 +52,7 @@ returns-in_err-number_in-in-Some g c = record {
       passed_on (state g.S.Store c.args.db.now.conn) (state g.S.Store c.ask.new.db.conn) c.from_residual-in_err-number_in-in-Some.result c.in_err-number_in-in-Some.field-0.0 c.from_residual-in_err-number_in-in-Some.ensures.1
       (λ can.
       let there = can (c.in_ok-rows.ensures.frame.was_open clean) in
-      let found = finds_id (once_begun g.S.Store c.args.db.now.conn) (state g.S.Store shown.0) there.schema there.contents there.holds there.is_layout c.args.text.now c.in_ok-rows.rows.items (Some c.in-Some.row.now)
+      let found = finds_id (once_begun g.S.Store c.args.db.now.conn) (state g.S.Store shown.0) there.schema there.contents there.holds there.known c.args.text.now c.in_ok-rows.rows.items (Some c.in-Some.row.now)
       (c.in-Some.ensures.value ∙ ap (λ (l : List Row). slice_get l 0) c.deref.ensures.value) (rw c.params-to_sql.ensures at shown.1) in
       memory_is_fault (state g.S.Store c.args.db.now.conn) (state g.S.Store c.ask.new.db.conn) c.in_err-number_in-in-Some.field-0.0
       (c.in_err-number_in-in-Some.ensures.err found.0 found.2 (there.readable.texts found.0 c.args.text.now found.1).0));

@@ -1,9 +1,8 @@
-use Rattle.std.proofs.Common.{rules, ◌∙◌, inl, refl, None, Some, ap, subst, slice_get, ℕ, List, [], ◌≤◌}
+use Rattle.std.proofs.Common.{rules, ◌∙◌, None, Some, ap, subst, slice_get, ℕ, List, [], ◌≤◌}
 use Rattle.std.specs.Prelude.{IsSome}
 use Rattle.std.specs.FinMap.{get}
 use Rattle.sqlite.specs.Order.{Row}
 use Rattle.sqlite.specs.Held.{state}
-use Rattle.reg_tables.specs.Layout.{layout}
 use Rattle.reg_tables.specs.Frames.{once_begun}
 use Rattle.reg_tables.proofs.LastIds.{finds_last}
 use Rattle.reg_tables.proofs.FailedVersions.{value_of}
@@ -15,9 +14,9 @@ use Rattle.reg_tables.proofs.texts.last_id.Goals as goal
 pub returns-in-None : goal.returns-in-None
 returns-in-None g c = record {
   frame = stays_read g.S.Store c.args.db.now.conn c.ask.new.db.conn _ c.in_ok-rows.ensures.frame;
-  found = λ clean contents holds.
+  found = λ clean schema first contents holds.
       let shown = c.in_ok-rows.ensures.shown clean in
-      finds_last (once_begun g.S.Store c.args.db.now.conn) (state g.S.Store shown.0) layout contents holds (inl refl) c.in_ok-rows.rows.items shown.1 None
+      finds_last (once_begun g.S.Store c.args.db.now.conn) (state g.S.Store shown.0) schema contents holds first c.in_ok-rows.rows.items shown.1 None
       (c.in-None.ensures.value ∙ ap (λ (l : List Row). slice_get l 0) c.deref.ensures.value);
   fault = λ clean. tt;
 }
@@ -25,9 +24,9 @@ returns-in-None g c = record {
 pub returns : goal.returns
 returns g c = record {
   frame = stays_read g.S.Store c.args.db.now.conn c.ask.new.db.conn _ c.in_ok-rows.ensures.frame;
-  found = λ clean contents holds.
+  found = λ clean schema first contents holds.
       let shown = c.in_ok-rows.ensures.shown clean in
-      let found = finds_last (once_begun g.S.Store c.args.db.now.conn) (state g.S.Store shown.0) layout contents holds (inl refl) c.in_ok-rows.rows.items shown.1 (Some c.in-Some.row.now)
+      let found = finds_last (once_begun g.S.Store c.args.db.now.conn) (state g.S.Store shown.0) schema contents holds first c.in_ok-rows.rows.items shown.1 (Some c.in-Some.row.now)
       (c.in-Some.ensures.value ∙ ap (λ (l : List Row). slice_get l 0) c.deref.ensures.value) in
       subst (λ (id : ℕ). IsSome (get contents.texts id) × ((other : ℕ) → IsSome (get contents.texts other) → other ≤ id)) (c.in_ok-number_in-in-Some.ensures.ok found.0 found.3) (found.1, found.2);
   fault = λ clean. tt;
@@ -54,7 +53,7 @@ returns-in_err-number_in-in-Some g c = record {
       passed_on (state g.S.Store c.args.db.now.conn) (state g.S.Store c.ask.new.db.conn) c.from_residual-in_err-number_in-in-Some.result c.in_err-number_in-in-Some.field-0.0 c.from_residual-in_err-number_in-in-Some.ensures.1
       (λ can.
       let there = can (c.in_ok-rows.ensures.frame.was_open clean) in
-      let found = finds_last (once_begun g.S.Store c.args.db.now.conn) (state g.S.Store shown.0) there.schema there.contents there.holds there.is_layout c.in_ok-rows.rows.items shown.1 (Some c.in-Some.row.now)
+      let found = finds_last (once_begun g.S.Store c.args.db.now.conn) (state g.S.Store shown.0) there.schema there.contents there.holds there.known c.in_ok-rows.rows.items shown.1 (Some c.in-Some.row.now)
       (c.in-Some.ensures.value ∙ ap (λ (l : List Row). slice_get l 0) c.deref.ensures.value) in
       let text = value_of (get there.contents.texts found.0) found.1 in
       memory_is_fault (state g.S.Store c.args.db.now.conn) (state g.S.Store c.ask.new.db.conn) c.in_err-number_in-in-Some.field-0.0 (c.in_err-number_in-in-Some.ensures.err found.0 found.3 (there.readable.texts found.0 text.0 text.1).0));

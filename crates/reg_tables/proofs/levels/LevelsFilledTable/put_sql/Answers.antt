@@ -3,15 +3,15 @@ use Rattle.sqlite.specs.Listing.{understood}
 use Rattle.sqlite_tied.specs.Compute.{everything}
 use Rattle.reg_tables.proofs.Statements.{two_terms}
 use Rattle.reg_tables.proofs.KeyedTables.{cast-Null}
-use Rattle.reg_tables.proofs.LayoutTables.{at_layout, levels_keyed}
+use Rattle.reg_tables.proofs.Written.{in_written, levels_keyed}
 use Rattle.reg_tables.proofs.levels.LevelsFilledTable.put_sql.Goals as goal
 
 pub returns-clause-keyed : goal.returns-clause-keyed
-returns-clause-keyed c = at_layout _ levels_keyed
+returns-clause-keyed c = levels_keyed
 
 pub returns-clause-puts : goal.returns-clause-puts
 unfolding understood everything
-returns-clause-puts c = at_layout _ (record {
+returns-clause-puts c = in_written _ (λ tables indexes s. record {
   terms = two_terms;
   width = 3;
   is = record { is = refl; plain = (refl, refl) };

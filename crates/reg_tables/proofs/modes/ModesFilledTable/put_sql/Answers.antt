@@ -7,7 +7,7 @@ use Rattle.reg_tables.proofs.SecondTables.{in_seconds, modes_keyed}
 use Rattle.reg_tables.proofs.modes.ModesFilledTable.put_sql.Goals as goal
 
 pub returns-clause-keyed : goal.returns-clause-keyed
-returns-clause-keyed c = modes_keyed
+returns-clause-keyed c schema known others = modes_keyed schema known
 
 pub returns-clause-puts : goal.returns-clause-puts
 unfolding understood everything

@@ -2,13 +2,13 @@ use Rattle.std.proofs.Common.{[], ◌∷◌, lit≤, codes, refl}
 use Rattle.sqlite.specs.Term.{col}
 use Rattle.sqlite.specs.Listing.{understood}
 use Rattle.sqlite_tied.specs.Compute.{everything}
-use Rattle.reg_tables.proofs.Statements.{in_layouts}
+use Rattle.reg_tables.proofs.Statements.{behind_tables}
 use Rattle.reg_tables.proofs.LayoutTables.{texts_key, text_is_read}
 use Rattle.reg_tables.proofs.texts.TextsKeyedTable.find_sql.Goals as goal
 
 pub returns-clause-finds : goal.returns-clause-finds
 unfolding understood everything
-returns-clause-finds c = in_layouts _ (λ tables indexes. record {
+returns-clause-finds c = behind_tables _ (λ tables indexes. record {
   key = texts_key;
   declared = λ db contents h. h.declared;
   shows = λ db contents h. h.texts;

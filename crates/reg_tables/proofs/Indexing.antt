@@ -1,0 +1,238 @@
+-- What the making of the index leaves, and why it is not made.
+use Rattle.std.proofs.Common.{◌≡◌, inl, inr, ℕ, pos, ◌+◌, ◌<◌, ◌^◌, List, [], ◌∷◌, ◌++◌, ◌&&◌, not, length, lit<, lit≤, codes, Some, None, Ok, Err, Option, false, true, refl, sym, ap, subst, ◌∙◌, arith}
+use Rattle.std.specs.Prelude.{IsUtf8, IsTrue}
+use Rattle.std.proofs.lemmas.Bool.{both_ways}
+use Rattle.sqlite.specs.declared.types.Value.{Value}
+use Rattle.sqlite.specs.declared.types.Value.TheVariants.{Null, Int, Real, Text, Blob}
+use Rattle.sqlite.specs.Order.{column, value_cmp, Row}
+use Rattle.sqlite.specs.Tree.{Trees, rowid}
+use Rattle.sqlite.specs.Table.{Table}
+use Rattle.sqlite.specs.Schema.{Schema}
+use Rattle.sqlite.specs.Change.{is_used, is_reserved, next_tree, indexed, KeepsRows}
+use Rattle.sqlite.specs.Compile.{index_defined_by}
+use Rattle.sqlite.specs.Command.TheVariants.{CreateIndex}
+use Rattle.sqlite.specs.Does.{Tally, Does, MakesIndex as MakesOne}
+use Rattle.sqlite.specs.Effect.{Database, IsDatabase}
+use Rattle.sqlite.specs.State.{State, Executes, ExecutesInside, Writes, mode_of}
+use Rattle.sqlite.specs.Listing.{understood}
+use Rattle.sqlite.specs.declared.error.Error.{Error}
+use Rattle.sqlite.proofs.Callers.{runs_as, statement_of}
+use Rattle.sqlite_schema.specs.Names.{same_name}
+use Rattle.sqlite_schema.specs.declared.schema.Constraint.TheVariants.{Unique}
+use Rattle.sqlite_schema.specs.declared.schema.Index.{Index}
+use Rattle.sqlite_schema.specs.Rules.{table_reals, index_reals, guards, clashes, Keeps}
+use Rattle.sqlite_sql.specs.Catalog.{entry_of}
+use Rattle.sqlite_catalog.specs.Listing.{is_fit}
+use Rattle.sqlite_catalog.specs.Calls.{RefusesIndex}
+use Rattle.sqlite_catalog.specs.declared.error.Refusal.{Refusal}
+use Rattle.sqlite_catalog.specs.declared.error.Refusal.TheVariants.{Invalid, NameTaken, BadName, TooBig, BadKey, BadText, Violates}
+use Rattle.sqlite_rules.specs.Lists.{Has}
+use Rattle.sqlite_rules.proofs.ListLemmas.{all_has, test_push}
+use Rattle.sqlite_rules.proofs.RuleLemmas.{keeps_at, keeps_from}
+use Rattle.sqlite_trees.specs.View.{is_int, IsStorable}
+use Rattle.sqlite_trees.specs.Sound.{same_name as same_word, begins as begins_with, is_free_name, fits_kind}
+use Rattle.sqlite_tied.specs.Compute.{everything}
+use Rattle.reg_tables.specs.Layout.{begins, unindexed, versions, versions_of_id}
+use Rattle.reg_tables.specs.SecondLayout.{added, second_unindexed, second_indexed_last}
+use Rattle.reg_tables.specs.Contents.{pair_form, Contents, HoldsIn, Holds}
+use Rattle.reg_tables.specs.SecondContents.{evidence_form, against_form, SecondContents, HoldsAllIn}
+use Rattle.reg_tables.specs.FailedCalls.{IsFault}
+use Rattle.reg_tables.specs.Inside.Statements.{IsCommand, IsWhole}
+use Rattle.reg_tables.proofs.RowLemmas.{same_rows}
+use Rattle.reg_tables.proofs.StoredRows.{storable}
+use Rattle.reg_tables.proofs.WriteFaults.{refused_by}
+use Rattle.reg_tables.proofs.Writes.{went, same_value}
+
+abbrev pub make_versions_of_id : List ℕ
+make_versions_of_id = codes "CREATE INDEX versions_of_id ON versions (id)"
+
+-- the index, in this tree
+abbrev in_tree : ℕ → Index
+in_tree tree = record versions_of_id { tree = tree }
+
+index_defined : index_defined_by versions make_versions_of_id ≡ Ok (in_tree 0)
+unfolding everything
+index_defined = refl
+
+its_index : (i : Index) → index_defined_by versions make_versions_of_id ≡ Ok i → i ≡ in_tree 0
+its_index i is = let both : ◌≡◌ {A = _} (Ok i) (Ok (in_tree 0)) = sym is ∙ index_defined in cc
+
+-- what the CREATE INDEX makes of tables that begin with the five, and what SQLite asks of the index's name, columns and text
+record MakesIndex (tables : List Table) (indexes : List Index) (tree : ℕ) : Type 0 where
+  command : IsCommand (begins tables indexes) make_versions_of_id (CreateIndex 1)
+  text : statement_of make_versions_of_id (understood (begins tables indexes) make_versions_of_id) ≡ make_versions_of_id
+  is : indexed (begins tables indexes) versions (in_tree 0) ≡ begins tables (indexes ++ in_tree tree ∷ [])
+  whole : IsWhole make_versions_of_id 0 (understood (begins tables indexes) make_versions_of_id)
+  room : next_tree (begins tables indexes) < 65536
+  unused : is_used (begins tables indexes) versions_of_id.name ≡ false
+
+first_makes : MakesIndex [] unindexed.indexes 10
+unfolding understood everything same_name same_word begins_with
+first_makes = record { command = record { is = refl; plain = (refl, refl) }; text = refl; is = refl; whole = (lit≤ tt, refl); room = lit< tt; unused = refl }
+
+second_makes : MakesIndex (added 10) second_unindexed.indexes 16
+unfolding understood everything same_name same_word begins_with
+second_makes = record { command = record { is = refl; plain = (refl, refl) }; text = refl; is = refl; whole = (lit≤ tt, refl); room = lit< tt; unused = refl }
+
+-- what SQLite asks whatever the tables
+record CanBeIndexed : Type 0 where
+  text : IsUtf8 make_versions_of_id
+  named : IsUtf8 versions_of_id.name
+  owner : IsUtf8 versions.name
+  unreserved : is_reserved versions_of_id.name ≡ false
+  fits : is_fit (Text (codes "index")) (Text versions_of_id.name) (Text versions.name) (Text make_versions_of_id) ≡ true
+
+versions_can_be_indexed : CanBeIndexed
+unfolding understood everything same_name same_word begins_with is_free_name fits_kind value_cmp lib.Utf8.encode lib.Ieee.is_nan lib.Ieee.lt
+versions_can_be_indexed = record {
+  text = (make_versions_of_id, (refl, refl));
+  named = (codes "versions_of_id", (refl, refl));
+  owner = (codes "versions", (refl, refl));
+  unreserved = refl;
+  fits = refl;
+}
+
+-- each entry of the index can be stored
+abbrev AreStorable : Trees → Type 0
+AreStorable db = (row : Row) → Has (db versions.tree) row → IsStorable (index_reals (table_reals versions) (3 ∷ [])) (entry_of (3 ∷ []) row)
+
+two_numbers : (id rowid : Value) → is_int id ≡ true → is_int rowid ≡ true → IsStorable 0 (id ∷ rowid ∷ [])
+two_numbers (Int id) (Int rowid) first second = storable (Int id ∷ Int rowid ∷ []) (tt, (tt, tt)) (lit< tt) (lit≤ tt) (lit≤ tt)
+two_numbers (Int id) Null first second = absurd (cc)
+two_numbers (Int id) (Real x) first second = absurd (cc)
+two_numbers (Int id) (Text x) first second = absurd (cc)
+two_numbers (Int id) (Blob x) first second = absurd (cc)
+two_numbers Null b first second = absurd (cc)
+two_numbers (Real x) b first second = absurd (cc)
+two_numbers (Text x) b first second = absurd (cc)
+two_numbers (Blob x) b first second = absurd (cc)
+
+-- the ids and the rowids of versions are numbers
+storable_if_held : (schema : Schema) (db : Database) (contents : Contents) → HoldsIn schema db contents → AreStorable db.trees
+storable_if_held schema db contents holds = λ row there.
+    let it = holds.versions.sound row there in
+    let id : column row 3 ≡ Int (pos it.1.id) = (let v = it.3.1 in cc) in
+    two_numbers (column row 3) (rowid row) (ap is_int id) (all_has (λ r. IsTrue (is_int (rowid r))) (db.trees versions.tree) row holds.versions.rowids.1 there)
+
+-- the index is there too, and each table has the rows that it had
+record IsIndexed (tables : List Table) (indexes : List Index) (tree : ℕ) (old new : Database) : Type 0 where
+  declared : new.schema ≡ begins tables (indexes ++ in_tree tree ∷ [])
+  sound : IsDatabase new
+  rows : KeepsRows (begins tables indexes).tables old.trees new.trees
+
+module _ (tables : List Table) (indexes : List Index) (tree : ℕ) (m : MakesIndex tables indexes tree) where
+  abbrev before : Schema
+  before = begins tables indexes
+
+  abbrev after : Schema
+  after = begins tables (indexes ++ in_tree tree ∷ [])
+
+  is_indexed : (old new : State) (count : ℕ) → old.now.schema ≡ before → Executes make_versions_of_id [] old new (Ok count) → IsIndexed tables indexes tree old.now new.now
+  is_indexed old new count declared h =
+      let w = subst (λ t. Writes old new None (CreateIndex 1) t [] count) m.text (runs_as make_versions_of_id [] old new before declared (CreateIndex 1) m.command.is m.command.plain count h) in
+      let done = subst (λ s. Does old.step_limit (mode_of old) [] (record old.now { schema = s }) make_versions_of_id None (CreateIndex 1) (Ok (w.tally, new.now))) declared w.changed in
+      let all = went done in
+      let made = all.1 in
+      let now : new.now ≡ all.0 = ap (λ (p : Tally × Database). p.1) (same_value all.2) in
+      record {
+        declared = ap (λ (d : Database). d.schema) now ∙ made.is ∙ ap (indexed before versions) (its_index made.index made.defined) ∙ m.is;
+        sound = w.sound;
+        rows = subst (λ (d : Database). KeepsRows before.tables old.now.trees d.trees) (sym now) made.rows;
+      }
+
+  -- the five tables hold what they held
+  base_indexed : (old new : Database) (contents : Contents) → IsIndexed tables indexes tree old new → HoldsIn before old contents → HoldsIn after new contents
+  base_indexed old new contents it holds = record {
+    declared = it.declared;
+    sound = it.sound;
+    texts = same_rows it.rows.0 holds.texts;
+    versions = same_rows it.rows.1.0 holds.versions;
+    levels = same_rows it.rows.1.1.0 holds.levels;
+    kept = same_rows it.rows.1.1.1.0 holds.kept;
+    meta = same_rows it.rows.1.1.1.1.0 holds.meta;
+  }
+
+  -- an index that is not unique asks nothing of the rows
+  unique_with_index : (db : Trees) → Keeps Unique before db → Keeps Unique after db
+  unique_with_index db keeps =
+      keeps_from Unique after db (λ t row listed there. test_push (λ i. not (guards i t && clashes i.order i.columns (db t.tree) row)) indexes (in_tree tree) (keeps_at Unique before db t row keeps listed there) refl)
+
+  module _ (old new : State) (declared : old.now.schema ≡ before) (unique : Keeps Unique after old.now.trees) (storable : AreStorable old.now.trees) (e : Error) where
+    unrefused_index : (why : Refusal) → RefusesIndex before old.now.trees versions make_versions_of_id why → ⊥
+    unrefused_index (Invalid e) h = absurd (let clash = sym h ∙ index_defined in cc)
+    unrefused_index NameTaken h = both_ways _ m.unused (ap (λ (i : Index). is_used before i.name) (sym (its_index h.0 h.1)) ∙ h.2)
+    unrefused_index BadName h = elim h.2 [
+      | inl bad ↦ elim bad [
+        | inl odd ↦ odd (subst (λ (i : Index). IsUtf8 i.name) (sym (its_index h.0 h.1)) versions_can_be_indexed.named)
+        | inr own ↦ both_ways _ versions_can_be_indexed.unreserved (ap (λ (i : Index). is_reserved i.name) (sym (its_index h.0 h.1)) ∙ own.0)
+      ]
+      | inr odd ↦ odd versions_can_be_indexed.owner
+    ]
+    unrefused_index TooBig h = elim h.2 [
+      | inl many ↦ let low = m.room in omega arith
+      | inr wide ↦ elim wide [
+        | inl table_wide ↦ let low : table_reals versions < 2 ^ 64 = lit< tt in omega arith
+        | inr key_wide ↦ let low = subst (λ (i : Index). index_reals (table_reals versions) i.columns < 2 ^ 64) (sym (its_index h.0 h.1)) (lit< tt) in omega arith
+      ]
+    ]
+    unrefused_index BadKey h = h
+    unrefused_index BadText h =
+        both_ways _ (ap (λ (i : Index). is_fit (Text (codes "index")) (Text i.name) (Text versions.name) (Text make_versions_of_id)) (sym (its_index h.0 h.1)) ∙ h.2) versions_can_be_indexed.fits
+    unrefused_index (Violates rule) h = h.3 (subst (λ s. Keeps Unique s old.now.trees) (sym (ap (indexed before versions) (its_index h.0 h.1) ∙ m.is)) unique)
+
+    index_fails : ExecutesInside 0 make_versions_of_id [] old new (Err e) → IsFault old new e
+    index_fails h =
+        elim (refused_by make_versions_of_id [] old new before declared (CreateIndex 1) m.command m.whole (record { silent = refl; stays = refl }) e h) [
+          | inl fault ↦ fault
+          | inr rest ↦ absurd (elim rest [
+            | inl large ↦ too_large (subst (λ t. Does old.step_limit (mode_of old) [] (record old.now { schema = before }) t None (CreateIndex 1) (Err None)) m.text large.1)
+            | inr does ↦ refused (subst (λ t. Does old.step_limit (mode_of old) [] (record old.now { schema = before }) t None (CreateIndex 1) (Err (Some e))) m.text does)
+          ])
+        ]
+      where
+        not_large : (stop : Option Error) → stop ≡ None → MakesOne make_versions_of_id (record old.now { schema = before }) versions (Err stop) → ⊥
+        not_large (Some x) is h = cc
+        not_large None is h = elim h.2 [
+          | inl long ↦ let low = subst (λ (i : Index). length i.name + length versions.name + length make_versions_of_id + 200 < 10 ^ 9) (sym (its_index h.0 h.1)) (lit< tt) in omega arith
+          | inr row ↦ row.2 (subst (λ (i : Index). IsStorable (index_reals (table_reals versions) i.columns) (entry_of i.columns row.0)) (sym (its_index h.0 h.1)) (storable row.0 row.1))
+        ]
+
+        too_large : Does old.step_limit (mode_of old) [] (record old.now { schema = before }) make_versions_of_id None (CreateIndex 1) (Err None) → ⊥
+        too_large (inl stopped) = not_large stopped.0 (let same = stopped.2 in cc) stopped.1
+        too_large (inr done) = let e = done.2 in cc
+
+        made : (stop : Option Error) → stop ≡ Some e → MakesOne make_versions_of_id (record old.now { schema = before }) versions (Err stop) → ⊥
+        made None is h = cc
+        made (Some x) is (inl odd) = odd.0 versions_can_be_indexed.text
+        made (Some x) is (inr why) = unrefused_index why.0 why.1
+
+        refused : Does old.step_limit (mode_of old) [] (record old.now { schema = before }) make_versions_of_id None (CreateIndex 1) (Err (Some e)) → ⊥
+        refused (inl stopped) = made stopped.0 (let same = stopped.2 in cc) stopped.1
+        refused (inr done) = let e = done.2 in cc
+
+  -- over the tables of a sound database, the index fails for the store alone
+  fails_if_sound : (old new : State) (contents : Contents) → HoldsIn before old.now contents → (e : Error) → ExecutesInside 0 make_versions_of_id [] old new (Err e) → IsFault old new e
+  fails_if_sound old new contents holds e =
+      let obeys = (subst (λ s. IsDatabase (record { schema = s; trees = old.now.trees })) holds.declared holds.sound).obeys in
+      index_fails old new holds.declared (unique_with_index old.now.trees (obeys.rules Unique)) (storable_if_held before old.now contents holds) e
+
+-- ---- the layouts
+
+pub indexes_first : (old new : State) (count : ℕ) (contents : Contents) → HoldsIn unindexed old.now contents → Executes make_versions_of_id [] old new (Ok count) → Holds new.now contents
+indexes_first old new count contents holds h = base_indexed [] unindexed.indexes 10 first_makes old.now new.now contents (is_indexed [] unindexed.indexes 10 first_makes old new count holds.declared h) holds
+
+pub indexes_second : (old new : State) (count : ℕ) (contents : SecondContents) → HoldsAllIn second_unindexed old.now contents → Executes make_versions_of_id [] old new (Ok count) → HoldsAllIn second_indexed_last new.now contents
+indexes_second old new count contents holds h =
+    let it = is_indexed (added 10) second_unindexed.indexes 16 second_makes old new count holds.base.declared h in
+    record {
+      base = base_indexed (added 10) second_unindexed.indexes 16 second_makes old.now new.now contents.base it holds.base;
+      modes = same_rows {form = pair_form} it.rows.1.1.1.1.1.0 holds.modes;
+      evidence = same_rows {form = evidence_form} it.rows.1.1.1.1.1.1.0 holds.evidence;
+      against = same_rows {form = against_form} it.rows.1.1.1.1.1.1.1.0 holds.against;
+    }
+
+pub index_fails_first : (old new : State) (contents : Contents) → HoldsIn unindexed old.now contents → (e : Error) → ExecutesInside 0 make_versions_of_id [] old new (Err e) → IsFault old new e
+index_fails_first = fails_if_sound [] unindexed.indexes 10 first_makes
+
+pub index_fails_second : (old new : State) (contents : SecondContents) → HoldsAllIn second_unindexed old.now contents → (e : Error) → ExecutesInside 0 make_versions_of_id [] old new (Err e) → IsFault old new e
+index_fails_second old new contents holds = fails_if_sound (added 10) second_unindexed.indexes 16 second_makes old new contents.base holds.base

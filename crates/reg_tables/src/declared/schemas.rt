@@ -1,0 +1,179 @@
+//! The forms of the schemas of both layouts: which tables and indexes there are, and in which trees.
+
+use crate::declared::forms::{
+    AGAINST, EVIDENCE, KEPT, LEVELS, META, MODES, TEXTS, TableForm, VERSIONS,
+};
+
+/// A table, and the number of the tree that has its rows. The next tree is the key's index.
+pub struct Placed {
+    pub form: &'static TableForm,
+    pub tree: u32,
+}
+
+/// How an index is declared.
+pub enum IndexForm {
+    /// The one that SQLite makes for the key of a table.
+    OfKey(Placed),
+    /// The one on the ids of versions, in the tree of this number.
+    OfIds(u32),
+}
+
+/// How a schema with no view is declared.
+pub struct SchemaForm {
+    pub tables: &'static [Placed],
+    pub indexes: &'static [IndexForm],
+}
+
+const TEXTS_AT: Placed = Placed {
+    form: &TEXTS,
+    tree: 0,
+};
+
+const VERSIONS_AT: Placed = Placed {
+    form: &VERSIONS,
+    tree: 2,
+};
+
+const LEVELS_AT: Placed = Placed {
+    form: &LEVELS,
+    tree: 4,
+};
+
+const KEPT_AT: Placed = Placed {
+    form: &KEPT,
+    tree: 6,
+};
+
+const META_AT: Placed = Placed {
+    form: &META,
+    tree: 8,
+};
+
+const MODES_AT_10: Placed = Placed {
+    form: &MODES,
+    tree: 10,
+};
+
+const EVIDENCE_AT_12: Placed = Placed {
+    form: &EVIDENCE,
+    tree: 12,
+};
+
+const AGAINST_AT_14: Placed = Placed {
+    form: &AGAINST,
+    tree: 14,
+};
+
+const MODES_AT_11: Placed = Placed {
+    form: &MODES,
+    tree: 11,
+};
+
+const EVIDENCE_AT_13: Placed = Placed {
+    form: &EVIDENCE,
+    tree: 13,
+};
+
+const AGAINST_AT_15: Placed = Placed {
+    form: &AGAINST,
+    tree: 15,
+};
+
+/// Layout 1.
+pub const FIRST: SchemaForm = SchemaForm {
+    tables: &[TEXTS_AT, VERSIONS_AT, LEVELS_AT, KEPT_AT, META_AT],
+    indexes: &[
+        IndexForm::OfKey(TEXTS_AT),
+        IndexForm::OfKey(VERSIONS_AT),
+        IndexForm::OfKey(LEVELS_AT),
+        IndexForm::OfKey(KEPT_AT),
+        IndexForm::OfKey(META_AT),
+        IndexForm::OfIds(10),
+    ],
+};
+
+/// Layout 1 without its index.
+pub const FIRST_UNINDEXED: SchemaForm = SchemaForm {
+    tables: &[TEXTS_AT, VERSIONS_AT, LEVELS_AT, KEPT_AT, META_AT],
+    indexes: &[
+        IndexForm::OfKey(TEXTS_AT),
+        IndexForm::OfKey(VERSIONS_AT),
+        IndexForm::OfKey(LEVELS_AT),
+        IndexForm::OfKey(KEPT_AT),
+        IndexForm::OfKey(META_AT),
+    ],
+};
+
+/// Layout 2, its new tables made behind the index.
+pub const SECOND: SchemaForm = SchemaForm {
+    tables: &[
+        TEXTS_AT,
+        VERSIONS_AT,
+        LEVELS_AT,
+        KEPT_AT,
+        META_AT,
+        MODES_AT_11,
+        EVIDENCE_AT_13,
+        AGAINST_AT_15,
+    ],
+    indexes: &[
+        IndexForm::OfKey(TEXTS_AT),
+        IndexForm::OfKey(VERSIONS_AT),
+        IndexForm::OfKey(LEVELS_AT),
+        IndexForm::OfKey(KEPT_AT),
+        IndexForm::OfKey(META_AT),
+        IndexForm::OfIds(10),
+        IndexForm::OfKey(MODES_AT_11),
+        IndexForm::OfKey(EVIDENCE_AT_13),
+        IndexForm::OfKey(AGAINST_AT_15),
+    ],
+};
+
+/// Layout 2, the index made last.
+pub const SECOND_INDEXED_LAST: SchemaForm = SchemaForm {
+    tables: &[
+        TEXTS_AT,
+        VERSIONS_AT,
+        LEVELS_AT,
+        KEPT_AT,
+        META_AT,
+        MODES_AT_10,
+        EVIDENCE_AT_12,
+        AGAINST_AT_14,
+    ],
+    indexes: &[
+        IndexForm::OfKey(TEXTS_AT),
+        IndexForm::OfKey(VERSIONS_AT),
+        IndexForm::OfKey(LEVELS_AT),
+        IndexForm::OfKey(KEPT_AT),
+        IndexForm::OfKey(META_AT),
+        IndexForm::OfKey(MODES_AT_10),
+        IndexForm::OfKey(EVIDENCE_AT_12),
+        IndexForm::OfKey(AGAINST_AT_14),
+        IndexForm::OfIds(16),
+    ],
+};
+
+/// Layout 2 without its index.
+pub const SECOND_UNINDEXED: SchemaForm = SchemaForm {
+    tables: &[
+        TEXTS_AT,
+        VERSIONS_AT,
+        LEVELS_AT,
+        KEPT_AT,
+        META_AT,
+        MODES_AT_10,
+        EVIDENCE_AT_12,
+        AGAINST_AT_14,
+    ],
+    indexes: &[
+        IndexForm::OfKey(TEXTS_AT),
+        IndexForm::OfKey(VERSIONS_AT),
+        IndexForm::OfKey(LEVELS_AT),
+        IndexForm::OfKey(KEPT_AT),
+        IndexForm::OfKey(META_AT),
+        IndexForm::OfKey(MODES_AT_10),
+        IndexForm::OfKey(EVIDENCE_AT_12),
+        IndexForm::OfKey(AGAINST_AT_14),
+    ],
+};
