@@ -5,4 +5,5 @@ mod nodes;
 mod registry;
 mod requests;
 mod resolution;
+mod rows;
 mod schemas;

@@ -7,14 +7,16 @@ use Rattle.std.proofs.lemmas.List.Elements.{All-head, All-tail}
 use Rattle.avro_nodes.specs.Nodes.{NodeView}
 use Rattle.avro_schema.specs.Texts.{TextDenotes}
 use Rattle.reg_core.specs.declared.level.Level.{Level}
+use Rattle.reg_core.specs.declared.mode.Mode.{Mode}
 use Rattle.reg_core.specs.declared.command.Command.{Command}
-use Rattle.reg_core.specs.declared.command.Command.TheVariants.{SetGlobal, SetLevel, Register, DeleteVersion, DeleteSubject, Global, LevelOf, Lookup, Subjects, Versions, Version, Text, ById, VersionsOfId, Types, Check, CheckAll}
+use Rattle.reg_core.specs.declared.command.Command.TheVariants.{SetGlobal, SetLevel, Register, DeleteVersion, DeleteSubject, Global, LevelOf, Lookup, Subjects, Versions, Version, Text, ById, VersionsOfId, Types, Check, CheckAll, SetGlobalMode, SetMode, GlobalMode, ModeOf}
 use Rattle.reg_core.specs.Levels.{level_of}
+use Rattle.reg_core.specs.Modes.{mode_of}
 use Rattle.reg_core.specs.Registry.{Registry, Schemas, Row, RowKey, IsRow, IsRegistry, schema_at}
 use Rattle.reg_core.specs.Registry as registry
 use Rattle.reg_core.specs.Numbers.{choice_in}
 use Rattle.reg_core.specs.Rows.{rows_of, live_rows, next_number, schemas_of}
-use Rattle.reg_core.specs.Settings.{Setting, level_setting, set, with_level}
+use Rattle.reg_core.specs.Settings.{Setting, level_setting, mode_setting, set, with_level, with_mode}
 use Rattle.reg_core.specs.RegisterCommands.{schema_in, id_for, with_version, registered, register, is_admitted_after, level_in}
 use Rattle.reg_core.specs.Machine.{carried_out}
 use Rattle.reg_core.specs.Additions.{WasAdmitted, WasThere, IsAddition, Adds, AddsAdmitted}
@@ -88,6 +90,10 @@ with_level_rows : (g : Registry) (subject : Option (List ℕ)) (level : Level) �
 with_level_rows g None level = refl
 with_level_rows g (Some subject) level = refl
 
+with_mode_rows : (g : Registry) (subject : Option (List ℕ)) (mode : Mode) → (with_mode g subject mode).rows ≡ g.rows
+with_mode_rows g None mode = refl
+with_mode_rows g (Some subject) mode = refl
+
 set_leaves : {A : Type 0} (s : Setting A) (g : Registry) (subject : Option (List ℕ)) → ((value : A) → (s.put g subject value).rows ≡ g.rows) → (o : Option A) (key : RowKey) (version : registry.Version) → get (set s g subject o).0.rows key ≡ Some version
     → WasThere g.rows key version
 set_leaves s g subject puts o key version e = itself g.rows key version (ap (λ (rows : registry.Rows). get rows key) (sym (set_adds_none s g subject puts o)) ∙ e)
@@ -112,6 +118,10 @@ carried_out_adds g (VersionsOfId id deleted) ok = itself_adds g (VersionsOfId id
 carried_out_adds g Types ok = itself_adds g Types
 carried_out_adds g (Check subject version text supported) ok = itself_adds g (Check subject version text supported)
 carried_out_adds g (CheckAll subject text supported) ok = itself_adds g (CheckAll subject text supported)
+carried_out_adds g (SetGlobalMode text) ok = λ key version e. inl (set_leaves mode_setting g None (with_mode_rows g None) (mode_of text) key version e)
+carried_out_adds g (SetMode subject text) ok = λ key version e. inl (set_leaves mode_setting g (Some subject) (with_mode_rows g (Some subject)) (mode_of text) key version e)
+carried_out_adds g GlobalMode ok = itself_adds g GlobalMode
+carried_out_adds g (ModeOf subject default) ok = itself_adds g (ModeOf subject default)
 
 -- so does each that stands after a command
 pub step_adds_admitted : (g : Registry) (c : Command) → IsRegistry g → AddsAdmitted g c

@@ -20,7 +20,7 @@ use Rattle.reg_core.specs.Replies.{answer, fault}
 use Rattle.reg_core.specs.Rows.{rows_of, live_rows}
 use Rattle.reg_core.specs.Views.{IsGround, level_of_view, row_found}
 use Rattle.reg_core.proofs.ChosenRows.{All-found}
-use Rattle.reg_core.proofs.RegisterLemmas.{HasSchema, ShowsText, admitted_shown, admitted_as, live-HasSchema}
+use Rattle.reg_core.proofs.VersionVerdicts.{HasSchema, ShowsText, admitted_shown, admitted_as, live-HasSchema}
 
 -- ---- CheckAll and Check
 

@@ -8,14 +8,14 @@ use Rattle.serde_json.specs.Written.{compact_text}
 use Rattle.avro_nodes.proofs.Tidy.{IsTidy}
 use Rattle.avro_nodes.proofs.Reread.{read-compact_text}
 use Rattle.reg_core.specs.declared.command.Command.{Command}
-use Rattle.reg_core.specs.declared.command.Command.TheVariants.{SetGlobal, SetLevel, Register, DeleteVersion, DeleteSubject}
+use Rattle.reg_core.specs.declared.command.Command.TheVariants.{SetGlobal, SetLevel, Register, DeleteVersion, DeleteSubject, SetGlobalMode, SetMode}
 use Rattle.reg_core.specs.Machine.{is_write}
 use Rattle.reg_core.specs.CommandTexts.{command_data, command_text}
 
 -- the write of a name and members, if there is one
 abbrev write_of : List ℕ → Items → Option Command
-write_of name (item (string level) no_items) = if bytes_eq name (codes "set-global") then Some (SetGlobal level) else None
-write_of name (item (string subject) (item (string level) no_items)) = if bytes_eq name (codes "set-level") then Some (SetLevel subject level) else None
+write_of name (item (string level) no_items) = if bytes_eq name (codes "set-global") then Some (SetGlobal level) else if bytes_eq name (codes "set-global-mode") then Some (SetGlobalMode level) else None
+write_of name (item (string subject) (item (string level) no_items)) = if bytes_eq name (codes "set-level") then Some (SetLevel subject level) else if bytes_eq name (codes "set-mode") then Some (SetMode subject level) else None
 write_of name (item (string subject) (item (boolean permanent) no_items)) = if bytes_eq name (codes "delete-subject") then Some (DeleteSubject subject permanent) else None
 write_of name (item (string subject) (item (string text) (item (boolean flag) no_items))) =
     if bytes_eq name (codes "register") then Some (Register subject text flag) else if bytes_eq name (codes "delete-version") then Some (DeleteVersion subject text flag) else None
@@ -40,6 +40,8 @@ value_of (SetLevel subject level) w = record { value = _; is_value = refl; tidy 
 value_of (Register subject text supported) w = record { value = _; is_value = refl; tidy = (tt, (tt, (tt, (tt, tt)))); shallow = lit≤ tt; write = refl }
 value_of (DeleteVersion subject version permanent) w = record { value = _; is_value = refl; tidy = (tt, (tt, (tt, (tt, tt)))); shallow = lit≤ tt; write = refl }
 value_of (DeleteSubject subject permanent) w = record { value = _; is_value = refl; tidy = (tt, (tt, (tt, tt))); shallow = lit≤ tt; write = refl }
+value_of (SetGlobalMode mode) w = record { value = _; is_value = refl; tidy = (tt, (tt, tt)); shallow = lit≤ tt; write = refl }
+value_of (SetMode subject mode) w = record { value = _; is_value = refl; tidy = (tt, (tt, (tt, tt))); shallow = lit≤ tt; write = refl }
 value_of _ w = absurd (true≢false (sym w))
 
 -- a write's text is read as its value

@@ -7,8 +7,7 @@ use Rattle.reg_core.specs.declared.code.Code.{Code}
 use Rattle.reg_core.specs.declared.code.Code.TheVariants.{SubjectNotFound, SubjectSoftDeleted, SubjectNotSoftDeleted}
 use Rattle.reg_core.specs.declared.command.Command.TheVariants.{DeleteVersion, DeleteSubject}
 use Rattle.reg_core.specs.declared.decision.View.{View}
-use Rattle.reg_core.specs.declared.decision.Change.TheVariants.{DropLevel}
-use Rattle.reg_core.specs.Inside.Deleting.{version_change, subject_refusal}
+use Rattle.reg_core.specs.Inside.Deleting.{version_change, own_dropped, subject_refusal}
 use Rattle.reg_core.specs.DeletionCommands.{row_to_delete, with_deleted, without_row, version_deleted, delete_version, with_subject_deleted, without_subject, numbers_reply, soft_delete, remove_subject, delete_subject}
 use Rattle.reg_core.specs.Bodies.{number_body}
 use Rattle.reg_core.specs.Machine.{carried_out}
@@ -81,12 +80,12 @@ module _ (g : Registry) (subject : List ℕ) (permanent : Bool) (view : View) (s
 -- and one that can is deleted by these changes, and the numbers are answered
 module _ (g : Registry) (subject : List ℕ) (view : View) (schema : Option (List NodeView)) where
   pub subject_gone : IsGround g (DeleteSubject subject false) schema view → None ≡ subject_refusal false view.rows.items (live_rows view.rows.items)
-      → carried_out g (DeleteSubject subject false) ≡ (after_changes (changes_of false subject (live_rows view.rows.items) ++ DropLevel subject ∷ []) g, numbers_reply (live_rows view.rows.items))
+      → carried_out g (DeleteSubject subject false) ≡ (after_changes (changes_of false subject (live_rows view.rows.items) ++ own_dropped false subject) g, numbers_reply (live_rows view.rows.items))
   unfolding carried_out
   subject_gone ground is =
       by (rows_of g subject) (live_rows (rows_of g subject)) (is ∙ ap (λ (rows : List Row). subject_refusal false rows (live_rows rows)) ground.shows.rows)
       ∙ ap (λ (after : Registry). (after, numbers_reply (live_rows (rows_of g subject)))) (sym (subject_deleted_as g subject))
-      ∙ ap (λ (rows : List Row). (after_changes (changes_of false subject (live_rows rows) ++ DropLevel subject ∷ []) g, numbers_reply (live_rows rows))) (sym ground.shows.rows)
+      ∙ ap (λ (rows : List Row). (after_changes (changes_of false subject (live_rows rows) ++ own_dropped false subject) g, numbers_reply (live_rows rows))) (sym ground.shows.rows)
     where
       by : (rows live : List Row) → None ≡ subject_refusal false rows live → soft_delete g subject rows live ≡ (with_subject_deleted g subject, numbers_reply live)
       by [] live e = absurd (none-some SubjectNotFound e)
@@ -94,12 +93,12 @@ module _ (g : Registry) (subject : List ℕ) (view : View) (schema : Option (Lis
       by (row ∷ rows) (one ∷ live) e = refl
 
   pub subject_removed : IsGround g (DeleteSubject subject true) schema view → None ≡ subject_refusal true view.rows.items (live_rows view.rows.items)
-      → carried_out g (DeleteSubject subject true) ≡ (after_changes (changes_of true subject view.rows.items ++ DropLevel subject ∷ []) g, numbers_reply view.rows.items)
+      → carried_out g (DeleteSubject subject true) ≡ (after_changes (changes_of true subject view.rows.items ++ own_dropped true subject) g, numbers_reply view.rows.items)
   unfolding carried_out
   subject_removed ground is =
       by (rows_of g subject) (live_rows (rows_of g subject)) (is ∙ ap (λ (rows : List Row). subject_refusal true rows (live_rows rows)) ground.shows.rows)
       ∙ ap (λ (after : Registry). (after, numbers_reply (rows_of g subject))) (sym (subject_removed_as g subject))
-      ∙ ap (λ (rows : List Row). (after_changes (changes_of true subject rows ++ DropLevel subject ∷ []) g, numbers_reply rows)) (sym ground.shows.rows)
+      ∙ ap (λ (rows : List Row). (after_changes (changes_of true subject rows ++ own_dropped true subject) g, numbers_reply rows)) (sym ground.shows.rows)
     where
       by : (rows live : List Row) → None ≡ subject_refusal true rows live → remove_subject g subject rows live ≡ (without_subject g subject, numbers_reply rows)
       by [] live e = absurd (none-some SubjectNotFound e)

@@ -1,5 +1,5 @@
 -- Few versions of a subject in place of all: those that tell what a command answers and changes.
-use Rattle.std.proofs.Common.{◌≡◌, ◌≢◌, ◌∙◌, ℕ, suc, ◌+◌, ◌≤◌, ◌==◌, Bool, true, false, true≢false, List, [], ◌∷◌, ◌++◌, append-nil, refl, ap, sym, subst, arith}
+use Rattle.std.proofs.Common.{◌≡◌, ◌≢◌, ◌∙◌, ℕ, suc, ◌≤◌, ◌==◌, Bool, true, false, true≢false, List, [], ◌∷◌, ◌++◌, append-nil, refl, ap, sym, subst, arith}
 use Rattle.std.specs.Prelude.{All, Option, None, Some, Ok, Err, not, ◌||◌, filter, length, nat_lt, option_to_list, if◌then◌else◌}
 use Rattle.std.specs.List.{Contains, last_or}
 use Rattle.std.specs.Option.{ok_or}

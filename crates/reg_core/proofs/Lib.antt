@@ -1,5 +1,6 @@
 pub mod Examples
 pub mod RegisterExamples
+pub mod ModeExamples
 pub mod Arrays
 pub mod OwnReplies
 pub mod ModeLemmas
@@ -18,7 +19,10 @@ pub mod LastRows
 pub mod FewRows
 pub mod ViewLemmas
 pub mod ReadTexts
+pub mod VersionVerdicts
+pub mod EvidenceLemmas
 pub mod RegisterLemmas
 pub mod CheckLemmas
 pub mod RegistryLemmas
 pub mod AdditionLemmas
+pub mod EvidenceLaws

@@ -1,11 +1,14 @@
 -- A command that a mode forbids leaves the registry, and is answered so; each other is carried out.
-use Rattle.std.proofs.Common.{◌≡◌, ◌∙◌, Bool, true, false, ap, sym}
-use Rattle.std.specs.Prelude.{if◌then◌else◌}
+use Rattle.std.proofs.Common.{◌≡◌, ◌∙◌, Bool, true, false, refl, ap, sym}
+use Rattle.std.specs.Prelude.{IsTrue, Option, if◌then◌else◌, option_and_then}
 use Rattle.reg_core.specs.declared.code.Code.TheVariants.{NotPermitted}
 use Rattle.reg_core.specs.declared.command.Command.{Command}
+use Rattle.reg_core.specs.declared.command.Command.TheVariants.{SetGlobal, SetLevel, Register, DeleteVersion, DeleteSubject}
 use Rattle.reg_core.specs.declared.decision.View.{View}
-use Rattle.reg_core.specs.Machine.{carried_out, step, mode_for}
+use Rattle.reg_core.specs.declared.mode.Mode.{Mode}
+use Rattle.reg_core.specs.Machine.{carried_out, step, subject_of, mode_by, mode_for}
 use Rattle.reg_core.specs.Modes.{is_frozen}
+use Rattle.reg_core.specs.Needs.{needs_modes}
 use Rattle.reg_core.specs.Registry.{Registry}
 use Rattle.reg_core.specs.Replies.{Told, fault}
 use Rattle.reg_core.specs.Views.{IsViewOf, mode_seen}
@@ -19,12 +22,27 @@ pub step-either : (P : Registry × Told → Type 0) (g : Registry) (c : Command)
 unfolding step
 step-either P g c p q = either P (is_frozen (mode_for g c)) (g, fault NotPermitted) (carried_out g c) p q
 
+same_mode : (c : Command) (own other : Option Mode) (global another : Mode) → (own ≡ other) × (global ≡ another) → mode_by c own global ≡ mode_by c other another
+same_mode c own other global another same = ap (λ o. mode_by c o global) same.0 ∙ ap (mode_by c other) same.1
+
+-- the view shows the mode that may forbid the command, if one may
+mode_shown : (g : Registry) (c : Command) (view : View) → IsViewOf view g c → mode_seen view c ≡ mode_for g c
+mode_shown g c view shows = by c shows.modes
+  where
+    by : (c : Command) → (IsTrue (needs_modes c) → (view.own_mode ≡ option_and_then g.own_modes (subject_of c)) × (view.global_mode ≡ g.global_mode)) → mode_seen view c ≡ mode_for g c
+    by (SetGlobal level) modes = same_mode (SetGlobal level) _ _ _ _ (modes refl)
+    by (SetLevel subject level) modes = same_mode (SetLevel subject level) _ _ _ _ (modes refl)
+    by (Register subject text supported) modes = same_mode (Register subject text supported) _ _ _ _ (modes refl)
+    by (DeleteVersion subject version permanent) modes = same_mode (DeleteVersion subject version permanent) _ _ _ _ (modes refl)
+    by (DeleteSubject subject permanent) modes = same_mode (DeleteSubject subject permanent) _ _ _ _ (modes refl)
+    by _ modes = refl
+
 -- what the view shows as forbidden is refused
 pub step-frozen : (g : Registry) (c : Command) (view : View) → IsViewOf view g c → is_frozen (mode_seen view c) ≡ true → step g c ≡ (g, fault NotPermitted)
 unfolding step
-step-frozen g c view shows e = ap (λ b. if b then (g, fault NotPermitted) else carried_out g c) (sym (ap is_frozen shows.mode) ∙ e)
+step-frozen g c view shows e = ap (λ b. if b then (g, fault NotPermitted) else carried_out g c) (sym (ap is_frozen (mode_shown g c view shows)) ∙ e)
 
 -- and the rest is carried out
 pub step-free : (g : Registry) (c : Command) (view : View) → IsViewOf view g c → is_frozen (mode_seen view c) ≡ false → step g c ≡ carried_out g c
 unfolding step
-step-free g c view shows e = ap (λ b. if b then (g, fault NotPermitted) else carried_out g c) (sym (ap is_frozen shows.mode) ∙ e)
+step-free g c view shows e = ap (λ b. if b then (g, fault NotPermitted) else carried_out g c) (sym (ap is_frozen (mode_shown g c view shows)) ∙ e)

@@ -8,14 +8,15 @@ use Rattle.std.proofs.lemmas.Bool.{eqb-false}
 use Rattle.std.proofs.lemmas.Option.{none-some, same_Some}
 use Rattle.avro_nodes.specs.Nodes.{NodeView}
 use Rattle.reg_core.specs.declared.level.Level.{Level}
+use Rattle.reg_core.specs.declared.mode.Mode.{Mode}
 use Rattle.reg_core.specs.declared.number.Choice.{Choice}
 use Rattle.reg_core.specs.declared.code.Code.{Code}
-use Rattle.reg_core.specs.declared.code.Code.TheVariants.{KeyReused, SubjectNotFound, SubjectSoftDeleted, SubjectNotSoftDeleted, VersionSoftDeleted, VersionNotSoftDeleted, VersionNotFound, SchemaNotFound, InvalidSchema, InvalidVersion, InvalidLevel, NotPermitted, NoNumberLeft}
+use Rattle.reg_core.specs.declared.code.Code.TheVariants.{KeyReused, SubjectNotFound, SubjectSoftDeleted, SubjectNotSoftDeleted, VersionSoftDeleted, VersionNotSoftDeleted, VersionNotFound, SchemaNotFound, InvalidSchema, InvalidVersion, InvalidLevel, InvalidMode, NotPermitted, NoNumberLeft}
 use Rattle.reg_core.specs.Codes.{fault_body}
 use Rattle.reg_core.specs.Replies.{Told, IsStatus, IsKeptStatus, answer, fault, IsOwnReply}
 use Rattle.reg_core.specs.Registry.{Registry, Row}
 use Rattle.reg_core.specs.Rows.{live_rows, chosen_row}
-use Rattle.reg_core.specs.Settings.{Setting, level_setting, set}
+use Rattle.reg_core.specs.Settings.{Setting, level_setting, mode_setting, set}
 use Rattle.reg_core.specs.ReadCommands.{Texts, found_row, looked_up, rows_with_id, text_reply, version_reply, version_text_reply, id_reply, id_versions_reply, lookup_reply}
 use Rattle.reg_core.specs.declared.number.Choice.TheVariants.{Latest, Numbered}
 use Rattle.reg_core.specs.Inside.Deleting.{subject_refusal}
@@ -64,6 +65,10 @@ invalid_level-IsOwnReply : IsOwnReply (fault InvalidLevel)
 unfolding fault_body digits
 invalid_level-IsOwnReply = unprocessable InvalidLevel 17 refl (eqb-false 48 57 refl)
 
+invalid_mode-IsOwnReply : IsOwnReply (fault InvalidMode)
+unfolding fault_body digits
+invalid_mode-IsOwnReply = unprocessable InvalidMode 17 refl (eqb-false 48 57 refl)
+
 pub invalid_schema-IsOwnReply : IsOwnReply (fault InvalidSchema)
 unfolding fault_body digits
 invalid_schema-IsOwnReply = unprocessable InvalidSchema 17 refl (eqb-false 48 57 refl)
@@ -86,6 +91,9 @@ set-IsOwnReply s unknown g subject (Some value) = answer-IsOwnReply _
 
 pub set_level-IsOwnReply : (g : Registry) (subject : Option (List ℕ)) (o : Option Level) → IsOwnReply (set level_setting g subject o).1
 set_level-IsOwnReply = set-IsOwnReply level_setting invalid_level-IsOwnReply
+
+pub set_mode-IsOwnReply : (g : Registry) (subject : Option (List ℕ)) (o : Option Mode) → IsOwnReply (set mode_setting g subject o).1
+set_mode-IsOwnReply = set-IsOwnReply mode_setting invalid_mode-IsOwnReply
 
 pub text_reply-IsOwnReply : (body : List ℕ → List ℕ) (text : Option (List ℕ)) → IsOwnReply (text_reply body text)
 text_reply-IsOwnReply body None = schema_not_found-IsOwnReply

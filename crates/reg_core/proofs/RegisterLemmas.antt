@@ -1,132 +1,34 @@
 -- What a view shows of the registry, for commands that compare and register schemas.
 use Rattle.std.proofs.Common.{◌≡◌, ℕ, ◌+◌, ◌≤◌, List, [], ◌∷◌, ◌++◌, Bool, true, false, Option, Some, None, refl, sym, ◌∙◌, ap, subst, map, length, length-append, arith}
-use Rattle.std.specs.Prelude.{All, bytes_eq, unwrap_or, option_map, option_to_list, is_some, if◌then◌else◌, nat_le}
-use Rattle.std.specs.List.{list_all}
-use Rattle.std.specs.FinMap.{entries}
+use Rattle.std.specs.Prelude.{All, unwrap_or, option_to_list, is_some, if◌then◌else◌, nat_le}
 use Rattle.std.proofs.lemmas.Bool.{and_parts, leb-true}
-use Rattle.std.proofs.lemmas.List.Folds.{list_all-map}
-use Rattle.std.proofs.lemmas.List.Elements.{All-nil, All-head, All-tail, All-filter}
 use Rattle.std.proofs.lemmas.Option.{none-some, same_Some}
 use Rattle.avro_nodes.specs.Nodes.{NodeView}
 use Rattle.avro_nodes.specs.Identity.{identity}
 use Rattle.avro_schema.specs.Texts.{IsSchema}
 use Rattle.avro_schema.specs.DenotedNodes.{denoted_nodes}
 use Rattle.reg_core.specs.declared.level.Level.{Level}
-use Rattle.reg_core.specs.declared.level.Level.TheVariants.{Backward, BackwardTransitive, Forward, ForwardTransitive, Full, FullTransitive, Off}
 use Rattle.reg_core.specs.declared.code.Code.TheVariants.{InvalidSchema, Incompatible, NoNumberLeft}
 use Rattle.reg_core.specs.declared.command.Command.TheVariants.{Register}
 use Rattle.reg_core.specs.declared.decision.View.{View}
 use Rattle.reg_core.specs.Bodies.{id_body}
 use Rattle.reg_core.specs.Compatibility.{named_versions}
-use Rattle.reg_core.specs.Inside.Comparisons.{is_read_compatible, is_read_admitted}
+use Rattle.reg_core.specs.Inside.Comparisons.{is_read_admitted}
 use Rattle.reg_core.specs.Machine.{carried_out}
-use Rattle.reg_core.specs.Inside.Registering.{id_among, id_shown, has_numbers_shown, row_shown, version_added}
-use Rattle.reg_core.specs.RegisterCommands.{register, registered, is_among, is_admitted_after, id_for, has_numbers, with_version}
-use Rattle.reg_core.specs.Registry.{Registry, IsRegistry, Row, Schemas, max_number, schema_at}
+use Rattle.reg_core.specs.Evidence.{Evidence, IsTrueOf, evidence_in}
+use Rattle.reg_core.specs.Inside.Evidence.{TellEvidence}
+use Rattle.reg_core.specs.Inside.Registering.{id_among, id_shown, has_numbers_shown, row_shown, evidence_shown, version_added}
+use Rattle.reg_core.specs.RegisterCommands.{register, registered, is_among, is_admitted_after, id_for, has_numbers, schemas_with, level_in, with_version}
+use Rattle.reg_core.specs.Registry.{Registry, Row, Schemas, max_number}
 use Rattle.reg_core.specs.Replies.{answer, fault}
-use Rattle.reg_core.specs.Rows.{rows_of, live_rows, next_number, id_of, known_id, text_at, schemas_of}
-use Rattle.reg_core.specs.Verdicts.{is_compatible, is_admitted}
-use Rattle.reg_core.specs.Views.{IsGround, ChangesFit, after_changes, level_of_view, text_in}
-use Rattle.reg_core.proofs.ChosenRows.{All-latest}
+use Rattle.reg_core.specs.Rows.{rows_of, live_rows, next_number, id_of, known_id, schemas_of}
+use Rattle.reg_core.specs.Views.{IsGround, IsNewEvidence, ChangesFit, after_changes, level_of_view}
 use Rattle.reg_core.proofs.IdLemmas.{id_of-schema, schema_within}
-use Rattle.reg_core.proofs.RegistryLemmas.{identity_denoted, schema_at-denoted, schema_in-denotes}
-use Rattle.reg_core.proofs.RowLemmas.{each-schema, next_number-absent, All-live_rows}
-use Rattle.reg_core.proofs.Versions.{named-map}
-
--- ---- verdicts on the versions that a level names
-
--- the verdict on a version whose text the view has
-pub read_compatible : (view : View) (level : Level) (new : List NodeView) (row : Row) (text : List ℕ) (earlier : List NodeView) → text_in view row.1.id ≡ Some text → denoted_nodes text ≡ Some earlier
-    → is_read_compatible view level new row ≡ is_compatible level earlier new
-read_compatible view level new row text earlier there is = rw (there, is) refl
-
--- the verdict on versions that are known by other values
-pub admitted_named : {X : Type 0} (f : X → Row) (view : View) (level : Level) (xs : List X) (new : List NodeView) → is_read_admitted view level (map f xs) new ≡ list_all (λ x. is_read_compatible view level new (f x)) (named_versions level xs)
-admitted_named f view level xs new = ap (list_all (is_read_compatible view level new)) (named-map f level xs) ∙ list_all-map (is_read_compatible view level new) f (named_versions level xs)
-
-ids_mapped : {X : Type 0} (f : X → Row) (xs : List X) → map (λ x. (f x).1.id) xs ≡ map (λ (row : Row). row.1.id) (map f xs)
-ids_mapped f [] = refl
-ids_mapped f (x ∷ xs) = ap (λ (ids : List ℕ). (f x).1.id ∷ ids) (ids_mapped f xs)
-
--- the ids of the versions that a level names
-pub named_ids : {X : Type 0} (f : X → Row) (level other : Level) (xs named : List X) (rows : List Row) → level ≡ other → map f xs ≡ rows → named ≡ named_versions level xs → map (λ x. (f x).1.id) named ≡ map (λ (row : Row). row.1.id) (named_versions other rows)
-named_ids f level other xs named rows l r n =
-    let same : map f (named_versions level xs) ≡ named_versions other rows =
-    sym (named-map f level xs) ∙ (ap (named_versions level) r ∙ ap (λ (x : Level). named_versions x rows) l) in
-    ap (map (λ x. (f x).1.id)) n ∙ (ids_mapped f (named_versions level xs) ∙ ap (map (λ (row : Row). row.1.id)) same)
-
--- a version's id has a schema
-abbrev pub HasSchema : Schemas → Row → Type 0
-HasSchema schemas row = (nodes : List NodeView) × (schema_at schemas row.1.id ≡ Some nodes)
-
--- the view has the text of a version's schema
-abbrev pub ShowsText : View → Schemas → Row → Type 0
-ShowsText view schemas row = text_in view row.1.id ≡ text_at schemas row.1.id
-
--- what holds of each version holds of those that a level names
-pub All-named : {X : Type 0} (P : X → Type 0) (level : Level) (xs : List X) → All P xs → All P (named_versions level xs)
-All-named P Backward xs h = All-latest P xs h
-All-named P BackwardTransitive xs h = h
-All-named P Forward xs h = All-latest P xs h
-All-named P ForwardTransitive xs h = h
-All-named P Full xs h = All-latest P xs h
-All-named P FullTransitive xs h = h
-All-named P Off xs h = All-nil P
-
--- the schema of a version that has one
-schema_or : Schemas → Row → List NodeView
-schema_or schemas row = unwrap_or (schema_at schemas row.1.id) []
-
-schemas_mapped : (schemas : Schemas) (rows : List Row) → All (HasSchema schemas) rows → schemas_of schemas rows ≡ map (schema_or schemas) rows
-unfolding schema_or
-schemas_mapped schemas [] h = refl
-schemas_mapped schemas (row ∷ rows) h =
-    let here = All-head (HasSchema schemas) row rows h in
-    let rest = schemas_mapped schemas rows (All-tail (HasSchema schemas) row rows h) in
-    rw here.1 (ap (λ (xs : List (List NodeView)). here.0 ∷ xs) rest)
-
-same_tests : {X : Type 0} (p q : X → Bool) (xs : List X) → All (λ x. p x ≡ q x) xs → list_all p xs ≡ list_all q xs
-same_tests p q [] h = refl
-same_tests p q (x ∷ xs) h =
-    let here : p x ≡ q x = All-head (λ y. p y ≡ q y) x xs h in
-    let rest : list_all p xs ≡ list_all q xs = same_tests p q xs (All-tail (λ y. p y ≡ q y) x xs h) in
-    rw (here, rest) refl
-
-row_compatible : (view : View) (schemas : Schemas) → All IsSchema schemas → (level : Level) (new : List NodeView) (row : Row) → HasSchema schemas row → ShowsText view schemas row
-    → is_read_compatible view level new row ≡ is_compatible level (schema_or schemas row) new
-unfolding schema_or
-row_compatible view schemas ok level new row (nodes, e) shows =
-    let text : text_in view row.1.id ≡ Some (identity nodes) = shows ∙ ap (option_map identity) e in
-    let is : nodes ≡ unwrap_or (schema_at schemas row.1.id) [] = sym (ap (λ (o : Option (List NodeView)). unwrap_or o []) e) in
-    read_compatible view level new row (identity nodes) nodes text (schema_at-denoted schemas ok row.1.id nodes e) ∙ ap (λ (x : List NodeView). is_compatible level x new) is
-
--- The verdict on versions by the texts of a view is the one by their schemas, where the view has the texts of those that the level names
-pub admitted_shown : (view : View) (schemas : Schemas) → All IsSchema schemas → (level : Level) (rows : List Row) (new : List NodeView) → All (HasSchema schemas) rows → All (ShowsText view schemas) (named_versions level rows)
-    → is_read_admitted view level rows new ≡ is_admitted_after schemas level rows new
-unfolding is_admitted
-admitted_shown view schemas ok level rows new has shows =
-    let p = λ (earlier : List NodeView). is_compatible level earlier new in
-    let there = All-named (HasSchema schemas) level rows has in
-    same_tests (is_read_compatible view level new) (λ row. p (schema_or schemas row)) (named_versions level rows)
-    (λ k d l. row_compatible view schemas ok level new _ (there k d l) (shows k d l))
-    ∙ (sym (list_all-map p (schema_or schemas) (named_versions level rows))
-    ∙ (ap (list_all p) (sym (named-map (schema_or schemas) level rows))
-    ∙ ap (λ (live : List (List NodeView)). list_all p (named_versions level live)) (sym (schemas_mapped schemas rows has))))
-
--- the same, where the view has the versions that the level names, and perhaps no others
-pub admitted_as : (view : View) (schemas : Schemas) → All IsSchema schemas → (level : Level) (seen rows : List Row) (new : List NodeView) → named_versions level seen ≡ named_versions level rows → All (HasSchema schemas) rows
-    → All (ShowsText view schemas) (named_versions level seen) → is_read_admitted view level seen new ≡ is_admitted_after schemas level rows new
-admitted_as view schemas ok level seen rows new named has shows =
-    ap (list_all (is_read_compatible view level new)) named ∙ admitted_shown view schemas ok level rows new has (subst (All (ShowsText view schemas)) named shows)
-
--- the verdict at the level in force and the versions that are known to be these
-pub verdict_of : (view : View) (new : List NodeView) (level : Level) (rows others : List Row) → level ≡ level_of_view view → rows ≡ others → (b : Bool) → b ≡ is_read_admitted view level rows new → b ≡ is_read_admitted view (level_of_view view) others new
-verdict_of view new level rows others l r b e = e ∙ (rw (l, r) refl)
-
--- each live version of a subject has a schema
-pub live-HasSchema : (g : Registry) → IsRegistry g → (subject : List ℕ) → All (HasSchema g.schemas) (live_rows (rows_of g subject))
-live-HasSchema g ok subject =
-    All-live_rows (HasSchema g.schemas) (rows_of g subject) (All-filter (λ (row : Row). bytes_eq row.0.0 subject) (HasSchema g.schemas) (entries g.rows) (each-schema g ok))
+use Rattle.reg_core.proofs.RegistryLemmas.{identity_denoted, schema_in-denotes}
+use Rattle.reg_core.proofs.RowLemmas.{next_number-absent}
+use Rattle.reg_core.proofs.VersionVerdicts.{ShowsText, admitted_as, live-HasSchema}
+use Rattle.reg_core.proofs.VerdictLemmas.{admits_decided}
+use Rattle.reg_core.proofs.EvidenceLemmas.{added_becomes, true-with, admitted-true, new_is}
 
 -- ---- Register
 
@@ -159,27 +61,46 @@ pub not_among : (known : Option ℕ) (rows : List Row) → None ≡ id_among kno
 not_among None rows e = refl
 not_among (Some id) rows e = if_none (is_among (Some id) rows) id (sym e)
 
--- the registry after the changes that add a version
-changes_are : (g : Registry) (subject : List ℕ) (new : List NodeView) → IsSchema new → (known : Option ℕ) → id_of g.schemas (identity new) ≡ known
-    → after_changes (version_added known ((subject, next_number (rows_of g subject)), record { id = id_for g.schemas new; deleted = false }) new) g ≡ with_version g subject new
-changes_are g subject new s None e = let text = identity_denoted new s in rw (e, text) refl
-changes_are g subject new s (Some id) e = rw e refl
+-- the version that is added
+abbrev next_row : Registry → List ℕ → List NodeView → Row
+next_row g subject new = ((subject, next_number (rows_of g subject)), record { id = id_for g.schemas new; deleted = false })
+
+-- the registry after the changes that add it
+changes_are : (g : Registry) (subject : List ℕ) (new : List NodeView) → IsSchema new → (known : Option ℕ) → id_of g.schemas (identity new) ≡ known → (evidence : Evidence)
+    → after_changes (version_added known (next_row g subject new) evidence new) g ≡ with_version g subject new
+changes_are g subject new s None e evidence = let text = identity_denoted new s in rw (e, text) refl
+changes_are g subject new s (Some id) e evidence = rw e refl
 
 -- and the registry can have them
 changes_fit : (g : Registry) (subject : List ℕ) (new : List NodeView) → IsSchema new → (known : Option ℕ) → id_of g.schemas (identity new) ≡ known → next_number (rows_of g subject) ≤ max_number → id_for g.schemas new ≤ max_number
-    → ChangesFit (version_added known ((subject, next_number (rows_of g subject)), record { id = id_for g.schemas new; deleted = false }) new) g
-changes_fit g subject new s None e number within =
+    → (evidence : Evidence) → IsNewEvidence (record g { schemas = schemas_with g.schemas new }) (next_row g subject new) evidence
+    → ChangesFit (version_added known (next_row g subject new) evidence new) g
+changes_fit g subject new s None e number within evidence fits =
     let id : id_for g.schemas new ≡ length g.schemas + 1 = ap (λ (o : Option ℕ). unwrap_or o (length g.schemas + 1)) e in
     let more : length (g.schemas ++ option_to_list (denoted_nodes (identity new))) ≡ length g.schemas + 1 =
-    ap (λ (o : Option (List NodeView)). length (g.schemas ++ option_to_list o)) (identity_denoted new s) ∙ length-append g.schemas (new ∷ []) in (
+    ap (λ (o : Option (List NodeView)). length (g.schemas ++ option_to_list o)) (identity_denoted new s) ∙ length-append g.schemas (new ∷ []) in
+    let same : schemas_with g.schemas new ≡ g.schemas ++ option_to_list (denoted_nodes (identity new)) =
+    ap (λ (o : Option ℕ). if is_some o then g.schemas else g.schemas ++ new ∷ []) e ∙ sym (ap (λ (o : Option (List NodeView)). g.schemas ++ option_to_list o) (identity_denoted new s)) in (
       record { nodes = new; schema = s; is = refl; next = id; within = within; unknown = e },
-      (record { absent = next_number-absent g subject; fits = record { within = (omega arith, number); has_schema = (omega arith, omega arith) } }, tt),
+      (
+        (
+          record { absent = next_number-absent g subject; fits = record { within = (omega arith, number); has_schema = (omega arith, omega arith) } },
+          subst (λ (schemas : Schemas). IsNewEvidence (record g { schemas = schemas }) (next_row g subject new) evidence) same fits,
+        ),
+        tt,
+      ),
     )
-changes_fit g subject new s (Some id) e number within =
+changes_fit g subject new s (Some id) e number within evidence fits =
     let is : id_for g.schemas new ≡ id = ap (λ (o : Option ℕ). unwrap_or o (length g.schemas + 1)) e in
     let (nodes, there, same) = id_of-schema g.schemas (identity new) id e in
     let known = schema_within g.schemas id nodes there in
-    (record { absent = next_number-absent g subject; fits = record { within = (omega arith, number); has_schema = (omega arith, omega arith) } }, tt)
+    let stay : schemas_with g.schemas new ≡ g.schemas = ap (λ (o : Option ℕ). if is_some o then g.schemas else g.schemas ++ new ∷ []) e in (
+      (
+        record { absent = next_number-absent g subject; fits = record { within = (omega arith, number); has_schema = (omega arith, omega arith) } },
+        subst (λ (schemas : Schemas). IsNewEvidence (record g { schemas = schemas }) (next_row g subject new) evidence) stay fits,
+      ),
+      tt,
+    )
 
 module _ (g : Registry) (subject text : List ℕ) (supported : Bool) (view : View) (schema : Option (List NodeView)) (ground : IsGround g (Register subject text supported) schema view) where
   pub register_none : schema ≡ None → carried_out g (Register subject text supported) ≡ (g, fault InvalidSchema)
@@ -252,7 +173,7 @@ module _ (g : Registry) (subject text : List ℕ) (supported : Bool) (view : Vie
       new_schema : IsSchema new
       new_schema = (text, schema_in-denotes text supported new (sym ground.sent ∙ e))
 
-      row_is : row_shown view subject ≡ ((subject, next_number (rows_of g subject)), record { id = id_for g.schemas new; deleted = false })
+      row_is : row_shown view subject ≡ next_row g subject new
       row_is = let id = id_is in let next = next_is in rw (id, next) refl
 
       -- the version's number and id are within the limit
@@ -263,13 +184,48 @@ module _ (g : Registry) (subject text : List ℕ) (supported : Bool) (view : Vie
             subst (λ (id : ℕ). id ≤ max_number) id_is (leb-true (id_shown view) max_number parts.1),
           )
 
-      pub added_changes : after_changes (version_added view.known (row_shown view subject) new) g ≡ with_version g subject new
-      added_changes =
-          ap (λ (row : Row). after_changes (version_added view.known row new) g) row_is
-          ∙ changes_are g subject new new_schema view.known (sym known_shown)
+      level_is : level_of_view view ≡ level_in g subject
+      level_is =
+          let levels = ground.shows.levels refl in
+          ap (λ (own : Option Level). unwrap_or own view.global) levels.0 ∙ ap (unwrap_or (g.own subject)) levels.1
 
-      pub added_fit : has_numbers_shown view ≡ true → ChangesFit (version_added view.known (row_shown view subject) new) g
+      -- what the version is admitted by is what the registry names
+      evidence_is : evidence_shown view live ≡ evidence_in g subject
+      evidence_is =
+          ap (evidence_of (level_of_view view)) (ground.shows.rows.named (sym among ∙ unknown))
+          ∙ ap (λ (level : Level). evidence_of level (named_versions level all)) level_is
+        where
+          evidence_of : Level → List Row → Evidence
+          evidence_of level rows = record { level = level; against = map (λ (row : Row). row.1.id) rows }
+
+      -- and it is true of the schema that is sent
+      new_evidence : IsNewEvidence (record g { schemas = schemas_with g.schemas new }) (next_row g subject new) (evidence_shown view live)
+      new_evidence =
+          let passed = ap (λ (level : Level). is_admitted_after g.schemas level all new) (sym level_is) ∙ verdict in
+          let holds = true-with g.schemas new (evidence_in g subject) (admitted-true g ground.registry subject new ((admits_decided (level_in g subject) (schemas_of g.schemas all) new).0 passed)) in
+          record {
+            named = evidence_is;
+            holds = λ nodes there.
+                subst (λ (x : List NodeView). IsTrueOf (schemas_with g.schemas new) x (evidence_shown view live)) (new_is g subject new nodes ground.registry new_schema there)
+                (subst (IsTrueOf (schemas_with g.schemas new) new) (sym evidence_is) holds);
+          }
+
+      pub added_changes : after_changes (version_added view.known (row_shown view subject) (evidence_shown view live) new) g ≡ with_version g subject new
+      added_changes =
+          ap (λ (row : Row). after_changes (version_added view.known row (evidence_shown view live) new) g) row_is
+          ∙ changes_are g subject new new_schema view.known (sym known_shown) (evidence_shown view live)
+
+      pub added_fit : has_numbers_shown view ≡ true → ChangesFit (version_added view.known (row_shown view subject) (evidence_shown view live) new) g
       added_fit left =
           let within = numbers_within left in
-          subst (λ (row : Row). ChangesFit (version_added view.known row new) g) (sym row_is)
-          (changes_fit g subject new new_schema view.known (sym known_shown) within.0 within.1)
+          subst (λ (row : Row). ChangesFit (version_added view.known row (evidence_shown view live) new) g) (sym row_is)
+          (changes_fit g subject new new_schema view.known (sym known_shown) within.0 within.1 (evidence_shown view live) new_evidence)
+
+      pub added_evidence : TellEvidence (version_added view.known (row_shown view subject) (evidence_shown view live) new) g
+      added_evidence = subst (λ (row : Row). TellEvidence (version_added view.known row (evidence_shown view live) new) g) (sym row_is) (by view.known)
+        where
+          by : (known : Option ℕ) → TellEvidence (version_added known (next_row g subject new) (evidence_shown view live) new) g
+          by None had ok =
+              added_becomes (record g { schemas = g.schemas ++ option_to_list (denoted_nodes (identity new)) }) (next_row g subject new) (evidence_shown view live)
+              (next_number-absent g subject) evidence_is had ok
+          by (Some id) had ok = added_becomes g (next_row g subject new) (evidence_shown view live) (next_number-absent g subject) evidence_is had ok

@@ -14,10 +14,12 @@ use Rattle.avro_schema.proofs.RoundText.{identity_text_denotes}
 use Rattle.avro_schema.proofs.TextLemmas.{computed_denotes, denotes_computes}
 use Rattle.reg_core.specs.declared.level.Level.{Level}
 use Rattle.reg_core.specs.declared.command.Command.{Command}
-use Rattle.reg_core.specs.declared.command.Command.TheVariants.{SetGlobal, SetLevel, Register, DeleteVersion, DeleteSubject, Global, LevelOf, Lookup, Subjects, Versions, Version, Text, ById, VersionsOfId, Types, Check, CheckAll}
+use Rattle.reg_core.specs.declared.command.Command.TheVariants.{SetGlobal, SetLevel, Register, DeleteVersion, DeleteSubject, Global, LevelOf, Lookup, Subjects, Versions, Version, Text, ById, VersionsOfId, Types, Check, CheckAll, SetGlobalMode, SetMode, GlobalMode, ModeOf}
 use Rattle.reg_core.specs.declared.decision.Change.{Change}
 use Rattle.reg_core.specs.declared.decision.Change.TheVariants as change
 use Rattle.reg_core.specs.Levels.{level_of}
+use Rattle.reg_core.specs.Modes.{mode_of}
+use Rattle.reg_core.specs.declared.mode.Mode.{Mode}
 use Rattle.reg_core.specs.declared.code.Code.{Code}
 use Rattle.reg_core.specs.declared.number.Choice.{Choice}
 use Rattle.reg_core.specs.Additions.{WasThere}
@@ -26,7 +28,7 @@ use Rattle.reg_core.specs.Numbers.{choice_in}
 use Rattle.reg_core.specs.Registry.{Registry, Schemas, RowKey, Row, IsRow, IsRegistry, max_number, schema_at, own_with, own_without}
 use Rattle.reg_core.specs.Registry as registry
 use Rattle.reg_core.specs.Rows.{rows_of, live_rows, next_number, id_of}
-use Rattle.reg_core.specs.Settings.{Setting, level_setting, set, with_level}
+use Rattle.reg_core.specs.Settings.{Setting, level_setting, mode_setting, set, with_level, with_mode}
 use Rattle.reg_core.specs.RegisterCommands.{schema_in, id_for, schemas_with, with_version, registered, has_numbers, register}
 use Rattle.reg_core.specs.Machine.{carried_out, step, run_commands}
 use Rattle.reg_core.specs.Views.{altered, after_change, after_changes, ChangeFits, ChangesFit}
@@ -72,6 +74,10 @@ inserted-IsRegistry g key version ok row = record {
 pub levels-IsRegistry : (g : Registry) (global : Level) (own : registry.OwnLevels) → IsRegistry g → IsRegistry (record g { global = global; own = own })
 levels-IsRegistry g global own ok = record { schemas = ok.schemas; few = ok.few; apart = ok.apart; rows = ok.rows }
 
+-- so is one with other modes
+modes-IsRegistry : (g : Registry) (global : Mode) (own : registry.OwnModes) → IsRegistry g → IsRegistry (record g { global_mode = global; own_modes = own })
+modes-IsRegistry g global own ok = record { schemas = ok.schemas; few = ok.few; apart = ok.apart; rows = ok.rows }
+
 -- a registry whose versions are all among those of another, soft-deleted or not, is one
 pub fewer-IsRegistry : (g : Registry) (rows : registry.Rows) (own : registry.OwnLevels) → IsRegistry g → ((key : RowKey) (version : registry.Version) → get rows key ≡ Some version → WasThere g.rows key version) → IsRegistry (record g { rows = rows; own = own })
 fewer-IsRegistry g rows own ok were = record {
@@ -109,7 +115,10 @@ change_fits-IsRegistry (change.AddText id text) g ok fits =
 change_fits-IsRegistry (change.MarkDeleted subject version) g ok fits = fewer-IsRegistry g (altered g.rows (subject, version) as_deleted) g.own ok (altered_was g.rows (subject, version))
 change_fits-IsRegistry (change.Remove subject version) g ok fits = fewer-IsRegistry g (remove g.rows (subject, version)) g.own ok (removed_was g.rows (subject, version))
 change_fits-IsRegistry (change.DropLevel subject) g ok fits = levels-IsRegistry g g.global (own_without g.own subject) ok
-change_fits-IsRegistry (change.AddRow row) g ok fits = inserted-IsRegistry g row.0 row.1 ok fits.fits
+change_fits-IsRegistry (change.SetGlobalMode mode) g ok fits = modes-IsRegistry g mode g.own_modes ok
+change_fits-IsRegistry (change.SetMode subject mode) g ok fits = modes-IsRegistry g g.global_mode (own_with g.own_modes subject mode) ok
+change_fits-IsRegistry (change.DropMode subject) g ok fits = modes-IsRegistry g g.global_mode (own_without g.own_modes subject) ok
+change_fits-IsRegistry (change.AddRow row evidence) g ok fits = inserted-IsRegistry g row.0 row.1 ok fits.0.fits
 
 -- and so do changes, each of which it can have at its turn
 pub changes_fit-IsRegistry : (changes : List Change) (g : Registry) → IsRegistry g → ChangesFit changes g → IsRegistry (after_changes changes g)
@@ -180,6 +189,10 @@ with_level-IsRegistry : (g : Registry) (subject : Option (List ℕ)) → IsRegis
 with_level-IsRegistry g None ok level = levels-IsRegistry g level g.own ok
 with_level-IsRegistry g (Some subject) ok level = levels-IsRegistry g g.global (own_with g.own subject level) ok
 
+with_mode-IsRegistry : (g : Registry) (subject : Option (List ℕ)) → IsRegistry g → (mode : Mode) → IsRegistry (with_mode g subject mode)
+with_mode-IsRegistry g None ok mode = modes-IsRegistry g mode g.own_modes ok
+with_mode-IsRegistry g (Some subject) ok mode = modes-IsRegistry g g.global_mode (own_with g.own_modes subject mode) ok
+
 version_deleted-IsRegistry : (g : Registry) (change : Registry → Row → Registry) (found : Result Row Code) → IsRegistry g → ((row : Row) → found ≡ Ok row → IsRegistry (change g row)) → IsRegistry (version_deleted change g found).0
 version_deleted-IsRegistry g change (Err code) ok changed = ok
 version_deleted-IsRegistry g change (Ok row) ok changed = changed row refl
@@ -199,7 +212,9 @@ soft_delete-IsRegistry g subject (row ∷ rows) (one ∷ live) ok = fewer-IsRegi
 remove_subject-IsRegistry : (g : Registry) (subject : List ℕ) (rows live : List Row) → IsRegistry g → IsRegistry (remove_subject g subject rows live).0
 remove_subject-IsRegistry g subject [] live ok = ok
 remove_subject-IsRegistry g subject (row ∷ rows) (one ∷ live) ok = ok
-remove_subject-IsRegistry g subject (row ∷ rows) [] ok = fewer-IsRegistry g (without_subject g subject).rows (own_without g.own subject) ok (remove_subject-were g subject (row ∷ rows) [])
+remove_subject-IsRegistry g subject (row ∷ rows) [] ok =
+    modes-IsRegistry (record g { rows = (without_subject g subject).rows; own = own_without g.own subject }) g.global_mode (own_without g.own_modes subject)
+    (fewer-IsRegistry g (without_subject g subject).rows (own_without g.own subject) ok (remove_subject-were g subject (row ∷ rows) []))
 
 delete_subject-IsRegistry : (g : Registry) (subject : List ℕ) (permanent : Bool) → IsRegistry g → IsRegistry (delete_subject g subject permanent).0
 delete_subject-IsRegistry g subject false ok = soft_delete-IsRegistry g subject (rows_of g subject) (live_rows (rows_of g subject)) ok
@@ -225,6 +240,10 @@ carried_out-IsRegistry g (VersionsOfId id deleted) ok = ok
 carried_out-IsRegistry g Types ok = ok
 carried_out-IsRegistry g (Check subject version text supported) ok = ok
 carried_out-IsRegistry g (CheckAll subject text supported) ok = ok
+carried_out-IsRegistry g (SetGlobalMode text) ok = set-IsRegistry mode_setting g None (with_mode-IsRegistry g None ok) (mode_of text) ok
+carried_out-IsRegistry g (SetMode subject text) ok = set-IsRegistry mode_setting g (Some subject) (with_mode-IsRegistry g (Some subject) ok) (mode_of text) ok
+carried_out-IsRegistry g GlobalMode ok = ok
+carried_out-IsRegistry g (ModeOf subject default) ok = ok
 
 -- and after each command
 pub step-IsRegistry : (g : Registry) (c : Command) → IsRegistry g → IsRegistry (step g c).0

@@ -1,7 +1,7 @@
 -- A read leaves the registry as it is.
-use Rattle.std.proofs.Common.{◌≡◌, ◌≢◌, false, refl, true≢false}
+use Rattle.std.proofs.Common.{◌≡◌, false, refl, true≢false}
 use Rattle.reg_core.specs.declared.command.Command.{Command}
-use Rattle.reg_core.specs.declared.command.Command.TheVariants.{SetGlobal, SetLevel, Register, DeleteVersion, DeleteSubject, Global, LevelOf, Lookup, Subjects, Versions, Version, Text, ById, VersionsOfId, Types, Check, CheckAll}
+use Rattle.reg_core.specs.declared.command.Command.TheVariants.{SetGlobal, SetLevel, Register, DeleteVersion, DeleteSubject, Global, LevelOf, Lookup, Subjects, Versions, Version, Text, ById, VersionsOfId, Types, Check, CheckAll, SetGlobalMode, SetMode, GlobalMode, ModeOf}
 use Rattle.reg_core.specs.Registry.{Registry}
 use Rattle.reg_core.specs.Machine.{is_write, carried_out, step}
 use Rattle.reg_core.proofs.ModeLemmas.{step-either}
@@ -26,6 +26,10 @@ carried_out-read g (VersionsOfId id deleted) e = refl
 carried_out-read g Types e = refl
 carried_out-read g (Check subject version text supported) e = refl
 carried_out-read g (CheckAll subject text supported) e = refl
+carried_out-read g (SetGlobalMode text) e = absurd (true≢false e)
+carried_out-read g (SetMode subject text) e = absurd (true≢false e)
+carried_out-read g GlobalMode e = refl
+carried_out-read g (ModeOf subject default) e = refl
 
 -- and so does each read
 pub step-read : (g : Registry) (c : Command) → is_write c ≡ false → (step g c).0 ≡ g

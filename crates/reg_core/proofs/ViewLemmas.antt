@@ -6,7 +6,7 @@ use Rattle.std.proofs.lemmas.List.Elements.{All-map}
 use Rattle.avro_nodes.specs.Nodes.{NodeView}
 use Rattle.reg_core.specs.declared.code.Code.{Code}
 use Rattle.reg_core.specs.declared.command.Command.{Command}
-use Rattle.reg_core.specs.declared.command.Command.TheVariants.{SetGlobal, SetLevel, Register, DeleteVersion, DeleteSubject, Global, LevelOf, Lookup, Subjects, Versions, Version, Text, ById, VersionsOfId, Types, Check, CheckAll}
+use Rattle.reg_core.specs.declared.command.Command.TheVariants.{SetGlobal, SetLevel, Register, DeleteVersion, DeleteSubject, Global, LevelOf, Lookup, Subjects, Versions, Version, Text, ById, VersionsOfId, Types, Check, CheckAll, SetGlobalMode, SetMode, GlobalMode, ModeOf}
 use Rattle.reg_core.specs.declared.decision.View.{View}
 use Rattle.reg_core.specs.Bodies.{version_body, schema_body}
 use Rattle.reg_core.specs.Compatibility.{latest}
@@ -150,3 +150,7 @@ taken-sent (Check subject version text true) = refl
 taken-sent (Check subject version text false) = refl
 taken-sent (CheckAll subject text true) = refl
 taken-sent (CheckAll subject text false) = refl
+taken-sent (SetGlobalMode mode) = refl
+taken-sent (SetMode subject mode) = refl
+taken-sent GlobalMode = refl
+taken-sent (ModeOf subject default) = refl

@@ -1,10 +1,10 @@
 -- The codes of refusals and faults.
 use Rattle.std.specs.Prelude.{ℕ, ◌/◌, nat_lt, if◌then◌else◌, List, ◌++◌, codes, decimal}
 use Rattle.reg_core.specs.declared.code.Code.{Code}
-use Rattle.reg_core.specs.declared.code.Code.TheVariants.{MalformedRequest, NotFound, SubjectNotFound, VersionNotFound, SchemaNotFound, SubjectSoftDeleted, SubjectNotSoftDeleted, VersionSoftDeleted, VersionNotSoftDeleted, NoOwnLevel, MethodNotAllowed, Incompatible, BodyTooLarge, InvalidSchema, InvalidVersion, InvalidLevel, InvalidMode, NotPermitted, KeyReused, NoNumberLeft, CodingNotSupported, BackendFault}
+use Rattle.reg_core.specs.declared.code.Code.TheVariants.{MalformedRequest, NotFound, SubjectNotFound, VersionNotFound, SchemaNotFound, SubjectSoftDeleted, SubjectNotSoftDeleted, VersionSoftDeleted, VersionNotSoftDeleted, NoOwnLevel, NoOwnMode, MethodNotAllowed, Incompatible, BodyTooLarge, InvalidSchema, InvalidVersion, InvalidLevel, InvalidMode, NotPermitted, KeyReused, NoNumberLeft, CodingNotSupported, BackendFault}
 
 -- Schema Registry API reference, errors: the number of a code.
--- (This project's choice: 40001, 40404 to 40408, 42290 and 42292.)
+-- (This project's choice: 40001, 40404 to 40409, 42290 and 42292.)
 abbrev pub number_of : Code → ℕ
 number_of MalformedRequest = 40001
 number_of NotFound = 404
@@ -16,6 +16,7 @@ number_of SubjectNotSoftDeleted = 40405
 number_of VersionSoftDeleted = 40406
 number_of VersionNotSoftDeleted = 40407
 number_of NoOwnLevel = 40408
+number_of NoOwnMode = 40409
 number_of MethodNotAllowed = 405
 number_of Incompatible = 409
 number_of BodyTooLarge = 413
@@ -49,6 +50,7 @@ message_of SubjectNotSoftDeleted = codes "Subject is not soft-deleted"
 message_of VersionSoftDeleted = codes "Version is soft-deleted"
 message_of VersionNotSoftDeleted = codes "Version is not soft-deleted"
 message_of NoOwnLevel = codes "Subject has no level of its own"
+message_of NoOwnMode = codes "Subject has no mode of its own"
 message_of MethodNotAllowed = codes "Method not allowed"
 message_of Incompatible = codes "Schema is incompatible with an earlier version"
 message_of BodyTooLarge = codes "Body too large"

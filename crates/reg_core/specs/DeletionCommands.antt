@@ -78,9 +78,9 @@ deleted_of subject row = (row.0, if bytes_eq row.0.0 subject then as_deleted row
 abbrev pub with_subject_deleted : Registry → List ℕ → Registry
 with_subject_deleted g subject = record g { rows = from_entries (map (deleted_of subject) (entries g.rows)); own = own_without g.own subject }
 
--- the registry without the subject's versions and its own level
+-- the registry without the subject's versions, its own level and its own mode
 abbrev pub without_subject : Registry → List ℕ → Registry
-without_subject g subject = record g { rows = retain_keys g.rows (λ (key : RowKey). not (bytes_eq key.0 subject)); own = own_without g.own subject }
+without_subject g subject = record g { rows = retain_keys g.rows (λ (key : RowKey). not (bytes_eq key.0 subject)); own = own_without g.own subject; own_modes = own_without g.own_modes subject }
 
 -- the numbers of these versions
 abbrev pub numbers_reply : List Row → Told

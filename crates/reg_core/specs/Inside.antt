@@ -1,3 +1,4 @@
 pub mod Comparisons
 pub mod Registering
+pub mod Evidence
 pub mod Deleting

@@ -15,6 +15,7 @@ pub mod ReadCommands
 pub mod RegisterCommands
 pub mod DeletionCommands
 pub mod Machine
+pub mod Evidence
 pub mod CommandTexts
 pub mod Needs
 pub mod Views

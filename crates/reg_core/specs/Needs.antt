@@ -3,7 +3,7 @@ use Rattle.std.specs.Prelude.{◌≡◌, ⊤, ℕ, Bool, true, false, List, [], 
 use Rattle.std.specs.FinMap.{entries}
 use Rattle.reg_core.specs.declared.level.Level.{Level}
 use Rattle.reg_core.specs.declared.command.Command.{Command}
-use Rattle.reg_core.specs.declared.command.Command.TheVariants.{Register, DeleteVersion, DeleteSubject, Global, LevelOf, Lookup, Subjects, Versions, Version, Text, ById, VersionsOfId, Check, CheckAll}
+use Rattle.reg_core.specs.declared.command.Command.TheVariants.{SetGlobal, SetLevel, Register, DeleteVersion, DeleteSubject, Global, LevelOf, Lookup, Subjects, Versions, Version, Text, ById, VersionsOfId, Check, CheckAll, GlobalMode, ModeOf}
 use Rattle.reg_core.specs.declared.needs.RowsNeeded.{RowsNeeded}
 use Rattle.reg_core.specs.declared.needs.RowsNeeded.TheVariants.{Nothing, Everything, OfId, OneOfId, OfSubject}
 use Rattle.reg_core.specs.declared.needs.SubjectRows.{SubjectRows}
@@ -78,6 +78,17 @@ needs_levels (LevelOf subject default_to_global) = true
 needs_levels (Check subject version text supported) = true
 needs_levels (CheckAll subject text supported) = true
 needs_levels _ = false
+
+-- Schema Registry API reference, Mode: whether a command looks at modes: it shows one, or a mode may forbid it
+abbrev pub needs_modes : Command → Bool
+needs_modes (SetGlobal level) = true
+needs_modes (SetLevel subject level) = true
+needs_modes (Register subject text supported) = true
+needs_modes (DeleteVersion subject version permanent) = true
+needs_modes (DeleteSubject subject permanent) = true
+needs_modes GlobalMode = true
+needs_modes (ModeOf subject default_to_global) = true
+needs_modes _ = false
 
 -- Schema Registry API reference, Schemas: whether a command looks at the number of schemas, after which new ids come
 abbrev pub needs_count : Command → Bool

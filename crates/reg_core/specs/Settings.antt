@@ -1,12 +1,14 @@
--- Commands that set and show what holds of all subjects, or of one of its own: compatibility levels.
+-- Commands that set and show what holds of all subjects, or of one of its own: compatibility levels, and modes.
 use Rattle.std.specs.Prelude.{ℕ, Bool, List, codes, Option, None, Some, if◌then◌else◌}
 use Rattle.std.specs.Option.{option_or}
 use Rattle.serde_json.specs.Data.{string, object, member, no_members}
 use Rattle.serde_json.specs.Written.{compact_text}
 use Rattle.reg_core.specs.declared.level.Level.{Level}
+use Rattle.reg_core.specs.declared.mode.Mode.{Mode}
 use Rattle.reg_core.specs.declared.code.Code.{Code}
-use Rattle.reg_core.specs.declared.code.Code.TheVariants.{InvalidLevel, NoOwnLevel}
+use Rattle.reg_core.specs.declared.code.Code.TheVariants.{InvalidLevel, NoOwnLevel, InvalidMode, NoOwnMode}
 use Rattle.reg_core.specs.Levels.{level_of, level_text}
+use Rattle.reg_core.specs.Modes.{mode_of, mode_text}
 use Rattle.reg_core.specs.Replies.{Told, answer, fault}
 use Rattle.reg_core.specs.Registry.{Registry, own_with}
 
@@ -62,4 +64,24 @@ level_setting = record {
   name_shown = codes "compatibilityLevel";
   unknown = InvalidLevel;
   absent = NoOwnLevel;
+}
+
+-- ---- modes
+
+-- Schema Registry API reference, PUT /mode and PUT /mode/{subject}: the registry with this mode, of the subject's own if there is a subject, else
+-- global
+abbrev pub with_mode : Registry → Option (List ℕ) → Mode → Registry
+with_mode g None mode = record g { global_mode = mode }
+with_mode g (Some subject) mode = record g { own_modes = own_with g.own_modes subject mode }
+
+-- Schema Registry API reference, Mode
+abbrev pub mode_setting : Setting Mode
+mode_setting = record {
+  text_of = mode_text;
+  value_of = mode_of;
+  put = with_mode;
+  name_set = codes "mode";
+  name_shown = codes "mode";
+  unknown = InvalidMode;
+  absent = NoOwnMode;
 }

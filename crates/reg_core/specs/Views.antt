@@ -16,7 +16,7 @@ use Rattle.reg_core.specs.declared.decision.Decision.{Decision}
 use Rattle.reg_core.specs.declared.decision.Change.{Change}
 use Rattle.reg_core.specs.declared.decision.Change.TheVariants as change
 use Rattle.reg_core.specs.Numbers.{choice_in}
-use Rattle.reg_core.specs.Registry.{Registry, IsRegistry, Row, RowKey, Rows, IsRow, Schemas, max_number, own_with, own_without}
+use Rattle.reg_core.specs.Registry.{Registry, IsRegistry, Row, RowKey, Rows, IsRow, Schemas, max_number, schema_at, own_with, own_without}
 use Rattle.reg_core.specs.Registry as registry
 use Rattle.reg_core.specs.DeletionCommands.{as_deleted}
 use Rattle.reg_core.specs.Rows.{shown_rows, live_rows, known_id, id_of, text_at}
@@ -24,8 +24,9 @@ use Rattle.reg_core.specs.ReadCommands.{found_row, looked_up}
 use Rattle.reg_core.specs.RegisterCommands.{is_among}
 use Rattle.reg_core.specs.Replies.{IsOwnReply}
 use Rattle.reg_core.specs.Compatibility.{latest, named_versions}
-use Rattle.reg_core.specs.Needs.{rows_asked, rows_needed, needs_levels, needs_count, AnswerAs}
-use Rattle.reg_core.specs.Machine.{is_write, subject_of, sends_schema, schema_sent, mode_by, mode_for, step}
+use Rattle.reg_core.specs.Needs.{rows_asked, rows_needed, needs_levels, needs_modes, needs_count, AnswerAs}
+use Rattle.reg_core.specs.Evidence.{Evidence, EvidenceOf, IsOfVersions, IsEvidenceAfter, IsTrueOf, evidence_in}
+use Rattle.reg_core.specs.Machine.{is_write, subject_of, sends_schema, schema_sent, mode_by, step}
 
 -- ---- views
 
@@ -33,7 +34,7 @@ use Rattle.reg_core.specs.Machine.{is_write, subject_of, sends_schema, schema_se
 abbrev pub level_of_view : View → Level
 level_of_view view = unwrap_or view.own view.global
 
--- this project's choice: the mode that a command looks at, as a view has it
+-- this project's choice: the mode that may forbid a command, if one may, as a view has it
 abbrev pub mode_seen : View → Command → Option Mode
 mode_seen view command = mode_by command view.own_mode view.global_mode
 
@@ -63,7 +64,7 @@ text_in view id = option_map string_bytes (tree.get nat_cmp view.texts id)
 pub record IsViewOf (view : View) (g : Registry) (command : Command) : Type 0 where
   pub rows : AnswerAs (level_of_view view) view.known (rows_asked command) view.rows.items (rows_needed g (subject_of command) (rows_asked command))
   pub levels : IsTrue (needs_levels command) → (view.own ≡ option_and_then g.own (subject_of command)) × (view.global ≡ g.global)
-  pub mode : mode_seen view command ≡ mode_for g command
+  pub modes : IsTrue (needs_modes command) → (view.own_mode ≡ option_and_then g.own_modes (subject_of command)) × (view.global_mode ≡ g.global_mode)
   pub known : view.known ≡ known_id g.schemas (schema_sent command)
   pub count : IsTrue (needs_count command) → view.count ≡ length g.schemas
   pub texts : All (λ (row : Row). text_in view row.1.id ≡ text_at g.schemas row.1.id) (rows_read command view)
@@ -85,20 +86,41 @@ schema_taken command schema = if sends_schema command then schema else None
 abbrev pub altered : Rows → RowKey → (registry.Version → registry.Version) → Rows
 altered rows key change = unwrap_or (option_map (λ version. insert rows key (change version)) (get rows key)) rows
 
--- Schema Registry API reference, Schemas, Subjects and Config: the registry after one change
+-- Schema Registry API reference, Schemas, Subjects, Config and Mode: the registry after one change
 abbrev pub after_change : Change → Registry → Registry
 after_change (change.SetGlobal level) g = record g { global = level }
 after_change (change.SetLevel subject level) g = record g { own = own_with g.own subject level }
 after_change (change.AddText id text) g = record g { schemas = g.schemas ++ option_to_list (denoted_nodes text) }
-after_change (change.AddRow row) g = record g { rows = insert g.rows row.0 row.1 }
+after_change (change.AddRow row evidence) g = record g { rows = insert g.rows row.0 row.1 }
 after_change (change.MarkDeleted subject version) g = record g { rows = altered g.rows (subject, version) as_deleted }
 after_change (change.Remove subject version) g = record g { rows = remove g.rows (subject, version) }
 after_change (change.DropLevel subject) g = record g { own = own_without g.own subject }
+after_change (change.SetGlobalMode mode) g = record g { global_mode = mode }
+after_change (change.SetMode subject mode) g = record g { own_modes = own_with g.own_modes subject mode }
+after_change (change.DropMode subject) g = record g { own_modes = own_without g.own_modes subject }
 
 -- this project's choice: the registry after the changes, one after the other
 abbrev pub after_changes : List Change → Registry → Registry
 after_changes [] g = g
 after_changes (change ∷ changes) g = after_changes changes (after_change change g)
+
+-- this project's choice: the evidence after one change: a new version comes with its own, and one that is removed takes its own along
+abbrev pub evidence_after_change : Change → EvidenceOf → EvidenceOf
+evidence_after_change (change.SetGlobal level) evidence = evidence
+evidence_after_change (change.SetLevel subject level) evidence = evidence
+evidence_after_change (change.AddText id text) evidence = evidence
+evidence_after_change (change.AddRow row own) evidence = insert evidence row.0 own
+evidence_after_change (change.MarkDeleted subject version) evidence = evidence
+evidence_after_change (change.Remove subject version) evidence = remove evidence (subject, version)
+evidence_after_change (change.DropLevel subject) evidence = evidence
+evidence_after_change (change.SetGlobalMode mode) evidence = evidence
+evidence_after_change (change.SetMode subject mode) evidence = evidence
+evidence_after_change (change.DropMode subject) evidence = evidence
+
+-- this project's choice: the evidence after the changes, one after the other
+abbrev pub evidence_after_changes : List Change → EvidenceOf → EvidenceOf
+evidence_after_changes [] evidence = evidence
+evidence_after_changes (change ∷ changes) evidence = evidence_after_changes changes (evidence_after_change change evidence)
 
 -- this project's choice: the text of a new schema, and the next id
 pub record IsNewText (schemas : Schemas) (id : ℕ) (text : List ℕ) : Type 0 where
@@ -114,15 +136,23 @@ pub record IsNewRow (g : Registry) (row : Row) : Type 0 where
   pub absent : get g.rows row.0 ≡ None
   pub fits : IsRow g.schemas row.0 row.1
 
+-- this project's choice: what a new version comes with is what the registry names for it, and it is true of the version's schema
+pub record IsNewEvidence (g : Registry) (row : Row) (evidence : Evidence) : Type 0 where
+  pub named : evidence ≡ evidence_in g row.0.0
+  pub holds : (nodes : List NodeView) → schema_at g.schemas row.1.id ≡ Some nodes → IsTrueOf g.schemas nodes evidence
+
 -- this project's choice: the registry can have the change
 abbrev pub ChangeFits : Change → Registry → Type 0
 ChangeFits (change.SetGlobal level) g = ⊤
 ChangeFits (change.SetLevel subject level) g = ⊤
 ChangeFits (change.AddText id text) g = IsNewText g.schemas id text
-ChangeFits (change.AddRow row) g = IsNewRow g row
+ChangeFits (change.AddRow row evidence) g = IsNewRow g row × IsNewEvidence g row evidence
 ChangeFits (change.MarkDeleted subject version) g = ⊤
 ChangeFits (change.Remove subject version) g = ⊤
 ChangeFits (change.DropLevel subject) g = ⊤
+ChangeFits (change.SetGlobalMode mode) g = ⊤
+ChangeFits (change.SetMode subject mode) g = ⊤
+ChangeFits (change.DropMode subject) g = ⊤
 
 -- this project's choice: so it can each change, at its turn
 abbrev pub ChangesFit : List Change → Registry → Type 0
@@ -131,11 +161,13 @@ ChangesFit (change ∷ changes) g = ChangeFits change g × ChangesFit changes (a
 
 -- ---- decisions
 
--- This project's choice: on each ground a decision tells and changes what the plain machine does, and the registry can have each change, at its turn.
+-- This project's choice: on each ground a decision tells and changes what the plain machine does, the evidence of versions too, and the registry can
+-- have each change, at its turn.
 -- A read changes nothing, and a refusal neither. The reply is no fault of the backend, and doesn't say that a key was used for another request.
 pub record Decides (command : Command) (schema : Option (List NodeView)) (view : View) (decision : Decision) : Type 0 where
   pub reply : (g : Registry) → IsGround g command (schema_taken command schema) view → decision.reply ≡ (step g command).1
   pub changes : (g : Registry) → IsGround g command (schema_taken command schema) view → after_changes decision.changes.items g ≡ (step g command).0
+  pub evidence : (g : Registry) → IsGround g command (schema_taken command schema) view → (had : EvidenceOf) → IsOfVersions g had → IsEvidenceAfter g command had (evidence_after_changes decision.changes.items had)
   pub fit : (g : Registry) → IsGround g command (schema_taken command schema) view → ChangesFit decision.changes.items g
   pub read : is_write command ≡ false → decision.changes.items ≡ []
   pub refusal : decision.reply.status ≢ 200 → decision.changes.items ≡ []

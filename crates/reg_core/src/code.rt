@@ -27,6 +27,8 @@ pub enum Code {
     VersionNotSoftDeleted,
     /// 40408: the subject has no level of its own.
     NoOwnLevel,
+    /// 40409: the subject has no mode of its own.
+    NoOwnMode,
     /// 405: the path has no such method.
     MethodNotAllowed,
     /// 409: the subject's level doesn't admit the schema.
@@ -69,6 +71,7 @@ impl Code {
             Code::VersionSoftDeleted => 40406,
             Code::VersionNotSoftDeleted => 40407,
             Code::NoOwnLevel => 40408,
+            Code::NoOwnMode => 40409,
             Code::MethodNotAllowed => 405,
             Code::Incompatible => 409,
             Code::BodyTooLarge => 413,
@@ -98,7 +101,8 @@ impl Code {
             | Code::SubjectNotSoftDeleted
             | Code::VersionSoftDeleted
             | Code::VersionNotSoftDeleted
-            | Code::NoOwnLevel => 404,
+            | Code::NoOwnLevel
+            | Code::NoOwnMode => 404,
             Code::MethodNotAllowed => 405,
             Code::Incompatible => 409,
             Code::BodyTooLarge => 413,
@@ -129,6 +133,7 @@ impl Code {
             Code::VersionSoftDeleted => "Version is soft-deleted",
             Code::VersionNotSoftDeleted => "Version is not soft-deleted",
             Code::NoOwnLevel => "Subject has no level of its own",
+            Code::NoOwnMode => "Subject has no mode of its own",
             Code::MethodNotAllowed => "Method not allowed",
             Code::Incompatible => "Schema is incompatible with an earlier version",
             Code::BodyTooLarge => "Body too large",
@@ -164,6 +169,8 @@ impl Code {
                 "{\"error_code\":40407,\"message\":\"Version is not soft-deleted\"}",
             Code::NoOwnLevel =>
                 "{\"error_code\":40408,\"message\":\"Subject has no level of its own\"}",
+            Code::NoOwnMode =>
+                "{\"error_code\":40409,\"message\":\"Subject has no mode of its own\"}",
             Code::MethodNotAllowed => "{\"error_code\":405,\"message\":\"Method not allowed\"}",
             Code::Incompatible =>
                 "{\"error_code\":409,\"message\":\"Schema is incompatible with an earlier version\"}",

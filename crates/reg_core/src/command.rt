@@ -1,20 +1,16 @@
-//! Commands, and the text by which a write is kept and compared.
+//! Commands.
 
-ghost use Rattle.std.specs.Prelude.{◌≡◌, true, IfOk, option_and_then, option_copied, string_bytes};
+ghost use Rattle.std.specs.Prelude.{◌≡◌, option_and_then, option_copied};
 ghost use Rattle.avro_schema.specs.DenotedNodes.{denoted_nodes};
-ghost use Rattle.reg_core.specs.CommandTexts.{command_text};
 ghost use Rattle.reg_core.specs.Machine.{is_write, schema_sent, sends_schema, subject_of};
 
 use crate::subject::Subject;
 use crate::text::Text;
-use avro_nodes::OutOfMemory;
-use serde_json::json;
-use std::alloc::Global;
 
 /// What a client asks of the registry. Levels, schemas, versions and ids are texts as they were sent.
 /// A schema is `supported` where its type is Avro and it refers to no other. Where `deleted` is on,
 /// soft-deleted versions are shown too. (Schema Registry API reference, Schemas, Subjects,
-/// Compatibility and Config.)
+/// Compatibility, Config and Mode.)
 #[derive(Debug, Drop)]
 pub enum Command {
     /// Sets the global compatibility level.
@@ -42,8 +38,8 @@ pub enum Command {
         permanent: bool,
     },
     /// Soft-deletes the versions of the subject; where `permanent` is on, it removes them for good, if
-    /// all are soft-deleted. The level that the subject has of its own goes too. Answers the numbers
-    /// of the versions.
+    /// all are soft-deleted. The level that the subject has of its own goes too, and where they are
+    /// removed its own mode. Answers the numbers of the versions.
     DeleteSubject {
         subject: Subject,
         permanent: bool,
@@ -109,6 +105,23 @@ pub enum Command {
         text: Text,
         supported: bool,
     },
+    /// Sets the global mode.
+    SetGlobalMode {
+        mode: Text,
+    },
+    /// Sets the mode that the subject has of its own.
+    SetMode {
+        subject: Subject,
+        mode: Text,
+    },
+    /// Answers the global mode.
+    GlobalMode,
+    /// Answers the mode that the subject has of its own; where it has none, and that is asked for,
+    /// the global one.
+    ModeOf {
+        subject: Subject,
+        default_to_global: bool,
+    },
 }
 
 impl Command {
@@ -121,7 +134,9 @@ impl Command {
             | Command::SetLevel { .. }
             | Command::Register { .. }
             | Command::DeleteVersion { .. }
-            | Command::DeleteSubject { .. } => true,
+            | Command::DeleteSubject { .. }
+            | Command::SetGlobalMode { .. }
+            | Command::SetMode { .. } => true,
             _ => false,
         }
     }
@@ -141,13 +156,17 @@ impl Command {
             | Command::Version { subject, .. }
             | Command::Text { subject, .. }
             | Command::Check { subject, .. }
-            | Command::CheckAll { subject, .. } => Some(subject),
+            | Command::CheckAll { subject, .. }
+            | Command::SetMode { subject, .. }
+            | Command::ModeOf { subject, .. } => Some(subject),
             Command::SetGlobal { .. }
             | Command::Global
             | Command::Subjects { .. }
             | Command::ById { .. }
             | Command::VersionsOfId { .. }
-            | Command::Types => None,
+            | Command::Types
+            | Command::SetGlobalMode { .. }
+            | Command::GlobalMode => None,
         }
     }
 
@@ -193,94 +212,4 @@ impl Command {
             _ => None,
         }
     }
-}
-
-/// The text by which a write is kept and compared: a compact JSON array of its name and members,
-/// as `["set-global","FULL"]` and `["register","s","\"int\"",true]`. Different writes have different texts.
-/// A read has the empty text.
-///
-/// # Errors
-///
-/// `OutOfMemory` where memory for the text is refused.
-pub fn print_of(alloc: Global, command: &Command) -> Result<String, OutOfMemory>
-    ensures text { IfOk result (λ text. string_bytes text ≡ command_text command.now) }
-    ensures one { IfOk result (λ text. (other : Command)
-        → is_write command.now ≡ true → is_write other ≡ true
-        → command_text other ≡ string_bytes text → other ≡ command.now) }
-{
-    match command {
-        Command::SetGlobal { level } => {
-            Ok(json!(in alloc; ["set-global", level.as_str()])?.to_string(alloc)?)
-        }
-        Command::SetLevel { subject, level } => {
-            set_level_text(alloc, subject.as_str(), level.as_str())
-        }
-        Command::Register {
-            subject,
-            text,
-            supported,
-        } => register_text(alloc, subject.as_str(), text.as_str(), *supported),
-        Command::DeleteVersion {
-            subject,
-            version,
-            permanent,
-        } => delete_version_text(alloc, subject.as_str(), version.as_str(), *permanent),
-        Command::DeleteSubject { subject, permanent } => {
-            delete_subject_text(alloc, subject.as_str(), *permanent)
-        }
-        Command::Global
-        | Command::LevelOf { .. }
-        | Command::Lookup { .. }
-        | Command::Subjects { .. }
-        | Command::Versions { .. }
-        | Command::Version { .. }
-        | Command::Text { .. }
-        | Command::ById { .. }
-        | Command::VersionsOfId { .. }
-        | Command::Types
-        | Command::Check { .. }
-        | Command::CheckAll { .. } => Ok(String::new(alloc)),
-    }
-}
-
-/// The text of the command that sets the level of a subject.
-fn set_level_text(alloc: Global, subject: &str, level: &str) -> Result<String, OutOfMemory>
-    ensures { IfOk result (λ text. string_bytes text ≡ command_text (Command.SetLevel subject.now level.now)) }
-{
-    let array = json!(in alloc; ["set-level", subject, level])?;
-    Ok(array.to_string(alloc)?)
-}
-
-/// The text of the command that registers a schema.
-fn register_text(
-    alloc: Global,
-    subject: &str,
-    text: &str,
-    supported: bool,
-) -> Result<String, OutOfMemory>
-    ensures { IfOk result (λ print. string_bytes print ≡ command_text (Command.Register subject.now text.now supported)) }
-{
-    let array = json!(in alloc; ["register", subject, text, supported])?;
-    Ok(array.to_string(alloc)?)
-}
-
-/// The text of the command that deletes a version.
-fn delete_version_text(
-    alloc: Global,
-    subject: &str,
-    version: &str,
-    permanent: bool,
-) -> Result<String, OutOfMemory>
-    ensures { IfOk result (λ text. string_bytes text ≡ command_text (Command.DeleteVersion subject.now version.now permanent)) }
-{
-    let array = json!(in alloc; ["delete-version", subject, version, permanent])?;
-    Ok(array.to_string(alloc)?)
-}
-
-/// The text of the command that deletes a subject.
-fn delete_subject_text(alloc: Global, subject: &str, permanent: bool) -> Result<String, OutOfMemory>
-    ensures { IfOk result (λ text. string_bytes text ≡ command_text (Command.DeleteSubject subject.now permanent)) }
-{
-    let array = json!(in alloc; ["delete-subject", subject, permanent])?;
-    Ok(array.to_string(alloc)?)
 }

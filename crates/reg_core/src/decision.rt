@@ -2,6 +2,7 @@
 
 ghost use Rattle.std.specs.Prelude.{◌≡◌, ◌≢◌, [], false, IfOk, option_copied, option_map};
 ghost use Rattle.avro_nodes.specs.Nodes.{nodes_view};
+ghost use Rattle.reg_core.specs.Inside.Evidence.{TellEvidence};
 ghost use Rattle.reg_core.specs.Machine.{carried_out, is_write};
 ghost use Rattle.reg_core.specs.Registry.{Registry};
 ghost use Rattle.reg_core.specs.Replies.{IsOwnReply};
@@ -16,6 +17,7 @@ use crate::decision::reading::{
 };
 use crate::decision::registering::{check, check_all, register};
 use crate::decision::settings::{set, shown_answer, shown_reply, value_shown};
+use crate::evidence::Evidence;
 use crate::level::Level;
 use crate::mode::Mode;
 use crate::reply::Reply;
@@ -73,14 +75,20 @@ pub enum Change {
     SetLevel { subject: Subject, level: Level },
     /// A new schema, which has this identity text, gets the id.
     AddText { id: u32, text: Text },
-    /// A subject gets a new version.
-    AddRow { row: Row },
+    /// A subject gets a new version, and this is what it was admitted by.
+    AddRow { row: Row, evidence: Evidence },
     /// The subject's version with this number is soft-deleted, if there is one.
     MarkDeleted { subject: Subject, version: u32 },
     /// The subject's version with this number goes for good, if there is one.
     Remove { subject: Subject, version: u32 },
     /// The level that the subject has of its own goes, if it has one.
     DropLevel { subject: Subject },
+    /// The global mode becomes this one.
+    SetGlobalMode { mode: Mode },
+    /// The mode that the subject has of its own becomes this one.
+    SetMode { subject: Subject, mode: Mode },
+    /// The mode that the subject has of its own goes, if it has one.
+    DropMode { subject: Subject },
 }
 
 /// What a command does, and its reply.
@@ -160,6 +168,11 @@ fn carry_out(
         → IsGround g command.now (option_map nodes_view (option_copied schema.entry)) view.now
         → ChangesFit decision.changes.items g) }
 
+    // What versions were admitted by goes with them, and a new one comes with its own.
+    ensures evidence { IfOk result (λ decision. (g : Registry)
+        → IsGround g command.now (option_map nodes_view (option_copied schema.entry)) view.now
+        → TellEvidence decision.changes.items g) }
+
     // A read changes nothing, and a refusal neither.
     ensures read { IfOk result (λ decision. is_write command.now ≡ false → decision.changes.items ≡ []) }
     ensures refusal { IfOk result (λ decision. decision.reply.status ≢ 200 → decision.changes.items ≡ []) }
@@ -179,6 +192,8 @@ fn carry_out(
         Command::DeleteSubject { subject, permanent } => {
             delete_subject(alloc, view, subject, *permanent)
         }
+        Command::SetGlobalMode { mode } => set::<Mode>(alloc, None, mode.as_str()),
+        Command::SetMode { subject, mode } => set::<Mode>(alloc, Some(subject), mode.as_str()),
         _ => {
             let reply = reply_to_read(alloc, view, command, schema, memory)?;
             Ok(unchanged(alloc, reply))
@@ -230,6 +245,14 @@ fn reply_to_read(
         Command::Types => types(alloc),
         Command::Check { version, .. } => check(alloc, view, version.as_str(), schema, memory),
         Command::CheckAll { .. } => check_all(alloc, view, schema, memory),
+        Command::GlobalMode => shown_answer(alloc, view.global_mode),
+        Command::ModeOf {
+            default_to_global,
+            ..
+        } => shown_reply(
+            alloc,
+            value_shown(view.own_mode, view.global_mode, *default_to_global),
+        ),
         _ => unreachable!(),
     }
 }

@@ -1,7 +1,7 @@
 //! What a command needs to know of the registry.
 
 ghost use Rattle.std.specs.Prelude.{◌≡◌};
-ghost use Rattle.reg_core.specs.Needs.{needs_count, needs_levels, rows_asked};
+ghost use Rattle.reg_core.specs.Needs.{needs_count, needs_levels, needs_modes, rows_asked};
 
 use crate::command::Command;
 use crate::number::{Choice, choice_in, id_in};
@@ -54,6 +54,8 @@ pub struct Needs {
     pub rows: RowsNeeded,
     /// Whether it looks at levels.
     pub levels: bool,
+    /// Whether it looks at modes: it shows one, or a mode may forbid it.
+    pub modes: bool,
     /// Whether it looks at the number of schemas.
     pub count: bool,
 }
@@ -63,11 +65,13 @@ impl Command {
     pub fn needs(&self) -> Needs
         ensures rows { result.rows ≡ rows_asked self.now }
         ensures levels { result.levels ≡ needs_levels self.now }
+        ensures modes { result.modes ≡ needs_modes self.now }
         ensures count { result.count ≡ needs_count self.now }
     {
         Needs {
             rows: self.rows_asked(),
             levels: self.needs_levels(),
+            modes: self.needs_modes(),
             count: self.needs_count(),
         }
     }
@@ -117,7 +121,11 @@ impl Command {
             | Command::SetLevel { .. }
             | Command::Global
             | Command::LevelOf { .. }
-            | Command::Types => RowsNeeded::Nothing,
+            | Command::Types
+            | Command::SetGlobalMode { .. }
+            | Command::SetMode { .. }
+            | Command::GlobalMode
+            | Command::ModeOf { .. } => RowsNeeded::Nothing,
         }
     }
 
@@ -131,6 +139,22 @@ impl Command {
             | Command::LevelOf { .. }
             | Command::Check { .. }
             | Command::CheckAll { .. } => true,
+            _ => false,
+        }
+    }
+
+    /// Whether the command looks at modes.
+    fn needs_modes(&self) -> bool
+        ensures { result ≡ needs_modes self.now }
+    {
+        match self {
+            Command::SetGlobal { .. }
+            | Command::SetLevel { .. }
+            | Command::Register { .. }
+            | Command::DeleteVersion { .. }
+            | Command::DeleteSubject { .. }
+            | Command::GlobalMode
+            | Command::ModeOf { .. } => true,
             _ => false,
         }
     }

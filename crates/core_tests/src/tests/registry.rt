@@ -1,4 +1,4 @@
-//! What of the plain registry no request shows, and the rows that hold one. Expected values are those of the registry's
+//! What of the plain registry no request shows, Expected values are those of the registry's
 //! profile, written out.
 
 use avro_schema::Schema;
@@ -6,47 +6,23 @@ use reg_core::{
     Change, Code, Command, Decision, Key, Level, Mode, Reply, Row, Subject, Text, View, decide,
     decide_with, print_of,
 };
-use reg_rows::{Tables, spells};
 use schema_memory::Memory;
 use std::alloc::Global;
 use std::collections::BTreeMap;
 use std::test::Fail;
 
-/// The codes that no request gets, with their bodies.
-const CODES: [(Code, u32, u16, &str, &str); 3] = [
-    (
-        Code::InvalidMode,
-        42204,
-        422,
-        "Invalid mode",
-        "{\"error_code\":42204,\"message\":\"Invalid mode\"}",
-    ),
-    (
-        Code::NotPermitted,
-        42205,
-        422,
-        "Operation not permitted",
-        "{\"error_code\":42205,\"message\":\"Operation not permitted\"}",
-    ),
-    (
-        Code::BackendFault,
-        50001,
-        500,
-        "Error in the backend data store",
-        "{\"error_code\":50001,\"message\":\"Error in the backend data store\"}",
-    ),
-];
-
+/// The code that a request gets only where the disk or the memory fails.
 #[test]
-fn codes(rt: HostRuntime) {
-    for (code, number, status, message, body) in CODES {
-        assert_eq!(rt; code.number(), number);
-        assert_eq!(rt; code.status(), status, "{number}");
-        assert_eq!(rt; code.message(), message, "{number}");
-        let reply = Reply::fault(code);
-        assert_eq!(rt; reply.status(), status, "{number}");
-        assert_eq!(rt; reply.body(), body, "{number}");
-    }
+fn a_fault_of_the_backend(rt: HostRuntime) {
+    let code = Code::BackendFault;
+    assert_eq!(rt; code.number(), 50001);
+    assert_eq!(rt; code.message(), "Error in the backend data store");
+    let reply = Reply::fault(code);
+    assert_eq!(rt; reply.status(), 500);
+    assert_eq!(rt;
+        reply.body(),
+        "{\"error_code\":50001,\"message\":\"Error in the backend data store\"}"
+    );
 }
 
 /// The statuses that a reply may have.
@@ -212,7 +188,7 @@ fn decided(alloc: Global, view: &View) -> Result<Decision, Fail> {
 /// The number of the version that is added last, or 0.
 fn added(decision: &Decision) -> u32 {
     match decision.changes.last() {
-        Some(Change::AddRow { row }) => row.version(),
+        Some(Change::AddRow { row, .. }) => row.version(),
         _ => 0,
     }
 }
@@ -246,27 +222,6 @@ fn a_schema_of_another_type_is_not_looked_at(rt: HostRuntime) -> Result<(), Fail
     Ok(())
 }
 
-/// Whether a mode forbids a registration: the subject's own one, the global one, and the status.
-const MODES: [(Option<Mode>, Mode, u16); 5] = [
-    (None, Mode::Readwrite, 200),
-    (None, Mode::Readonly, 422),
-    (Some(Mode::Readwrite), Mode::Readonly, 200),
-    (Some(Mode::Readonly), Mode::Readwrite, 422),
-    (Some(Mode::Readonly), Mode::Readonly, 422),
-];
-
-#[test]
-fn a_mode_forbids_writes(rt: HostRuntime) -> Result<(), Fail> {
-    let mut view = view(rt.alloc(), 1, true)?;
-    for (own, global, status) in MODES {
-        view.own_mode = own;
-        view.global_mode = global;
-        let decision = decided(rt.alloc(), &view)?;
-        assert_eq!(rt; decision.reply.status(), status);
-    }
-    Ok(())
-}
-
 /// The schema of a version is remembered once it was compared.
 #[test]
 fn what_is_compared_is_remembered(rt: HostRuntime) -> Result<(), Fail> {
@@ -290,42 +245,5 @@ fn command_texts(rt: HostRuntime) -> Result<(), Fail> {
     let text = print_of(alloc, &register(alloc, true)?)?;
     assert_eq!(rt; text.as_str(), "[\"register\",\"s\",\"\\\"int\\\"\",true]");
     assert!(rt; print_of(alloc, &Command::Types)?.is_empty());
-    Ok(())
-}
-
-/// A new registry, but for its last row.
-fn tables(alloc: Global) -> Result<Tables, Fail> {
-    let mut meta = Vec::new(alloc);
-    for (name, value) in [("format", "avroreg"), ("layout", "1")] {
-        meta.push((
-            String::from_str(alloc, name)?,
-            String::from_str(alloc, value)?,
-        ))?;
-    }
-    Ok(Tables {
-        texts: Vec::new(alloc),
-        versions: Vec::new(alloc),
-        levels: Vec::new(alloc),
-        kept: Vec::new(alloc),
-        meta,
-    })
-}
-
-#[test]
-fn a_new_registry_is_spelt(rt: HostRuntime) -> Result<(), Fail> {
-    let alloc = rt.alloc();
-    let mut tables = tables(alloc)?;
-    assert!(rt; !spells(alloc, &tables)?);
-    let global = String::from_str(alloc, "global")?;
-    tables
-        .meta
-        .push((global, String::from_str(alloc, "BACKWARD")?))?;
-    assert!(rt; spells(alloc, &tables)?);
-    tables.texts.push((1, String::from_str(alloc, "\"int\"")?))?;
-    assert!(rt; spells(alloc, &tables)?);
-    tables
-        .texts
-        .push((3, String::from_str(alloc, "\"long\"")?))?;
-    assert!(rt; !spells(alloc, &tables)?);
     Ok(())
 }

@@ -4,7 +4,7 @@ use Rattle.reg_core.specs.declared.code.Code.{Code}
 use Rattle.reg_core.specs.declared.code.Code.TheVariants.{SubjectNotFound, SubjectSoftDeleted, SubjectNotSoftDeleted}
 use Rattle.reg_core.specs.Registry.{Row}
 use Rattle.reg_core.specs.declared.decision.Change.{Change}
-use Rattle.reg_core.specs.declared.decision.Change.TheVariants.{MarkDeleted, Remove}
+use Rattle.reg_core.specs.declared.decision.Change.TheVariants.{MarkDeleted, Remove, DropLevel, DropMode}
 
 -- this project's choice: the change that soft-deletes a version of a subject, or removes it for good
 abbrev pub version_change : Bool → List ℕ → ℕ → Change
@@ -19,3 +19,8 @@ subject_refusal false (row ∷ rows) (one ∷ live) = None
 subject_refusal true [] live = Some SubjectNotFound
 subject_refusal true (row ∷ rows) [] = None
 subject_refusal true (row ∷ rows) (one ∷ live) = Some SubjectNotSoftDeleted
+
+-- this project's choice: what goes with a subject: its own level, and with `permanent` its own mode
+abbrev pub own_dropped : Bool → List ℕ → List Change
+own_dropped false subject = DropLevel subject ∷ []
+own_dropped true subject = DropLevel subject ∷ DropMode subject ∷ []

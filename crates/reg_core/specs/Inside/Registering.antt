@@ -1,13 +1,16 @@
 -- What Register adds, by a view.
-use Rattle.std.specs.Prelude.{ℕ, ◌+◌, ◌&&◌, nat_le, Bool, false, List, [], ◌∷◌, ◌++◌, unwrap_or, Option, None, Some, if◌then◌else◌}
+use Rattle.std.specs.Prelude.{ℕ, map, ◌+◌, ◌&&◌, nat_le, Bool, false, List, [], ◌∷◌, ◌++◌, unwrap_or, Option, None, Some, if◌then◌else◌}
 use Rattle.avro_nodes.specs.Nodes.{NodeView}
 use Rattle.avro_nodes.specs.Identity.{identity}
 use Rattle.reg_core.specs.declared.decision.View.{View}
 use Rattle.reg_core.specs.declared.decision.Change.{Change}
 use Rattle.reg_core.specs.declared.decision.Change.TheVariants as change
+use Rattle.reg_core.specs.Compatibility.{named_versions}
+use Rattle.reg_core.specs.Evidence.{Evidence}
 use Rattle.reg_core.specs.Registry.{Row, max_number}
 use Rattle.reg_core.specs.Rows.{next_number}
 use Rattle.reg_core.specs.RegisterCommands.{is_among}
+use Rattle.reg_core.specs.Views.{level_of_view}
 
 -- this project's choice: the id of the schema that is sent, else the next one
 abbrev pub id_shown : View → ℕ
@@ -25,11 +28,15 @@ has_numbers_shown view = nat_le (next_number view.rows.items) max_number && nat_
 abbrev pub row_shown : View → List ℕ → Row
 row_shown view subject = ((subject, next_number view.rows.items), record { id = id_shown view; deleted = false })
 
+-- this project's choice: what it is admitted by, after these live versions
+abbrev pub evidence_shown : View → List Row → Evidence
+evidence_shown view live = record { level = level_of_view view; against = map (λ (row : Row). row.1.id) (named_versions (level_of_view view) live) }
+
 -- this project's choice: a schema that has no id gets this one
 abbrev pub text_added : Option ℕ → ℕ → List NodeView → List Change
 text_added None id new = change.AddText id (identity new) ∷ []
 text_added (Some known) id new = []
 
 -- this project's choice: the changes of the version that is added, and of its schema where it is new
-abbrev pub version_added : Option ℕ → Row → List NodeView → List Change
-version_added known row new = text_added known row.1.id new ++ change.AddRow row ∷ []
+abbrev pub version_added : Option ℕ → Row → Evidence → List NodeView → List Change
+version_added known row evidence new = text_added known row.1.id new ++ change.AddRow row evidence ∷ []

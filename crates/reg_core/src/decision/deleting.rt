@@ -6,7 +6,8 @@ ghost use Rattle.avro_nodes.specs.Nodes.{NodeView};
 ghost use Rattle.reg_core.specs.declared.command.Command.TheVariants.{DeleteSubject, DeleteVersion};
 ghost use Rattle.reg_core.specs.Bodies.{number_body};
 ghost use Rattle.reg_core.specs.DeletionCommands.{numbers_reply, row_to_delete, row_to_mark, row_to_remove};
-ghost use Rattle.reg_core.specs.Inside.Deleting.{subject_refusal, version_change};
+ghost use Rattle.reg_core.specs.Inside.Deleting.{own_dropped, subject_refusal, version_change};
+ghost use Rattle.reg_core.specs.Inside.Evidence.{AddNone};
 ghost use Rattle.reg_core.specs.Machine.{carried_out};
 ghost use Rattle.reg_core.specs.Registry.{Registry};
 ghost use Rattle.reg_core.specs.Replies.{IsOwnReply, answer};
@@ -39,6 +40,7 @@ pub fn delete_version(
         → IsGround g (DeleteVersion subject.now version.now permanent) schema view.now
         → after_changes decision.changes.items g ≡ (carried_out g (DeleteVersion subject.now version.now permanent)).0) }
     ensures fit { IfOk result (λ decision. (g : Registry) → ChangesFit decision.changes.items g) }
+    ensures adds { IfOk result (λ decision. AddNone decision.changes.items) }
     ensures refusal { IfOk result (λ decision. decision.reply.status ≢ 200 → decision.changes.items ≡ []) }
     ensures own { IfOk result (λ decision. IsOwnReply decision.reply) }
 {
@@ -129,7 +131,7 @@ fn version_change(subject: &Subject, version: u32, permanent: bool) -> Result<Ch
 }
 
 /// The versions of the subject are soft-deleted, or removed where that is asked for, and its own
-/// level goes.
+/// level goes; where they are removed, its own mode too.
 pub fn delete_subject(
     alloc: Global,
     view: &View,
@@ -143,6 +145,7 @@ pub fn delete_subject(
         → IsGround g (DeleteSubject subject.now permanent) schema view.now
         → after_changes decision.changes.items g ≡ (carried_out g (DeleteSubject subject.now permanent)).0) }
     ensures fit { IfOk result (λ decision. (g : Registry) → ChangesFit decision.changes.items g) }
+    ensures adds { IfOk result (λ decision. AddNone decision.changes.items) }
     ensures refusal { IfOk result (λ decision. decision.reply.status ≢ 200 → decision.changes.items ≡ []) }
     ensures own { IfOk result (λ decision. IsOwnReply decision.reply) }
 {
@@ -172,8 +175,8 @@ fn subject_refusal(permanent: bool, rows: &[&Row], live: &[&Row]) -> Option<Code
     }
 }
 
-/// These versions of the subject are soft-deleted, or removed, its own level goes, and the numbers
-/// are answered.
+/// These versions of the subject are soft-deleted, or removed, its own level goes, and where they
+/// are removed its own mode, and the numbers are answered.
 fn all_deleted(
     alloc: Global,
     subject: &Subject,
@@ -182,15 +185,28 @@ fn all_deleted(
 ) -> Result<Decision, OutOfMemory>
     ensures reply { IfOk result (λ decision. decision.reply ≡ numbers_reply (map (λ row. row.now) rows.now)) }
     ensures changes { IfOk result (λ decision. decision.changes.items
-        ≡ map (λ row. version_change permanent subject.now row.now.0.1) rows.now ++ Change.DropLevel subject.now ∷ []) }
+        ≡ map (λ row. version_change permanent subject.now row.now.0.1) rows.now ++ own_dropped permanent subject.now) }
 {
     let reply = numbers_reply(alloc, rows)?;
     let mut changes = Vec::new(alloc);
     for row in rows {
         changes.push(version_change(subject, row.version(), permanent)?)?;
     }
+    drop_own(&mut changes, subject, permanent)?;
+    Ok(Decision { changes, reply })
+}
+
+/// The subject's own level goes, and where its versions go for good, its own mode too.
+fn drop_own(changes: &mut Vec<Change>, subject: &Subject, for_good: bool) -> Result<(), OutOfMemory>
+    ensures { IfOk result (λ u. changes.new.items ≡ changes.old.items ++ own_dropped for_good subject.now) }
+{
     changes.push(Change::DropLevel {
         subject: subject.try_clone()?,
     })?;
-    Ok(Decision { changes, reply })
+    if for_good {
+        changes.push(Change::DropMode {
+            subject: subject.try_clone()?,
+        })?;
+    }
+    Ok(())
 }

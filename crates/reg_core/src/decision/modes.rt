@@ -8,7 +8,7 @@ use crate::command::Command;
 use crate::decision::View;
 use crate::mode::Mode;
 
-/// Whether the mode that the command looks at, if it looks at one, forbids it.
+/// Whether a mode forbids the command.
 pub fn is_frozen(view: &View, command: &Command) -> bool
     ensures { result ≡ is_frozen (mode_seen view.now command.now) }
 {
@@ -18,7 +18,7 @@ pub fn is_frozen(view: &View, command: &Command) -> bool
     }
 }
 
-/// The mode that the command looks at, if it looks at one.
+/// The mode that may forbid the command, if one may.
 fn mode_seen(view: &View, command: &Command) -> Option<Mode>
     ensures { result ≡ mode_seen view.now command.now }
 {
@@ -39,6 +39,10 @@ fn mode_seen(view: &View, command: &Command) -> Option<Mode>
         | Command::VersionsOfId { .. }
         | Command::Types
         | Command::Check { .. }
-        | Command::CheckAll { .. } => None,
+        | Command::CheckAll { .. }
+        | Command::SetGlobalMode { .. }
+        | Command::SetMode { .. }
+        | Command::GlobalMode
+        | Command::ModeOf { .. } => None,
     }
 }

@@ -55,7 +55,11 @@ pub fn ids_read(alloc: Global, command: &Command, view: &View) -> Result<Vec<u32
         | Command::Subjects { .. }
         | Command::Versions { .. }
         | Command::VersionsOfId { .. }
-        | Command::Types => Ok(Vec::new(alloc)),
+        | Command::Types
+        | Command::SetGlobalMode { .. }
+        | Command::SetMode { .. }
+        | Command::GlobalMode
+        | Command::ModeOf { .. } => Ok(Vec::new(alloc)),
     }
 }
 
@@ -134,7 +138,7 @@ fn latest_id(alloc: Global, rows: &[Row]) -> Result<Vec<u32>, OutOfMemory>
 }
 
 /// The ids of the versions.
-fn ids_of(alloc: Global, rows: &[&Row]) -> Result<Vec<u32>, OutOfMemory>
+pub fn ids_of(alloc: Global, rows: &[&Row]) -> Result<Vec<u32>, OutOfMemory>
     ensures { IfOk result (λ ids. ids.items ≡ map (λ row. row.now.1.id) rows.now) }
 {
     Ok(rows.iter().map(|row| row.id()).collect(alloc)?)

@@ -5,16 +5,20 @@ ghost use Rattle.avro_nodes.specs.Nodes.{nodes_view};
 ghost use Rattle.reg_core.specs.declared.command.Command.TheVariants.{Check, CheckAll, Register};
 ghost use Rattle.reg_core.specs.Bodies.{id_body, verdict_body};
 ghost use Rattle.reg_core.specs.Machine.{carried_out};
-ghost use Rattle.reg_core.specs.Inside.Registering.{has_numbers_shown, id_among, id_shown, row_shown, version_added};
+ghost use Rattle.reg_core.specs.Inside.Evidence.{TellEvidence};
+ghost use Rattle.reg_core.specs.Inside.Registering.{evidence_shown, has_numbers_shown, id_among, id_shown, row_shown, version_added};
 ghost use Rattle.reg_core.specs.Registry.{Registry};
 ghost use Rattle.reg_core.specs.Replies.{IsOwnReply, answer};
 ghost use Rattle.reg_core.specs.Rows.{next_number};
 ghost use Rattle.reg_core.specs.Views.{ChangesFit, IsGround, after_changes, level_of_view};
 
 use crate::code::Code;
+use crate::compatibility::named;
 use crate::decision::comparing::admits_after;
+use crate::decision::needs::ids_of;
 use crate::decision::rows::{found_row, shown_rows};
 use crate::decision::{Change, Decision, View, unchanged};
+use crate::evidence::Evidence;
 use crate::level::Level;
 use crate::number::{MAX_NUMBER, choice_in};
 use crate::reply::Reply;
@@ -45,6 +49,9 @@ pub fn register(
     ensures fit { IfOk result (λ decision. (g : Registry) (text : List ℕ) (supported : Bool)
         → IsGround g (Register subject.now text supported) (option_map nodes_view (option_copied schema.entry)) view.now
         → ChangesFit decision.changes.items g) }
+    ensures evidence { IfOk result (λ decision. (g : Registry) (text : List ℕ) (supported : Bool)
+        → IsGround g (Register subject.now text supported) (option_map nodes_view (option_copied schema.entry)) view.now
+        → TellEvidence decision.changes.items g) }
     ensures refusal { IfOk result (λ decision. decision.reply.status ≢ 200 → decision.changes.items ≡ []) }
     ensures own { IfOk result (λ decision. IsOwnReply decision.reply) }
 {
@@ -63,7 +70,8 @@ pub fn register(
         return Ok(unchanged(alloc, Reply::fault(Code::NoNumberLeft)));
     };
     let reply = id_reply(alloc, row.id())?;
-    let changes = version_added(alloc, view.known, row, new)?;
+    let evidence = evidence_after(alloc, view, &live)?;
+    let changes = version_added(alloc, view.known, row, evidence, new)?;
     Ok(Decision { changes, reply })
 }
 
@@ -163,14 +171,24 @@ fn next_number(rows: &[Row]) -> u64
     u64::from(greatest) + 1
 }
 
-/// The changes that add the version, and its schema where it is new.
+/// What a version is admitted by that comes after these live ones.
+fn evidence_after(alloc: Global, view: &View, live: &[&Row]) -> Result<Evidence, OutOfMemory>
+    ensures { IfOk result (λ evidence. evidence ≡ evidence_shown view.now (map (λ row. row.now) live.now)) }
+{
+    let level = level_in_force(view);
+    let against = ids_of(alloc, named(level, live))?;
+    Ok(Evidence::new(level, against))
+}
+
+/// The changes that add the version with its evidence, and its schema where it is new.
 fn version_added(
     alloc: Global,
     known: Option<u32>,
     row: Row,
+    evidence: Evidence,
     new: &Schema,
 ) -> Result<Vec<Change>, OutOfMemory>
-    ensures { IfOk result (λ changes. changes.items ≡ version_added known row (nodes_view new.now)) }
+    ensures { IfOk result (λ changes. changes.items ≡ version_added known row evidence (nodes_view new.now)) }
 {
     let mut changes = Vec::new(alloc);
     if known.is_none() {
@@ -179,7 +197,7 @@ fn version_added(
             text: Text::from(new.text(alloc)?),
         })?;
     }
-    changes.push(Change::AddRow { row })?;
+    changes.push(Change::AddRow { row, evidence })?;
     Ok(changes)
 }
 

@@ -1,6 +1,7 @@
 //! Commands that set and show what holds of all subjects, or of one of its own.
 
 ghost use Rattle.std.specs.Prelude.{◌≡◌, ◌≢◌, [], IfOk, Option, None, Some, option_copied};
+ghost use Rattle.reg_core.specs.Inside.Evidence.{AddNone};
 ghost use Rattle.reg_core.specs.Registry.{Registry};
 ghost use Rattle.reg_core.specs.Replies.{answer};
 ghost use Rattle.reg_core.specs.Settings.{set, setting_object, shown_answer, shown_reply, value_shown};
@@ -9,6 +10,7 @@ ghost use Rattle.reg_core.specs.Views.{ChangesFit, after_changes};
 use crate::code::Code;
 use crate::decision::{Change, Decision, unchanged};
 use crate::level::Level;
+use crate::mode::Mode;
 use crate::reply::Reply;
 use crate::subject::Subject;
 use avro_nodes::OutOfMemory;
@@ -21,6 +23,7 @@ pub trait Setting: Copy {
     ghost use Rattle.reg_core.specs.Registry.{Registry};
     ghost use Rattle.reg_core.specs.Settings.{Setting};
     ghost use Rattle.reg_core.specs.Views.{ChangeFits, after_change};
+    ghost use Rattle.reg_core.specs.Inside.Evidence.{AddsNone};
 
     ghost setting: { Setting Self };
 
@@ -52,7 +55,8 @@ pub trait Setting: Copy {
     fn change(self, subject: Option<&Subject>) -> Result<Change, OutOfMemory>
         ensures after { IfOk result (λ change. (g : Registry)
             → after_change change g ≡ setting.put g (option_copied subject.entry) self) }
-        ensures fits { IfOk result (λ change. (g : Registry) → ChangeFits change g) };
+        ensures fits { IfOk result (λ change. (g : Registry) → ChangeFits change g) }
+        ensures adds { IfOk result (λ change. AddsNone change) };
 }
 
 impl Setting for Level {
@@ -96,6 +100,47 @@ impl Setting for Level {
     }
 }
 
+impl Setting for Mode {
+    ghost use Rattle.reg_core.specs.Settings.{mode_setting};
+
+    ghost setting = { mode_setting };
+
+    fn read(text: &str) -> Option<Mode> {
+        Mode::parse(text)
+    }
+
+    fn spelt(self) -> &'static str {
+        self.text()
+    }
+
+    fn name_set() -> &'static str {
+        "mode"
+    }
+
+    fn name_shown() -> &'static str {
+        "mode"
+    }
+
+    fn unknown() -> Code {
+        Code::InvalidMode
+    }
+
+    fn absent() -> Code {
+        Code::NoOwnMode
+    }
+
+    fn change(self, subject: Option<&Subject>) -> Result<Change, OutOfMemory> {
+        let change = match subject {
+            None => Change::SetGlobalMode { mode: self },
+            Some(subject) => Change::SetMode {
+                subject: subject.try_clone()?,
+                mode: self,
+            },
+        };
+        Ok(change)
+    }
+}
+
 /// The subject's own value, or where there is no subject the global one, becomes the one that the
 /// text spells.
 pub fn set<S: Setting>(
@@ -108,6 +153,7 @@ pub fn set<S: Setting>(
     ensures changes { IfOk result (λ decision. (g : Registry)
         → after_changes decision.changes.items g ≡ (set S.setting g (option_copied subject.entry) (S.setting.value_of text.now)).0) }
     ensures fit { IfOk result (λ decision. (g : Registry) → ChangesFit decision.changes.items g) }
+    ensures adds { IfOk result (λ decision. AddNone decision.changes.items) }
     ensures refusal { IfOk result (λ decision. decision.reply.status ≢ 200 → decision.changes.items ≡ []) }
 {
     let Some(value) = S::read(text) else {

@@ -43,6 +43,10 @@ pub returns-in-NoOwnLevel : goal.returns-in-NoOwnLevel
 unfolding fault_body digits
 returns-in-NoOwnLevel c = search rules
 
+pub returns-in-NoOwnMode : goal.returns-in-NoOwnMode
+unfolding fault_body digits
+returns-in-NoOwnMode c = search rules
+
 pub returns-in-MethodNotAllowed : goal.returns-in-MethodNotAllowed
 unfolding fault_body digits
 returns-in-MethodNotAllowed c = search rules

@@ -7,7 +7,7 @@ use Rattle.std.proofs.lemmas.List.Folds.{list_all_at, list_all_more}
 use Rattle.avro_nodes.specs.Nodes.{nodes_view}
 use Rattle.reg_core.specs.Registry.{Row}
 use Rattle.reg_core.specs.Inside.Comparisons.{is_read_compatible}
-use Rattle.reg_core.proofs.RegisterLemmas.{admitted_named}
+use Rattle.reg_core.proofs.VersionVerdicts.{admitted_named}
 use Rattle.reg_core.proofs.decision.comparing.admits_after.Goals as goal
 
 pub returns-then-not-branch : goal.returns-then-not-branch

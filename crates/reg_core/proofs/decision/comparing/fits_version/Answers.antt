@@ -9,7 +9,7 @@ use Rattle.schema_memory.specs.Answers.{schema_in}
 use Rattle.reg_core.specs.Views.{text_in}
 use Rattle.reg_core.specs.Verdicts.{is_compatible}
 use Rattle.reg_core.proofs.VerdictLemmas.{compatible_decides}
-use Rattle.reg_core.proofs.RegisterLemmas.{read_compatible}
+use Rattle.reg_core.proofs.VersionVerdicts.{read_compatible}
 use Rattle.reg_core.proofs.decision.comparing.fits_version.Goals as goal
 
 pub returns-in-Some-2 : goal.returns-in-Some-2

@@ -1,17 +1,17 @@
-use Rattle.std.proofs.Common.{◌≡◌, ◌∙◌, ◌∷◌, ◌++◌, [], List, ℕ, Bool, true, false, map, sym, ap, subst}
+use Rattle.std.proofs.Common.{◌≡◌, ◌∙◌, ◌++◌, List, ℕ, Bool, true, false, map, sym, ap, subst}
 use Rattle.std.specs.Prelude.{None, Some}
 use Rattle.std.specs.Borrow.{Bor}
 use Rattle.std.proofs.lemmas.Result.{IfOk-weaker}
 use Rattle.std.proofs.lemmas.Simd.{map-map}
 use Rattle.reg_core.specs.declared.decision.Change.{Change}
-use Rattle.reg_core.specs.declared.decision.Change.TheVariants.{DropLevel}
-use Rattle.reg_core.specs.Inside.Deleting.{subject_refusal, version_change}
+use Rattle.reg_core.specs.Inside.Deleting.{own_dropped, subject_refusal, version_change}
+use Rattle.reg_core.specs.Inside.Evidence.{AddNone}
 use Rattle.reg_core.specs.DeletionCommands.{numbers_reply}
 use Rattle.reg_core.specs.Registry.{Registry, Row}
 use Rattle.reg_core.specs.Replies.{Told, IsOwnReply}
 use Rattle.reg_core.specs.Rows.{live_rows, shown_rows}
 use Rattle.reg_core.specs.Views.{after_changes, ChangesFit}
-use Rattle.reg_core.proofs.DeletionChanges.{changes_of, changes_of-fit}
+use Rattle.reg_core.proofs.DeletionChanges.{changes_of, changes_of-fit, changes_of-add_none}
 use Rattle.reg_core.proofs.DeletionSteps.{subject_refused, subject_gone, subject_removed, all_shown}
 use Rattle.reg_core.proofs.OwnReplies.{subject_refusal-fault}
 use Rattle.reg_core.proofs.decision.deleting.delete_subject.Goals as goal
@@ -24,9 +24,9 @@ in_view : {X : Type 0} (found : X) (test : List Row → List Row → X) (all row
 in_view found test all rows live are alive is = is ∙ (ap (λ (rs : List Row). test rs live) (are ∙ all_shown all) ∙ ap (test all) alive)
 
 changes_seen : (permanent : Bool) (subject : List ℕ) (seen : List (Bor Row)) (rows : List Row) → now seen ≡ rows
-    → map (λ (row : Bor Row). version_change permanent subject row.now.0.1) seen ++ DropLevel subject ∷ [] ≡ changes_of permanent subject rows ++ DropLevel subject ∷ []
+    → map (λ (row : Bor Row). version_change permanent subject row.now.0.1) seen ++ own_dropped permanent subject ≡ changes_of permanent subject rows ++ own_dropped permanent subject
 changes_seen permanent subject seen rows are =
-    ap (λ (changes : List Change). changes ++ DropLevel subject ∷ [])
+    ap (λ (changes : List Change). changes ++ own_dropped permanent subject)
     (sym (map-map (λ (row : Row). version_change permanent subject row.0.1) (λ (row : Bor Row). row.now) seen) ∙ ap (changes_of permanent subject) are)
 
 pub returns-in-Some-clause-reply : goal.returns-in-Some-clause-reply
@@ -111,4 +111,16 @@ pub returns-clause-fit : goal.returns-clause-fit
 returns-clause-fit c =
     IfOk-weaker c.all_deleted-else-permanent.result _ _
     (λ decision h g. subst (λ (changes : List Change). ChangesFit changes g) (sym (h ∙ changes_seen false c.args.subject.now c.deref-else-permanent.result.now _ (λ i. now c.deref-else-permanent.result.now))) (changes_of-fit false c.args.subject.now (now c.deref-else-permanent.result.now) g))
+    c.all_deleted-else-permanent.ensures.changes
+
+pub returns-then-permanent-clause-adds : goal.returns-then-permanent-clause-adds
+returns-then-permanent-clause-adds c =
+    IfOk-weaker c.all_deleted.result _ _
+    (λ decision h. subst AddNone (sym (h ∙ changes_seen true c.args.subject.now c.deref-then-permanent.result.now _ (λ i. now c.deref-then-permanent.result.now))) (changes_of-add_none true c.args.subject.now (now c.deref-then-permanent.result.now)))
+    c.all_deleted.ensures.changes
+
+pub returns-clause-adds : goal.returns-clause-adds
+returns-clause-adds c =
+    IfOk-weaker c.all_deleted-else-permanent.result _ _
+    (λ decision h. subst AddNone (sym (h ∙ changes_seen false c.args.subject.now c.deref-else-permanent.result.now _ (λ i. now c.deref-else-permanent.result.now))) (changes_of-add_none false c.args.subject.now (now c.deref-else-permanent.result.now)))
     c.all_deleted-else-permanent.ensures.changes

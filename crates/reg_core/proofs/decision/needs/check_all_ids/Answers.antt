@@ -4,7 +4,7 @@ use Rattle.std.proofs.lemmas.Result.{IfOk-weaker}
 use Rattle.reg_core.specs.Registry.{Row}
 use Rattle.reg_core.specs.Rows.{live_rows}
 use Rattle.reg_core.specs.Views.{level_of_view}
-use Rattle.reg_core.proofs.RegisterLemmas.{named_ids}
+use Rattle.reg_core.proofs.VersionVerdicts.{named_ids}
 use Rattle.reg_core.proofs.decision.needs.check_all_ids.Goals as goal
 
 pub returns : goal.returns

@@ -8,7 +8,7 @@ use Rattle.reg_core.specs.Rows.{live_rows}
 use Rattle.reg_core.specs.Views.{level_of_view, row_found}
 use Rattle.reg_core.specs.ReadCommands.{found_row}
 use Rattle.reg_core.specs.Numbers.{choice_in}
-use Rattle.reg_core.proofs.RegisterLemmas.{named_ids}
+use Rattle.reg_core.proofs.VersionVerdicts.{named_ids}
 use Rattle.reg_core.proofs.decision.needs.check_ids.Goals as goal
 
 pub returns-in-Ok : goal.returns-in-Ok

@@ -7,7 +7,8 @@ use Rattle.reg_core.specs.Rows.{live_rows}
 use Rattle.reg_core.specs.Views.{level_of_view}
 use Rattle.reg_core.specs.Compatibility.{named_versions}
 use Rattle.reg_core.specs.Inside.Registering.{id_among}
-use Rattle.reg_core.proofs.RegisterLemmas.{named_ids, not_told}
+use Rattle.reg_core.proofs.RegisterLemmas.{not_told}
+use Rattle.reg_core.proofs.VersionVerdicts.{named_ids}
 use Rattle.std.specs.Prelude.{is_some}
 use Rattle.reg_core.specs.RegisterCommands.{is_among}
 use Rattle.reg_core.proofs.decision.needs.register_ids.Goals as goal

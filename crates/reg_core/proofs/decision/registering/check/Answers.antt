@@ -11,7 +11,7 @@ use Rattle.reg_core.specs.Numbers.{choice_in}
 use Rattle.reg_core.specs.ReadCommands.{found_row}
 use Rattle.reg_core.proofs.OwnReplies.{invalid_schema-IsOwnReply, invalid_version-IsOwnReply, HasOwnFault, found_row-fault}
 use Rattle.reg_core.proofs.CheckLemmas.{check_no_choice, check_none, check_fault, check_shown}
-use Rattle.reg_core.proofs.RegisterLemmas.{verdict_of}
+use Rattle.reg_core.proofs.VersionVerdicts.{verdict_of}
 use Rattle.reg_core.proofs.decision.registering.check.Goals as goal
 
 pub returns-in_default-clause-reply : goal.returns-in_default-clause-reply

@@ -9,7 +9,7 @@ use Rattle.reg_core.specs.Rows.{live_rows}
 use Rattle.std.specs.Borrow.{Bor}
 use Rattle.reg_core.proofs.OwnReplies.{invalid_schema-IsOwnReply}
 use Rattle.reg_core.proofs.CheckLemmas.{check_all_none, check_all_shown}
-use Rattle.reg_core.proofs.RegisterLemmas.{verdict_of}
+use Rattle.reg_core.proofs.VersionVerdicts.{verdict_of}
 use Rattle.reg_core.proofs.decision.registering.check_all.Goals as goal
 
 pub returns-in_default-clause-reply : goal.returns-in_default-clause-reply

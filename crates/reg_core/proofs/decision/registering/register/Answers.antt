@@ -3,14 +3,17 @@ use Rattle.std.specs.Prelude.{option_map, option_copied}
 use Rattle.avro_nodes.specs.Nodes.{nodes_view}
 use Rattle.reg_core.specs.Replies.{Told, IsOwnReply, answer}
 use Rattle.reg_core.specs.Bodies.{id_body}
+use Rattle.reg_core.specs.Evidence.{Evidence}
+use Rattle.reg_core.specs.Inside.Evidence.{TellEvidence}
 use Rattle.reg_core.specs.Registry.{Registry, Row}
 use Rattle.reg_core.specs.Rows.{live_rows}
 use Rattle.std.specs.Borrow.{Bor}
-use Rattle.reg_core.specs.Inside.Registering.{id_among, id_shown, has_numbers_shown, row_shown, version_added}
+use Rattle.reg_core.specs.Inside.Registering.{id_among, id_shown, has_numbers_shown, row_shown, evidence_shown, version_added}
 use Rattle.reg_core.specs.Views.{after_changes, ChangesFit}
 use Rattle.reg_core.specs.declared.decision.Change.{Change}
 use Rattle.reg_core.proofs.OwnReplies.{invalid_schema-IsOwnReply, no_number_left-IsOwnReply}
-use Rattle.reg_core.proofs.RegisterLemmas.{register_none, register_known, register_refused, register_full, register_added, added_changes, added_fit, not_among, no_row, some_row, verdict_of}
+use Rattle.reg_core.proofs.RegisterLemmas.{register_none, register_known, register_refused, register_full, register_added, added_changes, added_fit, added_evidence, not_among, no_row, some_row}
+use Rattle.reg_core.proofs.VersionVerdicts.{verdict_of}
 use Rattle.reg_core.proofs.decision.registering.register.Goals as goal
 
 pub returns-in_default-clause-reply : goal.returns-in_default-clause-reply
@@ -139,7 +142,9 @@ returns-clause-changes c =
     let unknown = not_among view.known (live_rows view.rows.items) (sym c.in_default-id_among.is ∙ (c.id_among.ensures ∙ ap (id_among view.known) live)) in
     let admitted = verdict_of view new c.level_in_force.result (map (λ (row : Bor Row). row.now) c.deref-3.result.now) (live_rows view.rows.items) c.level_in_force.ensures again true (sym c.if-not-branch.false ∙ c.in_ok-admits_after.ensures) in
     let left = some_row (has_numbers_shown view) (row_shown view c.args.subject.now) c.in-Some-2.row (sym c.in-Some-2.is ∙ c.in_ok-row.ensures) in
-    let changes = c.in_ok-changes.ensures ∙ ap (λ (row : Row). version_added view.known row new) left.1 in
+    let alive : map (λ (row : Bor Row). row.now) c.deref-4.result.now ≡ live_rows view.rows.items = ap (map (λ (row : Bor Row). row.now)) c.deref-4.ensures.value ∙ shown in
+    let evidence = c.in_ok-evidence.ensures ∙ ap (evidence_shown view) alive in
+    let changes = c.in_ok-changes.ensures ∙ (ap (λ (row : Row). version_added view.known row c.in_ok-evidence.evidence new) left.1 ∙ ap (λ (e : Evidence). version_added view.known (row_shown view c.args.subject.now) e new) evidence) in
     λ g text supported ground.
     ap (λ (items : List Change). after_changes items g) changes ∙ (added_changes g c.args.subject.now text supported view _ ground new some unknown admitted
     ∙ ap (λ (s : Registry × Told). s.0) (sym (register_added g c.args.subject.now text supported view _ ground new some unknown admitted left.0)))
@@ -155,6 +160,25 @@ returns-clause-fit c =
     let unknown = not_among view.known (live_rows view.rows.items) (sym c.in_default-id_among.is ∙ (c.id_among.ensures ∙ ap (id_among view.known) live)) in
     let admitted = verdict_of view new c.level_in_force.result (map (λ (row : Bor Row). row.now) c.deref-3.result.now) (live_rows view.rows.items) c.level_in_force.ensures again true (sym c.if-not-branch.false ∙ c.in_ok-admits_after.ensures) in
     let left = some_row (has_numbers_shown view) (row_shown view c.args.subject.now) c.in-Some-2.row (sym c.in-Some-2.is ∙ c.in_ok-row.ensures) in
-    let changes = c.in_ok-changes.ensures ∙ ap (λ (row : Row). version_added view.known row new) left.1 in
+    let alive : map (λ (row : Bor Row). row.now) c.deref-4.result.now ≡ live_rows view.rows.items = ap (map (λ (row : Bor Row). row.now)) c.deref-4.ensures.value ∙ shown in
+    let evidence = c.in_ok-evidence.ensures ∙ ap (evidence_shown view) alive in
+    let changes = c.in_ok-changes.ensures ∙ (ap (λ (row : Row). version_added view.known row c.in_ok-evidence.evidence new) left.1 ∙ ap (λ (e : Evidence). version_added view.known (row_shown view c.args.subject.now) e new) evidence) in
     λ g text supported ground.
     subst (λ (items : List Change). ChangesFit items g) (sym changes) (added_fit g c.args.subject.now text supported view _ ground new some unknown admitted left.0)
+
+pub returns-clause-evidence : goal.returns-clause-evidence
+returns-clause-evidence c =
+    let view = c.args.view.now in
+    let new = nodes_view c.in-Some.new.now in
+    let some : option_map nodes_view (option_copied c.args.schema) ≡ Some new = rw c.in-Some.is refl in
+    let shown = c.in_ok-live.ensures ∙ ap live_rows c.deref.ensures.value in
+    let live : map (λ (row : Bor Row). row.now) c.deref-2.result.now ≡ live_rows view.rows.items = ap (map (λ (row : Bor Row). row.now)) c.deref-2.ensures.value ∙ shown in
+    let again : map (λ (row : Bor Row). row.now) c.deref-3.result.now ≡ live_rows view.rows.items = ap (map (λ (row : Bor Row). row.now)) c.deref-3.ensures.value ∙ shown in
+    let unknown = not_among view.known (live_rows view.rows.items) (sym c.in_default-id_among.is ∙ (c.id_among.ensures ∙ ap (id_among view.known) live)) in
+    let admitted = verdict_of view new c.level_in_force.result (map (λ (row : Bor Row). row.now) c.deref-3.result.now) (live_rows view.rows.items) c.level_in_force.ensures again true (sym c.if-not-branch.false ∙ c.in_ok-admits_after.ensures) in
+    let left = some_row (has_numbers_shown view) (row_shown view c.args.subject.now) c.in-Some-2.row (sym c.in-Some-2.is ∙ c.in_ok-row.ensures) in
+    let alive : map (λ (row : Bor Row). row.now) c.deref-4.result.now ≡ live_rows view.rows.items = ap (map (λ (row : Bor Row). row.now)) c.deref-4.ensures.value ∙ shown in
+    let evidence = c.in_ok-evidence.ensures ∙ ap (evidence_shown view) alive in
+    let changes = c.in_ok-changes.ensures ∙ (ap (λ (row : Row). version_added view.known row c.in_ok-evidence.evidence new) left.1 ∙ ap (λ (e : Evidence). version_added view.known (row_shown view c.args.subject.now) e new) evidence) in
+    λ g text supported ground.
+    subst (λ (items : List Change). TellEvidence items g) (sym changes) (added_evidence g c.args.subject.now text supported view _ ground new some unknown admitted)

@@ -4,11 +4,11 @@ use Rattle.serde_json.specs.View.{view}
 use Rattle.serde_json.specs.declared.value.Value.{the_lemmas}
 use Rattle.serde_json.proofs.OnLiterals.{serde_json_on_literals}
 use Rattle.reg_core.specs.CommandTexts.{command_text}
-use Rattle.reg_core.proofs.command.register_text.Goals as goal
+use Rattle.reg_core.proofs.print.delete_version_text.Goals as goal
 
 pub returns : goal.returns
 unfolding serde_json_on_literals command_text
 returns c =
-    let built : view c.in_ok-array.array ≡ array (item (string (codes "register")) (item (string c.args.subject.now) (item (string c.args.text.now) (item (boolean c.args.supported) no_items)))) =
+    let built : view c.in_ok-array.array ≡ array (item (string (codes "delete-version")) (item (string c.args.subject.now) (item (string c.args.version.now) (item (boolean c.args.permanent) no_items)))) =
     search (rules, the_lemmas) in
     search rules
