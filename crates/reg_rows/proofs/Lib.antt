@@ -1,1 +1,3 @@
 pub mod EachRow
+pub mod LastTests
+pub mod PlaceLemmas

@@ -1,17 +1,19 @@
--- Which rows of the five tables hold a registry, and what is kept beside it (this project's choice, but where a public
+-- Which rows of the tables hold a registry, and what is kept beside it (this project's choice, but where a public
 -- document is named). That no key of a table stands twice, and that each id is that of a text, is the tables' own matter.
-use Rattle.std.specs.Prelude.{◌≡◌, ℕ, ◌+◌, ◌<◌, ◌≤◌, ◌==◌, ◌&&◌, Bool, false, not, IsTrue, List, [], ◌∷◌, length, slice_index, nat_lt, nat_le, codes, map, bytes_eq, if◌then◌else◌, Option, None, Some, is_some, option_and_then, String, string_bytes, ⊤}
+use Rattle.std.specs.Prelude.{◌≡◌, ◌⊎◌, ℕ, ◌+◌, ◌<◌, ◌≤◌, Bool, IsTrue, List, [], ◌∷◌, length, map, is_some, String, string_bytes, ⊤}
 use Rattle.std.specs.declared.alloc.Global.{Global}
-use Rattle.std.specs.List.{AllByRecursion, list_any, list_all}
+use Rattle.std.specs.List.{AllByRecursion}
 use Rattle.avro_nodes.specs.Nodes.{NodeView}
 use Rattle.avro_nodes.specs.Identity.{identity}
 use Rattle.avro_schema.specs.Texts.{IsSchema}
 use Rattle.reg_core.specs.Keys.{IsKey}
 use Rattle.reg_core.specs.Levels.{level_of}
+use Rattle.reg_core.specs.Modes.{mode_of}
 use Rattle.reg_core.specs.Replies.{IsKeptStatus}
-use Rattle.reg_core.specs.Numbers.{number_up_to}
-use Rattle.reg_core.specs.Registry.{max_number}
+use Rattle.reg_core.specs.Registry.{RowKey, max_number}
 use Rattle.reg_core.specs.Subjects.{is_subject}
+use Rattle.reg_rows.specs.Meta.{Pair, is_meta, is_second_meta}
+use Rattle.reg_rows.specs.Places.{Place, ArePositions, HaveEvidence}
 use Rattle.reg_rows.specs.declared.tables.Tables.{Tables}
 
 -- a text, as a row has it
@@ -70,50 +72,37 @@ pub record FitsKept (name : List ℕ) (number : ℕ) : Type 0 where
 abbrev pub IsKeptRow : Text × Text × ℕ × Text → Type 0
 IsKeptRow row = FitsKept (string_bytes row.0) row.2
 
--- ---- what the database is
+-- ---- modes
 
--- a name and its value
-abbrev pub Pair : Type 0
-Pair = List ℕ × List ℕ
+-- Schema Registry API reference, Mode: a subject, and how one of the two modes is spelt
+pub record FitsModes (name text : List ℕ) : Type 0 where
+  pub subject : IsTrue (is_subject name)
+  pub mode : IsTrue (is_some (mode_of text))
+
+abbrev pub IsModeRow : Text × Text → Type 0
+IsModeRow row = FitsModes (string_bytes row.0) (string_bytes row.1)
+
+-- ---- evidence, and the ids that a version was tested against
+
+-- how one of the seven levels is spelt; that the version is there is the table's own matter
+abbrev pub FitsEvidence : List ℕ → Type 0
+FitsEvidence text = IsTrue (is_some (level_of text))
+
+abbrev pub IsEvidenceRow : Text × ℕ × Text → Type 0
+IsEvidenceRow row = FitsEvidence (string_bytes row.2)
+
+abbrev pub version_of : Text × ℕ × Text → RowKey
+version_of row = (string_bytes row.0, row.1)
+
+abbrev pub place_of : Text × ℕ × ℕ × ℕ → Place
+place_of row = ((string_bytes row.0, row.1), row.2)
+
+-- ---- what the database is
 
 abbrev pub pair_of : Text × Text → Pair
 pair_of row = (string_bytes row.0, string_bytes row.1)
 
--- the value of the first row of the name
-abbrev pub value_at : List ℕ → List Pair → Option (List ℕ)
-value_at name [] = None
-value_at name (row ∷ rows) = if bytes_eq row.0 name then Some row.1 else value_at name rows
-
-abbrev pub names : List (List ℕ)
-names = codes "format" ∷ codes "layout" ∷ codes "global" ∷ []
-
-abbrev pub is_name : List ℕ → Bool
-is_name name = list_any (bytes_eq name) names
-
-abbrev pub names_known : List Pair → Bool
-names_known rows = list_all (λ row. is_name row.0) rows
-
-abbrev pub has_value : List ℕ → Option (List ℕ) → Bool
-has_value text None = false
-has_value text (Some value) = bytes_eq value text
-
-abbrev pub has_level : Option (List ℕ) → Bool
-has_level None = false
-has_level (Some value) = is_some (level_of value)
-
--- a number from 1 to 999,999,999 in decimal digits without a leading zero
-abbrev pub number_in : List ℕ → Option ℕ
-number_in text = number_up_to 999999999 text
-
--- the number of the layout that the rows name beside this format, if they name one
-abbrev pub layout_in : List Pair → Option ℕ
-layout_in rows = if has_value (codes "avroreg") (value_at (codes "format") rows) then option_and_then number_in (value_at (codes "layout") rows) else None
-
--- the format, the layout's number and the global level, and no other row
-abbrev pub is_meta : List Pair → Bool
-is_meta rows = has_value (codes "avroreg") (value_at (codes "format") rows) && has_value (codes "1") (value_at (codes "layout") rows) && has_level (value_at (codes "global") rows) && names_known rows
-
--- ---- all five
+-- ---- all of them
 
 -- The rows of each table, in any order, but those of `texts` in the order of their ids.
 pub record Rows : Type 0 where
@@ -122,14 +111,44 @@ pub record Rows : Type 0 where
   pub levels : List (Text × Text)
   pub kept : List (Text × Text × ℕ × Text)
   pub meta : List (Text × Text)
+  pub modes : List (Text × Text)
+  pub evidence : List (Text × ℕ × Text)
+  pub against : List (Text × ℕ × ℕ × ℕ)
 
 abbrev pub rows_in : Tables → Rows
-rows_in t = record { texts = t.texts.items; versions = t.versions.items; levels = t.levels.items; kept = t.kept.items; meta = t.meta.items }
+rows_in t = record {
+  texts = t.texts.items;
+  versions = t.versions.items;
+  levels = t.levels.items;
+  kept = t.kept.items;
+  meta = t.meta.items;
+  modes = t.modes.items;
+  evidence = t.evidence.items;
+  against = t.against.items;
+}
 
--- the rows hold a registry of layout 1, and what is kept beside it
-pub record IsSpelling (rows : Rows) : Type 0 where
+-- what is the same in both layouts
+pub record FitsBase (rows : Rows) : Type 0 where
   pub texts : AreTexts rows.texts
   pub versions : AllByRecursion IsVersionRow rows.versions
   pub levels : AllByRecursion IsLevelRow rows.levels
   pub kept : AllByRecursion IsKeptRow rows.kept
+
+-- layout 1 has no modes and no evidence
+pub record FitsFirst (rows : Rows) : Type 0 where
   pub meta : IsTrue (is_meta (map pair_of rows.meta))
+  pub modes : rows.modes ≡ []
+  pub evidence : rows.evidence ≡ []
+  pub against : rows.against ≡ []
+
+pub record FitsSecond (rows : Rows) : Type 0 where
+  pub meta : IsTrue (is_second_meta (map pair_of rows.meta))
+  pub modes : AllByRecursion IsModeRow rows.modes
+  pub evidence : AllByRecursion IsEvidenceRow rows.evidence
+  pub tested : HaveEvidence (map version_of rows.evidence) (map place_of rows.against)
+  pub positions : ArePositions (map place_of rows.against)
+
+-- the rows hold a registry of layout 1 or of layout 2, and what is kept beside it
+pub record IsSpelling (rows : Rows) : Type 0 where
+  pub base : FitsBase rows
+  pub layout : FitsFirst rows ⊎ FitsSecond rows

@@ -4,12 +4,14 @@
 #![tactic(auto)]
 
 mod meta;
+mod places;
 mod rows;
 mod tables;
 mod texts;
 
-pub use meta::{is_meta, layout_of};
+pub use meta::{is_meta, is_second_meta, layout_of};
+pub use places::{are_positions, have_evidence};
 pub use reg_core::OutOfMemory;
-pub use rows::{fits_kept, fits_levels, fits_versions};
+pub use rows::{fits_evidence, fits_kept, fits_levels, fits_modes, fits_versions};
 pub use tables::{Tables, spells};
 pub use texts::{are_ids, are_texts, is_identity};

@@ -1,9 +1,10 @@
 //! The rows of `meta`, which say what the database is.
 
 ghost use Rattle.std.specs.Prelude.{IsTrue, ◌↔◌, ◌≡◌, map, option_map, string_bytes};
-ghost use Rattle.reg_rows.specs.Spelling.{pair_of, value_at, is_name, names_known, layout_in, is_meta};
+ghost use Rattle.reg_rows.specs.Meta.{value_at, names, second_names, is_name, names_known, layout_in, has_common, is_meta, is_second_meta};
+ghost use Rattle.reg_rows.specs.Spelling.{pair_of};
 
-use reg_core::{Level, number_up_to};
+use reg_core::{Level, Mode, number_up_to};
 
 /// The value of the first row of this name.
 fn value_of<'a>(rows: &'a [(String, String)], name: &str) -> Option<&'a str>
@@ -32,14 +33,20 @@ pub fn layout_of(rows: &[(String, String)]) -> Option<u32>
 }
 
 fn is_name(name: &str) -> bool
-    ensures { result ≡ is_name name.now }
+    ensures { result ≡ is_name names name.now }
 {
     name == "format" || name == "layout" || name == "global"
 }
 
-/// Whether each row has a name that `meta` knows.
+fn is_second_name(name: &str) -> bool
+    ensures { result ≡ is_name second_names name.now }
+{
+    name == "mode" || is_name(name)
+}
+
+/// Whether each row has a name that `meta` knows in layout 1.
 fn names_known(rows: &[(String, String)]) -> bool
-    ensures { result ≡ names_known (map pair_of rows.now) }
+    ensures { result ≡ names_known names (map pair_of rows.now) }
 {
     for row in rows {
         if !is_name(row.0.as_str()) {
@@ -49,15 +56,44 @@ fn names_known(rows: &[(String, String)]) -> bool
     true
 }
 
-/// Whether these are the rows of layout 1: its format, its number and a global level, and no other.
-pub fn is_meta(rows: &[(String, String)]) -> bool
-    ensures { result ≡ is_meta (map pair_of rows.now) }
+/// Whether each row has a name that `meta` knows in layout 2.
+fn second_names_known(rows: &[(String, String)]) -> bool
+    ensures { result ≡ names_known second_names (map pair_of rows.now) }
+{
+    for row in rows {
+        if !is_second_name(row.0.as_str()) {
+            return false;
+        }
+    }
+    true
+}
+
+/// Whether the rows have the format, this number of the layout, and a global level.
+fn has_common(rows: &[(String, String)], number: &str) -> bool
+    ensures { result ≡ has_common number.now (map pair_of rows.now) }
 {
     let Some(global) = value_of(rows, "global") else {
         return false;
     };
     value_of(rows, "format") == Some("avroreg")
-        && value_of(rows, "layout") == Some("1")
+        && value_of(rows, "layout") == Some(number)
         && Level::parse(global).is_some()
-        && names_known(rows)
+}
+
+/// Whether these are the rows of layout 1: its format, its number and a global level, and no other.
+pub fn is_meta(rows: &[(String, String)]) -> bool
+    ensures { result ≡ is_meta (map pair_of rows.now) }
+{
+    has_common(rows, "1") && names_known(rows)
+}
+
+/// Whether these are the rows of layout 2: its format, its number, a global level and a global
+/// mode, and no other.
+pub fn is_second_meta(rows: &[(String, String)]) -> bool
+    ensures { result ≡ is_second_meta (map pair_of rows.now) }
+{
+    let Some(mode) = value_of(rows, "mode") else {
+        return false;
+    };
+    has_common(rows, "2") && Mode::parse(mode).is_some() && second_names_known(rows)
 }

@@ -1,11 +1,11 @@
-//! The rows of `versions`, `levels` and `kept`.
+//! The rows of `versions`, `levels`, `kept`, `modes` and `evidence`.
 
 ghost use Rattle.std.specs.Prelude.{IsTrue, ◌↔◌, ◌≡◌};
 ghost use Rattle.std.specs.List.{AllByRecursion};
 ghost use Rattle.reg_core.specs.Replies.{IsKeptStatus};
-ghost use Rattle.reg_rows.specs.Spelling.{FitsVersions, FitsLevels, FitsKept, IsVersionRow, IsLevelRow, IsKeptRow};
+ghost use Rattle.reg_rows.specs.Spelling.{FitsVersions, FitsLevels, FitsKept, FitsModes, FitsEvidence, IsVersionRow, IsLevelRow, IsKeptRow, IsModeRow, IsEvidenceRow};
 
-use reg_core::{Key, Level, MAX_NUMBER, is_subject};
+use reg_core::{Key, Level, MAX_NUMBER, Mode, is_subject};
 
 /// Whether a row of `versions` may be known by these two: a subject, and a number from 1 to
 /// 2,147,483,647.
@@ -88,6 +88,56 @@ pub(crate) fn are_kept_rows(rows: &[(String, String, u32, String)]) -> bool
 {
     for row in rows {
         if !is_kept_row(row) {
+            return false;
+        }
+    }
+    true
+}
+
+/// Whether a row of `modes` may be these two: a subject, and the text of one of the two modes.
+pub fn fits_modes(subject: &str, mode: &str) -> bool
+    ensures { IsTrue result ↔ FitsModes subject.now mode.now }
+{
+    is_subject(subject) && Mode::parse(mode).is_some()
+}
+
+fn is_mode_row(row: &(String, String)) -> bool
+    ensures { IsTrue result ↔ IsModeRow row.now }
+{
+    fits_modes(row.0.as_str(), row.1.as_str())
+}
+
+/// Whether each row of `modes` has a subject and a mode.
+pub(crate) fn are_mode_rows(rows: &[(String, String)]) -> bool
+    ensures { IsTrue result ↔ AllByRecursion IsModeRow rows.now }
+{
+    for row in rows {
+        if !is_mode_row(row) {
+            return false;
+        }
+    }
+    true
+}
+
+/// Whether a row of `evidence` may have this level: the text of one of the seven.
+pub fn fits_evidence(level: &str) -> bool
+    ensures { IsTrue result ↔ FitsEvidence level.now }
+{
+    Level::parse(level).is_some()
+}
+
+fn is_evidence_row(row: &(String, u32, String)) -> bool
+    ensures { IsTrue result ↔ IsEvidenceRow row.now }
+{
+    fits_evidence(row.2.as_str())
+}
+
+/// Whether each row of `evidence` has a level.
+pub(crate) fn are_evidence_rows(rows: &[(String, u32, String)]) -> bool
+    ensures { IsTrue result ↔ AllByRecursion IsEvidenceRow rows.now }
+{
+    for row in rows {
+        if !is_evidence_row(row) {
             return false;
         }
     }

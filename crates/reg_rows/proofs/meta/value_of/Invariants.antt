@@ -1,5 +1,6 @@
 use Rattle.std.proofs.Common.{◌≡◌, drop, map}
-use Rattle.reg_rows.specs.Spelling.{pair_of, value_at}
+use Rattle.reg_rows.specs.Meta.{value_at}
+use Rattle.reg_rows.specs.Spelling.{pair_of}
 use Rattle.reg_rows.proofs.meta.value_of.Given as goal
 
 abbrev pub invariant-loop-row : goal.invariant-loop-row

@@ -1,0 +1,61 @@
+-- What the rows of `meta` say of the database (this project's choice).
+use Rattle.std.specs.Prelude.{ℕ, ◌&&◌, Bool, false, List, [], ◌∷◌, codes, bytes_eq, if◌then◌else◌, Option, None, Some, is_some, option_and_then}
+use Rattle.std.specs.List.{list_any, list_all}
+use Rattle.reg_core.specs.Levels.{level_of}
+use Rattle.reg_core.specs.Modes.{mode_of}
+use Rattle.reg_core.specs.Numbers.{number_up_to}
+
+-- a name and its value
+abbrev pub Pair : Type 0
+Pair = List ℕ × List ℕ
+
+-- the value of the first row of the name
+abbrev pub value_at : List ℕ → List Pair → Option (List ℕ)
+value_at name [] = None
+value_at name (row ∷ rows) = if bytes_eq row.0 name then Some row.1 else value_at name rows
+
+-- the names of the rows in layout 1
+abbrev pub names : List (List ℕ)
+names = codes "format" ∷ codes "layout" ∷ codes "global" ∷ []
+
+-- and in layout 2
+abbrev pub second_names : List (List ℕ)
+second_names = codes "format" ∷ codes "layout" ∷ codes "global" ∷ codes "mode" ∷ []
+
+abbrev pub is_name : List (List ℕ) → List ℕ → Bool
+is_name known name = list_any (bytes_eq name) known
+
+abbrev pub names_known : List (List ℕ) → List Pair → Bool
+names_known known rows = list_all (λ row. is_name known row.0) rows
+
+abbrev pub has_value : List ℕ → Option (List ℕ) → Bool
+has_value text None = false
+has_value text (Some value) = bytes_eq value text
+
+abbrev pub has_level : Option (List ℕ) → Bool
+has_level None = false
+has_level (Some value) = is_some (level_of value)
+
+abbrev pub has_mode : Option (List ℕ) → Bool
+has_mode None = false
+has_mode (Some value) = is_some (mode_of value)
+
+-- a number from 1 to 999,999,999 in decimal digits without a leading zero
+abbrev pub number_in : List ℕ → Option ℕ
+number_in text = number_up_to 999999999 text
+
+-- the number of the layout that the rows name beside this format, if they name one
+abbrev pub layout_in : List Pair → Option ℕ
+layout_in rows = if has_value (codes "avroreg") (value_at (codes "format") rows) then option_and_then number_in (value_at (codes "layout") rows) else None
+
+-- the format, this number of the layout, and a global level
+abbrev pub has_common : List ℕ → List Pair → Bool
+has_common number rows = has_value (codes "avroreg") (value_at (codes "format") rows) && has_value number (value_at (codes "layout") rows) && has_level (value_at (codes "global") rows)
+
+-- layout 1: these, and no other row
+abbrev pub is_meta : List Pair → Bool
+is_meta rows = has_common (codes "1") rows && names_known names rows
+
+-- layout 2: these and a global mode, and no other row
+abbrev pub is_second_meta : List Pair → Bool
+is_second_meta rows = has_common (codes "2") rows && has_mode (value_at (codes "mode") rows) && names_known second_names rows
