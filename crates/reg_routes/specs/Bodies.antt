@@ -1,4 +1,4 @@
--- The bodies of requests: JSON objects, and the members that are read (RFC 8259; Schema Registry API reference, Schemas and Config).
+-- The bodies of requests: JSON objects, and the members that are read (RFC 8259; Schema Registry API reference, Schemas, Config and Mode).
 use Rattle.std.specs.Prelude.{ℕ, Bool, true, false, ◌&&◌, List, codes, bytes_eq, Option, Some, None, option_map, option_and_then, if◌then◌else◌}
 use Rattle.std.specs.Str.{is_utf8}
 use Rattle.serde_json.specs.Data.{Data, null, string, array, Items, no_items, item}
@@ -14,9 +14,9 @@ json_in body = if is_utf8 body then read body else None
 abbrev pub string_at : List ℕ → Data → Option (List ℕ)
 string_at name value = option_and_then as_str (get name value)
 
--- the level that a body sends
-abbrev pub level_sent : List ℕ → Option (List ℕ)
-level_sent body = option_and_then (string_at (codes "compatibility")) (json_in body)
+-- the string that a body sends under a name
+abbrev pub string_sent : List ℕ → List ℕ → Option (List ℕ)
+string_sent name body = option_and_then (string_at name) (json_in body)
 
 -- a `schemaType` that is supported: none, null or Avro
 abbrev pub is_avro : Option Data → Bool

@@ -1,15 +1,15 @@
 -- The command that a path, a query and a body ask for, by the kind of command that its line and method name. None where a
 -- part of the path isn't UTF-8 or no subject, or the body isn't what such a command needs. The number of a part is that of
--- the slashes before it. (Schema Registry API reference, Subjects, Schemas, Config and Compatibility.)
+-- the slashes before it. (Schema Registry API reference, Subjects, Schemas, Config, Compatibility and Mode.)
 use Rattle.std.specs.Prelude.{ℕ, Bool, List, codes, Option, Some, option_map, option_and_then}
 use Rattle.reg_core.specs.declared.command.Command.{Command}
-use Rattle.reg_core.specs.declared.command.Command.TheVariants.{SetGlobal, SetLevel, Register, DeleteVersion, DeleteSubject, Global, LevelOf, Lookup, Subjects, Versions, Version, Text, ById, VersionsOfId, Types, Check, CheckAll}
+use Rattle.reg_core.specs.declared.command.Command.TheVariants.{SetGlobal, SetLevel, Register, DeleteVersion, DeleteSubject, Global, LevelOf, Lookup, Subjects, Versions, Version, Text, ById, VersionsOfId, Types, Check, CheckAll, SetGlobalMode, SetMode, GlobalMode, ModeOf}
 use Rattle.reg_routes.specs.declared.line.Asked.{Asked}
 use Rattle.reg_routes.specs.declared.line.Asked.TheVariants as asks
 use Rattle.reg_routes.specs.declared.command.Sent.{Sent}
 use Rattle.reg_routes.specs.Targets.{text_at, subject_at}
 use Rattle.reg_routes.specs.Queries.{is_on}
-use Rattle.reg_routes.specs.Bodies.{level_sent, schema_sent}
+use Rattle.reg_routes.specs.Bodies.{string_sent, schema_sent}
 
 -- with the subject of a part
 abbrev pub for_subject : ℕ → List ℕ → (List ℕ → Option Command) → Option Command
@@ -19,9 +19,17 @@ for_subject n path then = option_and_then then (subject_at n path)
 abbrev pub for_text : ℕ → List ℕ → (List ℕ → Option Command) → Option Command
 for_text n path then = option_and_then then (text_at n path)
 
+-- with the string under a name of a body
+abbrev pub for_string : List ℕ → List ℕ → (List ℕ → Command) → Option Command
+for_string name body then = option_map then (string_sent name body)
+
 -- with the level of a body
 abbrev pub for_level : List ℕ → (List ℕ → Command) → Option Command
-for_level body then = option_map then (level_sent body)
+for_level = for_string (codes "compatibility")
+
+-- with the mode of a body
+abbrev pub for_mode : List ℕ → (List ℕ → Command) → Option Command
+for_mode = for_string (codes "mode")
 
 -- with the schema of a body, and whether it is supported
 abbrev pub for_schema : List ℕ → (List ℕ → Bool → Command) → Option Command
@@ -59,6 +67,10 @@ command_sent asks.Types path query body = Some Types
 command_sent asks.Check path query body =
     for_subject 3 path (λ subject. for_text 5 path (λ version. for_schema body (Check subject version)))
 command_sent asks.CheckAll path query body = for_subject 3 path (λ subject. for_schema body (CheckAll subject))
+command_sent asks.SetGlobalMode path query body = for_mode body SetGlobalMode
+command_sent asks.SetMode path query body = for_subject 2 path (λ subject. for_mode body (SetMode subject))
+command_sent asks.GlobalMode path query body = Some GlobalMode
+command_sent asks.ModeOf path query body = for_subject 2 path (λ subject. Some (ModeOf subject (default_to_global query)))
 
 -- what a borrowed message sends
 abbrev pub command_in : Asked → Sent → Option Command

@@ -1,5 +1,5 @@
 -- The table of the API: its paths, their methods, and what each method asks for (Schema Registry API reference, Subjects,
--- Schemas, Config and Compatibility).
+-- Schemas, Config, Compatibility and Mode).
 use Rattle.std.specs.Prelude.{ℕ, List, [], ◌∷◌, ◌++◌, map, codes, bytes_eq, cond, Option, Some, None, option_map, Result, Ok, Err, if◌then◌else◌}
 use Rattle.std.specs.Str.{is_utf8}
 use Rattle.matchit.specs.Rows.{RowsOf}
@@ -26,7 +26,9 @@ with_path path value rows = with_read (parse_route path) value rows
 -- each path, and its line
 unfoldable pub paths : RowsOf (RouteOf Line)
 paths =
-    with_path (codes "/compatibility/subjects/{subject}/versions/{version}") line.CompatibilityOf
+    with_path (codes "/mode/{subject}") line.ModeOf
+    (with_path (codes "/mode") line.Mode
+    (with_path (codes "/compatibility/subjects/{subject}/versions/{version}") line.CompatibilityOf
     (with_path (codes "/compatibility/subjects/{subject}/versions") line.Compatibility
     (with_path (codes "/config/{subject}") line.ConfigOf
     (with_path (codes "/config") line.Config
@@ -37,7 +39,7 @@ paths =
     (with_path (codes "/subjects/{subject}/versions/{version}") line.Version
     (with_path (codes "/subjects/{subject}/versions") line.Versions
     (with_path (codes "/subjects/{subject}") line.Subject
-    (with_path (codes "/subjects") line.Subjects [])))))))))))
+    (with_path (codes "/subjects") line.Subjects [])))))))))))))
 
 -- the line that a path has, by matchit's look-up; one that isn't UTF-8 has none
 unfoldable pub line_of : List ℕ → Option Line
@@ -71,6 +73,8 @@ methods_of line.Config = (get, asks.Global) ∷ (put, asks.SetGlobal) ∷ []
 methods_of line.ConfigOf = (get, asks.LevelOf) ∷ (put, asks.SetLevel) ∷ []
 methods_of line.Compatibility = (post, asks.CheckAll) ∷ []
 methods_of line.CompatibilityOf = (post, asks.Check) ∷ []
+methods_of line.Mode = (get, asks.GlobalMode) ∷ (put, asks.SetGlobalMode) ∷ []
+methods_of line.ModeOf = (get, asks.ModeOf) ∷ (put, asks.SetMode) ∷ []
 
 -- what a method asks for; the case of its letters counts (RFC 9110, section 9.1)
 abbrev pub asked_among : List ℕ → List (List ℕ × Asked) → Option Asked

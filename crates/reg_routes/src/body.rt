@@ -1,10 +1,10 @@
-//! The members of a body that is a JSON object. (RFC 8259; Schema Registry API reference, Schemas and
-//! Config.)
+//! The members of a body that is a JSON object. (RFC 8259; Schema Registry API reference, Schemas,
+//! Config and Mode.)
 
-ghost use Rattle.std.specs.Prelude.{◌≡◌, IfOk, Some, codes, option_and_then, option_map};
-ghost use Rattle.serde_json.specs.Find.{as_str, get};
+ghost use Rattle.std.specs.Prelude.{◌≡◌, IfOk, Some, option_and_then, option_map};
+ghost use Rattle.serde_json.specs.Find.{as_str};
 ghost use Rattle.serde_json.specs.View.{view};
-ghost use Rattle.reg_routes.specs.Bodies.{has_no_references, is_avro, is_supported, json_in, level_sent, schema_sent};
+ghost use Rattle.reg_routes.specs.Bodies.{has_no_references, is_avro, is_supported, json_in, schema_sent, string_at, string_sent};
 
 use reg_core::{OutOfMemory, Text};
 use serde_json::Value;
@@ -43,12 +43,12 @@ fn text_in(value: Option<Value>) -> Option<Text>
     }
 }
 
-/// The string under `compatibility`, where the value is an object that has it.
-fn level_of(value: Value) -> Option<Text>
-    ensures { result ≡ option_and_then as_str (get (codes "compatibility") (view value)) }
+/// The string under this name, where the value is an object that has it.
+fn string_at(name: &str, value: Value) -> Option<Text>
+    ensures { result ≡ string_at name.now (view value) }
 {
     match value {
-        Value::Object(mut members) => text_in(members.remove("compatibility")),
+        Value::Object(mut members) => text_in(members.remove(name)),
         _ => None,
     }
 }
@@ -92,27 +92,16 @@ fn is_supported(value: &Value) -> bool
     is_avro(value.get("schemaType")) && has_no_references(value.get("references"))
 }
 
-/// The string under `schema`, where the value is an object that has it.
-fn text_of(value: Value) -> Option<Text>
-    ensures { result ≡ option_and_then as_str (get (codes "schema") (view value)) }
-{
-    match value {
-        Value::Object(mut members) => text_in(members.remove("schema")),
-        _ => None,
-    }
-}
-
-/// The level that a body sends: the string under `compatibility` of an object. None where there is
-/// none.
+/// The string that a body sends under this name, as an object. None where there is none.
 ///
 /// # Errors
 ///
 /// `OutOfMemory` where memory for the value is refused.
-pub fn level_sent(alloc: Global, body: &[u8]) -> Result<Option<Text>, OutOfMemory>
-    ensures { IfOk result (λ level. level ≡ level_sent body.now) }
+pub fn string_sent(alloc: Global, name: &str, body: &[u8]) -> Result<Option<Text>, OutOfMemory>
+    ensures { IfOk result (λ text. text ≡ string_sent name.now body.now) }
 {
     match json_in(alloc, body)? {
-        Some(value) => Ok(level_of(value)),
+        Some(value) => Ok(string_at(name, value)),
         None => Ok(None),
     }
 }
@@ -131,7 +120,7 @@ pub fn schema_sent(alloc: Global, body: &[u8]) -> Result<Option<SentSchema>, Out
         return Ok(None);
     };
     let supported = is_supported(&value);
-    match text_of(value) {
+    match string_at("schema", value) {
         Some(text) => Ok(Some(SentSchema { text, supported })),
         None => Ok(None),
     }

@@ -4,7 +4,7 @@ ghost use Rattle.std.specs.Prelude.{◌≡◌, IfOk};
 ghost use Rattle.reg_routes.specs.Commands.{command_in};
 ghost use Rattle.reg_routes.specs.declared.line.Asked.TheVariants as asks;
 
-use crate::body::{SentSchema, level_sent, schema_sent};
+use crate::body::{SentSchema, schema_sent, string_sent};
 use crate::line::Asked;
 use crate::target::Target;
 use reg_core::{Command, OutOfMemory};
@@ -21,7 +21,7 @@ impl<'a> Sent<'a> {
     fn set_global(&self, alloc: Global) -> Result<Option<Command>, OutOfMemory>
         ensures { IfOk result (λ command. command ≡ command_in asks.SetGlobal self.now) }
     {
-        let Some(level) = level_sent(alloc, self.body)? else {
+        let Some(level) = string_sent(alloc, "compatibility", self.body)? else {
             return Ok(None);
         };
         Ok(Some(Command::SetGlobal { level }))
@@ -33,7 +33,7 @@ impl<'a> Sent<'a> {
         let Some(subject) = self.target.subject_at(alloc, 2)? else {
             return Ok(None);
         };
-        let Some(level) = level_sent(alloc, self.body)? else {
+        let Some(level) = string_sent(alloc, "compatibility", self.body)? else {
             return Ok(None);
         };
         Ok(Some(Command::SetLevel { subject, level }))
@@ -219,6 +219,40 @@ impl<'a> Sent<'a> {
         }))
     }
 
+    fn set_global_mode(&self, alloc: Global) -> Result<Option<Command>, OutOfMemory>
+        ensures { IfOk result (λ command. command ≡ command_in asks.SetGlobalMode self.now) }
+    {
+        let Some(mode) = string_sent(alloc, "mode", self.body)? else {
+            return Ok(None);
+        };
+        Ok(Some(Command::SetGlobalMode { mode }))
+    }
+
+    fn set_mode(&self, alloc: Global) -> Result<Option<Command>, OutOfMemory>
+        ensures { IfOk result (λ command. command ≡ command_in asks.SetMode self.now) }
+    {
+        let Some(subject) = self.target.subject_at(alloc, 2)? else {
+            return Ok(None);
+        };
+        let Some(mode) = string_sent(alloc, "mode", self.body)? else {
+            return Ok(None);
+        };
+        Ok(Some(Command::SetMode { subject, mode }))
+    }
+
+    fn mode_of(&self, alloc: Global) -> Result<Option<Command>, OutOfMemory>
+        ensures { IfOk result (λ command. command ≡ command_in asks.ModeOf self.now) }
+    {
+        let Some(subject) = self.target.subject_at(alloc, 2)? else {
+            return Ok(None);
+        };
+        let default_to_global = self.target.is_on(alloc, "defaultToGlobal")?;
+        Ok(Some(Command::ModeOf {
+            subject,
+            default_to_global,
+        }))
+    }
+
     /// The command that is asked for. None where a part of the path isn't UTF-8 or no subject, or the
     /// body isn't what such a command needs.
     ///
@@ -246,6 +280,10 @@ impl<'a> Sent<'a> {
             Asked::VersionsOfId => self.versions_of_id(alloc),
             Asked::Check => self.check(alloc),
             Asked::CheckAll => self.check_all(alloc),
+            Asked::SetGlobalMode => self.set_global_mode(alloc),
+            Asked::SetMode => self.set_mode(alloc),
+            Asked::GlobalMode => Ok(Some(Command::GlobalMode)),
+            Asked::ModeOf => self.mode_of(alloc),
         }
     }
 }

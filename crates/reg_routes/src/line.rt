@@ -1,12 +1,12 @@
 //! The lines of the API: what each method of a path asks for.
 
 ghost use Rattle.std.specs.Prelude.{◌≡◌, [], ◌∷◌, bytes_eq};
-ghost use Rattle.reg_routes.specs.Routes.{allow_of, asked_among, methods_of};
+ghost use Rattle.reg_routes.specs.Routes.{allow_of, asked_among, get, methods_of, put};
 
 use http::Method;
 
-/// A line of the table of paths. (Schema Registry API reference, Subjects, Schemas, Config and
-/// Compatibility.)
+/// A line of the table of paths. (Schema Registry API reference, Subjects, Schemas, Config,
+/// Compatibility and Mode.)
 #[derive(Clone, Copy, Debug, PartialEq, Eq)]
 pub enum Line {
     /// `/subjects`
@@ -33,6 +33,10 @@ pub enum Line {
     Compatibility,
     /// `/compatibility/subjects/{subject}/versions/{version}`
     CompatibilityOf,
+    /// `/mode`
+    Mode,
+    /// `/mode/{subject}`
+    ModeOf,
 }
 
 /// What a method of a line asks for: the kind of a command.
@@ -55,6 +59,10 @@ pub enum Asked {
     Types,
     Check,
     CheckAll,
+    SetGlobalMode,
+    SetMode,
+    GlobalMode,
+    ModeOf,
 }
 
 /// What the method asks for, where it is the only one.
@@ -84,6 +92,13 @@ fn either(
     } else {
         only(method, second, second_asked)
     }
+}
+
+/// What the method asks for, where one is shown and set.
+fn get_or_put(method: &[u8], shown: Asked, set: Asked) -> Option<Asked>
+    ensures { result ≡ asked_among method.now ((get, shown) ∷ (put, set) ∷ []) }
+{
+    either(method, &Method::GET, shown, &Method::PUT, set)
 }
 
 impl Line {
@@ -118,22 +133,12 @@ impl Line {
             Line::Types => only(method, &Method::GET, Asked::Types),
             Line::Id => only(method, &Method::GET, Asked::ById),
             Line::VersionsOfId => only(method, &Method::GET, Asked::VersionsOfId),
-            Line::Config => either(
-                method,
-                &Method::GET,
-                Asked::Global,
-                &Method::PUT,
-                Asked::SetGlobal,
-            ),
-            Line::ConfigOf => either(
-                method,
-                &Method::GET,
-                Asked::LevelOf,
-                &Method::PUT,
-                Asked::SetLevel,
-            ),
+            Line::Config => get_or_put(method, Asked::Global, Asked::SetGlobal),
+            Line::ConfigOf => get_or_put(method, Asked::LevelOf, Asked::SetLevel),
             Line::Compatibility => only(method, &Method::POST, Asked::CheckAll),
             Line::CompatibilityOf => only(method, &Method::POST, Asked::Check),
+            Line::Mode => get_or_put(method, Asked::GlobalMode, Asked::SetGlobalMode),
+            Line::ModeOf => get_or_put(method, Asked::ModeOf, Asked::SetMode),
         }
     }
 
@@ -146,7 +151,7 @@ impl Line {
             Line::Subject => "DELETE, POST",
             Line::Versions => "GET, POST",
             Line::Version => "DELETE, GET",
-            Line::Config | Line::ConfigOf => "GET, PUT",
+            Line::Config | Line::ConfigOf | Line::Mode | Line::ModeOf => "GET, PUT",
             Line::Compatibility | Line::CompatibilityOf => "POST",
         }
     }

@@ -72,6 +72,8 @@ fn router(alloc: Global) -> Result<Router<Line>, InsertError>
         "/compatibility/subjects/{subject}/versions/{version}",
         Line::CompatibilityOf,
     )?;
+    add(&mut router, "/mode", Line::Mode)?;
+    add(&mut router, "/mode/{subject}", Line::ModeOf)?;
     Ok(router)
 }
 
