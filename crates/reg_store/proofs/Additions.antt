@@ -9,6 +9,7 @@ use Rattle.avro_nodes.specs.Nodes.{NodeView}
 use Rattle.avro_nodes.specs.Identity.{identity}
 use Rattle.avro_schema.specs.DenotedNodes.{denoted_nodes}
 use Rattle.reg_core.specs.declared.decision.Change.TheVariants.{AddText, AddRow}
+use Rattle.reg_core.specs.Evidence.{Evidence}
 use Rattle.reg_core.specs.Registry.{Schemas, Rows, RowKey, Row, Version, Registry, schema_at, row_cmp}
 use Rattle.reg_core.specs.Rows.{id_of}
 use Rattle.reg_core.specs.Views.{IsNewText, IsNewRow, after_change}
@@ -17,12 +18,14 @@ use Rattle.reg_core.specs.KeptReplies.{Kept}
 use Rattle.reg_core.proofs.IdLemmas.{schema_last, schema_more, schema_grown, text_past, text_there, id_of-no_text}
 use Rattle.reg_core.proofs.RowLemmas.{get_inserted}
 use Rattle.reg_core.proofs.RegistryLemmas.{identity_denoted, grown-IsRegistry, inserted-IsRegistry}
-use Rattle.reg_tables.specs.Contents.{version_cmp, VersionRow, Contents, Holds}
+use Rattle.reg_tables.specs.Contents.{version_cmp, VersionRow, Contents}
+use Rattle.reg_tables.specs.Writing.{ChangesIf}
 use Rattle.reg_tables.specs.Changes.{with_text, with_version}
 use Rattle.reg_tables.proofs.MapLemmas.{get-insert-same, get-insert-other, same_or_not}
 use Rattle.reg_tables.proofs.KeyedTables.{number_order, version_order}
 use Rattle.reg_store.specs.Spells.{IsSpelled, version_row}
 use Rattle.reg_store.specs.Inside.Making.{Makes}
+use Rattle.reg_store.proofs.Seconds.{spelled_in, put}
 
 -- each id but the next keeps its schema, or has none still
 schema_other : (schemas : Schemas) (new : List NodeView) (id : ℕ) → id ≢ length schemas + 1 → schema_at (schemas ++ new ∷ []) id ≡ schema_at schemas id
@@ -58,15 +61,13 @@ module _ (contents : Contents) (g : Registry) (k : Kept) (s : IsSpelled contents
     utf8 = λ q nodes there. elim (schema_grown g.schemas new.nodes q nodes there) [ inl was ↦ s.utf8 q nodes was | inr it ↦ subst IsUtf8 (new.is ∙ ap identity (sym it.1)) utf8 ];
     versions = s.versions;
     registered = s.registered;
-    meta = s.meta;
-    modes = record { global = s.modes.global; own = s.modes.own };
     levels = s.levels;
     subjects = s.subjects;
     kept = s.kept;
     keys = s.keys;
   }
 
-  pub spelled_text : (id : ℕ) (text : List ℕ) → IsUtf8 text → IsNewText g.schemas id text → IsSpelled (with_text id text contents) (after_change (AddText id text) g) k
+  spelled_text : (id : ℕ) (text : List ℕ) → IsUtf8 text → IsNewText g.schemas id text → IsSpelled (with_text id text contents) (after_change (AddText id text) g) k
   spelled_text id text utf8 new =
       let denotes : denoted_nodes text ≡ Some new.nodes = ap denoted_nodes new.is ∙ identity_denoted new.nodes new.schema in
       subst (λ (o : Option (List NodeView)). IsSpelled (with_text id text contents) (record g { schemas = g.schemas ++ option_to_list o }) k) (sym denotes) (spelled_schema id text utf8 new)
@@ -78,15 +79,13 @@ module _ (contents : Contents) (g : Registry) (k : Kept) (s : IsSpelled contents
   pub text_is_new : (id : ℕ) (text : List ℕ) → IsNewText g.schemas id text → (other : ℕ) → get contents.texts other ≢ Some text
   text_is_new id text new other has = id_of-no_text g.schemas text new.unknown other (sym (s.texts other) ∙ has)
 
-  pub spelled_row : (row : Row) → IsTrue (is_subject row.0.0) → IsNewRow g row → IsSpelled (with_version row.0 (version_row row.1) contents) (after_change (AddRow row) g) k
-  spelled_row row within new = record {
+  spelled_row : (row : Row) (evidence : Evidence) → IsTrue (is_subject row.0.0) → IsNewRow g row → IsSpelled (with_version row.0 (version_row row.1) contents) (after_change (AddRow row evidence) g) k
+  spelled_row row evidence within new = record {
     registry = inserted-IsRegistry g row.0 row.1 s.registry new.fits;
     texts = s.texts;
     utf8 = s.utf8;
     versions = versions_both contents.versions g.rows s.versions row.0 row.1;
     registered = get_inserted g.rows row.0 row.1 (λ key _. IsTrue (is_subject key.0)) within s.registered;
-    meta = s.meta;
-    modes = record { global = s.modes.global; own = s.modes.own };
     levels = s.levels;
     subjects = s.subjects;
     kept = s.kept;
@@ -106,17 +105,12 @@ module _ (contents : Contents) (g : Registry) (k : Kept) (s : IsSpelled contents
 -- ---- the tables
 
 module _ (old new : State) where
-  pub makes_text : (id : ℕ) (text : List ℕ) → IsUtf8 text → ((contents : Contents) → Holds old.now contents → get contents.texts id ≡ None → Holds new.now (with_text id text contents)) → Makes old new (AddText id text)
-  makes_text id text utf8 puts g k s fits = record {
-    contents = with_text id text s.contents;
-    holds = puts s.contents s.holds (id_is_free s.contents g k s.spelled id text fits);
-    spelled = spelled_text s.contents g k s.spelled id text utf8 fits;
-  }
+  pub makes_text : (id : ℕ) (text : List ℕ) → IsUtf8 text → ChangesIf old new (λ contents. get contents.texts id ≡ None) (with_text id text) → Makes old new (AddText id text)
+  makes_text id text utf8 puts g k s fits =
+      put old new (λ contents. get contents.texts id ≡ None) (with_text id text) puts g k s (id_is_free s.contents.base g k s.spelled.base id text fits) _ _
+      (spelled_in s.contents g k s.spelled _ _ _ (spelled_text s.contents.base g k s.spelled.base id text utf8 fits) s.spelled.meta refl)
 
-  pub makes_row : (row : Row) → IsTrue (is_subject row.0.0)
-      → ((contents : Contents) → Holds old.now contents → get contents.versions row.0 ≡ None → Holds new.now (with_version row.0 (version_row row.1) contents)) → Makes old new (AddRow row)
-  makes_row row within puts g k s fits = record {
-    contents = with_version row.0 (version_row row.1) s.contents;
-    holds = puts s.contents s.holds (number_is_free s.contents g k s.spelled row fits);
-    spelled = spelled_row s.contents g k s.spelled row within fits;
-  }
+  pub makes_row : (row : Row) (evidence : Evidence) → IsTrue (is_subject row.0.0) → ChangesIf old new (λ contents. get contents.versions row.0 ≡ None) (with_version row.0 (version_row row.1)) → Makes old new (AddRow row evidence)
+  makes_row row evidence within puts g k s fits =
+      put old new (λ contents. get contents.versions row.0 ≡ None) (with_version row.0 (version_row row.1)) puts g k s (number_is_free s.contents.base g k s.spelled.base row fits.0) _ _
+      (spelled_in s.contents g k s.spelled _ _ _ (spelled_row s.contents.base g k s.spelled.base row evidence within fits.0) s.spelled.meta refl)

@@ -20,15 +20,21 @@ use Rattle.avro_nodes.specs.Identity.{identity}
 use Rattle.avro_schema.specs.Texts.{IsSchema}
 use Rattle.reg_core.specs.Registry.{Registry, new_registry, row_cmp, schema_at}
 use Rattle.reg_tables.specs.Layout.{layout}
-use Rattle.reg_tables.specs.Contents.{text_cmp, version_cmp, Contents, Holds}
-use Rattle.reg_tables.specs.Changes.{new_contents}
+use Rattle.reg_tables.specs.SecondLayout.{second}
+use Rattle.reg_tables.specs.Contents.{text_cmp, version_cmp, TextMap, Holds}
+use Rattle.reg_tables.specs.SecondContents.{SecondContents, HoldsAllIn, second_new_contents}
+use Rattle.reg_tables.specs.Changes.{no_contents, new_contents}
 use Rattle.reg_tables.proofs.Transactions.{keeps_if_unchanged, keeps_if_undone}
 use Rattle.reg_core.specs.KeptReplies.{Kept, nothing_kept}
 use Rattle.reg_store.specs.declared.error.StoreError.{StoreError}
 use Rattle.reg_store.specs.declared.error.StoreError.TheVariants.{Memory, Disk, NotARegistry, OldLayout, NewerLayout}
 use Rattle.reg_store.specs.Failures.{failure_of, IsFaultBy}
 use Rattle.reg_store.specs.Stores.{LeavesBefore}
-use Rattle.reg_store.specs.Spells.{version_row, SpellsIn, Spells, Leaves, IsOpenOver, SpellsWhileOpen}
+use Rattle.reg_store.specs.Spells.{version_row, IsSpelled, SpellsFirst, LeavesFirst, SpellsIn, Spells, LeavesIn, Leaves, IsOpenOver, SpellsWhileOpen}
+use Rattle.reg_store.specs.declared.layout.Layout.{Layout}
+use Rattle.reg_store.specs.declared.layout.Layout.TheVariants.{First, Second}
+use Rattle.reg_store.specs.Inside.Making.{SpellsNew, IsNew, LeavesNew}
+use Rattle.reg_store.proofs.Evidence.{no_evidence}
 
 -- a commit that fails leaves the last commit
 pub keeps_if_failed : (a b : State) (e : Error) → FailsToCommit a b e → KeepsCommit a b
@@ -47,18 +53,20 @@ pub on_err_each : {X E P : Type 0} (r : Result X E) → P → OnErr r P
 on_err_each (Ok x) h = tt
 on_err_each (Err e) h = h
 
--- trees that hold the contents under layout 1 do so after a crash
-pub left_if_held : (db : Trees) (now : Database) (contents : Contents) → db ≡ now.trees → Holds now contents → Holds (record { schema = layout; trees = db }) contents
-left_if_held db now contents is h =
-    subst (λ d. Holds (record { schema = layout; trees = d }) contents) (sym is) (subst (λ x. Holds (record { schema = x; trees = now.trees }) contents) h.declared h)
+-- trees that hold the contents do so after a crash
+pub left_if_held : (schema : Schema) (db : Trees) (now : Database) (contents : SecondContents) → db ≡ now.trees → HoldsAllIn schema now contents → HoldsAllIn schema (record { schema = schema; trees = db }) contents
+left_if_held schema db now contents is h =
+    subst (λ d. HoldsAllIn schema (record { schema = schema; trees = d }) contents) (sym is) (subst (λ x. HoldsAllIn schema (record { schema = x; trees = now.trees }) contents) h.base.declared h)
 
 -- trees that are those of a database spell what that does
-pub left_if_spelled : (schema : Schema) (db : Trees) (now : Database) (g : Registry) (k : Kept) → db ≡ now.trees → SpellsIn schema now g k → SpellsIn schema (record { schema = schema; trees = db }) g k
-left_if_spelled schema db now g k is s =
-    subst (λ d. SpellsIn schema (record { schema = schema; trees = d }) g k) (sym is) (subst (λ x. SpellsIn schema (record { schema = x; trees = now.trees }) g k) s.holds.declared s)
+pub left_if_spelled : {Known : Schema → Type 0} (db : Trees) (now : Database) (g : Registry) (k : Kept) → db ≡ now.trees → SpellsIn Known now g k → LeavesIn Known db g k
+left_if_spelled {Known} db now g k is s = record { schema = now.schema; spells = subst (λ d. SpellsIn Known (record { schema = now.schema; trees = d }) g k) (sym is) s }
 
 pub leaves_if_spelled : (db : Trees) (now : Database) (g : Registry) (k : Kept) → db ≡ now.trees → Spells now g k → Leaves db g k
-leaves_if_spelled = left_if_spelled layout
+leaves_if_spelled db now g k is s = left_if_spelled db now g k is s
+
+pub leaves_first : (db : Trees) (now : Database) (g : Registry) (k : Kept) → db ≡ now.trees → SpellsFirst now g k → LeavesFirst db g k
+leaves_first db now g k is s = record { schema = now.schema; spells = subst (λ d. SpellsFirst (record { schema = now.schema; trees = d }) g k) (sym is) s }
 
 none_at : (id : ℕ) → schema_at [] id ≡ None
 none_at zero = refl
@@ -67,30 +75,57 @@ none_at (suc n) = refl
 no_schema : (id : ℕ) (nodes : List NodeView) → schema_at [] id ≡ Some nodes → ⊥
 no_schema id nodes there = let none = sym (none_at id) ∙ there in absurd (cc)
 
--- the tables of a new registry spell it
-pub spells_new : (now : Database) → Holds now new_contents → Spells now new_registry nothing_kept
+-- tables with no row but in `meta` spell a new registry
+new_is_spelled : (meta : TextMap (List ℕ)) → IsSpelled (record no_contents { meta = meta }) new_registry nothing_kept
+new_is_spelled meta = record {
+  registry = record {
+    schemas = All-nil IsSchema;
+    few = lit≤ tt;
+    apart = λ i j one other here there same. absurd (no_schema i one here);
+    rows = λ key version there. absurd (let none = sym (get-empty row_cmp key) ∙ there in cc);
+  };
+  texts = λ id. get-empty nat_cmp id ∙ sym (ap (option_map identity) (none_at id));
+  utf8 = λ id nodes there. absurd (no_schema id nodes there);
+  versions = λ key. get-empty version_cmp key ∙ sym (ap (option_map version_row) (get-empty row_cmp key));
+  registered = λ key version there. absurd (let none = sym (get-empty row_cmp key) ∙ there in cc);
+  levels = λ subject. get-empty text_cmp subject;
+  subjects = λ subject level some. absurd (cc);
+  kept = λ key. get-empty text_cmp key;
+  keys = λ key entry some. absurd (cc);
+}
+
+pub spells_new : (now : Database) → HoldsAllIn second now second_new_contents → Spells now new_registry nothing_kept
 spells_new now h = record {
-  contents = new_contents;
+  schema = second;
+  known = inl refl;
+  contents = second_new_contents;
   holds = h;
   spelled = record {
-    registry = record {
-      schemas = All-nil IsSchema;
-      few = lit≤ tt;
-      apart = λ i j one other here there same. absurd (no_schema i one here);
-      rows = λ key version there. absurd (let none = sym (get-empty row_cmp key) ∙ there in cc);
-    };
-    texts = λ id. get-empty nat_cmp id ∙ sym (ap (option_map identity) (none_at id));
-    utf8 = λ id nodes there. absurd (no_schema id nodes there);
-    versions = λ key. get-empty version_cmp key ∙ sym (ap (option_map version_row) (get-empty row_cmp key));
-    registered = λ key version there. absurd (let none = sym (get-empty row_cmp key) ∙ there in cc);
+    base = new_is_spelled second_new_contents.base.meta;
     meta = refl;
-    modes = record { global = refl; own = λ subject. refl };
-    levels = λ subject. get-empty text_cmp subject;
-    subjects = λ subject level some. absurd (cc);
-    kept = λ key. get-empty text_cmp key;
-    keys = λ key entry some. absurd (cc);
+    modes = λ subject. get-empty text_cmp subject;
+    owners = λ subject mode some. absurd (cc);
+    evidence = no_evidence second_new_contents refl refl;
   };
 }
+
+pub spells_new_first : (now : Database) → Holds now new_contents → SpellsFirst now new_registry nothing_kept
+spells_new_first now h = record {
+  schema = layout;
+  known = inl refl;
+  contents = new_contents;
+  holds = h;
+  spelled = record { base = new_is_spelled new_contents.meta; meta = refl; modes = record { global = refl; own = λ subject. refl } };
+}
+
+-- so they do in either layout
+pub is_new : (layout : Layout) (s : State) → IsTrue s.is_open → s.committed ≡ s.now → SpellsNew layout s.now → IsNew layout s
+is_new First s is_open settled spells = record { is_open = is_open; settled = settled; spells = spells }
+is_new Second s is_open settled spells = record { is_open = is_open; settled = settled; spells = spells }
+
+pub leaves_new : (layout : Layout) (db : Trees) (now : Database) → db ≡ now.trees → SpellsNew layout now → LeavesNew layout db
+leaves_new First db now is spells = leaves_first db now new_registry nothing_kept is spells
+leaves_new Second db now is spells = leaves_if_spelled db now new_registry nothing_kept is spells
 
 -- what keeps the last commit, and shows it, spells what it spelled
 pub still_spells : (old new : State) (g : Registry) (k : Kept) → KeepsCommit old new → (IsTrue new.is_open → new.now ≡ new.committed) → SpellsWhileOpen old g k → SpellsWhileOpen new g k

@@ -5,7 +5,6 @@ use Rattle.std.specs.FinMap.{FinMap, get, remove}
 use Rattle.std.proofs.lemmas.Option.{none-some}
 use Rattle.sqlite.specs.State.{State}
 use Rattle.reg_core.specs.declared.decision.Change.TheVariants.{MarkDeleted, Remove, DropLevel}
-use Rattle.reg_core.specs.declared.level.Level.{Level}
 use Rattle.reg_core.specs.DeletionCommands.{as_deleted}
 use Rattle.reg_core.specs.KeptReplies.{Kept}
 use Rattle.reg_core.specs.Levels.{level_text}
@@ -14,13 +13,17 @@ use Rattle.reg_core.specs.Views.{altered, after_change}
 use Rattle.reg_core.proofs.DeletionLemmas.{altered_was, removed_was}
 use Rattle.reg_core.proofs.RegistryLemmas.{fewer-IsRegistry, levels-IsRegistry}
 use Rattle.reg_tables.specs.Contents.{version_cmp, VersionRow, Contents}
-use Rattle.reg_tables.specs.Changes.{Changes, without_level, without_version, with_deleted}
+use Rattle.reg_tables.specs.Changes.{without_level, without_version, with_deleted}
+use Rattle.reg_tables.specs.Writing.{Changes, ChangesAll}
+use Rattle.reg_tables.specs.SecondContents.{without_evidence}
 use Rattle.reg_tables.specs.Changes as tables
 use Rattle.reg_tables.proofs.MapLemmas.{get-altered-same, get-altered-other, get-remove-same, get-remove-other, same_or_not}
 use Rattle.reg_tables.proofs.KeyedTables.{version_order}
 use Rattle.reg_store.specs.Inside.Making.{Makes}
 use Rattle.reg_store.specs.Spells.{IsSpelled, version_row}
 use Rattle.reg_store.proofs.Maps.{remove_both}
+use Rattle.reg_store.proofs.Evidence.{evidence_left}
+use Rattle.reg_store.proofs.Seconds.{spelled_in, changed}
 
 -- a row is marked as its version is
 marked_row : (found : Option Version) → option_map tables.as_deleted (option_map version_row found) ≡ option_map version_row (option_map as_deleted found)
@@ -42,10 +45,10 @@ module _ (m : FinMap version_cmp VersionRow) (rows : Rows) (same : (key : RowKey
     | inr other ↦ get-remove-other version_cmp version_order m key q other ∙ same q ∙ sym (ap (option_map version_row) (get-remove-other row_cmp version_order rows key q other))
   ]
 
--- a level that is left is one that was there
-left_level : (b : Bool) (found : Option Level) (level : Level) → cond b None found ≡ Some level → found ≡ Some level
-left_level true found level e = absurd (none-some level e)
-left_level false found level e = e
+-- a level or a mode that is left is one that was there
+pub left_value : {A : Type 0} (b : Bool) (found : Option A) (value : A) → cond b None found ≡ Some value → found ≡ Some value
+left_value true found value e = absurd (none-some value e)
+left_value false found value e = e
 
 module _ (contents : Contents) (g : Registry) (k : Kept) (s : IsSpelled contents g k) where
   spelled_deleted : (subject : List ℕ) (number : ℕ) → IsSpelled (with_deleted (subject, number) contents) (after_change (MarkDeleted subject number) g) k
@@ -55,8 +58,6 @@ module _ (contents : Contents) (g : Registry) (k : Kept) (s : IsSpelled contents
     utf8 = s.utf8;
     versions = deleted_both contents.versions g.rows s.versions (subject, number);
     registered = λ key version there. let was = altered_was g.rows (subject, number) key version there in s.registered key was.old was.there;
-    meta = s.meta;
-    modes = record { global = s.modes.global; own = s.modes.own };
     levels = s.levels;
     subjects = s.subjects;
     kept = s.kept;
@@ -70,8 +71,6 @@ module _ (contents : Contents) (g : Registry) (k : Kept) (s : IsSpelled contents
     utf8 = s.utf8;
     versions = removed_both contents.versions g.rows s.versions (subject, number);
     registered = λ key version there. let was = removed_was g.rows (subject, number) key version there in s.registered key was.old was.there;
-    meta = s.meta;
-    modes = record { global = s.modes.global; own = s.modes.own };
     levels = s.levels;
     subjects = s.subjects;
     kept = s.kept;
@@ -85,10 +84,8 @@ module _ (contents : Contents) (g : Registry) (k : Kept) (s : IsSpelled contents
     utf8 = s.utf8;
     versions = s.versions;
     registered = s.registered;
-    meta = s.meta;
-    modes = record { global = s.modes.global; own = s.modes.own };
     levels = remove_both level_text contents.levels g.own subject s.levels;
-    subjects = λ other level there. s.subjects other level (left_level (bytes_eq subject other) (g.own other) level there);
+    subjects = λ other level there. s.subjects other level (left_value (bytes_eq subject other) (g.own other) level there);
     kept = s.kept;
     keys = s.keys;
   }
@@ -98,12 +95,25 @@ module _ (contents : Contents) (g : Registry) (k : Kept) (s : IsSpelled contents
 module _ (old new : State) where
   pub makes_deleted : (subject : List ℕ) (number : ℕ) → Changes old new (with_deleted (subject, number)) → Makes old new (MarkDeleted subject number)
   makes_deleted subject number changes g k s fits =
-      record { contents = with_deleted (subject, number) s.contents; holds = changes s.contents s.holds; spelled = spelled_deleted s.contents g k s.spelled subject number }
+      changed old new (with_deleted (subject, number)) changes g k s _ _
+      (spelled_in s.contents g k s.spelled _ _ _ (spelled_deleted s.contents.base g k s.spelled.base subject number) s.spelled.meta refl)
 
-  pub makes_removed : (subject : List ℕ) (number : ℕ) → Changes old new (without_version (subject, number)) → Makes old new (Remove subject number)
-  makes_removed subject number changes g k s fits =
-      record { contents = without_version (subject, number) s.contents; holds = changes s.contents s.holds; spelled = spelled_removed s.contents g k s.spelled subject number }
+  pub makes_removed : (subject : List ℕ) (number : ℕ) → ChangesAll old new (without_evidence (subject, number)) → Makes old new (Remove subject number)
+  makes_removed subject number changes g k s fits = record {
+    schema = s.schema;
+    known = s.known;
+    contents = without_evidence (subject, number) s.contents;
+    holds = changes s.schema (inr s.known) s.contents s.holds;
+    spelled = record {
+      base = spelled_removed s.contents.base g k s.spelled.base subject number;
+      meta = s.spelled.meta;
+      modes = s.spelled.modes;
+      owners = s.spelled.owners;
+      evidence = evidence_left s.contents (subject, number) s.spelled.evidence;
+    };
+  }
 
   pub makes_dropped : (subject : List ℕ) → Changes old new (without_level subject) → Makes old new (DropLevel subject)
   makes_dropped subject changes g k s fits =
-      record { contents = without_level subject s.contents; holds = changes s.contents s.holds; spelled = spelled_dropped s.contents g k s.spelled subject }
+      changed old new (without_level subject) changes g k s _ _
+      (spelled_in s.contents g k s.spelled _ _ _ (spelled_dropped s.contents.base g k s.spelled.base subject) s.spelled.meta refl)

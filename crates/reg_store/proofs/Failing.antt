@@ -10,7 +10,6 @@ use Rattle.sqlite.specs.State.{State, store_error}
 use Rattle.sqlite_trees.specs.declared.error.StoreError as trees
 use Rattle.sqlite_trees.specs.declared.error.StoreError.TheVariants as stored
 use Rattle.reg_core.specs.Registry.{Registry}
-use Rattle.reg_tables.specs.Layout.{layout}
 use Rattle.sqlite_disk.specs.Disk.{MoreFaults}
 use Rattle.reg_tables.specs.Reads.{CanBeRead}
 use Rattle.reg_tables.specs.FailedCalls.{HasDiskFault, HasReason, IsFault, IsUnreadable}
@@ -20,7 +19,7 @@ use Rattle.reg_store.specs.declared.error.StoreError.TheVariants.{Memory, Disk, 
 use Rattle.reg_store.specs.Failures.{failure_of, is_fault, IsFaultBy, IsTold, IsNumberless}
 use Rattle.reg_core.specs.KeptReplies.{Kept}
 use Rattle.reg_store.specs.Spells.{SpellsWhileOpen}
-use Rattle.reg_store.proofs.Texts.{readable_if_spelled}
+use Rattle.reg_store.proofs.Bases.{base_of}
 
 -- what is by memory or by the disk is a fault
 pub fault_if_by : (old new : State) (e : StoreError) → IsFaultBy old new e → IsTrue (is_fault e)
@@ -95,8 +94,8 @@ told_since a b c closes up on (NewerLayout number) h = tt
 -- what is spelled can be read
 pub can_be_read : (s : State) (g : Registry) (k : Kept) → SpellsWhileOpen s g k → CanBeRead s
 can_be_read s g k over = λ is_open.
-    let it = (over is_open).spells in
-    record { schema = layout; is_layout = inl refl; contents = it.contents; holds = it.holds; readable = readable_if_spelled it.contents g k it.spelled }
+    let it = base_of (over is_open).spells in
+    record { schema = it.schema; known = it.first; contents = it.contents; holds = it.holds; readable = it.readable }
 
 -- an error that `?` passes on
 pub passed : {X : Type 0} (P : StoreError → Type 0) (r : Result X StoreError) (first : StoreError) → IsErrAnd r (λ e. e ≡ first) → P first → IfErr r P

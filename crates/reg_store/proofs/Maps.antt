@@ -36,3 +36,17 @@ insert-insert m k v w = same_map text_order.total text_order.antisymmetric _ _ (
   | inl e ↦ ap (get (insert (insert m k v) k w)) e ∙ get-insert-same text_cmp text_order (insert m k v) k w ∙ sym (get-insert-same text_cmp text_order m k w) ∙ ap (get (insert m k w)) (sym e)
   | inr other ↦ get-insert-other text_cmp text_order (insert m k v) k w q other ∙ get-insert-other text_cmp text_order m k v q other ∙ sym (get-insert-other text_cmp text_order m k w q other)
 ])
+
+-- what is put under two keys, in either order
+pub insert-swap : {W : Type 0} (m : TextMap W) (k : List ℕ) (v : W) (q : List ℕ) (w : W) → q ≢ k → insert (insert m k v) q w ≡ insert (insert m q w) k v
+insert-swap m k v q w apart = same_map text_order.total text_order.antisymmetric _ _ (λ x. elim (same_or_not text_cmp text_order x q) [
+  | inl e ↦
+      let other : x ≢ k = (λ h. apart (sym e ∙ h)) in
+      ap (get (insert (insert m k v) q w)) e ∙ get-insert-same text_cmp text_order (insert m k v) q w ∙ sym (get-insert-same text_cmp text_order m q w) ∙ ap (get (insert m q w)) (sym e) ∙ sym (get-insert-other text_cmp text_order (insert m q w) k v x other)
+  | inr not_q ↦ elim (same_or_not text_cmp text_order x k) [
+    | inl e ↦
+        get-insert-other text_cmp text_order (insert m k v) q w x not_q ∙ ap (get (insert m k v)) e ∙ get-insert-same text_cmp text_order m k v ∙ sym (get-insert-same text_cmp text_order (insert m q w) k v) ∙ ap (get (insert (insert m q w) k v)) (sym e)
+    | inr not_k ↦
+        get-insert-other text_cmp text_order (insert m k v) q w x not_q ∙ get-insert-other text_cmp text_order m k v x not_k ∙ sym (get-insert-other text_cmp text_order m q w x not_q) ∙ sym (get-insert-other text_cmp text_order (insert m q w) k v x not_k)
+  ]
+])

@@ -1,14 +1,14 @@
 -- What the rows of `meta` name.
-use Rattle.std.proofs.Common.{◌≡◌, inl, inr, ℕ, List, map, Bool, true, false, Option, Some, None, Ok, Err, Result, IsTrue, codes, refl, sym, ap, ◌∙◌, arith}
-use Rattle.std.specs.Prelude.{OnOk, IfErr, IsErrAnd, ◌&&◌, option_and_then, if◌then◌else◌}
+use Rattle.std.proofs.Common.{◌≡◌, ◌<◌, inl, inr, ℕ, List, map, Bool, true, false, Option, Some, None, Ok, Err, Result, IsTrue, codes, refl, sym, ap, subst, ◌∙◌, arith}
+use Rattle.std.specs.Prelude.{IfErr, IsErrAnd, ◌&&◌, nat_lt, option_and_then, if◌then◌else◌}
 use Rattle.std.specs.FinMap.{get, get-from_entries}
 use Rattle.std.proofs.lemmas.Bool.{and_parts, both_ways}
+use Rattle.std.proofs.lemmas.Bool.Decides.{nat_tests}
 use Rattle.sqlite.specs.Effect.{Database}
 use Rattle.sqlite.specs.Held.{Held, state}
 use Rattle.sqlite.specs.State.{State, HasCleanDisk}
 use Rattle.sqlite.specs.declared.error.Error.{Error}
 use Rattle.sqlite_trees.specs.declared.store.Store.{Ghosts}
-use Rattle.reg_core.specs.Registry.{Registry}
 use Rattle.reg_tables.specs.declared.lines.MetaLine.{MetaLine}
 use Rattle.reg_tables.specs.Layout.{HasTablesFirst, meta}
 use Rattle.reg_tables.specs.Contents.{pair_form, text_cmp}
@@ -18,30 +18,53 @@ use Rattle.reg_tables.specs.Reads.{CanBeRead, HoldsMeta, CanTellMeta}
 use Rattle.reg_tables.specs.FailedCalls.{IsFault}
 use Rattle.reg_tables.proofs.KeyedTables.{text_order, distinct_texts}
 use Rattle.reg_tables.proofs.ListingLemmas.{find_had, stored, listed_if_shown}
-use Rattle.reg_tables.proofs.Statements.{laid_out, has_tables_first}
-use Rattle.reg_rows.specs.Spelling.{Pair, value_at, has_value, has_level, names_known, is_meta, number_in, layout_in}
+use Rattle.reg_tables.proofs.UniqueKeys.{rowids_of}
+use Rattle.reg_tables.proofs.Statements.{laid_out}
+use Rattle.reg_rows.specs.Meta.{value_at, names, second_names, has_value, has_level, has_mode, has_common, names_known, number_in, layout_in}
 use Rattle.reg_store.specs.declared.error.StoreError.{StoreError}
 use Rattle.reg_store.specs.declared.error.StoreError.TheVariants.{Memory, Disk, NotARegistry, OldLayout, NewerLayout}
+use Rattle.reg_store.specs.declared.layout.Layout.{Layout}
+use Rattle.reg_store.specs.declared.layout.Layout.TheVariants.{First, Second}
 use Rattle.reg_store.specs.Failures.{failure_of}
-use Rattle.reg_store.specs.Opening.{Says, NamesLayout, Outdates, IsRefusedBy, TellsNewer}
-use Rattle.reg_core.specs.KeptReplies.{Kept}
-use Rattle.reg_store.specs.Spells.{SpellsUnopened}
-use Rattle.reg_store.specs.Inside.Testing.{pairs_of, PassesMeta, Allows, JudgesMeta, MetaPass, Tests}
-use Rattle.reg_store.proofs.Bridge.{meta_found, value_is}
+use Rattle.reg_store.specs.Opening.{Says, NamesLayout, HasOther, refusal_of, IsRefusedAs, TellsOther}
+use Rattle.reg_store.specs.Inside.Testing.{AreApart, pairs_of, number_of, is_meta_of, PassesMeta, Allows, JudgesMeta, MetaPass, SpellsAs, Tests}
+use Rattle.reg_store.proofs.Bases.{some_first, some_unopened}
+use Rattle.reg_store.proofs.MetaRows.{value_is, layout_is, meta_found, meta_fit, second_meta_fit}
+use Rattle.reg_store.proofs.LayoutNumbers.{above_zero}
 use Rattle.reg_store.proofs.Failing.{fault_if_by, fault_by, passed}
 use Rattle.reg_store.proofs.Maps.{same_bytes}
-use Rattle.reg_store.proofs.TestLemmas.{framed, is_known, meta_passes}
+use Rattle.reg_store.proofs.TestLemmas.{framed, some_known, some_can_be_read}
 
--- the rows of a registry name layout 1
-layout_one : (pairs : List Pair) → IsTrue (is_meta pairs) → layout_in pairs ≡ Some 1
-layout_one pairs passes =
-    let format = has_value (codes "avroreg") (value_at (codes "format") pairs) in
-    let layout = has_value (codes "1") (value_at (codes "layout") pairs) in
-    let level = has_level (value_at (codes "global") pairs) in
-    let three = and_parts (format && layout && level) (names_known pairs) passes in
-    let two = and_parts (format && layout) level three.0 in
-    let one = and_parts format layout two.0 in
-    ap (λ b. if b then option_and_then number_in (value_at (codes "layout") pairs) else None) one.0 ∙ ap (option_and_then number_in) (value_is (codes "1") (value_at (codes "layout") pairs) one.1)
+-- the rows of a registry name its layout
+layout_named : (number : ℕ) (text : List ℕ) (lines : List MetaLine) → number_in text ≡ Some number → has_common text (pairs_of lines) ≡ true → layout_in (pairs_of lines) ≡ Some number
+layout_named number text lines is common =
+    let format = has_value (codes "avroreg") (value_at (codes "format") (pairs_of lines)) in
+    let layout = has_value text (value_at (codes "layout") (pairs_of lines)) in
+    let one = (and_parts format layout (and_parts (format && layout) (has_level (value_at (codes "global") (pairs_of lines))) common).0).0 in
+    ap (λ b. if b then option_and_then number_in (value_at (codes "layout") (pairs_of lines)) else None) one ∙ ap (option_and_then number_in) (layout_is lines text common) ∙ is
+
+names_own : (layout : Layout) (lines : List MetaLine) → IsTrue (is_meta_of layout (pairs_of lines)) → layout_in (pairs_of lines) ≡ Some (number_of layout)
+names_own First lines passes = layout_named 1 (codes "1") lines refl (and_parts (has_common (codes "1") (pairs_of lines)) (names_known names (pairs_of lines)) passes).0
+names_own Second lines passes =
+    let parts = and_parts (has_common (codes "2") (pairs_of lines) && has_mode (value_at (codes "mode") (pairs_of lines))) (names_known second_names (pairs_of lines)) passes in
+    layout_named 2 (codes "2") lines refl (and_parts (has_common (codes "2") (pairs_of lines)) (has_mode (value_at (codes "mode") (pairs_of lines))) parts.0).0
+
+-- tables that spell a registry have rows of `meta` that pass
+spelled_passes : (layout : Layout) (db : Database) → SpellsAs layout db → (lines : List MetaLine) → ListsMeta db lines → PassesMeta layout lines
+spelled_passes First db s lines lists =
+    let shown = listed_if_shown pair_form text_cmp text_order distinct_texts (db.trees meta.tree) (map meta_entry lines) lists s.spells.contents.meta distinct_texts s.spells.holds.meta in
+    (subst AreApart (rowids_of meta_entry (λ (line : MetaLine). line.rowid) (λ line. refl) lines) shown.apart.rowids, meta_fit lines shown.apart s.registry.global (sym shown.is ∙ s.spells.spelled.meta))
+spelled_passes Second db s lines lists =
+    let shown = listed_if_shown pair_form text_cmp text_order distinct_texts (db.trees meta.tree) (map meta_entry lines) lists s.spells.contents.base.meta distinct_texts s.spells.holds.base.meta in
+    (subst AreApart (rowids_of meta_entry (λ (line : MetaLine). line.rowid) (λ line. refl) lines) shown.apart.rowids, second_meta_fit lines shown.apart s.registry.global s.registry.global_mode (sym shown.is ∙ s.spells.spelled.meta))
+
+spelled_first : (layout : Layout) (db : Database) → SpellsAs layout db → HasTablesFirst db.schema
+spelled_first First db s = some_known db (some_first s)
+spelled_first Second db s = some_known db (some_unopened s)
+
+pub spelled_can_be_read : (layout : Layout) (s : State) → (IsTrue s.is_open → SpellsAs layout s.now) → CanBeRead s
+spelled_can_be_read First s over = some_can_be_read s (λ is_open. some_first (over is_open))
+spelled_can_be_read Second s over = some_can_be_read s (λ is_open. some_unopened (over is_open))
 
 named_in : (format : Bool) (layout : Option ℕ) (number : ℕ) → (if format then layout else None) ≡ Some number → (format ≡ true) × (layout ≡ Some number)
 named_in true layout number h = (refl, h)
@@ -83,82 +106,95 @@ module _ (lines : List MetaLine) (db : Database) (lists : ListsMeta db lines) wh
         ∙ ap (option_and_then number_in) (found (codes "layout") n.text n.layout) ∙ n.is
 
 -- what is allowed of the rows is what is judged of the lines
-pub judged : (lines : List MetaLine) (named : Option ℕ) (passes : Bool) (r : Result (Unit {0}) StoreError) → named ≡ layout_in (pairs_of lines) → (IsTrue passes → PassesMeta lines) → (PassesMeta lines → IsTrue passes)
-    → Allows named passes r → JudgesMeta lines r
-judged lines named passes (Ok y) is to from a = to a
-judged lines named passes (Err Memory) is to from a = absurd a
-judged lines named passes (Err Disk) is to from a = absurd a
-judged lines named passes (Err NotARegistry) is to from a = (λ h. both_ways _ a.0 (from h), λ number there. a.1 number (is ∙ there))
-judged lines named passes (Err (OldLayout number)) is to from a = absurd a
-judged lines named passes (Err (NewerLayout number)) is to from a = (sym is ∙ a.0, a.1)
+pub judged : (layout : Layout) (lines : List MetaLine) (named : Option ℕ) (passes : Bool) (r : Result (Unit {0}) StoreError) → named ≡ layout_in (pairs_of lines) → (IsTrue passes → PassesMeta layout lines) → (PassesMeta layout lines → IsTrue passes)
+    → Allows (number_of layout) named passes r → JudgesMeta layout lines r
+judged layout lines named passes (Ok y) is to from a = to a
+judged layout lines named passes (Err Memory) is to from a = absurd a
+judged layout lines named passes (Err Disk) is to from a = absurd a
+judged layout lines named passes (Err NotARegistry) is to from a = (λ h. both_ways _ a.0 (from h), λ number there. a.1 number (is ∙ there))
+judged layout lines named passes (Err (OldLayout number)) is to from a = (sym is ∙ a.0, a.1)
+judged layout lines named passes (Err (NewerLayout number)) is to from a = (sym is ∙ a.0, a.1)
 
 same_number : (a b : ℕ) → Some a ≡ Some b → a ≡ b
 same_number a b h = cc
 
--- the tables of a layout come first
+-- the five tables come first
 pub tells_meta : (s : State) → CanBeRead s → CanTellMeta s
 tells_meta s can is_open =
     let there = can is_open in
-    record { first = has_tables_first s.now.schema (laid_out there.holds there.is_layout); names = there.contents.meta; shows = there.holds.meta; readable = there.readable.meta }
+    record { first = laid_out there.holds there.known; names = there.contents.meta; shows = there.holds.meta; readable = there.readable.meta }
 
-module _ {S : Type 0} (g : Ghosts S) (old new : Held S) where
+-- how another layout is refused
+refuses_old : (own number : ℕ) → number < own → OldLayout number ≡ refusal_of own number
+refuses_old own number less = go (nat_lt number own) refl
+  where
+    go : (b : Bool) → nat_lt number own ≡ b → OldLayout number ≡ (if b then OldLayout number else NewerLayout number)
+    go true e = refl
+    go false e = absurd (grind (arith, nat_tests))
+
+refuses_newer : (own number : ℕ) → own < number → NewerLayout number ≡ refusal_of own number
+refuses_newer own number more = go (nat_lt number own) refl
+  where
+    go : (b : Bool) → nat_lt number own ≡ b → NewerLayout number ≡ (if b then OldLayout number else NewerLayout number)
+    go true e = absurd (grind (arith, nat_tests))
+    go false e = refl
+
+module _ {S : Type 0} (g : Ghosts S) (old new : Held S) (layout : Layout) where
   -- `meta` wasn't read
-  pub newer_unread : (r : Result (Unit {0}) StoreError) (e : Error) → old.step_limit ≡ None → (CanTellMeta (state g old) → IsFault (state g old) (state g new) e) → IsErrAnd r (λ failure. failure ≡ failure_of e) → IfErr r (TellsNewer (state g old))
-  newer_unread r e unlimited fault is = passed (TellsNewer (state g old)) r (failure_of e) is (λ number is_open out.
+  pub other_unread : (r : Result (Unit {0}) StoreError) (e : Error) → old.step_limit ≡ None → (CanTellMeta (state g old) → IsFault (state g old) (state g new) e) → IsErrAnd r (λ failure. failure ≡ failure_of e) → IfErr r (TellsOther (number_of layout) (state g old))
+  other_unread r e unlimited fault is = passed (TellsOther (number_of layout) (state g old)) r (failure_of e) is (λ number is_open out.
       inr (fault_if_by (state g old) (state g new) (failure_of e) (fault_by (state g old) (state g new) e unlimited (fault (λ _. out.holds)))))
 
   module _ {X : Type 0} (x : X) (lines : List MetaLine) (f : StaysIdle {X = X} {E = Error} g old new (Ok x)) (listed : HasCleanDisk (state g new) → HasTablesFirst (state g old).now.schema → ListsMeta (state g old).now lines) where
     abbrev db : Database
     db = (state g old).now
 
-    spelled : HasCleanDisk (state g new) → (registry : Registry) (k : Kept) → SpellsUnopened db registry k → PassesMeta lines
-    spelled clean registry k s = meta_passes s.schema db registry k s.spells lines (listed clean (has_tables_first db.schema (is_known db registry k s)))
+    spelled : HasCleanDisk (state g new) → SpellsAs layout db → PassesMeta layout lines
+    spelled clean s = spelled_passes layout db s lines (listed clean (spelled_first layout db s))
 
-    -- what passes is what is there
-    pub meta_passed : (r : Result (Unit {0}) StoreError) → JudgesMeta lines r → HasCleanDisk (state g new) → OnOk r (HasTablesFirst db.schema → MetaPass db)
-    meta_passed (Ok y) j clean = λ first. record { lines = lines; lists = listed clean first; apart = j.0; fit = j.1 }
-    meta_passed (Err e) j clean = tt
+    other_spelled : HasCleanDisk (state g new) → SpellsAs layout db → (number : ℕ) → layout_in (pairs_of lines) ≡ Some number → number ≡ number_of layout
+    other_spelled clean s number named = same_number number (number_of layout) (sym named ∙ names_own layout lines (spelled clean s).1)
 
     -- `meta` was read, and judged
-    pub meta_tests : (r : Result (Unit {0}) StoreError) → JudgesMeta lines r → Tests g old new r MetaPass
-    meta_tests (Ok y) j = record { frame = framed g old new (Ok x) (Ok y) f f.was_open; passes = λ clean known. meta_passed (Ok y) j clean (has_tables_first db.schema known); fault = λ clean. tt; told = λ clean. tt }
-    meta_tests (Err Memory) j = record { frame = framed g old new (Ok x) (Err Memory) f (λ clean. tt); passes = λ clean. tt; fault = λ clean registry k over. tt; told = λ clean known. tt }
+    pub meta_tests : (r : Result (Unit {0}) StoreError) → JudgesMeta layout lines r → Tests HasTablesFirst (SpellsAs layout) g old new r (λ _. MetaPass layout)
+    meta_tests (Ok y) j = record { frame = framed g old new (Ok x) (Ok y) f f.was_open; tells = λ clean known. record { lines = lines; lists = listed clean known; apart = j.0; fit = j.1 }; fault = λ clean. tt; told = λ clean. tt }
+    meta_tests (Err Memory) j = record { frame = framed g old new (Ok x) (Err Memory) f (λ clean. tt); tells = λ clean. tt; fault = λ clean over. tt; told = λ clean known. tt }
     meta_tests (Err Disk) j = absurd j
-    meta_tests (Err NotARegistry) j = record { frame = framed g old new (Ok x) (Err NotARegistry) f (λ clean. tt); passes = λ clean. tt; fault = λ clean registry k over. absurd (j.0 (spelled clean registry k (over (f.was_open clean)))); told = λ clean known. tt }
-    meta_tests (Err (OldLayout number)) j = absurd j
+    meta_tests (Err NotARegistry) j = record { frame = framed g old new (Ok x) (Err NotARegistry) f (λ clean. tt); tells = λ clean. tt; fault = λ clean over. absurd (j.0 (spelled clean (over (f.was_open clean)))); told = λ clean known. tt }
+    meta_tests (Err (OldLayout number)) j = record {
+      frame = framed g old new (Ok x) (Err (OldLayout number)) f (λ clean. tt);
+      tells = λ clean. tt;
+      fault = λ clean over. absurd (let is = other_spelled clean (over (f.was_open clean)) number j.0 in let less = j.1 in omega (arith, is, less));
+      told = λ clean known. tt;
+    }
     meta_tests (Err (NewerLayout number)) j = record {
       frame = framed g old new (Ok x) (Err (NewerLayout number)) f (λ clean. tt);
-      passes = λ clean. tt;
-      fault = λ clean registry k over. absurd (
-          let one = same_number 1 number (sym (layout_one (pairs_of lines) (spelled clean registry k (over (f.was_open clean))).1) ∙ j.0) in
-          let more = j.1 in
-          omega (arith, one, more));
+      tells = λ clean. tt;
+      fault = λ clean over. absurd (let is = other_spelled clean (over (f.was_open clean)) number j.0 in let more = j.1 in omega (arith, is, more));
       told = λ clean known. tt;
     }
 
-    pub meta_refused : (r : Result (Unit {0}) StoreError) → JudgesMeta lines r → HasCleanDisk (state g new) → IfErr r (IsRefusedBy db)
+    pub meta_refused : (r : Result (Unit {0}) StoreError) → JudgesMeta layout lines r → HasCleanDisk (state g new) → IfErr r (IsRefusedAs (number_of layout) db)
     meta_refused (Ok y) j clean = tt
     meta_refused (Err Memory) j clean = tt
     meta_refused (Err Disk) j clean = tt
     meta_refused (Err NotARegistry) j clean = tt
-    meta_refused (Err (OldLayout number)) j clean = j
-    meta_refused (Err (NewerLayout number)) j clean =
-        (j.1, λ first. names_if_in lines db (listed clean first) number j.0)
+    meta_refused (Err (OldLayout number)) j clean = (above_zero (pairs_of lines) number j.0, j.1, λ first. names_if_in lines db (listed clean first) number j.0)
+    meta_refused (Err (NewerLayout number)) j clean = (j.1, λ first. names_if_in lines db (listed clean first) number j.0)
 
-    outdated : HasCleanDisk (state g new) → (number : ℕ) → Outdates db number → layout_in (pairs_of lines) ≡ Some number
-    outdated clean number out = in_if_names lines db (listed clean out.holds.first) out.holds number out.names
+    named : HasCleanDisk (state g new) → (number : ℕ) → HasOther (number_of layout) db number → layout_in (pairs_of lines) ≡ Some number
+    named clean number out = in_if_names lines db (listed clean out.holds.first) out.holds number out.names
 
-    pub meta_newer : (r : Result (Unit {0}) StoreError) → JudgesMeta lines r → HasCleanDisk (state g new) → IfErr r (TellsNewer (state g old))
-    meta_newer (Ok y) j clean = tt
-    meta_newer (Err Memory) j clean = λ number is_open out. inr refl
-    meta_newer (Err Disk) j clean = absurd j
-    meta_newer (Err NotARegistry) j clean = λ number is_open out. absurd (let few = j.1 number (outdated clean number out) in let more = out.newer in omega (arith, few, more))
-    meta_newer (Err (OldLayout older)) j clean = absurd j
-    meta_newer (Err (NewerLayout newer)) j clean = λ number is_open out. inl (ap NewerLayout (same_number newer number (sym j.0 ∙ outdated clean number out)))
+    pub meta_other : (r : Result (Unit {0}) StoreError) → JudgesMeta layout lines r → HasCleanDisk (state g new) → IfErr r (TellsOther (number_of layout) (state g old))
+    meta_other (Ok y) j clean = tt
+    meta_other (Err Memory) j clean = λ number is_open out. inr refl
+    meta_other (Err Disk) j clean = absurd j
+    meta_other (Err NotARegistry) j clean = λ number is_open out. absurd (out.other (j.1 number (named clean number out)))
+    meta_other (Err (OldLayout older)) j clean = λ number is_open out.
+        inl (let is = same_number older number (sym j.0 ∙ named clean number out) in refuses_old (number_of layout) older j.1 ∙ ap (refusal_of (number_of layout)) is)
+    meta_other (Err (NewerLayout newer)) j clean = λ number is_open out.
+        inl (let is = same_number newer number (sym j.0 ∙ named clean number out) in refuses_newer (number_of layout) newer j.1 ∙ ap (refusal_of (number_of layout)) is)
 
--- a registry's tables name no newer layout
-pub not_outdated : (db : Database) (number : ℕ) → MetaPass db → Outdates db number → ⊥
-not_outdated db number p out =
-    let one = same_number 1 number (sym (layout_one (pairs_of p.lines) p.fit) ∙ in_if_names p.lines db p.lists out.holds number out.names) in
-    let more = out.newer in
-    omega (arith, one, more)
+-- a registry's tables name no other layout
+pub not_other : (layout : Layout) (db : Database) (number : ℕ) → MetaPass layout db → HasOther (number_of layout) db number → ⊥
+not_other layout db number p out = out.other (same_number number (number_of layout) (sym (in_if_names p.lines db p.lists out.holds number out.names) ∙ names_own layout p.lines p.fit))

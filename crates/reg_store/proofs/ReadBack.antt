@@ -1,16 +1,22 @@
 -- What is read back of what the tables spell.
 use Rattle.std.proofs.Common.{◌≡◌, List, ℕ, Option, Some, None, codes, refl, sym, ap, ◌∙◌}
-use Rattle.std.specs.Prelude.{option_map}
+use Rattle.std.specs.Prelude.{String, string_bytes, option_map, MatchOption}
+use Rattle.std.specs.declared.alloc.Global.{Global}
 use Rattle.std.specs.FinMap.{get}
 use Rattle.reg_core.specs.declared.level.Level.{Level}
 use Rattle.reg_core.specs.declared.level.Level.TheVariants.{Backward, BackwardTransitive, Forward, ForwardTransitive, Full, FullTransitive, Off}
 use Rattle.reg_core.specs.Levels.{level_text, level_of}
 use Rattle.reg_core.specs.Registry.{Registry}
-use Rattle.reg_tables.specs.Contents.{text_cmp, KeptRow, Contents}
-use Rattle.reg_tables.proofs.MapLemmas.{get-insert-same}
+use Rattle.reg_core.specs.declared.mode.Mode.{Mode}
+use Rattle.reg_core.specs.declared.mode.Mode.TheVariants.{Readwrite, Readonly}
+use Rattle.reg_core.specs.Modes.{mode_text, mode_of}
+use Rattle.reg_tables.specs.Contents.{text_cmp, KeptRow}
+use Rattle.reg_tables.specs.SecondContents.{SecondContents}
+use Rattle.reg_tables.proofs.MapLemmas.{get-insert-same, get-insert-other}
 use Rattle.reg_tables.proofs.KeyedTables.{text_order}
 use Rattle.reg_core.specs.KeptReplies.{Entry, Kept}
-use Rattle.reg_store.specs.Spells.{IsSpelled, row_of}
+use Rattle.reg_store.specs.Spells.{IsSpelledSecond, row_of}
+use Rattle.reg_store.proofs.Seconds.{other_name}
 
 -- a level's text spells it alone
 pub level_of-level_text : (level : Level) → level_of (level_text level) ≡ Some level
@@ -34,6 +40,11 @@ pub none_written : {V W : Type 0} (write : V → W) (o : Option V) → option_ma
 none_written write None h = refl
 none_written write (Some v) h = absurd (cc)
 
+-- a text that is found is the one that is there
+pub text_there_is : (found : Option (String Global)) (there : Option (List ℕ)) → MatchOption found (there ≡ None) (λ text. there ≡ Some (string_bytes text)) → option_map string_bytes found ≡ there
+text_there_is None there h = sym h
+text_there_is (Some text) there h = sym h
+
 -- what is kept is what its row says
 pub kept_is : (o : Option Entry) (entry : Entry) → option_map row_of o ≡ Some (row_of entry) → o ≡ Some entry
 kept_is None entry h = absurd (cc)
@@ -44,5 +55,19 @@ kept_is (Some e) entry h =
     let body : e.reply.body ≡ entry.reply.body = ap (λ (r : KeptRow). r.body) same in
     λ i. Some (record { text = text i; reply = record { status = status i; body = body i } })
 
-pub global_is : (contents : Contents) (g : Registry) (k : Kept) → IsSpelled contents g k → get contents.meta (codes "global") ≡ Some (level_text g.global)
-global_is contents g k s = ap (λ m. get m (codes "global")) s.meta ∙ get-insert-same text_cmp text_order _ (codes "global") (level_text g.global)
+-- the mode that a text spells is the one that was written so
+pub mode_of-mode_text : (mode : Mode) → mode_of (mode_text mode) ≡ Some mode
+mode_of-mode_text Readwrite = refl
+mode_of-mode_text Readonly = refl
+
+pub mode_is : (text : List ℕ) (read written : Mode) → text ≡ mode_text written → mode_of text ≡ Some read → read ≡ written
+mode_is text read written is spells = let same : Some read ≡ Some written = sym spells ∙ ap mode_of is ∙ mode_of-mode_text written in cc
+
+module _ (contents : SecondContents) (g : Registry) (k : Kept) (s : IsSpelledSecond contents g k) where
+  pub global_is : get contents.base.meta (codes "global") ≡ Some (level_text g.global)
+  global_is =
+      ap (λ m. get m (codes "global")) s.meta ∙ get-insert-other text_cmp text_order _ (codes "mode") (mode_text g.global_mode) (codes "global") other_name
+      ∙ get-insert-same text_cmp text_order _ (codes "global") (level_text g.global)
+
+  pub global_mode_is : get contents.base.meta (codes "mode") ≡ Some (mode_text g.global_mode)
+  global_mode_is = ap (λ m. get m (codes "mode")) s.meta ∙ get-insert-same text_cmp text_order _ (codes "mode") (mode_text g.global_mode)

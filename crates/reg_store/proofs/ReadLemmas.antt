@@ -6,9 +6,10 @@ use Rattle.sqlite.specs.State.{State, HasCleanDisk}
 use Rattle.sqlite.specs.declared.error.Error.{Error}
 use Rattle.sqlite_trees.specs.declared.store.Store.{Ghosts}
 use Rattle.sqlite.specs.Effect.{Database}
-use Rattle.reg_tables.specs.Layout.{IsLayout}
+use Rattle.reg_tables.specs.Layout.{HasTablesFirst}
 use Rattle.reg_tables.specs.Frames.{StaysIdle}
 use Rattle.reg_tables.specs.Reads.{HoldsReadable, CanBeRead, HasLayout}
+use Rattle.reg_tables.specs.SecondContents.{CanBeReadSecond}
 use Rattle.reg_tables.specs.FailedCalls.{IsFault}
 use Rattle.reg_tables.proofs.Transactions.{keeps_then, survives_both}
 use Rattle.reg_store.specs.declared.error.StoreError.{StoreError}
@@ -19,6 +20,7 @@ use Rattle.reg_store.specs.Failures.{failure_of, IsFaultBy, IsTold}
 use Rattle.reg_store.specs.Inside.Reads.{shown, Rests, MayRead, Reads}
 use Rattle.reg_store.specs.Stores.{TellsStored}
 use Rattle.reg_store.proofs.Failing.{by_since, fault_by, told_since, can_be_read}
+use Rattle.reg_store.proofs.SecondTests.{can_be_read_second}
 use Rattle.reg_store.proofs.Committing.{still_spells}
 
 -- ---- results
@@ -103,7 +105,7 @@ module _ (a b : State) (p : Rests a b) (settled : IsTrue a.is_open → a.now ≡
   readable_on can is_open = subst HoldsReadable (sym (same_db is_open)) (can ((p.commit_stays clean).was_open is_open))
 
   pub layout_on : HasLayout a → HasLayout b
-  layout_on known is_open = subst (λ (d : Database). IsLayout d.schema) (sym (same_db is_open)) (known ((p.commit_stays clean).was_open is_open))
+  layout_on known is_open = subst (λ (d : Database). HasTablesFirst d.schema) (sym (same_db is_open)) (known ((p.commit_stays clean).was_open is_open))
 
 -- ---- reads
 
@@ -132,6 +134,17 @@ module _ {S : Type 0} {g : Ghosts S} where
       may = record {
         rests = rests_read g old.idle.conn new.idle.conn (Err e) frame;
         answers = λ clean was over. passed_on (Tells was) (IsFaultBy (shown old) (shown new)) r (failure_of e) is (fault_by (shown old) (shown new) e old.unlimited (fault clean (can_be_read (shown old) was.registry was.replies over)));
+      };
+      was_open = λ clean. none_ok (IsTrue (shown old).is_open) r (failure_of e) is;
+    }
+
+    -- nor was one of those that layout 2 adds
+    pub not_read_second : {Y : Type 0} {e : Error} → StaysIdle {X = Y} g old.idle.conn new.idle.conn (Err e) → (HasCleanDisk (shown new) → CanBeReadSecond (shown old) → IsFault (shown old) (shown new) e)
+        → IsErrAnd r (λ failure. failure ≡ failure_of e) → Reads old new r Tells
+    not_read_second {e = e} frame fault is = record {
+      may = record {
+        rests = rests_read g old.idle.conn new.idle.conn (Err e) frame;
+        answers = λ clean was over. passed_on (Tells was) (IsFaultBy (shown old) (shown new)) r (failure_of e) is (fault_by (shown old) (shown new) e old.unlimited (fault clean (can_be_read_second (shown old) was.registry was.replies over)));
       };
       was_open = λ clean. none_ok (IsTrue (shown old).is_open) r (failure_of e) is;
     }

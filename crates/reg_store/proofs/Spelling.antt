@@ -1,12 +1,13 @@
 -- What a change of the tables makes of what they spell.
-use Rattle.std.proofs.Common.{◌≡◌, ℕ, zero, suc, arith, ◌+◌, ◌<◌, List, [], ◌∷◌, ◌++◌, length, take, get_or, Option, Some, None, Bool, true, false, cond, codes, refl, sym, ap, subst, ◌∙◌}
+use Rattle.std.proofs.Common.{◌≡◌, ℕ, zero, suc, arith, ◌+◌, ◌<◌, List, [], ◌∷◌, ◌++◌, length, take, get_or, Option, Some, None, Bool, true, false, cond, refl, sym, ap, subst, ◌∙◌}
 use Rattle.std.specs.Prelude.{option_map, bytes_eq, IsTrue, All, ◌≤◌}
-use Rattle.std.specs.FinMap.{get, insert}
+use Rattle.std.specs.FinMap.{get}
 use Rattle.std.proofs.lemmas.List.{take_more}
 use Rattle.std.proofs.lemmas.Slice.Eq.{bytes_eq-Decides}
 use Rattle.sqlite.specs.State.{State}
 use Rattle.reg_core.specs.declared.decision.Change.{Change}
 use Rattle.reg_core.specs.declared.decision.Change.TheVariants.{SetGlobal, SetLevel}
+use Rattle.reg_core.specs.declared.mode.Mode.{Mode}
 use Rattle.reg_core.specs.Views.{ChangeFits, ChangesFit, after_changes, after_change}
 use Rattle.reg_core.specs.declared.level.Level.{Level}
 use Rattle.reg_core.specs.Levels.{level_text}
@@ -14,16 +15,19 @@ use Rattle.reg_core.specs.Subjects.{is_subject}
 use Rattle.avro_nodes.specs.Nodes.{NodeView}
 use Rattle.avro_nodes.specs.Identity.{identity}
 use Rattle.avro_schema.specs.Texts.{IsSchema}
-use Rattle.reg_core.specs.Registry.{Schemas, Rows, Registry, IsRow, IsRegistry, schema_at, max_number, own_with}
-use Rattle.reg_tables.specs.Contents.{Contents, Holds}
-use Rattle.reg_tables.specs.Changes.{Changes, with_global, with_level, with_kept}
+use Rattle.reg_core.specs.Modes.{mode_text}
+use Rattle.reg_core.specs.Registry.{Schemas, Rows, Registry, OwnModes, IsRow, IsRegistry, schema_at, max_number, own_with}
+use Rattle.reg_tables.specs.Contents.{TextMap, Contents}
+use Rattle.reg_tables.specs.Writing.{Changes, ChangesIf}
+use Rattle.reg_tables.specs.Changes.{with_global, with_level, with_kept}
 use Rattle.reg_core.specs.KeptReplies.{Entry, Kept, kept_with}
 use Rattle.reg_store.specs.Spells.{CanBeKept, IsSpelled, Spells, row_of}
 use Rattle.reg_store.specs.Inside.Making.{Makes}
-use Rattle.reg_store.proofs.Maps.{insert_both, insert-insert}
+use Rattle.reg_store.proofs.Maps.{insert_both}
+use Rattle.reg_store.proofs.Seconds.{spelled_in, level_changed, changed, put}
 
 -- what holds of each entry holds with one more
-each_entry : {V : Type 0} (P : List ℕ → V → Type 0) (look : List ℕ → Option V) (k : List ℕ) (v : V) → P k v → ((q : List ℕ) (w : V) → look q ≡ Some w → P q w)
+pub each_entry : {V : Type 0} (P : List ℕ → V → Type 0) (look : List ℕ → Option V) (k : List ℕ) (v : V) → P k v → ((q : List ℕ) (w : V) → look q ≡ Some w → P q w)
     → (q : List ℕ) (w : V) → cond (bytes_eq k q) (Some v) (look q) ≡ Some w → P q w
 each_entry P look k v here others q w = go (bytes_eq k q) refl
   where
@@ -44,45 +48,40 @@ same_registry g h schemas rows is = record {
 }
 
 module _ (contents : Contents) (g : Registry) (k : Kept) (s : IsSpelled contents g k) where
-  pub spelled_global : (level : Level) → IsSpelled (with_global (level_text level) contents) (record g { global = level }) k
-  spelled_global level = record {
+  -- the global level, modes and the rows of `meta` are no matter of it
+  pub spelled_beside : (meta : TextMap (List ℕ)) (level : Level) (mode : Mode) (modes : OwnModes) → IsSpelled (record contents { meta = meta }) (record g { global = level; global_mode = mode; own_modes = modes }) k
+  spelled_beside meta level mode modes = record {
     registry = same_registry g _ refl refl s.registry;
     texts = s.texts;
     utf8 = s.utf8;
     versions = s.versions;
     registered = s.registered;
-    meta = ap (λ m. insert m (codes "global") (level_text level)) s.meta ∙ insert-insert _ (codes "global") (level_text g.global) (level_text level);
-    modes = record { global = s.modes.global; own = s.modes.own };
     levels = s.levels;
     subjects = s.subjects;
     kept = s.kept;
     keys = s.keys;
   }
 
-  pub spelled_level : (subject : List ℕ) (level : Level) → IsTrue (is_subject subject) → IsSpelled (with_level subject (level_text level) contents) (record g { own = own_with g.own subject level }) k
+  spelled_level : (subject : List ℕ) (level : Level) → IsTrue (is_subject subject) → IsSpelled (with_level subject (level_text level) contents) (record g { own = own_with g.own subject level }) k
   spelled_level subject level within = record {
     registry = same_registry g _ refl refl s.registry;
     texts = s.texts;
     utf8 = s.utf8;
     versions = s.versions;
     registered = s.registered;
-    meta = s.meta;
-    modes = record { global = s.modes.global; own = s.modes.own };
     levels = insert_both level_text contents.levels g.own subject level s.levels;
     subjects = each_entry (λ q _. IsTrue (is_subject q)) g.own subject level within s.subjects;
     kept = s.kept;
     keys = s.keys;
   }
 
-  pub spelled_kept : (key : List ℕ) (entry : Entry) → CanBeKept key entry → IsSpelled (with_kept key (row_of entry) contents) g (kept_with k key entry)
+  spelled_kept : (key : List ℕ) (entry : Entry) → CanBeKept key entry → IsSpelled (with_kept key (row_of entry) contents) g (kept_with k key entry)
   spelled_kept key entry fits = record {
     registry = same_registry g _ refl refl s.registry;
     texts = s.texts;
     utf8 = s.utf8;
     versions = s.versions;
     registered = s.registered;
-    meta = s.meta;
-    modes = record { global = s.modes.global; own = s.modes.own };
     levels = s.levels;
     subjects = s.subjects;
     kept = insert_both row_of contents.kept k key entry s.kept;
@@ -93,20 +92,21 @@ module _ (contents : Contents) (g : Registry) (k : Kept) (s : IsSpelled contents
 
 module _ (old new : State) where
   pub respells_global : (level : Level) → Changes old new (with_global (level_text level)) → Makes old new (SetGlobal level)
-  respells_global level changes g k s fits = record { contents = with_global (level_text level) s.contents; holds = changes s.contents s.holds; spelled = spelled_global s.contents g k s.spelled level }
+  respells_global level changes g k s fits =
+      changed old new (with_global (level_text level)) changes g k s _ _
+      (spelled_in s.contents g k s.spelled _ _ _ (spelled_beside s.contents.base g k s.spelled.base _ level g.global_mode g.own_modes) (level_changed s.contents.base.meta g.global level (mode_text g.global_mode) s.spelled.meta) refl)
 
   pub respells_level : (subject : List ℕ) (level : Level) → IsTrue (is_subject subject) → Changes old new (with_level subject (level_text level)) → Makes old new (SetLevel subject level)
   respells_level subject level within changes g k s fits =
-      record { contents = with_level subject (level_text level) s.contents; holds = changes s.contents s.holds; spelled = spelled_level s.contents g k s.spelled subject level within }
+      changed old new (with_level subject (level_text level)) changes g k s _ _
+      (spelled_in s.contents g k s.spelled _ _ _ (spelled_level s.contents.base g k s.spelled.base subject level within) s.spelled.meta refl)
 
   pub respells_kept : (key : List ℕ) (entry : Entry) → CanBeKept key entry
-      → ((contents : Contents) → Holds old.now contents → get contents.kept key ≡ None → Holds new.now (with_kept key (row_of entry) contents))
+      → ChangesIf old new (λ contents. get contents.kept key ≡ None) (with_kept key (row_of entry))
       → (g : Registry) (k : Kept) → Spells old.now g k → k key ≡ None → Spells new.now g (kept_with k key entry)
-  respells_kept key entry fits puts g k s fresh = record {
-    contents = with_kept key (row_of entry) s.contents;
-    holds = puts s.contents s.holds (s.spelled.kept key ∙ ap (option_map row_of) fresh);
-    spelled = spelled_kept s.contents g k s.spelled key entry fits;
-  }
+  respells_kept key entry fits puts g k s fresh =
+      put old new (λ contents. get contents.kept key ≡ None) (with_kept key (row_of entry)) puts g k s (s.spelled.base.kept key ∙ ap (option_map row_of) fresh) _ _
+      (spelled_in s.contents g k s.spelled _ _ _ (spelled_kept s.contents.base g k s.spelled.base key entry fits) s.spelled.meta refl)
 
 -- ---- several changes
 

@@ -1,9 +1,10 @@
 -- What the tests of the tables say, both ways.
-use Rattle.std.proofs.Common.{◌⊎◌, ◌≡◌, ℕ, List, [], ◌∷◌, map, Bool, false, None, Ok, Err, Result, IsTrue, refl, sym, ap, subst, ◌∙◌, arith}
-use Rattle.std.specs.Prelude.{IfErr, OnOk, IsErrAnd}
+use Rattle.std.proofs.Common.{◌⊎◌, ◌≡◌, ℕ, List, [], ◌∷◌, map, length, Bool, false, None, Ok, Err, Result, IsTrue, refl, sym, ap, subst, ◌∙◌, arith}
+use Rattle.std.specs.Prelude.{IfOk, IfErr, OnOk, IsErrAnd}
 use Rattle.std.specs.List.{AllByRecursion, IsDistinct}
 use Rattle.std.specs.List.Sorted.{IsPermutation}
-use Rattle.std.proofs.lemmas.List.Sorted.{IsPermutation-map, IsPermutation-trans}
+use Rattle.std.proofs.lemmas.List.{length-map}
+use Rattle.std.proofs.lemmas.List.Sorted.{IsPermutation-map, IsPermutation-trans, length_permutation}
 use Rattle.std.specs.FinMap.{get}
 use Rattle.sqlite.specs.Schema.{Schema}
 use Rattle.sqlite.specs.Effect.{Database, IsDatabase}
@@ -17,34 +18,34 @@ use Rattle.reg_tables.specs.declared.lines.VersionLine.{VersionLine}
 use Rattle.reg_tables.specs.declared.lines.LevelLine.{LevelLine}
 use Rattle.reg_tables.specs.declared.lines.KeptLine.{KeptLine}
 use Rattle.reg_tables.specs.declared.lines.MetaLine.{MetaLine}
-use Rattle.reg_tables.specs.Layout.{IsLayout, texts, versions, levels, kept, meta}
-use Rattle.reg_tables.specs.Contents.{text_form, version_form, pair_form, kept_form, text_cmp, version_cmp}
+use Rattle.reg_tables.specs.Layout.{HasTablesFirst, texts, versions, levels, kept}
+use Rattle.reg_tables.specs.Contents.{text_form, version_form, pair_form, kept_form, text_cmp, version_cmp, HoldsIn}
 use Rattle.reg_tables.specs.Frames.{StaysIdle}
-use Rattle.reg_tables.specs.Listings.{entry_parts, text_entry, version_entry, level_entry, kept_entry, meta_entry, ListsTexts, ListsVersions, ListsLevels, ListsKept, ListsMeta}
+use Rattle.reg_tables.specs.Listings.{parts_of, entry_parts, text_entry, version_entry, level_entry, kept_entry, ListsTexts, ListsVersions, ListsLevels, ListsKept, ListsMeta}
 use Rattle.reg_tables.specs.Inside.AllLines.{ListsAll, HaveNoTwins, Lines, contents_of}
-use Rattle.reg_tables.specs.Reads.{CanBeRead, HasLayout}
+use Rattle.reg_tables.specs.Reads.{CanBeRead}
 use Rattle.reg_tables.specs.FailedCalls.{IsFault, IsUnreadable}
 use Rattle.reg_tables.proofs.KeyedTables.{text_order, distinct_texts, number_order, distinct_numbers, version_order, distinct_versions}
 use Rattle.reg_tables.proofs.ListingLemmas.{listed_if_shown}
 use Rattle.reg_tables.proofs.Opening.{holds_if_listed, distinct_version_rows, distinct_kept_rows}
-use Rattle.reg_tables.proofs.UniqueKeys.{apart_by_id, versions_apart, levels_apart, kept_apart, meta_apart, rowids_of}
-use Rattle.reg_rows.specs.Spelling.{Text, pair_of, is_meta, AreTexts, IsVersionRow, IsLevelRow, IsKeptRow, IsSpelling}
+use Rattle.reg_tables.proofs.Statements.{laid_out}
+use Rattle.reg_tables.proofs.UniqueKeys.{HasKeysFirst, apart_by_id, versions_apart, levels_apart, kept_apart, meta_apart, rowids_of}
+use Rattle.reg_rows.specs.Spelling.{Text, AreTexts, IsVersionRow, IsLevelRow, IsKeptRow}
 use Rattle.reg_store.specs.declared.error.StoreError.{StoreError}
 use Rattle.reg_store.specs.declared.error.StoreError.TheVariants.{Memory, NotARegistry}
 use Rattle.reg_store.specs.Failures.{failure_of, IsFaultBy, IsTold}
-use Rattle.reg_store.specs.Opening.{text_row, version_row, level_row, kept_row, meta_row, rows_of}
+use Rattle.reg_store.specs.Opening.{text_row, version_row, level_row, kept_row, HasVersionRows}
 use Rattle.reg_core.specs.KeptReplies.{Kept}
-use Rattle.reg_store.specs.Spells.{SpellsIn, SpellsUnopened}
-use Rattle.reg_store.specs.Inside.Testing.{AreApart, version_fits, level_fits, kept_fits, Tests, TablesPass}
-use Rattle.reg_store.specs.UnopenedFaults.{IsFaultUnopened, IsToldUnopened}
-use Rattle.reg_store.proofs.Bridge.{levels_fit, kept_fit, meta_fit, spelled_if_rows}
+use Rattle.reg_store.specs.Spells.{IsSpelled}
+use Rattle.reg_store.specs.Inside.Reads.{SpellsBase}
+use Rattle.reg_store.specs.Inside.Testing.{AreApart, version_fits, level_fits, kept_fits, SpellsSome, Tests, RestPasses}
+use Rattle.reg_store.proofs.Bridge.{levels_fit, kept_fit, spelled_if_rows}
 use Rattle.reg_store.proofs.Numbering.{Rises, ids_apart}
 use Rattle.reg_store.proofs.Schemas.{texts_fit, versions_fit}
 use Rattle.reg_tables.proofs.References.{one_id, has_text}
-use Rattle.reg_tables.proofs.Transactions.{survives_both, on_ok}
+use Rattle.reg_tables.proofs.Transactions.{survives_both, if_ok, if_err}
 use Rattle.reg_store.proofs.Failing.{fault_by, by_since, told_by, told_since}
 use Rattle.reg_store.proofs.Rereading.{reads_then, same_now}
-use Rattle.reg_store.proofs.Texts.{readable_if_spelled}
 
 -- ---- lines and rows
 
@@ -60,12 +61,17 @@ each_line f P (x ∷ xs) h = (h.0, each_line f P xs h.1)
 pub lists_sorted : (db : Database) (old new : List TextLine) → IsPermutation old new → ListsTexts db old → ListsTexts db new
 lists_sorted db old new same lists = IsPermutation-trans _ _ _ lists (IsPermutation-map (entry_parts text_form) _ _ (IsPermutation-map text_entry old new same))
 
+-- the lines of `versions` are as many as its rows
+pub versions_counted : (db : Database) (lines : List VersionLine) → ListsVersions db lines → HasVersionRows db (length lines)
+versions_counted db lines lists =
+    sym (length-map (map version_entry lines) (entry_parts version_form) ∙ length-map lines version_entry) ∙ length_permutation _ _ lists ∙ length-map (db.trees versions.tree) (parts_of version_form)
+
 -- ---- tables that spell a registry pass
 
-pub is_known : (db : Database) (g : Registry) (k : Kept) → SpellsUnopened db g k → IsLayout db.schema
-is_known db g k s = subst IsLayout (sym s.spells.holds.declared) s.known
+pub is_known : (db : Database) (g : Registry) (k : Kept) → SpellsBase db g k → HasTablesFirst db.schema
+is_known db g k s = laid_out s.holds s.first
 
-module _ (schema : Schema) (db : Database) (g : Registry) (k : Kept) (s : SpellsIn schema db g k) where
+module _ (db : Database) (g : Registry) (k : Kept) (s : SpellsBase db g k) where
   pub texts_pass : (lines : List TextLine) → ListsTexts db lines → Rises (map (λ (row : ℕ × Text). row.0) (map text_row lines)) → AreTexts (map text_row lines)
   texts_pass lines lists rising =
       let shown = listed_if_shown text_form _ number_order distinct_numbers (db.trees texts.tree) (map text_entry lines) lists s.contents.texts distinct_texts s.holds.texts in
@@ -92,91 +98,115 @@ module _ (schema : Schema) (db : Database) (g : Registry) (k : Kept) (s : Spells
         each_line kept_row IsKeptRow lines (kept_fit lines shown.apart k (λ q. sym (ap (λ m. get m q) shown.is) ∙ s.spelled.kept q) s.spelled.keys),
       )
 
-  pub meta_passes : (lines : List MetaLine) → ListsMeta db lines → AreApart (map (λ (line : MetaLine). line.rowid) lines) × IsTrue (is_meta (map pair_of (map meta_row lines)))
-  meta_passes lines lists =
-      let shown = listed_if_shown pair_form text_cmp text_order distinct_texts (db.trees meta.tree) (map meta_entry lines) lists s.contents.meta distinct_texts s.holds.meta in (
-        subst AreApart (rowids_of meta_entry (λ (line : MetaLine). line.rowid) (λ line. refl) lines) shown.apart.rowids,
-        meta_fit lines shown.apart g.global (sym shown.is ∙ s.spelled.meta),
-      )
-
 -- ---- tables that pass spell a registry
 
-module _ (db : Database) (known : IsLayout db.schema) (sound : IsDatabase db) (p : TablesPass db) where
-  lines : Lines
-  lines = record { texts = p.rest.texts.lines; versions = p.rest.versions.lines; levels = p.rest.levels.lines; kept = p.rest.kept.lines; meta = p.meta.lines }
+-- the lines of the five tables
+abbrev pub lines_in : {db : Database} → List MetaLine → RestPasses db → Lines
+lines_in meta rest = record { texts = rest.texts.lines; versions = rest.versions.lines; levels = rest.levels.lines; kept = rest.kept.lines; meta = meta }
 
-  lists : ListsAll db lines
-  unfolding lines
-  lists = record { texts = p.rest.texts.lists; versions = p.rest.versions.lists; levels = p.rest.levels.lists; kept = p.rest.kept.lists; meta = p.meta.lists }
-
-  apart : HaveNoTwins lines
-  unfolding lines IsDistinct
-  apart = record {
-    texts = apart_by_id p.rest.texts.lines (ids_apart p.rest.texts.lines p.rest.texts.fit.numbered);
-    versions = versions_apart db known sound p.rest.versions.lines p.rest.versions.lists p.rest.versions.apart;
-    levels = levels_apart db known sound p.rest.levels.lines p.rest.levels.lists p.rest.levels.apart;
-    kept = kept_apart db known sound p.rest.kept.lines p.rest.kept.lists p.rest.kept.apart;
-    meta = meta_apart db known sound p.meta.lines p.meta.lists p.meta.apart;
+module _ (db : Database) (known : HasKeysFirst db.schema) (sound : IsDatabase db) (meta : List MetaLine) (lists : ListsMeta db meta) (ids : AreApart (map (λ (line : MetaLine). line.rowid) meta)) (rest : RestPasses db) where
+  pub apart_if_passed : HaveNoTwins (lines_in meta rest)
+  unfolding IsDistinct
+  apart_if_passed = record {
+    texts = apart_by_id rest.texts.lines (ids_apart rest.texts.lines rest.texts.fit.numbered);
+    versions = versions_apart db known sound rest.versions.lines rest.versions.lists rest.versions.apart;
+    levels = levels_apart db known sound rest.levels.lines rest.levels.lists rest.levels.apart;
+    kept = kept_apart db known sound rest.kept.lines rest.kept.lists rest.kept.apart;
+    meta = meta_apart db known sound meta lists ids;
   }
 
-  hold : IsSpelling (rows_of lines)
-  unfolding lines
-  hold = record {
-    texts = p.rest.texts.fit;
-    versions = each_row version_row IsVersionRow p.rest.versions.lines p.rest.versions.fit;
-    levels = each_row level_row IsLevelRow p.rest.levels.lines p.rest.levels.fit;
-    kept = each_row kept_row IsKeptRow p.rest.kept.lines p.rest.kept.fit;
-    meta = p.meta.fit;
-  }
+  pub lists_if_passed : ListsAll db (lines_in meta rest)
+  lists_if_passed = record { texts = rest.texts.lists; versions = rest.versions.lists; levels = rest.levels.lists; kept = rest.kept.lists; meta = lists }
 
-  pub spelled_if_passed : (g : Registry) × (k : Kept) × SpellsUnopened db g k
+  pub holds_if_passed : HoldsIn db.schema db (contents_of (lines_in meta rest))
+  holds_if_passed = holds_if_listed db.schema db (lines_in meta rest) refl lists_if_passed sound apart_if_passed
+
+  pub spelled_if_passed : (g : Registry) × (k : Kept) × IsSpelled (contents_of (lines_in meta rest)) g k
   spelled_if_passed =
-      let holds = holds_if_listed db.schema db lines refl lists sound apart in
-      let it = spelled_if_rows lines apart (one_id db.schema db (contents_of lines) known holds) (has_text db.schema db (contents_of lines) known holds) hold in
-      (it.0, it.1, record { schema = db.schema; known = known; spells = record { contents = contents_of lines; holds = holds; spelled = it.2 } })
+      spelled_if_rows (lines_in meta rest) apart_if_passed (one_id db.schema db (contents_of (lines_in meta rest)) known holds_if_passed) (has_text db.schema db (contents_of (lines_in meta rest)) known holds_if_passed)
+      rest.texts.fit (each_row version_row IsVersionRow rest.versions.lines rest.versions.fit) (each_row level_row IsLevelRow rest.levels.lines rest.levels.fit) (each_row kept_row IsKeptRow rest.kept.lines rest.kept.fit)
 
 -- ---- how a test comes out
 
-pub unopened_can_be_read : (s : State) (g : Registry) (k : Kept) → (IsTrue s.is_open → SpellsUnopened s.now g k) → CanBeRead s
-unopened_can_be_read s g k over = λ is_open.
-    let it = over is_open in
-    record { schema = it.schema; is_layout = it.known; contents = it.spells.contents; holds = it.spells.holds; readable = readable_if_spelled it.spells.contents g k it.spells.spelled }
+pub some_known : (db : Database) → SpellsSome SpellsBase db → HasTablesFirst db.schema
+some_known db s = is_known db s.registry s.kept s.spells
+
+pub some_can_be_read : (s : State) → (IsTrue s.is_open → SpellsSome SpellsBase s.now) → CanBeRead s
+some_can_be_read s over = λ is_open.
+    let it = (over is_open).spells in
+    record { schema = it.schema; known = it.first; contents = it.contents; holds = it.holds; readable = it.readable }
 
 module _ {S X : Type 0} (g : Ghosts S) (old new : Held S) where
   pub framed : {Y E F : Type 0} (a : Result X E) (b : Result Y F) → StaysIdle g old new a → (HasCleanDisk (state g new) → OnOk b (IsTrue (state g old).is_open)) → StaysIdle g old new b
   framed a b f was_open = record { was_open = was_open; only_reads = f.only_reads; survives = f.survives }
 
+module _ {S X Y : Type 0} {Declared : Schema → Type 0} {Spelled : Database → Type 0} {P : Y → Database → Type 0} (g : Ghosts S) (old new : Held S) where
   -- the table wasn't read
-  pub test_unread : {P : Database → Type 0} (r : Result (Unit {0}) StoreError) (e : Error) → old.step_limit ≡ None → StaysIdle {X = X} {E = Error} g old new (Err e) → (HasCleanDisk (state g new) → CanBeRead (state g old) → IsFault (state g old) (state g new) e)
-      → (HasCleanDisk (state g new) → HasLayout (state g old) → IsFault (state g old) (state g new) e ⊎ IsUnreadable e) → IsErrAnd r (λ failure. failure ≡ failure_of e) → Tests g old new r P
-  test_unread (Ok x) e unlimited f fault told is = absurd is
-  test_unread (Err failure) e unlimited f fault told is = record {
-    frame = framed (Err e) (Err failure) f (λ clean. tt);
-    passes = λ clean. tt;
-    fault = λ clean registry k over. subst (IsFaultBy (state g old) (state g new)) (sym is) (fault_by (state g old) (state g new) e unlimited (fault clean (unopened_can_be_read (state g old) registry k over)));
+  pub test_unread : {CanTell : Type 0} (r : Result Y StoreError) (e : Error) → ((IsTrue (state g old).is_open → Spelled (state g old).now) → CanTell) → old.step_limit ≡ None → StaysIdle {X = X} {E = Error} g old new (Err e)
+      → (HasCleanDisk (state g new) → CanTell → IsFault (state g old) (state g new) e)
+      → (HasCleanDisk (state g new) → (IsTrue (state g old).is_open → Declared (state g old).now.schema) → IsFault (state g old) (state g new) e ⊎ IsUnreadable e) → IsErrAnd r (λ failure. failure ≡ failure_of e) → Tests Declared Spelled g old new r P
+  test_unread (Ok x) e can unlimited f fault told is = absurd is
+  test_unread (Err failure) e can unlimited f fault told is = record {
+    frame = framed g old new (Err e) (Err failure) f (λ clean. tt);
+    tells = λ clean. tt;
+    fault = λ clean over. subst (IsFaultBy (state g old) (state g new)) (sym is) (fault_by (state g old) (state g new) e unlimited (fault clean (can over)));
     told = λ clean known. subst (IsTold (state g old) (state g new)) (sym is) (told_by (state g old) (state g new) e unlimited (told clean known));
   }
 
-  -- memory was refused
-  pub test_refused : {P : Database → Type 0} (r : Result (Unit {0}) StoreError) (x : X) → StaysIdle {X = X} {E = Error} g old new (Ok x) → IsErrAnd r (λ failure. failure ≡ Memory) → Tests g old new r P
-  test_refused (Ok y) x f is = absurd is
-  test_refused (Err failure) x f is = record {
-    frame = framed (Ok x) (Err failure) f (λ clean. tt);
-    passes = λ clean. tt;
-    fault = λ clean registry k over. subst (IsFaultBy (state g old) (state g new)) (sym is) tt;
-    told = λ clean known. subst (IsTold (state g old) (state g new)) (sym is) tt;
+module _ {S X : Type 0} {Declared : Schema → Type 0} {Spelled : Database → Type 0} (g : Ghosts S) (old new : Held S) where
+  -- the table was read
+  pub test_read : {P : X → Database → Type 0} (x : X) → StaysIdle {X = X} {E = Error} g old new (Ok x) → (HasCleanDisk (state g new) → Declared (state g old).now.schema → P x (state g old).now) → Tests Declared Spelled g old new (Ok x) P
+  test_read x f tells = record { frame = framed g old new (Ok x) (Ok x) f f.was_open; tells = tells; fault = λ clean. tt; told = λ clean. tt }
+
+  module _ {P : X → Database → Type 0} {x : X} (t : Tests Declared Spelled g old new (Ok x) P) where
+    -- memory was refused then
+    pub test_refused : {Y : Type 0} {Q : Y → Database → Type 0} (r : Result Y StoreError) → IsErrAnd r (λ failure. failure ≡ Memory) → Tests Declared Spelled g old new r Q
+    test_refused (Ok y) is = absurd is
+    test_refused (Err failure) is = record {
+      frame = framed g old new (Ok x) (Err failure) t.frame (λ clean. tt);
+      tells = λ clean. tt;
+      fault = λ clean over. subst (IsFaultBy (state g old) (state g new)) (sym is) tt;
+      told = λ clean known. subst (IsTold (state g old) (state g new)) (sym is) tt;
+    }
+
+    -- what was read passes or doesn't
+    pub test_judged : {Q : Unit {0} → Database → Type 0} (r : Result (Unit {0}) StoreError) (b : Bool) → OnOk r (IsTrue b) → IfErr r (λ e. (e ≡ NotARegistry) × (b ≡ false)) → ((db : Database) → Spelled db → Declared db.schema)
+        → ((db : Database) → P x db → IsTrue b → Q tt db) → ((db : Database) → P x db → b ≡ false → Spelled db → ⊥) → Tests Declared Spelled g old new r Q
+    test_judged (Ok y) b ok err declared passes fails = record { frame = framed g old new (Ok x) (Ok y) t.frame t.frame.was_open; tells = λ clean known. passes (state g old).now (t.tells clean known) ok; fault = λ clean. tt; told = λ clean. tt }
+    test_judged (Err e) b ok err declared passes fails = record {
+      frame = framed g old new (Ok x) (Err e) t.frame (λ clean. tt);
+      tells = λ clean. tt;
+      fault = λ clean over.
+          (let spelled = over (t.frame.was_open clean) in
+          absurd (fails (state g old).now (t.tells clean (declared (state g old).now spelled)) err.1 spelled));
+      told = λ clean known. subst (IsTold (state g old) (state g new)) (sym err.0) tt;
+    }
+
+    -- something else is answered
+    pub test_tells : {Y : Type 0} {Q : Y → Database → Type 0} (y : Y) → ((db : Database) → P x db → Q y db) → Tests Declared Spelled g old new (Ok y) Q
+    test_tells y f = record { frame = framed g old new (Ok x) (Ok y) t.frame t.frame.was_open; tells = λ clean known. f (state g old).now (t.tells clean known); fault = λ clean. tt; told = λ clean. tt }
+
+  -- an error that `?` passes on
+  pub test_fails : {Y : Type 0} {P : X → Database → Type 0} {Q : Y → Database → Type 0} (r : Result Y StoreError) (e : StoreError) → Tests {X = X} Declared Spelled g old new (Err e) P → IsErrAnd r (λ failure. failure ≡ e) → Tests Declared Spelled g old new r Q
+  test_fails (Ok y) e t is = absurd is
+  test_fails (Err failure) e t is = record {
+    frame = framed g old new (Err e) (Err failure) t.frame (λ clean. tt);
+    tells = λ clean. tt;
+    fault = λ clean over. subst (IsFaultBy (state g old) (state g new)) (sym is) (t.fault clean over);
+    told = λ clean known. subst (IsTold (state g old) (state g new)) (sym is) (t.told clean known);
   }
 
-  -- the table was read, and passes or doesn't
-  pub test_judged : {P : Database → Type 0} (r : Result (Unit {0}) StoreError) (x : X) (b : Bool) → StaysIdle {X = X} {E = Error} g old new (Ok x) → OnOk r (IsTrue b) → IfErr r (λ e. (e ≡ NotARegistry) × (b ≡ false))
-      → (HasCleanDisk (state g new) → IsTrue b → IsLayout (state g old).now.schema → P (state g old).now)
-      → (HasCleanDisk (state g new) → b ≡ false → (registry : Registry) (k : Kept) → SpellsUnopened (state g old).now registry k → ⊥) → Tests g old new r P
-  test_judged (Ok y) x b f ok err passes fails = record { frame = framed (Ok x) (Ok y) f f.was_open; passes = λ clean. passes clean ok; fault = λ clean. tt; told = λ clean. tt }
-  test_judged (Err e) x b f ok err passes fails = record {
-    frame = framed (Ok x) (Err e) f (λ clean. tt);
-    passes = λ clean. tt;
-    fault = λ clean registry k over. absurd (fails clean err.1 registry k (over (f.was_open clean)));
-    told = λ clean known. subst (IsTold (state g old) (state g new)) (sym err.0) tt;
+  pub test_says : {P Q : X → Database → Type 0} (r : Result X StoreError) → Tests Declared Spelled g old new r P → ((x : X) (db : Database) → P x db → Q x db) → Tests Declared Spelled g old new r Q
+  test_says r t f = record { frame = t.frame; tells = λ clean. if_ok r (λ x p known. f x (state g old).now (p known)) (t.tells clean); fault = t.fault; told = t.told }
+
+  -- the same of tables of which more is said
+  pub test_of : {P : X → Database → Type 0} {Known : Schema → Type 0} {Spells : Database → Type 0} (r : Result X StoreError) → ((schema : Schema) → Known schema → Declared schema) → ((db : Database) → Spells db → Spelled db)
+      → Tests Declared Spelled g old new r P → Tests Known Spells g old new r P
+  test_of r declared spelled t = record {
+    frame = t.frame;
+    tells = λ clean. if_ok r (λ x p known. p (declared (state g old).now.schema known)) (t.tells clean);
+    fault = λ clean. if_err r (λ e h over. h (λ is_open. spelled (state g old).now (over is_open))) (t.fault clean);
+    told = λ clean. if_err r (λ e h known. h (λ is_open. declared (state g old).now.schema (known is_open))) (t.told clean);
   }
 
 -- ---- several tests, one after the other
@@ -185,16 +215,17 @@ on_any : {X E P : Type 0} (r : Result X E) → P → OnOk r P
 on_any (Ok x) p = p
 on_any (Err e) p = tt
 
-module _ {S : Type 0} (g : Ghosts S) (a b c : Held S) (settled : IsTrue (state g a).is_open → (state g a).now ≡ (state g a).committed) where
+module _ {S : Type 0} {Declared : Schema → Type 0} {Spelled : Database → Type 0} (g : Ghosts S) (a b c : Held S) (settled : IsTrue (state g a).is_open → (state g a).now ≡ (state g a).committed) where
   -- the second sees what the first saw
-  pub tests_then : {P Q : Database → Type 0} {x : Unit {0}} (r : Result (Unit {0}) StoreError) → Tests g a b (Ok x) P → Tests g b c r Q → Tests g a c r (λ db. P db × Q db)
-  tests_then {P = P} {Q = Q} r one two = record {
+  pub tests_then : {X Y : Type 0} {P : X → Database → Type 0} {Q : Y → Database → Type 0} {x : X} (r : Result Y StoreError) → Tests Declared Spelled g a b (Ok x) P → Tests Declared Spelled g b c r Q
+      → Tests Declared Spelled g a c r (λ y db. P x db × Q y db)
+  tests_then {Y = Y} {P = P} {Q = Q} {x = x} r one two = record {
     frame = record {
       was_open = λ clean. on_any r (one.frame.was_open (before clean));
       only_reads = λ clean. reads_then (state g a) (state g b) (state g c) (one.frame.only_reads (before clean)) (two.frame.only_reads clean);
       survives = survives_both (state g a) (state g b) (state g c) one.frame.survives two.frame.survives;
     };
-    passes = λ clean. passed r (two.frame.was_open clean) (two.passes clean) clean;
+    tells = λ clean. both r (two.frame.was_open clean) (two.tells clean) clean;
     fault = λ clean. failed r (two.fault clean) clean;
     told = λ clean. told r (two.told clean) clean;
   }
@@ -205,25 +236,20 @@ module _ {S : Type 0} (g : Ghosts S) (a b c : Held S) (settled : IsTrue (state g
       same : HasCleanDisk (state g c) → IsTrue (state g b).is_open → (state g b).now ≡ (state g a).now
       same clean = same_now (state g a) (state g b) (one.frame.only_reads (before clean)) settled
 
-      passed : (r : Result (Unit {0}) StoreError) → OnOk r (IsTrue (state g b).is_open) → OnOk r (IsLayout (state g b).now.schema → Q (state g b).now) → HasCleanDisk (state g c) → OnOk r (IsLayout (state g a).now.schema → P (state g a).now × Q (state g a).now)
-      passed (Ok y) is_open q clean = λ known.
+      was_open : HasCleanDisk (state g c) → IsTrue (state g b).is_open → IsTrue (state g a).is_open
+      was_open clean = (one.frame.only_reads (before clean)).commit_stays.was_open
+
+      both : (r : Result Y StoreError) → OnOk r (IsTrue (state g b).is_open) → IfOk r (λ y. Declared (state g b).now.schema → Q y (state g b).now) → HasCleanDisk (state g c) → IfOk r (λ y. Declared (state g a).now.schema → P x (state g a).now × Q y (state g a).now)
+      both (Ok y) is_open q clean = λ known.
           let now = same clean is_open in
-          (one.passes (before clean) known, subst Q now (q (subst (λ (d : Database). IsLayout d.schema) (sym now) known)))
-      passed (Err e) is_open q clean = tt
+          (one.tells (before clean) known, subst (Q y) now (q (subst (λ (d : Database). Declared d.schema) (sym now) known)))
+      both (Err e) is_open q clean = tt
 
-      failed : (r : Result (Unit {0}) StoreError) → IfErr r (IsFaultUnopened (state g b) (state g c)) → HasCleanDisk (state g c) → IfErr r (IsFaultUnopened (state g a) (state g c))
+      failed : (r : Result Y StoreError) → IfErr r (λ e. (IsTrue (state g b).is_open → Spelled (state g b).now) → IsFaultBy (state g b) (state g c) e) → HasCleanDisk (state g c) → IfErr r (λ e. (IsTrue (state g a).is_open → Spelled (state g a).now) → IsFaultBy (state g a) (state g c) e)
       failed (Ok y) h clean = tt
-      failed (Err e) h clean = λ registry k over. by_since (state g a) (state g b) (state g c) (one.frame.survives.closes (before clean)) one.frame.survives.counts two.frame.survives.counts e (h registry k (λ is_open. subst (λ (d : Database). SpellsUnopened d registry k) (sym (same clean is_open)) (over ((one.frame.only_reads (before clean)).commit_stays.was_open is_open))))
+      failed (Err e) h clean = λ over. by_since (state g a) (state g b) (state g c) (one.frame.survives.closes (before clean)) one.frame.survives.counts two.frame.survives.counts e (h (λ is_open. subst Spelled (sym (same clean is_open)) (over (was_open clean is_open))))
 
-      told : (r : Result (Unit {0}) StoreError) → IfErr r (IsToldUnopened (state g b) (state g c)) → HasCleanDisk (state g c) → IfErr r (IsToldUnopened (state g a) (state g c))
+      told : (r : Result Y StoreError) → IfErr r (λ e. (IsTrue (state g b).is_open → Declared (state g b).now.schema) → IsTold (state g b) (state g c) e) → HasCleanDisk (state g c)
+          → IfErr r (λ e. (IsTrue (state g a).is_open → Declared (state g a).now.schema) → IsTold (state g a) (state g c) e)
       told (Ok y) h clean = tt
-      told (Err e) h clean = λ known. told_since (state g a) (state g b) (state g c) (one.frame.survives.closes (before clean)) one.frame.survives.counts two.frame.survives.counts e (h (λ is_open. subst (λ (d : Database). IsLayout d.schema) (sym (same clean is_open)) (known ((one.frame.only_reads (before clean)).commit_stays.was_open is_open))))
-
-module _ {S : Type 0} (g : Ghosts S) (old new : Held S) where
-  -- an error that `?` passes on
-  pub test_fails : {P Q : Database → Type 0} (r : Result (Unit {0}) StoreError) (e : StoreError) → Tests {X = Unit {0}} g old new (Err e) P → IsErrAnd r (λ failure. failure ≡ e) → Tests g old new r Q
-  test_fails (Ok x) e t is = absurd is
-  test_fails (Err failure) e t is = record { frame = framed g old new (Err e) (Err failure) t.frame (λ clean. tt); passes = λ clean. tt; fault = λ clean. subst (IsFaultUnopened (state g old) (state g new)) (sym is) (t.fault clean); told = λ clean. subst (IsToldUnopened (state g old) (state g new)) (sym is) (t.told clean) }
-
-  pub test_says : {P Q : Database → Type 0} (r : Result (Unit {0}) StoreError) → Tests g old new r P → ((db : Database) → P db → Q db) → Tests g old new r Q
-  test_says r t f = record { frame = t.frame; passes = λ clean. on_ok r (λ p known. f (state g old).now (p known)) (t.passes clean); fault = t.fault; told = t.told }
+      told (Err e) h clean = λ known. told_since (state g a) (state g b) (state g c) (one.frame.survives.closes (before clean)) one.frame.survives.counts two.frame.survives.counts e (h (λ is_open. subst (λ (d : Database). Declared d.schema) (sym (same clean is_open)) (known (was_open clean is_open))))

@@ -6,7 +6,6 @@ use Rattle.std.specs.Ordering.{is_eq, nat_cmp, int_cmp, eq_by_cmp}
 use Rattle.std.proofs.lemmas.Map.Keys.{IsDistinct-IsPermutation}
 use Rattle.sqlite.specs.declared.types.Value.TheVariants.{Int}
 use Rattle.sqlite.specs.Tree.{rowid}
-use Rattle.sqlite.specs.Schema.{Schema}
 use Rattle.sqlite.specs.Effect.{Database}
 use Rattle.sqlite_rules.specs.Lists.{Has}
 use Rattle.avro_nodes.specs.Identity.{identity}
@@ -21,7 +20,7 @@ use Rattle.std.specs.List.Sorted.{IsPermutation}
 use Rattle.std.proofs.lemmas.List.Sorted.{IsPermutation-sym, IsPermutation-trans, IsPermutation-map}
 use Rattle.std.proofs.lemmas.Simd.{map-map}
 use Rattle.reg_rows.specs.Spelling.{AreNumbered}
-use Rattle.reg_store.specs.Spells.{SpellsIn}
+use Rattle.reg_store.specs.Inside.Reads.{SpellsBase}
 use Rattle.reg_store.proofs.Ids.{schema_within, schema_there}
 use Rattle.reg_store.proofs.Numbering.{Rises, numbered, few_numbered}
 use Rattle.reg_store.proofs.Texts.{was_written}
@@ -41,7 +40,7 @@ distinct_numbers (n ∷ ns) h = (each ns h.0, distinct_numbers ns h.1)
 pub ids_sorted : (db : Database) (old new : List ℕ) → IsPermutation old new → ListsIds db old → ListsIds db new
 ids_sorted db old new same lists = IsPermutation-trans _ _ _ lists (IsPermutation-map int_of old new same)
 
-module _ (schema : Schema) (db : Database) (g : Registry) (k : Kept) (s : SpellsIn schema db g k) (ids : List ℕ) (lists : ListsIds db ids) where
+module _ (db : Database) (g : Registry) (k : Kept) (s : SpellsBase db g k) (ids : List ℕ) (lists : ListsIds db ids) where
   ids_apart : IsDistinct (eq_by_cmp nat_cmp) ids
   ids_apart =
       let rows = db.trees texts.tree in

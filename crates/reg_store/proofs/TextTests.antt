@@ -12,12 +12,10 @@ use Rattle.sqlite.specs.Held.{Held, state}
 use Rattle.sqlite.specs.State.{HasCleanDisk}
 use Rattle.sqlite_trees.specs.declared.store.Store.{Ghosts}
 use Rattle.sqlite_rules.proofs.ListLemmas.{all_has, all_from}
-use Rattle.reg_core.specs.Registry.{Registry}
-use Rattle.reg_core.specs.KeptReplies.{Kept}
 use Rattle.reg_rows.specs.Spelling.{Text, AreNumbered, IsTextRow}
 use Rattle.reg_tables.specs.declared.lines.TextLine.{TextLine}
 use Rattle.reg_tables.specs.Frames.{StaysIdle}
-use Rattle.reg_tables.specs.Layout.{IsLayout}
+use Rattle.reg_tables.specs.Layout.{HasTablesFirst}
 use Rattle.reg_tables.specs.Listings.{ListsTexts}
 use Rattle.reg_tables.specs.Reads.{CanBeRead}
 use Rattle.reg_tables.proofs.ListMembers.{has_permuted}
@@ -25,13 +23,12 @@ use Rattle.reg_tables.proofs.Transactions.{keeps_then, survives_both}
 use Rattle.reg_store.specs.declared.error.StoreError.{StoreError}
 use Rattle.reg_store.specs.declared.error.StoreError.TheVariants.{NotARegistry}
 use Rattle.reg_store.specs.Failures.{IsFaultBy, IsTold}
-use Rattle.reg_store.specs.UnopenedFaults.{IsToldUnopened}
+use Rattle.reg_store.specs.UnopenedFaults.{IsToldFirst}
 use Rattle.reg_store.specs.Opening.{text_row}
-use Rattle.reg_store.specs.Spells.{SpellsUnopened}
-use Rattle.reg_store.specs.Inside.Testing.{text_fits, Tests, TextsPass, NumbersTexts, Judges}
-use Rattle.reg_store.specs.Inside.Reads.{Rests}
+use Rattle.reg_store.specs.Inside.Testing.{text_fits, IsFaultBase, SpellsSome, TestsBase, TextsPass, NumbersTexts, Judges}
+use Rattle.reg_store.specs.Inside.Reads.{SpellsBase, Rests}
 use Rattle.reg_store.proofs.Numbering.{Rises}
-use Rattle.reg_store.proofs.TestLemmas.{each_row, lists_sorted, texts_pass, unopened_can_be_read}
+use Rattle.reg_store.proofs.TestLemmas.{framed, each_row, lists_sorted, texts_pass, some_can_be_read}
 use Rattle.reg_store.proofs.TextParts.{within, in_order}
 use Rattle.reg_store.proofs.ReadLemmas.{on_ok_each, rests_read, clean_at, fault_of_all, readable_on, told_of_all, layout_on}
 
@@ -72,9 +69,9 @@ module _ (db : Database) (count : ℕ) (numbers : NumbersTexts db count) (fit : 
   }
 
   -- a registry's texts are not refused
-  pub texts_allowed : (g : Registry) (k : Kept) → SpellsUnopened db g k → fit ≡ false → ⊥
-  texts_allowed g k s unfit =
-      let fits = texts_pass s.schema db g k s.spells ordered.0 lists (subst Rises (sym ids) (numbered_rise 1 numbers.ids numbers.numbered)) in
+  pub texts_allowed : SpellsSome SpellsBase db → fit ≡ false → ⊥
+  texts_allowed s unfit =
+      let fits = texts_pass db s.registry s.kept s.spells ordered.0 lists (subst Rises (sym ids) (numbered_rise 1 numbers.ids numbers.numbered)) in
       both_ways _ unfit (it.judged.1 (fits_permuted ordered.0 it.lines (IsPermutation-sym _ _ ordered.1) (each_fit ordered.0 fits.identities)))
     where
       each_fit : (lines : List TextLine) → AllByRecursion IsTextRow (map text_row lines) → AllByRecursion text_fits lines
@@ -96,17 +93,17 @@ module _ {S : Type 0} (g : Ghosts S) (a b c : Held S) (settled : IsTrue (state g
   }
 
   -- the texts weren't read
-  pub reading_failed : {P : Database → Type 0} (r : Result (Unit {0}) StoreError) (e : StoreError) → (HasCleanDisk (state g c) → CanBeRead (state g b) → IsFaultBy (state g b) (state g c) e) → (HasCleanDisk (state g c) → IsToldUnopened (state g b) (state g c) e)
-      → IsErrAnd r (λ failure. failure ≡ e) → Tests g a c r P
+  pub reading_failed : {P : Unit {0} → Database → Type 0} (r : Result (Unit {0}) StoreError) (e : StoreError) → (HasCleanDisk (state g c) → CanBeRead (state g b) → IsFaultBy (state g b) (state g c) e) → (HasCleanDisk (state g c) → IsToldFirst (state g b) (state g c) e)
+      → IsErrAnd r (λ failure. failure ≡ e) → TestsBase g a c r P
   reading_failed (Ok x) e fault told is = absurd is
   reading_failed (Err failure) e fault told is = record {
     frame = stays (Err failure);
-    passes = λ clean. tt;
-    fault = λ clean registry k over.
+    tells = λ clean. tt;
+    fault = λ clean over.
         (let first = rests_read g a b (Ok count) counted in
         let early = clean_at (state g a) (state g b) (state g c) read clean in
         subst (IsFaultBy (state g a) (state g c)) (sym is)
-        (fault_of_all (state g a) (state g b) (state g c) first read clean e (fault clean (readable_on (state g a) (state g b) first settled early (unopened_can_be_read (state g a) registry k over)))));
+        (fault_of_all (state g a) (state g b) (state g c) first read clean e (fault clean (readable_on (state g a) (state g b) first settled early (some_can_be_read (state g a) over)))));
     told = λ clean known.
         (let first = rests_read g a b (Ok count) counted in
         let early = clean_at (state g a) (state g b) (state g c) read clean in
@@ -114,12 +111,24 @@ module _ {S : Type 0} (g : Ghosts S) (a b c : Held S) (settled : IsTrue (state g
   }
 
   -- they were, and pass or don't
-  pub texts_judged : {P : Database → Type 0} (r : Result (Unit {0}) StoreError) (fit : Bool) → OnOk r (IsTrue fit) → IfErr r (λ e. (e ≡ NotARegistry) × (fit ≡ false)) → (HasCleanDisk (state g c) → IsTrue fit → IsLayout (state g a).now.schema → P (state g a).now)
-      → (HasCleanDisk (state g c) → fit ≡ false → (registry : Registry) (k : Kept) → SpellsUnopened (state g a).now registry k → ⊥) → Tests g a c r P
-  texts_judged (Ok x) fit ok err passes fails = record { frame = stays (Ok x); passes = λ clean. passes clean ok; fault = λ clean. tt; told = λ clean. tt }
+  pub texts_judged : {P : Database → Type 0} (r : Result (Unit {0}) StoreError) (fit : Bool) → OnOk r (IsTrue fit) → IfErr r (λ e. (e ≡ NotARegistry) × (fit ≡ false)) → (HasCleanDisk (state g c) → IsTrue fit → HasTablesFirst (state g a).now.schema → P (state g a).now)
+      → (HasCleanDisk (state g c) → fit ≡ false → SpellsSome SpellsBase (state g a).now → ⊥) → TestsBase g a c r (λ _. P)
+  texts_judged (Ok x) fit ok err passes fails = record { frame = stays (Ok x); tells = λ clean. passes clean ok; fault = λ clean. tt; told = λ clean. tt }
   texts_judged (Err e) fit ok err passes fails = record {
     frame = stays (Err e);
-    passes = λ clean. tt;
-    fault = λ clean registry k over. absurd (fails clean err.1 registry k (over (counted.was_open (clean_at (state g a) (state g b) (state g c) read clean))));
+    tells = λ clean. tt;
+    fault = λ clean over. absurd (fails clean err.1 (over (counted.was_open (clean_at (state g a) (state g b) (state g c) read clean))));
     told = λ clean known. subst (IsTold (state g a) (state g c)) (sym err.0) tt;
+  }
+
+-- the ids weren't counted
+module _ {S : Type 0} (g : Ghosts S) (old new : Held S) where
+  pub count_failed : {P : Unit {0} → Database → Type 0} (r : Result (Unit {0}) StoreError) (e : StoreError) → StaysIdle {X = ℕ} g old new (Err e) → (HasCleanDisk (state g new) → IsFaultBase (state g old) (state g new) e) → (HasCleanDisk (state g new) → IsToldFirst (state g old) (state g new) e)
+      → IsErrAnd r (λ failure. failure ≡ e) → TestsBase g old new r P
+  count_failed (Ok x) e frame fault told is = absurd is
+  count_failed (Err failure) e frame fault told is = record {
+    frame = framed g old new (Err e) (Err failure) frame (λ clean. tt);
+    tells = λ clean. tt;
+    fault = λ clean over. subst (IsFaultBy (state g old) (state g new)) (sym is) (fault clean over);
+    told = λ clean known. subst (IsTold (state g old) (state g new)) (sym is) (told clean known);
   }

@@ -14,13 +14,17 @@ use Rattle.reg_core.specs.Levels.{level_text}
 use Rattle.reg_core.specs.Subjects.{is_subject}
 use Rattle.reg_core.specs.Replies.{IsKeptStatus}
 use Rattle.avro_nodes.specs.Identity.{identity}
+use Rattle.reg_core.specs.declared.mode.Mode.{Mode}
+use Rattle.reg_core.specs.declared.mode.Mode.TheVariants.{Readwrite, Readonly}
+use Rattle.reg_core.specs.Modes.{mode_text}
 use Rattle.reg_core.specs.Registry.{Registry, schema_at}
 use Rattle.reg_tables.specs.Contents.{text_cmp, TextMap, VersionRow, Contents, AreReadable}
-use Rattle.reg_tables.specs.Changes.{meta_of}
+use Rattle.reg_tables.specs.SecondContents.{SecondContents}
+use Rattle.reg_tables.specs.Changes.{meta_as, meta_of}
 use Rattle.reg_tables.proofs.MapLemmas.{get-insert-same, get-insert-other, same_or_not}
 use Rattle.reg_tables.proofs.KeyedTables.{text_order}
 use Rattle.reg_core.specs.KeptReplies.{Kept}
-use Rattle.reg_store.specs.Spells.{IsSpelled, row_of, version_row}
+use Rattle.reg_store.specs.Spells.{IsSpelled, IsSpelledFirst, second_meta, IsSpelledSecond, row_of, version_row}
 use Rattle.reg_store.proofs.Ids.{schema_within}
 
 key_byte_ascii : (c : ℕ) → is_key_byte c ≡ true → c < 128
@@ -71,36 +75,60 @@ pub was_written : {V W : Type 0} (write : V → W) (o : Option V) (w : W) → op
 was_written write None w h = absurd (cc)
 was_written write (Some v) w h = (v, refl, let same : write v ≡ w = cc in sym same)
 
-utf8_meta : (level : Level) (name value : List ℕ) → get (meta_of (level_text level)) name ≡ Some value → IsUtf8 name × IsUtf8 value
+pub utf8_mode : (mode : Mode) → IsUtf8 (mode_text mode)
 unfolding lib.Utf8.encode
-utf8_meta level =
+utf8_mode Readwrite = (mode_text Readwrite, (refl, refl))
+utf8_mode Readonly = (mode_text Readonly, (refl, refl))
+
+-- texts under names
+abbrev AreTexts : TextMap (List ℕ) → Type 0
+AreTexts meta = (name value : List ℕ) → get meta name ≡ Some value → IsUtf8 name × IsUtf8 value
+
+utf8_meta : (number : List ℕ) → IsUtf8 number → (level : Level) → AreTexts (meta_as number (level_text level))
+unfolding lib.Utf8.encode
+utf8_meta number utf8 level =
     let P = λ (name value : List ℕ). IsUtf8 name × IsUtf8 value in
     let one = each_inserted P empty (codes "format") (codes "avroreg") ((codes "format", (refl, refl)), (codes "avroreg", (refl, refl))) (λ q w some. absurd (let e = sym (get-empty text_cmp q) ∙ some in cc)) in
-    let two = each_inserted P _ (codes "layout") (codes "1") ((codes "layout", (refl, refl)), (codes "1", (refl, refl))) one in
+    let two = each_inserted P _ (codes "layout") number ((codes "layout", (refl, refl)), utf8) one in
     each_inserted P _ (codes "global") (level_text level) ((codes "global", (refl, refl)), utf8_level level) two
 
--- what the tables spell can be read
-pub readable_if_spelled : (contents : Contents) (g : Registry) (k : Kept) → IsSpelled contents g k → AreReadable contents
-readable_if_spelled contents g k s = record {
-  texts = λ id text there.
-      let it = was_written identity (schema_at g.schemas id) text (sym (s.texts id) ∙ there) in
-      let within = (schema_within g.schemas id it.0 it.1).1 in
-      let few = s.registry.few in
-      (omega (arith, within, few), subst IsUtf8 (sym it.2) (s.utf8 id it.0 it.1));
-  versions = λ key version there.
-      let it = was_written version_row (get g.rows key) version (sym (s.versions key) ∙ there) in
-      let row = s.registry.rows key it.0 it.1 in
-      let number = row.within.1 in
-      let id = row.has_schema.1 in
-      let few = s.registry.few in
-      let same : version.id ≡ it.0.id = ap (λ (r : VersionRow). r.id) it.2 in
-      (utf8_subject key.0 (s.registered key it.0 it.1), omega (arith, number), omega (arith, id, few, same));
-  levels = λ subject level there.
-      let it = was_written level_text (g.own subject) level (sym (s.levels subject) ∙ there) in
-      (utf8_subject subject (s.subjects subject it.0 it.1), subst IsUtf8 (sym it.2) (utf8_level it.0));
-  kept = λ key reply there.
-      let it = was_written row_of (k key) reply (sym (s.kept key) ∙ there) in
-      let fits = s.keys key it.0 it.1 in
-      (utf8_key key fits.is_key, rw it.2 (record { command = fits.text; status = low_status it.0.reply.status fits.status; body = fits.body }));
-  meta = λ name value there. utf8_meta g.global name value (sym (ap (λ m. get m name) s.meta) ∙ there);
-}
+utf8_first_meta : (level : Level) → AreTexts (meta_of (level_text level))
+unfolding lib.Utf8.encode
+utf8_first_meta level = utf8_meta (codes "1") (codes "1", (refl, refl)) level
+
+utf8_second_meta : (level : Level) (mode : Mode) → AreTexts (second_meta (level_text level) (mode_text mode))
+unfolding lib.Utf8.encode
+utf8_second_meta level mode = each_inserted (λ (name value : List ℕ). IsUtf8 name × IsUtf8 value) _ (codes "mode") (mode_text mode) ((codes "mode", (refl, refl)), utf8_mode mode) (utf8_meta (codes "2") (codes "2", (refl, refl)) level)
+
+module _ (contents : Contents) (g : Registry) (k : Kept) (s : IsSpelled contents g k) where
+  -- what the tables spell can be read
+  readable_base : AreTexts contents.meta → AreReadable contents
+  readable_base meta = record {
+    texts = λ id text there.
+        let it = was_written identity (schema_at g.schemas id) text (sym (s.texts id) ∙ there) in
+        let within = (schema_within g.schemas id it.0 it.1).1 in
+        let few = s.registry.few in
+        (omega (arith, within, few), subst IsUtf8 (sym it.2) (s.utf8 id it.0 it.1));
+    versions = λ key version there.
+        let it = was_written version_row (get g.rows key) version (sym (s.versions key) ∙ there) in
+        let row = s.registry.rows key it.0 it.1 in
+        let number = row.within.1 in
+        let id = row.has_schema.1 in
+        let few = s.registry.few in
+        let same : version.id ≡ it.0.id = ap (λ (r : VersionRow). r.id) it.2 in
+        (utf8_subject key.0 (s.registered key it.0 it.1), omega (arith, number), omega (arith, id, few, same));
+    levels = λ subject level there.
+        let it = was_written level_text (g.own subject) level (sym (s.levels subject) ∙ there) in
+        (utf8_subject subject (s.subjects subject it.0 it.1), subst IsUtf8 (sym it.2) (utf8_level it.0));
+    kept = λ key reply there.
+        let it = was_written row_of (k key) reply (sym (s.kept key) ∙ there) in
+        let fits = s.keys key it.0 it.1 in
+        (utf8_key key fits.is_key, rw it.2 (record { command = fits.text; status = low_status it.0.reply.status fits.status; body = fits.body }));
+    meta = meta;
+  }
+
+pub readable_first : (contents : Contents) (g : Registry) (k : Kept) → IsSpelledFirst contents g k → AreReadable contents
+readable_first contents g k s = readable_base contents g k s.base (λ name value there. utf8_first_meta g.global name value (sym (ap (λ m. get m name) s.meta) ∙ there))
+
+pub readable_second : (contents : SecondContents) (g : Registry) (k : Kept) → IsSpelledSecond contents g k → AreReadable contents.base
+readable_second contents g k s = readable_base contents.base g k s.base (λ name value there. utf8_second_meta g.global g.global_mode name value (sym (ap (λ m. get m name) s.meta) ∙ there))

@@ -8,7 +8,7 @@ use Rattle.std.specs.Ordering.{nat_cmp}
 use Rattle.std.specs.FinMap.{get}
 use Rattle.std.specs.Map.{lookup}
 use Rattle.reg_core.specs.declared.command.Command.{Command}
-use Rattle.reg_core.specs.declared.command.Command.TheVariants.{SetGlobal, SetLevel, Register, DeleteVersion, DeleteSubject, Global as GlobalLevel, LevelOf, Lookup, Subjects, Versions, Version, Text, ById, VersionsOfId, Types, Check, CheckAll}
+use Rattle.reg_core.specs.declared.command.Command.TheVariants.{SetGlobal, SetLevel, Register, DeleteVersion, DeleteSubject, Global as GlobalLevel, LevelOf, Lookup, Subjects, Versions, Version, Text, ById, VersionsOfId, Types, Check, CheckAll, SetGlobalMode, SetMode, GlobalMode, ModeOf}
 use Rattle.reg_core.specs.declared.decision.View.{View}
 use Rattle.reg_core.specs.Registry.{Registry, IsRegistry, Row, Schemas}
 use Rattle.reg_core.specs.Rows.{id_of, text_at}
@@ -144,13 +144,17 @@ reads_same (VersionsOfId id deleted) view texts = refl
 reads_same Types view texts = refl
 reads_same (Check subject version text supported) view texts = refl
 reads_same (CheckAll subject text supported) view texts = refl
+reads_same (SetGlobalMode mode) view texts = refl
+reads_same (SetMode subject mode) view texts = refl
+reads_same GlobalMode view texts = refl
+reads_same (ModeOf subject default_to_global) view texts = refl
 
 pub whole_view : (view : View) (texts : Texts) (g : Registry) (command : Command) (ids : List ℕ) → IsViewButTexts view g command → ids ≡ map (λ (row : Row). row.1.id) (rows_read command view)
     → All (HasText texts g.schemas) ids → AreTrueTexts texts g.schemas → IsViewOf (with_texts view texts) g command
 whole_view view texts g command ids shows is all true_texts = record {
   rows = shows.rows;
   levels = shows.levels;
-  mode = shows.mode;
+  modes = shows.modes;
   known = shows.known;
   count = shows.count;
   texts = subst (All (λ (row : Row). HasText texts g.schemas row.1.id)) (sym (reads_same command view texts)) (All-mapped (HasText texts g.schemas) (λ (row : Row). row.1.id) (rows_read command view) (subst (All (HasText texts g.schemas)) is all));

@@ -11,7 +11,7 @@ use Rattle.sqlite_trees.specs.declared.store.Store.{Ghosts}
 use Rattle.reg_core.specs.Registry.{Registry}
 use Rattle.reg_core.specs.declared.decision.Change.{Change}
 use Rattle.reg_core.specs.Views.{ChangeFits}
-use Rattle.reg_tables.specs.Contents.{Contents, Holds}
+use Rattle.reg_tables.specs.Writing.{WhereHeld}
 use Rattle.reg_tables.specs.FailedCalls.{IsWriteFault, IsInsertFault}
 use Rattle.reg_store.specs.declared.error.StoreError.{StoreError}
 use Rattle.reg_store.specs.declared.keep.Keep.{Keep}
@@ -68,9 +68,9 @@ module _ (s new : State) (e : Error) (shut : IsTrue s.is_open ⊎ IsWriteFault s
   pub fault_of_change : (change : Change) → ((g : Registry) (k : Kept) → Spells s.now g k → ChangeFits change g → IsInsertFault s new e) → IsFaultOfChange s new change e
   fault_of_change change fails g k spells fits = elim shut [ inl is_open ↦ fails g k (spells is_open) fits | inr fault ↦ inl (inl fault) ]
 
-  pub fault_of_reply : (keep : Keep) → ((contents : Contents) → Holds s.now contents → get contents.kept keep.key.now ≡ None → IsInsertFault s new e) → IsFaultOfReply s new (Some keep) e
+  pub fault_of_reply : (keep : Keep) → WhereHeld s (λ contents. get contents.kept keep.key.now ≡ None → IsInsertFault s new e) → IsFaultOfReply s new (Some keep) e
   fault_of_reply keep fails g k spells fresh = elim shut [
-    | inl is_open ↦ let it = spells is_open in fails it.contents it.holds (it.spelled.kept keep.key.now ∙ ap (option_map row_of) fresh)
+    | inl is_open ↦ let it = spells is_open in fails it.schema (inr it.known) it.contents it.holds (it.spelled.base.kept keep.key.now ∙ ap (option_map row_of) fresh)
     | inr fault ↦ inl (inl fault)
   ]
 

@@ -1,8 +1,7 @@
 -- The rows of the tables as their lines have them, and what is said of a database before it is opened.
-use Rattle.std.specs.Prelude.{◌≡◌, ◌⊎◌, ◌<◌, ℕ, List, Bool, IsTrue, map, codes, Some}
+use Rattle.std.specs.Prelude.{◌≡◌, ◌≢◌, ◌⊎◌, ◌<◌, ℕ, List, Bool, IsTrue, length, nat_lt, codes, Some, if◌then◌else◌}
 use Rattle.sqlite.specs.Order.{Row}
 use Rattle.sqlite.specs.Tree.{Trees}
-use Rattle.sqlite.specs.Schema.{Schema}
 use Rattle.sqlite.specs.Effect.{Database}
 use Rattle.sqlite.specs.State.{State}
 use Rattle.reg_tables.specs.declared.lines.TextLine.{TextLine}
@@ -10,19 +9,24 @@ use Rattle.reg_tables.specs.declared.lines.VersionLine.{VersionLine}
 use Rattle.reg_tables.specs.declared.lines.LevelLine.{LevelLine}
 use Rattle.reg_tables.specs.declared.lines.KeptLine.{KeptLine}
 use Rattle.reg_tables.specs.declared.lines.MetaLine.{MetaLine}
+use Rattle.reg_tables.specs.declared.modes.ModeLine.{ModeLine}
+use Rattle.reg_tables.specs.declared.second_lines.EvidenceLine.{EvidenceLine}
+use Rattle.reg_tables.specs.declared.second_lines.AgainstLine.{AgainstLine}
 use Rattle.sqlite_rules.specs.Lists.{Has}
-use Rattle.reg_tables.specs.Layout.{layout, unindexed, IsLayout, HasTablesFirst, meta}
+use Rattle.reg_tables.specs.Layout.{HasTablesFirst, versions, meta}
+use Rattle.reg_tables.specs.SecondLayout.{IsSecondLayout, second_unindexed, second_indexed_last}
 use Rattle.reg_tables.specs.TableMaps.{IsEntry}
-use Rattle.reg_tables.specs.Contents.{pair_form, Contents, HoldsIn, Holds}
+use Rattle.reg_tables.specs.Contents.{pair_form}
+use Rattle.reg_tables.specs.SecondContents.{SecondContents, HoldsAllIn}
 use Rattle.reg_tables.specs.Reads.{HoldsMeta}
-use Rattle.reg_tables.specs.Inside.AllLines.{Lines}
-use Rattle.reg_rows.specs.Spelling.{Text, Rows, number_in}
+use Rattle.reg_rows.specs.Spelling.{Text}
+use Rattle.reg_rows.specs.Meta.{number_in}
 use Rattle.reg_core.specs.Registry.{Registry}
 use Rattle.reg_store.specs.declared.error.StoreError.{StoreError}
 use Rattle.reg_store.specs.declared.error.StoreError.TheVariants.{OldLayout, NewerLayout}
 use Rattle.reg_store.specs.Failures.{is_fault}
 use Rattle.reg_core.specs.KeptReplies.{Kept}
-use Rattle.reg_store.specs.Spells.{SpellsIn, SpellsUnopened, SpellsWhileOpen}
+use Rattle.reg_store.specs.Spells.{SpellsFirst, SpellsUnopened, LeavesIn, SpellsWhileOpen}
 
 -- ---- rows
 
@@ -41,15 +45,14 @@ kept_row line = (line.key, line.reply.command, line.reply.status, line.reply.bod
 abbrev pub meta_row : MetaLine → Text × Text
 meta_row line = (line.name, line.value)
 
--- the rows of the lines, without their rowids
-abbrev pub rows_of : Lines → Rows
-rows_of lines = record {
-  texts = map text_row lines.texts;
-  versions = map version_row lines.versions;
-  levels = map level_row lines.levels;
-  kept = map kept_row lines.kept;
-  meta = map meta_row lines.meta;
-}
+abbrev pub mode_row : ModeLine → Text × Text
+mode_row line = (line.subject, line.mode)
+
+abbrev pub evidence_row : EvidenceLine → Text × ℕ × Text
+evidence_row line = (line.subject, line.version, line.level)
+
+abbrev pub against_row : AgainstLine → Text × ℕ × ℕ × ℕ
+against_row line = (line.subject, line.version, line.position, line.id)
 
 -- ---- databases
 
@@ -64,33 +67,42 @@ pub record NamesLayout (db : Database) (number : ℕ) : Type 0 where
   pub layout : Says db (codes "layout") text
   pub is : number_in text ≡ Some number
 
--- the five tables come first, whatever follows, and the rows of `meta`, which can be read, name a layout that is newer than 1
-pub record Outdates (db : Database) (number : ℕ) : Type 0 where
+-- the five tables come first, whatever follows, and the rows of `meta`, which can be read, name a layout of another number than this one
+pub record HasOther (own : ℕ) (db : Database) (number : ℕ) : Type 0 where
   pub holds : HoldsMeta db
   pub names : NamesLayout db number
-  pub newer : 1 < number
+  pub other : number ≢ own
 
--- a refusal that has a number has it from the rows of `meta`, where the five tables come first, and no layout is older than 1
+-- this project's choice: how a layout of another number is refused
+abbrev pub refusal_of : ℕ → ℕ → StoreError
+refusal_of own number = if nat_lt number own then OldLayout number else NewerLayout number
+
+-- a refusal that has a number has it from the rows of `meta`, where the five tables come first, and it is older or newer than this one
+abbrev pub IsRefusedAs : ℕ → Database → StoreError → Type 0
+IsRefusedAs own db (OldLayout number) = (0 < number) × (number < own) × (HasTablesFirst db.schema → NamesLayout db number)
+IsRefusedAs own db (NewerLayout number) = (own < number) × (HasTablesFirst db.schema → NamesLayout db number)
+IsRefusedAs own db _ = Unit {0}
+
+-- tables that name another layout than this one are told so, but for a fault
+abbrev pub TellsOther : ℕ → State → StoreError → Type 0
+TellsOther own s e = (number : ℕ) → IsTrue s.is_open → HasOther own s.now number → (e ≡ refusal_of own number) ⊎ IsTrue (is_fault e)
+
+-- this project's choice: stores are opened over layout 2
 abbrev pub IsRefusedBy : Database → StoreError → Type 0
-IsRefusedBy db (OldLayout number) = ⊥
-IsRefusedBy db (NewerLayout number) = (1 < number) × (HasTablesFirst db.schema → NamesLayout db number)
-IsRefusedBy db _ = Unit {0}
+IsRefusedBy = IsRefusedAs 2
 
--- tables that name a newer layout are told so, but for a fault
-abbrev pub TellsNewer : State → StoreError → Type 0
-TellsNewer s e = (number : ℕ) → IsTrue s.is_open → Outdates s.now number → (e ≡ NewerLayout number) ⊎ IsTrue (is_fault e)
+abbrev pub TellsLayout : State → StoreError → Type 0
+TellsLayout = TellsOther 2
 
 -- the tables lacked the index, and the trees are those of the same tables with it
 pub record IsIndexed (before : Database) (db : Trees) : Type 0 where
-  pub contents : Contents
-  pub bare : HoldsIn unindexed before contents
-  pub indexed : (held : Contents) → HoldsIn unindexed before held → Holds (record { schema = layout; trees = db }) held
+  pub contents : SecondContents
+  pub bare : HoldsAllIn second_unindexed before contents
+  pub indexed : (held : SecondContents) → HoldsAllIn second_unindexed before held → HoldsAllIn second_indexed_last (record { schema = second_indexed_last; trees = db }) held
 
 -- the trees spell a registry and kept replies, with the index or without it
-pub record LeavesUnopened (db : Trees) (g : Registry) (k : Kept) : Type 0 where
-  pub schema : Schema
-  pub known : IsLayout schema
-  pub spells : SpellsIn schema (record { schema = schema; trees = db }) g k
+abbrev pub LeavesUnopened : Trees → Registry → Kept → Type 0
+LeavesUnopened = LeavesIn IsSecondLayout
 
 -- this project's choice: whatever the tables of an open connection spelled, a crash leaves it
 abbrev pub LosesNothing : State → State → Type 0
@@ -102,3 +114,14 @@ pub record OpensOver (old new : State) : Type 0 where
   pub kept : Kept
   pub spelled : SpellsUnopened old.now registry kept
   pub spells : SpellsWhileOpen new registry kept
+
+-- `versions` has so many rows
+abbrev pub HasVersionRows : Database → ℕ → Type 0
+HasVersionRows db count = count ≡ length (db.trees versions.tree)
+
+-- the tables of layout 1 spell a registry and kept replies, and `versions` has so many rows
+pub record FindsFirst (db : Database) (count : ℕ) : Type 0 where
+  pub registry : Registry
+  pub kept : Kept
+  pub spells : SpellsFirst db registry kept
+  pub counted : HasVersionRows db count

@@ -1,6 +1,6 @@
 -- What the tables say of a registry and of the replies that it keeps.
-use Rattle.std.specs.Prelude.{◌≡◌, ℕ, List, None, Some, IsTrue, IsUtf8, option_map}
-use Rattle.std.specs.FinMap.{get}
+use Rattle.std.specs.Prelude.{◌≡◌, ◌↔◌, ◌<◌, ◌≤◌, ◌^◌, ℕ, List, None, Some, IsSome, IsTrue, IsUtf8, codes, is_some, option_map}
+use Rattle.std.specs.FinMap.{FinMap, get, insert}
 use Rattle.sqlite.specs.Tree.{Trees}
 use Rattle.sqlite.specs.Schema.{Schema}
 use Rattle.sqlite.specs.Effect.{Database}
@@ -8,15 +8,19 @@ use Rattle.sqlite.specs.State.{State}
 use Rattle.avro_nodes.specs.Nodes.{NodeView}
 use Rattle.avro_nodes.specs.Identity.{identity}
 use Rattle.reg_core.specs.declared.level.Level.{Level}
+use Rattle.reg_core.specs.declared.mode.Mode.{Mode}
 use Rattle.reg_core.specs.declared.mode.Mode.TheVariants.{Readwrite}
-use Rattle.reg_core.specs.Levels.{level_text}
+use Rattle.reg_core.specs.Levels.{level_text, level_of}
+use Rattle.reg_core.specs.Modes.{mode_text}
 use Rattle.reg_core.specs.Keys.{IsKey}
 use Rattle.reg_core.specs.Subjects.{is_subject}
 use Rattle.reg_core.specs.Replies.{IsKeptStatus}
 use Rattle.reg_core.specs.Registry.{RowKey, Version, Registry, IsRegistry, schema_at}
-use Rattle.reg_tables.specs.Layout.{layout, IsLayout}
-use Rattle.reg_tables.specs.Contents.{VersionRow, KeptRow, Contents, HoldsIn}
-use Rattle.reg_tables.specs.Changes.{meta_of}
+use Rattle.reg_tables.specs.Layout.{IsLayout}
+use Rattle.reg_tables.specs.SecondLayout.{IsSecond, IsSecondLayout}
+use Rattle.reg_tables.specs.Contents.{TextMap, VersionRow, KeptRow, Contents, HoldsIn}
+use Rattle.reg_tables.specs.SecondContents.{PlaceKey, place_cmp, SecondContents, HoldsAllIn}
+use Rattle.reg_tables.specs.Changes.{meta_as, meta_of}
 use Rattle.reg_core.specs.KeptReplies.{Entry, Kept}
 
 -- this project's choice: a row of `kept` has the command's text, and the status and the body of its reply
@@ -34,12 +38,8 @@ pub record CanBeKept (key : List ℕ) (entry : Entry) : Type 0 where
   pub text : IsUtf8 entry.text
   pub body : IsUtf8 entry.reply.body
 
--- this project's choice: the registry's mode is READWRITE, and no subject has one of its own
-pub record HasNoModes (g : Registry) : Type 0 where
-  pub global : g.global_mode ≡ Readwrite
-  pub own : (subject : List ℕ) → g.own_modes subject ≡ None
-
--- this project's choice: what the tables hold spells this registry and these kept replies
+-- this project's choice: what the tables of both layouts hold spells these schemas, versions and levels, and these kept replies. (Of modes, and of
+-- the rows of `meta`, it says nothing.)
 pub record IsSpelled (contents : Contents) (g : Registry) (k : Kept) : Type 0 where
   pub registry : IsRegistry g
   -- the text of an id is the identity text of its schema
@@ -47,40 +47,103 @@ pub record IsSpelled (contents : Contents) (g : Registry) (k : Kept) : Type 0 wh
   pub utf8 : (id : ℕ) (nodes : List NodeView) → schema_at g.schemas id ≡ Some nodes → IsUtf8 (identity nodes)
   pub versions : (key : RowKey) → get contents.versions key ≡ option_map version_row (get g.rows key)
   pub registered : (key : RowKey) (version : Version) → get g.rows key ≡ Some version → IsTrue (is_subject key.0)
-  -- the format, the layout and the global level, and no more
-  pub meta : contents.meta ≡ meta_of (level_text g.global)
-  -- layout 1 has no place for modes
-  pub modes : HasNoModes g
   pub levels : (subject : List ℕ) → get contents.levels subject ≡ option_map level_text (g.own subject)
   pub subjects : (subject : List ℕ) (level : Level) → g.own subject ≡ Some level → IsTrue (is_subject subject)
   pub kept : (key : List ℕ) → get contents.kept key ≡ option_map row_of (k key)
   pub keys : (key : List ℕ) (entry : Entry) → k key ≡ Some entry → CanBeKept key entry
 
--- this project's choice: the database has this schema, and its tables spell this registry and these kept replies
-pub record SpellsIn (schema : Schema) (db : Database) (g : Registry) (k : Kept) : Type 0 where
-  pub contents : Contents
-  pub holds : HoldsIn schema db contents
-  pub spelled : IsSpelled contents g k
+-- ---- layout 1
 
--- this project's choice: the tables of the database are those of layout 1, and they spell them
-abbrev pub Spells : Database → Registry → Kept → Type 0
-Spells = SpellsIn layout
+-- this project's choice: the registry's mode is READWRITE, and no subject has one of its own
+pub record HasNoModes (g : Registry) : Type 0 where
+  pub global : g.global_mode ≡ Readwrite
+  pub own : (subject : List ℕ) → g.own_modes subject ≡ None
 
--- this project's choice: so they do before a store is opened over them, when the index of versions may be missing
-pub record SpellsUnopened (db : Database) (g : Registry) (k : Kept) : Type 0 where
+-- this project's choice: what the tables of layout 1 hold spells this registry and these kept replies
+pub record IsSpelledFirst (contents : Contents) (g : Registry) (k : Kept) : Type 0 where
+  pub base : IsSpelled contents g k
+  -- the format, the layout and the global level, and no more
+  pub meta : contents.meta ≡ meta_of (level_text g.global)
+  -- layout 1 has no place for modes
+  pub modes : HasNoModes g
+
+-- this project's choice: the tables of the database are those of layout 1, the index there or missing, and they spell this registry and these kept replies
+pub record SpellsFirst (db : Database) (g : Registry) (k : Kept) : Type 0 where
   pub schema : Schema
   pub known : IsLayout schema
-  pub spells : SpellsIn schema db g k
+  pub contents : Contents
+  pub holds : HoldsIn schema db contents
+  pub spelled : IsSpelledFirst contents g k
 
--- this project's choice: the database that a crash leaves spells them, and lists the tables of layout 1, so that an open finds them
+-- this project's choice: the database that a crash leaves spells them, and lists the tables of layout 1
+pub record LeavesFirst (db : Trees) (g : Registry) (k : Kept) : Type 0 where
+  pub schema : Schema
+  pub spells : SpellsFirst (record { schema = schema; trees = db }) g k
+
+-- ---- layout 2
+
+-- this project's choice: the rows of `meta` in layout 2 are the format, the layout, the global level and the global mode
+abbrev pub second_meta : List ℕ → List ℕ → TextMap (List ℕ)
+second_meta level mode = insert (meta_as (codes "2") level) (codes "mode") mode
+
+-- this project's choice: the ids that the version was tested against stand at the positions from 1 to their count
+pub record AreInOrder (against : FinMap place_cmp ℕ) (key : RowKey) : Type 0 where
+  pub count : ℕ
+  pub few : count < 2 ^ 32
+  pub each : (position : ℕ) → IsSome (get against (key, position)) ↔ ((0 < position) × (position ≤ count))
+
+-- this project's choice: the evidence of a version is a level, and ids in order. (Nothing here says that it is true.)
+pub record IsEvidence (contents : SecondContents) : Type 0 where
+  pub levels : (key : RowKey) (level : List ℕ) → get contents.evidence key ≡ Some level → IsTrue (is_some (level_of level))
+  pub owners : (place : PlaceKey) (id : ℕ) → get contents.against place ≡ Some id → IsSome (get contents.evidence place.0)
+  pub places : (key : RowKey) → AreInOrder contents.against key
+
+-- this project's choice: what the tables of layout 2 hold spells this registry and these kept replies, whatever evidence its versions have
+pub record IsSpelledSecond (contents : SecondContents) (g : Registry) (k : Kept) : Type 0 where
+  pub base : IsSpelled contents.base g k
+  pub meta : contents.base.meta ≡ second_meta (level_text g.global) (mode_text g.global_mode)
+  pub modes : (subject : List ℕ) → get contents.modes subject ≡ option_map mode_text (g.own_modes subject)
+  pub owners : (subject : List ℕ) (mode : Mode) → g.own_modes subject ≡ Some mode → IsTrue (is_subject subject)
+  pub evidence : IsEvidence contents
+
+-- this project's choice: the database has one of these schemas, and its tables spell this registry and these kept replies
+pub record SpellsIn (Known : Schema → Type 0) (db : Database) (g : Registry) (k : Kept) : Type 0 where
+  pub schema : Schema
+  pub known : Known schema
+  pub contents : SecondContents
+  pub holds : HoldsAllIn schema db contents
+  pub spelled : IsSpelledSecond contents g k
+
+-- this project's choice: the tables of the database are those of layout 2, and they spell them
+abbrev pub Spells : Database → Registry → Kept → Type 0
+Spells = SpellsIn IsSecond
+
+-- this project's choice: so they do before a store is opened over them, when the index of versions may be missing
+abbrev pub SpellsUnopened : Database → Registry → Kept → Type 0
+SpellsUnopened = SpellsIn IsSecondLayout
+
+-- this project's choice: the database that a crash leaves spells them, and lists the tables of one of these schemas
+pub record LeavesIn (Known : Schema → Type 0) (db : Trees) (g : Registry) (k : Kept) : Type 0 where
+  pub schema : Schema
+  pub spells : SpellsIn Known (record { schema = schema; trees = db }) g k
+
+-- this project's choice: it lists those of layout 2, so that an open finds them
 abbrev pub Leaves : Trees → Registry → Kept → Type 0
-Leaves db g k = Spells (record { schema = layout; trees = db }) g k
+Leaves = LeavesIn IsSecond
+
+-- ---- connections
 
 -- SQLite, transactions: the connection is open outside a transaction, and its last commit spells them
 pub record IsOpenOver (s : State) (g : Registry) (k : Kept) : Type 0 where
   pub is_open : IsTrue s.is_open
   pub settled : s.committed ≡ s.now
   pub spells : Spells s.now g k
+
+-- SQLite, transactions: so it is, and its last commit spells them in layout 1
+pub record IsOpenOverFirst (s : State) (g : Registry) (k : Kept) : Type 0 where
+  pub is_open : IsTrue s.is_open
+  pub settled : s.committed ≡ s.now
+  pub spells : SpellsFirst s.now g k
 
 -- SQLite, transactions: as long as the connection is open, it is open over them; a fault may shut it
 abbrev pub SpellsWhileOpen : State → Registry → Kept → Type 0

@@ -12,8 +12,8 @@ ghost use Rattle.reg_core.specs.Registry.{Registry};
 use crate::keep::Keep;
 use reg_core::Change;
 use reg_tables::{
-    drop_level, drop_version, keep_reply as keep_row, mark_deleted, put_text, put_version,
-    set_global, set_level,
+    drop_level, drop_mode, drop_version, keep_reply as keep_row, mark_deleted, put_text,
+    put_version, set_global, set_global_mode, set_level, set_mode,
 };
 use sqlite::{Alter, Error, Transaction};
 
@@ -29,7 +29,7 @@ fn make<S: Alter>(tx: &mut Transaction<'_, S>, change: &Change) -> Result<(), Er
         Change::SetGlobal { level } => set_global(tx, level.text()),
         Change::SetLevel { subject, level } => set_level(tx, subject.as_str(), level.text()),
         Change::AddText { id, text } => put_text(tx, *id, text.as_str()),
-        Change::AddRow { row } => put_version(
+        Change::AddRow { row, evidence: _ } => put_version(
             tx,
             row.subject().as_str(),
             row.version(),
@@ -39,6 +39,9 @@ fn make<S: Alter>(tx: &mut Transaction<'_, S>, change: &Change) -> Result<(), Er
         Change::MarkDeleted { subject, version } => mark_deleted(tx, subject.as_str(), *version),
         Change::Remove { subject, version } => drop_version(tx, subject.as_str(), *version),
         Change::DropLevel { subject } => drop_level(tx, subject.as_str()),
+        Change::SetGlobalMode { mode } => set_global_mode(tx, mode.text()),
+        Change::SetMode { subject, mode } => set_mode(tx, subject.as_str(), mode.text()),
+        Change::DropMode { subject } => drop_mode(tx, subject.as_str()),
     }
 }
 

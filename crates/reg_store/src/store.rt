@@ -6,6 +6,7 @@ use std::alloc::Global;
 
 mod applying;
 mod behind;
+mod checking;
 mod chosen;
 mod cursor;
 mod few;
@@ -15,6 +16,7 @@ mod levels;
 mod lines;
 mod listing;
 mod making;
+mod modes;
 mod opening;
 mod reading;
 mod rows;
@@ -24,7 +26,9 @@ mod subject_lines;
 mod texts;
 mod viewing;
 
+pub use checking::check_first;
 pub use lent::Lines;
+pub use making::create_first;
 
 /// A registry and its kept replies in a database. Contracts see what its connection shows
 /// (`state_of`), and whether the disk has failed (`has_failed`).

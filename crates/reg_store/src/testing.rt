@@ -5,22 +5,27 @@ ghost use Rattle.std.specs.Prelude.{◌≡◌, ◌↔◌, ℤ, map, IfOk, IfErr,
 ghost use Rattle.std.specs.List.{AllByRecursion};
 ghost use Rattle.sqlite.specs.State.{HasCleanDisk};
 ghost use Rattle.reg_tables.specs.Layout.{IsLayout, HasTablesFirst};
+ghost use Rattle.reg_tables.specs.SecondLayout.{IsSecondLayout};
 ghost use Rattle.reg_store.specs.Failures.{IsNumberless};
-ghost use Rattle.reg_store.specs.Opening.{meta_row, IsRefusedBy, TellsNewer};
-ghost use Rattle.reg_rows.specs.Spelling.{pair_of, is_meta};
-ghost use Rattle.reg_store.specs.Inside.Testing.{Allows, AreApart, version_fits, level_fits, kept_fits, JudgesMeta, Tests, VersionsPass, LevelsPass, KeptPass, RestPasses, MetaPass, TablesPass};
+ghost use Rattle.reg_store.specs.Opening.{HasVersionRows, IsRefusedAs, TellsOther, IsRefusedBy, TellsLayout};
+ghost use Rattle.reg_store.specs.Inside.Testing.{AreApart, version_fits, level_fits, kept_fits, SpellsAs, Tests, TestsBase, TestsSecond, VersionsPass, LevelsPass, KeptPass, RestPasses, TablesPass, AddedPass, SecondPasses};
 ghost use Rattle.reg_store.specs.Inside.Reads.{shown};
 
+mod added;
+mod meta;
 mod texts;
 
 use crate::error::StoreError;
 use crate::idle::Idle;
+use crate::layout::Layout;
 use crate::rowids::are_apart;
+use crate::testing::added::test_added;
+use crate::testing::meta::test_meta;
 use crate::testing::texts::test_texts;
-use reg_rows::{fits_kept, fits_levels, fits_versions, is_meta, layout_of};
+use reg_rows::{fits_kept, fits_levels, fits_versions};
 use reg_tables::{
-    KeptLine, LevelLine, MetaLine, VersionLine, has_layout, is_unindexed, kept_lines, level_lines,
-    meta_lines, version_lines,
+    KeptLine, LevelLine, VersionLine, has_layout, has_second_layout, is_second_unindexed,
+    is_unindexed, kept_lines, level_lines, version_lines,
 };
 use sqlite::Alter;
 use std::alloc::{AllocError, Global};
@@ -80,21 +85,6 @@ impl Line for KeptLine {
     }
 }
 
-impl Line for MetaLine {
-    ghost rowid_of = { λ line. line.rowid };
-
-    // What the rows of `meta` may be is said of them together.
-    ghost fits_table = { λ _. Unit {0} };
-
-    fn rowid(&self) -> i64 {
-        self.rowid
-    }
-
-    fn fits(&self) -> bool {
-        true
-    }
-}
-
 /// Whether each line fits.
 fn all_fit<L: Line>(lines: &[L]) -> bool
     ensures { IsTrue result ↔ AllByRecursion L.fits_table lines.now }
@@ -141,18 +131,20 @@ fn allow(passes: bool) -> Result<(), StoreError>
     }
 }
 
-/// Reads `versions`, and tests it.
-fn test_versions<S: Alter>(alloc: Global, db: &mut Idle<S>) -> Result<(), StoreError>
-    ensures tests { Tests S.Store db.old.idle.conn db.new.idle.conn result VersionsPass }
+/// Reads `versions`, and tests it. It answers how many rows there are.
+fn test_versions<S: Alter>(alloc: Global, db: &mut Idle<S>) -> Result<u64, StoreError>
+    ensures tests { TestsBase S.Store db.old.idle.conn db.new.idle.conn result
+        (λ count db. VersionsPass db × HasVersionRows db count) }
     ensures plain { IfErr result IsNumberless }
 {
     let lines = version_lines(alloc, &mut db.idle)?;
-    allow(pass(alloc, &lines)?)
+    allow(pass(alloc, &lines)?)?;
+    Ok(lines.len() as u64)
 }
 
 /// Reads `levels`, and tests it.
 fn test_levels<S: Alter>(alloc: Global, db: &mut Idle<S>) -> Result<(), StoreError>
-    ensures tests { Tests S.Store db.old.idle.conn db.new.idle.conn result LevelsPass }
+    ensures tests { TestsBase S.Store db.old.idle.conn db.new.idle.conn result (λ _. LevelsPass) }
     ensures plain { IfErr result IsNumberless }
 {
     let lines = level_lines(alloc, &mut db.idle)?;
@@ -161,88 +153,69 @@ fn test_levels<S: Alter>(alloc: Global, db: &mut Idle<S>) -> Result<(), StoreErr
 
 /// Reads `kept`, and tests it.
 fn test_kept<S: Alter>(alloc: Global, db: &mut Idle<S>) -> Result<(), StoreError>
-    ensures tests { Tests S.Store db.old.idle.conn db.new.idle.conn result KeptPass }
+    ensures tests { TestsBase S.Store db.old.idle.conn db.new.idle.conn result (λ _. KeptPass) }
     ensures plain { IfErr result IsNumberless }
 {
     let lines = kept_lines(alloc, &mut db.idle)?;
     allow(pass(alloc, &lines)?)
 }
 
-/// Reads all tables but `meta`, and tests them.
-fn test_rest<S: Alter>(alloc: Global, db: &mut Idle<S>) -> Result<(), StoreError>
-    ensures tests { Tests S.Store db.old.idle.conn db.new.idle.conn result RestPasses }
+/// Reads the tables that each layout has, but `meta`, and tests them. It answers how many rows
+/// `versions` has.
+fn test_rest<S: Alter>(alloc: Global, db: &mut Idle<S>) -> Result<u64, StoreError>
+    ensures tests { TestsBase S.Store db.old.idle.conn db.new.idle.conn result
+        (λ count db. RestPasses db × HasVersionRows db count) }
     ensures plain { IfErr result IsNumberless }
 {
     let _idle = db.idle.conn.is_autocommit();
-    test_versions(alloc, db)?;
+    let count = test_versions(alloc, db)?;
     test_texts(alloc, db)?;
     test_levels(alloc, db)?;
-    test_kept(alloc, db)
+    test_kept(alloc, db)?;
+    Ok(count)
 }
 
-fn meta_rows(alloc: Global, lines: Vec<MetaLine>) -> Result<Vec<(String, String)>, AllocError>
-    ensures { IfOk result (λ rows. rows.items ≡ map meta_row lines.items) }
-{
-    let mut rows = Vec::new(alloc);
-    for line in lines {
-        rows.push((line.name, line.value))?;
-    }
-    Ok(rows)
-}
-
-/// Whether these are the rows of a registry, and no rowid comes twice.
-fn pass_meta(rows: &[(String, String)], rowids: &mut [i64]) -> bool
-    ensures { IsTrue result ↔ (AreApart rowids.old × IsTrue (is_meta (map pair_of rows.now))) }
-{
-    is_meta(rows) && are_apart(rowids)
-}
-
-/// An error for a newer layout than 1, and else for what doesn't pass.
-fn allow_layout(named: Option<u32>, passes: bool) -> Result<(), StoreError>
-    ensures { Allows named passes result }
-{
-    match named {
-        Some(number) if number > 1 => Err(StoreError::NewerLayout(number)),
-        _ => allow(passes),
-    }
-}
-
-/// The verdict on the lines of `meta`.
-fn judge_meta(alloc: Global, lines: Vec<MetaLine>) -> Result<(), StoreError>
-    ensures { JudgesMeta lines.items result }
-{
-    let mut rowids = rowids_of(alloc, &lines)?;
-    let rows = meta_rows(alloc, lines)?;
-    let passes = pass_meta(&rows, &mut rowids);
-    allow_layout(layout_of(&rows), passes)
-}
-
-/// Reads `meta`, and tests it: the format, then the layout, then the rest.
-fn test_meta<S: Alter>(alloc: Global, db: &mut Idle<S>) -> Result<(), StoreError>
-    ensures tests { Tests S.Store db.old.idle.conn db.new.idle.conn result MetaPass }
-    ensures passed { HasCleanDisk (shown db.new)
-        → OnOk result (HasTablesFirst (shown db.old).now.schema → MetaPass (shown db.old).now) }
-    ensures refused { HasCleanDisk (shown db.new)
-        → IfErr result (IsRefusedBy (shown db.old).now) }
-    ensures newer { HasCleanDisk (shown db.new)
-        → IfErr result (TellsNewer (shown db.old)) }
-{
-    let lines = meta_lines(alloc, &mut db.idle)?;
-    judge_meta(alloc, lines)
-}
-
-/// Tests the tables.
-pub(crate) fn test<S: Alter>(alloc: Global, db: &mut Idle<S>) -> Result<(), StoreError>
-    ensures tests { Tests S.Store db.old.idle.conn db.new.idle.conn result TablesPass }
+/// Tests the tables of layout 1, and answers how many rows `versions` has.
+pub(crate) fn test_first<S: Alter>(alloc: Global, db: &mut Idle<S>) -> Result<u64, StoreError>
+    ensures tests { Tests HasTablesFirst (SpellsAs Layout.First)
+        S.Store db.old.idle.conn db.new.idle.conn result
+        (λ count db. TablesPass Layout.First db × HasVersionRows db count) }
     ensures known { OnOk result (IsLayout (shown db.old).now.schema) }
     ensures refused { HasCleanDisk (shown db.new)
-        → IfErr result (IsRefusedBy (shown db.old).now) }
-    ensures newer { HasCleanDisk (shown db.new)
-        → IfErr result (TellsNewer (shown db.old)) }
+        → IfErr result (IsRefusedAs 1 (shown db.old).now) }
+    ensures other { HasCleanDisk (shown db.new)
+        → IfErr result (TellsOther 1 (shown db.old)) }
 {
     let _idle = db.idle.conn.is_autocommit();
     let known = has_layout(&db.idle.conn) || is_unindexed(&db.idle.conn);
-    test_meta(alloc, db)?;
+    test_meta(alloc, db, Layout::First)?;
     allow(known)?;
     test_rest(alloc, db)
+}
+
+/// Tests the tables of layout 2.
+pub(crate) fn test_second<S: Alter>(alloc: Global, db: &mut Idle<S>) -> Result<(), StoreError>
+    ensures tests { TestsSecond S.Store db.old.idle.conn db.new.idle.conn result (λ _. SecondPasses) }
+    ensures known { OnOk result (IsSecondLayout (shown db.old).now.schema) }
+    ensures refused { HasCleanDisk (shown db.new)
+        → IfErr result (IsRefusedBy (shown db.old).now) }
+    ensures other { HasCleanDisk (shown db.new)
+        → IfErr result (TellsLayout (shown db.old)) }
+{
+    let _idle = db.idle.conn.is_autocommit();
+    let known = has_second_layout(&db.idle.conn) || is_second_unindexed(&db.idle.conn);
+    test_meta(alloc, db, Layout::Second)?;
+    allow(known)?;
+    test_all(alloc, db)
+}
+
+/// Reads all tables of layout 2 but `meta`, and tests them.
+fn test_all<S: Alter>(alloc: Global, db: &mut Idle<S>) -> Result<(), StoreError>
+    ensures tests { TestsSecond S.Store db.old.idle.conn db.new.idle.conn result
+        (λ _ db. RestPasses db × AddedPass db) }
+    ensures plain { IfErr result IsNumberless }
+{
+    let _idle = db.idle.conn.is_autocommit();
+    test_rest(alloc, db)?;
+    test_added(alloc, db)
 }

@@ -5,14 +5,16 @@ use Rattle.sqlite.specs.Effect.{Database}
 use Rattle.sqlite.specs.State.{State}
 use Rattle.sqlite.specs.declared.error.Error.{Error}
 use Rattle.reg_core.specs.declared.decision.Change.{Change}
-use Rattle.reg_core.specs.Registry.{Registry}
+use Rattle.reg_core.specs.Registry.{Registry, new_registry}
 use Rattle.reg_core.specs.Views.{ChangeFits, ChangesFit, after_change, after_changes}
-use Rattle.reg_tables.specs.Layout.{layout, unindexed}
-use Rattle.reg_tables.specs.Contents.{Contents, HoldsIn, Holds}
+use Rattle.reg_tables.specs.SecondLayout.{second_unindexed, second_indexed_last}
+use Rattle.reg_tables.specs.SecondContents.{SecondContents, HoldsAllIn}
 use Rattle.reg_tables.specs.FailedCalls.{IsInsertFault}
 use Rattle.reg_store.specs.declared.keep.Keep.{Keep}
-use Rattle.reg_core.specs.KeptReplies.{Kept}
-use Rattle.reg_store.specs.Spells.{Spells}
+use Rattle.reg_core.specs.KeptReplies.{Kept, nothing_kept}
+use Rattle.reg_store.specs.declared.layout.Layout.{Layout}
+use Rattle.reg_store.specs.declared.layout.Layout.TheVariants.{First, Second}
+use Rattle.reg_store.specs.Spells.{SpellsFirst, LeavesFirst, IsOpenOverFirst, Spells, Leaves, IsOpenOver}
 use Rattle.reg_store.specs.Changes.{IsNewTo, SpellsInside}
 
 -- the tables spelled a registry that can have the change, and now spell it after the change
@@ -37,4 +39,21 @@ IsFaultOfReply old new keep e = (g : Registry) (k : Kept) → SpellsInside old g
 
 -- the trees are those of these tables with the index, whatever contents they hold without it
 abbrev pub TakesIndex : Database → Trees → Type 0
-TakesIndex before db = (held : Contents) → HoldsIn unindexed before held → Holds (record { schema = layout; trees = db }) held
+TakesIndex before db = (held : SecondContents) → HoldsAllIn second_unindexed before held → HoldsAllIn second_indexed_last (record { schema = second_indexed_last; trees = db }) held
+
+-- ---- a new registry, in either layout
+
+-- the tables spell it
+abbrev pub SpellsNew : Layout → Database → Type 0
+SpellsNew First db = SpellsFirst db new_registry nothing_kept
+SpellsNew Second db = Spells db new_registry nothing_kept
+
+-- the connection is open over it
+abbrev pub IsNew : Layout → State → Type 0
+IsNew First s = IsOpenOverFirst s new_registry nothing_kept
+IsNew Second s = IsOpenOver s new_registry nothing_kept
+
+-- a crash leaves it
+abbrev pub LeavesNew : Layout → Trees → Type 0
+LeavesNew First db = LeavesFirst db new_registry nothing_kept
+LeavesNew Second db = Leaves db new_registry nothing_kept

@@ -1,16 +1,31 @@
 -- What a call says that only reads what is stored.
 use Rattle.std.specs.Prelude.{◌≡◌, IsTrue, Result, OnOk, MatchResult}
+use Rattle.sqlite.specs.Schema.{Schema}
+use Rattle.sqlite.specs.Effect.{Database}
 use Rattle.sqlite.specs.Held.{state}
 use Rattle.sqlite.specs.State.{State, HasCleanDisk, KeepsCommit, Survives}
 use Rattle.sqlite_trees.specs.declared.store.Store.{Ghosts}
 use Rattle.reg_store.specs.declared.error.StoreError.{StoreError}
 use Rattle.reg_store.specs.declared.idle.Idle.{Idle}
-use Rattle.reg_store.specs.Spells.{Stored, Spell}
+use Rattle.reg_core.specs.Registry.{Registry}
+use Rattle.reg_core.specs.KeptReplies.{Kept}
+use Rattle.reg_tables.specs.Layout.{HasTablesFirst}
+use Rattle.reg_tables.specs.Contents.{Contents, HoldsIn, AreReadable}
+use Rattle.reg_store.specs.Spells.{IsSpelled, Stored, Spell}
 use Rattle.reg_store.specs.Failures.{IsFaultBy}
 
 -- SQLite, transactions: what the connection shows
 abbrev pub shown : {S : Type 0} {g : Ghosts S} → Idle S g → State
 shown {S} {g} db = state g db.idle.conn
+
+-- the five tables that each layout has come first, hold what can be read, and spell a registry, but for its modes, and kept replies
+pub record SpellsBase (db : Database) (g : Registry) (k : Kept) : Type 0 where
+  pub schema : Schema
+  pub first : HasTablesFirst schema
+  pub contents : Contents
+  pub holds : HoldsIn schema db contents
+  pub readable : AreReadable contents
+  pub spelled : IsSpelled contents g k
 
 -- nothing is committed, and a connection that showed its last commit shows it still
 pub record Rests (old new : State) : Type 0 where

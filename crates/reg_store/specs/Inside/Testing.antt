@@ -1,25 +1,38 @@
 -- What the tables are tested for before a store is opened over them.
-use Rattle.std.specs.Prelude.{◌≡◌, ◌<◌, ◌≤◌, ◌↔◌, ℕ, ℤ, List, map, length, string_bytes, Bool, false, Option, Some, Result, Ok, Err, IfErr, OnOk, IsTrue}
+use Rattle.std.specs.Prelude.{◌≡◌, ◌<◌, ◌≤◌, ◌↔◌, ◌^◌, ℕ, ℤ, List, map, length, string_bytes, Bool, false, Option, Some, Result, Ok, Err, IfOk, IfErr, IsTrue}
 use Rattle.std.specs.List.{IsDistinct, AllByRecursion}
 use Rattle.std.specs.Ordering.{int_cmp, eq_by_cmp}
+use Rattle.sqlite.specs.Schema.{Schema}
 use Rattle.sqlite.specs.Effect.{Database}
 use Rattle.sqlite.specs.Held.{Held, state}
-use Rattle.sqlite.specs.State.{HasCleanDisk}
+use Rattle.sqlite.specs.State.{State, HasCleanDisk}
 use Rattle.sqlite_trees.specs.declared.store.Store.{Ghosts}
 use Rattle.reg_tables.specs.declared.lines.TextLine.{TextLine}
 use Rattle.reg_tables.specs.declared.lines.VersionLine.{VersionLine}
 use Rattle.reg_tables.specs.declared.lines.LevelLine.{LevelLine}
 use Rattle.reg_tables.specs.declared.lines.KeptLine.{KeptLine}
 use Rattle.reg_tables.specs.declared.lines.MetaLine.{MetaLine}
-use Rattle.reg_tables.specs.Layout.{IsLayout}
+use Rattle.reg_tables.specs.declared.modes.ModeLine.{ModeLine}
+use Rattle.reg_tables.specs.declared.second_lines.EvidenceLine.{EvidenceLine}
+use Rattle.reg_tables.specs.declared.second_lines.AgainstLine.{AgainstLine}
+use Rattle.reg_tables.specs.Layout.{HasTablesFirst}
+use Rattle.reg_tables.specs.SecondLayout.{HasSecondTables}
 use Rattle.reg_tables.specs.Listings.{ListsIds, ListsTexts, ListsVersions, ListsLevels, ListsKept, ListsMeta}
+use Rattle.reg_tables.specs.SecondListings.{ListsModes, ListsEvidence, ListsAgainst}
 use Rattle.reg_tables.specs.Frames.{StaysIdle}
-use Rattle.reg_rows.specs.Spelling.{Pair, pair_of, is_meta, layout_in, IsIdentity, AreNumbered, AreTexts, FitsVersions, FitsLevels, FitsKept}
-use Rattle.reg_core.specs.Registry.{max_number}
+use Rattle.reg_rows.specs.Spelling.{pair_of, IsIdentity, AreNumbered, AreTexts, FitsVersions, FitsLevels, FitsKept, FitsModes, FitsEvidence}
+use Rattle.reg_rows.specs.Meta.{Pair, is_meta, is_second_meta, layout_in}
+use Rattle.reg_rows.specs.Places.{Place, HaveEvidence, ArePositions}
+use Rattle.reg_core.specs.Registry.{RowKey, Registry, max_number}
+use Rattle.reg_core.specs.KeptReplies.{Kept}
 use Rattle.reg_store.specs.declared.error.StoreError.{StoreError}
 use Rattle.reg_store.specs.declared.error.StoreError.TheVariants.{Memory, Disk, NotARegistry, OldLayout, NewerLayout}
+use Rattle.reg_store.specs.declared.layout.Layout.{Layout}
+use Rattle.reg_store.specs.declared.layout.Layout.TheVariants.{First, Second}
+use Rattle.reg_store.specs.Failures.{IsFaultBy, IsTold}
 use Rattle.reg_store.specs.Opening.{text_row, meta_row}
-use Rattle.reg_store.specs.UnopenedFaults.{IsFaultUnopened, IsToldUnopened}
+use Rattle.reg_store.specs.Spells.{SpellsFirst, SpellsUnopened}
+use Rattle.reg_store.specs.Inside.Reads.{SpellsBase}
 
 -- no number comes twice
 abbrev pub AreApart : List ℤ → Type 0
@@ -54,11 +67,21 @@ pub record KeptPass (db : Database) : Type 0 where
 abbrev pub pairs_of : List MetaLine → List Pair
 pairs_of lines = map pair_of (map meta_row lines)
 
-pub record MetaPass (db : Database) : Type 0 where
+-- the number of a layout
+abbrev pub number_of : Layout → ℕ
+number_of First = 1
+number_of Second = 2
+
+-- whether these are the rows of `meta` in the layout
+abbrev pub is_meta_of : Layout → List Pair → Bool
+is_meta_of First = is_meta
+is_meta_of Second = is_second_meta
+
+pub record MetaPass (layout : Layout) (db : Database) : Type 0 where
   pub lines : List MetaLine
   pub lists : ListsMeta db lines
   pub apart : AreApart (map (λ (line : MetaLine). line.rowid) lines)
-  pub fit : IsTrue (is_meta (pairs_of lines))
+  pub fit : IsTrue (is_meta_of layout (pairs_of lines))
 
 -- the rows of `texts`, in the order of their ids
 pub record TextsPass (db : Database) : Type 0 where
@@ -78,9 +101,60 @@ pub record RestPasses (db : Database) : Type 0 where
   pub levels : LevelsPass db
   pub kept : KeptPass db
 
-pub record TablesPass (db : Database) : Type 0 where
-  pub meta : MetaPass db
+-- the five tables of a layout
+pub record TablesPass (layout : Layout) (db : Database) : Type 0 where
+  pub meta : MetaPass layout db
   pub rest : RestPasses db
+
+-- ---- what passes of the tables that layout 2 adds
+
+abbrev pub mode_fits : ModeLine → Type 0
+mode_fits line = FitsModes (string_bytes line.subject) (string_bytes line.mode)
+
+abbrev pub evidence_fits : EvidenceLine → Type 0
+evidence_fits line = FitsEvidence (string_bytes line.level)
+
+abbrev pub against_fits : AgainstLine → Type 0
+against_fits line = line.position < 2 ^ 32
+
+abbrev pub version_at : EvidenceLine → RowKey
+version_at line = (string_bytes line.subject, line.version)
+
+abbrev pub place_at : AgainstLine → Place
+place_at line = ((string_bytes line.subject, line.version), line.position)
+
+-- each version that has ids has evidence, and the ids stand in order
+abbrev pub AreInPlace : List EvidenceLine → List AgainstLine → Type 0
+AreInPlace evidence against = HaveEvidence (map version_at evidence) (map place_at against) × ArePositions (map place_at against)
+
+pub record ModesPass (db : Database) : Type 0 where
+  pub lines : List ModeLine
+  pub lists : ListsModes db lines
+  pub apart : AreApart (map (λ (line : ModeLine). line.rowid) lines)
+  pub fit : AllByRecursion mode_fits lines
+
+-- lines of `evidence` and `against` that pass
+pub record EvidenceFits (evidence : List EvidenceLine) (against : List AgainstLine) : Type 0 where
+  pub apart : AreApart (map (λ (line : EvidenceLine). line.rowid) evidence)
+  pub fit : AllByRecursion evidence_fits evidence
+  pub places_apart : AreApart (map (λ (line : AgainstLine). line.rowid) against)
+  pub places_fit : AllByRecursion against_fits against
+  pub placed : AreInPlace evidence against
+
+pub record EvidencePasses (db : Database) : Type 0 where
+  pub evidence : List EvidenceLine
+  pub against : List AgainstLine
+  pub lists : ListsEvidence db evidence × ListsAgainst db against
+  pub fits : EvidenceFits evidence against
+
+pub record AddedPass (db : Database) : Type 0 where
+  pub modes : ModesPass db
+  pub evidence : EvidencePasses db
+
+-- the eight tables of layout 2
+pub record SecondPasses (db : Database) : Type 0 where
+  pub base : TablesPass Second db
+  pub added : AddedPass db
 
 -- ---- texts, of which some are held at a time
 
@@ -100,32 +174,57 @@ pub record Judges (Lists : List TextLine → Type 0) (fit : Bool) : Type 0 where
 
 -- ---- verdicts
 
-abbrev pub PassesMeta : List MetaLine → Type 0
-PassesMeta lines = AreApart (map (λ (line : MetaLine). line.rowid) lines) × IsTrue (is_meta (pairs_of lines))
+abbrev pub PassesMeta : Layout → List MetaLine → Type 0
+PassesMeta layout lines = AreApart (map (λ (line : MetaLine). line.rowid) lines) × IsTrue (is_meta_of layout (pairs_of lines))
 
--- A newer layout is told before what doesn't pass.
-abbrev pub Allows : Option ℕ → Bool → Result (Unit {0}) StoreError → Type 0
-Allows named passes (Ok _) = IsTrue passes
-Allows named passes (Err Memory) = ⊥
-Allows named passes (Err Disk) = ⊥
-Allows named passes (Err NotARegistry) = (passes ≡ false) × ((number : ℕ) → named ≡ Some number → number ≤ 1)
-Allows named passes (Err (OldLayout number)) = ⊥
-Allows named passes (Err (NewerLayout number)) = (named ≡ Some number) × (1 < number)
+-- Another layout is told before what doesn't pass.
+abbrev pub Allows : ℕ → Option ℕ → Bool → Result (Unit {0}) StoreError → Type 0
+Allows own named passes (Ok _) = IsTrue passes
+Allows own named passes (Err Memory) = ⊥
+Allows own named passes (Err Disk) = ⊥
+Allows own named passes (Err NotARegistry) = (passes ≡ false) × ((number : ℕ) → named ≡ Some number → number ≡ own)
+Allows own named passes (Err (OldLayout number)) = (named ≡ Some number) × (number < own)
+Allows own named passes (Err (NewerLayout number)) = (named ≡ Some number) × (own < number)
 
 -- The format and the layout are looked at before the rest.
-abbrev pub JudgesMeta : List MetaLine → Result (Unit {0}) StoreError → Type 0
-JudgesMeta lines (Ok _) = PassesMeta lines
-JudgesMeta lines (Err Memory) = Unit {0}
-JudgesMeta lines (Err Disk) = ⊥
-JudgesMeta lines (Err NotARegistry) = (PassesMeta lines → ⊥) × ((number : ℕ) → layout_in (pairs_of lines) ≡ Some number → number ≤ 1)
-JudgesMeta lines (Err (OldLayout number)) = ⊥
-JudgesMeta lines (Err (NewerLayout number)) = (layout_in (pairs_of lines) ≡ Some number) × (1 < number)
+abbrev pub JudgesMeta : Layout → List MetaLine → Result (Unit {0}) StoreError → Type 0
+JudgesMeta layout lines (Ok _) = PassesMeta layout lines
+JudgesMeta layout lines (Err Memory) = Unit {0}
+JudgesMeta layout lines (Err Disk) = ⊥
+JudgesMeta layout lines (Err NotARegistry) = (PassesMeta layout lines → ⊥) × ((number : ℕ) → layout_in (pairs_of lines) ≡ Some number → number ≡ number_of layout)
+JudgesMeta layout lines (Err (OldLayout number)) = (layout_in (pairs_of lines) ≡ Some number) × (number < number_of layout)
+JudgesMeta layout lines (Err (NewerLayout number)) = (layout_in (pairs_of lines) ≡ Some number) × (number_of layout < number)
+
+-- ---- what is asked of the tables
+
+-- the tables spell some registry and kept replies so
+pub record SpellsSome (Spells : Database → Registry → Kept → Type 0) (db : Database) : Type 0 where
+  pub registry : Registry
+  pub kept : Kept
+  pub spells : Spells db registry kept
+
+-- the tables spell a registry in the layout
+abbrev pub SpellsAs : Layout → Database → Type 0
+SpellsAs First = SpellsSome SpellsFirst
+SpellsAs Second = SpellsSome SpellsUnopened
 
 -- ---- a test
 
--- a call that changes nothing, succeeds only where the tables of a layout pass, fails by itself only where they spell no registry, and tells `Disk` of a fault of the disk alone
-pub record Tests {S X : Type 0} (g : Ghosts S) (old new : Held S) (result : Result X StoreError) (Passes : Database → Type 0) : Type 0 where
+-- a call that changes nothing, tells of tables that are declared so, fails by itself only where they don't spell what they should, and tells `Disk` of a fault of the disk alone
+pub record Tests {S X : Type 0} (Declared : Schema → Type 0) (Spelled : Database → Type 0) (g : Ghosts S) (old new : Held S) (result : Result X StoreError) (Tells : X → Database → Type 0) : Type 0 where
   pub frame : StaysIdle g old new result
-  pub passes : HasCleanDisk (state g new) → OnOk result (IsLayout (state g old).now.schema → Passes (state g old).now)
-  pub fault : HasCleanDisk (state g new) → IfErr result (IsFaultUnopened (state g old) (state g new))
-  pub told : HasCleanDisk (state g new) → IfErr result (IsToldUnopened (state g old) (state g new))
+  pub tells : HasCleanDisk (state g new) → IfOk result (λ x. Declared (state g old).now.schema → Tells x (state g old).now)
+  pub fault : HasCleanDisk (state g new) → IfErr result (λ e. (IsTrue (state g old).is_open → Spelled (state g old).now) → IsFaultBy (state g old) (state g new) e)
+  pub told : HasCleanDisk (state g new) → IfErr result (λ e. (IsTrue (state g old).is_open → Declared (state g old).now.schema) → IsTold (state g old) (state g new) e)
+
+-- where the five tables that each layout has spell a registry, but for its modes, an error comes of memory or of a fault of the disk alone
+abbrev pub IsFaultBase : State → State → StoreError → Type 0
+IsFaultBase old new e = (IsTrue old.is_open → SpellsSome SpellsBase old.now) → IsFaultBy old new e
+
+-- a test of these tables
+abbrev pub TestsBase : {S X : Type 0} → Ghosts S → Held S → Held S → Result X StoreError → (X → Database → Type 0) → Type 0
+TestsBase = Tests HasTablesFirst (SpellsSome SpellsBase)
+
+-- a test of the eight tables of layout 2
+abbrev pub TestsSecond : {S X : Type 0} → Ghosts S → Held S → Held S → Result X StoreError → (X → Database → Type 0) → Type 0
+TestsSecond = Tests HasSecondTables (SpellsAs Second)

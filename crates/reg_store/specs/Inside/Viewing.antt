@@ -10,9 +10,9 @@ use Rattle.reg_core.specs.declared.decision.View.{View}
 use Rattle.reg_core.specs.Subjects.{is_subject}
 use Rattle.reg_core.specs.Registry.{Registry, Row, Version, Schemas}
 use Rattle.reg_core.specs.Rows.{known_id, text_at}
-use Rattle.reg_core.specs.Machine.{subject_of, schema_sent, mode_for}
-use Rattle.reg_core.specs.Needs.{AnswerAs, rows_asked, rows_needed, needs_levels, needs_count}
-use Rattle.reg_core.specs.Views.{level_of_view, mode_seen}
+use Rattle.reg_core.specs.Machine.{subject_of, schema_sent}
+use Rattle.reg_core.specs.Needs.{AnswerAs, rows_asked, rows_needed, needs_levels, needs_modes, needs_count}
+use Rattle.reg_core.specs.Views.{level_of_view}
 use Rattle.reg_tables.specs.declared.listed.ListedVersion.{ListedVersion}
 use Rattle.reg_tables.specs.Contents.{VersionRow}
 use Rattle.reg_tables.specs.Entries.{NumberedVersion, KeyedVersion, most}
@@ -85,6 +85,6 @@ pub record PutsText (old new : BTreeMap ℕ (String Global)) (id : ℕ) (found :
 pub record IsViewButTexts (view : View) (g : Registry) (command : Command) : Type 0 where
   pub rows : AnswerAs (level_of_view view) view.known (rows_asked command) view.rows.items (rows_needed g (subject_of command) (rows_asked command))
   pub levels : IsTrue (needs_levels command) → (view.own ≡ option_and_then g.own (subject_of command)) × (view.global ≡ g.global)
-  pub mode : mode_seen view command ≡ mode_for g command
+  pub modes : IsTrue (needs_modes command) → (view.own_mode ≡ option_and_then g.own_modes (subject_of command)) × (view.global_mode ≡ g.global_mode)
   pub known : view.known ≡ known_id g.schemas (schema_sent command)
   pub count : IsTrue (needs_count command) → view.count ≡ length g.schemas

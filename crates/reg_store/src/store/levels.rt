@@ -3,7 +3,6 @@
 ghost use Rattle.std.specs.Prelude.{◌≡◌, None, Some, IfOk, OnErr, IsTrue, option_and_then, option_copied};
 ghost use Rattle.reg_core.specs.Levels.{level_of};
 ghost use Rattle.reg_store.specs.Inside.Reads.{MayRead, Reads};
-ghost use Rattle.reg_store.specs.Spells.{HasNoModes};
 
 use crate::error::StoreError;
 use crate::idle::Idle;
@@ -12,15 +11,15 @@ use reg_tables::{global_level, own_level};
 use sqlite::Alter;
 
 /// The level that the subject has of its own, if that is needed and there is one, and the global
-/// level. There are no modes beside them.
+/// level.
 pub(crate) fn levels_for<S: Alter>(
     db: &mut Idle<S>,
     subject: Option<&Subject>,
     needed: bool,
 ) -> Result<(Option<Level>, Level), StoreError>
-    ensures { Reads db.old db.new result (λ was levels. HasNoModes was.registry
-        × (IsTrue needed → (levels.0 ≡ option_and_then was.registry.own (option_copied subject.entry))
-        × (levels.1 ≡ was.registry.global))) }
+    ensures { Reads db.old db.new result (λ was levels. IsTrue needed
+        → (levels.0 ≡ option_and_then was.registry.own (option_copied subject.entry))
+        × (levels.1 ≡ was.registry.global)) }
 {
     let global = global(db)?;
     let own = own_for(db, subject, needed)?;
@@ -60,7 +59,7 @@ pub(crate) fn own<S: Alter>(
 
 /// The global level.
 fn global<S: Alter>(db: &mut Idle<S>) -> Result<Level, StoreError>
-    ensures { Reads db.old db.new result (λ was level. HasNoModes was.registry × (level ≡ was.registry.global)) }
+    ensures { Reads db.old db.new result (λ was level. level ≡ was.registry.global) }
 {
     match global_level(&mut db.idle)? {
         None => Err(StoreError::NotARegistry),

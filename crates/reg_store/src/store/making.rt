@@ -7,18 +7,21 @@ ghost use Rattle.sqlite.specs.Held.{state};
 ghost use Rattle.sqlite.specs.State.{HasCleanDisk, Survives, KeepsCommit};
 ghost use Rattle.reg_core.specs.Registry.{new_registry};
 ghost use Rattle.reg_tables.specs.Layout.{no_schema};
+ghost use Rattle.reg_tables.specs.Frames.{state_in, StaysInside};
 ghost use Rattle.reg_tables.specs.Reads.{OnlyReads};
+ghost use Rattle.reg_tables.specs.FailedCalls.{IsWriteFault};
 ghost use Rattle.reg_core.specs.KeptReplies.{nothing_kept};
-ghost use Rattle.reg_store.specs.Spells.{Leaves, IsOpenOver};
+ghost use Rattle.reg_store.specs.Spells.{LeavesFirst, IsOpenOverFirst, Leaves, IsOpenOver};
 ghost use Rattle.reg_store.specs.Failures.{failure_of, IsFaultBy};
 ghost use Rattle.reg_store.specs.Stores.{connection_of, state_of, has_failed, LeavesBefore, LeavesCommit};
-ghost use Rattle.reg_store.specs.Inside.Reads.{shown};
+ghost use Rattle.reg_store.specs.Inside.Making.{SpellsNew, IsNew, LeavesNew};
 
 use crate::error::StoreError;
 use crate::idle::Idle;
+use crate::layout::Layout;
 use crate::store::Store;
 use reg_tables::has_no_tables;
-use sqlite::{Alter, Connection, Error};
+use sqlite::{Alter, Connection, Error, Transaction};
 use std::alloc::Global;
 
 impl<S: Alter> Store<S> {
@@ -69,22 +72,17 @@ impl<S: Alter> Store<S> {
             let _idle = connection.is_autocommit();
             return Err((StoreError::NotARegistry, connection));
         }
-        let mut db = Idle {
-            idle: reg_tables::Idle { conn: connection },
-        };
-        let made = make_in(&mut db);
-        let _idle = db.idle.conn.is_autocommit();
+        let made = make_in(&mut connection, Layout::Second);
+        let _idle = connection.is_autocommit();
         match made {
             Ok(()) => Ok(Store {
                 alloc,
-                db,
+                db: Idle {
+                    idle: reg_tables::Idle { conn: connection },
+                },
                 failed: false,
             }),
-            Err(error) => {
-                let Idle { idle } = db;
-                let reg_tables::Idle { conn } = idle;
-                Err((StoreError::from(error), conn))
-            }
+            Err(error) => Err((StoreError::from(error), connection)),
         }
     }
 
@@ -111,22 +109,91 @@ impl<S: Alter> Store<S> {
     }
 }
 
-/// Makes the tables of a new registry in one transaction.
-fn make_in<S: Alter>(db: &mut Idle<S>) -> Result<(), Error>
-    ensures done { HasCleanDisk (shown db.new)
-        → OnOk result ((shown db.old).now.schema ≡ no_schema
-        → IsOpenOver (shown db.new) new_registry nothing_kept) }
-    ensures fault { HasCleanDisk (shown db.new) → IfErr result (λ e.
-        (shown db.old).now.schema ≡ no_schema
-        → IsFaultBy (shown db.old) (shown db.new) (failure_of e)) }
-    ensures nothing { HasCleanDisk (shown db.new)
-        → OnErr result (KeepsCommit (shown db.old) (shown db.new)) }
-    ensures before { HasCleanDisk (shown db.new) → IfErr result (λ e. IsTrue (shown db.old).is_open
-        → LeavesBefore (shown db.old) (shown db.new) (failure_of e)) }
-    ensures survives { Survives (shown db.old) (shown db.new) (λ left.
-        (shown db.old).now.schema ≡ no_schema → Leaves left new_registry nothing_kept) }
+/// Makes a new registry in layout 1, as programs before layout 2 made it, in an empty database. The
+/// connection is outside a transaction.
+///
+/// # Errors
+///
+/// `NotARegistry` where the database isn't empty, and there alone; `Memory` and `Disk`. The database
+/// is as before then; but after `Disk` a crash may leave the new registry too.
+pub fn create_first<S: Alter>(connection: &mut Connection<S>) -> Result<(), StoreError>
+    requires { connection.old.in_transaction ≡ false }
+    ensures idle { connection.new.in_transaction ≡ false }
+    ensures done { HasCleanDisk (state S.Store connection.new)
+        → OnOk result (IsOpenOverFirst (state S.Store connection.new) new_registry nothing_kept) }
+    ensures full { (state S.Store connection.old).now.schema ≢ no_schema
+        → IsErrAnd result (λ e. e ≡ StoreError.NotARegistry) }
+
+    // Over an empty database it answers `Disk` only for a fault of the disk.
+    ensures fault { HasCleanDisk (state S.Store connection.new) → IfErr result (λ e.
+        (state S.Store connection.old).now.schema ≡ no_schema
+        → IsFaultBy (state S.Store connection.old) (state S.Store connection.new) e) }
+    ensures nothing { HasCleanDisk (state S.Store connection.new)
+        → OnErr result (OnlyReads (state S.Store connection.old) (state S.Store connection.new)) }
+
+    // An error that isn't `Disk` leaves the database as it was, also after a crash.
+    ensures before { HasCleanDisk (state S.Store connection.new) → IfErr result (λ e.
+        IsTrue (state S.Store connection.old).is_open
+        → LeavesBefore (state S.Store connection.old) (state S.Store connection.new) e) }
+
+    // A crash leaves the new registry, or where the call failed perhaps what it left before.
+    ensures crash_after { HasCleanDisk (state S.Store connection.new) → OnOk result ((db : Trees)
+        → (state S.Store connection.new).may_leave db → LeavesFirst db new_registry nothing_kept) }
+    ensures closes { HasCleanDisk (state S.Store connection.new) → OnErr result (
+        IsTrue (state S.Store connection.old).is_open → IsTrue (state S.Store connection.new).is_open
+        ⊎ MoreFaults (state S.Store connection.old).faults (state S.Store connection.new).faults) }
+    ensures settled { OnErr result (LeavesCommit (state S.Store connection.new)) }
+    ensures crash { HasCleanDisk (state S.Store connection.new) → OnErr result ((db : Trees)
+        → (state S.Store connection.new).may_leave db
+        → (state S.Store connection.old).may_leave db ⊎ LeavesFirst db new_registry nothing_kept) }
 {
-    let mut tx = db.idle.conn.transaction();
-    reg_tables::create(&mut tx)?;
+    connection.set_step_limit(None);
+    if !has_no_tables(connection) {
+        let _idle = connection.is_autocommit();
+        return Err(StoreError::NotARegistry);
+    }
+    let made = make_in(connection, Layout::First);
+    let _idle = connection.is_autocommit();
+    Ok(made?)
+}
+
+/// Makes the tables of a new registry in one transaction.
+fn make_in<S: Alter>(connection: &mut Connection<S>, layout: Layout) -> Result<(), Error>
+    requires idle { connection.old.in_transaction ≡ false }
+    requires unlimited { connection.old.step_limit ≡ None }
+    ensures idle { connection.new.in_transaction ≡ false }
+    ensures unlimited { connection.new.step_limit ≡ None }
+    ensures done { HasCleanDisk (state S.Store connection.new)
+        → OnOk result ((state S.Store connection.old).now.schema ≡ no_schema
+        → IsNew layout (state S.Store connection.new)) }
+    ensures fault { HasCleanDisk (state S.Store connection.new) → IfErr result (λ e.
+        (state S.Store connection.old).now.schema ≡ no_schema
+        → IsFaultBy (state S.Store connection.old) (state S.Store connection.new) (failure_of e)) }
+    ensures nothing { HasCleanDisk (state S.Store connection.new)
+        → OnErr result (KeepsCommit (state S.Store connection.old) (state S.Store connection.new)) }
+    ensures before { HasCleanDisk (state S.Store connection.new) → IfErr result (λ e.
+        IsTrue (state S.Store connection.old).is_open → LeavesBefore
+        (state S.Store connection.old) (state S.Store connection.new) (failure_of e)) }
+    ensures survives { Survives (state S.Store connection.old) (state S.Store connection.new)
+        (λ left. (state S.Store connection.old).now.schema ≡ no_schema → LeavesNew layout left) }
+{
+    let mut tx = connection.transaction();
+    make_tables(&mut tx, layout)?;
     tx.commit()
+}
+
+/// Makes the tables of a new registry.
+fn make_tables<S: Alter>(tx: &mut Transaction<'_, S>, layout: Layout) -> Result<(), Error>
+    ensures frame { StaysInside S.Store tx.old tx.new result }
+    ensures made { HasCleanDisk (state_in S.Store tx.new)
+        → OnOk result ((state_in S.Store tx.old).now.schema ≡ no_schema
+        → SpellsNew layout (state_in S.Store tx.new).now) }
+    ensures fault { HasCleanDisk (state_in S.Store tx.new) → IfErr result (λ e.
+        (state_in S.Store tx.old).now.schema ≡ no_schema
+        → IsWriteFault (state_in S.Store tx.old) (state_in S.Store tx.new) e) }
+{
+    match layout {
+        Layout::First => reg_tables::create(tx),
+        Layout::Second => reg_tables::create_second(tx),
+    }
 }

@@ -5,11 +5,11 @@ ghost use Rattle.sqlite_disk.specs.Disk.{MoreFaults};
 ghost use Rattle.sqlite.specs.Tree.{Trees};
 ghost use Rattle.sqlite.specs.Held.{state};
 ghost use Rattle.sqlite.specs.State.{HasCleanDisk, Survives, KeepsCommit};
-ghost use Rattle.reg_tables.specs.Layout.{unindexed};
-ghost use Rattle.reg_tables.specs.Contents.{Contents, HoldsIn, Holds};
+ghost use Rattle.reg_tables.specs.SecondLayout.{second_unindexed, second_indexed_last};
+ghost use Rattle.reg_tables.specs.SecondContents.{SecondContents, HoldsAllIn};
 ghost use Rattle.reg_tables.specs.Reads.{OnlyReads};
 ghost use Rattle.reg_store.specs.Failures.{failure_of, IsFaultBy};
-ghost use Rattle.reg_store.specs.Opening.{IsRefusedBy, TellsNewer, OpensOver, IsIndexed, LosesNothing};
+ghost use Rattle.reg_store.specs.Opening.{IsRefusedBy, TellsLayout, OpensOver, IsIndexed, LosesNothing};
 ghost use Rattle.reg_store.specs.Stores.{state_of, has_failed, LeavesBefore, LeavesCommit};
 ghost use Rattle.reg_store.specs.UnopenedFaults.{IsFaultUnopened, IsToldUnopened};
 ghost use Rattle.reg_store.specs.Inside.Making.{TakesIndex};
@@ -18,8 +18,8 @@ ghost use Rattle.reg_store.specs.Inside.Reads.{shown};
 use crate::error::StoreError;
 use crate::idle::Idle;
 use crate::store::Store;
-use crate::testing::test;
-use reg_tables::{index_versions, is_unindexed};
+use crate::testing::test_second;
+use reg_tables::{index_versions, is_second_unindexed};
 use sqlite::{Alter, Connection, Error};
 use std::alloc::Global;
 
@@ -30,8 +30,8 @@ impl<S: Alter> Store<S> {
     ///
     /// # Errors
     ///
-    /// `NotARegistry` where the tables spell none, `NewerLayout` where they name a newer layout;
-    /// `Memory` and `Disk`. The database is as before then; but after `Disk` a crash may leave it
+    /// `NotARegistry` where the tables spell none, `OldLayout` and `NewerLayout` where they name an
+    /// older or a newer layout than 2; `Memory` and `Disk`. The database is as before then; but after `Disk` a crash may leave it
     /// with the index too.
     pub fn open(
         alloc: Global,
@@ -43,15 +43,15 @@ impl<S: Alter> Store<S> {
         ensures unfailed { IfOk result (λ store. has_failed store ≡ false) }
 
         // Over tables that spell a registry no error but these two comes, over any `Disk` is for a
-        // fault of the disk, and a newer layout is told.
+        // fault of the disk, and another layout is told.
         ensures fault { IfErr result (λ e. HasCleanDisk (state S.Store e.1)
             → IsFaultUnopened (state S.Store connection) (state S.Store e.1) e.0) }
         ensures told { IfErr result (λ e. HasCleanDisk (state S.Store e.1)
             → IsToldUnopened (state S.Store connection) (state S.Store e.1) e.0) }
         ensures refused { IfErr result (λ e. HasCleanDisk (state S.Store e.1)
             → IsRefusedBy (state S.Store connection).now e.0) }
-        ensures newer { IfErr result (λ e. HasCleanDisk (state S.Store e.1)
-            → TellsNewer (state S.Store connection) e.0) }
+        ensures other { IfErr result (λ e. HasCleanDisk (state S.Store e.1)
+            → TellsLayout (state S.Store connection) e.0) }
         ensures idle { IfErr result (λ e. e.1.in_transaction ≡ false) }
         ensures nothing { IfErr result (λ e. HasCleanDisk (state S.Store e.1)
             → OnlyReads (state S.Store connection) (state S.Store e.1)) }
@@ -107,8 +107,8 @@ fn make_ready<S: Alter>(alloc: Global, db: &mut Idle<S>) -> Result<(), StoreErro
         → IfErr result (IsToldUnopened (shown db.old) (shown db.new)) }
     ensures refused { HasCleanDisk (shown db.new)
         → IfErr result (IsRefusedBy (shown db.old).now) }
-    ensures newer { HasCleanDisk (shown db.new)
-        → IfErr result (TellsNewer (shown db.old)) }
+    ensures other { HasCleanDisk (shown db.new)
+        → IfErr result (TellsLayout (shown db.old)) }
     ensures nothing { HasCleanDisk (shown db.new)
         → OnErr result (OnlyReads (shown db.old) (shown db.new)) }
     ensures before { HasCleanDisk (shown db.new) → IfErr result (λ e.
@@ -118,8 +118,8 @@ fn make_ready<S: Alter>(alloc: Global, db: &mut Idle<S>) -> Result<(), StoreErro
 {
     let _live = db.idle.conn.schema();
     let _idle = db.idle.conn.is_autocommit();
-    test(alloc, db)?;
-    if !is_unindexed(&db.idle.conn) {
+    test_second(alloc, db)?;
+    if !is_second_unindexed(&db.idle.conn) {
         return Ok(());
     }
     let made = make_index(db);
@@ -132,11 +132,11 @@ fn make_index<S: Alter>(db: &mut Idle<S>) -> Result<(), Error>
     ensures done { HasCleanDisk (shown db.new) → OnOk result (
         IsTrue (shown db.old).is_open × IsTrue (shown db.new).is_open
         × ((shown db.new).committed ≡ (shown db.new).now)
-        × ((contents : Contents) → HoldsIn unindexed (shown db.old).now contents
-        → Holds (shown db.new).now contents)) }
+        × ((contents : SecondContents) → HoldsAllIn second_unindexed (shown db.old).now contents
+        → HoldsAllIn second_indexed_last (shown db.new).now contents)) }
     ensures fault { HasCleanDisk (shown db.new) → IfErr result (λ e.
         (IsTrue (shown db.old).is_open
-        → (contents : Contents) × HoldsIn unindexed (shown db.old).now contents)
+        → (contents : SecondContents) × HoldsAllIn second_unindexed (shown db.old).now contents)
         → IsFaultBy (shown db.old) (shown db.new) (failure_of e)) }
     ensures nothing { HasCleanDisk (shown db.new)
         → OnErr result (KeepsCommit (shown db.old) (shown db.new)) }

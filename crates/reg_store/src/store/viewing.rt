@@ -13,9 +13,10 @@ use crate::error::StoreError;
 use crate::idle::Idle;
 use crate::store::Store;
 use crate::store::levels::levels_for;
+use crate::store::modes::modes_for;
 use crate::store::rows::rows_for;
 use crate::store::texts::{count_for, known_for, texts_of};
-use reg_core::{Command, Mode, View, ids_read};
+use reg_core::{Command, Level, Mode, Needs, Subject, View, ids_read};
 use sqlite::Alter;
 use std::alloc::Global;
 use std::collections::BTreeMap;
@@ -72,7 +73,8 @@ fn view_but_texts<S: Alter>(
         → IsViewButTexts view was.registry command.now) }
 {
     let needs = command.needs();
-    let levels = levels_for(db, command.subject(), needs.levels)?;
+    let settings = settings_for(db, command.subject(), needs)?;
+    let levels = settings.0;
     let ids = ids_for(db, identity, needs.count)?;
     let level = levels.0.unwrap_or(levels.1);
     let rows = rows_for(alloc, db, command.subject(), needs.rows, level, ids.0)?;
@@ -81,11 +83,30 @@ fn view_but_texts<S: Alter>(
         texts: BTreeMap::new(alloc),
         own: levels.0,
         global: levels.1,
-        own_mode: None,
-        global_mode: Mode::Readwrite,
+        own_mode: settings.1.0,
+        global_mode: settings.1.1,
         known: ids.0,
         count: ids.1,
     })
+}
+
+/// The levels and the modes that are needed.
+fn settings_for<S: Alter>(
+    db: &mut Idle<S>,
+    subject: Option<&Subject>,
+    needs: Needs,
+) -> Result<((Option<Level>, Level), (Option<Mode>, Mode)), StoreError>
+    ensures { Reads db.old db.new result (λ was settings.
+        (IsTrue needs.levels
+        → (settings.0.0 ≡ option_and_then was.registry.own (option_copied subject.entry))
+        × (settings.0.1 ≡ was.registry.global))
+        × (IsTrue needs.modes
+        → (settings.1.0 ≡ option_and_then was.registry.own_modes (option_copied subject.entry))
+        × (settings.1.1 ≡ was.registry.global_mode))) }
+{
+    let levels = levels_for(db, subject, needs.levels)?;
+    let modes = modes_for(db, subject, needs.modes)?;
+    Ok((levels, modes))
 }
 
 /// The id of the schema with the identity text that is given, if one is and there is one, and the

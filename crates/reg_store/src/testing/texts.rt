@@ -4,13 +4,13 @@ ghost use Rattle.std.specs.Prelude.{◌↔◌, ◌≤◌, IfOk, IfErr, OnOk, IsT
 ghost use Rattle.std.specs.List.{AllByRecursion};
 ghost use Rattle.sqlite.specs.State.{HasCleanDisk};
 ghost use Rattle.reg_tables.specs.Frames.{StaysIdle};
-ghost use Rattle.reg_tables.specs.Layout.{IsLayout};
+ghost use Rattle.reg_tables.specs.Layout.{HasTablesFirst};
 ghost use Rattle.reg_tables.specs.Listings.{ListsTexts, ListsTextsBetween};
 ghost use Rattle.reg_tables.specs.Reads.{CanBeRead};
 ghost use Rattle.reg_core.specs.Registry.{max_number};
 ghost use Rattle.reg_store.specs.Failures.{IsFaultBy, IsNumberless};
-ghost use Rattle.reg_store.specs.Inside.Testing.{text_fits, Judges, NumbersTexts, Tests, TextsPass};
-ghost use Rattle.reg_store.specs.UnopenedFaults.{IsFaultUnopened, IsToldUnopened};
+ghost use Rattle.reg_store.specs.Inside.Testing.{text_fits, IsFaultBase, Judges, NumbersTexts, TestsBase, TextsPass};
+ghost use Rattle.reg_store.specs.UnopenedFaults.{IsToldFirst};
 ghost use Rattle.reg_store.specs.Inside.Reads.{Rests, shown};
 
 use crate::error::StoreError;
@@ -41,13 +41,13 @@ fn are_identities(alloc: Global, lines: &[TextLine]) -> Result<bool, OutOfMemory
 fn count_texts<S: Alter>(alloc: Global, db: &mut Idle<S>) -> Result<u32, StoreError>
     ensures frame { StaysIdle S.Store db.old.idle.conn db.new.idle.conn result }
     ensures counted { HasCleanDisk (shown db.new) → IfOk result (λ count.
-        IsLayout (shown db.old).now.schema
+        HasTablesFirst (shown db.old).now.schema
         → NumbersTexts (shown db.old).now count) }
     ensures few { IfOk result (λ count. count ≤ max_number) }
     ensures fault { HasCleanDisk (shown db.new)
-        → IfErr result (IsFaultUnopened (shown db.old) (shown db.new)) }
+        → IfErr result (IsFaultBase (shown db.old) (shown db.new)) }
     ensures told { HasCleanDisk (shown db.new)
-        → IfErr result (IsToldUnopened (shown db.old) (shown db.new)) }
+        → IfErr result (IsToldFirst (shown db.old) (shown db.new)) }
     ensures plain { IfErr result IsNumberless }
 {
     let mut ids = text_ids(alloc, &mut db.idle)?;
@@ -66,13 +66,13 @@ fn judge_some<S: Alter>(
 ) -> Result<bool, StoreError>
     ensures frame { StaysIdle S.Store db.old.idle.conn db.new.idle.conn result }
     ensures judged { HasCleanDisk (shown db.new) → IfOk result (λ fit.
-        IsLayout (shown db.old).now.schema
+        HasTablesFirst (shown db.old).now.schema
         → Judges (ListsTextsBetween first last (shown db.old).now) fit) }
     ensures fault { HasCleanDisk (shown db.new) → IfErr result (λ e.
         CanBeRead (shown db.old)
         → IsFaultBy (shown db.old) (shown db.new) e) }
     ensures told { HasCleanDisk (shown db.new)
-        → IfErr result (IsToldUnopened (shown db.old) (shown db.new)) }
+        → IfErr result (IsToldFirst (shown db.old) (shown db.new)) }
     ensures plain { IfErr result IsNumberless }
 {
     let lines = texts_between(alloc, &mut db.idle, first, last)?;
@@ -87,14 +87,14 @@ fn judge_all<S: Alter>(alloc: Global, db: &mut Idle<S>, count: u32) -> Result<bo
     ensures open { HasCleanDisk (shown db.new) → OnOk result
         (IsTrue (shown db.old).is_open) }
     ensures judged { HasCleanDisk (shown db.new) → IfOk result (λ fit.
-        IsLayout (shown db.old).now.schema
+        HasTablesFirst (shown db.old).now.schema
         → NumbersTexts (shown db.old).now count
         → Judges (ListsTexts (shown db.old).now) fit) }
     ensures fault { HasCleanDisk (shown db.new) → IfErr result (λ e.
         CanBeRead (shown db.old)
         → IsFaultBy (shown db.old) (shown db.new) e) }
     ensures told { HasCleanDisk (shown db.new)
-        → IfErr result (IsToldUnopened (shown db.old) (shown db.new)) }
+        → IfErr result (IsToldFirst (shown db.old) (shown db.new)) }
     ensures plain { IfErr result IsNumberless }
 {
     let _idle = db.idle.conn.is_autocommit();
@@ -109,7 +109,7 @@ fn judge_all<S: Alter>(alloc: Global, db: &mut Idle<S>, count: u32) -> Result<bo
 
 /// Reads `texts`, and tests it.
 pub(crate) fn test_texts<S: Alter>(alloc: Global, db: &mut Idle<S>) -> Result<(), StoreError>
-    ensures tests { Tests S.Store db.old.idle.conn db.new.idle.conn result TextsPass }
+    ensures tests { TestsBase S.Store db.old.idle.conn db.new.idle.conn result (λ _. TextsPass) }
     ensures plain { IfErr result IsNumberless }
 {
     let _idle = db.idle.conn.is_autocommit();

@@ -23,10 +23,10 @@ pub returns-in-Err-clause-settled : goal.returns-in-Err-clause-settled
 returns-in-Err-clause-settled g c registry k over db it = leaves_open (state_in c.try_answer.new.self) registry k db (g.met.S.Store.settled c.try_answer.new.self.store.db.idle.conn.store db) over it
 
 pub returns-in-Ok-clause-admitted : goal.returns-in-Ok-clause-admitted
-returns-in-Ok-clause-admitted g c clean registry k over = all_admitted registry k over.spells.spelled.registry _
+returns-in-Ok-clause-admitted g c clean registry k over = all_admitted registry k over.spells.spelled.base.registry _
 
 pub returns-in-Err-clause-admitted : goal.returns-in-Err-clause-admitted
-returns-in-Err-clause-admitted g c clean registry k over = all_admitted registry k over.spells.spelled.registry _
+returns-in-Err-clause-admitted g c clean registry k over = all_admitted registry k over.spells.spelled.base.registry _
 
 pub returns-in-Err-clause-crash : goal.returns-in-Err-clause-crash
 returns-in-Err-clause-crash g c clean registry k over =

@@ -15,7 +15,7 @@ returns-clause-decided g c clean registry k over =
     let text : option_copied c.as_deref.result ≡ option_map identity (schema_sent command) = search rules in
     let sent : option_map nodes_view (option_copied c.as_ref-2.result) ≡ schema_sent command = search rules in
     let ground : IsGround registry command (schema_taken command (option_map nodes_view (option_copied c.as_ref-2.result))) c.in_ok-view.view = record {
-      registry = (over (c.in_ok-view.ensures.frame.was_open clean)).spells.spelled.registry;
+      registry = (over (c.in_ok-view.ensures.frame.was_open clean)).spells.spelled.base.registry;
       sent = ap (schema_taken command) sent ∙ taken-sent command;
       shows = (c.in_ok-view.ensures.tells clean).answers (stored registry k) over text;
     } in

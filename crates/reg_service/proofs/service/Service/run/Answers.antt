@@ -67,4 +67,4 @@ pub returns-clause-settled : goal.returns-clause-settled
 returns-clause-settled g c registry k over db it = leaves_open (state_in c.loop-delivery.self) registry k db (g.met.S.Store.settled c.loop-delivery.self.store.db.idle.conn.store db) over it
 
 pub returns-clause-admitted : goal.returns-clause-admitted
-returns-clause-admitted g c clean registry k over = all_admitted registry k over.spells.spelled.registry _
+returns-clause-admitted g c clean registry k over = all_admitted registry k over.spells.spelled.base.registry _

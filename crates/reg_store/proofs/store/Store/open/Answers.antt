@@ -1,7 +1,7 @@
 use Rattle.std.proofs.Common.{◌⊎◌, IsTrue, subst, rules}
 use Rattle.sqlite_disk.specs.Disk.{MoreFaults}
 use Rattle.sqlite.specs.Held.{state}
-use Rattle.reg_store.specs.Opening.{IsIndexed, OpensOver, TellsNewer, LosesNothing}
+use Rattle.reg_store.specs.Opening.{IsIndexed, OpensOver, TellsLayout, LosesNothing}
 use Rattle.reg_store.specs.Stores.{LeavesBefore}
 use Rattle.reg_store.specs.UnopenedFaults.{IsFaultUnopened, IsToldUnopened}
 use Rattle.reg_store.proofs.OpenLemmas.{loses_nothing}
@@ -19,8 +19,8 @@ returns-in-Ok-clause-crash_after g c clean db it =
 pub returns-in-Err-clause-fault : goal.returns-in-Err-clause-fault
 returns-in-Err-clause-fault g c clean = subst (λ h. IsFaultUnopened (state g.S.Store h) (state g.S.Store c.make_ready.new.db.idle.conn) c.in-Err.error) c.set_step_limit.ensures (c.in-Err.ensures.fault clean)
 
-pub returns-in-Err-clause-newer : goal.returns-in-Err-clause-newer
-returns-in-Err-clause-newer g c clean = subst (λ h. TellsNewer (state g.S.Store h) c.in-Err.error) c.set_step_limit.ensures (c.in-Err.ensures.newer clean)
+pub returns-in-Err-clause-other : goal.returns-in-Err-clause-other
+returns-in-Err-clause-other g c clean = subst (λ h. TellsLayout (state g.S.Store h) c.in-Err.error) c.set_step_limit.ensures (c.in-Err.ensures.other clean)
 
 pub returns-in-Err-clause-crash : goal.returns-in-Err-clause-crash
 returns-in-Err-clause-crash g c clean db it =

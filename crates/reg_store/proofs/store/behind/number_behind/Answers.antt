@@ -3,6 +3,7 @@ use Rattle.reg_tables.specs.Entries.{numbered}
 use Rattle.reg_store.specs.Inside.Viewing.{row_numbered}
 use Rattle.reg_store.proofs.HandingLemmas.{next_told}
 use Rattle.reg_store.proofs.ReadLemmas.{read, read_refused, not_read}
+use Rattle.reg_store.proofs.Bases.{base_of}
 use Rattle.reg_store.proofs.store.behind.number_behind.Goals as goal
 
 pub returns-in_err-next_version_of : goal.returns-in_err-next_version_of
@@ -11,8 +12,8 @@ returns-in_err-next_version_of g c = not_read c.in_err-next_version_of.ensures.f
 pub returns-in-None : goal.returns-in-None
 returns-in-None g c =
     read c.in_ok-next_version_of.ensures.frame (λ clean was over.
-    let it = over.spells in
-    let found = rw (c.in-None.is, c.as_str.ensures.text) at (c.in_ok-next_version_of.ensures.found clean it.contents it.holds) in
+    let it = base_of over.spells in
+    let found = rw (c.in-None.is, c.as_str.ensures.text) at (c.in_ok-next_version_of.ensures.found clean it.schema it.first it.contents it.holds) in
     next_told it.contents was.registry it.spelled.versions c.args.subject.now c.args.number None found)
 
 pub returns-in_err-owner-in-Some : goal.returns-in_err-owner-in-Some
@@ -21,7 +22,7 @@ returns-in_err-owner-in-Some g c = read_refused c.in_ok-next_version_of.ensures.
 pub returns-in_ok-owner-in-Some : goal.returns-in_ok-owner-in-Some
 returns-in_ok-owner-in-Some g c =
     read c.in_ok-next_version_of.ensures.frame (λ clean was over.
-    let it = over.spells in
-    let found = rw (c.in-Some.is, c.as_str.ensures.text) at (c.in_ok-next_version_of.ensures.found clean it.contents it.holds) in
+    let it = base_of over.spells in
+    let found = rw (c.in-Some.is, c.as_str.ensures.text) at (c.in_ok-next_version_of.ensures.found clean it.schema it.first it.contents it.holds) in
     ap Some (c.new.ensures ∙ ap (λ subject. row_numbered subject (numbered c.in-Some.line)) c.in_ok-owner-in-Some.ensures)
     ∙ next_told it.contents was.registry it.spelled.versions c.args.subject.now c.args.number (Some c.in-Some.line) found)

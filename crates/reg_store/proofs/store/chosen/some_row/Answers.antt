@@ -8,6 +8,7 @@ use Rattle.reg_store.specs.Spells.{version_row}
 use Rattle.reg_store.proofs.ChosenLemmas.{no_version_told, version_told}
 use Rattle.reg_store.proofs.ReadLemmas.{read, not_read, match_of, by_memory}
 use Rattle.reg_store.proofs.Texts.{was_written}
+use Rattle.reg_store.proofs.Bases.{base_of}
 use Rattle.reg_store.proofs.store.chosen.some_row.Goals as goal
 
 pub returns-in_err-a_version_of_id : goal.returns-in_err-a_version_of_id
@@ -16,15 +17,15 @@ returns-in_err-a_version_of_id g c = not_read c.in_err-a_version_of_id.ensures.f
 pub returns-in-None : goal.returns-in-None
 returns-in-None g c =
     read c.in_ok-a_version_of_id.ensures.frame (λ clean was over.
-    let it = over.spells in
-    let none = rw c.in-None.is at (c.in_ok-a_version_of_id.ensures.found clean it.contents it.holds) in
+    let it = base_of over.spells in
+    let none = rw c.in-None.is at (c.in_ok-a_version_of_id.ensures.found clean it.schema it.first it.contents it.holds) in
     ap (λ rows. map (λ (row : Row). row.1.id) (latest rows)) (c.new.ensures.items ∙ sym (no_version_told it.contents was.registry it.spelled.versions c.args.id none)))
 
 pub returns-in-Some : goal.returns-in-Some
 returns-in-Some g c =
     read c.in_ok-a_version_of_id.ensures.frame (λ clean was over.
-    let it = over.spells in
-    let found = rw c.in-Some.is at (c.in_ok-a_version_of_id.ensures.found clean it.contents it.holds) in
+    let it = base_of over.spells in
+    let found = rw c.in-Some.is at (c.in_ok-a_version_of_id.ensures.found clean it.schema it.first it.contents it.holds) in
     let entry = keyed c.in-Some.line in
     let version = was_written version_row (get was.registry.rows entry.0) entry.1 (sym (it.spelled.versions entry.0) ∙ found.0) in
     match_of c.one_row.result

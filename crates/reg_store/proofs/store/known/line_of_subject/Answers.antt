@@ -1,5 +1,6 @@
 use Rattle.reg_store.proofs.KnownLemmas.{last_with_id_told}
 use Rattle.reg_store.proofs.ReadLemmas.{read, not_read}
+use Rattle.reg_store.proofs.Bases.{base_of}
 use Rattle.reg_store.proofs.store.known.line_of_subject.Goals as goal
 
 pub returns-in_err-last_version_with_id : goal.returns-in_err-last_version_with_id
@@ -8,6 +9,6 @@ returns-in_err-last_version_with_id g c = not_read c.in_err-last_version_with_id
 pub returns : goal.returns
 returns g c =
     read c.in_ok-last_version_with_id.ensures.frame (λ clean was over.
-    let it = over.spells in
-    let found = rw c.as_str.ensures.text at (c.in_ok-last_version_with_id.ensures.found clean it.contents it.holds) in
+    let it = base_of over.spells in
+    let found = rw c.as_str.ensures.text at (c.in_ok-last_version_with_id.ensures.found clean it.schema it.first it.contents it.holds) in
     last_with_id_told it.contents was.registry it.spelled.versions c.args.subject.now c.args.id c.args.deleted c.in_ok-last_version_with_id.field-0 found)

@@ -7,6 +7,7 @@ use Rattle.reg_store.specs.Inside.Viewing.{AreSome, row_spelled}
 use Rattle.reg_store.proofs.KnownLemmas.{some_are_told}
 use Rattle.reg_store.proofs.ReadLemmas.{read, not_read}
 use Rattle.reg_store.proofs.RowLemmas.{id_spelled}
+use Rattle.reg_store.proofs.Bases.{base_of}
 use Rattle.reg_store.proofs.store.known.lines_of_id.Goals as goal
 
 pub returns-in_err-some_versions_of_id : goal.returns-in_err-some_versions_of_id
@@ -15,7 +16,7 @@ returns-in_err-some_versions_of_id g c = not_read c.in_err-some_versions_of_id.e
 pub returns : goal.returns
 returns g c =
     read c.in_ok-some_versions_of_id.ensures.frame (λ clean was over.
-    let it = over.spells in
+    let it = base_of over.spells in
     let lines = c.in_ok-some_versions_of_id.field-0.items in
     subst (λ rows. AreSome rows (rows_with c.args.id (entries was.registry.rows))) (map-map row_spelled keyed lines)
-    (some_are_told it.contents was.registry c.args.id (id_spelled it.contents was.registry it.spelled.versions c.args.id) (map keyed lines) (c.in_ok-some_versions_of_id.ensures.found clean it.contents it.holds)))
+    (some_are_told it.contents was.registry c.args.id (id_spelled it.contents was.registry it.spelled.versions c.args.id) (map keyed lines) (c.in_ok-some_versions_of_id.ensures.found clean it.schema it.first it.contents it.holds)))

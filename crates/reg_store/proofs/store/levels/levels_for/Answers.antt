@@ -8,4 +8,4 @@ pub returns-in_err-own : goal.returns-in_err-own
 returns-in_err-own g c = stop c.in_ok-global.ensures c.in_err-own.ensures c.from_residual-in_err-own.ensures.1
 
 pub returns : goal.returns
-returns g c = go_on c.in_ok-global.ensures c.in_ok-own.ensures (λ was over global own. (global.0, λ needed. (own needed, global.1)))
+returns g c = go_on c.in_ok-global.ensures c.in_ok-own.ensures (λ was over global own needed. (own needed, global))

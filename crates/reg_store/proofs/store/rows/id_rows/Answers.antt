@@ -6,6 +6,7 @@ use Rattle.reg_tables.specs.Entries.{keyed}
 use Rattle.reg_store.specs.Inside.Viewing.{row_spelled}
 use Rattle.reg_store.proofs.ReadLemmas.{read, not_read, match_of, by_memory}
 use Rattle.reg_store.proofs.RowLemmas.{id_spelled, id_lines}
+use Rattle.reg_store.proofs.Bases.{base_of}
 use Rattle.reg_store.proofs.store.rows.id_rows.Goals as goal
 
 pub returns-in_err-lines : goal.returns-in_err-lines
@@ -14,7 +15,7 @@ returns-in_err-lines g c = not_read c.in_err-lines.ensures.frame c.in_err-lines.
 pub returns : goal.returns
 returns g c =
     read c.in_ok-lines.ensures.frame (λ clean was over.
-    let it = over.spells in
-    let lines = c.in_ok-lines.ensures.found clean it.contents it.holds in
+    let it = base_of over.spells in
+    let lines = c.in_ok-lines.ensures.found clean it.schema it.first it.contents it.holds in
     match_of c.rows_in.result (λ rows is. is ∙ sym (map-map row_spelled keyed c.in_ok-lines.lines.items) ∙ ap (map row_spelled) lines ∙ id_spelled it.contents was.registry it.spelled.versions c.args.id)
     (λ e only. by_memory (state g.S.Store c.args.db.now.idle.conn) (state g.S.Store c.versions_of_id.new.db.conn) e (only (id_lines it.contents was.registry was.replies it.spelled c.in_ok-lines.lines.items c.args.id lines))) c.rows_in.ensures.ok c.rows_in.ensures.err)

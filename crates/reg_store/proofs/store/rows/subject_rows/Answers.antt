@@ -5,6 +5,7 @@ use Rattle.reg_tables.specs.Entries.{numbered}
 use Rattle.reg_store.specs.Inside.Viewing.{row_numbered}
 use Rattle.reg_store.proofs.ReadLemmas.{read, read_refused, not_read}
 use Rattle.reg_store.proofs.RowLemmas.{subject_spelled}
+use Rattle.reg_store.proofs.Bases.{base_of}
 use Rattle.reg_store.proofs.store.rows.subject_rows.Goals as goal
 
 pub returns-in_err-lines : goal.returns-in_err-lines
@@ -16,7 +17,7 @@ returns-in_err-rows_under g c = read_refused c.in_ok-lines.ensures.frame c.from_
 pub returns : goal.returns
 returns g c =
     read c.in_ok-lines.ensures.frame (λ clean was over.
-    let it = over.spells in
-    let lines = rw c.as_str.ensures.text at (c.in_ok-lines.ensures.found clean it.contents it.holds) in
+    let it = base_of over.spells in
+    let lines = rw c.as_str.ensures.text at (c.in_ok-lines.ensures.found clean it.schema it.first it.contents it.holds) in
     c.in_ok-rows_under.ensures ∙ sym (map-map (row_numbered c.args.subject.now) numbered c.in_ok-lines.lines.items) ∙ ap (map (row_numbered c.args.subject.now)) lines
     ∙ subject_spelled it.contents was.registry it.spelled.versions c.args.subject.now)

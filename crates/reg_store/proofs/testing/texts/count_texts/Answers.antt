@@ -6,10 +6,11 @@ use Rattle.sqlite.specs.Held.{state}
 use Rattle.reg_core.specs.Registry.{max_number}
 use Rattle.reg_rows.specs.Spelling.{AreNumbered}
 use Rattle.reg_store.specs.Failures.{IsTold}
-use Rattle.reg_store.specs.UnopenedFaults.{IsFaultUnopened, IsToldUnopened}
+use Rattle.reg_store.specs.UnopenedFaults.{IsToldFirst}
+use Rattle.reg_store.specs.Inside.Testing.{IsFaultBase}
 use Rattle.reg_store.proofs.Failing.{fault_by, told_by, passed}
 use Rattle.reg_store.proofs.Numbering.{Rises, rises}
-use Rattle.reg_store.proofs.TestLemmas.{is_known, unopened_can_be_read}
+use Rattle.reg_store.proofs.TestLemmas.{is_known, some_can_be_read}
 use Rattle.reg_store.proofs.TextIds.{ids_fit, ids_sorted}
 use Rattle.reg_store.proofs.testing.texts.count_texts.Goals as goal
 
@@ -17,20 +18,20 @@ pub returns-in_err-ids-clause-fault : goal.returns-in_err-ids-clause-fault
 returns-in_err-ids-clause-fault g c clean =
     let old = state g.S.Store c.args.db.now.idle.conn in
     let new = state g.S.Store c.text_ids.new.db.conn in
-    passed (IsFaultUnopened old new) c.from_residual.result _ c.from_residual.ensures.1
-    (λ registry k over. fault_by old new c.in_err-ids.field-0.0 c.args.db.now.unlimited (c.in_err-ids.ensures.fault clean (unopened_can_be_read old registry k over)))
+    passed (IsFaultBase old new) c.from_residual.result _ c.from_residual.ensures.1
+    (λ over. fault_by old new c.in_err-ids.field-0.0 c.args.db.now.unlimited (c.in_err-ids.ensures.fault clean (some_can_be_read old over)))
 
 pub returns-in_err-allow-clause-fault : goal.returns-in_err-allow-clause-fault
 returns-in_err-allow-clause-fault g c clean =
     let old = state g.S.Store c.args.db.now.idle.conn in
     let new = state g.S.Store c.text_ids.new.db.conn in
     let sorted = c.sort_unstable.new.self.items in
-    passed (IsFaultUnopened old new) c.from_residual-in_err-allow.result _ c.from_residual-in_err-allow.ensures.1
-    (λ registry k over.
+    passed (IsFaultBase old new) c.from_residual-in_err-allow.result _ c.from_residual-in_err-allow.ensures.1
+    (λ over.
     let spelled = over (c.in_ok-ids.ensures.frame.was_open clean) in
-    let lists = ids_sorted old.now c.in_ok-ids.ids.items sorted c.sort_unstable.ensures.permutation (c.in_ok-ids.ensures.listed clean (is_known old.now registry k spelled)) in
+    let lists = ids_sorted old.now c.in_ok-ids.ids.items sorted c.sort_unstable.ensures.permutation (c.in_ok-ids.ensures.listed clean (is_known old.now spelled.registry spelled.kept spelled.spells)) in
     let rising : Rises sorted = subst Rises (map-id sorted) (rises (λ (n : ℕ). n) sorted (IsNonDecreasingBy-from_sort (λ (n : ℕ). n) sorted c.sort_unstable.ensures.sorted)) in
-    let fit = ids_fit spelled.schema old.now registry k spelled.spells sorted lists rising in
+    let fit = ids_fit old.now spelled.registry spelled.kept spelled.spells sorted lists rising in
     let no : c.are_ids.result ≡ false = c.in_err-allow.ensures.err.1 in
     absurd (both_ways _ no (c.are_ids.ensures.1 (subst (λ (l : List ℕ). AreNumbered 1 l × (length l ≤ max_number)) (sym c.deref.ensures.value) fit))))
 
@@ -47,10 +48,10 @@ pub returns-in_err-ids-clause-told : goal.returns-in_err-ids-clause-told
 returns-in_err-ids-clause-told g c clean =
     let old = state g.S.Store c.args.db.now.idle.conn in
     let new = state g.S.Store c.text_ids.new.db.conn in
-    passed (IsToldUnopened old new) c.from_residual.result _ c.from_residual.ensures.1 (λ known. told_by old new c.in_err-ids.field-0.0 c.args.db.now.unlimited (c.in_err-ids.ensures.told clean known))
+    passed (IsToldFirst old new) c.from_residual.result _ c.from_residual.ensures.1 (λ known. told_by old new c.in_err-ids.field-0.0 c.args.db.now.unlimited (c.in_err-ids.ensures.told clean known))
 
 pub returns-in_err-allow-clause-told : goal.returns-in_err-allow-clause-told
 returns-in_err-allow-clause-told g c clean =
     let old = state g.S.Store c.args.db.now.idle.conn in
     let new = state g.S.Store c.text_ids.new.db.conn in
-    passed (IsToldUnopened old new) c.from_residual-in_err-allow.result _ c.from_residual-in_err-allow.ensures.1 (λ known. subst (IsTold old new) (sym c.in_err-allow.ensures.err.0) tt)
+    passed (IsToldFirst old new) c.from_residual-in_err-allow.result _ c.from_residual-in_err-allow.ensures.1 (λ known. subst (IsTold old new) (sym c.in_err-allow.ensures.err.0) tt)

@@ -1,11 +1,11 @@
 use Rattle.std.proofs.Common.{◌≡◌, ◌+◌, ◌*◌, ◌&&◌, ℕ, Bool, IsTrue, sym, ap, subst, ◌∙◌, arith, rules}
 use Rattle.sqlite.specs.Held.{state}
 use Rattle.sqlite.specs.Effect.{Database}
-use Rattle.reg_tables.specs.Layout.{IsLayout}
+use Rattle.reg_tables.specs.Layout.{HasTablesFirst}
 use Rattle.reg_tables.specs.Listings.{ListsTextsBetween}
 use Rattle.reg_tables.specs.Reads.{CanBeRead}
 use Rattle.reg_store.specs.Failures.{IsFaultBy}
-use Rattle.reg_store.specs.UnopenedFaults.{IsToldUnopened}
+use Rattle.reg_store.specs.UnopenedFaults.{IsToldFirst}
 use Rattle.reg_store.specs.Inside.Testing.{Judges}
 use Rattle.reg_store.proofs.Failing.{passed}
 use Rattle.reg_store.proofs.ReadLemmas.{rests_still, rests_read, rests_on, clean_at, fault_of_all, told_of_all, same_db, readable_on, layout_on}
@@ -37,7 +37,7 @@ returns-in_err-some-clause-told g c clean =
     let before = c.loop-chunk.invariant in
     let step = rests_read g.S.Store c.loop-chunk.db.idle.conn c.judge_some.new.db.idle.conn c.judge_some.result c.judge_some.ensures.frame in
     let early = clean_at old mid new step clean in
-    passed (IsToldUnopened old new) c.from_residual.result _ c.from_residual.ensures.1
+    passed (IsToldFirst old new) c.from_residual.result _ c.from_residual.ensures.1
     (λ known. told_of_all old mid new before.rests step clean _ (c.in_err-some.ensures.told clean (layout_on old mid before.rests (c.is_autocommit-idle.ensures.settled idle) early known)))
 
 pub loop-chunk-preserved : goal.loop-chunk-preserved
@@ -61,7 +61,7 @@ loop-chunk-preserved g c =
       judged = λ clean known have.
           (let early = clean_at old mid new step clean in
           let same : mid.now ≡ db = same_db old mid before.rests (c.is_autocommit-idle.ensures.settled idle) early (it.frame.was_open clean) in
-          let next = subst (λ (d : Database). Judges (ListsTextsBetween (n + 1) (n + 16) d) b) same (it.judged clean (subst (λ (d : Database). IsLayout d.schema) (sym same) known)) in
+          let next = subst (λ (d : Database). Judges (ListsTextsBetween (n + 1) (n + 16) d) b) same (it.judged clean (subst (λ (d : Database). HasTablesFirst d.schema) (sym same) known)) in
           let both = judges_more db have n (n + 16) (omega arith) a b (before.judged early known have) next in
           subst (Judges (ListsTextsBetween 1 ((c.loop-chunk.chunk + 1) * 16) db)) (sym fit) (subst (λ m. Judges (ListsTextsBetween 1 m db) (a && b)) more both));
     }

@@ -1,0 +1,55 @@
+-- What is spelled in layout 2, beside what the tables of both layouts spell.
+use Rattle.std.proofs.Common.{◌≡◌, ◌≢◌, inr, ℕ, List, codes, sym, ap, ◌∙◌}
+use Rattle.std.specs.Prelude.{option_map}
+use Rattle.std.specs.FinMap.{insert}
+use Rattle.sqlite.specs.State.{State}
+use Rattle.reg_core.specs.declared.level.Level.{Level}
+use Rattle.reg_core.specs.Levels.{level_text}
+use Rattle.reg_core.specs.Modes.{mode_text}
+use Rattle.reg_core.specs.Registry.{Registry}
+use Rattle.reg_core.specs.KeptReplies.{Kept}
+use Rattle.reg_tables.specs.Contents.{TextMap, Contents}
+use Rattle.reg_tables.specs.SecondContents.{SecondContents}
+use Rattle.reg_tables.specs.Writing.{Changes, ChangesIf}
+use Rattle.reg_tables.specs.Changes.{numbered_meta}
+use Rattle.reg_store.specs.Spells.{second_meta, IsSpelled, IsSpelledSecond, Spells}
+use Rattle.reg_store.proofs.Maps.{insert-insert, insert-swap}
+
+-- ---- `meta`
+
+pub other_name : codes "global" ≢ codes "mode"
+other_name e = absurd (cc)
+
+module _ (meta : TextMap (List ℕ)) where
+  -- the rows of `meta` with another level
+  pub level_changed : (was level : Level) (mode : List ℕ) → meta ≡ second_meta (level_text was) mode → insert meta (codes "global") (level_text level) ≡ second_meta (level_text level) mode
+  level_changed was level mode is =
+      ap (λ m. insert m (codes "global") (level_text level)) is
+      ∙ insert-swap (insert (numbered_meta (codes "2")) (codes "global") (level_text was)) (codes "mode") mode (codes "global") (level_text level) other_name
+      ∙ ap (λ m. insert m (codes "mode") mode) (insert-insert (numbered_meta (codes "2")) (codes "global") (level_text was) (level_text level))
+
+  -- and with another mode
+  pub mode_changed : (level was mode : List ℕ) → meta ≡ second_meta level was → insert meta (codes "mode") mode ≡ second_meta level mode
+  mode_changed level was mode is = ap (λ m. insert m (codes "mode") mode) is ∙ insert-insert _ (codes "mode") was mode
+
+-- ---- the five tables
+
+module _ (contents : SecondContents) (g : Registry) (k : Kept) (s : IsSpelledSecond contents g k) where
+  -- what the five tables hold is another, and spells another registry with the same own modes
+  pub spelled_in : (base : Contents) (h : Registry) (l : Kept) → IsSpelled base h l → base.meta ≡ second_meta (level_text h.global) (mode_text h.global_mode) → h.own_modes ≡ g.own_modes → IsSpelledSecond (record contents { base = base }) h l
+  spelled_in base h l spelled meta same = record {
+    base = spelled;
+    meta = meta;
+    modes = λ subject. s.modes subject ∙ sym (ap (λ own. option_map mode_text (own subject)) same);
+    owners = λ subject mode there. s.owners subject mode (ap (λ own. own subject) (sym same) ∙ there);
+    evidence = record { levels = s.evidence.levels; owners = s.evidence.owners; places = s.evidence.places };
+  }
+
+module _ (old new : State) where
+  -- a change of the five tables
+  pub changed : (change : Contents → Contents) → Changes old new change → (g : Registry) (k : Kept) (s : Spells old.now g k) (h : Registry) (l : Kept) → IsSpelledSecond (record s.contents { base = change s.contents.base }) h l → Spells new.now h l
+  changed change changes g k s h l spelled = record { schema = s.schema; known = s.known; contents = record s.contents { base = change s.contents.base }; holds = changes s.schema (inr s.known) s.contents s.holds; spelled = spelled }
+
+  pub put : (Free : Contents → Type 0) (change : Contents → Contents) → ChangesIf old new Free change → (g : Registry) (k : Kept) (s : Spells old.now g k) → Free s.contents.base
+      → (h : Registry) (l : Kept) → IsSpelledSecond (record s.contents { base = change s.contents.base }) h l → Spells new.now h l
+  put Free change puts g k s free h l spelled = record { schema = s.schema; known = s.known; contents = record s.contents { base = change s.contents.base }; holds = puts s.schema (inr s.known) s.contents s.holds free; spelled = spelled }

@@ -1,0 +1,26 @@
+use Rattle.std.proofs.Common.{IsTrue, arith, rules}
+use Rattle.sqlite.specs.Held.{state}
+use Rattle.sqlite.specs.State.{HasCleanDisk}
+use Rattle.reg_store.specs.declared.layout.Layout.TheVariants.{First}
+use Rattle.reg_store.proofs.Failing.{if_err_each}
+use Rattle.reg_store.proofs.MetaLemmas.{not_other}
+use Rattle.reg_store.proofs.Bases.{some_first}
+use Rattle.reg_store.proofs.TestLemmas.{tests_then, test_of, test_says}
+use Rattle.reg_store.proofs.testing.test_first.Goals as goal
+
+pub returns-clause-tests : goal.returns-clause-tests
+returns-clause-tests g c =
+    let idle : IsTrue c.is_autocommit-idle.result = search rules in
+    let rest = test_of g.S.Store c.test_meta.new.db.idle.conn c.test_rest.new.db.idle.conn c.test_rest.result (λ schema first. first) (λ db s. some_first s) c.test_rest.ensures.tests in
+    let t = tests_then g.S.Store c.args.db.now.idle.conn c.test_meta.new.db.idle.conn c.test_rest.new.db.idle.conn (c.is_autocommit-idle.ensures.settled idle) c.test_rest.result c.in_ok-test_meta.ensures.tests rest in
+    test_says g.S.Store c.args.db.now.idle.conn c.test_rest.new.db.idle.conn c.test_rest.result t (λ count db p. (record { meta = p.0; rest = p.1.0 }, p.1.1))
+
+pub returns-clause-other : goal.returns-clause-other
+returns-clause-other g c clean =
+    let mid : HasCleanDisk (state g.S.Store c.test_meta.new.db.idle.conn) = omega (arith, c.test_rest.ensures.tests.frame.survives.clean) in
+    if_err_each c.test_rest.result (λ e number is_open out.
+    absurd (not_other First (state g.S.Store c.args.db.now.idle.conn).now number (c.in_ok-test_meta.ensures.tests.tells mid out.holds.first) out))
+
+pub returns-in_err-allow-clause-other : goal.returns-in_err-allow-clause-other
+returns-in_err-allow-clause-other g c clean =
+    if_err_each c.from_residual-in_err-allow.result (λ e number is_open out. absurd (not_other First (state g.S.Store c.args.db.now.idle.conn).now number (c.in_ok-test_meta.ensures.tests.tells clean out.holds.first) out))

@@ -1,0 +1,10 @@
+//! Which tables a database has.
+
+/// A layout of the tables.
+#[derive(Clone, Copy, Debug, PartialEq, Eq)]
+pub(crate) enum Layout {
+    /// Layout 1, without modes and evidence.
+    First,
+    /// Layout 2.
+    Second,
+}

@@ -1,0 +1,109 @@
+//! The test of `meta`, which says what the database is.
+
+ghost use Rattle.std.specs.Prelude.{◌≡◌, ◌↔◌, map, IfOk, IfErr, OnOk, IsTrue};
+ghost use Rattle.sqlite.specs.State.{HasCleanDisk};
+ghost use Rattle.reg_tables.specs.Layout.{HasTablesFirst};
+ghost use Rattle.reg_store.specs.Opening.{meta_row, IsRefusedAs, TellsOther};
+ghost use Rattle.reg_rows.specs.Spelling.{pair_of};
+ghost use Rattle.reg_store.specs.Inside.Testing.{Allows, AreApart, number_of, is_meta_of, JudgesMeta, SpellsAs, Tests, MetaPass};
+ghost use Rattle.reg_store.specs.Inside.Reads.{shown};
+
+use crate::error::StoreError;
+use crate::idle::Idle;
+use crate::layout::Layout;
+use crate::rowids::are_apart;
+use crate::testing::{Line, allow, rowids_of};
+use reg_rows::{is_meta, is_second_meta, layout_of};
+use reg_tables::{MetaLine, meta_lines};
+use sqlite::Alter;
+use std::alloc::{AllocError, Global};
+
+impl Line for MetaLine {
+    ghost rowid_of = { λ line. line.rowid };
+
+    // What the rows of `meta` may be is said of them together.
+    ghost fits_table = { λ _. Unit {0} };
+
+    fn rowid(&self) -> i64 {
+        self.rowid
+    }
+
+    fn fits(&self) -> bool {
+        true
+    }
+}
+
+/// The layout's number.
+fn number_of(layout: Layout) -> u32
+    ensures { result ≡ number_of layout }
+{
+    match layout {
+        Layout::First => 1,
+        Layout::Second => 2,
+    }
+}
+
+/// Whether these are the rows of `meta` in the layout.
+fn is_meta_of(rows: &[(String, String)], layout: Layout) -> bool
+    ensures { result ≡ is_meta_of layout (map pair_of rows.now) }
+{
+    match layout {
+        Layout::First => is_meta(rows),
+        Layout::Second => is_second_meta(rows),
+    }
+}
+
+fn meta_rows(alloc: Global, lines: Vec<MetaLine>) -> Result<Vec<(String, String)>, AllocError>
+    ensures { IfOk result (λ rows. rows.items ≡ map meta_row lines.items) }
+{
+    let mut rows = Vec::new(alloc);
+    for line in lines {
+        rows.push((line.name, line.value))?;
+    }
+    Ok(rows)
+}
+
+/// Whether these are the rows of a registry, and no rowid comes twice.
+fn pass_meta(rows: &[(String, String)], rowids: &mut [i64], layout: Layout) -> bool
+    ensures { IsTrue result ↔ (AreApart rowids.old × IsTrue (is_meta_of layout (map pair_of rows.now))) }
+{
+    is_meta_of(rows, layout) && are_apart(rowids)
+}
+
+/// An error for a layout of another number than this one, and else for what doesn't pass.
+fn allow_layout(own: u32, named: Option<u32>, passes: bool) -> Result<(), StoreError>
+    ensures { Allows own named passes result }
+{
+    match named {
+        Some(number) if number < own => Err(StoreError::OldLayout(number)),
+        Some(number) if number > own => Err(StoreError::NewerLayout(number)),
+        _ => allow(passes),
+    }
+}
+
+/// The verdict on the lines of `meta`.
+fn judge_meta(alloc: Global, lines: Vec<MetaLine>, layout: Layout) -> Result<(), StoreError>
+    ensures { JudgesMeta layout lines.items result }
+{
+    let mut rowids = rowids_of(alloc, &lines)?;
+    let rows = meta_rows(alloc, lines)?;
+    let passes = pass_meta(&rows, &mut rowids, layout);
+    allow_layout(number_of(layout), layout_of(&rows), passes)
+}
+
+/// Reads `meta`, and tests it: the format, then the layout, then the rest.
+pub(crate) fn test_meta<S: Alter>(
+    alloc: Global,
+    db: &mut Idle<S>,
+    layout: Layout,
+) -> Result<(), StoreError>
+    ensures tests { Tests HasTablesFirst (SpellsAs layout)
+        S.Store db.old.idle.conn db.new.idle.conn result (λ _. MetaPass layout) }
+    ensures refused { HasCleanDisk (shown db.new)
+        → IfErr result (IsRefusedAs (number_of layout) (shown db.old).now) }
+    ensures other { HasCleanDisk (shown db.new)
+        → IfErr result (TellsOther (number_of layout) (shown db.old)) }
+{
+    let lines = meta_lines(alloc, &mut db.idle)?;
+    judge_meta(alloc, lines, layout)
+}
