@@ -1,0 +1,4 @@
+mod Layouts
+mod Told
+mod Spelled
+mod Moves

@@ -1,0 +1,77 @@
+-- A move over tables that were tested.
+use Rattle.std.proofs.Common.{◌≡◌, ◌⊎◌, ◌∙◌, ℕ, None, Ok, Err, Result, inl, inr, sym, ap, subst, IsTrue}
+use Rattle.std.specs.Prelude.{IfOk, OnOk}
+use Rattle.sqlite.specs.Tree.{Trees}
+use Rattle.sqlite.specs.Effect.{Database}
+use Rattle.sqlite.specs.Held.{Held, state}
+use Rattle.sqlite.specs.State.{State}
+use Rattle.sqlite_trees.specs.declared.store.Store.{Ghosts}
+use Rattle.reg_core.specs.Registry.{Registry}
+use Rattle.reg_core.specs.KeptReplies.{Kept}
+use Rattle.reg_tables.specs.Reads.{OnlyReads}
+use Rattle.reg_tables.proofs.Transactions.{keeps_then}
+use Rattle.reg_store.specs.Opening.{FindsFirst}
+use Rattle.reg_store.specs.Spells.{SpellsFirst, SpellsWhileOpen, LeavesFirst, Leaves}
+use Rattle.reg_migrate.specs.Migrations.{LeavesMoved, LosesNothing, Moves, SpellsSome}
+use Rattle.reg_migrate.specs.Inside.{CanMove, HasFirst, HoldsMoved, IsMovedOver, TakesMoved}
+use Rattle.reg_migrate.proofs.Layouts.{taken_if_held}
+use Rattle.reg_migrate.proofs.Spelled.{leaves_moved, spells_moved}
+
+-- the test sets no limit on steps, and nothing is said of that here
+pub unlimited_reads : {S : Type 0} (g : Ghosts S) (conn : Held S) (mid : State) → OnlyReads (state g (record conn { step_limit = None })) mid → OnlyReads (state g conn) mid
+unlimited_reads g conn mid reads = record { commit_stays = record { was_open = reads.commit_stays.was_open; committed = reads.commit_stays.committed }; settled = reads.settled }
+
+-- a report has the number that was counted
+pub reported : {X E : Type 0} (P : ℕ → Type 0) (number : X → ℕ) (count : ℕ) (r : Result X E) → IfOk r (λ x. number x ≡ count) → OnOk r (P count) → IfOk r (λ x. P (number x))
+reported P number count (Ok x) is h = subst P (sym is) h
+reported P number count (Err e) is h = tt
+
+module _ (old mid : State) (reads : OnlyReads old mid) (settled : IsTrue old.is_open → old.now ≡ old.committed) where
+  -- while the connection is open, the test changed nothing
+  same_now : IsTrue mid.is_open → mid.now ≡ old.now
+  same_now is_open =
+      let was_open = reads.commit_stays.was_open is_open in
+      reads.settled is_open ∙ (reads.commit_stays.committed is_open ∙ sym (settled was_open))
+
+  -- tables that passed can be moved
+  pub can_move : (count : ℕ) → FindsFirst old.now count → CanMove mid
+  can_move count found is_open = subst HasFirst (sym (same_now is_open)) (record { schema = found.spells.schema; known = found.spells.known; contents = found.spells.contents; holds = found.spells.holds })
+
+  -- nothing was written by the test, nor by the move
+  pub reads_both : (new : State) → OnlyReads mid new → OnlyReads old new
+  reads_both new later = record { commit_stays = keeps_then old mid new reads.commit_stays later.commit_stays; settled = later.settled }
+
+  -- what is left of the tables that were tested
+  pub takes_on : (db : Trees) → IsTrue mid.is_open → TakesMoved mid.now db → LeavesMoved old.now db
+  takes_on db is_open takes g k spelled = leaves_moved old.now db g k (subst (λ (d : Database). TakesMoved d db) (same_now is_open) takes) spelled
+
+  module _ (new : State) (count : ℕ) (found : FindsFirst old.now count) (over : IsMovedOver mid new) where
+    -- the registry that the tables spelled
+    pub moves : Moves old new count
+    moves = record {
+      found = record { registry = found.registry; kept = found.kept; spelled = found.spells };
+      counted = found.counted;
+      spells = λ g k spelled is_open. record {
+        is_open = over.is_open;
+        settled = over.settled;
+        spells = spells_moved old.now new.now g k (subst (λ (d : Database). HoldsMoved d new.now) (same_now over.was_open) over.holds) spelled;
+      };
+    }
+
+    -- a crash leaves it in layout 2 alone
+    pub crashes_moved : ((db : Trees) → IsTrue new.is_open → new.may_leave db → db ≡ new.committed.trees) → (db : Trees) → new.may_leave db → LeavesMoved old.now db
+    crashes_moved only db it =
+        let held = subst (λ (d : Database). HoldsMoved d new.now) (same_now over.was_open) over.holds in
+        λ g k spelled. leaves_moved old.now db g k (taken_if_held old.now new.now db (only db over.is_open it ∙ ap (λ (d : Database). d.trees) over.settled) held) spelled
+
+-- whatever a crash leaves, nothing is lost
+pub loses_nothing : (old new : State) → (IsTrue old.is_open → old.now ≡ old.committed) → ((db : Trees) → IsTrue old.is_open → old.may_leave db → db ≡ old.committed.trees)
+    → ((db : Trees) → new.may_leave db → old.may_leave db ⊎ LeavesMoved old.now db) → LosesNothing old new
+loses_nothing old new settled only crash is_open g k spelled db it = elim (crash db it) [
+  | inl was ↦ inl (record {
+    schema = spelled.schema;
+    spells = subst (λ t. SpellsFirst (record { schema = spelled.schema; trees = t }) g k) (sym (only db is_open was ∙ sym (ap (λ (d : Database). d.trees) (settled is_open))))
+        (subst (λ x. SpellsFirst (record { schema = x; trees = old.now.trees }) g k) spelled.holds.declared spelled);
+  })
+  | inr made ↦ inr (made g k spelled)
+]

@@ -1,0 +1,93 @@
+-- What layout 1 spells, in layout 2.
+use Rattle.std.proofs.Common.{◌≡◌, ◌≢◌, ◌∙◌, ◌<◌, ◌≤◌, ℕ, List, [], sym, ap, refl, subst, Some, None, option_map, is_some, lit<, arith, inl, inr, IsTrue, codes}
+use Rattle.std.specs.FinMap.{FinMap, get, insert, empty, get-empty, get-insert, same_map}
+use Rattle.std.proofs.lemmas.Bool.{both_ways}
+use Rattle.sqlite.specs.Tree.{Trees}
+use Rattle.sqlite.specs.Effect.{Database}
+use Rattle.reg_core.specs.declared.mode.Mode.{Mode}
+use Rattle.reg_core.specs.declared.mode.Mode.TheVariants.{Readwrite}
+use Rattle.reg_core.specs.Levels.{level_text}
+use Rattle.reg_core.specs.Modes.{mode_text}
+use Rattle.reg_core.specs.Registry.{Registry}
+use Rattle.reg_core.specs.KeptReplies.{Kept}
+use Rattle.reg_tables.specs.Contents.{text_cmp, version_cmp, TextMap, Contents}
+use Rattle.reg_tables.specs.SecondLayout.{second}
+use Rattle.reg_tables.specs.SecondContents.{place_cmp, with_no_more}
+use Rattle.reg_tables.specs.Changes.{meta_as, numbered_meta, numbered_second}
+use Rattle.reg_tables.proofs.MapLemmas.{get-insert-same, get-insert-other, same_or_not}
+use Rattle.reg_tables.proofs.KeyedTables.{text_order}
+use Rattle.reg_store.specs.Spells.{IsSpelled, IsSpelledFirst, IsSpelledSecond, IsEvidence, Leaves, Spells, SpellsFirst, second_meta}
+use Rattle.reg_migrate.specs.Inside.{HoldsMoved, TakesMoved, moved}
+
+-- the layout's number alone is another one
+module _ (level : List ℕ) where
+  -- no other row depends on the number
+  elsewhere : (number q : List ℕ) → q ≢ codes "layout" → q ≢ codes "global" → get (meta_as number level) q ≡ get (insert {R = text_cmp} empty (codes "format") (codes "avroreg")) q
+  elsewhere number q other more =
+      get-insert-other text_cmp text_order (numbered_meta number) (codes "global") level q more
+      ∙ get-insert-other text_cmp text_order (insert empty (codes "format") (codes "avroreg")) (codes "layout") number q other
+
+  renumbered : insert (meta_as (codes "1") level) (codes "layout") (codes "2") ≡ meta_as (codes "2") level
+  renumbered = same_map text_order.total text_order.antisymmetric _ _ (λ q. elim (same_or_not text_cmp text_order q (codes "layout")) [
+    | inl e ↦
+        ap (get (insert (meta_as (codes "1") level) (codes "layout") (codes "2"))) e
+        ∙ get-insert-same text_cmp text_order (meta_as (codes "1") level) (codes "layout") (codes "2")
+        ∙ sym (ap (get (meta_as (codes "2") level)) e ∙ (get-insert text_order.total (numbered_meta (codes "2")) (codes "global") level (codes "layout")
+        ∙ get-insert-same text_cmp text_order (insert empty (codes "format") (codes "avroreg")) (codes "layout") (codes "2")))
+    | inr other ↦
+        get-insert-other text_cmp text_order (meta_as (codes "1") level) (codes "layout") (codes "2") q other
+        ∙ elim (same_or_not text_cmp text_order q (codes "global")) [
+          | inl e ↦
+              ap (get (meta_as (codes "1") level)) e ∙ get-insert-same text_cmp text_order (numbered_meta (codes "1")) (codes "global") level
+              ∙ sym (ap (get (meta_as (codes "2") level)) e ∙ get-insert-same text_cmp text_order (numbered_meta (codes "2")) (codes "global") level)
+          | inr more ↦ elsewhere (codes "1") q other more ∙ sym (elsewhere (codes "2") q other more)
+        ]
+  ])
+
+-- no version has evidence
+no_evidence : (contents : Contents) → IsEvidence (with_no_more contents)
+no_evidence contents = record {
+  levels = λ key level there. absurd (let none = sym (get-empty version_cmp key) ∙ there in cc);
+  owners = λ place id there. absurd (let none = sym (get-empty place_cmp place) ∙ there in cc);
+  places = λ key. record {
+    count = 0;
+    few = lit< tt;
+    each = λ position. (λ some. absurd (both_ways _ (ap is_some (get-empty place_cmp (key, position))) some), λ within. absurd (omega (arith, within.0, within.1)));
+  };
+}
+
+-- what layout 1 spells, its contents spell in layout 2
+pub moved_spelled : (contents : Contents) (g : Registry) (k : Kept) → IsSpelledFirst contents g k → IsSpelledSecond (moved contents) g k
+moved_spelled contents g k s = record {
+  base = record {
+    registry = s.base.registry;
+    texts = s.base.texts;
+    utf8 = s.base.utf8;
+    versions = s.base.versions;
+    registered = s.base.registered;
+    levels = s.base.levels;
+    subjects = s.base.subjects;
+    kept = s.base.kept;
+    keys = s.base.keys;
+  };
+  meta = ap (λ (m : TextMap (List ℕ)). insert (insert m (codes "layout") (codes "2")) (codes "mode") (codes "READWRITE")) s.meta
+      ∙ ap (λ (m : TextMap (List ℕ)). insert m (codes "mode") (codes "READWRITE")) (renumbered (level_text g.global))
+      ∙ ap (λ mode. second_meta (level_text g.global) (mode_text mode)) (sym s.modes.global);
+  modes = λ subject. get-empty text_cmp subject ∙ sym (ap (option_map mode_text) (s.modes.own subject));
+  owners = λ subject mode there. absurd (let none = sym (s.modes.own subject) ∙ there in cc);
+  evidence = no_evidence (numbered_second contents);
+}
+
+-- a database to which the tables were moved spells what they spelled
+pub spells_moved : (before now : Database) (g : Registry) (k : Kept) → HoldsMoved before now → SpellsFirst before g k → Spells now g k
+spells_moved before now g k moves s = record {
+  schema = second;
+  known = inl refl;
+  contents = moved s.contents;
+  holds = moves s.schema s.known s.contents s.holds;
+  spelled = moved_spelled s.contents g k s.spelled;
+}
+
+-- so do trees that a crash leaves
+pub leaves_moved : (before : Database) (db : Trees) (g : Registry) (k : Kept) → TakesMoved before db → SpellsFirst before g k → Leaves db g k
+leaves_moved before db g k takes s = record { schema = second; spells = spells_moved before (record { schema = second; trees = db }) g k takes s }

@@ -1,0 +1,103 @@
+-- What the store answers, as it is told.
+use Rattle.std.proofs.Common.{◌≡◌, ◌⊎◌, ◌<◌, ◌≤◌, ◌∙◌, ℕ, Bool, true, false, ◌==◌, inl, inr, refl, sym, ap, subst, arith, IsTrue}
+use Rattle.std.specs.Prelude.{if◌then◌else◌, nat_lt}
+use Rattle.std.proofs.lemmas.Bool.{both_ways, cases_lt, eqb-true, le-ltb}
+use Rattle.sqlite_disk.specs.Disk.{MoreFaults}
+use Rattle.reg_core.specs.Registry.{new_registry}
+use Rattle.reg_core.specs.KeptReplies.{nothing_kept}
+use Rattle.sqlite.specs.Effect.{Database}
+use Rattle.sqlite.specs.State.{State, HasCleanDisk, Survives}
+use Rattle.reg_store.specs.declared.error.StoreError.{StoreError}
+use Rattle.reg_store.specs.declared.error.StoreError.TheVariants as store
+use Rattle.reg_store.specs.Failures as failures
+use Rattle.reg_store.specs.Opening.{IsRefusedAs, NamesLayout, TellsOther}
+use Rattle.reg_store.specs.UnopenedFaults.{IsFaultFirst}
+use Rattle.reg_store.specs.Stores as stores
+use Rattle.reg_store.specs.Stores.{LeavesNoMore}
+use Rattle.reg_migrate.specs.declared.error.MigrateError.{MigrateError}
+use Rattle.reg_migrate.specs.declared.error.MigrateError.TheVariants.{Memory, Disk, NotARegistry, AlreadyNew, NewerLayout}
+use Rattle.reg_migrate.specs.Errors.{told_as, is_fault, IsRefusedBy, IsToldAs, TellsNewer, LeavesBefore}
+use Rattle.reg_migrate.specs.Migrations.{IsFaultOver}
+use Rattle.reg_store.proofs.Failing.{fault_if_by}
+
+-- what tells a newer layout is one of two
+newer_case : (P : MigrateError → Type 0) (number : ℕ) → (number ≡ 2 → P AlreadyNew) → ((number ≡ 2 → ⊥) → P (NewerLayout number)) → P (told_as (store.NewerLayout number))
+newer_case P number new other = go (number == 2) refl
+  where
+    go : (b : Bool) → (number == 2) ≡ b → P (if b then AlreadyNew else NewerLayout number)
+    go true is = new (eqb-true number 2 is)
+    go false is = other (λ same. let both : (2 == 2) ≡ false = ap (λ n. n == 2) (sym same) ∙ is in cc)
+
+-- a fault is told as one
+pub told_fault : (e : StoreError) → IsTrue (failures.is_fault e) → IsTrue (is_fault (told_as e))
+told_fault store.Memory h = refl
+told_fault store.Disk h = refl
+told_fault store.NotARegistry h = absurd (cc)
+told_fault (store.OldLayout number) h = absurd (cc)
+told_fault (store.NewerLayout number) h = absurd (cc)
+
+-- what a crash leaves after an error
+pub told_before : (old new : State) (e : StoreError) → stores.LeavesBefore old new e → LeavesBefore old new (told_as e)
+told_before old new store.Memory h = h
+told_before old new store.Disk h = h
+told_before old new store.NotARegistry h = h
+told_before old new (store.OldLayout number) h = h
+told_before old new (store.NewerLayout number) h = newer_case (LeavesBefore old new) number (λ _. h) (λ _. h)
+
+-- a refusal of layout 1 has its number from the rows of `meta`
+pub told_refused : (db : Database) (e : StoreError) → IsRefusedAs 1 db e → IsRefusedBy db (told_as e)
+told_refused db store.Memory h = tt
+told_refused db store.Disk h = tt
+told_refused db store.NotARegistry h = tt
+told_refused db (store.OldLayout number) h = tt
+told_refused db (store.NewerLayout number) h =
+    newer_case (IsRefusedBy db) number (λ is. λ first. subst (NamesLayout db) is (h.1 first)) (λ other. (elim (cases_lt 2 number) [ inl up ↦ up | inr le ↦ absurd (other (omega (arith, h.0, le))) ], h.1))
+
+-- a newer layout is told
+pub told_newer : (s : State) (e : StoreError) → TellsOther 1 s e → TellsNewer s (told_as e)
+told_newer s e tells number is_open up holds names = elim (tells number is_open (record { holds = holds; names = names; other = λ is. absurd (omega (arith, up, is)) })) [
+  | inl is ↦ inl (subst (λ e. IsToldAs number (told_as e)) (sym is) (subst (λ b. IsToldAs number (told_as (if b then store.OldLayout number else store.NewerLayout number))) (sym (le-ltb number 1 (omega (arith, up))))
+      (newer_case (IsToldAs number) number (λ two. two) (λ _. refl))))
+  | inr fault ↦ inr (told_fault e fault)
+]
+
+-- a fault is no refusal
+pub refused_if_fault : (db : Database) (e : MigrateError) → IsTrue (is_fault e) → IsRefusedBy db e
+refused_if_fault db Memory h = tt
+refused_if_fault db Disk h = tt
+refused_if_fault db NotARegistry h = tt
+refused_if_fault db AlreadyNew h = absurd (cc)
+refused_if_fault db (NewerLayout number) h = absurd (cc)
+
+-- where a crash leaves no more than before, no error says otherwise
+pub leaves_before : (old new : State) (e : MigrateError) → LeavesNoMore old new → LeavesBefore old new e
+leaves_before old new Memory h = inl h
+leaves_before old new Disk h = tt
+leaves_before old new NotARegistry h = h
+leaves_before old new AlreadyNew h = h
+leaves_before old new (NewerLayout number) h = h
+
+-- what a later call leaves, an earlier state left, where none was committed between
+pub before_then : (a b c : State) (e : MigrateError) → LeavesNoMore a b → a.faults ≤ b.faults → LeavesBefore b c e → LeavesBefore a c e
+before_then a b c Memory same up (inl later) = inl (λ db it. same db (later db it))
+before_then a b c Memory same up (inr more) = inr (omega (arith, up, more))
+before_then a b c Disk same up h = tt
+before_then a b c NotARegistry same up h = λ db it. same db (h db it)
+before_then a b c AlreadyNew same up h = λ db it. same db (h db it)
+before_then a b c (NewerLayout number) same up h = λ db it. same db (h db it)
+
+-- a fault that shut the connection came before
+pub before_if_faulted : (old mid new : State) (e : MigrateError) → MoreFaults old.faults mid.faults → mid.faults ≤ new.faults → IsTrue (is_fault e) → LeavesBefore old new e
+before_if_faulted old mid new Memory more up h = inr (omega (arith, more, up))
+before_if_faulted old mid new Disk more up h = tt
+before_if_faulted old mid new NotARegistry more up h = absurd (cc)
+before_if_faulted old mid new AlreadyNew more up h = absurd (cc)
+before_if_faulted old mid new (NewerLayout number) more up h = absurd (cc)
+
+-- over tables that spell a registry, memory and the disk alone fail
+pub fault_over : (old new : State) (e : StoreError) → IsFaultFirst old new e → IsFaultOver old (told_as e)
+fault_over old new e fault spells = told_fault e (fault_if_by old new e (go old.is_open refl))
+  where
+    go : (b : Bool) → old.is_open ≡ b → failures.IsFaultBy old new e
+    go true is = let it = spells is in fault it.registry it.kept (λ _. it.spelled)
+    go false shut = fault new_registry nothing_kept (λ is_open. absurd (both_ways _ shut is_open))

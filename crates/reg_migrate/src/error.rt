@@ -1,0 +1,44 @@
+//! Why a registry isn't moved.
+
+ghost use Rattle.std.specs.Prelude.{◌≡◌};
+ghost use Rattle.reg_migrate.specs.Errors.{told_as};
+
+use reg_store::StoreError;
+use thiserror::Error;
+
+/// Why a registry isn't moved. The database is as before then.
+#[derive(Clone, Copy, Debug, PartialEq, Eq, Error)]
+pub enum MigrateError {
+    /// Memory was refused.
+    #[error("out of memory")]
+    Memory,
+    /// The disk failed, or what was to be written is past a limit of the file.
+    #[error("the disk failed")]
+    Disk,
+    /// A table or a column is missing, there is another, or the rows don't spell a registry.
+    #[error("not a registry")]
+    NotARegistry,
+    /// The database has layout 2.
+    #[error("the layout is this program's")]
+    AlreadyNew,
+    /// The database has a newer layout than 2, of this number.
+    #[error("layout {0} is newer than this program's")]
+    NewerLayout(u32),
+}
+
+impl From<StoreError> for MigrateError {
+    ghost use Rattle.std.specs.Prelude.{◌≡◌};
+    ghost use Rattle.reg_migrate.specs.Errors.{told_as};
+
+    ghost from_gives = { λ error failure. failure ≡ told_as error };
+
+    fn from(error: StoreError) -> MigrateError {
+        match error {
+            StoreError::Memory => MigrateError::Memory,
+            StoreError::Disk => MigrateError::Disk,
+            StoreError::NewerLayout(2) => MigrateError::AlreadyNew,
+            StoreError::NewerLayout(number) => MigrateError::NewerLayout(number),
+            StoreError::NotARegistry | StoreError::OldLayout(_) => MigrateError::NotARegistry,
+        }
+    }
+}

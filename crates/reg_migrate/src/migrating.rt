@@ -1,0 +1,109 @@
+//! A registry of layout 1, moved to layout 2.
+
+ghost use Rattle.std.specs.Prelude.{◌≡◌, ◌⊎◌, IfErr, IfOk, OnErr, OnOk, IsTrue, None, false};
+ghost use Rattle.sqlite_disk.specs.Disk.{MoreFaults};
+ghost use Rattle.sqlite.specs.Tree.{Trees};
+ghost use Rattle.sqlite.specs.Held.{state};
+ghost use Rattle.sqlite.specs.State.{HasCleanDisk, Survives};
+ghost use Rattle.reg_tables.specs.Reads.{OnlyReads};
+ghost use Rattle.reg_store.specs.Stores.{LeavesCommit};
+ghost use Rattle.reg_migrate.specs.Errors.{IsRefusedBy, LeavesBefore, TellsNewer, is_fault};
+ghost use Rattle.reg_migrate.specs.Inside.{CanMove, IsMovedOver, TakesMoved};
+ghost use Rattle.reg_migrate.specs.Migrations.{IsFaultOver, LeavesMoved, LosesNothing, Moves};
+
+use crate::error::MigrateError;
+use crate::moving::move_all;
+use reg_store::{StoreError, check_first};
+use reg_tables::Idle;
+use sqlite::{Alter, Connection};
+use std::alloc::Global;
+
+/// What was moved.
+#[derive(Clone, Copy, Debug, PartialEq, Eq)]
+pub struct Report {
+    /// How many versions the registry has, soft-deleted ones too.
+    pub versions: u64,
+}
+
+/// Moves the tables of layout 1 to layout 2, and reports so many versions.
+fn move_connection<S: Alter>(
+    connection: Connection<S>,
+    versions: u64,
+) -> (Result<Report, MigrateError>, Connection<S>)
+    requires idle { connection.in_transaction ≡ false }
+    requires unlimited { connection.step_limit ≡ None }
+    ensures counted { IfOk result.0 (λ report. report.versions ≡ versions) }
+    ensures done { HasCleanDisk (state S.Store result.1)
+        → OnOk result.0 (IsMovedOver (state S.Store connection) (state S.Store result.1)) }
+    ensures fault { HasCleanDisk (state S.Store result.1) → IfErr result.0 (λ e.
+        CanMove (state S.Store connection) → IsTrue (is_fault e)) }
+    ensures idle { result.1.in_transaction ≡ false }
+    ensures nothing { HasCleanDisk (state S.Store result.1)
+        → OnErr result.0 (OnlyReads (state S.Store connection) (state S.Store result.1)) }
+    ensures before { HasCleanDisk (state S.Store result.1) → IfErr result.0 (λ e.
+        IsTrue (state S.Store connection).is_open
+        → LeavesBefore (state S.Store connection) (state S.Store result.1) e) }
+    ensures survives { Survives (state S.Store connection) (state S.Store result.1)
+        (λ left. IsTrue (state S.Store connection).is_open × TakesMoved (state S.Store connection).now left) }
+{
+    let mut db = Idle { conn: connection };
+    let moved = move_all(&mut db);
+    let _idle = db.conn.is_autocommit();
+    let Idle { conn } = db;
+    match moved {
+        Ok(()) => (Ok(Report { versions }), conn),
+        Err(error) => (Err(MigrateError::from(StoreError::from(error))), conn),
+    }
+}
+
+/// Moves the registry and the kept replies of layout 1 to layout 2, in one transaction. The
+/// connection is outside a transaction, and is given back.
+///
+/// # Errors
+///
+/// `AlreadyNew` where `meta` names layout 2, and `NewerLayout` where it names a newer one; nothing
+/// else is looked at then. `NotARegistry` where the tables aren't those of layout 1, or spell no
+/// registry; `Memory` and `Disk`. The database is as before then; but after `Disk` a crash may leave
+/// layout 2.
+pub fn migrate<S: Alter>(
+    alloc: Global,
+    connection: Connection<S>,
+) -> (Result<Report, MigrateError>, Connection<S>)
+    requires { connection.in_transaction ≡ false }
+    ensures done { HasCleanDisk (state S.Store result.1) → IfOk result.0 (λ report.
+        Moves (state S.Store connection) (state S.Store result.1) report.versions) }
+
+    // Over tables that spell a registry in layout 1 memory and the disk alone fail, and a newer layout is told.
+    ensures fault { HasCleanDisk (state S.Store result.1)
+        → IfErr result.0 (IsFaultOver (state S.Store connection)) }
+    ensures refused { HasCleanDisk (state S.Store result.1)
+        → IfErr result.0 (IsRefusedBy (state S.Store connection).now) }
+    ensures newer { HasCleanDisk (state S.Store result.1)
+        → IfErr result.0 (TellsNewer (state S.Store connection)) }
+    ensures idle { result.1.in_transaction ≡ false }
+    ensures nothing { HasCleanDisk (state S.Store result.1)
+        → OnErr result.0 (OnlyReads (state S.Store connection) (state S.Store result.1)) }
+
+    // An error that isn't `Disk` leaves the database as it was, also after a crash; whatever is answered, nothing is lost.
+    ensures before { HasCleanDisk (state S.Store result.1) → IfErr result.0 (λ e.
+        IsTrue (state S.Store connection).is_open
+        → LeavesBefore (state S.Store connection) (state S.Store result.1) e) }
+    ensures crash_after { HasCleanDisk (state S.Store result.1) → OnOk result.0 ((db : Trees)
+        → (state S.Store result.1).may_leave db → LeavesMoved (state S.Store connection).now db) }
+    ensures crash { HasCleanDisk (state S.Store result.1) → (db : Trees)
+        → (state S.Store result.1).may_leave db
+        → (state S.Store connection).may_leave db ⊎ LeavesMoved (state S.Store connection).now db }
+    ensures found { HasCleanDisk (state S.Store result.1)
+        → LosesNothing (state S.Store connection) (state S.Store result.1) }
+    ensures closes { HasCleanDisk (state S.Store result.1)
+        → IsTrue (state S.Store connection).is_open → IsTrue (state S.Store result.1).is_open
+        ⊎ MoreFaults (state S.Store connection).faults (state S.Store result.1).faults }
+    ensures settled { LeavesCommit (state S.Store result.1) }
+{
+    let _idle = connection.is_autocommit();
+    let (counted, connection) = check_first(alloc, connection);
+    match counted {
+        Ok(versions) => move_connection(connection, versions),
+        Err(error) => (Err(MigrateError::from(error)), connection),
+    }
+}

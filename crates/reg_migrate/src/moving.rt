@@ -1,0 +1,76 @@
+//! The statements that make layout 2 of layout 1.
+
+ghost use Rattle.std.specs.Prelude.{◌≡◌, ◌↔◌, IfErr, OnOk, OnErr, IsTrue, None};
+ghost use Rattle.sqlite.specs.State.{HasCleanDisk, Survives, KeepsCommit};
+ghost use Rattle.reg_tables.specs.Frames.{shown, state_in, StaysInside};
+ghost use Rattle.reg_tables.specs.Layout.{layout, unindexed};
+ghost use Rattle.reg_tables.specs.Contents.{Contents, HoldsIn};
+ghost use Rattle.reg_tables.specs.FailedCalls.{IsInsertFault};
+ghost use Rattle.reg_store.specs.Failures.{failure_of, is_fault};
+ghost use Rattle.reg_store.specs.Stores.{LeavesBefore};
+ghost use Rattle.reg_migrate.specs.Inside.{CanMove, HoldsMoved, IsMovedOver, MovesBy, TakesMoved};
+
+use reg_tables::{Idle, add_tables, index_versions, is_unindexed, number_second};
+use sqlite::{Alter, Error, Transaction};
+
+/// Makes layout 2 of layout 1 with its index.
+fn extend<S: Alter>(tx: &mut Transaction<'_, S>) -> Result<(), Error>
+    ensures frame { StaysInside S.Store tx.old tx.new result }
+    ensures extended { HasCleanDisk (state_in S.Store tx.new)
+        → OnOk result (MovesBy layout (state_in S.Store tx.old).now (state_in S.Store tx.new).now) }
+    ensures fault { HasCleanDisk (state_in S.Store tx.new) → IfErr result (λ e.
+        (contents : Contents) → HoldsIn layout (state_in S.Store tx.old).now contents
+        → IsInsertFault (state_in S.Store tx.old) (state_in S.Store tx.new) e) }
+{
+    number_second(tx)?;
+    add_tables(tx)
+}
+
+/// Makes layout 2 of layout 1 without its index.
+fn move_unindexed<S: Alter>(tx: &mut Transaction<'_, S>) -> Result<(), Error>
+    ensures frame { StaysInside S.Store tx.old tx.new result }
+    ensures moved { HasCleanDisk (state_in S.Store tx.new)
+        → OnOk result (MovesBy unindexed (state_in S.Store tx.old).now (state_in S.Store tx.new).now) }
+    ensures fault { HasCleanDisk (state_in S.Store tx.new) → IfErr result (λ e.
+        (contents : Contents) → HoldsIn unindexed (state_in S.Store tx.old).now contents
+        → IsInsertFault (state_in S.Store tx.old) (state_in S.Store tx.new) e) }
+{
+    index_versions(tx)?;
+    extend(tx)
+}
+
+/// Makes layout 2 of layout 1, which has its index or lacks it.
+fn move_tables<S: Alter>(tx: &mut Transaction<'_, S>, lacks_index: bool) -> Result<(), Error>
+    requires known { IsTrue lacks_index ↔ ((state_in S.Store tx.now).now.schema ≡ unindexed) }
+    ensures frame { StaysInside S.Store tx.old tx.new result }
+    ensures moved { HasCleanDisk (state_in S.Store tx.new)
+        → OnOk result (HoldsMoved (state_in S.Store tx.old).now (state_in S.Store tx.new).now) }
+    ensures fault { HasCleanDisk (state_in S.Store tx.new) → IfErr result (λ e.
+        CanMove (state_in S.Store tx.old)
+        → IsInsertFault (state_in S.Store tx.old) (state_in S.Store tx.new) e) }
+{
+    if lacks_index {
+        move_unindexed(tx)
+    } else {
+        extend(tx)
+    }
+}
+
+/// Makes layout 2 of layout 1, in one transaction.
+pub fn move_all<S: Alter>(db: &mut Idle<S>) -> Result<(), Error>
+    requires unlimited { db.now.conn.step_limit ≡ None }
+    ensures done { HasCleanDisk (shown db.new) → OnOk result (IsMovedOver (shown db.old) (shown db.new)) }
+    ensures fault { HasCleanDisk (shown db.new) → IfErr result (λ e.
+        CanMove (shown db.old) → IsTrue (is_fault (failure_of e))) }
+    ensures nothing { HasCleanDisk (shown db.new)
+        → OnErr result (KeepsCommit (shown db.old) (shown db.new)) }
+    ensures before { HasCleanDisk (shown db.new) → IfErr result (λ e. IsTrue (shown db.old).is_open
+        → LeavesBefore (shown db.old) (shown db.new) (failure_of e)) }
+    ensures survives { Survives (shown db.old) (shown db.new)
+        (λ left. IsTrue (shown db.old).is_open × TakesMoved (shown db.old).now left) }
+{
+    let lacks_index = is_unindexed(&db.conn);
+    let mut tx = db.conn.transaction();
+    move_tables(&mut tx, lacks_index)?;
+    tx.commit()
+}
