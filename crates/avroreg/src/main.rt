@@ -73,8 +73,8 @@ fn database_of(job: &Job) -> Option<&str> {
         Job::Run {
             database: Some(file),
         } => Some(file.as_str()),
-        Job::List { database, .. } => Some(database.as_str()),
-        _ => None,
+        Job::Run { database: None } | Job::Text { .. } | Job::Check { .. } => None,
+        Job::List { database, .. } | Job::Migrate { database } => Some(database.as_str()),
     }
 }
 

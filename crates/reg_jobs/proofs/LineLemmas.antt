@@ -50,11 +50,30 @@ pub Puts-append : {E : Type 0} (contents : E → Option (List ℕ)) (a b c : Err
 Puts-append contents a b c xs ys p q =
     WritesUnlessLost-append a.has_lost b.has_lost c.has_lost (contents a.writer) (contents b.writer) (contents c.writer) xs ys p q
 
+-- more would have followed
+Begins-longer : (old new : Option (List ℕ)) (xs ys : List ℕ) → Begins old new xs → Begins old new (xs ++ ys)
+Begins-longer old new xs ys b = (b.0, (b.1.0 ++ ys, sym (append_assoc b.0 b.1.0 ys) ∙ ap (λ t. t ++ ys) b.1.1), b.2)
+
 -- what a list's first items are written as, and one more
 flat_map-more : {A : Type 0} (text : A → List ℕ) (items : List A) (i : ℕ) (d : A) → i < length items
     → flat_map text (take (i + 1) items) ≡ flat_map text (take i items) ++ text (get_or items i d)
 flat_map-more text items i d lt =
     ap (flat_map text) (take_more items i d lt) ∙ (flat_map-append text (take i items) (get_or items i d ∷ []) ∙ ap (λ t. flat_map text (take i items) ++ t) (append-nil (text (get_or items i d))))
+
+-- the items before one were written, and a beginning of that one
+pub Begins-item : {A : Type 0} (text : A → List ℕ) (old mid new : Option (List ℕ)) (items : List A) (i : ℕ) (d : A) → i < length items
+    → Appends old mid (flat_map text (take i items)) → Begins mid new (text (get_or items i d)) → Begins old new (flat_map text items)
+Begins-item text old mid new items i d lt before part =
+    let up = Begins-after old mid new (flat_map text (take i items)) (text (get_or items i d)) before part in
+    let longer = Begins-longer old new (flat_map text (take i items) ++ text (get_or items i d)) (flat_map text (drop (i + 1) items)) up in
+    subst (Begins old new) (ap (λ t. t ++ flat_map text (drop (i + 1) items)) (sym (flat_map-more text items i d lt))
+    ∙ sym (flat_map-append text (take (i + 1) items) (drop (i + 1) items)) ∙ ap (flat_map text) (take-append-drop (i + 1) items)) longer
+
+-- the items before one were written, and then that one
+pub Appends-item : {A : Type 0} (text : A → List ℕ) (old mid new : Option (List ℕ)) (items : List A) (i : ℕ) (d : A) → i < length items
+    → Appends old mid (flat_map text (take i items)) → Appends mid new (text (get_or items i d)) → Appends old new (flat_map text (take (i + 1) items))
+Appends-item text old mid new items i d lt before one =
+    subst (Appends old new) (sym (flat_map-more text items i d lt)) (Appends-trans old mid new (flat_map text (take i items)) (text (get_or items i d)) before one)
 
 -- the items before one, and then that one
 pub Puts-item : {A E : Type 0} (contents : E → Option (List ℕ)) (text : A → List ℕ) (a b c : Errors E) (items : List A) (i : ℕ) (d : A) → i < length items

@@ -10,7 +10,7 @@ use Rattle.reg_tables.specs.Reads.{OnlyReads}
 use Rattle.reg_store.specs.declared.error.StoreError.{StoreError}
 use Rattle.reg_store.specs.declared.error.StoreError.TheVariants.{Disk, NotARegistry}
 use Rattle.reg_store.specs.Failures.{IsFaultBy}
-use Rattle.reg_store.specs.Opening.{IsRefusedBy, TellsNewer, LosesNothing}
+use Rattle.reg_store.specs.Opening.{IsRefusedBy, TellsLayout, LosesNothing}
 use Rattle.reg_store.specs.Spells.{SpellsWhileOpen}
 use Rattle.reg_store.specs.Stores.{LeavesBefore}
 use Rattle.reg_store.specs.UnopenedFaults.{IsFaultUnopened, IsToldUnopened}
@@ -34,12 +34,12 @@ pub record FailsToMake (old new : State) (error : StoreError) : Type 0 where
   pub only_reads : OnlyReads old new
   pub before : IsTrue old.is_open → LeavesBefore old new error
 
--- Why a database gave no registry. Where its tables spell one, memory was refused or there was a fault of the disk. A newer layout is told,
+-- Why a database gave no registry. Where its tables spell one, memory was refused or there was a fault of the disk. Another layout is told,
 -- and with its own number; `Disk` is for a fault of the disk over the tables of a layout. Nothing is committed, and a crash leaves what the tables spelled.
 pub record FailsToOpen (old new : State) (error : StoreError) : Type 0 where
   pub fault : IsFaultUnopened old new error
   pub told : IsToldUnopened old new error
-  pub newer : TellsNewer old error
+  pub other : TellsLayout old error
   pub refused : IsRefusedBy old.now error
   pub only_reads : OnlyReads old new
   pub before : IsTrue old.is_open → LeavesBefore old new error

@@ -17,17 +17,18 @@ use Rattle.reg_http.specs.declared.serving.Ended.{Ended}
 use Rattle.reg_jobs.specs.declared.files.TextOutcome.{TextOutcome}
 use Rattle.reg_jobs.specs.declared.files.CheckOutcome.{CheckOutcome}
 use Rattle.reg_words.specs.declared.task.Job.{Job}
-use Rattle.reg_words.specs.declared.task.Job.TheVariants.{Run, Text as TextJob, Check as CheckJob, List as ListJob}
+use Rattle.reg_words.specs.declared.task.Job.TheVariants.{Run, Text as TextJob, Check as CheckJob, List as ListJob, Migrate}
 use Rattle.reg_words.specs.declared.task.Listing.{Listing}
 use Rattle.reg_jobs.specs.declared.errors.Errors.{Errors}
 use Rattle.reg_jobs.specs.declared.job.Opened.{Opened}
 use Rattle.reg_jobs.specs.declared.job.Opened.TheVariants.{Nothing, Texts, Failed, Empty, Fresh, Database}
 use Rattle.reg_jobs.specs.declared.outcome.Fault.{Fault}
 use Rattle.reg_jobs.specs.declared.outcome.Outcome.{Outcome}
-use Rattle.reg_jobs.specs.declared.outcome.Outcome.TheVariants.{Session as SessionEnded, Unopened, NotListening, Text as TextEnded, Check as CheckEnded, List as ListEnded}
+use Rattle.reg_jobs.specs.declared.outcome.Outcome.TheVariants.{Session as SessionEnded, Unopened, NotListening, Text as TextEnded, Check as CheckEnded, List as ListEnded, Moved}
 use Rattle.reg_jobs.specs.Databases.{GivesBack, IsMadeIn, LacksMade, LacksFound}
 use Rattle.reg_jobs.specs.Files.{PrintsAs, ChecksAs}
 use Rattle.reg_jobs.specs.Listings.{IfUnread, ListsAs, table_of}
+use Rattle.reg_jobs.specs.Moving.{MovesAs}
 use Rattle.reg_jobs.specs.declared.listings.ListOutcome.{ListOutcome}
 use Rattle.reg_jobs.specs.Outcomes.{answer_of, status_of, TellsFault}
 use Rattle.reg_http.specs.Sessions.{Session}
@@ -39,6 +40,7 @@ file_of (Run (Some file)) = string_bytes file
 file_of (TextJob file) = string_bytes file
 file_of (CheckJob reader writer) = string_bytes reader
 file_of (ListJob database kind) = string_bytes database
+file_of (Migrate database) = string_bytes database
 
 -- the writer's file of a job that names two, or the one that it names
 abbrev pub writer_of : Job → List ℕ
@@ -46,6 +48,7 @@ writer_of (Run database) = file_of (Run database)
 writer_of (TextJob file) = string_bytes file
 writer_of (CheckJob reader writer) = string_bytes writer
 writer_of (ListJob database kind) = string_bytes database
+writer_of (Migrate database) = string_bytes database
 
 -- what a job answers: the program's status, or a fault and the file that it is on
 abbrev pub job_answer : Job → Outcome → Result ℕ (Fault × List ℕ)
@@ -131,6 +134,7 @@ RunsOn g opened back reader reader' writer writer' (NotListening port) = ⊥
 RunsOn g opened back reader reader' writer writer' (TextEnded printed) = ⊥
 RunsOn g opened back reader reader' writer writer' (CheckEnded checked) = ⊥
 RunsOn g opened back reader reader' writer writer' (ListEnded listed) = ⊥
+RunsOn g opened back reader reader' writer writer' (Moved printed) = ⊥
 
 -- how a session comes out that is asked for: over what was opened where the job names a file, and else over a new registry in memory
 abbrev pub RunsAsked : {S : Type 0} (g : Ghosts S) → Opened S → Bool → Option (Held S) → Option (List ℕ) → Option (List ℕ) → Option (List ℕ) → Option (List ℕ) → Outcome → Type 0
@@ -177,6 +181,20 @@ ListsOn g opened kind back writer writer' (NotListening port) = ⊥
 ListsOn g opened kind back writer writer' (TextEnded printed) = ⊥
 ListsOn g opened kind back writer writer' (CheckEnded checked) = ⊥
 ListsOn g opened kind back writer writer' (ListEnded listed) = OverDatabase g opened (λ old. GivesBack g back (ListsOver old kind writer writer' listed))
+ListsOn g opened kind back writer writer' (Moved printed) = ⊥
+
+-- nothing was opened that could be moved, and nothing was written
+abbrev pub MovesNothing : Option (List ℕ) → Option (List ℕ) → StoreError → Outcome → Type 0
+MovesNothing writer writer' error outcome = (writer' ≡ writer) × (outcome ≡ Unopened error)
+
+-- how a move of what was opened comes out, and the connection that comes back: it makes no registry in an empty database, which comes back as it is
+abbrev pub MovesOn : {S : Type 0} (g : Ghosts S) → Opened S → Option (Held S) → Option (List ℕ) → Option (List ℕ) → Outcome → Type 0
+MovesOn g Nothing back writer writer' outcome = (back ≡ None) × MovesNothing writer writer' Disk outcome
+MovesOn g (Texts texts) back writer writer' outcome = (back ≡ None) × MovesNothing writer writer' Disk outcome
+MovesOn g Failed back writer writer' outcome = (back ≡ None) × MovesNothing writer writer' Disk outcome
+MovesOn g Empty back writer writer' outcome = (back ≡ None) × MovesNothing writer writer' NotARegistry outcome
+MovesOn g (Fresh old) back writer writer' outcome = (back ≡ Some old) × MovesNothing writer writer' NotARegistry outcome
+MovesOn g (Database old) back writer writer' outcome = GivesBack g back (λ new. MovesAs (state g old) new writer writer' outcome)
 
 -- a schema's text was to be printed
 pub record TextsAs (file writer writer' : Option (List ℕ)) (outcome : Outcome) : Type 0 where
@@ -196,6 +214,7 @@ ComesOut g (Run database) opened back reader reader' writer writer' outcome = Ru
 ComesOut g (TextJob file) opened back reader reader' writer writer' outcome = (back ≡ connection_in opened) × (reader' ≡ reader) × TextsAs (text_at opened 0) writer writer' outcome
 ComesOut g (CheckJob r w) opened back reader reader' writer writer' outcome = (back ≡ connection_in opened) × (reader' ≡ reader) × CheckedAs (text_at opened 0) (text_at opened 1) writer writer' outcome
 ComesOut g (ListJob database kind) opened back reader reader' writer writer' outcome = (reader' ≡ reader) × ListsOn g opened kind back writer writer' outcome
+ComesOut g (Migrate database) opened back reader reader' writer writer' outcome = (reader' ≡ reader) × MovesOn g opened back writer writer' outcome
 
 -- a job that was done, with the connection that comes back, its line on standard error and the status
 pub record DoesAs {S E : Type 0} (g : Ghosts S) (contents : E → Option (List ℕ)) (job : Job) (opened : Opened S) (back : Option (Held S))

@@ -11,7 +11,8 @@ use Rattle.reg_jobs.specs.declared.files.FileFault.TheVariants.{CannotRead, NotS
 use Rattle.reg_jobs.specs.declared.files.TextOutcome.TheVariants.{Whole, Nothing as NothingPrinted, NotWritten}
 use Rattle.reg_jobs.specs.declared.files.CheckOutcome.TheVariants.{Verdict, Reader, Writer, OutOfMemory as CheckOutOfMemory, NotWritten as VerdictNotWritten}
 use Rattle.reg_jobs.specs.declared.outcome.Outcome.{Outcome}
-use Rattle.reg_jobs.specs.declared.outcome.Outcome.TheVariants.{Session as SessionEnded, Unopened, NotListening, Text as TextEnded, Check as CheckEnded, List as ListEnded}
+use Rattle.reg_jobs.specs.declared.outcome.Outcome.TheVariants.{Session as SessionEnded, Unopened, NotListening, Text as TextEnded, Check as CheckEnded, List as ListEnded, Moved}
+use Rattle.reg_jobs.specs.declared.moving.MoveOutcome.TheVariants.{Whole as MoveTold, NotWritten as MoveNotWritten}
 use Rattle.reg_jobs.specs.declared.listings.ListOutcome.TheVariants.{Whole as ListedWhole, Unread, NotWritten as ListNotWritten, OutOfMemory as ListOutOfMemory}
 use Rattle.reg_jobs.specs.declared.outcome.Trouble.{Trouble}
 use Rattle.reg_jobs.specs.declared.outcome.Fault.{Fault}
@@ -61,6 +62,8 @@ answer_of (ListEnded ListedWhole) file writer = Ok 0
 answer_of (ListEnded (Unread error)) file writer = Err (fault_of_database error, file)
 answer_of (ListEnded ListNotWritten) file writer = Err (FaultWriteFailed, file)
 answer_of (ListEnded ListOutOfMemory) file writer = Err (FaultOutOfMemory, file)
+answer_of (Moved MoveTold) file writer = Ok 0
+answer_of (Moved MoveNotWritten) file writer = Err (FaultWriteFailed, file)
 
 -- the program's status, 2 for each fault
 abbrev pub status_of : Result ℕ (Fault × List ℕ) → ℕ

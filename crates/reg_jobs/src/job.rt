@@ -4,13 +4,14 @@ ghost use Rattle.std.specs.Prelude.{◌≡◌, IfOk, IfErr, false, option_map};
 ghost use Rattle.sqlite.specs.State.{HasCleanDisk};
 ghost use Rattle.reg_store.specs.Opening.{OpensOver};
 ghost use Rattle.reg_store.specs.Stores.{has_failed, state_of};
-ghost use Rattle.reg_jobs.specs.Jobs.{DoesAs, FindsNone, HasRegistry, LacksRegistry, ListsOn, OverDatabase, RunsAs, RunsAsked, RunsOn, file_of, writer_of};
+ghost use Rattle.reg_jobs.specs.Jobs.{DoesAs, FindsNone, HasRegistry, LacksRegistry, ListsOn, OverDatabase, RunsAs, RunsAsked, RunsOn, MovesOn, file_of, writer_of};
 
 use crate::database::{create_in, open_in, run_on_store};
 use crate::errors::Errors;
 use crate::files::{check, print_text};
 use crate::line::tell_answer;
 use crate::listings::{list_store, table_of};
+use crate::moving::move_in;
 use crate::outcome::{Outcome, answer_of};
 use reg_http::{Ended, serve};
 use reg_service::Service;
@@ -49,6 +50,7 @@ fn file_of(job: &Job) -> &str
         Job::Text { file } => file.as_str(),
         Job::Check { reader, .. } => reader.as_str(),
         Job::List { database, .. } => database.as_str(),
+        Job::Migrate { database } => database.as_str(),
     }
 }
 
@@ -206,6 +208,31 @@ fn list_on<S: Alter + Drop, W: Write>(
     }
 }
 
+/// Moves the registry of what was opened to this program's layout, and gives the connection back. Where
+/// it isn't moved nothing is written.
+fn move_on<S: Alter + Drop, W: Write>(
+    alloc: Global,
+    opened: Opened<S>,
+    writer: &mut W,
+) -> (Outcome, Option<Connection<S>>)
+    ensures { MovesOn S.Store opened result.1 (W.contents writer.old) (W.contents writer.new) result.0 }
+{
+    match opened {
+        Opened::Database(connection) => {
+            let (outcome, connection) = move_in(alloc, connection, writer);
+            (outcome, Some(connection))
+        }
+        Opened::Fresh(connection) => {
+            (
+                Outcome::Unopened(StoreError::NotARegistry),
+                Some(connection),
+            )
+        }
+        Opened::Empty => (Outcome::Unopened(StoreError::NotARegistry), None),
+        _ => (Outcome::Unopened(StoreError::Disk), None),
+    }
+}
+
 /// Does a job with what was opened for it, and answers the program's status: 0, 1 for a verdict
 /// of incompatible, or 2 after a fault, whose line goes to `errors`. A connection is given back.
 pub fn do_job<S: Alter + Drop, R: Read, W: Write, E: Write + Drop>(
@@ -230,6 +257,7 @@ pub fn do_job<S: Alter + Drop, R: Read, W: Write, E: Write + Drop>(
             (Outcome::Check(checked), opened.into_connection())
         }
         Job::List { kind, .. } => list_on(alloc, opened, *kind, writer),
+        Job::Migrate { .. } => move_on(alloc, opened, writer),
     };
     let answer = answer_of(outcome, file_of(job), writer_of(job));
     (tell_answer(errors, answer), connection)

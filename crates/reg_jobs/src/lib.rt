@@ -1,5 +1,6 @@
 //! The jobs of the program: a session of messages over a registry, connections to a listener, a listing
-//! of a registry, the identity text of a schema in a file, and the verdict on two.
+//! of a registry, its move to this program's layout, the identity text of a schema in a file, and the
+//! verdict on two.
 
 #![tactic(auto)]
 
@@ -10,6 +11,7 @@ mod job;
 mod line;
 mod listening;
 mod listings;
+mod moving;
 mod name;
 mod opening;
 mod outcome;
@@ -19,6 +21,7 @@ pub use job::{Opened, do_job, store_in};
 pub use line::report;
 pub use listening::{serve_on, serve_with_clock};
 pub use listings::ListOutcome;
+pub use moving::MoveOutcome;
 pub use opening::{Opener, open_for};
 pub use outcome::Outcome;
 pub use reg_words::{Job, LineFault, Listing, Server, Task, task_of};

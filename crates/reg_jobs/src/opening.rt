@@ -55,7 +55,9 @@ pub fn open_for<S: Alter, O: Opener<S>>(
         Job::Run {
             database: Some(file),
         } => opener.open_to_run(file.as_str()),
-        Job::List { database, .. } => opener.open_to_list(database.as_str()),
+        Job::List { database, .. } | Job::Migrate { database } => {
+            opener.open_to_list(database.as_str())
+        }
         Job::Text { file } => {
             let mut texts = Vec::new(alloc);
             texts.push(opener.read(file.as_str())?)?;

@@ -5,6 +5,7 @@ ghost use Rattle.reg_jobs.specs.Outcomes.{answer_of, fault_of_database, fault_of
 
 use crate::files::{CheckOutcome, FileFault, TextOutcome};
 use crate::listings::ListOutcome;
+use crate::moving::MoveOutcome;
 use reg_http::Ended;
 use reg_store::StoreError;
 
@@ -13,7 +14,7 @@ use reg_store::StoreError;
 pub enum Outcome {
     /// A session ended.
     Session(Ended),
-    /// The database of a session gave no registry, and nothing was read.
+    /// The database of a job gave no registry, and nothing was read.
     Unopened(StoreError),
     /// No connection can come to the port, which is its number.
     NotListening(u16),
@@ -23,6 +24,8 @@ pub enum Outcome {
     Check(CheckOutcome),
     /// A registry was to be listed.
     List(ListOutcome),
+    /// A registry was moved to this program's layout, or had it.
+    Moved(MoveOutcome),
 }
 
 /// A fault that has a line on standard error.
@@ -113,6 +116,8 @@ pub fn answer_of<'a>(outcome: Outcome, file: &'a str, writer: &'a str) -> Result
         Outcome::List(ListOutcome::Unread(error)) => Err(fault_of_database(error).on(file)),
         Outcome::List(ListOutcome::NotWritten) => Err(Fault::WriteFailed.on(file)),
         Outcome::List(ListOutcome::OutOfMemory) => Err(Fault::OutOfMemory.on(file)),
+        Outcome::Moved(MoveOutcome::Whole) => Ok(0),
+        Outcome::Moved(MoveOutcome::NotWritten) => Err(Fault::WriteFailed.on(file)),
     }
 }
 

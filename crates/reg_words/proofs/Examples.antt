@@ -2,7 +2,7 @@
 use Rattle.std.proofs.Common.{◌≡◌, refl, [], ◌∷◌, Some, None, codes}
 use Rattle.clap.proofs.OnLiterals.{clap_on_literals}
 use Rattle.reg_words.specs.Line.{line}
-use Rattle.reg_words.specs.Tasks.{to_run, to_print, to_check, to_list, to_serve}
+use Rattle.reg_words.specs.Tasks.{to_run, to_print, to_check, to_list, to_migrate, to_serve}
 use Rattle.reg_words.specs.declared.task.Listing.TheVariants.{Versions}
 
 -- `run`
@@ -44,6 +44,16 @@ printed = refl
 pub listed : line (codes "list" ∷ codes "--db" ∷ codes "F" ∷ codes "versions" ∷ []) ≡ Some (to_list (codes "F") Versions)
 unfolding clap_on_literals
 listed = refl
+
+-- `migrate --db F`
+pub migrated : line (codes "migrate" ∷ codes "--db" ∷ codes "F" ∷ []) ≡ Some (to_migrate (codes "F"))
+unfolding clap_on_literals
+migrated = refl
+
+-- `migrate`: no file
+pub migrate_nothing : line (codes "migrate" ∷ []) ≡ None
+unfolding clap_on_literals
+migrate_nothing = refl
 
 -- no words
 pub no_words : line [] ≡ None

@@ -3,7 +3,7 @@ use Rattle.std.specs.Prelude.{ℕ, List, [], ◌∷◌, codes, bytes_eq, Option,
 use Rattle.clap.specs.Words.{Kinds, Row, Text, fault_of, first_of, subcommand_of}
 use Rattle.reg_words.specs.Commands.{most_connections, program}
 use Rattle.reg_words.specs.Numbers.{number_in}
-use Rattle.reg_words.specs.Tasks.{Asked, to_run, to_print, to_check, to_list, to_serve}
+use Rattle.reg_words.specs.Tasks.{Asked, to_run, to_print, to_check, to_list, to_migrate, to_serve}
 use Rattle.reg_words.specs.declared.task.Listing.{Listing}
 use Rattle.reg_words.specs.declared.task.Listing.TheVariants.{Subjects, Versions, Schemas}
 
@@ -48,6 +48,10 @@ list_in rows =
     option_and_then (λ database. option_map (to_list database)
     (option_and_then listing_in (first_of (codes "W") rows))) (first_of (codes "db") rows)
 
+-- `migrate --db F`
+abbrev pub migrate_in : List Row → Option Asked
+migrate_in rows = option_map to_migrate (first_of (codes "db") rows)
+
 -- what a command with these values asks for
 abbrev pub task_in : Text → List Row → Option Asked
 task_in name rows =
@@ -56,6 +60,7 @@ task_in name rows =
     else if bytes_eq name (codes "check") then check_in rows
     else if bytes_eq name (codes "text") then text_in rows
     else if bytes_eq name (codes "list") then list_in rows
+    else if bytes_eq name (codes "migrate") then migrate_in rows
     else None
 
 -- what the command that the words name asks for, where clap finds no fault in them

@@ -3,7 +3,7 @@
 ghost use Rattle.std.specs.Prelude.{◌≡◌, IfOk, false};
 ghost use Rattle.clap.specs.Words.{new_rule, rule_of};
 ghost use Rattle.reg_words.specs.Commands.{IsApp, bare, check_command, connections_rule};
-ghost use Rattle.reg_words.specs.Commands.{list_command, needed, option_rule, port_rule, program};
+ghost use Rattle.reg_words.specs.Commands.{list_command, migrate_command, needed, option_rule, port_rule, program};
 ghost use Rattle.reg_words.specs.Commands.{run_command, serve_command, text_command};
 
 use crate::task::MOST_CONNECTIONS;
@@ -142,6 +142,21 @@ Status 0, or 2 at a fault, with a line on standard error.",
         .arg(positional(alloc, "W", "What is listed: subjects, versions or schemas"))
 }
 
+/// `migrate --db F`.
+fn migrate_command<'a>(alloc: Global) -> Result<Command<'a>, AllocError>
+    ensures { IfOk result (IsApp migrate_command) }
+{
+    let database = option(alloc, "db", "F", "The database file, which has a registry");
+    Command::new(alloc, "migrate")
+        .about("Moves a registry of layout 1 to layout 2, which this program reads")
+        .after_help(
+            "Prints layout 2: N versions kept, or layout 2: nothing to do. The registry and the
+kept replies stay as they are. Copy F before, since no program of layout 1 reads
+it then. Status 0, or 2 at a fault, with a line on standard error.",
+        )
+        .arg(database.required(true))
+}
+
 /// The program without its commands.
 fn bare<'a>(alloc: Global) -> Result<Command<'a>, AllocError>
     ensures { IfOk result (IsApp bare) }
@@ -174,5 +189,6 @@ pub fn program<'a>(alloc: Global) -> Result<Command<'a>, AllocError>
         .subcommand(serve_command(alloc)?)?
         .subcommand(check_command(alloc)?)?
         .subcommand(text_command(alloc)?)?
-        .subcommand(list_command(alloc)?)
+        .subcommand(list_command(alloc)?)?
+        .subcommand(migrate_command(alloc)?)
 }

@@ -27,6 +27,8 @@ pub enum Job {
     Check { reader: String, writer: String },
     /// Print a listing of the registry in a database file.
     List { database: String, kind: Listing },
+    /// Move the registry in a database file to the newest layout.
+    Migrate { database: String },
 }
 
 /// A registry on a port of 127.0.0.1.
