@@ -31,9 +31,12 @@ MESSAGES = {
     40406: "Version is soft-deleted",
     40407: "Version is not soft-deleted",
     40408: "Subject has no level of its own",
+    40409: "Subject has no mode of its own",
     42201: "Invalid schema",
     42202: "Invalid version",
     42203: "Invalid compatibility level",
+    42204: "Invalid mode",
+    42205: "Operation not permitted",
     42290: "Retry key was used for another request",
     42292: "No number is left",
     50001: "Error in the backend data store",
@@ -81,6 +84,8 @@ def body_of(case, rest):
         return f'{{"schema":{quote(case.value(text.strip(" ")))}}}'
     if word == "level":
         return f'{{"compatibility":{quote(case.filled(text))}}}'
+    if word == "mode":
+        return f'{{"mode":{quote(case.filled(text))}}}'
     return case.value(rest)
 
 

@@ -5,6 +5,7 @@ import os
 import re
 
 from .program import TESTS, Wrong
+from .tables import database
 
 
 class Line:
@@ -51,7 +52,7 @@ def quote(text):
 
 
 def evaluated(text, names):
-    return eval(text, {"json": json, **names})
+    return eval(text, {"json": json, "database": database, **names})
 
 
 def cases_of(file):

@@ -6,6 +6,18 @@ import sqlite3
 from .program import differs
 
 
+def database(*statements):
+    """The bytes of a database that these statements make."""
+    made = sqlite3.connect(":memory:")
+    try:
+        for statement in statements:
+            made.execute(statement)
+        made.commit()
+        return made.serialize()
+    finally:
+        made.close()
+
+
 def asked(folder, name, statement):
     """The rows that a statement shows, each as its cells with bars between them."""
     database = sqlite3.connect(os.path.join(folder, name))

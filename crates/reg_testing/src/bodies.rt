@@ -20,5 +20,11 @@ pub const FORWARD_SET: &str = "{\"compatibility\":\"FORWARD\"}";
 
 pub const INVALID: &str = "{\"error_code\":42203,\"message\":\"Invalid compatibility level\"}";
 
+pub const INCOMPATIBLE: &str =
+    "{\"error_code\":409,\"message\":\"Schema is incompatible with an earlier version\"}";
+
+pub const NOT_SOFT_DELETED: &str =
+    "{\"error_code\":40405,\"message\":\"Subject is not soft-deleted\"}";
+
 pub const REUSED: &str =
     "{\"error_code\":42290,\"message\":\"Retry key was used for another request\"}";

@@ -1,18 +1,19 @@
 //! What databases hold, as texts.
 
-use crate::disks::{OnDatabase, on_disk};
-use crate::stores::opened;
-use sqlite::{Alter, Connection, Error, Files, Row};
-use sqlite_disk::{Fuse, Memory};
+use sqlite::{Alter, Connection, Error, Row};
 use std::alloc::Global;
 use std::test::Fail;
 
 /// The statements that declare what a database has.
 const DECLARED: &str = "SELECT type, name, sql FROM sqlite_schema ORDER BY name";
 
-/// The rows of a registry that has no schema.
+/// The rows of a registry.
 const ROWS: &str =
-    "SELECT 'kept' AS what, key || ' ' || status || ' ' || command AS name, body AS value FROM kept UNION ALL SELECT 'level', subject, level FROM levels UNION ALL SELECT 'meta', name, value FROM meta ORDER BY what, name";
+    "SELECT 'kept' AS what, key || ' ' || status || ' ' || command AS name, body AS value FROM kept UNION ALL SELECT 'level', subject, level FROM levels UNION ALL SELECT 'meta', name, value FROM meta UNION ALL SELECT 'text', '' || id, text FROM texts UNION ALL SELECT 'version', subject || ' ' || version, id || ' ' || deleted FROM versions ORDER BY what, name";
+
+/// The rows of the tables that layout 2 adds.
+const ADDED: &str =
+    "SELECT 'against' AS what, subject || ' ' || version || ' ' || position AS name, '' || id AS value FROM against UNION ALL SELECT 'evidence', subject || ' ' || version, level FROM evidence UNION ALL SELECT 'mode', subject, mode FROM modes ORDER BY what, name";
 
 /// What is kept.
 const KEPT: &str = "SELECT key, command, status || ' ' || body FROM kept ORDER BY key";
@@ -42,7 +43,8 @@ fn add_rows(text: &mut String, rows: &[Row]) -> Result<(), Fail> {
     Ok(())
 }
 
-/// What the database holds.
+/// What the database holds: what it declares, and the rows of a registry, each as a line. Nothing, if it
+/// is empty.
 ///
 /// # Errors
 ///
@@ -56,6 +58,8 @@ pub fn contents<S: Alter + Drop>(
     add_rows(&mut text, &declared)?;
     let rows = rows_of(alloc, connection, ROWS)?;
     add_rows(&mut text, &rows)?;
+    let added = rows_of(alloc, connection, ADDED)?;
+    add_rows(&mut text, &added)?;
     Ok(text)
 }
 
@@ -72,38 +76,4 @@ pub fn kept<S: Alter + Drop>(
     let rows = rows_of(alloc, connection, KEPT)?;
     add_rows(&mut text, &rows)?;
     Ok(text)
-}
-
-/// Looks at what a registry holds.
-#[derive(Drop)]
-struct Look {
-    held: String,
-}
-
-impl OnDatabase for Look {
-    fn work<S: Alter + Drop>(
-        &mut self,
-        alloc: Global,
-        connection: Connection<S>,
-    ) -> Result<Connection<S>, Fail> {
-        let mut connection = opened(alloc, connection)?.into_connection();
-        self.held = contents(alloc, &mut connection)?;
-        Ok(connection)
-    }
-}
-
-/// What the registry on a disk holds.
-///
-/// # Errors
-///
-/// A failed test, where its files can't be opened, or are no registry.
-pub fn found(alloc: Global, files: Files<Fuse<Memory>>) -> Result<String, Fail> {
-    let mut look = Look {
-        held: String::new(alloc),
-    };
-    let (_, closed) = on_disk(alloc, files, &mut look)?;
-    if !closed {
-        return Err("the files can't be opened".into());
-    }
-    Ok(look.held)
 }

@@ -1,12 +1,13 @@
-//! Deliveries that set levels and ask for them, with their answers.
+//! Deliveries with their answers.
 
+use crate::bodies::FAULT;
 use reg_core::{Command, Key, OutOfMemory, Reply, Subject, Text};
 use reg_service::{Delivery, Service};
 use sqlite::Alter;
 use std::alloc::Global;
 use std::test::Fail;
 
-/// What is asked: of the global level, or of a subject's.
+/// What is asked: of the global level, or of a subject.
 #[derive(Clone, Copy)]
 pub enum Ask {
     SetGlobal(&'static str),
@@ -14,6 +15,12 @@ pub enum Ask {
     Global,
     /// whether the global level stands in for it
     LevelOf(&'static str, bool),
+    /// the text of a schema
+    Register(&'static str, &'static str),
+    /// the number of a version
+    DeleteVersion(&'static str, &'static str),
+    /// whether for good
+    DeleteSubject(&'static str, bool),
 }
 
 /// A retry key, what is asked, and the status and the body of the answer.
@@ -45,6 +52,20 @@ fn command_of(alloc: Global, ask: Ask) -> Result<Command, OutOfMemory> {
         Ask::LevelOf(subject, default_to_global) => Ok(Command::LevelOf {
             subject: subject_of(alloc, subject)?,
             default_to_global,
+        }),
+        Ask::Register(subject, text) => Ok(Command::Register {
+            subject: subject_of(alloc, subject)?,
+            text: text_of(alloc, text)?,
+            supported: true,
+        }),
+        Ask::DeleteVersion(subject, version) => Ok(Command::DeleteVersion {
+            subject: subject_of(alloc, subject)?,
+            version: text_of(alloc, version)?,
+            permanent: false,
+        }),
+        Ask::DeleteSubject(subject, permanent) => Ok(Command::DeleteSubject {
+            subject: subject_of(alloc, subject)?,
+            permanent,
         }),
     }
 }
@@ -79,7 +100,24 @@ pub fn answer<S: Alter + Drop>(service: &mut Service<S>, delivery: &Delivery) ->
     service.answer(delivery)
 }
 
-/// What a service answers to each, without a promise.
+/// What a service answers to each, one call after the other.
+///
+/// # Errors
+///
+/// `OutOfMemory` where memory for the replies is refused.
+pub fn answers_in_turn<S: Alter + Drop>(
+    alloc: Global,
+    service: &mut Service<S>,
+    list: &[Delivery],
+) -> Result<Vec<Reply>, OutOfMemory> {
+    let mut replies = Vec::with_capacity(alloc, list.len())?;
+    for delivery in list {
+        replies.push(answer(service, delivery))?;
+    }
+    Ok(replies)
+}
+
+/// What a service answers to each in one run, without a promise.
 ///
 /// # Errors
 ///
@@ -102,6 +140,28 @@ pub fn is_answer(reply: &Reply, row: &Row) -> Result<(), Fail> {
     }
     let (status, body) = (reply.status(), reply.body());
     Err(Fail::new(format_args!("{status} {body}, and not {} {}", row.2, row.3)))
+}
+
+/// How many of the replies, from the first on, are the answers of their rows. Those behind have to be
+/// 50001.
+///
+/// # Errors
+///
+/// A failed test, where there is another reply.
+pub fn answered(replies: &[Reply], rows: &[Row]) -> Result<usize, Fail> {
+    if replies.len() != rows.len() {
+        return Err("there are more or fewer replies".into());
+    }
+    let is_fault = |reply: &Reply| reply.status() == 500;
+    let count = replies.iter().position(is_fault).unwrap_or(rows.len());
+    for (at, (reply, row)) in replies.iter().zip(rows).enumerate() {
+        if at < count {
+            is_answer(reply, row)?;
+        } else {
+            is_answer(reply, &(row.0, row.1, 500, FAULT))?;
+        }
+    }
+    Ok(count)
 }
 
 /// Delivers each row, and holds its reply to its answer.

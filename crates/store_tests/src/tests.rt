@@ -1,5 +1,7 @@
-//! What no clause says of stores: that with ample memory each call does its work, and what failing disks leave.
+//! What no clause says of stores: what failing disks leave, and how many steps look-ups take.
 
 mod faults;
+mod moving;
 mod plans;
+mod stops;
 mod stores;

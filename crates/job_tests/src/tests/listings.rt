@@ -46,6 +46,21 @@ fn asked(alloc: Global, requests: &[(&str, &str)]) -> Result<Connection<MemStore
     Ok(connection.ok_or("no connection came back")?)
 }
 
+/// Holds a listing of a registry to its text, and gives the connection back.
+fn is_listed(
+    rt: &(impl Abort + AllocGlobal),
+    connection: Connection<MemStore>,
+    kind: Listing,
+    text: &str,
+) -> Result<Connection<MemStore>, Fail> {
+    let mut written = Vec::new(rt.alloc());
+    let opened = Opened::Database(connection);
+    let (told, status, back) = list(rt.alloc(), opened, kind, &mut written)?;
+    assert_eq!(rt; str::from_utf8(written.as_slice()), Ok(text));
+    assert!(rt; told.is_empty() && status == 0);
+    Ok(back.ok_or("no connection came back")?)
+}
+
 /// Holds the listings of a registry, one after the other, to their texts.
 fn lists(
     rt: &(impl Abort + AllocGlobal),
@@ -53,13 +68,7 @@ fn lists(
     texts: [&str; 3],
 ) -> Result<(), Fail> {
     for (kind, text) in KINDS.into_iter().zip(texts) {
-        let mut written = Vec::new(rt.alloc());
-        let opened = Opened::Database(connection);
-        let (told, status, back) = list(rt.alloc(), opened, kind, &mut written)?;
-        assert_eq!(rt; str::from_utf8(written.as_slice()), Ok(text));
-        assert!(rt; told.is_empty());
-        assert_eq!(rt; status, 0);
-        connection = back.ok_or("no connection came back")?;
+        connection = is_listed(rt, connection, kind, text)?;
     }
     Ok(())
 }
@@ -111,40 +120,55 @@ const NOTHING: [&str; 3] = [
     "id,text\n",
 ];
 
+/// Asks a new registry, and holds its listings then to their texts.
+fn lists_what_was_asked(
+    rt: &(impl Abort + AllocGlobal),
+    requests: &[(&str, &str)],
+    texts: [&str; 3],
+) -> Result<(), Fail> {
+    let connection = asked(rt.alloc(), requests)?;
+    lists(rt, connection, texts)
+}
+
 #[test]
 fn a_registry_is_listed(rt: HostRuntime) -> Result<(), Fail> {
-    let alloc = rt.alloc();
-    lists(&rt, asked(alloc, &TWO_SUBJECTS.0)?, TWO_SUBJECTS.1)?;
+    let (requests, texts) = TWO_SUBJECTS;
+    lists_what_was_asked(&rt, &requests, texts)?;
     let (requests, texts) = DELETED_AND_REGISTERED_AGAIN;
-    lists(&rt, asked(alloc, &requests)?, texts)?;
-    lists(
-        &rt,
-        asked(alloc, &NAME_WITH_A_COMMA.0)?,
-        NAME_WITH_A_COMMA.1,
-    )?;
-    lists(&rt, asked(alloc, &[])?, NOTHING)
+    lists_what_was_asked(&rt, &requests, texts)?;
+    let (requests, texts) = NAME_WITH_A_COMMA;
+    lists_what_was_asked(&rt, &requests, texts)?;
+    lists_what_was_asked(&rt, &[], NOTHING)
+}
+
+/// A listing whose writer fails after so many bytes, and the connection that comes back.
+fn unwritten(
+    rt: &(impl Abort + AllocGlobal),
+    connection: Connection<MemStore>,
+    writes: usize,
+) -> Result<Connection<MemStore>, Fail> {
+    let mut writer = Failing {
+        taken: Vec::new(rt.alloc()),
+        writes,
+        takes_nothing: false,
+    };
+    let opened = Opened::Database(connection);
+    let (told, status, back) = list(rt.alloc(), opened, Listing::Subjects, &mut writer)?;
+    assert_eq!(rt;
+        str::from_utf8(told.as_slice()),
+        Ok("avroreg: write failed\n")
+    );
+    assert!(rt; writer.taken.len() == writes && status == 2);
+    Ok(back.ok_or("no connection came back")?)
 }
 
 /// The registry stays as it was.
 #[test]
 fn a_listing_that_is_not_written_is_told(rt: HostRuntime) -> Result<(), Fail> {
-    let alloc = rt.alloc();
     let (requests, texts) = DELETED_AND_REGISTERED_AGAIN;
+    let mut connection = asked(rt.alloc(), &requests)?;
     for writes in [0, 1, 26, 36] {
-        let mut writer = Failing {
-            taken: Vec::new(alloc),
-            writes,
-            takes_nothing: false,
-        };
-        let opened = Opened::Database(asked(alloc, &requests)?);
-        let (told, status, back) = list(alloc, opened, Listing::Subjects, &mut writer)?;
-        assert_eq!(rt; writer.taken.len(), writes);
-        assert_eq!(rt;
-            str::from_utf8(told.as_slice()),
-            Ok("avroreg: write failed\n")
-        );
-        assert_eq!(rt; status, 2);
-        lists(&rt, back.ok_or("no connection came back")?, texts)?;
+        connection = unwritten(&rt, connection, writes)?;
     }
-    Ok(())
+    lists(&rt, connection, texts)
 }

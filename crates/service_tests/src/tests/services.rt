@@ -5,9 +5,7 @@ use reg_service::{Delivery, Service};
 use reg_testing::bodies::{
     BACKWARD, FAULT, FORWARD, FORWARD_SET, FULL, FULL_SET, INVALID, NO_OWN, NONE, NONE_SET, REUSED,
 };
-use reg_testing::{
-    Ask, Row, answers, answers_each, deliveries_of, delivery_of, is_answer, new_service,
-};
+use reg_testing::{Ask, Row, answer, answers, deliveries_of, delivery_of, is_answer, new_service};
 use sqlite::MemStore;
 use std::alloc::Global;
 use std::process::Abort;
@@ -91,85 +89,81 @@ fn assert_same(rt: &impl Abort, replies: &[Reply], others: &[Reply]) {
     }
 }
 
-fn answers_all(rt: &impl Abort, alloc: Global, rows: &[Row]) -> Result<(), Fail> {
-    let mut service = new_service(alloc)?;
-    answers_each(alloc, &mut service, rows)?;
-    assert!(rt; !service.failed());
-    Ok(())
-}
-
-/// No contract refuses a service that answers 50001 to every delivery. This does: with ample memory
-/// each delivery has its answer, and each command a 200.
-#[test]
-fn every_delivery_fails(rt: HostRuntime) -> Result<(), Fail> {
-    answers_all(&rt, rt.alloc(), &ROWS)?;
-    answers_all(&rt, rt.alloc(), &SUBJECTS)
-}
-
-fn runs_all(rt: &impl Abort, alloc: Global, rows: &[Row]) -> Result<(), Fail> {
-    let mut service = new_service(alloc)?;
-    let replies = answers(&mut service, &deliveries_of(alloc, rows)?)?;
-    assert_eq!(rt; replies.len(), rows.len());
-    for (reply, row) in replies.iter().zip(rows) {
-        is_answer(reply, row)?;
-    }
-    Ok(())
-}
-
-#[test]
-fn run_answers_each_in_order(rt: HostRuntime) -> Result<(), Fail> {
-    runs_all(&rt, rt.alloc(), &ROWS)?;
-    runs_all(&rt, rt.alloc(), &SUBJECTS)
-}
-
 fn assert_fault(rt: &impl Abort, reply: &Reply) {
     assert_eq!(rt; reply.body(), FAULT);
 }
 
-fn answers_each_in_the_end(rt: &impl Abort, alloc: Global, rows: &[Row]) -> Result<(), Fail> {
-    let reads = reads(alloc)?;
-    let mut service = new_service(alloc)?;
-    for row in rows {
-        let delivery = delivery_of(alloc, row).or_else(|_| delivery_of(alloc, row))?;
-        let before = shown(&mut service, &reads)?;
-        let mut reply = service.answer(&delivery);
-        if reply.status() == 500 {
-            assert_fault(rt, &reply);
-            let after = shown(&mut service, &reads)?;
-            assert_same(rt, &after, &before);
-            reply = service.answer(&delivery);
-        }
-        is_answer(&reply, row)?;
+/// Delivers a row, and once more where it is answered 50001, which has changed nothing.
+fn is_answered(
+    rt: &impl Abort,
+    alloc: Global,
+    service: &mut Service<MemStore>,
+    row: &Row,
+    reads: &[Delivery],
+) -> Result<(), Fail> {
+    let delivery = delivery_of(alloc, row).or_else(|_| delivery_of(alloc, row))?;
+    let before = shown(service, reads)?;
+    let mut reply = answer(service, &delivery);
+    if reply.status() == 500 {
+        assert_fault(rt, &reply);
+        assert_same(rt, &shown(service, reads)?, &before);
+        reply = answer(service, &delivery);
     }
+    is_answer(&reply, row)
+}
+
+/// Delivers the rows.
+fn are_answered(
+    rt: &impl Abort,
+    alloc: Global,
+    service: &mut Service<MemStore>,
+    rows: &[Row],
+) -> Result<(), Fail> {
+    let reads = reads(alloc)?;
+    for row in rows {
+        is_answered(rt, alloc, service, row, &reads)?;
+    }
+    assert!(rt; !service.failed());
     Ok(())
 }
 
-/// Under `rt try --test --fail-alloc N`, for each N, at most one request for memory is refused. The
-/// delivery is then answered 50001 and has changed nothing: sent again, it gets its answer.
-#[test]
-fn refused_memory_changes_nothing(rt: HostRuntime) -> Result<(), Fail> {
-    answers_each_in_the_end(&rt, rt.alloc(), &ROWS[1..9])?;
-    answers_each_in_the_end(&rt, rt.alloc(), &SUBJECTS[2..9])
+/// The same over a new registry.
+fn answers_all(rt: &impl Abort, alloc: Global, rows: &[Row]) -> Result<(), Fail> {
+    let mut service = new_service(alloc)?;
+    are_answered(rt, alloc, &mut service, rows)
 }
 
-/// The same of `run`: where it gives up nothing was carried out, and where one delivery is answered
-/// 50001 the others get their answers.
+/// No contract refuses a service that answers 50001 to every delivery. This does: with ample memory
+/// each delivery has its answer, and each command a 200. Under `rt try --test --fail-alloc N`, for each
+/// N, at most one request for memory is refused. The delivery is then answered 50001 and has changed
+/// nothing: sent again, it gets its answer.
 #[test]
-fn refused_memory_loses_no_other_delivery(rt: HostRuntime) -> Result<(), Fail> {
-    let alloc = rt.alloc();
+fn every_delivery_is_answered(rt: HostRuntime) -> Result<(), Fail> {
+    answers_all(&rt, rt.alloc(), &ROWS)?;
+    answers_all(&rt, rt.alloc(), &SUBJECTS)
+}
+
+/// What a run over a service answers. Where it gives up, nothing was carried out, and it is tried again.
+fn replies(
+    rt: &impl Abort,
+    alloc: Global,
+    service: &mut Service<MemStore>,
+    list: &[Delivery],
+) -> Result<Vec<Reply>, Fail> {
     let reads = reads(alloc)?;
-    let rows = &ROWS[..9];
+    let before = shown(service, &reads)?;
+    if let Ok(replies) = answers(service, list) {
+        return Ok(replies);
+    }
+    assert_same(rt, &shown(service, &reads)?, &before);
+    Ok(answers(service, list)?)
+}
+
+/// Runs the rows over a new registry.
+fn runs_all(rt: &impl Abort, alloc: Global, rows: &[Row]) -> Result<(), Fail> {
     let list = deliveries_of(alloc, rows).or_else(|_| deliveries_of(alloc, rows))?;
     let mut service = new_service(alloc)?;
-    let before = shown(&mut service, &reads)?;
-    let replies = match answers(&mut service, &list) {
-        Ok(replies) => replies,
-        Err(_) => {
-            let after = shown(&mut service, &reads)?;
-            assert_same(&rt, &after, &before);
-            answers(&mut service, &list)?
-        }
-    };
+    let replies = replies(rt, alloc, &mut service, &list)?;
     assert_eq!(rt; replies.len(), rows.len());
     let refused = replies.iter().filter(|reply| reply.status() == 500);
     assert!(rt; refused.count() <= 1);
@@ -179,4 +173,11 @@ fn refused_memory_loses_no_other_delivery(rt: HostRuntime) -> Result<(), Fail> {
         }
     }
     Ok(())
+}
+
+/// The same of `run`: where one delivery is answered 50001 the others get their answers. None of these
+/// rests on a delivery before it that may have been refused.
+#[test]
+fn run_answers_each_in_order(rt: HostRuntime) -> Result<(), Fail> {
+    runs_all(&rt, rt.alloc(), &ROWS[..9])
 }

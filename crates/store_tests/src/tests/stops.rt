@@ -1,0 +1,273 @@
+//! A list of writes over a disk that stops at one of its calls, at each in turn: what is found
+//! afterwards is what was answered, with or without the write under way, and the whole list can be
+//! sent again.
+
+use super::faults::Fault;
+use reg_core::{OutOfMemory, Reply};
+use reg_service::Service;
+use reg_store::{Store, StoreError};
+use reg_testing::{
+    OnDatabase, Row, WRITES, answered, answers, answers_in_turn, contents, created, deliveries_of,
+    empty_disk, on_disk, opened,
+};
+use sqlite::{Alter, Connection, Files};
+use sqlite_disk::{Crash, Fuse, Memory};
+use std::alloc::Global;
+use std::process::Abort;
+use std::test::Fail;
+
+/// How writes are delivered.
+#[derive(Clone, Copy)]
+enum Way {
+    InTurn,
+    InOneRun,
+}
+
+/// What a service answers to writes.
+fn replies<S: Alter + Drop>(
+    alloc: Global,
+    service: &mut Service<S>,
+    way: Way,
+    rows: &[Row],
+) -> Result<Vec<Reply>, OutOfMemory> {
+    let list = deliveries_of(alloc, rows)?;
+    match way {
+        Way::InTurn => answers_in_turn(alloc, service, &list),
+        Way::InOneRun => answers(service, &list),
+    }
+}
+
+/// Makes a registry in an empty database, and delivers the writes to it until the disk fails.
+#[derive(Drop)]
+struct Stop {
+    way: Way,
+    /// One for the registry, and one for each write that was answered.
+    done: usize,
+}
+
+impl Stop {
+    /// Delivers the writes. Those behind a fault are answered 50001, and the service has failed.
+    fn deliver<S: Alter + Drop>(
+        &mut self,
+        alloc: Global,
+        service: &mut Service<S>,
+    ) -> Result<(), Fail> {
+        let replies = replies(alloc, service, self.way, &WRITES)?;
+        let count = answered(&replies, &WRITES)?;
+        if service.failed() != (count < WRITES.len()) {
+            return Err("another reply than the failed ones is 50001".into());
+        }
+        self.done = count.saturating_add(1);
+        Ok(())
+    }
+}
+
+impl OnDatabase for Stop {
+    fn work<S: Alter + Drop>(
+        &mut self,
+        alloc: Global,
+        connection: Connection<S>,
+    ) -> Result<Connection<S>, Fail> {
+        if !connection.is_autocommit() {
+            return Err("a transaction is open".into());
+        }
+        match Store::create(alloc, connection) {
+            Ok(store) => {
+                let mut service = Service::new(alloc, store);
+                let delivered = self.deliver(alloc, &mut service);
+                let connection = service.into_store().into_connection();
+                delivered?;
+                Ok(connection)
+            }
+            Err((StoreError::Disk, connection)) => Ok(connection),
+            Err((error, _)) => Err(error.into()),
+        }
+    }
+}
+
+/// Delivers so many of the writes to the registry that a database has, or to a new one where it is
+/// empty.
+#[derive(Drop)]
+struct Again {
+    way: Way,
+    count: usize,
+    /// What the database held before.
+    found: String,
+    /// What it holds then.
+    left: String,
+}
+
+impl Again {
+    /// Each is answered.
+    fn deliver<S: Alter + Drop>(
+        &mut self,
+        alloc: Global,
+        service: &mut Service<S>,
+    ) -> Result<(), Fail> {
+        let rows = WRITES.get(..self.count).ok_or("there are fewer writes")?;
+        let replies = replies(alloc, service, self.way, rows)?;
+        if answered(&replies, rows)? < rows.len() {
+            return Err("a write is answered 50001".into());
+        }
+        Ok(())
+    }
+}
+
+impl OnDatabase for Again {
+    fn work<S: Alter + Drop>(
+        &mut self,
+        alloc: Global,
+        mut connection: Connection<S>,
+    ) -> Result<Connection<S>, Fail> {
+        self.found = contents(alloc, &mut connection)?;
+        let store = if self.found.is_empty() {
+            created(alloc, connection)?
+        } else {
+            opened(alloc, connection)?
+        };
+        let mut service = Service::new(alloc, store);
+        let delivered = self.deliver(alloc, &mut service);
+        let mut connection = service.into_store().into_connection();
+        delivered?;
+        self.left = contents(alloc, &mut connection)?;
+        Ok(connection)
+    }
+}
+
+/// Delivers so many of the writes to what files hold.
+fn deliver(
+    alloc: Global,
+    files: Files<Fuse<Memory>>,
+    way: Way,
+    count: usize,
+) -> Result<Again, Fail> {
+    let mut task = Again {
+        way,
+        count,
+        found: String::new(alloc),
+        left: String::new(alloc),
+    };
+    let (_, closed) = on_disk(alloc, files, &mut task)?;
+    if !closed {
+        return Err("the files can't be opened".into());
+    }
+    Ok(task)
+}
+
+/// How many lines begin so.
+fn lines_with(text: &str, start: &str) -> usize {
+    text.lines().filter(|line| line.starts_with(start)).count()
+}
+
+/// What a database holds at first, once it has a registry, and after each of the writes.
+fn stages(rt: &impl Abort, alloc: Global) -> Result<Vec<String>, Fail> {
+    let mut stages = Vec::new(alloc);
+    stages.push(String::new(alloc))?;
+    for count in 0..=WRITES.len() {
+        stages.push(deliver(alloc, empty_disk(alloc), Way::InTurn, count)?.left)?;
+    }
+    let last = stages.last().ok_or("there is no stage")?;
+    for (start, count) in [
+        ("kept|", 8),
+        ("text|", 2),
+        ("version|", 0),
+        ("meta|global|FULL|", 1),
+    ] {
+        assert_eq!(rt; lines_with(last, start), count, "{start}");
+    }
+    Ok(stages)
+}
+
+impl Fault {
+    /// Stops after so many calls, holds what is found to the stages, and delivers all writes again. Tells whether
+    /// nothing failed.
+    fn is_whole(
+        self,
+        rt: &impl Abort,
+        alloc: Global,
+        way: Way,
+        calls: u64,
+        stages: &[String],
+    ) -> Result<bool, Fail> {
+        let mut stop = Stop { way, done: 0 };
+        let (files, closed) = on_disk(
+            alloc,
+            self.disk(alloc, &empty_disk(alloc), calls)?,
+            &mut stop,
+        )?;
+        let again = deliver(alloc, self.left(alloc, files)?, way, WRITES.len())?;
+        let rest = stages.get(stop.done..).ok_or("there are fewer stages")?;
+        let is_due = rest
+            .iter()
+            .take(2)
+            .any(|stage| stage.as_str() == again.found.as_str());
+        assert!(rt; is_due, "after {calls} calls: {}", again.found);
+        let is_last = stages
+            .last()
+            .is_some_and(|stage| stage.as_str() == again.left.as_str());
+        assert!(rt; is_last, "after {calls} calls: {}", again.left);
+        Ok(closed && rest.len() == 1)
+    }
+
+    /// Stops at each call in turn, until nothing stops.
+    fn stops_at_each(
+        self,
+        rt: &impl Abort,
+        alloc: Global,
+        way: Way,
+        stages: &[String],
+    ) -> Result<(), Fail> {
+        for calls in 0..1000 {
+            if self.is_whole(rt, alloc, way, calls, stages)? {
+                assert!(rt; 20 < calls, "{calls} calls");
+                return Ok(());
+            }
+        }
+        Err("it still stops at a thousand calls".into())
+    }
+
+    /// The same for each way to deliver the writes.
+    fn stops(self, rt: &impl Abort, alloc: Global) -> Result<(), Fail> {
+        let stages = stages(rt, alloc)?;
+        for way in [Way::InTurn, Way::InOneRun] {
+            self.stops_at_each(rt, alloc, way, &stages)?;
+        }
+        Ok(())
+    }
+}
+
+#[test]
+fn the_log_fails_and_the_process_dies(rt: HostRuntime) -> Result<(), Fail> {
+    let fault = Fault {
+        is_log: true,
+        is_crash: false,
+    };
+    fault.stops(&rt, rt.alloc())
+}
+
+#[test]
+fn the_log_fails_and_the_machine_stops(rt: HostRuntime) -> Result<(), Fail> {
+    let fault = Fault {
+        is_log: true,
+        is_crash: true,
+    };
+    fault.stops(&rt, rt.alloc())
+}
+
+#[test]
+fn the_database_fails_and_the_process_dies(rt: HostRuntime) -> Result<(), Fail> {
+    let fault = Fault {
+        is_log: false,
+        is_crash: false,
+    };
+    fault.stops(&rt, rt.alloc())
+}
+
+#[test]
+fn the_database_fails_and_the_machine_stops(rt: HostRuntime) -> Result<(), Fail> {
+    let fault = Fault {
+        is_log: false,
+        is_crash: true,
+    };
+    fault.stops(&rt, rt.alloc())
+}
