@@ -4,7 +4,7 @@
 # that didn't.
 #
 #   AVROREG=PROGRAM examples/all.sh [NAME]..     names as in the first column, none all
-#   WHOLE=1 examples/all.sh                      refused memory and failing disks to their end, in place of one session
+#   WHOLE=1 examples/all.sh                      refused memory and failing disks to their end, in place of one session or none
 #
 # On a machine that does much else hold_the_line may find that somebody waited too long.
 set -u
@@ -30,12 +30,15 @@ try() {
 
 sessions=(memory)
 [ -z "${WHOLE:-}" ] || sessions=(memory new old words)
+moves=(old many lines)
+[ -z "${WHOLE:-}" ] || moves=()
 faults=(env SEEDS=1 ./faults.sh new)
 [ -z "${WHOLE:-}" ] || faults=(./faults.sh)
 
 try first-hour "curl sqlite3" ./first-hour.sh
 try check-schemas "curl jq" check-schemas/try.sh
 try clients "curl python3-confluent-kafka python3-requests python3-avro golang-go golang-github-lensesio-schema-registry-dev" clients/run.sh
+try migrate "gcc libc6-dev python3" ./migrate.sh ${moves[@]+"${moves[@]}"}
 try from-confluent "curl python3 openssl" from-confluent/try.sh
 try hold_the_line "curl python3-confluent-kafka python3-requests python3-avro" ./hold_the_line.sh
 try kill "python3" python3 kill.py "$avroreg"

@@ -1,5 +1,6 @@
 #!/usr/bin/env bash
-# What a new user does first: a level, versions, a refusal, repeats with a retry key, a kill, a listing, SQL.
+# What a new user does first: a level, versions, a refusal, repeats with a retry key, a kill, a freeze, a
+# listing, SQL, a layout.
 # Prints each request and its answer, and ends with status 0 where each is as written here, else at the first
 # that isn't.
 #
@@ -94,6 +95,17 @@ title "Without the key it is a new request: the schema keeps its id and becomes 
 request '' POST /subjects/orders-value/versions "$second" 200 '{"id":2}'
 request '' GET /subjects/orders-value/versions '' 200 '[1,3]'
 
+title "The subject is frozen: a write under it is refused, and that is kept for its key"
+request '' PUT /mode/orders-value '{"mode":"READONLY"}' 200 '{"mode":"READONLY"}'
+request frozen-1 PUT /config/orders-value "{\"compatibility\":\"$level\"}" 422 \
+  '{"error_code":42205,"message":"Operation not permitted"}'
+
+title "It thaws: the key still gets its first answer, and without it the write acts"
+request '' PUT /mode/orders-value '{"mode":"READWRITE"}' 200 '{"mode":"READWRITE"}'
+request frozen-1 PUT /config/orders-value "{\"compatibility\":\"$level\"}" 422 \
+  '{"error_code":42205,"message":"Operation not permitted"}'
+request '' PUT /config/orders-value "{\"compatibility\":\"$level\"}" 200 "{\"compatibility\":\"$level\"}"
+
 title "The server is stopped, and the versions are listed as CSV"
 stop_server
 output 'subject,version,id,deleted
@@ -103,7 +115,11 @@ orders-value,3,2,false' "$avroreg" list --db "$file" versions
 
 title "The file is a SQLite database"
 output "orders-value|$level" sqlite3 "$file" 'SELECT subject, level FROM levels'
-output 'orders-2|200|{"id":2}' sqlite3 "$file" 'SELECT key, status, body FROM kept'
+output 'orders-2|200|{"id":2}
+frozen-1|422|{"error_code":42205,"message":"Operation not permitted"}' sqlite3 "$file" 'SELECT key, status, body FROM kept ORDER BY rowid'
 output 'ok' sqlite3 "$file" 'PRAGMA integrity_check'
+
+title "It has this program's layout, to which a file of an earlier program is moved"
+output 'layout 2: nothing to do' "$avroreg" migrate --db "$file"
 
 printf '\nAll %d steps went as written.\n' "$step"

@@ -20,7 +20,8 @@ until a flag says how to go on:
                    that no version has is then used up, as it is at FROM.
   --new-ids        gives new ids, and prints what each one becomes. Messages that were written with the old ones can't be
                    read by them any more.
-  --without-modes  leaves out modes that TO doesn't have, also where it has none at all: all is READWRITE there.
+  --without-modes  leaves out modes that avroreg doesn't have, as IMPORT: a subject that has one gets none of its own, and
+                   all are READWRITE where FROM has one for all.
 
 avroreg gives numbers and ids in order, so a gap in the numbers is made by what makes one: the next schema is registered,
 softly deleted, registered again, and the first one removed. All is written under the level NONE; levels and modes come last.
@@ -31,9 +32,9 @@ again with the same words: what was done is answered again, and acts no second t
 other flags are given, that can't go on, and needs another new file.
 
 A registry that somebody writes to is read as it was at one moment, and what comes later isn't moved: stop the writers
-before a move, or set FROM's mode to READONLY, which is moved too. Not seen over HTTP, so not moved: levels and modes of
-subjects without versions, what was kept for retry keys, schemas that no version has, and how many ids were given after the
-last that is seen.
+before a move, or set FROM's mode to READONLY. That is moved too: set TO's to READWRITE when all is there. Not seen over HTTP,
+so not moved: levels and modes of subjects without versions, what was kept for retry keys, schemas that no version has, and
+how many ids were given after the last that is seen.
 
 A password is taken from the environment: FROM_PASSWORD beside --from-user, TO_PASSWORD beside --to-user.
 
@@ -210,7 +211,7 @@ class Subject:
 class Registry:
     subjects: dict[str, Subject]
     level: str
-    mode: str | None  # None where it has no modes
+    mode: str | None  # None where it doesn't tell modes
     beside: tuple[str, ...] = ()
 
     def versions(self) -> Iterator[tuple[str, Version]]:
@@ -458,14 +459,14 @@ def taken_level(plan: Plan, where: str, level: str | None, beside: tuple[str, ..
     return None
 
 
-def taken_mode(plan: Plan, where: str, mode: str | None, has_modes: bool) -> str | None:
-    if mode is None or (mode in MODES and (has_modes or mode == "READWRITE")):
-        return mode if has_modes else None
+def taken_mode(plan: Plan, where: str, mode: str | None) -> str | None:
+    if mode is None or mode in MODES:
+        return mode
     plan.trouble(MODELESS, where, f"has the mode {mode}")
     return None
 
 
-def taken(plan: Plan, registry: Registry, refused: dict[str, str], has_modes: bool) -> Registry:
+def taken(plan: Plan, registry: Registry, refused: dict[str, str]) -> Registry:
     """What of a registry can be moved, by identity texts."""
     subjects = {}
     for name, subject in registry.subjects.items():
@@ -475,10 +476,9 @@ def taken(plan: Plan, registry: Registry, refused: dict[str, str], has_modes: bo
         versions = tuple(taken_versions(plan, name, subject, refused))
         if versions:
             level = taken_level(plan, name, subject.level, subject.beside)
-            subjects[name] = Subject(versions, level, taken_mode(plan, name, subject.mode, has_modes))
+            subjects[name] = Subject(versions, level, taken_mode(plan, name, subject.mode))
     level = taken_level(plan, "The registry", registry.level, registry.beside) or "BACKWARD"
-    mode = taken_mode(plan, "The registry", registry.mode, has_modes)
-    return Registry(subjects, level, mode or ("READWRITE" if has_modes else None))
+    return Registry(subjects, level, taken_mode(plan, "The registry", registry.mode) or "READWRITE")
 
 
 def look_at_twins(plan: Plan, registry: Registry):
@@ -575,8 +575,7 @@ def write_settings(plan: Plan, registry: Registry):
     for name, subject in registry.subjects.items():
         if subject.mode is not None:
             plan.put("mode", name, "mode", subject.mode)
-    if registry.mode is not None:
-        plan.put("mode", "", "mode", registry.mode)
+    plan.put("mode", "", "mode", registry.mode)
 
 
 def lay_out(plan: Plan, spare: str):
@@ -591,8 +590,7 @@ def lay_out(plan: Plan, spare: str):
 def plan_of(source: Registry, target: Server, spare: str, flags: argparse.Namespace) -> Plan:
     """What is moved and what stands against it, without its steps."""
     plan = Plan()
-    has_modes = target.offers("/mode")
-    registry = taken(plan, source, refusals(target, source, spare), has_modes)
+    registry = taken(plan, source, refusals(target, source, spare))
     if flags.new_ids:
         registry, plan.renumbered = renumber(registry)
     else:
@@ -618,9 +616,9 @@ def look_at_flags(plan: Plan, flags: argparse.Namespace):
 
 
 def look_at_keys(target: Server):
-    """Whether the target looks at retry keys: then one that is none is refused, and else a level that is none."""
+    """Whether the target looks at retry keys: then one that is none is refused, and else a level that is none, or all."""
     answer = target.ask("PUT", "/config", NO_LEVEL, "no key")
-    if answer.code == 42203:
+    if answer.code in (42203, 42205):
         raise Stop(CANNOT, f"{target.url} is no avroreg, or doesn't get the field Registry-Retry-Key")
     if answer.code != 40001:
         raise Stop(UNASKED, f"{target.url}/config: {answer}")
@@ -635,7 +633,7 @@ def look_at_target(target: Server, plan: Plan, source: str, run: str, dry: bool)
         elif target.ask("PUT", "/config", NO_LEVEL, plan.steps[0].key(source, run)).code != 42290:
             raise Stop(CANNOT, f"{target.url} isn't empty, and no run named {run} with these steps has begun there: "
                                "take a new file")
-    elif target.offers("/mode") and target.get("/mode")["mode"] != "READWRITE":
+    elif target.get("/mode")["mode"] != "READWRITE":
         raise Stop(CANNOT, f"{target.url} forbids writes by its mode")
 
 
@@ -696,7 +694,7 @@ def words() -> argparse.Namespace:
     ids = parser.add_mutually_exclusive_group()
     ids.add_argument(FILL, action="store_true", help="keeps ids that don't come by themselves")
     ids.add_argument(NEW, action="store_true", help="gives new ids")
-    parser.add_argument(MODELESS, action="store_true", help="leaves out modes that TO doesn't have")
+    parser.add_argument(MODELESS, action="store_true", help="leaves out modes that avroreg doesn't have")
     for side, name in (("from", "FROM"), ("to", "TO")):
         parser.add_argument(f"--{side}-user", metavar="USER", help=f"the user at {name}; {name}_PASSWORD has the password")
         parser.add_argument(f"--{side}-ca", metavar="FILE", help=f"the certificates by which {name} is known")

@@ -54,10 +54,10 @@ def send(producer, topic, value):
 
 
 def set_mode(url, subject, mode):
-    """Sets the mode of a subject, and gives whether this registry has modes."""
+    """Sets the mode of a subject, for which these clients have no call."""
     answer = requests.put(f"{url}/mode/{subject}", json={"mode": mode})
-    assert answer.status_code in (200, 404), answer.text
-    return answer.status_code == 200
+    same((200, {"mode": mode}), (answer.status_code, answer.json()))
+    same({"mode": mode}, requests.get(f"{url}/mode/{subject}").json())
 
 
 def client_of_today(url, prefix):
@@ -142,11 +142,19 @@ def client_that_registers_nothing(url, prefix):
             number = client.register(subject, first)
         same(number, client.check_registration(subject, first))
         fails("Incompatible Avro schema:409", client.register, subject, second)
-        if set_mode(url, subject, "READONLY"):
-            fails("Invalid Avro schema:422", client.register, subject, second)
-            with SchemaRegistryClient({"url": url}) as other:
-                refused(422, 42205, other.register_schema, subject, Schema(record(f"{prefix}Refund", ID, NOTE), "AVRO"))
+        set_mode(url, subject, "READONLY")
+        fails("Invalid Avro schema:422", client.register, subject, second)
+        with SchemaRegistryClient({"url": url}) as other:
+            third = Schema(record(f"{prefix}Refund", ID, NOTE), "AVRO")
+            refused(422, 42205, other.register_schema, subject, third)
+            refused(422, 42205, other.set_compatibility, subject, "NONE")
+            refused(422, 42205, other.delete_version, subject, 1)
+            refused(422, 42205, other.delete_subject, subject)
+            same(True, other.test_compatibility(subject, third))
+            same([1], other.get_versions(subject))
             set_mode(url, subject, "READWRITE")
+            other.register_schema(subject, third)
+            same([1, 2], other.get_versions(subject))
 
 
 def main():

@@ -59,7 +59,6 @@ class Comparison:
     def __init__(self, source, target, program, becomes):
         self.source, self.target, self.program, self.becomes = source, target, program, becomes
         self.is_exact = source.ask("/contexts")[0] == 404
-        self.has_modes = target.ask("/mode")[0] == 200
         self.asked = self.differing = 0
 
     def expected(self, value):
@@ -97,7 +96,7 @@ class Comparison:
             print(f"{path}: {first} at first, {second} here")
 
     def settings(self, name=""):
-        for kind in ["config", "mode"] if self.has_modes else ["config"]:
+        for kind in "config", "mode":
             path = f"/{kind}/{name}" if name else f"/{kind}"
             self.same(path)
             self.same(f"{path}?defaultToGlobal=true")
@@ -161,9 +160,7 @@ def main():
     comparison = Comparison(source, target, program, becomes)
     subjects = comparison.all()
     kind = "byte for byte" if comparison.is_exact else "by their meaning"
-    modes = "with modes" if comparison.has_modes else "without modes"
-    print(f"{subjects} subjects, {comparison.asked} requests to both, compared {kind}, {modes}: "
-          f"{comparison.differing} answers differ")
+    print(f"{subjects} subjects, {comparison.asked} requests to both, compared {kind}: {comparison.differing} answers differ")
     sys.exit(comparison.differing > 0)
 
 

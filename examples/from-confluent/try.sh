@@ -54,18 +54,16 @@ same() {
 
 # is_new URL: nothing was ever set or registered there.
 is_new() {
-  [ "$(curl -s "$1/subjects?deleted=true")$(curl -s "$1/config")" = '[]{"compatibilityLevel":"BACKWARD"}' ] ||
+  [ "$(curl -s "$1/subjects?deleted=true" "$1/config" "$1/mode")" = '[]{"compatibilityLevel":"BACKWARD"}{"mode":"READWRITE"}' ] ||
     fail "$1 was written to"
 }
 
 python3 "$here/identities.py" || fail "an identity text differs"
 start_server "$scratch/killed.db"
 first=$url
-modes=()
-[ "$(curl -s -o /dev/null -w '%{http_code}' "$url/mode")" != 200 ] || modes=(--modes)
 
 echo "A registry as it is, by a mover that is killed five times"
-stand_in ${modes[@]+"${modes[@]}"}
+stand_in --modes
 move 0 --dry-run "$source" "$url"
 cat "$scratch/moved"
 is_new "$url"
@@ -92,6 +90,7 @@ echo "and $(grep -c -e '^Ids\? ' -e ' stands behind id ' "$scratch/moved") lines
 is_new "$url"
 move 1 --skip --without-modes "$source" "$url"
 move 1 --fill-ids --without-modes "$source" "$url"
+move 1 --skip --fill-ids "$source" "$url"
 is_new "$url"
 move 0 --skip --fill-ids --without-modes "$source" "$url"
 tail -n 1 "$scratch/moved"
@@ -124,20 +123,31 @@ FROM_PASSWORD='s3 cret' move 0 --from-ca "$scratch/certificate" --from-user read
 tail -n 1 "$scratch/moved"
 same "$rest" "$url" "$avroreg"
 
-printf '\nA copy of an avroreg that runs, and has lost versions since\n'
+printf '\nA copy of an avroreg that runs, and has lost versions and was frozen since\n'
+# write STATUS METHOD URL [BODY]: a write that gets this status.
 write() {
-  [ "$(curl -s -o /dev/null -w '%{http_code}' -X "$1" "$first$2" ${3:+-d "$3"})" = 200 ] || fail "$1 $2 was refused"
+  local found
+  found=$(curl -s -o /dev/null -w '%{http_code}' -X "$2" "$3" ${4:+-d "$4"})
+  [ "$found" = "$1" ] || fail "$2 $3 was answered $found"
 }
-[ ${#modes[@]} = 0 ] || write PUT /mode '{"mode":"READWRITE"}'
-write DELETE /subjects/topic-12-value
-write DELETE /subjects/topic-12-value?permanent=true
-write PUT /config/topic-13-value '{"compatibility":"NONE"}'
-write POST /subjects/topic-13-value/versions '{"schema":"{\"type\":\"fixed\",\"name\":\"Late\",\"size\":1}"}'
-write DELETE /subjects/topic-13-value/versions/latest
-write DELETE /subjects/topic-13-value/versions/latest?permanent=true
-write POST /subjects/topic-14-value%2Fnew/versions '{"schema":"{\"type\":\"fixed\",\"name\":\"Later\",\"size\":1}"}'
+write 422 DELETE "$first/subjects/topic-12-value"
+write 200 PUT "$first/mode" '{"mode":"READWRITE"}'
+write 200 DELETE "$first/subjects/topic-12-value"
+write 200 DELETE "$first/subjects/topic-12-value?permanent=true"
+write 200 PUT "$first/config/topic-13-value" '{"compatibility":"NONE"}'
+write 200 POST "$first/subjects/topic-13-value/versions" '{"schema":"{\"type\":\"fixed\",\"name\":\"Late\",\"size\":1}"}'
+write 200 DELETE "$first/subjects/topic-13-value/versions/latest"
+write 200 DELETE "$first/subjects/topic-13-value/versions/latest?permanent=true"
+write 200 POST "$first/subjects/topic-14-value%2Fnew/versions" '{"schema":"{\"type\":\"fixed\",\"name\":\"Later\",\"size\":1}"}'
+write 200 PUT "$first/mode/topic-15-value" '{"mode":"READONLY"}'
+write 200 PUT "$first/mode" '{"mode":"READONLY"}'
 start_server "$scratch/copy.db"
+write 200 PUT "$url/mode" '{"mode":"READONLY"}'
+move 1 --fill-ids "$first" "$url"
+tail -n 1 "$scratch/moved"
+write 200 PUT "$url/mode" '{"mode":"READWRITE"}'
 move 1 "$first" "$url"
+is_new "$url"
 move 0 --fill-ids "$first" "$url"
 tail -n 1 "$scratch/moved"
 same "$first" "$url" "$avroreg"

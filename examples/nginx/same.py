@@ -27,6 +27,10 @@ def level(text):
     return json.dumps({"compatibility": text}).encode()
 
 
+def mode(text):
+    return json.dumps({"mode": text}).encode()
+
+
 REQUESTS = [
     ("GET", "/subjects", {}, None),
     ("GET", "/config", {}, None),
@@ -65,6 +69,20 @@ REQUESTS = [
     ("GET", "/subjects/", {}, None),
     ("GET", "/", {}, None),
     ("GET", "/mode", {}, None),
+    ("PUT", "/mode", {}, mode("READONLY")),
+    ("GET", "/mode", {}, None),
+    ("PUT", "/mode/orders", {KEY: "m1"}, mode("READWRITE")),
+    ("GET", "/mode/orders", {}, None),
+    ("GET", "/mode/a%2Fb%20%C3%BC+c", {}, None),
+    ("GET", "/mode/a%2Fb%20%C3%BC+c?defaultToGlobal=true", {}, None),
+    ("POST", "/subjects/a%2Fb%20%C3%BC+c/versions", {KEY: "m2"}, schema('"int"')),
+    ("DELETE", "/subjects/a%2Fb%20%C3%BC+c", {}, None),
+    ("PUT", "/config/orders", {}, level("FULL")),
+    ("PUT", "/config", {}, level("FULL")),
+    ("PUT", "/mode", {}, mode("IMPORT")),
+    ("PUT", "/mode", {}, mode("READWRITE")),
+    ("POST", "/subjects/a%2Fb%20%C3%BC+c/versions", {KEY: "m2"}, schema('"int"')),
+    ("DELETE", "/mode", {}, None),
     ("GET", "/subjects/%FF/versions", {}, None),
     ("DELETE", VERSIONS + "/2", {KEY: "k5"}, None),
     ("DELETE", VERSIONS + "/2", {KEY: "k5"}, None),

@@ -34,12 +34,14 @@ for origin in http://example.org "${own/http/https}" "$own.example.org" "${own/:
   page 403 "$origin" POST /subjects/pages/versions "$schema"
   page 403 "$origin" POST /subjects/pages "$schema"
   page 403 "$origin" PUT /config '{"compatibility":"NONE"}'
+  page 403 "$origin" PUT /mode '{"mode":"READONLY"}'
   page 403 "$origin" DELETE /subjects/pages
   page 200 "$origin" GET /config
   page 404 "$origin" GET /subjects/pages/versions
 done
 page 200 "$own" POST /subjects/pages/versions "$schema"
 page 200 "$own" PUT /config/pages '{"compatibility":"FULL"}'
+page 200 "$own" PUT /mode/pages '{"mode":"READWRITE"}'
 page 200 "$own" GET /subjects/pages/versions
 page 200 "$own" DELETE /subjects/pages
 echo "writes of pages of five other origins: 403; of its own: 200"

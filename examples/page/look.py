@@ -177,9 +177,15 @@ class Page:
     def button(self, words, within=""):
         return self.until(lambda: [each for each in self.all(f"{within} button") if each.text == words], what=f"no button {words}")[0]
 
-    def message(self, kind, words):
+    def choose(self, selector, value):
+        """Sets what a box of choices is for."""
+        self.run("arguments[0].value = arguments[1]", self.one(selector), value)
+        self.one(f"{selector} + button").click()
+
+    def message(self, kind, words, within=""):
         """Waits for a message of the kind that has the words."""
-        return self.until(lambda: [text for text in self.texts(f".message.{kind}") if words in text], what=f"no {kind} {words}")[0]
+        return self.until(lambda: [text for text in self.texts(f"{within} .message.{kind}") if words in text],
+                          what=f"no {kind} {words}")[0]
 
     def shot(self, name):
         """Screenshots at both widths, light and dark; no view is wider than its window, and each text has contrast."""
@@ -293,8 +299,8 @@ def look_at_subjects(page, registry):
     assert len(wanted) == SUBJECTS and f"{SUBJECTS:,} subjects" in page.text(".told"), page.text(".told")
     names = page.texts(".subjects tbody th a")
     assert 30 < len(names) <= 200 and names == wanted[:len(names)], names
-    level, filled = registry.get("/config")["compatibilityLevel"], 0
-    for name, (latest, schema, shown_level) in zip(names, page.run("""return [...document.querySelectorAll('.subjects tbody tr')]
+    level, mode, filled = registry.get("/config")["compatibilityLevel"], registry.get("/mode")["mode"], 0
+    for name, (latest, schema, shown_level, shown_mode) in zip(names, page.run("""return [...document.querySelectorAll('.subjects tbody tr')]
         .map((row) => [...row.querySelectorAll('td')].map((cell) => cell.textContent))""")):
         if latest == "…":
             continue
@@ -302,6 +308,8 @@ def look_at_subjects(page, registry):
         assert (latest, schema) == (f"{found['version']} id {found['id']}", type_text(json.loads(found["schema"]))), (name, latest, schema)
         status, own = registry.ask("GET", path("config", name))
         assert shown_level == (own["compatibilityLevel"] if status == 200 else level), (name, shown_level)
+        status, own = registry.ask("GET", path("mode", name))
+        assert shown_mode == (own["mode"] if status == 200 else mode), (name, shown_mode)
         filled += 1
     assert filled >= 15, filled
     page.shot("subjects")
@@ -472,13 +480,11 @@ def try_new_versions(page, registry, server):
     page.shot("registered")
     print("a schema is checked, refused with code and message, and registered; a double click sends one request")
 
-    page.run("document.querySelector('#config-own').value = 'NONE'")
-    page.button("Set").click()
+    page.choose("#config-own", "NONE")
     assert page.message("good", "Level is NONE.")
     assert registry.get("/config/orders") == {"compatibilityLevel": "NONE"}
     page.open()
-    page.run("document.querySelector('#config-all').value = 'FORWARD'")
-    page.button("Set").click()
+    page.choose("#config-all", "FORWARD")
     assert page.message("good", "Level is FORWARD.")
     assert registry.get("/config") == {"compatibilityLevel": "FORWARD"}
     print("the level of a subject and of all is changed")
@@ -553,7 +559,7 @@ def try_deletions(page, registry):
 
 
 def try_keyboard(page, registry):
-    """All by the keyboard: a new subject, a second version, a fold, a comparison, a level, a deletion."""
+    """All by the keyboard: a new subject, a second version, a fold, a comparison, a level, a mode, a deletion."""
     page.open()
     page.press_at("at.textContent === 'New subject'", Keys.ENTER)
     page.until(lambda: page.texts("h1") == ["New subject"])
@@ -580,6 +586,11 @@ def try_keyboard(page, registry):
     page.press_at("at.textContent === 'Set'", Keys.ENTER)
     page.message("good", "Level is NONE.")
     assert registry.get("/config/keys") == {"compatibilityLevel": "NONE"}
+    for key, mode in ((Keys.END, "READONLY"), (Keys.HOME, "READWRITE")):
+        page.press_at("at.id === 'mode-own'", key)
+        page.press_at("at.textContent === 'Set'", Keys.ENTER)
+        page.message("good", f"Mode is {mode}.")
+        assert registry.get("/mode/keys") == {"mode": mode}
     page.press_at("at.textContent === 'Delete subject…'", Keys.ENTER)
     page.press_at("at.textContent === 'Delete'", Keys.ENTER)
     page.message("good", "Deleted keys softly.")
@@ -595,22 +606,66 @@ def try_keyboard(page, registry):
     print("all of that by the keyboard alone, the focus always to be seen")
 
 
-def try_modes(page, port):
-    """Without modes the page asks for them once and shows none; with them it shows and sets them."""
-    asked = [line for line in page.lines() if line.endswith("/mode")]
-    loads = [line for line in page.lines() if line.endswith(" GET /page/")]
-    assert asked and set(asked) == {"404 GET /mode"} and len(asked) <= len(loads), (asked, loads)
-    assert not page.all("[id^=mode-]")
-    origin, page.origin = page.origin, f"http://127.0.0.1:{port}"
+def try_modes(page, registry):
+    """Modes, a subject's own and that of all, shown and set; and what READONLY forbids, each with its code and message."""
+    def forbidden(within):
+        assert page.message("bad", "42205 Operation not permitted.", within)
+
+    other = "a/b?c#d%e&f=g+h"
+    page.open(subject=HOSTILE)
+    page.choose("#mode-own", "READONLY")
+    assert "Sent once" in page.message("good", "Mode is READONLY.")
+    assert registry.get(path("mode", HOSTILE)) == {"mode": "READONLY"} and registry.get("/mode") == {"mode": "READWRITE"}
+    page.choose("#config-own", "NONE")
+    forbidden("form:has(#config-own)")
+    page.one("#new-schema").send_keys(json.dumps(ORDERS[0]))
+    page.button("Check").click()
+    assert page.message("bad", "doesn't admit it.", ".new")
+    page.button("Register").click()
+    forbidden(".new")
+    page.run("arguments[0].append(new Option('IMPORT'))", page.one("#mode-own"))
+    page.choose("#mode-own", "IMPORT")
+    assert page.message("bad", "42204 Invalid mode.", "form:has(#mode-own)")
+    for what in "version", "subject":
+        page.run("document.querySelector('main > .message')?.remove()")
+        page.button(f"Delete {what}…").click()
+        page.button("Delete", "dialog").click()
+        forbidden("main >")
+    page.shot("frozen")
+    assert registry.get(path("subjects", HOSTILE, "versions")) == [1]
+    page.open(subject=HOSTILE)
+    assert page.run("return document.querySelector('#mode-own').value") == "READONLY"
+    page.choose("#mode-own", "READWRITE")
+    assert page.message("good", "Mode is READWRITE.")
+    page.choose("#config-own", "NONE")
+    assert page.message("good", "Level is NONE.")
+
     page.open()
-    assert page.text(".subjects thead") == "SubjectLatestSchemaLevelMode"
-    assert page.texts(".subjects tbody td")[3] == "READWRITE"
-    page.run("document.querySelector('#mode-all').value = 'READONLY'")
-    page.one("#mode-all + button").click()
-    assert page.message("good", "Mode is READONLY.")
+    page.choose("#mode-all", "READONLY")
+    assert page.message("good", "Mode is READONLY.") and registry.get("/mode") == {"mode": "READONLY"}
+    page.choose("#config-all", "FULL")
+    forbidden("form:has(#config-all)")
+    page.settle()
+    shown = page.run("""return [...document.querySelectorAll('.subjects tbody tr')].slice(0, 2).map((row) =>
+      [row.cells[0].textContent, row.cells[4].textContent, row.cells[4].firstChild.className])""")
+    assert shown == [[HOSTILE, "READWRITE", "own"], [other, "READONLY", "faint"]], shown
     page.shot("modes")
-    page.origin = origin
-    print("modes: none where /mode is 404, else shown and set (by a stand-in)")
+    page.open(subject=other)
+    assert page.text("#mode-own option:checked") == "READONLY, as all"
+    page.choose("#config-own", "NONE")
+    forbidden("form:has(#config-own)")
+    page.open(subject=HOSTILE)
+    page.choose("#config-own", "FULL")
+    assert page.message("good", "Level is FULL.")
+    page.open(new="")
+    page.one("#new-subject").send_keys("thawed")
+    page.one("#new-schema").send_keys('"int"')
+    page.button("Register").click()
+    forbidden(".new")
+    assert registry.ask("PUT", "/mode", {"mode": "READWRITE"})[0] == 200
+    page.button("Register").click()
+    assert page.message("good", "Version 1 of thawed has this schema")
+    print("modes of a subject and of all: shown and set; what READONLY forbids is refused with its code, and done once it thaws")
 
 
 def look_at_nothing(page, registry):
@@ -625,7 +680,7 @@ def look_at_nothing(page, registry):
 
 def main():
     parser = argparse.ArgumentParser()
-    for name in ("registry", "server", "page", "modes"):
+    for name in ("registry", "server", "page"):
         parser.add_argument(f"--{name}", type=int, required=True)
     for name in ("log", "shots"):
         parser.add_argument(f"--{name}", required=True)
@@ -645,7 +700,7 @@ def main():
         try_lost_answers(page, registry, given.server)
         try_deletions(page, registry)
         try_keyboard(page, registry)
-        try_modes(page, given.modes)
+        try_modes(page, registry)
         look_at_nothing(page, registry)
         told = [entry for entry in page.driver.get_log("browser") if "Failed to load resource" not in entry["message"]]
         assert not told, told

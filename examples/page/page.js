@@ -9,6 +9,10 @@ const LEVEL = {
   values: ["BACKWARD", "BACKWARD_TRANSITIVE", "FORWARD", "FORWARD_TRANSITIVE", "FULL", "FULL_TRANSITIVE", "NONE"],
 };
 const MODE = { name: "Mode", place: "mode", answered: "mode", sent: "mode", values: ["READWRITE", "READONLY"] };
+const SETTINGS = [LEVEL, MODE];
+
+/** The code of what a mode forbids. */
+const FORBIDDEN = 42205;
 
 // ---- Requests ----
 
@@ -99,42 +103,20 @@ const writes = (() => {
   return { write };
 })();
 
-/** Levels, and modes where the registry has them. */
-const settings = (() => {
-  let served;
+/** The value of each setting for all subjects. */
+async function globalSettings() {
+  return Promise.all(SETTINGS.map(async (setting) => (await read(pathOf(setting.place)))[setting.answered]));
+}
 
-  async function whichAreServed() {
-    try {
-      return (await readOr(null, pathOf(MODE.place))) ? [LEVEL, MODE] : [LEVEL];
-    } catch (fault) {
-      served = undefined;
-      throw fault;
-    }
-  }
-
-  /** The settings that the registry serves; it is asked once. */
-  function all() {
-    served ??= whichAreServed();
-    return served;
-  }
-
-  /** The value of each setting for all subjects. */
-  async function global() {
-    return Promise.all((await all()).map(async (setting) => (await read(pathOf(setting.place)))[setting.answered]));
-  }
-
-  /** Of each setting its value for a subject, and whether it is the subject's own. */
-  async function ofSubject(subject, globals) {
-    return Promise.all(
-      (await all()).map(async (setting, at) => {
-        const own = await readOr(null, pathOf(setting.place, subject));
-        return { setting, value: own ? own[setting.answered] : globals[at], isOwn: own !== null };
-      }),
-    );
-  }
-
-  return { all, global, ofSubject };
-})();
+/** Of each setting its value for a subject, and whether it is the subject's own. */
+async function settingsOf(subject, globals) {
+  return Promise.all(
+    SETTINGS.map(async (setting, at) => {
+      const own = await readOr(null, pathOf(setting.place, subject));
+      return { setting, value: own ? own[setting.answered] : globals[at], isOwn: own !== null };
+    }),
+  );
+}
 
 // ---- Schemas ----
 
@@ -265,7 +247,8 @@ function message(kind, ...content) {
 function faultMessage(fault) {
   const code = fault.code ? element("b", {}, String(fault.code)) : null;
   const text = fault instanceof Fault ? fault.message : `The page failed: ${fault.message}`;
-  if (!fault.isOpen || !fault.key) return message("bad", code, code && " ", text, ".");
+  const why = fault.code === FORBIDDEN && element("small", {}, " The mode READONLY forbids it.");
+  if (!fault.isOpen || !fault.key) return message("bad", code, code && " ", text, ".", why);
   return message(
     "open", code, code && " ", text,
     `. Whether this acted is open. Send it again: it goes out under the same retry key, ${fault.key}, and acts once.`,
@@ -332,7 +315,7 @@ function settingForm(setting, { value, isOwn }, subject) {
   }
   const outcome = element("div", { class: "outcome" });
   const form = element("form", { class: "setting" },
-    element("label", { for: id }, subject === undefined ? `${setting.name} of all subjects` : setting.name),
+    element("label", { for: id }, subject === undefined ? `${setting.name} of all` : setting.name),
     chosen, button("Set", { type: "submit" }), outcome);
   form.addEventListener("submit", (event) => {
     event.preventDefault();
@@ -477,6 +460,7 @@ function newSchemaForm(subject, level) {
 
 // ---- The subjects ----
 
+const COLUMNS = ["Subject", "Latest", "Schema", ...SETTINGS.map((setting) => setting.name)];
 const ROWS_AT_ONCE = 200;
 const ASKED_AT_ONCE = 4;
 
@@ -515,18 +499,18 @@ function fillerInView() {
   return { watch };
 }
 
-function subjectRow(subject, isDeleted, shownSettings) {
+function subjectRow(subject, isDeleted) {
   return element("tr", { class: isDeleted && "deleted" },
     element("th", { scope: "row" }, element("a", { href: address({ subject }) }, subject),
       isDeleted && [" ", element("span", { class: "tag" }, "soft-deleted")]),
-    ["Latest", "Schema", ...shownSettings.map((setting) => setting.name)].map((name) => element("td", { "data-name": name }, "…")));
+    COLUMNS.slice(1).map((name) => element("td", { "data-name": name }, "…")));
 }
 
 async function fillRow(row, subject, isDeleted, globals) {
   const [latest, schema, ...values] = row.querySelectorAll("td");
   try {
     const version = pathOf("subjects", subject, "versions", "latest") + (isDeleted ? "?deleted=true" : "");
-    const [found, own] = await Promise.all([read(version), settings.ofSubject(subject, globals)]);
+    const [found, own] = await Promise.all([read(version), settingsOf(subject, globals)]);
     latest.replaceChildren(`${found.version}`, element("span", { class: "faint" }, ` id ${found.id}`));
     schema.replaceChildren(element("code", {}, typeText(schemaOf(found.schema))));
     own.forEach(({ value, isOwn }, at) => values[at].replaceChildren(element("span", { class: isOwn ? "own" : "faint" }, value)));
@@ -549,8 +533,8 @@ function deletedSwitch() {
 }
 
 async function subjectsView() {
-  const [live, all, globals, shownSettings] = await Promise.all([
-    read("/subjects"), choices.deleted ? read("/subjects?deleted=true") : null, settings.global(), settings.all(),
+  const [live, all, globals] = await Promise.all([
+    read("/subjects"), choices.deleted ? read("/subjects?deleted=true") : null, globalSettings(),
   ]);
   const isLive = new Set(live);
   const subjects = all ?? live;
@@ -565,7 +549,7 @@ async function subjectsView() {
 
   function rowOf(subject) {
     if (!rows.has(subject)) {
-      const row = subjectRow(subject, !isLive.has(subject), shownSettings);
+      const row = subjectRow(subject, !isLive.has(subject));
       rows.set(subject, row);
       filler.watch(row, () => fillRow(row, subject, !isLive.has(subject), globals));
     }
@@ -596,15 +580,14 @@ async function subjectsView() {
   search.value = choices.search;
   search.addEventListener("input", draw);
   draw();
-  const forms = shownSettings.map((setting, at) => settingForm(setting, { value: globals[at], isOwn: true }));
+  const forms = SETTINGS.map((setting, at) => settingForm(setting, { value: globals[at], isOwn: true }));
   const none = element("p", { class: "empty" }, "There are no subjects yet. ", element("a", { href: "#new=" }, "Register the first schema"), ".");
   return [
     element("h1", { tabindex: -1 }, "Subjects"),
     element("div", { class: "bar" }, search, deletedSwitch(), element("div", { class: "settings" }, forms)),
     subjects.length ? told : none,
     subjects.length > 0 && element("table", { class: "subjects" },
-      element("thead", {}, element("tr", {},
-        ["Subject", "Latest", "Schema", ...shownSettings.map((setting) => setting.name)].map((name) => element("th", { scope: "col" }, name)))),
+      element("thead", {}, element("tr", {}, COLUMNS.map((name) => element("th", { scope: "col" }, name)))),
       body),
     rest,
   ];
@@ -639,7 +622,7 @@ function deleteVersionButton(subject, version, isLive, isLast) {
 function deleteSubjectButton(subject, live, all) {
   const consequence = live.length
     ? `This deletes ${count(live.length, "version")}, and the subject has no level of its own any more. Schemas are still found by their ids.`
-    : `This deletes ${count(all.length, "version")}. They can't be brought back.`;
+    : `This deletes ${count(all.length, "version")}, which can't be brought back, and the subject's own mode.`;
   return button(live.length ? "Delete subject…" : "Delete subject for good…", {
     id: "delete-subject",
     onclick: () => remove(pathOf("subjects", subject), { what: subject, consequence, isForGood: live.length === 0, isLast: true }),
@@ -672,8 +655,8 @@ async function versionPart(subject, version, { versions, live, all }, { view, ag
 async function subjectView(parameters) {
   const { subject } = parameters;
   const path = pathOf("subjects", subject, "versions");
-  const [all, live, globals] = await Promise.all([read(path + "?deleted=true"), readOr([], path), settings.global()]);
-  const own = await settings.ofSubject(subject, globals);
+  const [all, live, globals] = await Promise.all([read(path + "?deleted=true"), readOr([], path), globalSettings()]);
+  const own = await settingsOf(subject, globals);
   const versions = choices.deleted || live.length === 0 ? all : live;
   const version = all.includes(Number(parameters.version)) ? Number(parameters.version) : versions.at(-1);
   const item = (number) => element("li", {}, element("a", {

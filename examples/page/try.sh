@@ -16,25 +16,8 @@ cp "$here"/index.html "$here"/page.css "$here"/page.js "$scratch/page/"
 sed "s,/usr/local/share/avroreg/page,$scratch/page," "$here/page.conf" >"$scratch/page.conf"
 with_page="s,^    location / {,    include $scratch/page.conf;\n&,; s,\(proxy_read_timeout *\)60s,\110s,"
 
-# What a registry with modes would answer, for the page is ready for them.
-cat >"$scratch/modes.conf" <<'CONF'
-location /mode {
-    default_type application/vnd.schemaregistry.v1+json;
-    if ($request_method = PUT) {
-        return 200 '{"mode":"READONLY"}';
-    }
-    return 200 '{"mode":"READWRITE"}';
-}
-location /mode/ {
-    default_type application/vnd.schemaregistry.v1+json;
-    return 404 '{"error_code":40409,"message":"Subject has no mode of its own"}';
-}
-CONF
-
 start_server "$scratch/page.db"
 start_nginx front "${url##*:}" "$with_page"
-page=$front
-start_nginx modes "${url##*:}" "$with_page; s,^    merge_slashes .*,&\n    include $scratch/modes.conf;,"
-/usr/bin/python3 -u "$here/look.py" --registry "${url##*:}" --server "$server" --page "$page" --modes "$front" \
+/usr/bin/python3 -u "$here/look.py" --registry "${url##*:}" --server "$server" --page "$front" \
   --log "$scratch/front/access.log" --shots "$shots" || fail "the page isn't as it has to be"
 echo "screenshots: $shots"
