@@ -27,7 +27,7 @@ NEW = ("modes", "evidence", "against")
 NOTHING_TO_DO = "layout 2: nothing to do\n"
 OLD_LAYOUT = "avroreg: F has layout 1, run migrate\n"
 MEMORY = (2, b"", b"avroreg: out of memory\n")
-KILLED = (-signal.SIGKILL, b"", b"")
+KILLED = -signal.SIGKILL
 
 # Each way in which a call to the disk fails, with seeds of what is lost, or with nothing lost.
 WAYS = {"error": (None,), "once": (None,), "full": (None,), "kill": range(int(os.environ.get("SEEDS", "5")))}
@@ -236,7 +236,7 @@ def either(where, folder, before, moved, has_to=False):
 
 
 def each_call(name, environment, tries_of, dues):
-    """Makes a run that only counts, and then one for each try, which may end so."""
+    """Makes a run that only counts, and then one for each try, which may end so. Once the line is printed, the file is moved."""
     with scratch() as folder:
         written(folder, "F", SMALL())
         before = tables(folder, "F")
@@ -256,7 +256,7 @@ def each_call(name, environment, tries_of, dues):
                 differs(f"{tried}: the end", dues, came)
             if os.path.exists(f"{folder}/count"):
                 os.remove(f"{folder}/count")
-            either(str(tried), folder, before, moved, came == done)
+            either(str(tried), folder, before, moved, came[1] == done[1])
             return came == done
 
     tries = [(it,) for it in tries_of(calls)]
@@ -278,7 +278,7 @@ def stops():
                     yield {"FAULT": f"{kind}:{nth}"} | ({} if seed is None else {"FAULT_SEED": str(seed)})
 
     each_call("FAULT", lambda tried: {"LD_PRELOAD": os.environ["FAULTS"], **tried}, tries_of,
-              [(2, b"", b"avroreg: cannot open F\n"), KILLED])
+              [(2, b"", b"avroreg: cannot open F\n"), *((KILLED, told, b"") for told in (b"", kept_line(3).encode()))])
 
 
 KINDS = {"old": old, "many": many, "lines": lines, "memory": memory, "stops": stops}
