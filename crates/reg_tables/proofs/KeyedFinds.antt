@@ -71,3 +71,8 @@ find_fault sql old new end is_readable e params why can = elim (cases_Bool old.i
       known_list_fault {Known = λ s. ⊥} {Holds = λ db. ⊥} (λ db none. none) (record { sql = sql; tree = 0; tests = []; shown = []; names = []; order = []; limit = all_rows }) params (λ s none. absurd none) (λ s none. absurd none) is_readable
       old new end (λ found shown none. absurd none) e why (λ is_open. absurd (both_ways _ shut is_open))
 ]
+
+-- a value that is told by cases is the one that is mapped
+pub mapped_if : {A B : Type 0} (f : A → B) (o : Option A) (value : Option B) → MatchOption o (value ≡ None) (λ a. value ≡ Some (f a)) → option_map f o ≡ value
+mapped_if f None value is = sym is
+mapped_if f (Some a) value is = sym is

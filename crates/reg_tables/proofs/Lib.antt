@@ -22,6 +22,7 @@ pub mod ReadableRows
 pub mod TableLines
 pub mod TextLines
 pub mod ListingLemmas
+pub mod MetaLines
 pub mod LastIds
 pub mod Opening
 pub mod VersionLists

@@ -14,4 +14,5 @@ pub mod SecondLayout
 pub mod SecondContents
 pub mod Writing
 pub mod SecondListings
+pub mod SecondLookups
 pub mod Inside

@@ -33,7 +33,7 @@ mod with_id;
 pub use declared::{
     has_layout, has_no_tables, has_second_layout, is_second_unindexed, is_unindexed,
 };
-pub use evidence::{put_against, put_evidence};
+pub use evidence::{against_at, evidence_of, put_against, put_evidence};
 pub use idle::Idle;
 pub use kept::{KeptReply, keep_reply, kept_reply};
 pub use layout::{create, index_versions};

@@ -1,0 +1,12 @@
+use Rattle.std.proofs.Common.{◌∙◌, refl, sym}
+use Rattle.std.proofs.lemmas.Iterator.Adapters.{option_map_id}
+use Rattle.reg_tables.proofs.KeyedFinds.{mapped_if}
+use Rattle.reg_tables.proofs.Transactions.{if_ok, if_err}
+use Rattle.reg_tables.proofs.evidence.against_at.Goals as goal
+
+pub returns : goal.returns
+returns g c = record {
+  frame = c.find.ensures.frame;
+  found = λ clean. if_ok c.find.result (λ found is schema known contents holds. sym (option_map_id found) ∙ mapped_if (λ id. id) found _ (is schema known ((c.args.subject.now, c.args.number), c.args.position) (rw (c.params-to_sql.ensures, c.params-to_sql-2.ensures, c.params-to_sql-3.ensures) refl) contents holds)) (c.find.ensures.found clean);
+  fault = λ clean. if_err c.find.result (λ e fault. fault ((c.args.subject.now, c.args.number), c.args.position) (λ schema known. rw (c.params-to_sql.ensures, c.params-to_sql-2.ensures, c.params-to_sql-3.ensures) refl)) (c.find.ensures.fault clean);
+}
