@@ -16,6 +16,7 @@ pub mod RegisterCommands
 pub mod DeletionCommands
 pub mod Machine
 pub mod Evidence
+pub mod Stored
 pub mod CommandTexts
 pub mod Needs
 pub mod Views

@@ -40,7 +40,7 @@ mod registering;
 mod rows;
 mod settings;
 
-pub use comparing::schema_of;
+pub use comparing::{goes_with, schema_of};
 pub use needs::ids_read;
 
 /// What a command needs to know of the registry. The rest may be anything.

@@ -25,7 +25,7 @@ pub use avro_nodes::OutOfMemory;
 pub use code::Code;
 pub use command::Command;
 pub use compatibility::{admission_is_decided, admits};
-pub use decision::{Change, Decision, View, decide, decide_with, ids_read, schema_of};
+pub use decision::{Change, Decision, View, decide, decide_with, goes_with, ids_read, schema_of};
 pub use delivery::Delivery;
 pub use evidence::Evidence;
 pub use key::Key;

@@ -1,10 +1,11 @@
-//! The comparison of a new schema with earlier versions, whose texts a view has.
+//! The comparison of a new schema with earlier ones, which are read from their texts.
 
-ghost use Rattle.std.specs.Prelude.{◌≡◌, IfOk, List, Option, map, option_map};
+ghost use Rattle.std.specs.Prelude.{◌≡◌, ◌↔◌, IfOk, IsTrue, List, None, Option, Some, false, map, option_map};
 ghost use Rattle.avro_nodes.specs.Nodes.{NodeView, nodes_view};
 ghost use Rattle.avro_schema.specs.DenotedNodes.{denoted_nodes};
 ghost use Rattle.avro_schema.specs.Inside.ReaderAnswers.{Gives};
 ghost use Rattle.schema_memory.specs.Answers.{schema_in};
+ghost use Rattle.reg_core.specs.Compatibility.{Compatible};
 ghost use Rattle.reg_core.specs.Inside.Comparisons.{is_read_admitted, is_read_compatible};
 
 use crate::compatibility::{is_compatible, named};
@@ -21,6 +22,34 @@ pub fn schema_of(alloc: Global, text: &str) -> Result<Option<Schema>, OutOfMemor
     ensures { IfOk result (λ found. option_map nodes_view found ≡ denoted_nodes text.now) }
 {
     if_denoted(Schema::read(alloc, text))
+}
+
+/// Whether the new schema goes with the earlier one that the text of this id denotes, in the
+/// directions of the level. It doesn't where the text denotes none. The earlier one is remembered,
+/// and where the memory is full the least recently used ones go, since a version is compared with
+/// those shortly before it.
+///
+/// # Errors
+///
+/// `OutOfMemory` where memory for the earlier schema or for a comparison is refused.
+pub fn goes_with(
+    alloc: Global,
+    level: Level,
+    id: u32,
+    text: &str,
+    new: &Schema,
+    memory: &mut Memory,
+) -> Result<bool, OutOfMemory>
+    ensures schema { IfOk result (λ yes. (earlier : List NodeView) → denoted_nodes text.now ≡ Some earlier
+        → IsTrue yes ↔ Compatible level earlier (nodes_view new.now)) }
+    ensures none { IfOk result (λ yes. denoted_nodes text.now ≡ None → yes ≡ false) }
+{
+    let mut memory = Some(memory);
+    let read = read_earlier(alloc, id, text, &mut memory, WhenFull::Replace);
+    match if_denoted(read)? {
+        Some(found) => is_compatible(alloc, level, found.schema(), new),
+        None => Ok(false),
+    }
 }
 
 /// What was read, if the text denotes a schema.
