@@ -10,7 +10,7 @@ use Rattle.avro_nodes.specs.Identity.{identity}
 use Rattle.avro_schema.specs.DenotedNodes.{denoted_nodes}
 use Rattle.reg_core.specs.declared.decision.Change.TheVariants.{AddText, AddRow}
 use Rattle.reg_core.specs.Evidence.{Evidence}
-use Rattle.reg_core.specs.Registry.{Schemas, Rows, RowKey, Row, Version, Registry, schema_at, row_cmp}
+use Rattle.reg_core.specs.Registry.{Schemas, Row, Registry, schema_at}
 use Rattle.reg_core.specs.Rows.{id_of}
 use Rattle.reg_core.specs.Views.{IsNewText, IsNewRow, after_change}
 use Rattle.reg_core.specs.Subjects.{is_subject}
@@ -18,13 +18,14 @@ use Rattle.reg_core.specs.KeptReplies.{Kept}
 use Rattle.reg_core.proofs.IdLemmas.{schema_last, schema_more, schema_grown, text_past, text_there, id_of-no_text}
 use Rattle.reg_core.proofs.RowLemmas.{get_inserted}
 use Rattle.reg_core.proofs.RegistryLemmas.{identity_denoted, grown-IsRegistry, inserted-IsRegistry}
-use Rattle.reg_tables.specs.Contents.{version_cmp, VersionRow, Contents}
+use Rattle.reg_tables.specs.Contents.{Contents}
 use Rattle.reg_tables.specs.Writing.{ChangesIf}
 use Rattle.reg_tables.specs.Changes.{with_text, with_version}
 use Rattle.reg_tables.proofs.MapLemmas.{get-insert-same, get-insert-other, same_or_not}
 use Rattle.reg_tables.proofs.KeyedTables.{number_order, version_order}
 use Rattle.reg_store.specs.Spells.{IsSpelled, version_row}
 use Rattle.reg_store.specs.Inside.Making.{Makes}
+use Rattle.reg_store.proofs.Maps.{insert_each}
 use Rattle.reg_store.proofs.Seconds.{spelled_in, put}
 
 -- each id but the next keeps its schema, or has none still
@@ -42,14 +43,6 @@ texts_both : (texts : FinMap nat_cmp (List ℕ)) (schemas : Schemas) (new : List
 texts_both texts schemas new same id next q = elim (same_or_not nat_cmp number_order q id) [
   | inl e ↦ ap (get (insert texts id (identity new))) e ∙ get-insert-same nat_cmp number_order texts id (identity new) ∙ sym (ap (option_map identity) (ap (schema_at (schemas ++ new ∷ [])) (e ∙ next) ∙ schema_last schemas new))
   | inr other ↦ get-insert-other nat_cmp number_order texts id (identity new) q other ∙ same q ∙ sym (ap (option_map identity) (schema_other schemas new q (λ e. other (e ∙ sym next))))
-]
-
--- the rows of versions are those of the registry, with one more on both sides
-versions_both : (m : FinMap version_cmp VersionRow) (rows : Rows) → ((key : RowKey) → get m key ≡ option_map version_row (get rows key)) → (key : RowKey) (version : Version)
-    → (q : RowKey) → get (insert m key (version_row version)) q ≡ option_map version_row (get (insert rows key version) q)
-versions_both m rows same key version q = elim (same_or_not row_cmp version_order q key) [
-  | inl e ↦ ap (get (insert m key (version_row version))) e ∙ get-insert-same version_cmp version_order m key (version_row version) ∙ sym (ap (option_map version_row) (ap (get (insert rows key version)) e ∙ get-insert-same row_cmp version_order rows key version))
-  | inr other ↦ get-insert-other version_cmp version_order m key (version_row version) q other ∙ same q ∙ sym (ap (option_map version_row) (get-insert-other row_cmp version_order rows key version q other))
 ]
 
 module _ (contents : Contents) (g : Registry) (k : Kept) (s : IsSpelled contents g k) where
@@ -79,12 +72,12 @@ module _ (contents : Contents) (g : Registry) (k : Kept) (s : IsSpelled contents
   pub text_is_new : (id : ℕ) (text : List ℕ) → IsNewText g.schemas id text → (other : ℕ) → get contents.texts other ≢ Some text
   text_is_new id text new other has = id_of-no_text g.schemas text new.unknown other (sym (s.texts other) ∙ has)
 
-  spelled_row : (row : Row) (evidence : Evidence) → IsTrue (is_subject row.0.0) → IsNewRow g row → IsSpelled (with_version row.0 (version_row row.1) contents) (after_change (AddRow row evidence) g) k
+  pub spelled_row : (row : Row) (evidence : Evidence) → IsTrue (is_subject row.0.0) → IsNewRow g row → IsSpelled (with_version row.0 (version_row row.1) contents) (after_change (AddRow row evidence) g) k
   spelled_row row evidence within new = record {
     registry = inserted-IsRegistry g row.0 row.1 s.registry new.fits;
     texts = s.texts;
     utf8 = s.utf8;
-    versions = versions_both contents.versions g.rows s.versions row.0 row.1;
+    versions = insert_each version_order version_row contents.versions g.rows s.versions row.0 row.1;
     registered = get_inserted g.rows row.0 row.1 (λ key _. IsTrue (is_subject key.0)) within s.registered;
     levels = s.levels;
     subjects = s.subjects;
@@ -106,11 +99,6 @@ module _ (contents : Contents) (g : Registry) (k : Kept) (s : IsSpelled contents
 
 module _ (old new : State) where
   pub makes_text : (id : ℕ) (text : List ℕ) → IsUtf8 text → ChangesIf old new (λ contents. get contents.texts id ≡ None) (with_text id text) → Makes old new (AddText id text)
-  makes_text id text utf8 puts g k s fits =
-      put old new (λ contents. get contents.texts id ≡ None) (with_text id text) puts g k s (id_is_free s.contents.base g k s.spelled.base id text fits) _ _
-      (spelled_in s.contents g k s.spelled _ _ _ (spelled_text s.contents.base g k s.spelled.base id text utf8 fits) s.spelled.meta refl)
-
-  pub makes_row : (row : Row) (evidence : Evidence) → IsTrue (is_subject row.0.0) → ChangesIf old new (λ contents. get contents.versions row.0 ≡ None) (with_version row.0 (version_row row.1)) → Makes old new (AddRow row evidence)
-  makes_row row evidence within puts g k s fits =
-      put old new (λ contents. get contents.versions row.0 ≡ None) (with_version row.0 (version_row row.1)) puts g k s (number_is_free s.contents.base g k s.spelled.base row fits.0) _ _
-      (spelled_in s.contents g k s.spelled _ _ _ (spelled_row s.contents.base g k s.spelled.base row evidence within fits.0) s.spelled.meta refl)
+  makes_text id text utf8 puts was s fits =
+      put old new (λ contents. get contents.texts id ≡ None) (with_text id text) puts was s (id_is_free s.contents.base was.registry was.replies s.spelled.base id text fits) _
+      (spelled_in s.contents was s.spelled _ _ _ (spelled_text s.contents.base was.registry was.replies s.spelled.base id text utf8 fits) s.spelled.meta refl)

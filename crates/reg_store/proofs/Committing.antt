@@ -18,18 +18,19 @@ use Rattle.std.proofs.lemmas.List.Elements.{All-nil}
 use Rattle.avro_nodes.specs.Nodes.{NodeView}
 use Rattle.avro_nodes.specs.Identity.{identity}
 use Rattle.avro_schema.specs.Texts.{IsSchema}
-use Rattle.reg_core.specs.Registry.{Registry, new_registry, row_cmp, schema_at}
+use Rattle.reg_core.specs.Registry.{new_registry, row_cmp, schema_at}
 use Rattle.reg_tables.specs.Layout.{layout}
 use Rattle.reg_tables.specs.SecondLayout.{second}
 use Rattle.reg_tables.specs.Contents.{text_cmp, version_cmp, TextMap, Holds}
 use Rattle.reg_tables.specs.SecondContents.{SecondContents, HoldsAllIn, second_new_contents}
 use Rattle.reg_tables.specs.Changes.{no_contents, new_contents}
 use Rattle.reg_tables.proofs.Transactions.{keeps_if_unchanged, keeps_if_undone}
-use Rattle.reg_core.specs.KeptReplies.{Kept, nothing_kept}
+use Rattle.reg_core.specs.KeptReplies.{nothing_kept}
+use Rattle.reg_core.specs.Stored.{Stored, new_stored}
 use Rattle.reg_store.specs.declared.error.StoreError.{StoreError}
 use Rattle.reg_store.specs.declared.error.StoreError.TheVariants.{Memory, Disk, NotARegistry, OldLayout, NewerLayout}
 use Rattle.reg_store.specs.Failures.{failure_of, IsFaultBy}
-use Rattle.reg_store.specs.Stores.{LeavesBefore}
+use Rattle.reg_store.specs.Stores.{LeavesBefore, LeavesCommit}
 use Rattle.reg_store.specs.Spells.{version_row, IsSpelled, SpellsFirst, LeavesFirst, SpellsIn, Spells, LeavesIn, Leaves, IsOpenOver, SpellsWhileOpen}
 use Rattle.reg_store.specs.declared.layout.Layout.{Layout}
 use Rattle.reg_store.specs.declared.layout.Layout.TheVariants.{First, Second}
@@ -59,14 +60,14 @@ left_if_held schema db now contents is h =
     subst (λ d. HoldsAllIn schema (record { schema = schema; trees = d }) contents) (sym is) (subst (λ x. HoldsAllIn schema (record { schema = x; trees = now.trees }) contents) h.base.declared h)
 
 -- trees that are those of a database spell what that does
-pub left_if_spelled : {Known : Schema → Type 0} (db : Trees) (now : Database) (g : Registry) (k : Kept) → db ≡ now.trees → SpellsIn Known now g k → LeavesIn Known db g k
-left_if_spelled {Known} db now g k is s = record { schema = now.schema; spells = subst (λ d. SpellsIn Known (record { schema = now.schema; trees = d }) g k) (sym is) s }
+pub left_if_spelled : {Known : Schema → Type 0} (db : Trees) (now : Database) (was : Stored) → db ≡ now.trees → SpellsIn Known now was → LeavesIn Known db was
+left_if_spelled {Known} db now was is s = record { schema = now.schema; spells = subst (λ d. SpellsIn Known (record { schema = now.schema; trees = d }) was) (sym is) s }
 
-pub leaves_if_spelled : (db : Trees) (now : Database) (g : Registry) (k : Kept) → db ≡ now.trees → Spells now g k → Leaves db g k
-leaves_if_spelled db now g k is s = left_if_spelled db now g k is s
+pub leaves_if_spelled : (db : Trees) (now : Database) (was : Stored) → db ≡ now.trees → Spells now was → Leaves db was
+leaves_if_spelled db now was is s = left_if_spelled db now was is s
 
-pub leaves_first : (db : Trees) (now : Database) (g : Registry) (k : Kept) → db ≡ now.trees → SpellsFirst now g k → LeavesFirst db g k
-leaves_first db now g k is s = record { schema = now.schema; spells = subst (λ d. SpellsFirst (record { schema = now.schema; trees = d }) g k) (sym is) s }
+pub leaves_first : (db : Trees) (now : Database) (was : Stored) → db ≡ now.trees → SpellsFirst now was → LeavesFirst db was
+leaves_first db now was is s = record { schema = now.schema; spells = subst (λ d. SpellsFirst (record { schema = now.schema; trees = d }) was) (sym is) s }
 
 none_at : (id : ℕ) → schema_at [] id ≡ None
 none_at zero = refl
@@ -94,7 +95,7 @@ new_is_spelled meta = record {
   keys = λ key entry some. absurd (cc);
 }
 
-pub spells_new : (now : Database) → HoldsAllIn second now second_new_contents → Spells now new_registry nothing_kept
+pub spells_new : (now : Database) → HoldsAllIn second now second_new_contents → Spells now new_stored
 spells_new now h = record {
   schema = second;
   known = inl refl;
@@ -105,17 +106,17 @@ spells_new now h = record {
     meta = refl;
     modes = λ subject. get-empty text_cmp subject;
     owners = λ subject mode some. absurd (cc);
-    evidence = no_evidence second_new_contents refl refl;
+    evidence = no_evidence second_new_contents.base;
   };
 }
 
-pub spells_new_first : (now : Database) → Holds now new_contents → SpellsFirst now new_registry nothing_kept
+pub spells_new_first : (now : Database) → Holds now new_contents → SpellsFirst now new_stored
 spells_new_first now h = record {
   schema = layout;
   known = inl refl;
   contents = new_contents;
   holds = h;
-  spelled = record { base = new_is_spelled new_contents.meta; meta = refl; modes = record { global = refl; own = λ subject. refl } };
+  spelled = record { base = new_is_spelled new_contents.meta; meta = refl; modes = record { global = refl; own = λ subject. refl }; evidence = refl };
 }
 
 -- so they do in either layout
@@ -124,20 +125,19 @@ is_new First s is_open settled spells = record { is_open = is_open; settled = se
 is_new Second s is_open settled spells = record { is_open = is_open; settled = settled; spells = spells }
 
 pub leaves_new : (layout : Layout) (db : Trees) (now : Database) → db ≡ now.trees → SpellsNew layout now → LeavesNew layout db
-leaves_new First db now is spells = leaves_first db now new_registry nothing_kept is spells
-leaves_new Second db now is spells = leaves_if_spelled db now new_registry nothing_kept is spells
+leaves_new First db now is spells = leaves_first db now new_stored is spells
+leaves_new Second db now is spells = leaves_if_spelled db now new_stored is spells
 
 -- what keeps the last commit, and shows it, spells what it spelled
-pub still_spells : (old new : State) (g : Registry) (k : Kept) → KeepsCommit old new → (IsTrue new.is_open → new.now ≡ new.committed) → SpellsWhileOpen old g k → SpellsWhileOpen new g k
-still_spells old new g k keeps settled s is_open =
+pub still_spells : (old new : State) (was : Stored) → KeepsCommit old new → (IsTrue new.is_open → new.now ≡ new.committed) → SpellsWhileOpen old was → SpellsWhileOpen new was
+still_spells old new was keeps settled s is_open =
     let before = s (keeps.was_open is_open) in
     let same : new.now ≡ old.now = settled is_open ∙ keeps.committed is_open ∙ before.settled in
-    record { is_open = is_open; settled = sym (settled is_open); spells = subst (λ d. Spells d g k) (sym same) before.spells }
+    record { is_open = is_open; settled = sym (settled is_open); spells = subst (λ d. Spells d was) (sym same) before.spells }
 
--- what a crash leaves is the database of before, or what the call commits
-pub left : (old new : State) (P : Trees → Type 0) (g : Registry) (k : Kept) → ((db : Trees) → old.may_leave db → db ≡ old.committed.trees) → IsOpenOver old g k → Survives old new P → HasCleanDisk new → (db : Trees) → new.may_leave db → Leaves db g k ⊎ P db
-left old new P g k only over s clean db it =
-    elim (s.crash clean db it) [ inl was ↦ inl (leaves_if_spelled db old.now g k (only db was ∙ ap (λ (d : Database). d.trees) over.settled) over.spells) | inr made ↦ inr made ]
+-- while it shows its last commit, a crash leaves what that spells
+pub leaves_if_open : (s : State) (was : Stored) → LeavesCommit s → IsOpenOver s was → (db : Trees) → s.may_leave db → Leaves db was
+leaves_if_open s was only over db it = leaves_if_spelled db s.now was (only over.is_open db it ∙ ap (λ (d : Database). d.trees) over.settled) over.spells
 
 -- what holds where one result is an error holds where the other is one
 pub on_err_same : {X Y E F P Q : Type 0} (r : Result X E) (s : Result Y F) → is_ok s ≡ is_ok r → (P → Q) → OnErr r P → OnErr s Q

@@ -17,11 +17,11 @@ use Rattle.reg_tables.specs.Changes.{without_level, without_version, with_delete
 use Rattle.reg_tables.specs.Writing.{Changes, ChangesAll}
 use Rattle.reg_tables.specs.SecondContents.{without_evidence}
 use Rattle.reg_tables.specs.Changes as tables
-use Rattle.reg_tables.proofs.MapLemmas.{get-altered-same, get-altered-other, get-remove-same, get-remove-other, same_or_not}
+use Rattle.reg_tables.proofs.MapLemmas.{get-altered-same, get-altered-other, same_or_not}
 use Rattle.reg_tables.proofs.KeyedTables.{version_order}
 use Rattle.reg_store.specs.Inside.Making.{Makes}
 use Rattle.reg_store.specs.Spells.{IsSpelled, version_row}
-use Rattle.reg_store.proofs.Maps.{remove_both}
+use Rattle.reg_store.proofs.Maps.{remove_both, remove_each}
 use Rattle.reg_store.proofs.Evidence.{evidence_left}
 use Rattle.reg_store.proofs.Seconds.{spelled_in, changed}
 
@@ -36,13 +36,6 @@ module _ (m : FinMap version_cmp VersionRow) (rows : Rows) (same : (key : RowKey
   deleted_both q = elim (same_or_not row_cmp version_order q key) [
     | inl e ↦ ap (get (tables.altered m key tables.as_deleted)) e ∙ get-altered-same version_cmp version_order m key tables.as_deleted ∙ ap (option_map tables.as_deleted) (same key) ∙ marked_row (get rows key) ∙ sym (ap (option_map version_row) (ap (get (altered rows key as_deleted)) e ∙ get-altered-same row_cmp version_order rows key as_deleted))
     | inr other ↦ get-altered-other version_cmp version_order m key tables.as_deleted q other ∙ same q ∙ sym (ap (option_map version_row) (get-altered-other row_cmp version_order rows key as_deleted q other))
-  ]
-
-  -- and with one less
-  removed_both : (q : RowKey) → get (remove m key) q ≡ option_map version_row (get (remove rows key) q)
-  removed_both q = elim (same_or_not row_cmp version_order q key) [
-    | inl e ↦ ap (get (remove m key)) e ∙ get-remove-same version_cmp version_order m key ∙ sym (ap (option_map version_row) (ap (get (remove rows key)) e ∙ get-remove-same row_cmp version_order rows key))
-    | inr other ↦ get-remove-other version_cmp version_order m key q other ∙ same q ∙ sym (ap (option_map version_row) (get-remove-other row_cmp version_order rows key q other))
   ]
 
 -- a level or a mode that is left is one that was there
@@ -69,7 +62,7 @@ module _ (contents : Contents) (g : Registry) (k : Kept) (s : IsSpelled contents
     registry = fewer-IsRegistry g (remove g.rows (subject, number)) g.own s.registry (removed_was g.rows (subject, number));
     texts = s.texts;
     utf8 = s.utf8;
-    versions = removed_both contents.versions g.rows s.versions (subject, number);
+    versions = remove_each version_order version_row contents.versions g.rows s.versions (subject, number);
     registered = λ key version there. let was = removed_was g.rows (subject, number) key version there in s.registered key was.old was.there;
     levels = s.levels;
     subjects = s.subjects;
@@ -94,26 +87,26 @@ module _ (contents : Contents) (g : Registry) (k : Kept) (s : IsSpelled contents
 
 module _ (old new : State) where
   pub makes_deleted : (subject : List ℕ) (number : ℕ) → Changes old new (with_deleted (subject, number)) → Makes old new (MarkDeleted subject number)
-  makes_deleted subject number changes g k s fits =
-      changed old new (with_deleted (subject, number)) changes g k s _ _
-      (spelled_in s.contents g k s.spelled _ _ _ (spelled_deleted s.contents.base g k s.spelled.base subject number) s.spelled.meta refl)
+  makes_deleted subject number changes was s fits =
+      changed old new (with_deleted (subject, number)) changes was s _
+      (spelled_in s.contents was s.spelled _ _ _ (spelled_deleted s.contents.base was.registry was.replies s.spelled.base subject number) s.spelled.meta refl)
 
   pub makes_removed : (subject : List ℕ) (number : ℕ) → ChangesAll old new (without_evidence (subject, number)) → Makes old new (Remove subject number)
-  makes_removed subject number changes g k s fits = record {
+  makes_removed subject number changes was s fits = record {
     schema = s.schema;
     known = s.known;
     contents = without_evidence (subject, number) s.contents;
     holds = changes s.schema (inr s.known) s.contents s.holds;
     spelled = record {
-      base = spelled_removed s.contents.base g k s.spelled.base subject number;
+      base = spelled_removed s.contents.base was.registry was.replies s.spelled.base subject number;
       meta = s.spelled.meta;
       modes = s.spelled.modes;
       owners = s.spelled.owners;
-      evidence = evidence_left s.contents (subject, number) s.spelled.evidence;
+      evidence = evidence_left s.contents was.evidence s.spelled.evidence (subject, number);
     };
   }
 
   pub makes_dropped : (subject : List ℕ) → Changes old new (without_level subject) → Makes old new (DropLevel subject)
-  makes_dropped subject changes g k s fits =
-      changed old new (without_level subject) changes g k s _ _
-      (spelled_in s.contents g k s.spelled _ _ _ (spelled_dropped s.contents.base g k s.spelled.base subject) s.spelled.meta refl)
+  makes_dropped subject changes was s fits =
+      changed old new (without_level subject) changes was s _
+      (spelled_in s.contents was s.spelled _ _ _ (spelled_dropped s.contents.base was.registry was.replies s.spelled.base subject) s.spelled.meta refl)

@@ -1,71 +1,103 @@
--- What is left of the evidence of versions where one goes.
-use Rattle.std.proofs.Common.{◌≡◌, ◌≢◌, inl, inr, lit≤, ℕ, List, Some, None, cond, sym, ap, subst, ◌∙◌, arith}
-use Rattle.std.specs.Prelude.{not, IsSome}
+-- What becomes of the evidence of versions where one comes with its own, or goes.
+use Rattle.std.proofs.Common.{◌≡◌, ◌≢◌, ◌<◌, ◌^◌, inl, inr, ℕ, zero, suc, List, length, Option, Some, None, cond, refl, sym, ap, subst, ◌∙◌}
+use Rattle.std.specs.Prelude.{not, option_map, option_and_then}
 use Rattle.std.specs.Ordering.{is_eq}
-use Rattle.std.specs.FinMap.{get, remove, empty, get-empty, get-retain_keys}
-use Rattle.reg_core.specs.Registry.{RowKey}
-use Rattle.reg_tables.specs.Contents.{version_cmp}
-use Rattle.reg_tables.specs.SecondContents.{PlaceKey, place_cmp, SecondContents, without_places, without_evidence}
-use Rattle.reg_tables.proofs.MapLemmas.{get-remove-same, get-remove-other, same_or_not, tied_key, other_key}
+use Rattle.std.specs.FinMap.{get, insert, remove, empty, get-empty, get-retain_keys}
+use Rattle.std.proofs.lemmas.Option.{same_Some}
+use Rattle.reg_core.specs.Evidence.{Evidence, EvidenceOf}
+use Rattle.reg_core.specs.Levels.{level_text}
+use Rattle.reg_core.specs.Registry.{RowKey, row_cmp}
+use Rattle.reg_tables.specs.Contents.{version_cmp, Contents}
+use Rattle.reg_tables.specs.SecondContents.{PlaceKey, place_cmp, SecondContents, with_evidence, without_places, without_evidence, with_no_more}
+use Rattle.reg_tables.proofs.MapLemmas.{get-insert-same, get-insert-other, get-remove-same, get-remove-other, same_or_not, tied_key, other_key}
 use Rattle.reg_tables.proofs.KeyedTables.{version_order}
 use Rattle.reg_tables.proofs.SecondTables.{place_order}
-use Rattle.reg_store.specs.Spells.{AreInOrder, IsEvidence}
+use Rattle.reg_store.specs.Inside.Making.{with_own, HasNoPlace}
+use Rattle.reg_store.specs.Spells.{id_at, IsSpelledEvidence}
+use Rattle.reg_store.proofs.Maps.{insert_each, remove_each}
+use Rattle.reg_store.proofs.Places.{ids_beside, ids_elsewhere, at_zero, at_next}
 
-module _ (contents : SecondContents) (key : RowKey) where
-  places : (place : PlaceKey) → get (without_places contents.against key) place ≡ cond (not (is_eq (version_cmp place.0 key))) (get contents.against place) None
-  places place = get-retain_keys contents.against (λ q. not (is_eq (version_cmp q.0 key))) place (λ x tie. ap (λ (p : PlaceKey). not (is_eq (version_cmp p.0 key))) (sym (place_order.antisymmetric place x tie)))
+-- the text of a version's level
+abbrev level_of_one : Evidence → List ℕ
+level_of_one one = level_text one.level
 
-  -- the places of another version stay
-  place_stays : (place : PlaceKey) → place.0 ≢ key → get (without_places contents.against key) place ≡ get contents.against place
-  place_stays place other = places place ∙ ap (λ b. cond (not b) (get contents.against place) None) (other_key version_cmp version_order place.0 key other)
+no_value : {A B : Type 0} (f : A → B) (o : Option A) → option_map f o ≡ None → o ≡ None
+no_value f None e = refl
+no_value f (Some a) e = absurd (cc)
 
-  -- and those of the version go
-  place_goes : (place : PlaceKey) → place.0 ≡ key → get (without_places contents.against key) place ≡ None
-  place_goes place is = places place ∙ ap (λ b. cond (not b) (get contents.against place) None) (tied_key version_cmp version_order place.0 key is)
+module _ (contents : SecondContents) (evidence : EvidenceOf) (s : IsSpelledEvidence contents evidence) where
+  -- a version without a level has no evidence, and no place
+  pub has_none : (key : RowKey) → get contents.evidence key ≡ None → get evidence key ≡ None
+  has_none key none = no_value level_of_one (get evidence key) (sym (s.levels key) ∙ none)
 
-  level_was : (q : RowKey) (level : List ℕ) → get (remove contents.evidence key) q ≡ Some level → get contents.evidence q ≡ Some level
-  level_was q level there = elim (same_or_not version_cmp version_order q key) [
-    | inl e ↦ absurd (let none = sym (ap (get (remove contents.evidence key)) e ∙ get-remove-same version_cmp version_order contents.evidence key) ∙ there in cc)
-    | inr other ↦ sym (get-remove-other version_cmp version_order contents.evidence key q other) ∙ there
-  ]
+  pub has_no_place : (key : RowKey) → get contents.evidence key ≡ None → HasNoPlace contents key
+  has_no_place key none position = s.ids (key, position) ∙ ap (option_and_then (id_at position)) (has_none key none)
 
-  none_in_order : (q : RowKey) → q ≡ key → AreInOrder (without_places contents.against key) q
-  none_in_order q is = record {
-    count = 0;
-    few = lit≤ tt;
-    each = λ position. (λ some. absurd (let none = subst IsSome (place_goes (q, position) is) some in cc), λ within. absurd (let low = within.0 in let high = within.1 in omega (arith, low, high)));
-  }
+  -- whatever the other tables hold
+  pub evidence_beside : (base : Contents) → IsSpelledEvidence (record contents { base = base }) evidence
+  evidence_beside base = record { levels = s.levels; ids = s.ids; few = s.few }
 
-  pub evidence_left : IsEvidence contents → IsEvidence (without_evidence key contents)
-  evidence_left e = record {
-    levels = λ q level there. e.levels q level (level_was q level there);
-    owners = λ place id there. elim (same_or_not version_cmp version_order place.0 key) [
-      | inl is ↦ absurd (let none = sym (place_goes place is) ∙ there in cc)
-      | inr other ↦ subst IsSome (sym (get-remove-other version_cmp version_order contents.evidence key place.0 other)) (e.owners place id (sym (place_stays place other) ∙ there))
-    ];
-    places = λ q. elim (same_or_not version_cmp version_order q key) [
-      | inl is ↦ none_in_order q is
-      | inr other ↦
-          let was = e.places q in
-          record {
-            count = was.count;
-            few = was.few;
-            each = λ position. (
-              λ some. (was.each position).0 (subst IsSome (place_stays (q, position) other) some),
-              λ within. subst IsSome (sym (place_stays (q, position) other)) ((was.each position).1 within),
-            );
-          }
-    ];
-  }
+  -- ---- a version that comes with its own
+
+  module _ (key : RowKey) (own : Evidence) (few : length own.against < 2 ^ 32) (free : HasNoPlace contents key) where
+    own_ids : (position : ℕ) → get (with_own key own contents).against (key, position) ≡ id_at position own
+    own_ids zero = at_zero key own.against (with_evidence key (level_text own.level) contents) free
+    own_ids (suc k) = at_next key own.against (with_evidence key (level_text own.level) contents) free k
+
+    few_each : (q : RowKey) (one : Evidence) → get (insert evidence key own) q ≡ Some one → length one.against < 2 ^ 32
+    few_each q one there = elim (same_or_not row_cmp version_order q key) [
+      | inl e ↦ subst (λ (x : Evidence). length x.against < 2 ^ 32) (same_Some own one (sym (ap (get (insert evidence key own)) e ∙ get-insert-same row_cmp version_order evidence key own) ∙ there)) few
+      | inr other ↦ s.few q one (sym (get-insert-other row_cmp version_order evidence key own q other) ∙ there)
+    ]
+
+    pub evidence_more : IsSpelledEvidence (with_own key own contents) (insert evidence key own)
+    evidence_more = record {
+      levels = λ q. ap (λ (c : SecondContents). get c.evidence q) (ids_beside key 1 own.against (with_evidence key (level_text own.level) contents)) ∙ insert_each version_order level_of_one contents.evidence evidence s.levels key own q;
+      ids = λ place. elim (same_or_not version_cmp version_order place.0 key) [
+        | inl is ↦
+            ap (λ (q : RowKey). get (with_own key own contents).against (q, place.1)) is ∙ own_ids place.1
+            ∙ sym (ap (option_and_then (id_at place.1)) (ap (get (insert evidence key own)) is ∙ get-insert-same row_cmp version_order evidence key own))
+        | inr other ↦
+            ids_elsewhere key 1 own.against (with_evidence key (level_text own.level) contents) place other ∙ s.ids place
+            ∙ sym (ap (option_and_then (id_at place.1)) (get-insert-other row_cmp version_order evidence key own place.0 other))
+      ];
+      few = few_each;
+    }
+
+  -- ---- a version that goes
+
+  module _ (key : RowKey) where
+    places : (place : PlaceKey) → get (without_places contents.against key) place ≡ cond (not (is_eq (version_cmp place.0 key))) (get contents.against place) None
+    places place = get-retain_keys contents.against (λ q. not (is_eq (version_cmp q.0 key))) place (λ x tie. ap (λ (p : PlaceKey). not (is_eq (version_cmp p.0 key))) (sym (place_order.antisymmetric place x tie)))
+
+    -- the places of another version stay
+    place_stays : (place : PlaceKey) → place.0 ≢ key → get (without_places contents.against key) place ≡ get contents.against place
+    place_stays place other = places place ∙ ap (λ b. cond (not b) (get contents.against place) None) (other_key version_cmp version_order place.0 key other)
+
+    -- and those of the version go
+    place_goes : (place : PlaceKey) → place.0 ≡ key → get (without_places contents.against key) place ≡ None
+    place_goes place is = places place ∙ ap (λ b. cond (not b) (get contents.against place) None) (tied_key version_cmp version_order place.0 key is)
+
+    was_there : (q : RowKey) (one : Evidence) → get (remove evidence key) q ≡ Some one → get evidence q ≡ Some one
+    was_there q one there = elim (same_or_not row_cmp version_order q key) [
+      | inl e ↦ absurd (let none = sym (ap (get (remove evidence key)) e ∙ get-remove-same row_cmp version_order evidence key) ∙ there in cc)
+      | inr other ↦ sym (get-remove-other row_cmp version_order evidence key q other) ∙ there
+    ]
+
+    pub evidence_left : IsSpelledEvidence (without_evidence key contents) (remove evidence key)
+    evidence_left = record {
+      levels = remove_each version_order level_of_one contents.evidence evidence s.levels key;
+      ids = λ place. elim (same_or_not version_cmp version_order place.0 key) [
+        | inl is ↦ place_goes place is ∙ sym (ap (option_and_then (id_at place.1)) (ap (get (remove evidence key)) is ∙ get-remove-same row_cmp version_order evidence key))
+        | inr other ↦ place_stays place other ∙ s.ids place ∙ sym (ap (option_and_then (id_at place.1)) (get-remove-other row_cmp version_order evidence key place.0 other))
+      ];
+      few = λ q one there. s.few q one (was_there q one there);
+    }
 
 -- no version has evidence
-pub no_evidence : (contents : SecondContents) → contents.evidence ≡ empty → contents.against ≡ empty → IsEvidence contents
-no_evidence contents evidence against = record {
-  levels = λ q level there. absurd (let none = sym (get-empty version_cmp q) ∙ ap (λ m. get m q) (sym evidence) ∙ there in cc);
-  owners = λ place id there. absurd (let none = sym (get-empty place_cmp place) ∙ ap (λ m. get m place) (sym against) ∙ there in cc);
-  places = λ q. record {
-    count = 0;
-    few = lit≤ tt;
-    each = λ position. (λ some. absurd (let none = subst IsSome (ap (λ m. get m (q, position)) against ∙ get-empty place_cmp (q, position)) some in cc), λ within. absurd (let low = within.0 in let high = within.1 in omega (arith, low, high)));
-  };
+pub no_evidence : (base : Contents) → IsSpelledEvidence (with_no_more base) empty
+no_evidence base = record {
+  levels = λ q. get-empty version_cmp q ∙ sym (ap (option_map level_of_one) (get-empty row_cmp q));
+  ids = λ place. get-empty place_cmp place ∙ sym (ap (option_and_then (id_at place.1)) (get-empty row_cmp place.0));
+  few = λ q one there. absurd (let none = sym (get-empty row_cmp q) ∙ there in cc);
 }

@@ -17,10 +17,10 @@ use Rattle.reg_tables.proofs.ListMembers.{has_mapped, maps_had}
 use Rattle.reg_tables.proofs.ListingLemmas.{found_first, find_had}
 use Rattle.reg_tables.proofs.SecondTables.{place_order}
 use Rattle.reg_rows.specs.Spelling.{FitsEvidence}
-use Rattle.reg_store.specs.Spells.{IsEvidence}
+use Rattle.reg_store.specs.Inside.Evidence.{IsEvidence}
 use Rattle.reg_store.specs.Inside.Testing.{evidence_fits, against_fits, version_at, place_at, AreInPlace}
 
-none_is : {X : Type 0} (o : Option X) → o ≡ None → IsSome o → ⊥
+pub none_is : {X : Type 0} (o : Option X) → o ≡ None → IsSome o → ⊥
 none_is None e there = absurd (cc)
 none_is (Some x) e there = absurd (cc)
 

@@ -9,7 +9,6 @@ use Rattle.sqlite_schema.specs.declared.schema.Constraint.TheVariants.{Datatype,
 use Rattle.sqlite.specs.State.{State, store_error}
 use Rattle.sqlite_trees.specs.declared.error.StoreError as trees
 use Rattle.sqlite_trees.specs.declared.error.StoreError.TheVariants as stored
-use Rattle.reg_core.specs.Registry.{Registry}
 use Rattle.sqlite_disk.specs.Disk.{MoreFaults}
 use Rattle.reg_tables.specs.Reads.{CanBeRead}
 use Rattle.reg_tables.specs.FailedCalls.{HasDiskFault, HasReason, IsFault, IsUnreadable}
@@ -17,7 +16,7 @@ use Rattle.reg_tables.proofs.Reasons.{fault_until, fault_since}
 use Rattle.reg_store.specs.declared.error.StoreError.{StoreError}
 use Rattle.reg_store.specs.declared.error.StoreError.TheVariants.{Memory, Disk, NotARegistry, OldLayout, NewerLayout}
 use Rattle.reg_store.specs.Failures.{failure_of, is_fault, IsFaultBy, IsTold, IsNumberless}
-use Rattle.reg_core.specs.KeptReplies.{Kept}
+use Rattle.reg_core.specs.Stored.{Stored}
 use Rattle.reg_store.specs.Spells.{SpellsWhileOpen}
 use Rattle.reg_store.proofs.Bases.{base_of}
 
@@ -92,8 +91,8 @@ told_since a b c closes up on (OldLayout number) h = tt
 told_since a b c closes up on (NewerLayout number) h = tt
 
 -- what is spelled can be read
-pub can_be_read : (s : State) (g : Registry) (k : Kept) → SpellsWhileOpen s g k → CanBeRead s
-can_be_read s g k over = λ is_open.
+pub can_be_read : (s : State) (was : Stored) → SpellsWhileOpen s was → CanBeRead s
+can_be_read s was over = λ is_open.
     let it = base_of (over is_open).spells in
     record { schema = it.schema; known = it.first; contents = it.contents; holds = it.holds; readable = it.readable }
 

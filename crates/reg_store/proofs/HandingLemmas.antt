@@ -199,7 +199,8 @@ of_schemas AllSchemas g count id at = refl
 
 -- ---- what is handed out
 
-all_taken : {X : Type 0} (xs : List X) (n : ℕ) → None ≡ slice_get xs n → take n xs ≡ xs
+-- where there is no next item, all are taken
+pub all_taken : {X : Type 0} (xs : List X) (n : ℕ) → None ≡ slice_get xs n → take n xs ≡ xs
 all_taken [] zero h = refl
 all_taken [] (suc n) h = refl
 all_taken (x ∷ xs) zero h = absurd (none-some x h)

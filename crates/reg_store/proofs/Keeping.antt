@@ -9,7 +9,7 @@ use Rattle.reg_tables.specs.Reads.{OnlyReads}
 use Rattle.reg_store.specs.declared.error.StoreError.{StoreError}
 use Rattle.reg_store.specs.declared.error.StoreError.TheVariants.{Disk}
 use Rattle.reg_store.specs.declared.store.Store.{Store}
-use Rattle.reg_store.specs.Spells.{Stored}
+use Rattle.reg_core.specs.Stored.{Stored}
 use Rattle.reg_store.specs.Inside.Reads.{Reads}
 use Rattle.reg_store.specs.Stores.{state_of, has_failed, KeepsStore, ReadsStore}
 use Rattle.reg_store.proofs.ReadLemmas.{tells_stored}

@@ -1,6 +1,7 @@
 pub mod Maps
 pub mod Numbering
 pub mod Ids
+pub mod Places
 pub mod Evidence
 pub mod Seconds
 pub mod Spelling
@@ -16,6 +17,7 @@ pub mod Rereading
 pub mod Distinct
 pub mod TestLemmas
 pub mod EvidenceRows
+pub mod EvidenceMaps
 pub mod SecondTests
 pub mod LayoutNumbers
 pub mod MetaLemmas
@@ -23,8 +25,10 @@ pub mod OpenLemmas
 pub mod Keeping
 pub mod Writing
 pub mod Additions
+pub mod NewVersions
 pub mod Deletions
 pub mod Modes
+pub mod SettingLemmas
 pub mod ReadLemmas
 pub mod RowLemmas
 pub mod ChosenLemmas
@@ -34,6 +38,8 @@ pub mod ViewTexts
 pub mod ListingLemmas
 pub mod Behind
 pub mod HandingLemmas
+pub mod EvidenceOwners
+pub mod AuditLemmas
 pub mod TextParts
 pub mod TextIds
 pub mod TextTests

@@ -1,10 +1,11 @@
--- A finite map beside a function that says the same of each key.
-use Rattle.std.proofs.Common.{◌≡◌, ◌≢◌, inl, inr, List, ℕ, Option, Some, None, true, false, cond, refl, sym, ap, ◌∙◌}
+-- A finite map beside a function or another map that says the same of each key.
+use Rattle.std.proofs.Common.{◌≡◌, ◌≢◌, inl, inr, List, ℕ, Option, Some, None, Ordering, true, false, cond, refl, sym, ap, ◌∙◌}
 use Rattle.std.specs.Prelude.{option_map, bytes_eq}
-use Rattle.std.specs.FinMap.{get, insert, remove, same_map}
+use Rattle.std.specs.FinMap.{FinMap, get, insert, remove, same_map}
 use Rattle.std.proofs.lemmas.Slice.Eq.{bytes_eq-Decides}
 use Rattle.std.proofs.lemmas.Bool.{false_from_ne_true}
 use Rattle.reg_tables.specs.Contents.{text_cmp, TextMap}
+use Rattle.reg_tables.specs.Inside.KeyedLaws.{IsKeyOrder}
 use Rattle.reg_tables.proofs.MapLemmas.{get-insert-same, get-insert-other, get-remove-same, get-remove-other, same_or_not}
 use Rattle.reg_tables.proofs.KeyedTables.{text_order}
 
@@ -50,3 +51,19 @@ insert-swap m k v q w apart = same_map text_order.total text_order.antisymmetric
         get-insert-other text_cmp text_order (insert m k v) q w x not_q ∙ get-insert-other text_cmp text_order m k v x not_k ∙ sym (get-insert-other text_cmp text_order m q w x not_q) ∙ sym (get-insert-other text_cmp text_order (insert m q w) k v x not_k)
   ]
 ])
+
+-- a map has at each key what another has, written so
+module _ {K V W : Type 0} {R : K → K → Ordering} (order : IsKeyOrder R) (write : V → W) (m : FinMap R W) (n : FinMap R V) (same : (q : K) → get m q ≡ option_map write (get n q)) (k : K) where
+  -- and still does with one more entry on both sides
+  pub insert_each : (v : V) (q : K) → get (insert m k (write v)) q ≡ option_map write (get (insert n k v) q)
+  insert_each v q = elim (same_or_not R order q k) [
+    | inl e ↦ ap (get (insert m k (write v))) e ∙ get-insert-same R order m k (write v) ∙ sym (ap (option_map write) (ap (get (insert n k v)) e ∙ get-insert-same R order n k v))
+    | inr other ↦ get-insert-other R order m k (write v) q other ∙ same q ∙ sym (ap (option_map write) (get-insert-other R order n k v q other))
+  ]
+
+  -- and with one entry less on both sides
+  pub remove_each : (q : K) → get (remove m k) q ≡ option_map write (get (remove n k) q)
+  remove_each q = elim (same_or_not R order q k) [
+    | inl e ↦ ap (get (remove m k)) e ∙ get-remove-same R order m k ∙ sym (ap (option_map write) (ap (get (remove n k)) e ∙ get-remove-same R order n k))
+    | inr other ↦ get-remove-other R order m k q other ∙ same q ∙ sym (ap (option_map write) (get-remove-other R order n k q other))
+  ]

@@ -53,10 +53,10 @@ names_own Second lines passes =
 spelled_passes : (layout : Layout) (db : Database) → SpellsAs layout db → (lines : List MetaLine) → ListsMeta db lines → PassesMeta layout lines
 spelled_passes First db s lines lists =
     let shown = listed_if_shown pair_form text_cmp text_order distinct_texts (db.trees meta.tree) (map meta_entry lines) lists s.spells.contents.meta distinct_texts s.spells.holds.meta in
-    (subst AreApart (rowids_of meta_entry (λ (line : MetaLine). line.rowid) (λ line. refl) lines) shown.apart.rowids, meta_fit lines shown.apart s.registry.global (sym shown.is ∙ s.spells.spelled.meta))
+    (subst AreApart (rowids_of meta_entry (λ (line : MetaLine). line.rowid) (λ line. refl) lines) shown.apart.rowids, meta_fit lines shown.apart s.stored.registry.global (sym shown.is ∙ s.spells.spelled.meta))
 spelled_passes Second db s lines lists =
     let shown = listed_if_shown pair_form text_cmp text_order distinct_texts (db.trees meta.tree) (map meta_entry lines) lists s.spells.contents.base.meta distinct_texts s.spells.holds.base.meta in
-    (subst AreApart (rowids_of meta_entry (λ (line : MetaLine). line.rowid) (λ line. refl) lines) shown.apart.rowids, second_meta_fit lines shown.apart s.registry.global s.registry.global_mode (sym shown.is ∙ s.spells.spelled.meta))
+    (subst AreApart (rowids_of meta_entry (λ (line : MetaLine). line.rowid) (λ line. refl) lines) shown.apart.rowids, second_meta_fit lines shown.apart s.stored.registry.global s.stored.registry.global_mode (sym shown.is ∙ s.spells.spelled.meta))
 
 spelled_first : (layout : Layout) (db : Database) → SpellsAs layout db → HasTablesFirst db.schema
 spelled_first First db s = some_known db (some_first s)

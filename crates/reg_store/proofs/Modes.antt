@@ -19,36 +19,37 @@ use Rattle.reg_store.proofs.Spelling.{each_entry, spelled_beside}
 
 module _ (old new : State) where
   pub makes_global_mode : (mode : Mode) → Changes old new (with_global_mode (mode_text mode)) → Makes old new (SetGlobalMode mode)
-  makes_global_mode mode changes g k s fits =
-      changed old new (with_global_mode (mode_text mode)) changes g k s _ _
-      (spelled_in s.contents g k s.spelled _ _ _ (spelled_beside s.contents.base g k s.spelled.base _ g.global mode g.own_modes) (mode_changed s.contents.base.meta (level_text g.global) (mode_text g.global_mode) (mode_text mode) s.spelled.meta) refl)
+  makes_global_mode mode changes was s fits =
+      let g = was.registry in
+      changed old new (with_global_mode (mode_text mode)) changes was s _
+      (spelled_in s.contents was s.spelled _ _ _ (spelled_beside s.contents.base g was.replies s.spelled.base _ g.global mode g.own_modes) (mode_changed s.contents.base.meta (level_text g.global) (mode_text g.global_mode) (mode_text mode) s.spelled.meta) refl)
 
   pub makes_mode : (subject : List ℕ) (mode : Mode) → IsTrue (is_subject subject) → ChangesSecond old new (with_mode subject (mode_text mode)) → Makes old new (SetMode subject mode)
-  makes_mode subject mode within changes g k s fits = record {
+  makes_mode subject mode within changes was s fits = record {
     schema = s.schema;
     known = s.known;
     contents = with_mode subject (mode_text mode) s.contents;
     holds = changes s.schema s.known s.contents s.holds;
     spelled = record {
-      base = spelled_beside s.contents.base g k s.spelled.base s.contents.base.meta g.global g.global_mode (own_with g.own_modes subject mode);
+      base = spelled_beside s.contents.base was.registry was.replies s.spelled.base s.contents.base.meta was.registry.global was.registry.global_mode (own_with was.registry.own_modes subject mode);
       meta = s.spelled.meta;
-      modes = insert_both mode_text s.contents.modes g.own_modes subject mode s.spelled.modes;
-      owners = each_entry (λ q _. IsTrue (is_subject q)) g.own_modes subject mode within s.spelled.owners;
-      evidence = record { levels = s.spelled.evidence.levels; owners = s.spelled.evidence.owners; places = s.spelled.evidence.places };
+      modes = insert_both mode_text s.contents.modes was.registry.own_modes subject mode s.spelled.modes;
+      owners = each_entry (λ q _. IsTrue (is_subject q)) was.registry.own_modes subject mode within s.spelled.owners;
+      evidence = record { levels = s.spelled.evidence.levels; ids = s.spelled.evidence.ids; few = s.spelled.evidence.few };
     };
   }
 
   pub makes_no_mode : (subject : List ℕ) → ChangesSecond old new (without_mode subject) → Makes old new (DropMode subject)
-  makes_no_mode subject changes g k s fits = record {
+  makes_no_mode subject changes was s fits = record {
     schema = s.schema;
     known = s.known;
     contents = without_mode subject s.contents;
     holds = changes s.schema s.known s.contents s.holds;
     spelled = record {
-      base = spelled_beside s.contents.base g k s.spelled.base s.contents.base.meta g.global g.global_mode (own_without g.own_modes subject);
+      base = spelled_beside s.contents.base was.registry was.replies s.spelled.base s.contents.base.meta was.registry.global was.registry.global_mode (own_without was.registry.own_modes subject);
       meta = s.spelled.meta;
-      modes = remove_both mode_text s.contents.modes g.own_modes subject s.spelled.modes;
-      owners = λ other mode there. s.spelled.owners other mode (left_value (bytes_eq subject other) (g.own_modes other) mode there);
-      evidence = record { levels = s.spelled.evidence.levels; owners = s.spelled.evidence.owners; places = s.spelled.evidence.places };
+      modes = remove_both mode_text s.contents.modes was.registry.own_modes subject s.spelled.modes;
+      owners = λ other mode there. s.spelled.owners other mode (left_value (bytes_eq subject other) (was.registry.own_modes other) mode there);
+      evidence = record { levels = s.spelled.evidence.levels; ids = s.spelled.evidence.ids; few = s.spelled.evidence.few };
     };
   }

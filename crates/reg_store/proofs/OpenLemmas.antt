@@ -1,35 +1,40 @@
 -- What opening a store over tables that passed leaves.
-use Rattle.std.proofs.Common.{◌≡◌, ◌≢◌, inl, inr, ℕ, IsTrue, Ok, Err, Result, refl, sym, ap, subst, ◌∙◌, arith}
-use Rattle.std.specs.Prelude.{IfOk, OnOk}
+use Rattle.std.proofs.Common.{◌≡◌, ◌≢◌, inl, inr, ℕ, None, IsTrue, Ok, Err, Result, refl, sym, ap, subst, ◌∙◌, arith}
+use Rattle.std.specs.Prelude.{IfOk, IfErr, OnOk}
 use Rattle.sqlite.specs.Effect.{Database, IsDatabase}
+use Rattle.sqlite.specs.Held.{Held, state}
 use Rattle.sqlite.specs.Tree.{Trees}
 use Rattle.sqlite.specs.State.{State, HasCleanDisk, Survives, KeepsCommit}
 use Rattle.sqlite.proofs.StateLemmas.{survives_then}
-use Rattle.reg_core.specs.Registry.{Registry}
-use Rattle.reg_tables.specs.Layout.{HasTablesFirst, IsLayout}
+use Rattle.sqlite_trees.specs.declared.store.Store.{Ghosts}
+use Rattle.reg_core.specs.Stored.{Stored}
+use Rattle.reg_tables.specs.Layout.{HasTablesFirst, IsLayout, no_schema}
 use Rattle.reg_tables.proofs.Statements.{has_tables_first}
 use Rattle.reg_tables.specs.SecondLayout.{second_unindexed, second_indexed_last, IsSecondLayout}
 use Rattle.reg_tables.specs.SecondContents.{SecondContents, HoldsAllIn}
 use Rattle.reg_tables.specs.Reads.{OnlyReads}
 use Rattle.reg_store.specs.declared.error.StoreError.{StoreError}
+use Rattle.reg_store.specs.declared.error.StoreError.TheVariants.{Memory, Disk, NotARegistry, OldLayout, NewerLayout}
 use Rattle.reg_store.specs.declared.layout.Layout.TheVariants.{First}
-use Rattle.reg_store.specs.Opening.{OpensOver, IsIndexed, LosesNothing, HasVersionRows, FindsFirst}
-use Rattle.reg_core.specs.KeptReplies.{Kept}
-use Rattle.reg_store.specs.Spells.{IsSpelledSecond, Spells, SpellsUnopened}
-use Rattle.reg_store.specs.Inside.Testing.{TablesPass, SecondPasses}
+use Rattle.reg_store.specs.Failures.{IsNumberless, IsFaultBy}
+use Rattle.reg_store.specs.UnopenedFaults.{IsFaultFirst, IsToldFirst, IsUnread}
+use Rattle.reg_store.specs.Opening.{IsRefusedAs, TellsOther, OpensOver, IsIndexed, LosesNothing, HasVersionRows, FindsFirst}
+use Rattle.reg_store.specs.Spells.{IsSpelledSecond, Spells, SpellsFirst, SpellsUnopened}
+use Rattle.reg_store.specs.Stores.{LeavesCommit, LeavesConnection, IsUnmade}
+use Rattle.reg_store.specs.Inside.Testing.{SpellsSome, TablesPass, SecondPasses}
 use Rattle.reg_store.specs.Inside.Making.{TakesIndex}
-use Rattle.reg_store.proofs.Committing.{left_if_spelled}
+use Rattle.reg_store.proofs.Committing.{left_if_spelled, leaves_before}
 use Rattle.reg_store.proofs.Rereading.{same_now}
 use Rattle.reg_store.proofs.SecondTests.{spelled_if_first_passed, spelled_if_all_passed}
 
 -- what is spelled without the index
-pub record SpellsBare (db : Database) (g : Registry) (k : Kept) : Type 0 where
+pub record SpellsBare (db : Database) (was : Stored) : Type 0 where
   pub contents : SecondContents
   pub holds : HoldsAllIn second_unindexed db contents
-  pub spelled : IsSpelledSecond contents g k
+  pub spelled : IsSpelledSecond contents was
 
-pub spells_bare : (db : Database) (g : Registry) (k : Kept) → db.schema ≡ second_unindexed → SpellsUnopened db g k → SpellsBare db g k
-spells_bare db g k is s = record { contents = s.contents; holds = subst (λ x. HoldsAllIn x db s.contents) (sym s.holds.base.declared ∙ is) s.holds; spelled = s.spelled }
+pub spells_bare : (db : Database) (was : Stored) → db.schema ≡ second_unindexed → SpellsUnopened db was → SpellsBare db was
+spells_bare db was is s = record { contents = s.contents; holds = subst (λ x. HoldsAllIn x db s.contents) (sym s.holds.base.declared ∙ is) s.holds; spelled = s.spelled }
 
 module _ (old mid : State) (reads : OnlyReads old mid) (settled : IsTrue old.is_open → old.now ≡ old.committed) (known : IsSecondLayout old.now.schema) (sound : IsDatabase old.now) (passed : SecondPasses old.now) where
   -- the index is there, and nothing is done
@@ -37,16 +42,15 @@ module _ (old mid : State) (reads : OnlyReads old mid) (settled : IsTrue old.is_
   opens_as_it_is other =
       let it = spelled_if_all_passed old.now known sound passed in
       record {
-        registry = it.0;
-        kept = it.1;
-        spelled = it.2;
+        stored = it.stored;
+        spelled = it.spells;
         spells = λ is_open.
             (let same = same_now old mid reads settled is_open in
-            let here : Spells old.now it.0 it.1 = elim it.2.known [
-              | inl is ↦ record { schema = it.2.schema; known = is; contents = it.2.contents; holds = it.2.holds; spelled = it.2.spelled }
-              | inr bare ↦ absurd (other (ap (λ (d : Database). d.schema) same ∙ it.2.holds.base.declared ∙ bare))
+            let here : Spells old.now it.stored = elim it.spells.known [
+              | inl is ↦ record { schema = it.spells.schema; known = is; contents = it.spells.contents; holds = it.spells.holds; spelled = it.spells.spelled }
+              | inr bare ↦ absurd (other (ap (λ (d : Database). d.schema) same ∙ it.spells.holds.base.declared ∙ bare))
             ] in
-            record { is_open = is_open; settled = sym (reads.settled is_open); spells = subst (λ (d : Database). Spells d it.0 it.1) (sym same) here });
+            record { is_open = is_open; settled = sym (reads.settled is_open); spells = subst (λ (d : Database). Spells d it.stored) (sym same) here });
       }
 
   -- the index is made
@@ -55,11 +59,10 @@ module _ (old mid : State) (reads : OnlyReads old mid) (settled : IsTrue old.is_
   opens_with_index new bare mid_open is_open committed made =
       let it = spelled_if_all_passed old.now known sound passed in
       let same = same_now old mid reads settled mid_open in
-      let spells = spells_bare old.now it.0 it.1 (sym (ap (λ (d : Database). d.schema) same) ∙ bare) it.2 in
+      let spells = spells_bare old.now it.stored (sym (ap (λ (d : Database). d.schema) same) ∙ bare) it.spells in
       record {
-        registry = it.0;
-        kept = it.1;
-        spelled = it.2;
+        stored = it.stored;
+        spelled = it.spells;
         spells = λ _. record {
           is_open = is_open;
           settled = committed;
@@ -77,7 +80,7 @@ module _ (old mid : State) (reads : OnlyReads old mid) (settled : IsTrue old.is_
   pub bare_contents : mid.now.schema ≡ second_unindexed → IsTrue mid.is_open → (contents : SecondContents) × HoldsAllIn second_unindexed old.now contents
   bare_contents bare mid_open =
       let it = spelled_if_all_passed old.now known sound passed in
-      let spells = spells_bare old.now it.0 it.1 (sym (ap (λ (d : Database). d.schema) (same_now old mid reads settled mid_open)) ∙ bare) it.2 in
+      let spells = spells_bare old.now it.stored (sym (ap (λ (d : Database). d.schema) (same_now old mid reads settled mid_open)) ∙ bare) it.spells in
       (spells.contents, spells.holds)
 
 module _ (old mid new : State) (reads : HasCleanDisk mid → OnlyReads old mid) (settled : IsTrue old.is_open → old.now ≡ old.committed) (bare : HasCleanDisk new → IsTrue mid.is_open → (contents : SecondContents) × HoldsAllIn second_unindexed old.now contents) where
@@ -94,10 +97,10 @@ module _ (old mid new : State) (reads : HasCleanDisk mid → OnlyReads old mid) 
 -- what the tables spelled stays, whichever of the schemas they have then
 module _ (old new : State) (settled : IsTrue old.is_open → old.now ≡ old.committed) (only : (db : Trees) → IsTrue old.is_open → old.may_leave db → db ≡ old.committed.trees) (survives : Survives old new (IsIndexed old.now)) where
   pub loses_nothing : HasCleanDisk new → LosesNothing old new
-  loses_nothing clean is_open g k spelled db it = elim (survives.crash clean db it) [
-    | inl was ↦ left_if_spelled db old.now g k (only db is_open was ∙ sym (ap (λ (d : Database). d.trees) (settled is_open))) spelled
+  loses_nothing clean is_open was spelled db it = elim (survives.crash clean db it) [
+    | inl left ↦ left_if_spelled db old.now was (only db is_open left ∙ sym (ap (λ (d : Database). d.trees) (settled is_open))) spelled
     | inr made ↦
-        let bare = spells_bare old.now g k made.bare.base.declared spelled in
+        let bare = spells_bare old.now was made.bare.base.declared spelled in
         record { schema = second_indexed_last; spells = record { schema = second_indexed_last; known = inl (inr refl); contents = bare.contents; holds = made.indexed bare.contents bare.holds; spelled = bare.spelled } }
   ]
 
@@ -107,8 +110,59 @@ pub finds_first : (old new : State) (r : Result ℕ StoreError) → OnOk r (IsLa
 finds_first old new (Ok count) known is_open sound passes =
     let both = passes (has_tables_first old.now.schema known) in
     let it = spelled_if_first_passed old.now known (sound is_open) both.0 in
-    record { registry = it.0; kept = it.1; spells = it.2; counted = both.1 }
+    record { stored = it.stored; spells = it.spells; counted = both.1 }
 finds_first old new (Err e) known is_open sound passes = tt
+
+-- an error that names no layout names no wrong one
+pub refused_if_plain : (own : ℕ) (db : Database) (e : StoreError) → IsNumberless e → IsRefusedAs own db e
+refused_if_plain own db Memory plain = tt
+refused_if_plain own db Disk plain = tt
+refused_if_plain own db NotARegistry plain = tt
+refused_if_plain own db (OldLayout number) plain = absurd plain
+refused_if_plain own db (NewerLayout number) plain = absurd plain
+
+-- ---- what a call leaves that fails
 
 pub only_reads : (old new : State) → KeepsCommit old new → (IsTrue new.is_open → new.now ≡ new.committed) → OnlyReads old new
 only_reads old new stays settled = record { commit_stays = stays; settled = settled }
+
+-- a call that did nothing leaves all
+pub leaves_all : (s : State) (e : StoreError) → (IsTrue s.is_open → s.now ≡ s.committed) → LeavesCommit s → LeavesConnection s s e
+leaves_all s e settled commit = record {
+  nothing = λ clean. only_reads s s (record { was_open = λ is_open. is_open; committed = λ is_open. refl }) settled;
+  before = λ clean is_open. leaves_before s s e (λ db it. it);
+  closes = λ clean is_open. inl is_open;
+  settled = commit;
+}
+
+-- the limit on steps is no matter of it
+pub leaves_unlimited : {S : Type 0} (g : Ghosts S) (conn begun : Held S) → begun ≡ record conn { step_limit = None } → (new : State) (e : StoreError) → LeavesConnection (state g begun) new e → LeavesConnection (state g conn) new e
+leaves_unlimited g conn begun is new e leaves =
+    let it = subst (λ h. LeavesConnection (state g h) new e) is leaves in
+    record {
+      nothing = λ clean.
+          (let reads = it.nothing clean in
+          only_reads (state g conn) new (record { was_open = reads.commit_stays.was_open; committed = reads.commit_stays.committed }) reads.settled);
+      before = it.before;
+      closes = it.closes;
+      settled = it.settled;
+    }
+
+-- nothing is made beside other tables
+pub unmade_beside : {S : Type 0} (g : Ghosts S) (conn begun : Held S) → begun ≡ record conn { step_limit = None } → {LeavesNew : Trees → Type 0} → (state g begun).now.schema ≢ no_schema
+    → (IsTrue (state g begun).is_open → (state g begun).now ≡ (state g begun).committed) → LeavesCommit (state g begun) → IsUnmade LeavesNew (state g conn) (state g begun) NotARegistry
+unmade_beside g conn begun is others settled commit = record {
+  fault = λ clean none. absurd (others (ap (λ (h : Held _). h.schema) is ∙ none));
+  leaves = leaves_unlimited g conn begun is (state g begun) NotARegistry (leaves_all (state g begun) NotARegistry settled commit);
+  crash = λ clean db it. inl (subst (λ h. (state g h).may_leave db) is it);
+}
+
+-- nor is it what a look at layout 1 tells
+pub unread_unlimited : {S X : Type 0} (g : Ghosts S) (conn begun : Held S) → begun ≡ record conn { step_limit = None } → (new : State) (r : Result X StoreError)
+    → IfErr r (λ e. (IsTrue (state g begun).is_open → SpellsSome SpellsFirst (state g begun).now) → IsFaultBy (state g begun) new e)
+    → IfErr r (IsToldFirst (state g begun) new) → IfErr r (IsRefusedAs 1 (state g begun).now) → IfErr r (TellsOther 1 (state g begun)) → IfErr r (IsUnread (state g conn) new)
+unread_unlimited g conn begun is new (Ok x) fault told refused other = tt
+unread_unlimited g conn begun is new (Err e) fault told refused other =
+    let first : IsFaultFirst (state g begun) new e = λ was over. fault (λ is_open. record { stored = was; spells = over is_open }) in
+    let it = subst (λ h. IsUnread (state g h) new e) is (record { fault = first; told = told; refused = refused; other = other }) in
+    record { fault = it.fault; told = it.told; refused = it.refused; other = it.other }

@@ -6,7 +6,7 @@ use Rattle.std.specs.FinMap.{get}
 use Rattle.reg_core.specs.declared.level.Level.{Level}
 use Rattle.reg_core.specs.declared.level.Level.TheVariants.{Backward, BackwardTransitive, Forward, ForwardTransitive, Full, FullTransitive, Off}
 use Rattle.reg_core.specs.Levels.{level_text, level_of}
-use Rattle.reg_core.specs.Registry.{Registry}
+use Rattle.reg_core.specs.Stored.{Stored}
 use Rattle.reg_core.specs.declared.mode.Mode.{Mode}
 use Rattle.reg_core.specs.declared.mode.Mode.TheVariants.{Readwrite, Readonly}
 use Rattle.reg_core.specs.Modes.{mode_text, mode_of}
@@ -14,7 +14,7 @@ use Rattle.reg_tables.specs.Contents.{text_cmp, KeptRow}
 use Rattle.reg_tables.specs.SecondContents.{SecondContents}
 use Rattle.reg_tables.proofs.MapLemmas.{get-insert-same, get-insert-other}
 use Rattle.reg_tables.proofs.KeyedTables.{text_order}
-use Rattle.reg_core.specs.KeptReplies.{Entry, Kept}
+use Rattle.reg_core.specs.KeptReplies.{Entry}
 use Rattle.reg_store.specs.Spells.{IsSpelledSecond, row_of}
 use Rattle.reg_store.proofs.Seconds.{other_name}
 
@@ -63,11 +63,11 @@ mode_of-mode_text Readonly = refl
 pub mode_is : (text : List ℕ) (read written : Mode) → text ≡ mode_text written → mode_of text ≡ Some read → read ≡ written
 mode_is text read written is spells = let same : Some read ≡ Some written = sym spells ∙ ap mode_of is ∙ mode_of-mode_text written in cc
 
-module _ (contents : SecondContents) (g : Registry) (k : Kept) (s : IsSpelledSecond contents g k) where
-  pub global_is : get contents.base.meta (codes "global") ≡ Some (level_text g.global)
+module _ (contents : SecondContents) (was : Stored) (s : IsSpelledSecond contents was) where
+  pub global_is : get contents.base.meta (codes "global") ≡ Some (level_text was.registry.global)
   global_is =
-      ap (λ m. get m (codes "global")) s.meta ∙ get-insert-other text_cmp text_order _ (codes "mode") (mode_text g.global_mode) (codes "global") other_name
-      ∙ get-insert-same text_cmp text_order _ (codes "global") (level_text g.global)
+      ap (λ m. get m (codes "global")) s.meta ∙ get-insert-other text_cmp text_order _ (codes "mode") (mode_text was.registry.global_mode) (codes "global") other_name
+      ∙ get-insert-same text_cmp text_order _ (codes "global") (level_text was.registry.global)
 
-  pub global_mode_is : get contents.base.meta (codes "mode") ≡ Some (mode_text g.global_mode)
-  global_mode_is = ap (λ m. get m (codes "mode")) s.meta ∙ get-insert-same text_cmp text_order _ (codes "mode") (mode_text g.global_mode)
+  pub global_mode_is : get contents.base.meta (codes "mode") ≡ Some (mode_text was.registry.global_mode)
+  global_mode_is = ap (λ m. get m (codes "mode")) s.meta ∙ get-insert-same text_cmp text_order _ (codes "mode") (mode_text was.registry.global_mode)

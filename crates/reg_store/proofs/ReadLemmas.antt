@@ -15,7 +15,8 @@ use Rattle.reg_tables.proofs.Transactions.{keeps_then, survives_both}
 use Rattle.reg_store.specs.declared.error.StoreError.{StoreError}
 use Rattle.reg_store.specs.declared.error.StoreError.TheVariants.{Memory}
 use Rattle.reg_store.specs.declared.idle.Idle.{Idle}
-use Rattle.reg_store.specs.Spells.{IsOpenOver, Stored, Spell}
+use Rattle.reg_core.specs.Stored.{Stored}
+use Rattle.reg_store.specs.Spells.{IsOpenOver, SpellsWhileOpen}
 use Rattle.reg_store.specs.Failures.{failure_of, IsFaultBy, IsTold}
 use Rattle.reg_store.specs.Inside.Reads.{shown, Rests, MayRead, Reads}
 use Rattle.reg_store.specs.Stores.{TellsStored}
@@ -88,10 +89,10 @@ module _ (a b c : State) where
   told_of_all p q clean = told_since a b c (p.survives.closes (clean_at q clean)) p.survives.counts q.survives.counts
 
 -- after reads the tables spell what they spelled
-pub spell_on : (a b : State) → Rests a b → HasCleanDisk b → (was : Stored) → Spell a was → Spell b was
+pub spell_on : (a b : State) → Rests a b → HasCleanDisk b → (was : Stored) → SpellsWhileOpen a was → SpellsWhileOpen b was
 spell_on a b p clean was over is_open =
     let keeps = p.commit_stays clean in
-    still_spells a b was.registry was.replies keeps (λ _. p.settled clean is_open (sym (over (keeps.was_open is_open)).settled)) over is_open
+    still_spells a b was keeps (λ _. p.settled clean is_open (sym (over (keeps.was_open is_open)).settled)) over is_open
 
 module _ (a b : State) (p : Rests a b) (settled : IsTrue a.is_open → a.now ≡ a.committed) (clean : HasCleanDisk b) where
   -- after reads the tables hold what they held
@@ -117,7 +118,7 @@ module _ {S : Type 0} {g : Ghosts S} where
   module _ {X : Type 0} {Tells : Stored → X → Type 0} {old new : Idle S g} {r : Result X StoreError} where
     -- a table was read
     pub read : {Y : Type 0} {y : Y} → StaysIdle {E = Error} g old.idle.conn new.idle.conn (Ok y)
-        → (HasCleanDisk (shown new) → (was : Stored) → IsOpenOver (shown old) was.registry was.replies → MatchResult r (Tells was) (IsFaultBy (shown old) (shown new))) → Reads old new r Tells
+        → (HasCleanDisk (shown new) → (was : Stored) → IsOpenOver (shown old) was → MatchResult r (Tells was) (IsFaultBy (shown old) (shown new))) → Reads old new r Tells
     read {y = y} frame answers = record {
       may = record { rests = rests_read g old.idle.conn new.idle.conn (Ok y) frame; answers = λ clean was over. answers clean was (over (frame.was_open clean)) };
       was_open = λ clean. on_ok_each r (frame.was_open clean);
@@ -133,7 +134,7 @@ module _ {S : Type 0} {g : Ghosts S} where
     not_read {e = e} frame fault is = record {
       may = record {
         rests = rests_read g old.idle.conn new.idle.conn (Err e) frame;
-        answers = λ clean was over. passed_on (Tells was) (IsFaultBy (shown old) (shown new)) r (failure_of e) is (fault_by (shown old) (shown new) e old.unlimited (fault clean (can_be_read (shown old) was.registry was.replies over)));
+        answers = λ clean was over. passed_on (Tells was) (IsFaultBy (shown old) (shown new)) r (failure_of e) is (fault_by (shown old) (shown new) e old.unlimited (fault clean (can_be_read (shown old) was over)));
       };
       was_open = λ clean. none_ok (IsTrue (shown old).is_open) r (failure_of e) is;
     }
@@ -144,7 +145,7 @@ module _ {S : Type 0} {g : Ghosts S} where
     not_read_second {e = e} frame fault is = record {
       may = record {
         rests = rests_read g old.idle.conn new.idle.conn (Err e) frame;
-        answers = λ clean was over. passed_on (Tells was) (IsFaultBy (shown old) (shown new)) r (failure_of e) is (fault_by (shown old) (shown new) e old.unlimited (fault clean (can_be_read_second (shown old) was.registry was.replies over)));
+        answers = λ clean was over. passed_on (Tells was) (IsFaultBy (shown old) (shown new)) r (failure_of e) is (fault_by (shown old) (shown new) e old.unlimited (fault clean (can_be_read_second (shown old) was over)));
       };
       was_open = λ clean. none_ok (IsTrue (shown old).is_open) r (failure_of e) is;
     }
@@ -156,7 +157,7 @@ module _ {S : Type 0} {g : Ghosts S} where
     may_tell one made = record { rests = one.rests; answers = λ clean was over. made was (one.answers clean was over) }
 
     -- of one that succeeded
-    pub tell : {x : X} → Reads a b (Ok x) P → ((was : Stored) → IsOpenOver (shown a) was.registry was.replies → P was x → MatchResult r (Q was) (IsFaultBy (shown a) (shown b))) → Reads a b r Q
+    pub tell : {x : X} → Reads a b (Ok x) P → ((was : Stored) → IsOpenOver (shown a) was → P was x → MatchResult r (Q was) (IsFaultBy (shown a) (shown b))) → Reads a b r Q
     tell one made = record {
       may = record { rests = one.may.rests; answers = λ clean was over. made was (over (one.was_open clean)) (one.may.answers clean was over) };
       was_open = λ clean. on_ok_each r (one.was_open clean);
@@ -181,10 +182,10 @@ module _ {S : Type 0} {g : Ghosts S} where
     pub may_retell : MayRead a b r P → ((was : Stored) (x : X) → P was x → Q was x) → MayRead a b r Q
     may_retell one made = may_tell one (λ was. match_each r (made was) (λ e h. h))
 
-    pub retell : Reads a b r P → ((was : Stored) → IsOpenOver (shown a) was.registry was.replies → (x : X) → P was x → Q was x) → Reads a b r Q
+    pub retell : Reads a b r P → ((was : Stored) → IsOpenOver (shown a) was → (x : X) → P was x → Q was x) → Reads a b r Q
     retell one made = record { may = record { rests = one.may.rests; answers = λ clean was over. both r clean was over one.was_open (one.may.answers clean was over) }; was_open = one.was_open }
       where
-        both : (r : Result X StoreError) → HasCleanDisk (shown b) → (was : Stored) → Spell (shown a) was → (HasCleanDisk (shown b) → OnOk r (IsTrue (shown a).is_open)) → MatchResult r (P was) (IsFaultBy (shown a) (shown b)) → MatchResult r (Q was) (IsFaultBy (shown a) (shown b))
+        both : (r : Result X StoreError) → HasCleanDisk (shown b) → (was : Stored) → SpellsWhileOpen (shown a) was → (HasCleanDisk (shown b) → OnOk r (IsTrue (shown a).is_open)) → MatchResult r (P was) (IsFaultBy (shown a) (shown b)) → MatchResult r (Q was) (IsFaultBy (shown a) (shown b))
         both (Ok x) clean was over is_open h = made was (over (is_open clean)) x h
         both (Err e) clean was over is_open h = h
 
@@ -192,7 +193,7 @@ module _ {S : Type 0} {g : Ghosts S} where
 
   module _ {X Y Z : Type 0} {P : Stored → X → Type 0} {Q : Stored → Y → Type 0} {R : Stored → Z → Type 0} {a b c : Idle S g} {x : X} {r : Result Z StoreError} where
     pub may_go_on : {q : Result Y StoreError} → MayRead a b (Ok x) P → MayRead b c q Q
-        → ((was : Stored) → Spell (shown a) was → P was x → MatchResult q (Q was) (IsFaultBy (shown a) (shown c)) → MatchResult r (R was) (IsFaultBy (shown a) (shown c))) → MayRead a c r R
+        → ((was : Stored) → SpellsWhileOpen (shown a) was → P was x → MatchResult q (Q was) (IsFaultBy (shown a) (shown c)) → MatchResult r (R was) (IsFaultBy (shown a) (shown c))) → MayRead a c r R
     may_go_on {q} one two made = record {
       rests = rests_on (shown a) (shown b) (shown c) one.rests two.rests;
       answers = λ clean was over.
@@ -209,14 +210,37 @@ module _ {S : Type 0} {g : Ghosts S} where
     surely one two all = record { may = all; was_open = λ clean. on_ok_each r (one.was_open (clean_at (shown a) (shown b) (shown c) two.rests clean)) }
 
     pub go_on : {q : Result Y StoreError} → Reads a b (Ok x) P → MayRead b c q Q
-        → ((was : Stored) → Spell (shown a) was → P was x → MatchResult q (Q was) (IsFaultBy (shown a) (shown c)) → MatchResult r (R was) (IsFaultBy (shown a) (shown c))) → Reads a c r R
+        → ((was : Stored) → SpellsWhileOpen (shown a) was → P was x → MatchResult q (Q was) (IsFaultBy (shown a) (shown c)) → MatchResult r (R was) (IsFaultBy (shown a) (shown c))) → Reads a c r R
     go_on one two made = surely one two (may_go_on one.may two made)
 
     pub stop : {e : StoreError} → Reads a b (Ok x) P → MayRead b c (Err e) Q → IsErrAnd r (λ failure. failure ≡ e) → Reads a c r R
     stop one two is = surely one two (may_stop one.may two is)
 
+  -- where the second one surely reads, the first one had an open connection
+  pub opened_by : {X Y : Type 0} {P : Stored → X → Type 0} {Q : Stored → Y → Type 0} {a b c : Idle S g} {x : X} {y : Y} → MayRead a b (Ok x) P → Reads b c (Ok y) Q → HasCleanDisk (shown c) → IsTrue (shown a).is_open
+  opened_by {a} {b} {c} one two clean = (one.rests.commit_stays (clean_at (shown a) (shown b) (shown c) two.may.rests clean)).was_open (two.was_open clean)
+
+  module _ {X Y Z : Type 0} {P : Stored → X → Type 0} {Q : Stored → Y → Type 0} {R : Stored → Z → Type 0} {a b c : Idle S g} {x : X} {r : Result Z StoreError} where
+    pub read_later : {y : Y} → MayRead a b (Ok x) P → Reads b c (Ok y) Q
+        → ((was : Stored) → IsOpenOver (shown a) was → P was x → Q was y → MatchResult r (R was) (IsFaultBy (shown a) (shown c))) → Reads a c r R
+    read_later one two made = record {
+      may = record {
+        rests = rests_on (shown a) (shown b) (shown c) one.rests two.may.rests;
+        answers = λ clean was over.
+            (let early = clean_at (shown a) (shown b) (shown c) two.may.rests clean in
+            made was (over (opened_by one two clean)) (one.answers early was over) (two.may.answers clean was (spell_on (shown a) (shown b) one.rests early was over)));
+      };
+      was_open = λ clean. on_ok_each r (opened_by one two clean);
+    }
+
+    pub fail_later : {e : StoreError} → MayRead a b (Ok x) P → MayRead b c (Err e) Q → IsErrAnd r (λ failure. failure ≡ e) → Reads a c r R
+    fail_later {e} one two is = record { may = may_stop one two is; was_open = λ clean. none_ok (IsTrue (shown a).is_open) r e is }
+
   -- two that succeed, as one
   module _ {X Y : Type 0} {P : Stored → X → Type 0} {Q : Stored → Y → Type 0} {a b c : Idle S g} {x : X} {y : Y} where
+    pub may_both : MayRead a b (Ok x) P → MayRead b c (Ok y) Q → MayRead {X = X × Y} a c (Ok (x, y)) (λ was found. P was found.0 × Q was found.1)
+    may_both one two = may_go_on one two (λ was over p q. (p, q))
+
     pub both : Reads a b (Ok x) P → MayRead b c (Ok y) Q → Reads {X = X × Y} a c (Ok (x, y)) (λ was found. P was found.0 × Q was found.1)
     both one two = go_on one two (λ was over p q. (p, q))
 

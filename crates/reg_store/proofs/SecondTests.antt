@@ -2,7 +2,7 @@
 use Rattle.std.proofs.Common.{◌≡◌, inl, ℕ, ℤ, List, map, Option, Some, None, IsTrue, refl, sym, ap, subst, ◌∙◌, arith}
 use Rattle.std.specs.Prelude.{IsSome, IsUtf8, is_some, option_map, option_and_then, slice_get, string_bytes}
 use Rattle.std.specs.List.{AllByRecursion}
-use Rattle.std.specs.FinMap.{get, from_entries, get-from_entries}
+use Rattle.std.specs.FinMap.{get, empty, from_entries, get-from_entries}
 use Rattle.sqlite.specs.Schema.{Schema}
 use Rattle.sqlite.specs.Effect.{Database, IsDatabase}
 use Rattle.sqlite.specs.State.{State}
@@ -11,8 +11,8 @@ use Rattle.reg_core.specs.declared.mode.Mode.{Mode}
 use Rattle.reg_core.specs.declared.mode.Mode.TheVariants.{Readwrite}
 use Rattle.reg_core.specs.Levels.{level_of}
 use Rattle.reg_core.specs.Modes.{mode_of, mode_text}
-use Rattle.reg_core.specs.Registry.{RowKey, Registry, OwnModes, no_own}
-use Rattle.reg_core.specs.KeptReplies.{Kept}
+use Rattle.reg_core.specs.Registry.{RowKey, OwnModes, no_own}
+use Rattle.reg_core.specs.Stored.{Stored}
 use Rattle.reg_core.specs.Subjects.{is_subject}
 use Rattle.reg_tables.specs.declared.modes.ModeLine.{ModeLine}
 use Rattle.reg_tables.specs.declared.second_lines.EvidenceLine.{EvidenceLine}
@@ -39,6 +39,7 @@ use Rattle.reg_store.specs.declared.layout.Layout.TheVariants.{First}
 use Rattle.reg_store.specs.Spells.{SpellsFirst, SpellsIn, SpellsUnopened, SpellsWhileOpen}
 use Rattle.reg_store.specs.Inside.Testing.{AreApart, mode_fits, EvidenceFits, TablesPass, SpellsSome, SecondPasses}
 use Rattle.reg_store.proofs.Bridge.{spelt}
+use Rattle.reg_store.proofs.EvidenceMaps.{spelled_if_evidence, evidence_if_spelled}
 use Rattle.reg_store.proofs.EvidenceRows.{the_value, evidence_if_fits, level_fits, places_fit, in_place}
 use Rattle.reg_store.proofs.MetaRows.{mode_spelt, meta_is, second_meta_is}
 use Rattle.reg_store.proofs.ReadBack.{mode_of-mode_text}
@@ -108,7 +109,7 @@ module _ (db : Database) (s : SpellsSome SpellsUnopened db) where
   modes_pass lines lists =
       let shown = modes_shown lines lists in (
         subst AreApart (rowids_of mode_entry (λ (line : ModeLine). line.rowid) (λ line. refl) lines) shown.0.rowids,
-        modes_fit lines shown.0 s.registry.own_modes (λ subject. ap (λ m. get m subject) (sym shown.1) ∙ s.spells.spelled.modes subject) s.spells.spelled.owners,
+        modes_fit lines shown.0 s.stored.registry.own_modes (λ subject. ap (λ m. get m subject) (sym shown.1) ∙ s.spells.spelled.modes subject) s.spells.spelled.owners,
       )
 
   pub evidence_passes : (evidence : List EvidenceLine) (against : List AgainstLine) → ListsEvidence db evidence → ListsAgainst db against → EvidenceFits evidence against
@@ -119,36 +120,38 @@ module _ (db : Database) (s : SpellsSome SpellsUnopened db) where
       (shown_in evidence_form db.trees held.evidence _ (slice_get db.schema.tables 6) added.1 holds.evidence) in
       let ids = listed_if_shown against_form place_cmp place_order (against_key db.schema).distinct (db.trees (table_at db.schema 7).tree) (map against_entry against) places held.against distinct_numbers
       (shown_in against_form db.trees held.against _ (slice_get db.schema.tables 7) added.2 holds.against) in
+      let rows = evidence_if_spelled held s.stored.evidence s.spells.spelled.evidence in
       record {
         apart = subst AreApart (rowids_of evidence_entry (λ (line : EvidenceLine). line.rowid) (λ line. refl) evidence) levels.apart.rowids;
-        fit = level_fits evidence against levels.apart ids.apart held levels.is ids.is s.spells.spelled.evidence;
+        fit = level_fits evidence against levels.apart ids.apart held levels.is ids.is rows;
         places_apart = subst AreApart (rowids_of against_entry (λ (line : AgainstLine). line.rowid) (λ line. refl) against) ids.apart.rowids;
-        places_fit = places_fit evidence against levels.apart ids.apart held levels.is ids.is s.spells.spelled.evidence;
-        placed = in_place evidence against levels.apart ids.apart held levels.is ids.is s.spells.spelled.evidence;
+        places_fit = places_fit evidence against levels.apart ids.apart held levels.is ids.is rows;
+        placed = in_place evidence against levels.apart ids.apart held levels.is ids.is rows;
       }
 
 pub second_known : (db : Database) → SpellsSome SpellsUnopened db → HasSecondTables db.schema
 second_known db s = known db s
 
 -- what is spelled in layout 2 can be read, in all eight tables
-pub all_readable : (db : Database) (g : Registry) (k : Kept) → {Known : Schema → Type 0} → (s : SpellsIn Known db g k) → HasSecondTables s.schema → AreAllReadable s.contents
-all_readable db g k s tables =
-    let base = readable_second s.contents g k s.spelled in
+pub all_readable : (db : Database) (was : Stored) → {Known : Schema → Type 0} → (s : SpellsIn Known db was) → HasSecondTables s.schema → AreAllReadable s.contents
+all_readable db was s tables =
+    let base = readable_second s.contents was s.spelled in
+    let rows = evidence_if_spelled s.contents was.evidence s.spelled.evidence in
     let version = λ (key : RowKey) (some : IsSome (get s.contents.base.versions key)). (let it = the_value (get s.contents.base.versions key) some in base.versions key it.0 it.1) in
     record {
       base = base;
       modes = λ subject mode there.
-          (let it = was_written mode_text (g.own_modes subject) mode (sym (s.spelled.modes subject) ∙ there) in
+          (let it = was_written mode_text (was.registry.own_modes subject) mode (sym (s.spelled.modes subject) ∙ there) in
           (utf8_subject subject (s.spelled.owners subject it.0 it.1), subst IsUtf8 (sym it.2) (utf8_mode it.0)));
       evidence = λ key level there.
           (let of_version = version key (has_evidence_version s.schema db s.contents tables s.holds key level there) in
-          let fits = s.spelled.evidence.levels key level there in
+          let fits = rows.levels key level there in
           (of_version.0, of_version.1, utf8_spelt level fits));
       against = λ place id there.
-          (let owner = the_value (get s.contents.evidence place.0) (s.spelled.evidence.owners place id there) in
+          (let owner = the_value (get s.contents.evidence place.0) (rows.owners place id there) in
           let of_version = version place.0 (has_evidence_version s.schema db s.contents tables s.holds place.0 owner.0 owner.1) in
           let text = the_value (get s.contents.base.texts id) (has_against_text s.schema db s.contents tables s.holds place id there) in
-          let order = s.spelled.evidence.places place.0 in
+          let order = rows.places place.0 in
           let high = ((order.each place.1).0 (subst IsSome (sym there) refl)).1 in
           let few = order.few in
           (of_version.0, of_version.1, omega (arith, high, few), (base.texts id text.0 text.1).0));
@@ -157,29 +160,29 @@ all_readable db g k s tables =
     utf8_spelt : (level : List ℕ) → IsTrue (is_some (level_of level)) → IsUtf8 level
     utf8_spelt level fits = let it = the_value (level_of level) fits in subst IsUtf8 (sym (spelt level it.0 it.1)) (utf8_level it.0)
 
-pub can_be_read_second : (s : State) (g : Registry) (k : Kept) → SpellsWhileOpen s g k → CanBeReadSecond s
-can_be_read_second s g k over is_open =
+pub can_be_read_second : (s : State) (was : Stored) → SpellsWhileOpen s was → CanBeReadSecond s
+can_be_read_second s was over is_open =
     let it = (over is_open).spells in
     let tables = added_tables it.schema (inl it.known) in
-    record { schema = it.schema; known = tables; contents = it.contents; holds = it.holds; readable = all_readable s.now g k it tables }
+    record { schema = it.schema; known = tables; contents = it.contents; holds = it.holds; readable = all_readable s.now was it tables }
 
 pub some_read_second : (s : State) → (IsTrue s.is_open → SpellsSome SpellsUnopened s.now) → CanBeReadSecond s
 some_read_second s over is_open =
     let it = over is_open in
     let tables = added_tables it.spells.schema it.spells.known in
-    record { schema = it.spells.schema; known = tables; contents = it.spells.contents; holds = it.spells.holds; readable = all_readable s.now it.registry it.kept it.spells tables }
+    record { schema = it.spells.schema; known = tables; contents = it.spells.contents; holds = it.spells.holds; readable = all_readable s.now it.stored it.spells tables }
 
 -- ---- tables that pass spell a registry
 
-pub spelled_if_first_passed : (db : Database) → IsLayout db.schema → IsDatabase db → TablesPass First db → (g : Registry) × (k : Kept) × SpellsFirst db g k
+pub spelled_if_first_passed : (db : Database) → IsLayout db.schema → IsDatabase db → TablesPass First db → SpellsSome SpellsFirst db
 spelled_if_first_passed db known sound p =
     let keys = layout_keys db.schema known in
     let it = spelled_if_passed db keys sound p.meta.lines p.meta.lists p.meta.apart p.rest in
     let holds = holds_if_passed db keys sound p.meta.lines p.meta.lists p.meta.apart p.rest in
-    let meta = meta_is p.meta.lines p.meta.fit in (
-      record it.0 { global = meta.0; global_mode = Readwrite; own_modes = no_own },
-      it.1,
-      record {
+    let meta = meta_is p.meta.lines p.meta.fit in
+    record {
+      stored = record { registry = record it.0 { global = meta.0; global_mode = Readwrite; own_modes = no_own }; replies = it.1; evidence = empty };
+      spells = record {
         schema = db.schema;
         known = known;
         contents = contents_of (lines_in p.meta.lines p.rest);
@@ -188,11 +191,12 @@ spelled_if_first_passed db known sound p =
           base = spelled_beside (contents_of (lines_in p.meta.lines p.rest)) it.0 it.1 it.2 (contents_of (lines_in p.meta.lines p.rest)).meta meta.0 Readwrite no_own;
           meta = meta.1;
           modes = record { global = refl; own = λ subject. refl };
+          evidence = refl;
         };
-      },
-    )
+      };
+    }
 
-pub spelled_if_all_passed : (db : Database) → IsSecondLayout db.schema → IsDatabase db → SecondPasses db → (g : Registry) × (k : Kept) × SpellsUnopened db g k
+pub spelled_if_all_passed : (db : Database) → IsSecondLayout db.schema → IsDatabase db → SecondPasses db → SpellsSome SpellsUnopened db
 spelled_if_all_passed db known sound p =
     let keys = second_keys db.schema known in
     let rest = p.base.rest in
@@ -207,10 +211,11 @@ spelled_if_all_passed db known sound p =
     let held = second_contents_of lines in
     let holds = holds_all_if_listed db lines (added_tables db.schema known) (record { base = lists_if_passed db keys sound meta_lines p.base.meta.lists p.base.meta.apart rest; modes = modes.lists; evidence = evidence.lists.0; against = evidence.lists.1 }) sound
     (record { base = apart_if_passed db keys sound meta_lines p.base.meta.lists p.base.meta.apart rest; modes = modes_apart db known sound modes.lines modes.lists modes.apart; evidence = versions_apart; against = places_apart }) in
-    let own = λ (subject : List ℕ). option_and_then mode_of (get (modes_in modes.lines) subject) in (
-      record it.0 { global = meta.0; global_mode = meta.1; own_modes = own },
-      it.1,
-      record {
+    let own = λ (subject : List ℕ). option_and_then mode_of (get (modes_in modes.lines) subject) in
+    let admitted = spelled_if_evidence held (evidence_if_fits evidence.evidence evidence.against versions_apart places_apart held refl refl evidence.fits.fit evidence.fits.places_fit evidence.fits.placed) in
+    record {
+      stored = record { registry = record it.0 { global = meta.0; global_mode = meta.1; own_modes = own }; replies = it.1; evidence = admitted.0 };
+      spells = record {
         schema = db.schema;
         known = known;
         contents = held;
@@ -220,7 +225,7 @@ spelled_if_all_passed db known sound p =
           meta = meta.2;
           modes = λ subject. mode_spelt_back (get (modes_in modes.lines) subject) (λ v there. (mode_fits_at modes.lines modes.fit subject v there).mode);
           owners = subject_owns modes.lines modes.fit;
-          evidence = evidence_if_fits evidence.evidence evidence.against versions_apart places_apart held refl refl evidence.fits.fit evidence.fits.places_fit evidence.fits.placed;
+          evidence = admitted.1;
         };
-      },
-    )
+      };
+    }

@@ -8,11 +8,13 @@ use Rattle.reg_core.specs.Levels.{level_text}
 use Rattle.reg_core.specs.Modes.{mode_text}
 use Rattle.reg_core.specs.Registry.{Registry}
 use Rattle.reg_core.specs.KeptReplies.{Kept}
+use Rattle.reg_core.specs.Stored.{Stored}
 use Rattle.reg_tables.specs.Contents.{TextMap, Contents}
 use Rattle.reg_tables.specs.SecondContents.{SecondContents}
 use Rattle.reg_tables.specs.Writing.{Changes, ChangesIf}
 use Rattle.reg_tables.specs.Changes.{numbered_meta}
 use Rattle.reg_store.specs.Spells.{second_meta, IsSpelled, IsSpelledSecond, Spells}
+use Rattle.reg_store.proofs.Evidence.{evidence_beside}
 use Rattle.reg_store.proofs.Maps.{insert-insert, insert-swap}
 
 -- ---- `meta`
@@ -34,22 +36,21 @@ module _ (meta : TextMap (List ℕ)) where
 
 -- ---- the five tables
 
-module _ (contents : SecondContents) (g : Registry) (k : Kept) (s : IsSpelledSecond contents g k) where
-  -- what the five tables hold is another, and spells another registry with the same own modes
-  pub spelled_in : (base : Contents) (h : Registry) (l : Kept) → IsSpelled base h l → base.meta ≡ second_meta (level_text h.global) (mode_text h.global_mode) → h.own_modes ≡ g.own_modes → IsSpelledSecond (record contents { base = base }) h l
-  spelled_in base h l spelled meta same = record {
-    base = spelled;
-    meta = meta;
-    modes = λ subject. s.modes subject ∙ sym (ap (λ own. option_map mode_text (own subject)) same);
-    owners = λ subject mode there. s.owners subject mode (ap (λ own. own subject) (sym same) ∙ there);
-    evidence = record { levels = s.evidence.levels; owners = s.evidence.owners; places = s.evidence.places };
-  }
+-- what the five tables hold is another, and spells another registry with the same own modes
+pub spelled_in : (contents : SecondContents) (was : Stored) (s : IsSpelledSecond contents was) (base : Contents) (h : Registry) (l : Kept) → IsSpelled base h l → base.meta ≡ second_meta (level_text h.global) (mode_text h.global_mode) → h.own_modes ≡ was.registry.own_modes
+    → IsSpelledSecond (record contents { base = base }) (record was { registry = h; replies = l })
+spelled_in contents was s base h l spelled meta same = record {
+  base = spelled;
+  meta = meta;
+  modes = λ subject. s.modes subject ∙ sym (ap (λ own. option_map mode_text (own subject)) same);
+  owners = λ subject mode there. s.owners subject mode (ap (λ own. own subject) (sym same) ∙ there);
+  evidence = evidence_beside contents was.evidence s.evidence base;
+}
 
 module _ (old new : State) where
   -- a change of the five tables
-  pub changed : (change : Contents → Contents) → Changes old new change → (g : Registry) (k : Kept) (s : Spells old.now g k) (h : Registry) (l : Kept) → IsSpelledSecond (record s.contents { base = change s.contents.base }) h l → Spells new.now h l
-  changed change changes g k s h l spelled = record { schema = s.schema; known = s.known; contents = record s.contents { base = change s.contents.base }; holds = changes s.schema (inr s.known) s.contents s.holds; spelled = spelled }
+  pub changed : (change : Contents → Contents) → Changes old new change → (was : Stored) (s : Spells old.now was) (now : Stored) → IsSpelledSecond (record s.contents { base = change s.contents.base }) now → Spells new.now now
+  changed change changes was s now spelled = record { schema = s.schema; known = s.known; contents = record s.contents { base = change s.contents.base }; holds = changes s.schema (inr s.known) s.contents s.holds; spelled = spelled }
 
-  pub put : (Free : Contents → Type 0) (change : Contents → Contents) → ChangesIf old new Free change → (g : Registry) (k : Kept) (s : Spells old.now g k) → Free s.contents.base
-      → (h : Registry) (l : Kept) → IsSpelledSecond (record s.contents { base = change s.contents.base }) h l → Spells new.now h l
-  put Free change puts g k s free h l spelled = record { schema = s.schema; known = s.known; contents = record s.contents { base = change s.contents.base }; holds = puts s.schema (inr s.known) s.contents s.holds free; spelled = spelled }
+  pub put : (Free : Contents → Type 0) (change : Contents → Contents) → ChangesIf old new Free change → (was : Stored) (s : Spells old.now was) → Free s.contents.base → (now : Stored) → IsSpelledSecond (record s.contents { base = change s.contents.base }) now → Spells new.now now
+  put Free change puts was s free now spelled = record { schema = s.schema; known = s.known; contents = record s.contents { base = change s.contents.base }; holds = puts s.schema (inr s.known) s.contents s.holds free; spelled = spelled }

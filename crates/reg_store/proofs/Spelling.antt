@@ -21,8 +21,11 @@ use Rattle.reg_tables.specs.Contents.{TextMap, Contents}
 use Rattle.reg_tables.specs.Writing.{Changes, ChangesIf}
 use Rattle.reg_tables.specs.Changes.{with_global, with_level, with_kept}
 use Rattle.reg_core.specs.KeptReplies.{Entry, Kept, kept_with}
-use Rattle.reg_store.specs.Spells.{CanBeKept, IsSpelled, Spells, row_of}
-use Rattle.reg_store.specs.Inside.Making.{Makes}
+use Rattle.reg_core.specs.Stored.{Stored}
+use Rattle.reg_store.specs.declared.keep.Keep.{Keep}
+use Rattle.reg_store.specs.Changes.{entry_of, made_of}
+use Rattle.reg_store.specs.Spells.{CanBeKept, IsSpelled, row_of}
+use Rattle.reg_store.specs.Inside.Making.{Makes, Keeps}
 use Rattle.reg_store.proofs.Maps.{insert_both}
 use Rattle.reg_store.proofs.Seconds.{spelled_in, level_changed, changed, put}
 
@@ -92,30 +95,29 @@ module _ (contents : Contents) (g : Registry) (k : Kept) (s : IsSpelled contents
 
 module _ (old new : State) where
   pub respells_global : (level : Level) → Changes old new (with_global (level_text level)) → Makes old new (SetGlobal level)
-  respells_global level changes g k s fits =
-      changed old new (with_global (level_text level)) changes g k s _ _
-      (spelled_in s.contents g k s.spelled _ _ _ (spelled_beside s.contents.base g k s.spelled.base _ level g.global_mode g.own_modes) (level_changed s.contents.base.meta g.global level (mode_text g.global_mode) s.spelled.meta) refl)
+  respells_global level changes was s fits =
+      let g = was.registry in
+      changed old new (with_global (level_text level)) changes was s _
+      (spelled_in s.contents was s.spelled _ _ _ (spelled_beside s.contents.base g was.replies s.spelled.base _ level g.global_mode g.own_modes) (level_changed s.contents.base.meta g.global level (mode_text g.global_mode) s.spelled.meta) refl)
 
   pub respells_level : (subject : List ℕ) (level : Level) → IsTrue (is_subject subject) → Changes old new (with_level subject (level_text level)) → Makes old new (SetLevel subject level)
-  respells_level subject level within changes g k s fits =
-      changed old new (with_level subject (level_text level)) changes g k s _ _
-      (spelled_in s.contents g k s.spelled _ _ _ (spelled_level s.contents.base g k s.spelled.base subject level within) s.spelled.meta refl)
+  respells_level subject level within changes was s fits =
+      changed old new (with_level subject (level_text level)) changes was s _
+      (spelled_in s.contents was s.spelled _ _ _ (spelled_level s.contents.base was.registry was.replies s.spelled.base subject level within) s.spelled.meta refl)
 
-  pub respells_kept : (key : List ℕ) (entry : Entry) → CanBeKept key entry
-      → ChangesIf old new (λ contents. get contents.kept key ≡ None) (with_kept key (row_of entry))
-      → (g : Registry) (k : Kept) → Spells old.now g k → k key ≡ None → Spells new.now g (kept_with k key entry)
-  respells_kept key entry fits puts g k s fresh =
-      put old new (λ contents. get contents.kept key ≡ None) (with_kept key (row_of entry)) puts g k s (s.spelled.base.kept key ∙ ap (option_map row_of) fresh) _ _
-      (spelled_in s.contents g k s.spelled _ _ _ (spelled_kept s.contents.base g k s.spelled.base key entry fits) s.spelled.meta refl)
+  pub respells_kept : (keep : Keep) → CanBeKept keep.key.now (entry_of keep) → ChangesIf old new (λ contents. get contents.kept keep.key.now ≡ None) (with_kept keep.key.now (row_of (entry_of keep))) → Keeps old new (Some keep)
+  respells_kept keep fits puts was s fresh =
+      put old new (λ contents. get contents.kept keep.key.now ≡ None) (with_kept keep.key.now (row_of (entry_of keep))) puts was s (s.spelled.base.kept keep.key.now ∙ ap (option_map row_of) fresh) _
+      (spelled_in s.contents was s.spelled _ _ _ (spelled_kept s.contents.base was.registry was.replies s.spelled.base keep.key.now (entry_of keep) fits) s.spelled.meta refl)
 
 -- ---- several changes
 
-after_changes-append : (changes : List Change) (change : Change) (g : Registry) → after_changes (changes ++ change ∷ []) g ≡ after_change change (after_changes changes g)
-after_changes-append [] change g = refl
-after_changes-append (c ∷ cs) change g = after_changes-append cs change (after_change c g)
+made_of-append : (changes : List Change) (change : Change) (was : Stored) → made_of (changes ++ change ∷ []) was ≡ made_of (change ∷ []) (made_of changes was)
+made_of-append [] change was = refl
+made_of-append (c ∷ cs) change was = made_of-append cs change (made_of (c ∷ []) was)
 
-pub after_changes-more : (changes : List Change) (i : ℕ) (change : Change) (g : Registry) → i < length changes → after_changes (take (i + 1) changes) g ≡ after_change (get_or changes i change) (after_changes (take i changes) g)
-after_changes-more changes i change g lt = ap (λ l. after_changes l g) (take_more changes i change lt) ∙ after_changes-append (take i changes) (get_or changes i change) g
+pub made_of-more : (changes : List Change) (i : ℕ) (change : Change) (was : Stored) → i < length changes → made_of (take (i + 1) changes) was ≡ made_of (get_or changes i change ∷ []) (made_of (take i changes) was)
+made_of-more changes i change was lt = ap (λ l. made_of l was) (take_more changes i change lt) ∙ made_of-append (take i changes) (get_or changes i change) was
 
 -- what fits at its turn fits the registry after those before it
 pub fits_at : (changes : List Change) (i : ℕ) (change : Change) (g : Registry) → i < length changes → change ≡ get_or changes i change → ChangesFit changes g → ChangeFits change (after_changes (take i changes) g)

@@ -36,6 +36,7 @@ use Rattle.reg_store.specs.declared.error.StoreError.TheVariants.{Memory, NotARe
 use Rattle.reg_store.specs.Failures.{failure_of, IsFaultBy, IsTold}
 use Rattle.reg_store.specs.Opening.{text_row, version_row, level_row, kept_row, HasVersionRows}
 use Rattle.reg_core.specs.KeptReplies.{Kept}
+use Rattle.reg_core.specs.Stored.{Stored}
 use Rattle.reg_store.specs.Spells.{IsSpelled}
 use Rattle.reg_store.specs.Inside.Reads.{SpellsBase}
 use Rattle.reg_store.specs.Inside.Testing.{AreApart, version_fits, level_fits, kept_fits, SpellsSome, Tests, RestPasses}
@@ -68,34 +69,34 @@ versions_counted db lines lists =
 
 -- ---- tables that spell a registry pass
 
-pub is_known : (db : Database) (g : Registry) (k : Kept) → SpellsBase db g k → HasTablesFirst db.schema
-is_known db g k s = laid_out s.holds s.first
+pub is_known : (db : Database) (was : Stored) → SpellsBase db was → HasTablesFirst db.schema
+is_known db was s = laid_out s.holds s.first
 
-module _ (db : Database) (g : Registry) (k : Kept) (s : SpellsBase db g k) where
+module _ (db : Database) (was : Stored) (s : SpellsBase db was) where
   pub texts_pass : (lines : List TextLine) → ListsTexts db lines → Rises (map (λ (row : ℕ × Text). row.0) (map text_row lines)) → AreTexts (map text_row lines)
   texts_pass lines lists rising =
       let shown = listed_if_shown text_form _ number_order distinct_numbers (db.trees texts.tree) (map text_entry lines) lists s.contents.texts distinct_texts s.holds.texts in
-      texts_fit lines shown.apart g.schemas s.spelled.registry.schemas s.spelled.registry.few (λ id. sym (ap (λ m. get m id) shown.is) ∙ s.spelled.texts id) rising
+      texts_fit lines shown.apart was.registry.schemas s.spelled.registry.schemas s.spelled.registry.few (λ id. sym (ap (λ m. get m id) shown.is) ∙ s.spelled.texts id) rising
 
   pub versions_pass : (lines : List VersionLine) → ListsVersions db lines → AreApart (map (λ (line : VersionLine). line.rowid) lines) × AllByRecursion version_fits lines
   versions_pass lines lists =
       let shown = listed_if_shown version_form version_cmp version_order distinct_versions (db.trees versions.tree) (map version_entry lines) lists s.contents.versions distinct_version_rows s.holds.versions in (
         subst AreApart (rowids_of version_entry (λ (line : VersionLine). line.rowid) (λ line. refl) lines) shown.apart.rowids,
-        each_line version_row IsVersionRow lines (versions_fit lines shown.apart g.schemas g.rows (λ key. sym (ap (λ m. get m key) shown.is) ∙ s.spelled.versions key) s.spelled.registry.rows s.spelled.registered),
+        each_line version_row IsVersionRow lines (versions_fit lines shown.apart was.registry.schemas was.registry.rows (λ key. sym (ap (λ m. get m key) shown.is) ∙ s.spelled.versions key) s.spelled.registry.rows s.spelled.registered),
       )
 
   pub levels_pass : (lines : List LevelLine) → ListsLevels db lines → AreApart (map (λ (line : LevelLine). line.rowid) lines) × AllByRecursion level_fits lines
   levels_pass lines lists =
       let shown = listed_if_shown pair_form text_cmp text_order distinct_texts (db.trees levels.tree) (map level_entry lines) lists s.contents.levels distinct_texts s.holds.levels in (
         subst AreApart (rowids_of level_entry (λ (line : LevelLine). line.rowid) (λ line. refl) lines) shown.apart.rowids,
-        each_line level_row IsLevelRow lines (levels_fit lines shown.apart g.own (λ q. sym (ap (λ m. get m q) shown.is) ∙ s.spelled.levels q) s.spelled.subjects),
+        each_line level_row IsLevelRow lines (levels_fit lines shown.apart was.registry.own (λ q. sym (ap (λ m. get m q) shown.is) ∙ s.spelled.levels q) s.spelled.subjects),
       )
 
   pub kept_pass : (lines : List KeptLine) → ListsKept db lines → AreApart (map (λ (line : KeptLine). line.rowid) lines) × AllByRecursion kept_fits lines
   kept_pass lines lists =
       let shown = listed_if_shown kept_form text_cmp text_order distinct_texts (db.trees kept.tree) (map kept_entry lines) lists s.contents.kept distinct_kept_rows s.holds.kept in (
         subst AreApart (rowids_of kept_entry (λ (line : KeptLine). line.rowid) (λ line. refl) lines) shown.apart.rowids,
-        each_line kept_row IsKeptRow lines (kept_fit lines shown.apart k (λ q. sym (ap (λ m. get m q) shown.is) ∙ s.spelled.kept q) s.spelled.keys),
+        each_line kept_row IsKeptRow lines (kept_fit lines shown.apart was.replies (λ q. sym (ap (λ m. get m q) shown.is) ∙ s.spelled.kept q) s.spelled.keys),
       )
 
 -- ---- tables that pass spell a registry
@@ -129,7 +130,7 @@ module _ (db : Database) (known : HasKeysFirst db.schema) (sound : IsDatabase db
 -- ---- how a test comes out
 
 pub some_known : (db : Database) → SpellsSome SpellsBase db → HasTablesFirst db.schema
-some_known db s = is_known db s.registry s.kept s.spells
+some_known db s = is_known db s.stored s.spells
 
 pub some_can_be_read : (s : State) → (IsTrue s.is_open → SpellsSome SpellsBase s.now) → CanBeRead s
 some_can_be_read s over = λ is_open.

@@ -1,6 +1,6 @@
--- How the test of `texts` comes out, which counts the ids and then reads the texts.
+-- How the test of `texts` comes out, which counts the ids and then reads the texts, some at a time.
 use Rattle.std.proofs.Common.{◌≡◌, ℕ, ◌+◌, ◌≤◌, List, [], ◌∷◌, map, length, Bool, false, Ok, Err, Result, IsTrue, sym, ap, subst, ◌∙◌, arith}
-use Rattle.std.specs.Prelude.{IfErr, OnOk, IsErrAnd}
+use Rattle.std.specs.Prelude.{OnOk}
 use Rattle.std.specs.List.{AllByRecursion}
 use Rattle.std.specs.List.Sorted.{IsPermutation}
 use Rattle.std.proofs.lemmas.Bool.{both_ways}
@@ -17,20 +17,16 @@ use Rattle.reg_tables.specs.declared.lines.TextLine.{TextLine}
 use Rattle.reg_tables.specs.Frames.{StaysIdle}
 use Rattle.reg_tables.specs.Layout.{HasTablesFirst}
 use Rattle.reg_tables.specs.Listings.{ListsTexts}
-use Rattle.reg_tables.specs.Reads.{CanBeRead}
+use Rattle.reg_tables.specs.Reads.{HoldsReadable}
 use Rattle.reg_tables.proofs.ListMembers.{has_permuted}
-use Rattle.reg_tables.proofs.Transactions.{keeps_then, survives_both}
 use Rattle.reg_store.specs.declared.error.StoreError.{StoreError}
-use Rattle.reg_store.specs.declared.error.StoreError.TheVariants.{NotARegistry}
-use Rattle.reg_store.specs.Failures.{IsFaultBy, IsTold}
-use Rattle.reg_store.specs.UnopenedFaults.{IsToldFirst}
 use Rattle.reg_store.specs.Opening.{text_row}
-use Rattle.reg_store.specs.Inside.Testing.{text_fits, IsFaultBase, SpellsSome, TestsBase, TextsPass, NumbersTexts, Judges}
+use Rattle.reg_store.specs.Inside.Testing.{text_fits, SpellsSome, Tests, TextsPass, NumbersTexts, Judges}
 use Rattle.reg_store.specs.Inside.Reads.{SpellsBase, Rests}
 use Rattle.reg_store.proofs.Numbering.{Rises}
-use Rattle.reg_store.proofs.TestLemmas.{framed, each_row, lists_sorted, texts_pass, some_can_be_read}
+use Rattle.reg_store.proofs.TestLemmas.{each_row, lists_sorted, texts_pass}
 use Rattle.reg_store.proofs.TextParts.{within, in_order}
-use Rattle.reg_store.proofs.ReadLemmas.{on_ok_each, rests_read, clean_at, fault_of_all, readable_on, told_of_all, layout_on}
+use Rattle.reg_store.proofs.ReadLemmas.{rests_read, rests_on, clean_at, fault_of_all, readable_on, told_of_all, layout_on}
 
 -- ---- what all lines say of the table
 
@@ -71,64 +67,39 @@ module _ (db : Database) (count : ℕ) (numbers : NumbersTexts db count) (fit : 
   -- a registry's texts are not refused
   pub texts_allowed : SpellsSome SpellsBase db → fit ≡ false → ⊥
   texts_allowed s unfit =
-      let fits = texts_pass db s.registry s.kept s.spells ordered.0 lists (subst Rises (sym ids) (numbered_rise 1 numbers.ids numbers.numbered)) in
+      let fits = texts_pass db s.stored s.spells ordered.0 lists (subst Rises (sym ids) (numbered_rise 1 numbers.ids numbers.numbered)) in
       both_ways _ unfit (it.judged.1 (fits_permuted ordered.0 it.lines (IsPermutation-sym _ _ ordered.1) (each_fit ordered.0 fits.identities)))
     where
       each_fit : (lines : List TextLine) → AllByRecursion IsTextRow (map text_row lines) → AllByRecursion text_fits lines
       each_fit [] h = tt
       each_fit (line ∷ lines) h = (h.0, each_fit lines h.1)
 
--- ---- how the test comes out, after the ids were counted
+-- ---- texts that are read some at a time
 
-module _ {S : Type 0} (g : Ghosts S) (a b c : Held S) (settled : IsTrue (state g a).is_open → (state g a).now ≡ (state g a).committed) (count : ℕ) (counted : StaysIdle {E = StoreError} g a b (Ok count)) (read : Rests (state g b) (state g c)) where
-  stays : {X : Type 0} (r : Result X StoreError) → StaysIdle g a c r
-  stays r = record {
-    was_open = λ clean. on_ok_each r (counted.was_open (clean_at (state g a) (state g b) (state g c) read clean));
-    only_reads = λ clean.
-        (let first = counted.only_reads (clean_at (state g a) (state g b) (state g c) read clean) in record {
-          commit_stays = keeps_then (state g a) (state g b) (state g c) first.commit_stays (read.commit_stays clean);
-          settled = λ is_open. read.settled clean is_open (first.settled ((read.commit_stays clean).was_open is_open));
-        });
-    survives = survives_both (state g a) (state g b) (state g c) counted.survives read.survives;
+pub readable_if_spelled : (db : Database) → SpellsSome SpellsBase db → HoldsReadable db
+readable_if_spelled db s = let it = s.spells in record { schema = it.schema; known = it.first; contents = it.contents; holds = it.holds; readable = it.readable }
+
+module _ {S : Type 0} (g : Ghosts S) (a c : Held S) (settled : IsTrue (state g a).is_open → (state g a).now ≡ (state g a).committed) where
+  stays : {X : Type 0} (r : Result X StoreError) → Rests (state g a) (state g c) → (HasCleanDisk (state g c) → OnOk r (IsTrue (state g a).is_open)) → StaysIdle g a c r
+  stays r rests was_open = record {
+    was_open = was_open;
+    only_reads = λ clean. let keeps = rests.commit_stays clean in record { commit_stays = keeps; settled = λ is_open. rests.settled clean is_open (settled (keeps.was_open is_open)) };
+    survives = rests.survives;
   }
 
-  -- the texts weren't read
-  pub reading_failed : {P : Unit {0} → Database → Type 0} (r : Result (Unit {0}) StoreError) (e : StoreError) → (HasCleanDisk (state g c) → CanBeRead (state g b) → IsFaultBy (state g b) (state g c) e) → (HasCleanDisk (state g c) → IsToldFirst (state g b) (state g c) e)
-      → IsErrAnd r (λ failure. failure ≡ e) → TestsBase g a c r P
-  reading_failed (Ok x) e fault told is = absurd is
-  reading_failed (Err failure) e fault told is = record {
-    frame = stays (Err failure);
-    tells = λ clean. tt;
-    fault = λ clean over.
-        (let first = rests_read g a b (Ok count) counted in
-        let early = clean_at (state g a) (state g b) (state g c) read clean in
-        subst (IsFaultBy (state g a) (state g c)) (sym is)
-        (fault_of_all (state g a) (state g b) (state g c) first read clean e (fault clean (readable_on (state g a) (state g b) first settled early (some_can_be_read (state g a) over)))));
-    told = λ clean known.
-        (let first = rests_read g a b (Ok count) counted in
-        let early = clean_at (state g a) (state g b) (state g c) read clean in
-        subst (IsTold (state g a) (state g c)) (sym is) (told_of_all (state g a) (state g b) (state g c) first read clean e (told clean (layout_on (state g a) (state g b) first settled early known))));
-  }
+  -- all were read
+  pub all_read : {X : Type 0} {P : X → Database → Type 0} (x : X) → Rests (state g a) (state g c) → (HasCleanDisk (state g c) → IsTrue (state g a).is_open)
+      → (HasCleanDisk (state g c) → HasTablesFirst (state g a).now.schema → P x (state g a).now) → Tests HasTablesFirst HoldsReadable g a c (Ok x) P
+  all_read x rests was_open tells = record { frame = stays (Ok x) rests was_open; tells = tells; fault = λ clean. tt; told = λ clean. tt }
 
-  -- they were, and pass or don't
-  pub texts_judged : {P : Database → Type 0} (r : Result (Unit {0}) StoreError) (fit : Bool) → OnOk r (IsTrue fit) → IfErr r (λ e. (e ≡ NotARegistry) × (fit ≡ false)) → (HasCleanDisk (state g c) → IsTrue fit → HasTablesFirst (state g a).now.schema → P (state g a).now)
-      → (HasCleanDisk (state g c) → fit ≡ false → SpellsSome SpellsBase (state g a).now → ⊥) → TestsBase g a c r (λ _. P)
-  texts_judged (Ok x) fit ok err passes fails = record { frame = stays (Ok x); tells = λ clean. passes clean ok; fault = λ clean. tt; told = λ clean. tt }
-  texts_judged (Err e) fit ok err passes fails = record {
-    frame = stays (Err e);
-    tells = λ clean. tt;
-    fault = λ clean over. absurd (fails clean err.1 (over (counted.was_open (clean_at (state g a) (state g b) (state g c) read clean))));
-    told = λ clean known. subst (IsTold (state g a) (state g c)) (sym err.0) tt;
-  }
-
--- the ids weren't counted
-module _ {S : Type 0} (g : Ghosts S) (old new : Held S) where
-  pub count_failed : {P : Unit {0} → Database → Type 0} (r : Result (Unit {0}) StoreError) (e : StoreError) → StaysIdle {X = ℕ} g old new (Err e) → (HasCleanDisk (state g new) → IsFaultBase (state g old) (state g new) e) → (HasCleanDisk (state g new) → IsToldFirst (state g old) (state g new) e)
-      → IsErrAnd r (λ failure. failure ≡ e) → TestsBase g old new r P
-  count_failed (Ok x) e frame fault told is = absurd is
-  count_failed (Err failure) e frame fault told is = record {
-    frame = framed g old new (Err e) (Err failure) frame (λ clean. tt);
-    tells = λ clean. tt;
-    fault = λ clean over. subst (IsFaultBy (state g old) (state g new)) (sym is) (fault clean over);
-    told = λ clean known. subst (IsTold (state g old) (state g new)) (sym is) (told clean known);
-  }
+  -- some weren't, after others were
+  pub some_unread : {X Y : Type 0} {P : X → Database → Type 0} {Q : Y → Database → Type 0} (b : Held S) (e : StoreError) → Rests (state g a) (state g b) → Tests {X = X} HasTablesFirst HoldsReadable g b c (Err e) P → Tests {X = Y} HasTablesFirst HoldsReadable g a c (Err e) Q
+  some_unread b e rests t =
+      let step = rests_read g b c (Err e) t.frame in
+      let early = clean_at (state g a) (state g b) (state g c) step in
+      record {
+        frame = stays (Err e) (rests_on (state g a) (state g b) (state g c) rests step) (λ clean. tt);
+        tells = λ clean. tt;
+        fault = λ clean can. fault_of_all (state g a) (state g b) (state g c) rests step clean e (t.fault clean (readable_on (state g a) (state g b) rests settled (early clean) can));
+        told = λ clean known. told_of_all (state g a) (state g b) (state g c) rests step clean e (t.told clean (layout_on (state g a) (state g b) rests settled (early clean) known));
+      }

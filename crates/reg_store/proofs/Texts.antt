@@ -18,6 +18,7 @@ use Rattle.reg_core.specs.declared.mode.Mode.{Mode}
 use Rattle.reg_core.specs.declared.mode.Mode.TheVariants.{Readwrite, Readonly}
 use Rattle.reg_core.specs.Modes.{mode_text}
 use Rattle.reg_core.specs.Registry.{Registry, schema_at}
+use Rattle.reg_core.specs.Stored.{Stored}
 use Rattle.reg_tables.specs.Contents.{text_cmp, TextMap, VersionRow, Contents, AreReadable}
 use Rattle.reg_tables.specs.SecondContents.{SecondContents}
 use Rattle.reg_tables.specs.Changes.{meta_as, meta_of}
@@ -127,8 +128,9 @@ module _ (contents : Contents) (g : Registry) (k : Kept) (s : IsSpelled contents
     meta = meta;
   }
 
-pub readable_first : (contents : Contents) (g : Registry) (k : Kept) → IsSpelledFirst contents g k → AreReadable contents
-readable_first contents g k s = readable_base contents g k s.base (λ name value there. utf8_first_meta g.global name value (sym (ap (λ m. get m name) s.meta) ∙ there))
+pub readable_first : (contents : Contents) (was : Stored) → IsSpelledFirst contents was → AreReadable contents
+readable_first contents was s = readable_base contents was.registry was.replies s.base (λ name value there. utf8_first_meta was.registry.global name value (sym (ap (λ m. get m name) s.meta) ∙ there))
 
-pub readable_second : (contents : SecondContents) (g : Registry) (k : Kept) → IsSpelledSecond contents g k → AreReadable contents.base
-readable_second contents g k s = readable_base contents.base g k s.base (λ name value there. utf8_second_meta g.global g.global_mode name value (sym (ap (λ m. get m name) s.meta) ∙ there))
+pub readable_second : (contents : SecondContents) (was : Stored) → IsSpelledSecond contents was → AreReadable contents.base
+readable_second contents was s =
+    readable_base contents.base was.registry was.replies s.base (λ name value there. utf8_second_meta was.registry.global was.registry.global_mode name value (sym (ap (λ m. get m name) s.meta) ∙ there))

@@ -8,14 +8,13 @@ use Rattle.sqlite.specs.Steps.{FailsToCommit}
 use Rattle.sqlite.specs.State.{State, HasCleanDisk, Survives}
 use Rattle.sqlite.specs.Held.{Held, state}
 use Rattle.sqlite_trees.specs.declared.store.Store.{Ghosts}
-use Rattle.reg_core.specs.Registry.{Registry}
 use Rattle.reg_core.specs.declared.decision.Change.{Change}
 use Rattle.reg_core.specs.Views.{ChangeFits}
 use Rattle.reg_tables.specs.Writing.{WhereHeld}
 use Rattle.reg_tables.specs.FailedCalls.{IsWriteFault, IsInsertFault}
 use Rattle.reg_store.specs.declared.error.StoreError.{StoreError}
 use Rattle.reg_store.specs.declared.keep.Keep.{Keep}
-use Rattle.reg_core.specs.KeptReplies.{Kept}
+use Rattle.reg_core.specs.Stored.{Stored}
 use Rattle.reg_store.specs.Spells.{row_of, Spells, SpellsWhileOpen}
 use Rattle.reg_store.specs.Changes.{SpellsInside, GoesOn}
 use Rattle.reg_store.specs.Inside.Making.{IsFaultOfChange, IsFaultOfReply}
@@ -65,19 +64,19 @@ module _ (s new : State) (e : Error) (unlimited : s.step_limit ≡ None) (inside
   fault_of_commit (inr late) = absurd (both_ways _ late.1 inside)
 
 module _ (s new : State) (e : Error) (shut : IsTrue s.is_open ⊎ IsWriteFault s new e) where
-  pub fault_of_change : (change : Change) → ((g : Registry) (k : Kept) → Spells s.now g k → ChangeFits change g → IsInsertFault s new e) → IsFaultOfChange s new change e
-  fault_of_change change fails g k spells fits = elim shut [ inl is_open ↦ fails g k (spells is_open) fits | inr fault ↦ inl (inl fault) ]
+  pub fault_of_change : (change : Change) → ((was : Stored) → Spells s.now was → ChangeFits change was.registry → IsInsertFault s new e) → IsFaultOfChange s new change e
+  fault_of_change change fails was spells fits = elim shut [ inl is_open ↦ fails was (spells is_open) fits | inr fault ↦ inl (inl fault) ]
 
   pub fault_of_reply : (keep : Keep) → WhereHeld s (λ contents. get contents.kept keep.key.now ≡ None → IsInsertFault s new e) → IsFaultOfReply s new (Some keep) e
-  fault_of_reply keep fails g k spells fresh = elim shut [
+  fault_of_reply keep fails was spells fresh = elim shut [
     | inl is_open ↦ let it = spells is_open in fails it.schema (inr it.known) it.contents it.holds (it.spelled.base.kept keep.key.now ∙ ap (option_map row_of) fresh)
     | inr fault ↦ inl (inl fault)
   ]
 
 -- a transaction that was begun shows what the connection did
-pub begun_spells : {S : Type 0} (g : Ghosts S) (conn begun : Held S) → begun ≡ record conn { in_transaction = true } → (r : Registry) (k : Kept) → SpellsWhileOpen (state g conn) r k → SpellsInside (state g begun) r k
-begun_spells g conn begun is r k over is_open =
-    subst (λ h. Spells (state g h).now r k) (sym is) (over (subst (λ h. IsTrue (state g h).is_open) is is_open)).spells
+pub begun_spells : {S : Type 0} (g : Ghosts S) (conn begun : Held S) → begun ≡ record conn { in_transaction = true } → (was : Stored) → SpellsWhileOpen (state g conn) was → SpellsInside (state g begun) was
+begun_spells g conn begun is was over is_open =
+    subst (λ h. Spells (state g h).now was) (sym is) (over (subst (λ h. IsTrue (state g h).is_open) is is_open)).spells
 
 -- a fault inside is one of the call
 module _ {S : Type 0} (g : Ghosts S) (conn begun last : Held S) (end : Held S) (is : begun ≡ record conn { in_transaction = true }) (up : (state g last).faults ≤ (state g end).faults) (e : StoreError) where

@@ -1,12 +1,14 @@
 -- What a call makes of a registry and of the kept replies.
 use Rattle.std.specs.Prelude.{◌≡◌, ◌≢◌, ◌⊎◌, List, [], Option, None, Some, IsSome, IsTrue, false, ⊤}
+use Rattle.sqlite.specs.Tree.{Trees}
 use Rattle.sqlite.specs.State.{State}
 use Rattle.reg_core.specs.declared.decision.Change.{Change}
 use Rattle.reg_core.specs.Replies.{IsKeptStatus}
-use Rattle.reg_core.specs.Registry.{Registry}
+use Rattle.reg_core.specs.Stored.{Stored}
+use Rattle.reg_core.specs.Views.{ChangesFit, after_changes, evidence_after_changes}
 use Rattle.reg_store.specs.declared.keep.Keep.{Keep}
 use Rattle.reg_core.specs.KeptReplies.{Entry, Kept, kept_with}
-use Rattle.reg_store.specs.Spells.{Spells}
+use Rattle.reg_store.specs.Spells.{Spells, Leaves, SpellsWhileOpen}
 
 -- this project's choice: what is kept of a command and its reply
 abbrev pub entry_of : Keep → Entry
@@ -30,9 +32,30 @@ IsKeepable keep = IsKeptStatus keep.reply.now.status
 abbrev pub ActsOn : List Change → Option Keep → Type 0
 ActsOn changes keep = (changes ≢ []) ⊎ IsSome keep
 
--- inside a transaction: as long as the connection is open, its tables spell them
-abbrev pub SpellsInside : State → Registry → Kept → Type 0
-SpellsInside s g k = IsTrue s.is_open → Spells s.now g k
+-- this project's choice: what is stored can take the changes, each at its turn, and the reply
+pub record CanTake (changes : List Change) (keep : Option Keep) (was : Stored) : Type 0 where
+  pub fit : ChangesFit changes was.registry
+  pub fresh : IsNewTo was.replies keep
+
+-- this project's choice: what is stored after the changes: the registry and what its versions were admitted by become others
+abbrev pub made_of : List Change → Stored → Stored
+made_of changes was = record was { registry = after_changes changes was.registry; evidence = evidence_after_changes changes was.evidence }
+
+-- this project's choice: what is stored after the changes, where the reply is kept with them
+abbrev pub stored_after : List Change → Option Keep → Stored → Stored
+stored_after changes keep was = record (made_of changes was) { replies = with_reply keep was.replies }
+
+-- this project's choice: this is so of whatever the connection is open over, if it is, and can take the changes and the reply
+abbrev pub WhereTaken : State → List Change → Option Keep → (Stored → Type 0) → Type 0
+WhereTaken s changes keep P = (was : Stored) → SpellsWhileOpen s was → CanTake changes keep was → P was
+
+-- SQLite, transactions: a crash leaves what is stored now, or a database that it left before; and that spells what was stored, if the connection was open
+abbrev pub LeavesEither : State → State → Stored → Stored → Type 0
+LeavesEither old new was now = (db : Trees) → new.may_leave db → (old.may_leave db × (IsTrue old.is_open → Leaves db was)) ⊎ Leaves db now
+
+-- inside a transaction: as long as the connection is open, its tables spell what is stored
+abbrev pub SpellsInside : State → Stored → Type 0
+SpellsInside s was = IsTrue s.is_open → Spells s.now was
 
 -- only a transaction that had ended before ended
 abbrev pub GoesOn : State → State → Type 0

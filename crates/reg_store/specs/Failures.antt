@@ -8,8 +8,7 @@ use Rattle.sqlite_schema.specs.declared.schema.Constraint.TheVariants.{PrimaryKe
 use Rattle.reg_tables.specs.FailedCalls.{HasDiskFault}
 use Rattle.reg_store.specs.declared.error.StoreError.{StoreError}
 use Rattle.reg_store.specs.declared.error.StoreError.TheVariants.{Memory, Disk, NotARegistry, OldLayout, NewerLayout}
-use Rattle.reg_core.specs.Registry.{Registry}
-use Rattle.reg_core.specs.KeptReplies.{Kept}
+use Rattle.reg_core.specs.Stored.{Stored}
 use Rattle.reg_store.specs.Spells.{SpellsWhileOpen}
 
 -- SQLite, result codes: memory was refused; the disk failed, or what was to be written is past a limit of the file; or the statement doesn't fit the tables
@@ -50,4 +49,4 @@ IsNumberless _ = Unit {0}
 
 -- this project's choice: where the tables spell a registry, memory and the disk alone fail
 abbrev pub IsFaultOver : State → State → StoreError → Type 0
-IsFaultOver old new e = (g : Registry) (k : Kept) → SpellsWhileOpen old g k → IsFaultBy old new e
+IsFaultOver old new e = (was : Stored) → SpellsWhileOpen old was → IsFaultBy old new e

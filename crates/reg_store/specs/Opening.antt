@@ -21,11 +21,10 @@ use Rattle.reg_tables.specs.SecondContents.{SecondContents, HoldsAllIn}
 use Rattle.reg_tables.specs.Reads.{HoldsMeta}
 use Rattle.reg_rows.specs.Spelling.{Text}
 use Rattle.reg_rows.specs.Meta.{number_in}
-use Rattle.reg_core.specs.Registry.{Registry}
+use Rattle.reg_core.specs.Stored.{Stored}
 use Rattle.reg_store.specs.declared.error.StoreError.{StoreError}
 use Rattle.reg_store.specs.declared.error.StoreError.TheVariants.{OldLayout, NewerLayout}
 use Rattle.reg_store.specs.Failures.{is_fault}
-use Rattle.reg_core.specs.KeptReplies.{Kept}
 use Rattle.reg_store.specs.Spells.{SpellsFirst, SpellsUnopened, LeavesIn, SpellsWhileOpen}
 
 -- ---- rows
@@ -100,28 +99,26 @@ pub record IsIndexed (before : Database) (db : Trees) : Type 0 where
   pub bare : HoldsAllIn second_unindexed before contents
   pub indexed : (held : SecondContents) → HoldsAllIn second_unindexed before held → HoldsAllIn second_indexed_last (record { schema = second_indexed_last; trees = db }) held
 
--- the trees spell a registry and kept replies, with the index or without it
-abbrev pub LeavesUnopened : Trees → Registry → Kept → Type 0
+-- the trees spell what is stored, with the index or without it
+abbrev pub LeavesUnopened : Trees → Stored → Type 0
 LeavesUnopened = LeavesIn IsSecondLayout
 
 -- this project's choice: whatever the tables of an open connection spelled, a crash leaves it
 abbrev pub LosesNothing : State → State → Type 0
-LosesNothing old new = IsTrue old.is_open → (g : Registry) (k : Kept) → SpellsUnopened old.now g k → (db : Trees) → new.may_leave db → LeavesUnopened db g k
+LosesNothing old new = IsTrue old.is_open → (was : Stored) → SpellsUnopened old.now was → (db : Trees) → new.may_leave db → LeavesUnopened db was
 
--- the tables spelled a registry and kept replies, and the connection shows these
+-- the tables spelled what is stored, and the connection shows it
 pub record OpensOver (old new : State) : Type 0 where
-  pub registry : Registry
-  pub kept : Kept
-  pub spelled : SpellsUnopened old.now registry kept
-  pub spells : SpellsWhileOpen new registry kept
+  pub stored : Stored
+  pub spelled : SpellsUnopened old.now stored
+  pub spells : SpellsWhileOpen new stored
 
 -- `versions` has so many rows
 abbrev pub HasVersionRows : Database → ℕ → Type 0
 HasVersionRows db count = count ≡ length (db.trees versions.tree)
 
--- the tables of layout 1 spell a registry and kept replies, and `versions` has so many rows
+-- the tables of layout 1 spell what is stored, and `versions` has so many rows
 pub record FindsFirst (db : Database) (count : ℕ) : Type 0 where
-  pub registry : Registry
-  pub kept : Kept
-  pub spells : SpellsFirst db registry kept
+  pub stored : Stored
+  pub spells : SpellsFirst db stored
   pub counted : HasVersionRows db count

@@ -1,6 +1,6 @@
 -- What the tables say of a registry and of the replies that it keeps.
-use Rattle.std.specs.Prelude.{◌≡◌, ◌↔◌, ◌<◌, ◌≤◌, ◌^◌, ℕ, List, None, Some, IsSome, IsTrue, IsUtf8, codes, is_some, option_map}
-use Rattle.std.specs.FinMap.{FinMap, get, insert}
+use Rattle.std.specs.Prelude.{◌≡◌, ◌<◌, ◌^◌, ℕ, zero, suc, List, length, slice_get, Option, None, Some, IsTrue, IsUtf8, codes, option_map, option_and_then}
+use Rattle.std.specs.FinMap.{get, insert, empty}
 use Rattle.sqlite.specs.Tree.{Trees}
 use Rattle.sqlite.specs.Schema.{Schema}
 use Rattle.sqlite.specs.Effect.{Database}
@@ -10,16 +10,18 @@ use Rattle.avro_nodes.specs.Identity.{identity}
 use Rattle.reg_core.specs.declared.level.Level.{Level}
 use Rattle.reg_core.specs.declared.mode.Mode.{Mode}
 use Rattle.reg_core.specs.declared.mode.Mode.TheVariants.{Readwrite}
-use Rattle.reg_core.specs.Levels.{level_text, level_of}
+use Rattle.reg_core.specs.Levels.{level_text}
 use Rattle.reg_core.specs.Modes.{mode_text}
 use Rattle.reg_core.specs.Keys.{IsKey}
 use Rattle.reg_core.specs.Subjects.{is_subject}
 use Rattle.reg_core.specs.Replies.{IsKeptStatus}
 use Rattle.reg_core.specs.Registry.{RowKey, Version, Registry, IsRegistry, schema_at}
+use Rattle.reg_core.specs.Evidence.{Evidence, EvidenceOf}
+use Rattle.reg_core.specs.Stored.{Stored}
 use Rattle.reg_tables.specs.Layout.{IsLayout}
 use Rattle.reg_tables.specs.SecondLayout.{IsSecond, IsSecondLayout}
 use Rattle.reg_tables.specs.Contents.{TextMap, VersionRow, KeptRow, Contents, HoldsIn}
-use Rattle.reg_tables.specs.SecondContents.{PlaceKey, place_cmp, SecondContents, HoldsAllIn}
+use Rattle.reg_tables.specs.SecondContents.{PlaceKey, SecondContents, HoldsAllIn}
 use Rattle.reg_tables.specs.Changes.{meta_as, meta_of}
 use Rattle.reg_core.specs.KeptReplies.{Entry, Kept}
 
@@ -59,26 +61,27 @@ pub record HasNoModes (g : Registry) : Type 0 where
   pub global : g.global_mode ≡ Readwrite
   pub own : (subject : List ℕ) → g.own_modes subject ≡ None
 
--- this project's choice: what the tables of layout 1 hold spells this registry and these kept replies
-pub record IsSpelledFirst (contents : Contents) (g : Registry) (k : Kept) : Type 0 where
-  pub base : IsSpelled contents g k
+-- this project's choice: what the tables of layout 1 hold spells what is stored
+pub record IsSpelledFirst (contents : Contents) (was : Stored) : Type 0 where
+  pub base : IsSpelled contents was.registry was.replies
   -- the format, the layout and the global level, and no more
-  pub meta : contents.meta ≡ meta_of (level_text g.global)
-  -- layout 1 has no place for modes
-  pub modes : HasNoModes g
+  pub meta : contents.meta ≡ meta_of (level_text was.registry.global)
+  -- layout 1 has no place for modes, and none for evidence
+  pub modes : HasNoModes was.registry
+  pub evidence : was.evidence ≡ empty
 
--- this project's choice: the tables of the database are those of layout 1, the index there or missing, and they spell this registry and these kept replies
-pub record SpellsFirst (db : Database) (g : Registry) (k : Kept) : Type 0 where
+-- this project's choice: the tables of the database are those of layout 1, the index there or missing, and they spell what is stored
+pub record SpellsFirst (db : Database) (was : Stored) : Type 0 where
   pub schema : Schema
   pub known : IsLayout schema
   pub contents : Contents
   pub holds : HoldsIn schema db contents
-  pub spelled : IsSpelledFirst contents g k
+  pub spelled : IsSpelledFirst contents was
 
--- this project's choice: the database that a crash leaves spells them, and lists the tables of layout 1
-pub record LeavesFirst (db : Trees) (g : Registry) (k : Kept) : Type 0 where
+-- this project's choice: the database that a crash leaves spells it, and lists the tables of layout 1
+pub record LeavesFirst (db : Trees) (was : Stored) : Type 0 where
   pub schema : Schema
-  pub spells : SpellsFirst (record { schema = schema; trees = db }) g k
+  pub spells : SpellsFirst (record { schema = schema; trees = db }) was
 
 -- ---- layout 2
 
@@ -86,74 +89,66 @@ pub record LeavesFirst (db : Trees) (g : Registry) (k : Kept) : Type 0 where
 abbrev pub second_meta : List ℕ → List ℕ → TextMap (List ℕ)
 second_meta level mode = insert (meta_as (codes "2") level) (codes "mode") mode
 
--- this project's choice: the ids that the version was tested against stand at the positions from 1 to their count
-pub record AreInOrder (against : FinMap place_cmp ℕ) (key : RowKey) : Type 0 where
-  pub count : ℕ
-  pub few : count < 2 ^ 32
-  pub each : (position : ℕ) → IsSome (get against (key, position)) ↔ ((0 < position) × (position ≤ count))
+-- this project's choice: the id at a position, counted from 1, of those that a version was tested against
+abbrev pub id_at : ℕ → Evidence → Option ℕ
+id_at zero one = None
+id_at (suc n) one = slice_get one.against n
 
--- this project's choice: the evidence of a version is a level, and ids in order. (Nothing here says that it is true.)
-pub record IsEvidence (contents : SecondContents) : Type 0 where
-  pub levels : (key : RowKey) (level : List ℕ) → get contents.evidence key ≡ Some level → IsTrue (is_some (level_of level))
-  pub owners : (place : PlaceKey) (id : ℕ) → get contents.against place ≡ Some id → IsSome (get contents.evidence place.0)
-  pub places : (key : RowKey) → AreInOrder contents.against key
+-- this project's choice: the evidence of a version is spelled by the level's text, and by the ids at the positions from 1 to their count
+pub record IsSpelledEvidence (contents : SecondContents) (evidence : EvidenceOf) : Type 0 where
+  pub levels : (key : RowKey) → get contents.evidence key ≡ option_map (λ one. level_text one.level) (get evidence key)
+  pub ids : (place : PlaceKey) → get contents.against place ≡ option_and_then (id_at place.1) (get evidence place.0)
+  pub few : (key : RowKey) (one : Evidence) → get evidence key ≡ Some one → length one.against < 2 ^ 32
 
--- this project's choice: what the tables of layout 2 hold spells this registry and these kept replies, whatever evidence its versions have
-pub record IsSpelledSecond (contents : SecondContents) (g : Registry) (k : Kept) : Type 0 where
-  pub base : IsSpelled contents.base g k
-  pub meta : contents.base.meta ≡ second_meta (level_text g.global) (mode_text g.global_mode)
-  pub modes : (subject : List ℕ) → get contents.modes subject ≡ option_map mode_text (g.own_modes subject)
-  pub owners : (subject : List ℕ) (mode : Mode) → g.own_modes subject ≡ Some mode → IsTrue (is_subject subject)
-  pub evidence : IsEvidence contents
+-- this project's choice: what the tables of layout 2 hold spells what is stored
+pub record IsSpelledSecond (contents : SecondContents) (was : Stored) : Type 0 where
+  pub base : IsSpelled contents.base was.registry was.replies
+  pub meta : contents.base.meta ≡ second_meta (level_text was.registry.global) (mode_text was.registry.global_mode)
+  pub modes : (subject : List ℕ) → get contents.modes subject ≡ option_map mode_text (was.registry.own_modes subject)
+  pub owners : (subject : List ℕ) (mode : Mode) → was.registry.own_modes subject ≡ Some mode → IsTrue (is_subject subject)
+  pub evidence : IsSpelledEvidence contents was.evidence
 
--- this project's choice: the database has one of these schemas, and its tables spell this registry and these kept replies
-pub record SpellsIn (Known : Schema → Type 0) (db : Database) (g : Registry) (k : Kept) : Type 0 where
+-- this project's choice: the database has one of these schemas, and its tables spell what is stored
+pub record SpellsIn (Known : Schema → Type 0) (db : Database) (was : Stored) : Type 0 where
   pub schema : Schema
   pub known : Known schema
   pub contents : SecondContents
   pub holds : HoldsAllIn schema db contents
-  pub spelled : IsSpelledSecond contents g k
+  pub spelled : IsSpelledSecond contents was
 
--- this project's choice: the tables of the database are those of layout 2, and they spell them
-abbrev pub Spells : Database → Registry → Kept → Type 0
+-- this project's choice: the tables of the database are those of layout 2, and they spell it
+abbrev pub Spells : Database → Stored → Type 0
 Spells = SpellsIn IsSecond
 
 -- this project's choice: so they do before a store is opened over them, when the index of versions may be missing
-abbrev pub SpellsUnopened : Database → Registry → Kept → Type 0
+abbrev pub SpellsUnopened : Database → Stored → Type 0
 SpellsUnopened = SpellsIn IsSecondLayout
 
--- this project's choice: the database that a crash leaves spells them, and lists the tables of one of these schemas
-pub record LeavesIn (Known : Schema → Type 0) (db : Trees) (g : Registry) (k : Kept) : Type 0 where
+-- this project's choice: the database that a crash leaves spells it, and lists the tables of one of these schemas
+pub record LeavesIn (Known : Schema → Type 0) (db : Trees) (was : Stored) : Type 0 where
   pub schema : Schema
-  pub spells : SpellsIn Known (record { schema = schema; trees = db }) g k
+  pub spells : SpellsIn Known (record { schema = schema; trees = db }) was
 
 -- this project's choice: it lists those of layout 2, so that an open finds them
-abbrev pub Leaves : Trees → Registry → Kept → Type 0
+abbrev pub Leaves : Trees → Stored → Type 0
 Leaves = LeavesIn IsSecond
 
 -- ---- connections
 
--- SQLite, transactions: the connection is open outside a transaction, and its last commit spells them
-pub record IsOpenOver (s : State) (g : Registry) (k : Kept) : Type 0 where
+-- SQLite, transactions: the connection is open outside a transaction, and its last commit spells what is stored
+pub record IsOpenIn (Spelled : Database → Stored → Type 0) (s : State) (was : Stored) : Type 0 where
   pub is_open : IsTrue s.is_open
   pub settled : s.committed ≡ s.now
-  pub spells : Spells s.now g k
+  pub spells : Spelled s.now was
 
--- SQLite, transactions: so it is, and its last commit spells them in layout 1
-pub record IsOpenOverFirst (s : State) (g : Registry) (k : Kept) : Type 0 where
-  pub is_open : IsTrue s.is_open
-  pub settled : s.committed ≡ s.now
-  pub spells : SpellsFirst s.now g k
+-- SQLite, transactions: so it is in layout 2
+abbrev pub IsOpenOver : State → Stored → Type 0
+IsOpenOver = IsOpenIn Spells
 
--- SQLite, transactions: as long as the connection is open, it is open over them; a fault may shut it
-abbrev pub SpellsWhileOpen : State → Registry → Kept → Type 0
-SpellsWhileOpen s g k = IsTrue s.is_open → IsOpenOver s g k
+-- SQLite, transactions: and in layout 1
+abbrev pub IsOpenOverFirst : State → Stored → Type 0
+IsOpenOverFirst = IsOpenIn SpellsFirst
 
--- what is stored: a registry, and the replies that it keeps
-pub record Stored : Type 0 where
-  pub registry : Registry
-  pub replies : Kept
-
--- SQLite, transactions: as long as the connection is open, its tables spell what is stored
-abbrev pub Spell : State → Stored → Type 0
-Spell s was = SpellsWhileOpen s was.registry was.replies
+-- SQLite, transactions: as long as the connection is open, it is open over what is stored; a fault may shut it
+abbrev pub SpellsWhileOpen : State → Stored → Type 0
+SpellsWhileOpen s was = IsTrue s.is_open → IsOpenOver s was

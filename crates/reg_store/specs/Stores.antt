@@ -1,5 +1,7 @@
 -- What a store is seen as.
 use Rattle.std.specs.Prelude.{◌≡◌, ◌⊎◌, ◌↔◌, ◌≤◌, Bool, false, IsTrue, Result, Err, OnOk, MatchResult}
+use Rattle.reg_tables.specs.Layout.{no_schema}
+use Rattle.reg_tables.specs.Reads.{OnlyReads}
 use Rattle.sqlite_disk.specs.Disk.{MoreFaults}
 use Rattle.sqlite.specs.Held.{Held, state}
 use Rattle.sqlite.specs.Tree.{Trees}
@@ -9,7 +11,8 @@ use Rattle.reg_store.specs.declared.error.StoreError.{StoreError}
 use Rattle.reg_store.specs.declared.error.StoreError.TheVariants.{Memory, Disk}
 use Rattle.reg_store.specs.declared.store.Store.{Store}
 use Rattle.reg_store.specs.Failures.{IsFaultBy}
-use Rattle.reg_store.specs.Spells.{Stored, Spell}
+use Rattle.reg_core.specs.Stored.{Stored}
+use Rattle.reg_store.specs.Spells.{SpellsWhileOpen}
 
 -- SQLite, connections: the store's one
 abbrev pub connection_of : {S : Type 0} {g : Ghosts S} → Store S g → Held S
@@ -43,6 +46,19 @@ pub record KeepsOpen (old new : State) : Type 0 where
   pub stays_shut : HasCleanDisk new → IsTrue new.is_open → IsTrue old.is_open
   pub closes : HasCleanDisk new → IsTrue old.is_open → IsTrue new.is_open ⊎ MoreFaults old.faults new.faults
 
+-- this project's choice: what a call that fails leaves of a connection that it gives back: nothing has changed, and an error that isn't `Disk` leaves the database as it was, also after a crash
+pub record LeavesConnection (old new : State) (e : StoreError) : Type 0 where
+  pub nothing : HasCleanDisk new → OnlyReads old new
+  pub before : HasCleanDisk new → IsTrue old.is_open → LeavesBefore old new e
+  pub closes : HasCleanDisk new → IsTrue old.is_open → IsTrue new.is_open ⊎ MoreFaults old.faults new.faults
+  pub settled : LeavesCommit new
+
+-- this project's choice: why no registry is made in a database, and what is left of it: over an empty one memory or a fault of the disk is why, and a crash may leave the new registry
+pub record IsUnmade (LeavesNew : Trees → Type 0) (old new : State) (e : StoreError) : Type 0 where
+  pub fault : HasCleanDisk new → old.now.schema ≡ no_schema → IsFaultBy old new e
+  pub leaves : LeavesConnection old new e
+  pub crash : HasCleanDisk new → (db : Trees) → new.may_leave db → old.may_leave db ⊎ LeavesNew db
+
 -- this project's choice: what each call of a store keeps, whatever it answers
 pub record KeepsStore {S T : Type 0} {g : Ghosts S} (old new : Store S g) (result : Result T StoreError) : Type 0 where
   -- after a fault of the disk a call does nothing
@@ -66,11 +82,11 @@ pub record KeepsLent {S T : Type 0} {g : Ghosts S} (old new : Store S g) (result
 
 -- this project's choice: the tables spell what they spelled
 abbrev pub SpellsOn : State → State → Type 0
-SpellsOn old new = (was : Stored) → Spell old was → Spell new was
+SpellsOn old new = (was : Stored) → SpellsWhileOpen old was → SpellsWhileOpen new was
 
 -- this project's choice: what a call that only reads says of what the tables spell, and leaves of it. An Ok tells of what is stored; an Err is a fault, unless the call stopped before (`Goes`)
 pub record TellsStored {T : Type 0} (old new : State) (Goes : Type 0) (result : Result T StoreError) (Tells : Stored → T → Type 0) : Type 0 where
-  pub answers : (was : Stored) → Spell old was → MatchResult result (Tells was) (λ e. Goes → IsFaultBy old new e)
+  pub answers : (was : Stored) → SpellsWhileOpen old was → MatchResult result (Tells was) (λ e. Goes → IsFaultBy old new e)
   pub same : SpellsOn old new
   pub crash : LeavesNoMore old new
 

@@ -2,20 +2,78 @@
 
 ghost use Rattle.std.specs.Prelude.{◌≢◌, [], OnOk, IfErr, IfSome, IsSome, IsTrue};
 ghost use Rattle.sqlite.specs.State.{HasCleanDisk};
+ghost use Rattle.reg_core.specs.declared.decision.Change.TheVariants.{AddRow};
 ghost use Rattle.reg_tables.specs.Frames.{state_in, StaysInside, KeepsInside};
-ghost use Rattle.reg_store.specs.Changes.{with_reply, IsNewTo, IsKeepable, GoesOn};
-ghost use Rattle.reg_store.specs.Inside.Making.{Makes, MakesAll, IsFaultOfChange, IsFaultOfChanges, IsFaultOfReply};
-ghost use Rattle.reg_core.specs.KeptReplies.{Kept};
-ghost use Rattle.reg_store.specs.Spells.{Spells};
-ghost use Rattle.reg_core.specs.Registry.{Registry};
+ghost use Rattle.reg_store.specs.Changes.{IsKeepable, GoesOn};
+ghost use Rattle.reg_store.specs.Inside.Making.{Makes, MakesAll, Keeps, IsFaultOfChange, IsFaultOfChanges, IsFaultOfReply, PutsIds, IsFaultOfIds, PutsOwn, IsFaultOfOwn};
 
 use crate::keep::Keep;
-use reg_core::Change;
+use reg_core::{Change, Evidence, Row};
 use reg_tables::{
-    drop_level, drop_mode, drop_version, keep_reply as keep_row, mark_deleted, put_text,
-    put_version, set_global, set_global_mode, set_level, set_mode,
+    drop_level, drop_mode, drop_version, keep_reply as keep_row, mark_deleted, put_against,
+    put_evidence, put_text, put_version, set_global, set_global_mode, set_level, set_mode,
 };
-use sqlite::{Alter, Error, Transaction};
+use sqlite::{Alter, Error, ErrorCode, Transaction};
+
+/// Puts the ids that a version was tested against, at the positions from 1 on.
+///
+/// # Errors
+///
+/// As `reg_tables::put_against`; `TooBig` also where there are more ids than positions.
+fn put_ids<S: Alter>(
+    tx: &mut Transaction<'_, S>,
+    subject: &str,
+    number: u32,
+    ids: &[u32],
+) -> Result<(), Error>
+    ensures frame { KeepsInside S.Store tx.old tx.new }
+    ensures goes_on { HasCleanDisk (state_in S.Store tx.new)
+        → OnOk result (GoesOn (state_in S.Store tx.old) (state_in S.Store tx.new)) }
+    ensures put { HasCleanDisk (state_in S.Store tx.new)
+        → OnOk result (PutsIds (state_in S.Store tx.old) (state_in S.Store tx.new) (subject.now, number) ids.now) }
+    ensures fault { HasCleanDisk (state_in S.Store tx.new)
+        → IfErr result (IsFaultOfIds (state_in S.Store tx.old) (state_in S.Store tx.new) (subject.now, number) ids.now) }
+{
+    let mut position = 0u32;
+    for id in ids {
+        let Some(next) = position.checked_add(1) else {
+            return Err(Error::SqliteFailure(ErrorCode::TooBig));
+        };
+        position = next;
+        put_against(tx, subject, number, position, *id)?;
+    }
+    Ok(())
+}
+
+/// Puts what a version was admitted by.
+fn put_own<S: Alter>(
+    tx: &mut Transaction<'_, S>,
+    subject: &str,
+    number: u32,
+    own: &Evidence,
+) -> Result<(), Error>
+    ensures frame { StaysInside S.Store tx.old tx.new result }
+    ensures put { HasCleanDisk (state_in S.Store tx.new)
+        → OnOk result (PutsOwn (state_in S.Store tx.old) (state_in S.Store tx.new) (subject.now, number) own.now) }
+    ensures fault { HasCleanDisk (state_in S.Store tx.new)
+        → IfErr result (IsFaultOfOwn (state_in S.Store tx.old) (state_in S.Store tx.new) (subject.now, number) own.now) }
+{
+    put_evidence(tx, subject, number, own.level().text())?;
+    put_ids(tx, subject, number, own.against())
+}
+
+/// Puts a version, and what it was admitted by.
+fn put_row<S: Alter>(tx: &mut Transaction<'_, S>, row: &Row, own: &Evidence) -> Result<(), Error>
+    ensures frame { StaysInside S.Store tx.old tx.new result }
+    ensures made { HasCleanDisk (state_in S.Store tx.new)
+        → OnOk result (Makes (state_in S.Store tx.old) (state_in S.Store tx.new) (AddRow row.now own.now)) }
+    ensures fault { HasCleanDisk (state_in S.Store tx.new)
+        → IfErr result (IsFaultOfChange (state_in S.Store tx.old) (state_in S.Store tx.new) (AddRow row.now own.now)) }
+{
+    let subject = row.subject().as_str();
+    put_version(tx, subject, row.version(), row.id(), row.deleted())?;
+    put_own(tx, subject, row.version(), own)
+}
 
 /// Makes one change.
 fn make<S: Alter>(tx: &mut Transaction<'_, S>, change: &Change) -> Result<(), Error>
@@ -29,13 +87,7 @@ fn make<S: Alter>(tx: &mut Transaction<'_, S>, change: &Change) -> Result<(), Er
         Change::SetGlobal { level } => set_global(tx, level.text()),
         Change::SetLevel { subject, level } => set_level(tx, subject.as_str(), level.text()),
         Change::AddText { id, text } => put_text(tx, *id, text.as_str()),
-        Change::AddRow { row, evidence: _ } => put_version(
-            tx,
-            row.subject().as_str(),
-            row.version(),
-            row.id(),
-            row.deleted(),
-        ),
+        Change::AddRow { row, evidence } => put_row(tx, row, evidence),
         Change::MarkDeleted { subject, version } => mark_deleted(tx, subject.as_str(), *version),
         Change::Remove { subject, version } => drop_version(tx, subject.as_str(), *version),
         Change::DropLevel { subject } => drop_level(tx, subject.as_str()),
@@ -78,9 +130,7 @@ pub(crate) fn keep_reply<S: Alter>(
     ensures goes_on { HasCleanDisk (state_in S.Store tx.new)
         → OnOk result (GoesOn (state_in S.Store tx.old) (state_in S.Store tx.new)) }
     ensures put { HasCleanDisk (state_in S.Store tx.new)
-        → OnOk result ((g : Registry) (k : Kept) → Spells (state_in S.Store tx.old).now g k
-        → IsNewTo k keep.entry
-        → Spells (state_in S.Store tx.new).now g (with_reply keep.entry k)) }
+        → OnOk result (Keeps (state_in S.Store tx.old) (state_in S.Store tx.new) keep.entry) }
     ensures fault { HasCleanDisk (state_in S.Store tx.new)
         → IfErr result (IsFaultOfReply (state_in S.Store tx.old) (state_in S.Store tx.new) keep.entry) }
 {

@@ -5,6 +5,7 @@ use sqlite::Alter;
 use std::alloc::Global;
 
 mod applying;
+mod auditing;
 mod behind;
 mod checking;
 mod chosen;
@@ -21,6 +22,7 @@ mod opening;
 mod reading;
 mod rows;
 mod schema_lines;
+mod settings;
 mod stepping;
 mod subject_lines;
 mod texts;

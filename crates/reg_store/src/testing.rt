@@ -4,10 +4,10 @@
 ghost use Rattle.std.specs.Prelude.{◌≡◌, ◌↔◌, ℤ, map, IfOk, IfErr, OnOk, IsTrue, false};
 ghost use Rattle.std.specs.List.{AllByRecursion};
 ghost use Rattle.sqlite.specs.State.{HasCleanDisk};
-ghost use Rattle.reg_tables.specs.Layout.{IsLayout, HasTablesFirst};
+ghost use Rattle.reg_tables.specs.Layout.{HasTablesFirst};
 ghost use Rattle.reg_tables.specs.SecondLayout.{IsSecondLayout};
 ghost use Rattle.reg_store.specs.Failures.{IsNumberless};
-ghost use Rattle.reg_store.specs.Opening.{HasVersionRows, IsRefusedAs, TellsOther, IsRefusedBy, TellsLayout};
+ghost use Rattle.reg_store.specs.Opening.{HasVersionRows, FindsFirst, IsRefusedAs, TellsOther, IsRefusedBy, TellsLayout};
 ghost use Rattle.reg_store.specs.Inside.Testing.{AreApart, version_fits, level_fits, kept_fits, SpellsAs, Tests, TestsBase, TestsSecond, VersionsPass, LevelsPass, KeptPass, RestPasses, TablesPass, AddedPass, SecondPasses};
 ghost use Rattle.reg_store.specs.Inside.Reads.{shown};
 
@@ -180,12 +180,13 @@ pub(crate) fn test_first<S: Alter>(alloc: Global, db: &mut Idle<S>) -> Result<u6
     ensures tests { Tests HasTablesFirst (SpellsAs Layout.First)
         S.Store db.old.idle.conn db.new.idle.conn result
         (λ count db. TablesPass Layout.First db × HasVersionRows db count) }
-    ensures known { OnOk result (IsLayout (shown db.old).now.schema) }
+    ensures found { HasCleanDisk (shown db.new) → IfOk result (FindsFirst (shown db.old).now) }
     ensures refused { HasCleanDisk (shown db.new)
         → IfErr result (IsRefusedAs 1 (shown db.old).now) }
     ensures other { HasCleanDisk (shown db.new)
         → IfErr result (TellsOther 1 (shown db.old)) }
 {
+    let _live = db.idle.conn.schema();
     let _idle = db.idle.conn.is_autocommit();
     let known = has_layout(&db.idle.conn) || is_unindexed(&db.idle.conn);
     test_meta(alloc, db, Layout::First)?;

@@ -1,41 +1,89 @@
 -- What the functions say that make changes, one after the other.
-use Rattle.std.specs.Prelude.{List, Option}
+use Rattle.std.specs.Prelude.{◌≡◌, ◌<◌, ◌+◌, ◌^◌, ℕ, List, [], ◌∷◌, length, All, Option, None, IsSome}
+use Rattle.std.specs.FinMap.{get}
 use Rattle.sqlite.specs.Tree.{Trees}
+use Rattle.sqlite.specs.Schema.{Schema}
 use Rattle.sqlite.specs.Effect.{Database}
 use Rattle.sqlite.specs.State.{State}
 use Rattle.sqlite.specs.declared.error.Error.{Error}
 use Rattle.reg_core.specs.declared.decision.Change.{Change}
-use Rattle.reg_core.specs.Registry.{Registry, new_registry}
-use Rattle.reg_core.specs.Views.{ChangeFits, ChangesFit, after_change, after_changes}
-use Rattle.reg_tables.specs.SecondLayout.{second_unindexed, second_indexed_last}
-use Rattle.reg_tables.specs.SecondContents.{SecondContents, HoldsAllIn}
+use Rattle.reg_core.specs.Evidence.{Evidence}
+use Rattle.reg_core.specs.Levels.{level_text}
+use Rattle.reg_core.specs.Registry.{RowKey}
+use Rattle.reg_core.specs.Stored.{Stored, new_stored}
+use Rattle.reg_core.specs.Views.{ChangeFits, ChangesFit}
+use Rattle.reg_tables.specs.SecondLayout.{IsSecond, second_unindexed, second_indexed_last}
+use Rattle.reg_tables.specs.SecondContents.{SecondContents, HoldsAllIn, with_evidence, with_against}
 use Rattle.reg_tables.specs.FailedCalls.{IsInsertFault}
 use Rattle.reg_store.specs.declared.keep.Keep.{Keep}
-use Rattle.reg_core.specs.KeptReplies.{Kept, nothing_kept}
 use Rattle.reg_store.specs.declared.layout.Layout.{Layout}
 use Rattle.reg_store.specs.declared.layout.Layout.TheVariants.{First, Second}
 use Rattle.reg_store.specs.Spells.{SpellsFirst, LeavesFirst, IsOpenOverFirst, Spells, Leaves, IsOpenOver}
-use Rattle.reg_store.specs.Changes.{IsNewTo, SpellsInside}
+use Rattle.reg_store.specs.Changes.{IsNewTo, made_of, stored_after, SpellsInside}
 
--- the tables spelled a registry that can have the change, and now spell it after the change
+-- the tables spelled a registry that can have the change, and now spell what is stored after it
 abbrev pub Makes : State → State → Change → Type 0
-Makes old new change = (g : Registry) (k : Kept) → Spells old.now g k → ChangeFits change g → Spells new.now (after_change change g) k
+Makes old new change = (was : Stored) → Spells old.now was → ChangeFits change was.registry → Spells new.now (made_of (change ∷ []) was)
 
 -- the same of several changes, each of which it can have at its turn
 abbrev pub MakesAll : State → State → List Change → Type 0
-MakesAll old new changes = (g : Registry) (k : Kept) → Spells old.now g k → ChangesFit changes g → Spells new.now (after_changes changes g) k
+MakesAll old new changes = (was : Stored) → Spells old.now was → ChangesFit changes was.registry → Spells new.now (made_of changes was)
+
+-- the same of a reply, if there is one to keep
+abbrev pub Keeps : State → State → Option Keep → Type 0
+Keeps old new keep = (was : Stored) → Spells old.now was → IsNewTo was.replies keep → Spells new.now (stored_after [] keep was)
 
 -- a change that a registry can have fails for a reason that each write has
 abbrev pub IsFaultOfChange : State → State → Change → Error → Type 0
-IsFaultOfChange old new change e = (g : Registry) (k : Kept) → SpellsInside old g k → ChangeFits change g → IsInsertFault old new e
+IsFaultOfChange old new change e = (was : Stored) → SpellsInside old was → ChangeFits change was.registry → IsInsertFault old new e
 
 -- so do several
 abbrev pub IsFaultOfChanges : State → State → List Change → Error → Type 0
-IsFaultOfChanges old new changes e = (g : Registry) (k : Kept) → SpellsInside old g k → ChangesFit changes g → IsInsertFault old new e
+IsFaultOfChanges old new changes e = (was : Stored) → SpellsInside old was → ChangesFit changes was.registry → IsInsertFault old new e
 
 -- so does a reply, where nothing is kept under its key yet
 abbrev pub IsFaultOfReply : State → State → Option Keep → Error → Type 0
-IsFaultOfReply old new keep e = (g : Registry) (k : Kept) → SpellsInside old g k → IsNewTo k keep → IsInsertFault old new e
+IsFaultOfReply old new keep e = (was : Stored) → SpellsInside old was → IsNewTo was.replies keep → IsInsertFault old new e
+
+-- ---- the evidence of a new version
+
+-- the ids stand at the positions of the version from this one on
+abbrev pub with_ids : RowKey → ℕ → List ℕ → SecondContents → SecondContents
+with_ids key n [] contents = contents
+with_ids key n (id ∷ ids) contents = with_ids key (n + 1) ids (with_against (key, n) id contents)
+
+-- the version has this evidence
+abbrev pub with_own : RowKey → Evidence → SecondContents → SecondContents
+with_own key own contents = with_ids key 1 own.against (with_evidence key (level_text own.level) contents)
+
+-- the version has no place
+abbrev pub HasNoPlace : SecondContents → RowKey → Type 0
+HasNoPlace contents key = (position : ℕ) → get contents.against (key, position) ≡ None
+
+-- the version is there, and so are texts with these ids
+pub record HasTexts (contents : SecondContents) (key : RowKey) (ids : List ℕ) : Type 0 where
+  pub version : IsSome (get contents.base.versions key)
+  pub texts : All (λ id. IsSome (get contents.base.texts id)) ids
+
+-- where the version had no place, the ids now stand at its positions from 1 on
+pub record PutsIds (old new : State) (key : RowKey) (ids : List ℕ) : Type 0 where
+  pub few : length ids < 2 ^ 32
+  pub puts : (schema : Schema) → IsSecond schema → (contents : SecondContents) → HoldsAllIn schema old.now contents → HasNoPlace contents key → HoldsAllIn schema new.now (with_ids key 1 ids contents)
+
+-- so they can, but for a reason that each write has
+abbrev pub IsFaultOfIds : State → State → RowKey → List ℕ → Error → Type 0
+IsFaultOfIds old new key ids e = (schema : Schema) → IsSecond schema → (contents : SecondContents) → HoldsAllIn schema old.now contents → HasNoPlace contents key → HasTexts contents key ids → IsInsertFault old new e
+
+-- where the version had no evidence, it now has this
+pub record PutsOwn (old new : State) (key : RowKey) (own : Evidence) : Type 0 where
+  pub few : length own.against < 2 ^ 32
+  pub puts : (schema : Schema) → IsSecond schema → (contents : SecondContents) → HoldsAllIn schema old.now contents → get contents.evidence key ≡ None → HasNoPlace contents key → HoldsAllIn schema new.now (with_own key own contents)
+
+-- so it can, but for a reason that each write has
+abbrev pub IsFaultOfOwn : State → State → RowKey → Evidence → Error → Type 0
+IsFaultOfOwn old new key own e = (schema : Schema) → IsSecond schema → (contents : SecondContents) → HoldsAllIn schema old.now contents → get contents.evidence key ≡ None → HasNoPlace contents key → HasTexts contents key own.against → IsInsertFault old new e
+
+-- ---- an index that is made
 
 -- the trees are those of these tables with the index, whatever contents they hold without it
 abbrev pub TakesIndex : Database → Trees → Type 0
@@ -45,15 +93,15 @@ TakesIndex before db = (held : SecondContents) → HoldsAllIn second_unindexed b
 
 -- the tables spell it
 abbrev pub SpellsNew : Layout → Database → Type 0
-SpellsNew First db = SpellsFirst db new_registry nothing_kept
-SpellsNew Second db = Spells db new_registry nothing_kept
+SpellsNew First db = SpellsFirst db new_stored
+SpellsNew Second db = Spells db new_stored
 
 -- the connection is open over it
 abbrev pub IsNew : Layout → State → Type 0
-IsNew First s = IsOpenOverFirst s new_registry nothing_kept
-IsNew Second s = IsOpenOver s new_registry nothing_kept
+IsNew First s = IsOpenOverFirst s new_stored
+IsNew Second s = IsOpenOver s new_stored
 
 -- a crash leaves it
 abbrev pub LeavesNew : Layout → Trees → Type 0
-LeavesNew First db = LeavesFirst db new_registry nothing_kept
-LeavesNew Second db = Leaves db new_registry nothing_kept
+LeavesNew First db = LeavesFirst db new_stored
+LeavesNew Second db = Leaves db new_stored

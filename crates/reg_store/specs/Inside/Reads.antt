@@ -7,11 +7,10 @@ use Rattle.sqlite.specs.State.{State, HasCleanDisk, KeepsCommit, Survives}
 use Rattle.sqlite_trees.specs.declared.store.Store.{Ghosts}
 use Rattle.reg_store.specs.declared.error.StoreError.{StoreError}
 use Rattle.reg_store.specs.declared.idle.Idle.{Idle}
-use Rattle.reg_core.specs.Registry.{Registry}
-use Rattle.reg_core.specs.KeptReplies.{Kept}
+use Rattle.reg_core.specs.Stored.{Stored}
 use Rattle.reg_tables.specs.Layout.{HasTablesFirst}
 use Rattle.reg_tables.specs.Contents.{Contents, HoldsIn, AreReadable}
-use Rattle.reg_store.specs.Spells.{IsSpelled, Stored, Spell}
+use Rattle.reg_store.specs.Spells.{IsSpelled, SpellsWhileOpen}
 use Rattle.reg_store.specs.Failures.{IsFaultBy}
 
 -- SQLite, transactions: what the connection shows
@@ -19,13 +18,13 @@ abbrev pub shown : {S : Type 0} {g : Ghosts S} → Idle S g → State
 shown {S} {g} db = state g db.idle.conn
 
 -- the five tables that each layout has come first, hold what can be read, and spell a registry, but for its modes, and kept replies
-pub record SpellsBase (db : Database) (g : Registry) (k : Kept) : Type 0 where
+pub record SpellsBase (db : Database) (was : Stored) : Type 0 where
   pub schema : Schema
   pub first : HasTablesFirst schema
   pub contents : Contents
   pub holds : HoldsIn schema db contents
   pub readable : AreReadable contents
-  pub spelled : IsSpelled contents g k
+  pub spelled : IsSpelled contents was.registry was.replies
 
 -- nothing is committed, and a connection that showed its last commit shows it still
 pub record Rests (old new : State) : Type 0 where
@@ -36,7 +35,7 @@ pub record Rests (old new : State) : Type 0 where
 -- A call that reads what is stored, if it reads at all, changes nothing. Where the tables spell what is stored, an Ok tells of it, and an Err is a fault.
 pub record MayRead {S X : Type 0} {g : Ghosts S} (old new : Idle S g) (result : Result X StoreError) (Tells : Stored → X → Type 0) : Type 0 where
   pub rests : Rests (shown old) (shown new)
-  pub answers : HasCleanDisk (shown new) → (was : Stored) → Spell (shown old) was → MatchResult result (Tells was) (IsFaultBy (shown old) (shown new))
+  pub answers : HasCleanDisk (shown new) → (was : Stored) → SpellsWhileOpen (shown old) was → MatchResult result (Tells was) (IsFaultBy (shown old) (shown new))
 
 -- a call that surely reads it: what it answers was read over an open connection
 pub record Reads {S X : Type 0} {g : Ghosts S} (old new : Idle S g) (result : Result X StoreError) (Tells : Stored → X → Type 0) : Type 0 where

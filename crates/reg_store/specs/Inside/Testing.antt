@@ -5,7 +5,7 @@ use Rattle.std.specs.Ordering.{int_cmp, eq_by_cmp}
 use Rattle.sqlite.specs.Schema.{Schema}
 use Rattle.sqlite.specs.Effect.{Database}
 use Rattle.sqlite.specs.Held.{Held, state}
-use Rattle.sqlite.specs.State.{State, HasCleanDisk}
+use Rattle.sqlite.specs.State.{HasCleanDisk}
 use Rattle.sqlite_trees.specs.declared.store.Store.{Ghosts}
 use Rattle.reg_tables.specs.declared.lines.TextLine.{TextLine}
 use Rattle.reg_tables.specs.declared.lines.VersionLine.{VersionLine}
@@ -23,8 +23,8 @@ use Rattle.reg_tables.specs.Frames.{StaysIdle}
 use Rattle.reg_rows.specs.Spelling.{pair_of, IsIdentity, AreNumbered, AreTexts, FitsVersions, FitsLevels, FitsKept, FitsModes, FitsEvidence}
 use Rattle.reg_rows.specs.Meta.{Pair, is_meta, is_second_meta, layout_in}
 use Rattle.reg_rows.specs.Places.{Place, HaveEvidence, ArePositions}
-use Rattle.reg_core.specs.Registry.{RowKey, Registry, max_number}
-use Rattle.reg_core.specs.KeptReplies.{Kept}
+use Rattle.reg_core.specs.Registry.{RowKey, max_number}
+use Rattle.reg_core.specs.Stored.{Stored}
 use Rattle.reg_store.specs.declared.error.StoreError.{StoreError}
 use Rattle.reg_store.specs.declared.error.StoreError.TheVariants.{Memory, Disk, NotARegistry, OldLayout, NewerLayout}
 use Rattle.reg_store.specs.declared.layout.Layout.{Layout}
@@ -197,11 +197,10 @@ JudgesMeta layout lines (Err (NewerLayout number)) = (layout_in (pairs_of lines)
 
 -- ---- what is asked of the tables
 
--- the tables spell some registry and kept replies so
-pub record SpellsSome (Spells : Database → Registry → Kept → Type 0) (db : Database) : Type 0 where
-  pub registry : Registry
-  pub kept : Kept
-  pub spells : Spells db registry kept
+-- the tables spell something so
+pub record SpellsSome (Spells : Database → Stored → Type 0) (db : Database) : Type 0 where
+  pub stored : Stored
+  pub spells : Spells db stored
 
 -- the tables spell a registry in the layout
 abbrev pub SpellsAs : Layout → Database → Type 0
@@ -217,11 +216,7 @@ pub record Tests {S X : Type 0} (Declared : Schema → Type 0) (Spelled : Databa
   pub fault : HasCleanDisk (state g new) → IfErr result (λ e. (IsTrue (state g old).is_open → Spelled (state g old).now) → IsFaultBy (state g old) (state g new) e)
   pub told : HasCleanDisk (state g new) → IfErr result (λ e. (IsTrue (state g old).is_open → Declared (state g old).now.schema) → IsTold (state g old) (state g new) e)
 
--- where the five tables that each layout has spell a registry, but for its modes, an error comes of memory or of a fault of the disk alone
-abbrev pub IsFaultBase : State → State → StoreError → Type 0
-IsFaultBase old new e = (IsTrue old.is_open → SpellsSome SpellsBase old.now) → IsFaultBy old new e
-
--- a test of these tables
+-- a test of the five tables that each layout has
 abbrev pub TestsBase : {S X : Type 0} → Ghosts S → Held S → Held S → Result X StoreError → (X → Database → Type 0) → Type 0
 TestsBase = Tests HasTablesFirst (SpellsSome SpellsBase)
 

@@ -1,5 +1,5 @@
 -- What a view is read by.
-use Rattle.std.specs.Prelude.{◌≡◌, ◌≢◌, ◌⊎◌, ◌<◌, ◌≤◌, ◌&&◌, ◌||◌, ℕ, Bool, true, false, not, bytes_eq, IsTrue, List, All, length, String, string_bytes, Option, None, Some, option_map, option_and_then}
+use Rattle.std.specs.Prelude.{◌≡◌, ◌≢◌, ◌⊎◌, ◌<◌, ◌≤◌, ◌&&◌, ◌||◌, ℕ, Bool, true, false, not, bytes_eq, IsTrue, List, All, find, length, String, string_bytes, Option, None, Some, option_map, option_and_then}
 use Rattle.std.specs.List.{Contains}
 use Rattle.std.specs.BTreeMap as tree
 use Rattle.std.specs.BTreeMap.{BTreeMap}
@@ -13,9 +13,16 @@ use Rattle.reg_core.specs.Rows.{known_id, text_at}
 use Rattle.reg_core.specs.Machine.{subject_of, schema_sent}
 use Rattle.reg_core.specs.Needs.{AnswerAs, rows_asked, rows_needed, needs_levels, needs_modes, needs_count}
 use Rattle.reg_core.specs.Views.{level_of_view}
+use Rattle.reg_tables.specs.declared.lines.MetaLine.{MetaLine}
 use Rattle.reg_tables.specs.declared.listed.ListedVersion.{ListedVersion}
 use Rattle.reg_tables.specs.Contents.{VersionRow}
 use Rattle.reg_tables.specs.Entries.{NumberedVersion, KeyedVersion, most}
+
+-- ---- settings
+
+-- the value of the first line of `meta` that has the name
+abbrev pub value_in : List ℕ → List MetaLine → Option (List ℕ)
+value_in name lines = option_map (λ (line : MetaLine). string_bytes line.value) (find (λ (line : MetaLine). bytes_eq (string_bytes line.name) name) lines)
 
 -- ---- rows
 

@@ -1,15 +1,11 @@
 //! Changes of the registry, and the replies that are kept with them.
 
 ghost use Rattle.std.specs.Prelude.{◌⊎◌, IfSome, IfErr, OnOk, OnErr, IsTrue};
-ghost use Rattle.sqlite.specs.Tree.{Trees};
 ghost use Rattle.sqlite.specs.State.{HasCleanDisk, Survives, KeepsCommit};
-ghost use Rattle.reg_core.specs.Registry.{Registry};
-ghost use Rattle.reg_core.specs.Views.{ChangesFit, after_changes};
-ghost use Rattle.reg_core.specs.KeptReplies.{Kept};
-ghost use Rattle.reg_store.specs.Spells.{Leaves, IsOpenOver, SpellsWhileOpen};
-ghost use Rattle.reg_store.specs.Changes.{with_reply, IsNewTo, IsKeepable, ActsOn};
+ghost use Rattle.reg_store.specs.Spells.{Leaves, IsOpenOver};
+ghost use Rattle.reg_store.specs.Changes.{stored_after, IsKeepable, ActsOn, WhereTaken, LeavesEither};
 ghost use Rattle.reg_store.specs.Failures.{failure_of, is_fault};
-ghost use Rattle.reg_store.specs.Stores.{state_of, LeavesBefore, KeepsStore};
+ghost use Rattle.reg_store.specs.Stores.{state_of, LeavesBefore, KeepsStore, SpellsOn};
 ghost use Rattle.reg_store.specs.Inside.Reads.{shown};
 
 use crate::changes::{keep_reply, make_all};
@@ -27,12 +23,10 @@ fn commit_all<S: Alter>(
     keep: Option<Keep<'_>>,
 ) -> Result<(), Error>
     requires keepable { IfSome keep IsKeepable }
-    ensures done { HasCleanDisk (shown db.new) → OnOk result ((g : Registry) (k : Kept)
-        → SpellsWhileOpen (shown db.old) g k → IsNewTo k keep.entry → ChangesFit changes.now g
-        → IsOpenOver (shown db.new) (after_changes changes.now g) (with_reply keep.entry k)) }
+    ensures done { HasCleanDisk (shown db.new) → OnOk result (WhereTaken (shown db.old) changes.now keep.entry (λ was.
+        IsOpenOver (shown db.new) (stored_after changes.now keep.entry was))) }
     ensures fault { HasCleanDisk (shown db.new) → IfErr result (λ e.
-        (g : Registry) (k : Kept) → SpellsWhileOpen (shown db.old) g k
-        → IsNewTo k keep.entry → ChangesFit changes.now g → IsTrue (is_fault (failure_of e))) }
+        WhereTaken (shown db.old) changes.now keep.entry (λ was. IsTrue (is_fault (failure_of e)))) }
     ensures was_open { HasCleanDisk (shown db.new)
         → OnOk result (IsTrue (shown db.old).is_open) }
     ensures nothing { HasCleanDisk (shown db.new)
@@ -40,10 +34,9 @@ fn commit_all<S: Alter>(
     ensures before { HasCleanDisk (shown db.new) → IfErr result (λ e. IsTrue (shown db.old).is_open
         → LeavesBefore (shown db.old) (shown db.new) (failure_of e)) }
     ensures survives { Survives (shown db.old) (shown db.new) (λ left.
-        (g : Registry) (k : Kept)
-        → SpellsWhileOpen (shown db.old) g k → IsNewTo k keep.entry → ChangesFit changes.now g
-        → IsTrue (shown db.old).is_open ⊎ ActsOn changes.now keep.entry
-        → Leaves left (after_changes changes.now g) (with_reply keep.entry k)) }
+        WhereTaken (shown db.old) changes.now keep.entry (λ was.
+        IsTrue (shown db.old).is_open ⊎ ActsOn changes.now keep.entry
+        → Leaves left (stored_after changes.now keep.entry was))) }
 {
     let mut tx = db.idle.conn.transaction();
     make_all(&mut tx, changes)?;
@@ -64,35 +57,23 @@ impl<S: Alter> Store<S> {
     pub fn apply(&mut self, changes: &[Change], keep: Option<Keep<'_>>) -> Result<(), StoreError>
         requires { IfSome keep IsKeepable }
         ensures frame { KeepsStore self.old self.new result }
-        ensures done { HasCleanDisk (state_of self.new) → OnOk result ((g : Registry) (k : Kept)
-            → SpellsWhileOpen (state_of self.old) g k → IsNewTo k keep.entry → ChangesFit changes.now g
-            → IsOpenOver (state_of self.new) (after_changes changes.now g) (with_reply keep.entry k)) }
+        ensures done { HasCleanDisk (state_of self.new) → OnOk result
+            (WhereTaken (state_of self.old) changes.now keep.entry (λ was.
+            IsOpenOver (state_of self.new) (stored_after changes.now keep.entry was))) }
         ensures fault { HasCleanDisk (state_of self.new) → IfErr result (λ e.
-            (g : Registry) (k : Kept) → SpellsWhileOpen (state_of self.old) g k
-            → IsNewTo k keep.entry → ChangesFit changes.now g → IsTrue (is_fault e)) }
-        ensures nothing { HasCleanDisk (state_of self.new) → OnErr result ((g : Registry) (k : Kept)
-            → SpellsWhileOpen (state_of self.old) g k → SpellsWhileOpen (state_of self.new) g k) }
+            WhereTaken (state_of self.old) changes.now keep.entry (λ was. IsTrue (is_fault e))) }
+        ensures nothing { HasCleanDisk (state_of self.new)
+            → OnErr result (SpellsOn (state_of self.old) (state_of self.new)) }
 
         // An error that isn't `Disk` leaves the database as it was, also after a crash.
         ensures before { HasCleanDisk (state_of self.new) → IfErr result (λ e.
             IsTrue (state_of self.old).is_open → LeavesBefore (state_of self.old) (state_of self.new) e) }
 
-        // A crash leaves the database before the call, or the one after it.
-        ensures crash { HasCleanDisk (state_of self.new) → (g : Registry) (k : Kept)
-            → IsOpenOver (state_of self.old) g k → IsNewTo k keep.entry → ChangesFit changes.now g
-            → (db : Trees) → (state_of self.new).may_leave db
-            → Leaves db g k ⊎ Leaves db (after_changes changes.now g) (with_reply keep.entry k) }
-
-        // So it does where a fault may have shut the connection, if there was something to do.
-        ensures crash_shut { HasCleanDisk (state_of self.new) → (g : Registry) (k : Kept)
-            → SpellsWhileOpen (state_of self.old) g k → IsNewTo k keep.entry → ChangesFit changes.now g
-            → ActsOn changes.now keep.entry → (db : Trees) → (state_of self.new).may_leave db
-            → (state_of self.old).may_leave db
-            ⊎ Leaves db (after_changes changes.now g) (with_reply keep.entry k) }
-
-        // While the connection is open, a crash leaves what the tables spell.
-        ensures settled { (g : Registry) (k : Kept) → IsOpenOver (state_of self.new) g k
-            → (db : Trees) → (state_of self.new).may_leave db → Leaves db g k }
+        // A crash leaves the database before the call, or the one after it: also where a fault may
+        // have shut the connection, if there was something to do.
+        ensures crash { HasCleanDisk (state_of self.new) → WhereTaken (state_of self.old) changes.now keep.entry (λ was.
+            IsTrue (state_of self.old).is_open ⊎ ActsOn changes.now keep.entry
+            → LeavesEither (state_of self.old) (state_of self.new) was (stored_after changes.now keep.entry was)) }
     {
         if self.failed {
             return Err(StoreError::Disk);

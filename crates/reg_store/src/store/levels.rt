@@ -27,7 +27,7 @@ pub(crate) fn levels_for<S: Alter>(
 }
 
 /// The level that the subject has of its own, if that is needed and there is one.
-fn own_for<S: Alter>(
+pub(crate) fn own_for<S: Alter>(
     db: &mut Idle<S>,
     subject: Option<&Subject>,
     needed: bool,
@@ -68,7 +68,7 @@ fn global<S: Alter>(db: &mut Idle<S>) -> Result<Level, StoreError>
 }
 
 /// The level that a row spells.
-fn level_in(text: &str) -> Result<Level, StoreError>
+pub(crate) fn level_in(text: &str) -> Result<Level, StoreError>
     ensures ok { IfOk result (λ level. level_of text.now ≡ Some level) }
     ensures err { OnErr result (level_of text.now ≡ None) }
 {

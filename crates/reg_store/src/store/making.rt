@@ -1,19 +1,16 @@
 //! How a store is made, and taken apart again.
 
 ghost use Rattle.std.specs.Prelude.{◌≡◌, ◌≢◌, ◌⊎◌, IfOk, IfErr, OnOk, OnErr, IsErrAnd, IsTrue, None, false};
-ghost use Rattle.sqlite_disk.specs.Disk.{MoreFaults};
 ghost use Rattle.sqlite.specs.Tree.{Trees};
 ghost use Rattle.sqlite.specs.Held.{state};
 ghost use Rattle.sqlite.specs.State.{HasCleanDisk, Survives, KeepsCommit};
-ghost use Rattle.reg_core.specs.Registry.{new_registry};
+ghost use Rattle.reg_core.specs.Stored.{new_stored};
 ghost use Rattle.reg_tables.specs.Layout.{no_schema};
 ghost use Rattle.reg_tables.specs.Frames.{state_in, StaysInside};
-ghost use Rattle.reg_tables.specs.Reads.{OnlyReads};
 ghost use Rattle.reg_tables.specs.FailedCalls.{IsWriteFault};
-ghost use Rattle.reg_core.specs.KeptReplies.{nothing_kept};
 ghost use Rattle.reg_store.specs.Spells.{LeavesFirst, IsOpenOverFirst, Leaves, IsOpenOver};
 ghost use Rattle.reg_store.specs.Failures.{failure_of, IsFaultBy};
-ghost use Rattle.reg_store.specs.Stores.{connection_of, state_of, has_failed, LeavesBefore, LeavesCommit};
+ghost use Rattle.reg_store.specs.Stores.{connection_of, state_of, has_failed, LeavesBefore, IsUnmade};
 ghost use Rattle.reg_store.specs.Inside.Making.{SpellsNew, IsNew, LeavesNew};
 
 use crate::error::StoreError;
@@ -25,8 +22,8 @@ use sqlite::{Alter, Connection, Error, Transaction};
 use std::alloc::Global;
 
 impl<S: Alter> Store<S> {
-    /// Makes a new registry, which keeps no reply, in an empty database. The connection is outside
-    /// a transaction, and is given back where that fails.
+    /// Makes a new registry, without a reply or evidence, in an empty database. The connection is
+    /// outside a transaction, and is given back where that fails.
     ///
     /// # Errors
     ///
@@ -38,34 +35,18 @@ impl<S: Alter> Store<S> {
     ) -> Result<Store<S>, (StoreError, Connection<S>)>
         requires { connection.in_transaction ≡ false }
         ensures done { IfOk result (λ store. HasCleanDisk (state_of store)
-            → IsOpenOver (state_of store) new_registry nothing_kept) }
+            → IsOpenOver (state_of store) new_stored) }
         ensures unfailed { IfOk result (λ store. has_failed store ≡ false) }
         ensures full { (state S.Store connection).now.schema ≢ no_schema
             → IsErrAnd result (λ e. e.0 ≡ StoreError.NotARegistry) }
         ensures idle { IfErr result (λ e. e.1.in_transaction ≡ false) }
 
-        // Over an empty database it answers `Disk` only for a fault of the disk.
-        ensures fault { IfErr result (λ e. HasCleanDisk (state S.Store e.1)
-            → (state S.Store connection).now.schema ≡ no_schema
-            → IsFaultBy (state S.Store connection) (state S.Store e.1) e.0) }
-        ensures nothing { IfErr result (λ e. HasCleanDisk (state S.Store e.1)
-            → OnlyReads (state S.Store connection) (state S.Store e.1)) }
+        ensures fails { IfErr result (λ e. IsUnmade (λ db. Leaves db new_stored)
+            (state S.Store connection) (state S.Store e.1) e.0) }
 
-        // An error that isn't `Disk` leaves the database as it was, also after a crash.
-        ensures before { IfErr result (λ e. HasCleanDisk (state S.Store e.1)
-            → IsTrue (state S.Store connection).is_open
-            → LeavesBefore (state S.Store connection) (state S.Store e.1) e.0) }
-
-        // A crash leaves the new registry, or where the call failed perhaps what it left before.
+        // A crash leaves the new registry.
         ensures crash_after { IfOk result (λ store. HasCleanDisk (state_of store) → (db : Trees)
-            → (state_of store).may_leave db → Leaves db new_registry nothing_kept) }
-        ensures closes { IfErr result (λ e. HasCleanDisk (state S.Store e.1)
-            → IsTrue (state S.Store connection).is_open → IsTrue (state S.Store e.1).is_open
-            ⊎ MoreFaults (state S.Store connection).faults (state S.Store e.1).faults) }
-        ensures settled { IfErr result (λ e. LeavesCommit (state S.Store e.1)) }
-        ensures crash { IfErr result (λ e. HasCleanDisk (state S.Store e.1) → (db : Trees)
-            → (state S.Store e.1).may_leave db
-            → (state S.Store connection).may_leave db ⊎ Leaves db new_registry nothing_kept) }
+            → (state_of store).may_leave db → Leaves db new_stored) }
     {
         connection.set_step_limit(None);
         if !has_no_tables(&connection) {
@@ -120,32 +101,16 @@ pub fn create_first<S: Alter>(connection: &mut Connection<S>) -> Result<(), Stor
     requires { connection.old.in_transaction ≡ false }
     ensures idle { connection.new.in_transaction ≡ false }
     ensures done { HasCleanDisk (state S.Store connection.new)
-        → OnOk result (IsOpenOverFirst (state S.Store connection.new) new_registry nothing_kept) }
+        → OnOk result (IsOpenOverFirst (state S.Store connection.new) new_stored) }
     ensures full { (state S.Store connection.old).now.schema ≢ no_schema
         → IsErrAnd result (λ e. e ≡ StoreError.NotARegistry) }
 
-    // Over an empty database it answers `Disk` only for a fault of the disk.
-    ensures fault { HasCleanDisk (state S.Store connection.new) → IfErr result (λ e.
-        (state S.Store connection.old).now.schema ≡ no_schema
-        → IsFaultBy (state S.Store connection.old) (state S.Store connection.new) e) }
-    ensures nothing { HasCleanDisk (state S.Store connection.new)
-        → OnErr result (OnlyReads (state S.Store connection.old) (state S.Store connection.new)) }
+    ensures fails { IfErr result (IsUnmade (λ db. LeavesFirst db new_stored)
+        (state S.Store connection.old) (state S.Store connection.new)) }
 
-    // An error that isn't `Disk` leaves the database as it was, also after a crash.
-    ensures before { HasCleanDisk (state S.Store connection.new) → IfErr result (λ e.
-        IsTrue (state S.Store connection.old).is_open
-        → LeavesBefore (state S.Store connection.old) (state S.Store connection.new) e) }
-
-    // A crash leaves the new registry, or where the call failed perhaps what it left before.
+    // A crash leaves the new registry.
     ensures crash_after { HasCleanDisk (state S.Store connection.new) → OnOk result ((db : Trees)
-        → (state S.Store connection.new).may_leave db → LeavesFirst db new_registry nothing_kept) }
-    ensures closes { HasCleanDisk (state S.Store connection.new) → OnErr result (
-        IsTrue (state S.Store connection.old).is_open → IsTrue (state S.Store connection.new).is_open
-        ⊎ MoreFaults (state S.Store connection.old).faults (state S.Store connection.new).faults) }
-    ensures settled { OnErr result (LeavesCommit (state S.Store connection.new)) }
-    ensures crash { HasCleanDisk (state S.Store connection.new) → OnErr result ((db : Trees)
-        → (state S.Store connection.new).may_leave db
-        → (state S.Store connection.old).may_leave db ⊎ LeavesFirst db new_registry nothing_kept) }
+        → (state S.Store connection.new).may_leave db → LeavesFirst db new_stored) }
 {
     connection.set_step_limit(None);
     if !has_no_tables(connection) {

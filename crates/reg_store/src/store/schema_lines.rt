@@ -5,7 +5,8 @@ ghost use Rattle.sqlite.specs.State.{HasCleanDisk};
 ghost use Rattle.reg_core.specs.Rows.{text_at};
 ghost use Rattle.reg_store.specs.Failures.{IsFaultBy};
 ghost use Rattle.reg_store.specs.Listings.{fields_of, lines_of, schema_line, schema_lines};
-ghost use Rattle.reg_store.specs.Spells.{Spell, Stored};
+ghost use Rattle.reg_core.specs.Stored.{Stored};
+ghost use Rattle.reg_store.specs.Spells.{SpellsWhileOpen};
 ghost use Rattle.reg_store.specs.Inside.Reads.{Reads, Rests, shown};
 
 use crate::error::StoreError;
@@ -34,7 +35,7 @@ fn each_schema<S: Alter>(
     count: u32,
 ) -> Result<Vec<Vec<String>>, StoreError>
     ensures rests { Rests (shown db.old) (shown db.new) }
-    ensures answers { HasCleanDisk (shown db.new) → (was : Stored) → Spell (shown db.old) was
+    ensures answers { HasCleanDisk (shown db.new) → (was : Stored) → SpellsWhileOpen (shown db.old) was
         → count ≡ length was.registry.schemas
         → MatchResult result (λ lines. lines_of lines ≡ schema_lines was.registry.schemas)
         (IsFaultBy (shown db.old) (shown db.new)) }
@@ -53,7 +54,7 @@ fn listed_schema<S: Alter>(
     id: u32,
 ) -> Result<Vec<String>, StoreError>
     ensures rests { Rests (shown db.old) (shown db.new) }
-    ensures answers { HasCleanDisk (shown db.new) → (was : Stored) → Spell (shown db.old) was
+    ensures answers { HasCleanDisk (shown db.new) → (was : Stored) → SpellsWhileOpen (shown db.old) was
         → IsSome (text_at was.registry.schemas id)
         → MatchResult result (λ line.
         option_map (schema_line id) (text_at was.registry.schemas id) ≡ Some (fields_of line))

@@ -12,11 +12,10 @@ ghost use Rattle.reg_store.specs.Inside.Reads.{MayRead, Reads};
 use crate::error::StoreError;
 use crate::idle::Idle;
 use crate::store::Store;
-use crate::store::levels::levels_for;
-use crate::store::modes::modes_for;
 use crate::store::rows::rows_for;
+use crate::store::settings::settings_for;
 use crate::store::texts::{count_for, known_for, texts_of};
-use reg_core::{Command, Level, Mode, Needs, Subject, View, ids_read};
+use reg_core::{Command, View, ids_read};
 use sqlite::Alter;
 use std::alloc::Global;
 use std::collections::BTreeMap;
@@ -73,7 +72,7 @@ fn view_but_texts<S: Alter>(
         → IsViewButTexts view was.registry command.now) }
 {
     let needs = command.needs();
-    let settings = settings_for(db, command.subject(), needs)?;
+    let settings = settings_for(alloc, db, command.subject(), needs)?;
     let levels = settings.0;
     let ids = ids_for(db, identity, needs.count)?;
     let level = levels.0.unwrap_or(levels.1);
@@ -88,25 +87,6 @@ fn view_but_texts<S: Alter>(
         known: ids.0,
         count: ids.1,
     })
-}
-
-/// The levels and the modes that are needed.
-fn settings_for<S: Alter>(
-    db: &mut Idle<S>,
-    subject: Option<&Subject>,
-    needs: Needs,
-) -> Result<((Option<Level>, Level), (Option<Mode>, Mode)), StoreError>
-    ensures { Reads db.old db.new result (λ was settings.
-        (IsTrue needs.levels
-        → (settings.0.0 ≡ option_and_then was.registry.own (option_copied subject.entry))
-        × (settings.0.1 ≡ was.registry.global))
-        × (IsTrue needs.modes
-        → (settings.1.0 ≡ option_and_then was.registry.own_modes (option_copied subject.entry))
-        × (settings.1.1 ≡ was.registry.global_mode))) }
-{
-    let levels = levels_for(db, subject, needs.levels)?;
-    let modes = modes_for(db, subject, needs.modes)?;
-    Ok((levels, modes))
 }
 
 /// The id of the schema with the identity text that is given, if one is and there is one, and the

@@ -1,17 +1,13 @@
 //! The test of `texts`, of which a few are held at a time.
 
-ghost use Rattle.std.specs.Prelude.{◌↔◌, ◌≤◌, IfOk, IfErr, OnOk, IsTrue, false};
+ghost use Rattle.std.specs.Prelude.{◌↔◌, ◌≤◌, IfOk, IfErr, IsTrue};
 ghost use Rattle.std.specs.List.{AllByRecursion};
-ghost use Rattle.sqlite.specs.State.{HasCleanDisk};
-ghost use Rattle.reg_tables.specs.Frames.{StaysIdle};
 ghost use Rattle.reg_tables.specs.Layout.{HasTablesFirst};
 ghost use Rattle.reg_tables.specs.Listings.{ListsTexts, ListsTextsBetween};
-ghost use Rattle.reg_tables.specs.Reads.{CanBeRead};
+ghost use Rattle.reg_tables.specs.Reads.{HoldsReadable};
 ghost use Rattle.reg_core.specs.Registry.{max_number};
-ghost use Rattle.reg_store.specs.Failures.{IsFaultBy, IsNumberless};
-ghost use Rattle.reg_store.specs.Inside.Testing.{text_fits, IsFaultBase, Judges, NumbersTexts, TestsBase, TextsPass};
-ghost use Rattle.reg_store.specs.UnopenedFaults.{IsToldFirst};
-ghost use Rattle.reg_store.specs.Inside.Reads.{Rests, shown};
+ghost use Rattle.reg_store.specs.Failures.{IsNumberless};
+ghost use Rattle.reg_store.specs.Inside.Testing.{text_fits, Judges, NumbersTexts, Tests, TestsBase, TextsPass};
 
 use crate::error::StoreError;
 use crate::idle::Idle;
@@ -39,15 +35,9 @@ fn are_identities(alloc: Global, lines: &[TextLine]) -> Result<bool, OutOfMemory
 
 /// How many texts there are, if their ids are the numbers from 1 on.
 fn count_texts<S: Alter>(alloc: Global, db: &mut Idle<S>) -> Result<u32, StoreError>
-    ensures frame { StaysIdle S.Store db.old.idle.conn db.new.idle.conn result }
-    ensures counted { HasCleanDisk (shown db.new) → IfOk result (λ count.
-        HasTablesFirst (shown db.old).now.schema
-        → NumbersTexts (shown db.old).now count) }
+    ensures tests { TestsBase S.Store db.old.idle.conn db.new.idle.conn result
+        (λ count db. NumbersTexts db count) }
     ensures few { IfOk result (λ count. count ≤ max_number) }
-    ensures fault { HasCleanDisk (shown db.new)
-        → IfErr result (IsFaultBase (shown db.old) (shown db.new)) }
-    ensures told { HasCleanDisk (shown db.new)
-        → IfErr result (IsToldFirst (shown db.old) (shown db.new)) }
     ensures plain { IfErr result IsNumberless }
 {
     let mut ids = text_ids(alloc, &mut db.idle)?;
@@ -64,15 +54,8 @@ fn judge_some<S: Alter>(
     first: u32,
     last: u32,
 ) -> Result<bool, StoreError>
-    ensures frame { StaysIdle S.Store db.old.idle.conn db.new.idle.conn result }
-    ensures judged { HasCleanDisk (shown db.new) → IfOk result (λ fit.
-        HasTablesFirst (shown db.old).now.schema
-        → Judges (ListsTextsBetween first last (shown db.old).now) fit) }
-    ensures fault { HasCleanDisk (shown db.new) → IfErr result (λ e.
-        CanBeRead (shown db.old)
-        → IsFaultBy (shown db.old) (shown db.new) e) }
-    ensures told { HasCleanDisk (shown db.new)
-        → IfErr result (IsToldFirst (shown db.old) (shown db.new)) }
+    ensures tests { Tests HasTablesFirst HoldsReadable S.Store db.old.idle.conn db.new.idle.conn
+        result (λ fit db. Judges (ListsTextsBetween first last db) fit) }
     ensures plain { IfErr result IsNumberless }
 {
     let lines = texts_between(alloc, &mut db.idle, first, last)?;
@@ -83,18 +66,8 @@ fn judge_some<S: Alter>(
 /// each is the identity text of a schema.
 fn judge_all<S: Alter>(alloc: Global, db: &mut Idle<S>, count: u32) -> Result<bool, StoreError>
     requires few { count ≤ max_number }
-    ensures frame { Rests (shown db.old) (shown db.new) }
-    ensures open { HasCleanDisk (shown db.new) → OnOk result
-        (IsTrue (shown db.old).is_open) }
-    ensures judged { HasCleanDisk (shown db.new) → IfOk result (λ fit.
-        HasTablesFirst (shown db.old).now.schema
-        → NumbersTexts (shown db.old).now count
-        → Judges (ListsTexts (shown db.old).now) fit) }
-    ensures fault { HasCleanDisk (shown db.new) → IfErr result (λ e.
-        CanBeRead (shown db.old)
-        → IsFaultBy (shown db.old) (shown db.new) e) }
-    ensures told { HasCleanDisk (shown db.new)
-        → IfErr result (IsToldFirst (shown db.old) (shown db.new)) }
+    ensures tests { Tests HasTablesFirst HoldsReadable S.Store db.old.idle.conn db.new.idle.conn
+        result (λ fit db. NumbersTexts db count → Judges (ListsTexts db) fit) }
     ensures plain { IfErr result IsNumberless }
 {
     let _idle = db.idle.conn.is_autocommit();

@@ -2,8 +2,8 @@ use Rattle.std.proofs.Common.{inl, inr}
 use Rattle.sqlite.specs.Held.{state}
 use Rattle.reg_tables.proofs.Transactions.{on_ok}
 use Rattle.reg_store.proofs.Spelling.{respells_global, respells_level}
-use Rattle.reg_core.specs.declared.decision.Change.TheVariants.{AddText, AddRow}
-use Rattle.reg_store.proofs.Additions.{makes_text, makes_row, id_is_free, text_is_new, number_is_free, id_has_text}
+use Rattle.reg_core.specs.declared.decision.Change.TheVariants.{AddText}
+use Rattle.reg_store.proofs.Additions.{makes_text, id_is_free, text_is_new}
 use Rattle.reg_store.proofs.Deletions.{makes_deleted, makes_removed, makes_dropped}
 use Rattle.reg_store.proofs.Modes.{makes_global_mode, makes_mode, makes_no_mode}
 use Rattle.reg_store.proofs.Writing.{if_err_both, fault_of_change}
@@ -24,12 +24,12 @@ returns-in-SetLevel-clause-made g c clean =
 
 pub returns-in-SetGlobal-clause-fault : goal.returns-in-SetGlobal-clause-fault
 returns-in-SetGlobal-clause-fault g c clean =
-    if_err_both c.set_global.result (λ e fails shut. fault_of_change (state g.S.Store c.args.tx.now.conn.now) (state g.S.Store c.set_global.new.tx.conn.now) e shut c.args.change.now (λ registry k s fit. fails s.schema (inr s.known) s.contents s.holds))
+    if_err_both c.set_global.result (λ e fails shut. fault_of_change (state g.S.Store c.args.tx.now.conn.now) (state g.S.Store c.set_global.new.tx.conn.now) e shut c.args.change.now (λ was s fit. fails s.schema (inr s.known) s.contents s.holds))
     (c.set_global.ensures.fault clean) (c.set_global.ensures.frame.shut clean)
 
 pub returns-in-SetLevel-clause-fault : goal.returns-in-SetLevel-clause-fault
 returns-in-SetLevel-clause-fault g c clean =
-    if_err_both c.set_level.result (λ e fails shut. fault_of_change (state g.S.Store c.args.tx.now.conn.now) (state g.S.Store c.set_level.new.tx.conn.now) e shut c.args.change.now (λ registry k s fit. fails s.schema (inr s.known) s.contents s.holds))
+    if_err_both c.set_level.result (λ e fails shut. fault_of_change (state g.S.Store c.args.tx.now.conn.now) (state g.S.Store c.set_level.new.tx.conn.now) e shut c.args.change.now (λ was s fit. fails s.schema (inr s.known) s.contents s.holds))
     (c.set_level.ensures.fault clean) (c.set_level.ensures.frame.shut clean)
 
 pub returns-in-AddText-clause-made : goal.returns-in-AddText-clause-made
@@ -42,23 +42,15 @@ returns-in-AddText-clause-made g c clean =
 pub returns-in-AddText-clause-fault : goal.returns-in-AddText-clause-fault
 returns-in-AddText-clause-fault g c clean =
     rw c.in-AddText.is
-    (if_err_both c.put_text.result (λ e fails shut. fault_of_change (state g.S.Store c.args.tx.now.conn.now) (state g.S.Store c.put_text.new.tx.conn.now) e shut (AddText c.in-AddText.id c.in-AddText.text) (λ registry k it fit.
-    inl (fails it.schema (inr it.known) it.contents it.holds (id_is_free it.contents.base registry k it.spelled.base c.in-AddText.id c.in-AddText.text fit) (text_is_new it.contents.base registry k it.spelled.base c.in-AddText.id c.in-AddText.text fit))))
+    (if_err_both c.put_text.result (λ e fails shut. fault_of_change (state g.S.Store c.args.tx.now.conn.now) (state g.S.Store c.put_text.new.tx.conn.now) e shut (AddText c.in-AddText.id c.in-AddText.text) (λ was it fit.
+    inl (fails it.schema (inr it.known) it.contents it.holds (id_is_free it.contents.base was.registry was.replies it.spelled.base c.in-AddText.id c.in-AddText.text fit) (text_is_new it.contents.base was.registry was.replies it.spelled.base c.in-AddText.id c.in-AddText.text fit))))
     (rw c.as_str-in-AddText.ensures at (c.put_text.ensures.fault clean)) (c.put_text.ensures.frame.shut clean))
 
 pub returns-in-AddRow-clause-made : goal.returns-in-AddRow-clause-made
-returns-in-AddRow-clause-made g c clean =
-    rw c.in-AddRow.is
-    (on_ok c.put_version.result
-    (makes_row (state g.S.Store c.args.tx.now.conn.now) (state g.S.Store c.put_version.new.tx.conn.now) c.in-AddRow.row c.in-AddRow.evidence (rw (c.as_str-in-AddRow.ensures.text, c.subject.ensures) at c.as_str-in-AddRow.ensures.subject))
-    (rw (c.as_str-in-AddRow.ensures.text, c.subject.ensures, c.version.ensures, c.id.ensures, c.deleted.ensures) at (c.put_version.ensures.put clean)))
+returns-in-AddRow-clause-made g c clean = rw c.in-AddRow.is (c.put_row.ensures.made clean)
 
 pub returns-in-AddRow-clause-fault : goal.returns-in-AddRow-clause-fault
-returns-in-AddRow-clause-fault g c clean =
-    rw c.in-AddRow.is
-    (if_err_both c.put_version.result (λ e fails shut. fault_of_change (state g.S.Store c.args.tx.now.conn.now) (state g.S.Store c.put_version.new.tx.conn.now) e shut (AddRow c.in-AddRow.row c.in-AddRow.evidence) (λ registry k it fit.
-    fails it.schema (inr it.known) it.contents it.holds (number_is_free it.contents.base registry k it.spelled.base c.in-AddRow.row fit.0) (id_has_text it.contents.base registry k it.spelled.base c.in-AddRow.row fit.0)))
-    (rw (c.as_str-in-AddRow.ensures.text, c.subject.ensures, c.version.ensures, c.id.ensures) at (c.put_version.ensures.fault clean)) (c.put_version.ensures.frame.shut clean))
+returns-in-AddRow-clause-fault g c clean = rw c.in-AddRow.is (c.put_row.ensures.fault clean)
 
 pub returns-in-MarkDeleted-clause-made : goal.returns-in-MarkDeleted-clause-made
 returns-in-MarkDeleted-clause-made g c clean =
@@ -67,7 +59,7 @@ returns-in-MarkDeleted-clause-made g c clean =
 
 pub returns-in-MarkDeleted-clause-fault : goal.returns-in-MarkDeleted-clause-fault
 returns-in-MarkDeleted-clause-fault g c clean =
-    if_err_both c.mark_deleted.result (λ e fails shut. fault_of_change (state g.S.Store c.args.tx.now.conn.now) (state g.S.Store c.mark_deleted.new.tx.conn.now) e shut c.args.change.now (λ registry k s fit. fails s.schema (inr s.known) s.contents s.holds))
+    if_err_both c.mark_deleted.result (λ e fails shut. fault_of_change (state g.S.Store c.args.tx.now.conn.now) (state g.S.Store c.mark_deleted.new.tx.conn.now) e shut c.args.change.now (λ was s fit. fails s.schema (inr s.known) s.contents s.holds))
     (c.mark_deleted.ensures.fault clean) (c.mark_deleted.ensures.frame.shut clean)
 
 pub returns-in-Remove-clause-made : goal.returns-in-Remove-clause-made
@@ -77,7 +69,7 @@ returns-in-Remove-clause-made g c clean =
 
 pub returns-in-Remove-clause-fault : goal.returns-in-Remove-clause-fault
 returns-in-Remove-clause-fault g c clean =
-    if_err_both c.drop_version.result (λ e fails shut. fault_of_change (state g.S.Store c.args.tx.now.conn.now) (state g.S.Store c.drop_version.new.tx.conn.now) e shut c.args.change.now (λ registry k s fit. inl (inl (fails s.schema (inr s.known) s.contents s.holds))))
+    if_err_both c.drop_version.result (λ e fails shut. fault_of_change (state g.S.Store c.args.tx.now.conn.now) (state g.S.Store c.drop_version.new.tx.conn.now) e shut c.args.change.now (λ was s fit. inl (inl (fails s.schema (inr s.known) s.contents s.holds))))
     (c.drop_version.ensures.fault clean) (c.drop_version.ensures.frame.shut clean)
 
 pub returns-in-DropLevel-clause-made : goal.returns-in-DropLevel-clause-made
@@ -87,7 +79,7 @@ returns-in-DropLevel-clause-made g c clean =
 
 pub returns-in-DropLevel-clause-fault : goal.returns-in-DropLevel-clause-fault
 returns-in-DropLevel-clause-fault g c clean =
-    if_err_both c.drop_level.result (λ e fails shut. fault_of_change (state g.S.Store c.args.tx.now.conn.now) (state g.S.Store c.drop_level.new.tx.conn.now) e shut c.args.change.now (λ registry k s fit. inl (inl (fails s.schema (inr s.known) s.contents s.holds))))
+    if_err_both c.drop_level.result (λ e fails shut. fault_of_change (state g.S.Store c.args.tx.now.conn.now) (state g.S.Store c.drop_level.new.tx.conn.now) e shut c.args.change.now (λ was s fit. inl (inl (fails s.schema (inr s.known) s.contents s.holds))))
     (c.drop_level.ensures.fault clean) (c.drop_level.ensures.frame.shut clean)
 
 pub returns-in-SetGlobalMode-clause-made : goal.returns-in-SetGlobalMode-clause-made
@@ -98,7 +90,7 @@ returns-in-SetGlobalMode-clause-made g c clean =
 
 pub returns-in-SetGlobalMode-clause-fault : goal.returns-in-SetGlobalMode-clause-fault
 returns-in-SetGlobalMode-clause-fault g c clean =
-    if_err_both c.set_global_mode.result (λ e fails shut. fault_of_change (state g.S.Store c.args.tx.now.conn.now) (state g.S.Store c.set_global_mode.new.tx.conn.now) e shut c.args.change.now (λ registry k s fit. fails s.schema (inr s.known) s.contents s.holds))
+    if_err_both c.set_global_mode.result (λ e fails shut. fault_of_change (state g.S.Store c.args.tx.now.conn.now) (state g.S.Store c.set_global_mode.new.tx.conn.now) e shut c.args.change.now (λ was s fit. fails s.schema (inr s.known) s.contents s.holds))
     (c.set_global_mode.ensures.fault clean) (c.set_global_mode.ensures.frame.shut clean)
 
 pub returns-in-SetMode-clause-made : goal.returns-in-SetMode-clause-made
@@ -110,7 +102,7 @@ returns-in-SetMode-clause-made g c clean =
 
 pub returns-in-SetMode-clause-fault : goal.returns-in-SetMode-clause-fault
 returns-in-SetMode-clause-fault g c clean =
-    if_err_both c.set_mode.result (λ e fails shut. fault_of_change (state g.S.Store c.args.tx.now.conn.now) (state g.S.Store c.set_mode.new.tx.conn.now) e shut c.args.change.now (λ registry k s fit. fails s.schema s.known s.contents s.holds))
+    if_err_both c.set_mode.result (λ e fails shut. fault_of_change (state g.S.Store c.args.tx.now.conn.now) (state g.S.Store c.set_mode.new.tx.conn.now) e shut c.args.change.now (λ was s fit. fails s.schema s.known s.contents s.holds))
     (c.set_mode.ensures.fault clean) (c.set_mode.ensures.frame.shut clean)
 
 pub returns-in-DropMode-clause-made : goal.returns-in-DropMode-clause-made
@@ -120,5 +112,5 @@ returns-in-DropMode-clause-made g c clean =
 
 pub returns-in-DropMode-clause-fault : goal.returns-in-DropMode-clause-fault
 returns-in-DropMode-clause-fault g c clean =
-    if_err_both c.drop_mode.result (λ e fails shut. fault_of_change (state g.S.Store c.args.tx.now.conn.now) (state g.S.Store c.drop_mode.new.tx.conn.now) e shut c.args.change.now (λ registry k s fit. inl (inl (fails s.schema s.known s.contents s.holds))))
+    if_err_both c.drop_mode.result (λ e fails shut. fault_of_change (state g.S.Store c.args.tx.now.conn.now) (state g.S.Store c.drop_mode.new.tx.conn.now) e shut c.args.change.now (λ was s fit. inl (inl (fails s.schema s.known s.contents s.holds))))
     (c.drop_mode.ensures.fault clean) (c.drop_mode.ensures.frame.shut clean)

@@ -5,6 +5,7 @@ use Rattle.reg_store.specs.declared.layout.Layout.TheVariants.{First}
 use Rattle.reg_store.proofs.Failing.{if_err_each}
 use Rattle.reg_store.proofs.MetaLemmas.{not_other}
 use Rattle.reg_store.proofs.Bases.{some_first}
+use Rattle.reg_store.proofs.OpenLemmas.{finds_first}
 use Rattle.reg_store.proofs.TestLemmas.{tests_then, test_of, test_says}
 use Rattle.reg_store.proofs.testing.test_first.Goals as goal
 
@@ -14,6 +15,12 @@ returns-clause-tests g c =
     let rest = test_of g.S.Store c.test_meta.new.db.idle.conn c.test_rest.new.db.idle.conn c.test_rest.result (λ schema first. first) (λ db s. some_first s) c.test_rest.ensures.tests in
     let t = tests_then g.S.Store c.args.db.now.idle.conn c.test_meta.new.db.idle.conn c.test_rest.new.db.idle.conn (c.is_autocommit-idle.ensures.settled idle) c.test_rest.result c.in_ok-test_meta.ensures.tests rest in
     test_says g.S.Store c.args.db.now.idle.conn c.test_rest.new.db.idle.conn c.test_rest.result t (λ count db p. (record { meta = p.0; rest = p.1.0 }, p.1.1))
+
+pub returns-clause-found : goal.returns-clause-found
+returns-clause-found g c clean =
+    let old = state g.S.Store c.args.db.now.idle.conn in
+    let tests = returns-clause-tests g c in
+    finds_first old (state g.S.Store c.test_rest.new.db.idle.conn) c.test_rest.result (search rules) (tests.frame.was_open clean) (λ is_open. (c.schema-live.ensures.live is_open).0) (tests.tells clean)
 
 pub returns-clause-other : goal.returns-clause-other
 returns-clause-other g c clean =

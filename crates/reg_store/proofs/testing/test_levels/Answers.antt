@@ -26,4 +26,4 @@ returns-clause-tests g c =
     (λ db lists yes.
     let both = subst Passes c.deref.ensures.value (c.in_ok-pass.ensures.0 yes) in
     record { lines = lines; lists = lists; apart = both.0; fit = both.1 })
-    (λ db lists no s. both_ways _ no (c.in_ok-pass.ensures.1 (subst Passes (sym c.deref.ensures.value) (levels_pass db s.registry s.kept s.spells lines lists))))
+    (λ db lists no s. both_ways _ no (c.in_ok-pass.ensures.1 (subst Passes (sym c.deref.ensures.value) (levels_pass db s.stored s.spells lines lists))))

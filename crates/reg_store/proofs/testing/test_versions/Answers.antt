@@ -29,7 +29,7 @@ returns-in_err-allow-clause-tests g c =
     (λ db lists yes.
     let both = subst Passes c.deref.ensures.value (c.in_ok-pass.ensures.0 yes) in
     record { lines = lines; lists = lists; apart = both.0; fit = both.1 })
-    (λ db lists no s. both_ways _ no (c.in_ok-pass.ensures.1 (subst Passes (sym c.deref.ensures.value) (versions_pass db s.registry s.kept s.spells lines lists)))) in
+    (λ db lists no s. both_ways _ no (c.in_ok-pass.ensures.1 (subst Passes (sym c.deref.ensures.value) (versions_pass db s.stored s.spells lines lists)))) in
     test_fails g.S.Store a b c.from_residual-in_err-allow.result _ judged c.from_residual-in_err-allow.ensures.1
 
 pub returns-clause-tests : goal.returns-clause-tests

@@ -5,13 +5,11 @@ use Rattle.sqlite.specs.Held.{Held, state}
 use Rattle.sqlite.specs.State.{HasCleanDisk}
 use Rattle.sqlite.proofs.StateLemmas.{survives_then}
 use Rattle.sqlite.proofs.Callers.{survives_begin}
-use Rattle.reg_core.specs.Registry.{Registry}
-use Rattle.reg_core.specs.Views.{ChangesFit, after_changes}
 use Rattle.reg_tables.proofs.Transactions.{on_ok, if_err, keeps_then, keeps_if_undone, survives_both}
 use Rattle.reg_tables.proofs.WriteFaults.{erred_with}
-use Rattle.reg_core.specs.KeptReplies.{Kept}
+use Rattle.reg_core.specs.Stored.{Stored}
 use Rattle.reg_store.specs.Spells.{Spells, Leaves, IsOpenOver, SpellsWhileOpen}
-use Rattle.reg_store.specs.Changes.{with_reply, IsNewTo, ActsOn}
+use Rattle.reg_store.specs.Changes.{made_of, stored_after, CanTake, WhereTaken, ActsOn}
 use Rattle.reg_store.specs.Failures.{failure_of, is_fault}
 use Rattle.reg_store.specs.Stores.{LeavesBefore}
 use Rattle.reg_store.proofs.Failing.{fault_if_by}
@@ -26,17 +24,15 @@ returns-clause-done g c clean =
     let late : HasCleanDisk (state g.S.Store end) = search rules in
     let clean_last : HasCleanDisk last = omega (arith, c.commit.ensures.survives.clean) in
     let clean_mid : HasCleanDisk (state g.S.Store c.make_all.new.tx.conn.now) = omega (arith, c.keep_reply.ensures.frame.survives.clean) in
-    on_ok c.commit.result (λ done registry k spells fresh fits.
-    let after = after_changes c.args.changes.now registry in
-    let kept = with_reply c.args.keep k in
+    on_ok c.commit.result (λ done was over takes.
+    let after = stored_after c.args.changes.now c.args.keep was in
     let mid_open = (c.keep_reply.ensures.frame.commit_stays clean_last).was_open done.1.was_open in
     let begun_open = (c.make_all.ensures.frame.commit_stays clean_mid).was_open mid_open in
-    let was = spells (subst (λ h. IsTrue (state g.S.Store h).is_open) c.transaction-tx.ensures.begun begun_open) in
-    let begun = subst (λ h. Spells (state g.S.Store h).now registry k) (sym c.transaction-tx.ensures.begun) was.spells in
-    let made = c.in_ok-make_all.ensures.made clean_mid registry k begun fits in
-    let put = c.in_ok-keep_reply.ensures.put clean_last after k made fresh in
-    let all : IsOpenOver (state g.S.Store end) after kept =
-    record { is_open = done.1.is_open; settled = done.1.committed_is ∙ sym done.1.now_is; spells = subst (λ d. Spells d after kept) (sym done.1.now_is) put } in
+    let begun = begun_spells g.S.Store c.args.db.now.idle.conn c.transaction-tx.result.conn.now c.transaction-tx.ensures.begun was over begun_open in
+    let made = c.in_ok-make_all.ensures.made clean_mid was begun takes.fit in
+    let put = c.in_ok-keep_reply.ensures.put clean_last (made_of c.args.changes.now was) made takes.fresh in
+    let all : IsOpenOver (state g.S.Store end) after =
+    record { is_open = done.1.is_open; settled = done.1.committed_is ∙ sym done.1.now_is; spells = subst (λ d. Spells d after) (sym done.1.now_is) put } in
     all) (c.commit.ensures.ok late)
 
 pub returns-clause-survives : goal.returns-clause-survives
@@ -46,9 +42,9 @@ returns-clause-survives g c =
     let begun = state g.S.Store c.transaction-tx.result.conn.now in
     let mid = state g.S.Store c.make_all.new.tx.conn.now in
     let last = state g.S.Store c.keep_reply.new.tx.conn.now in
-    let P = λ (db : Trees). (registry : Registry) (k : Kept) → SpellsWhileOpen first registry k → IsNewTo k c.args.keep → ChangesFit c.args.changes.now registry → IsTrue first.is_open ⊎ ActsOn c.args.changes.now c.args.keep → Leaves db (after_changes c.args.changes.now registry) (with_reply c.args.keep k) in
+    let P = λ (db : Trees). WhereTaken first c.args.changes.now c.args.keep (λ was. IsTrue first.is_open ⊎ ActsOn c.args.changes.now c.args.keep → Leaves db (stored_after c.args.changes.now c.args.keep was)) in
     let inside = survives_both begun mid last c.make_all.ensures.frame.survives c.keep_reply.ensures.frame.survives in
-    let commits = λ (clean : HasCleanDisk (state g.S.Store end)) (db : Trees) (is : db ≡ last.now.trees) (registry : Registry) (k : Kept) (spells : SpellsWhileOpen first registry k) (fresh : IsNewTo k c.args.keep) (fits : ChangesFit c.args.changes.now registry) (acts : IsTrue first.is_open ⊎ ActsOn c.args.changes.now c.args.keep).
+    let commits = λ (clean : HasCleanDisk (state g.S.Store end)) (db : Trees) (is : db ≡ last.now.trees) (was : Stored) (over : SpellsWhileOpen first was) (takes : CanTake c.args.changes.now c.args.keep was) (acts : IsTrue first.is_open ⊎ ActsOn c.args.changes.now c.args.keep).
     let clean_last : HasCleanDisk last = omega (arith, c.commit.ensures.survives.clean) in
     let clean_mid : HasCleanDisk mid = omega (arith, c.keep_reply.ensures.frame.survives.clean) in
     let opened = subst (λ h. IsTrue (state g.S.Store h).is_open) c.transaction-tx.ensures.begun in
@@ -59,10 +55,10 @@ returns-clause-survives g c =
         | inr reply ↦ (c.make_all.ensures.frame.commit_stays clean_mid).was_open (c.in_ok-keep_reply.ensures.was_open clean_last reply)
       ])
     ] in
-    let spelled = subst (λ h. Spells (state g.S.Store h).now registry k) (sym c.transaction-tx.ensures.begun) (spells was_open).spells in
-    let made = c.in_ok-make_all.ensures.made clean_mid registry k spelled fits in
-    let put = c.in_ok-keep_reply.ensures.put clean_last (after_changes c.args.changes.now registry) k made fresh in
-    leaves_if_spelled db last.now (after_changes c.args.changes.now registry) (with_reply c.args.keep k) is put in
+    let spelled = subst (λ h. Spells (state g.S.Store h).now was) (sym c.transaction-tx.ensures.begun) (over was_open).spells in
+    let made = c.in_ok-make_all.ensures.made clean_mid was spelled takes.fit in
+    let put = c.in_ok-keep_reply.ensures.put clean_last (made_of c.args.changes.now was) made takes.fresh in
+    leaves_if_spelled db last.now (stored_after c.args.changes.now c.args.keep was) is put in
     let whole = survives_then first last (state g.S.Store end) _ _ P (λ _ db none. absurd none) commits
     (survives_begin g.S.Store c.args.db.now.idle.conn last _ (rw c.transaction-tx.ensures.begun at inside)) c.commit.ensures.survives in
     whole
@@ -75,9 +71,9 @@ returns-in_err-make_all-clause-fault g c clean =
     let e = c.in_err-make_all.field-0.0 in
     let late : HasCleanDisk (state g.S.Store c.drop-tx.new.self.0) = search rules in
     let clean_mid : HasCleanDisk (state g.S.Store c.make_all.new.tx.conn.now) = omega (arith, c.drop-tx.ensures.survives.clean) in
-    erred_with c.from_residual.result e (λ e. (registry : Registry) (k : Kept) → SpellsWhileOpen first registry k → IsNewTo k c.args.keep → ChangesFit c.args.changes.now registry → IsTrue (is_fault (failure_of e))) c.from_residual.ensures.1
-    (λ registry k over fresh fits. is_fault_of_insert begun (state g.S.Store c.make_all.new.tx.conn.now) e (ap (λ (h : Held _). h.step_limit) is ∙ c.args.db.now.unlimited) (ap (λ (h : Held _). h.in_transaction) is)
-    (c.in_err-make_all.ensures.fault clean_mid registry k (begun_spells g.S.Store c.args.db.now.idle.conn c.transaction-tx.result.conn.now is registry k over) fits))
+    erred_with c.from_residual.result e (λ e. WhereTaken first c.args.changes.now c.args.keep (λ was. IsTrue (is_fault (failure_of e)))) c.from_residual.ensures.1
+    (λ was over takes. is_fault_of_insert begun (state g.S.Store c.make_all.new.tx.conn.now) e (ap (λ (h : Held _). h.step_limit) is ∙ c.args.db.now.unlimited) (ap (λ (h : Held _). h.in_transaction) is)
+    (c.in_err-make_all.ensures.fault clean_mid was (begun_spells g.S.Store c.args.db.now.idle.conn c.transaction-tx.result.conn.now is was over) takes.fit))
 
 pub returns-in_err-keep_reply-clause-fault : goal.returns-in_err-keep_reply-clause-fault
 returns-in_err-keep_reply-clause-fault g c clean =
@@ -89,13 +85,13 @@ returns-in_err-keep_reply-clause-fault g c clean =
     let late : HasCleanDisk (state g.S.Store c.drop-tx-in_err-keep_reply.new.self.0) = search rules in
     let clean_last : HasCleanDisk (state g.S.Store c.keep_reply.new.tx.conn.now) = omega (arith, c.drop-tx-in_err-keep_reply.ensures.survives.clean) in
     let clean_mid : HasCleanDisk mid = omega (arith, c.keep_reply.ensures.frame.survives.clean) in
-    erred_with c.from_residual-in_err-keep_reply.result e (λ e. (registry : Registry) (k : Kept) → SpellsWhileOpen first registry k → IsNewTo k c.args.keep → ChangesFit c.args.changes.now registry → IsTrue (is_fault (failure_of e))) c.from_residual-in_err-keep_reply.ensures.1
-    (λ registry k over fresh fits.
-    let spelled = begun_spells g.S.Store c.args.db.now.idle.conn c.transaction-tx.result.conn.now is registry k over in
+    erred_with c.from_residual-in_err-keep_reply.result e (λ e. WhereTaken first c.args.changes.now c.args.keep (λ was. IsTrue (is_fault (failure_of e)))) c.from_residual-in_err-keep_reply.ensures.1
+    (λ was over takes.
+    let spelled = begun_spells g.S.Store c.args.db.now.idle.conn c.transaction-tx.result.conn.now is was over in
     is_fault_of_insert begun (state g.S.Store c.keep_reply.new.tx.conn.now) e (ap (λ (h : Held _). h.step_limit) is ∙ c.args.db.now.unlimited) (ap (λ (h : Held _). h.in_transaction) is)
     (fault_later begun mid (state g.S.Store c.keep_reply.new.tx.conn.now) c.make_all.ensures.frame.survives clean_mid c.keep_reply.ensures.frame.survives.counts (c.in_ok-make_all.ensures.goes_on clean_mid) e
-    (c.in_err-keep_reply.ensures.fault clean_last (after_changes c.args.changes.now registry) k
-    (λ is_open. c.in_ok-make_all.ensures.made clean_mid registry k (spelled ((c.make_all.ensures.frame.commit_stays clean_mid).was_open is_open)) fits) fresh)))
+    (c.in_err-keep_reply.ensures.fault clean_last (made_of c.args.changes.now was)
+    (λ is_open. c.in_ok-make_all.ensures.made clean_mid was (spelled ((c.make_all.ensures.frame.commit_stays clean_mid).was_open is_open)) takes.fit) takes.fresh)))
 
 pub returns-clause-fault : goal.returns-clause-fault
 returns-clause-fault g c clean =
@@ -109,7 +105,7 @@ returns-clause-fault g c clean =
     let clean_mid : HasCleanDisk mid = omega (arith, c.keep_reply.ensures.frame.survives.clean) in
     let unlimited = c.keep_reply.ensures.frame.survives.limit ∙ c.make_all.ensures.frame.survives.limit ∙ ap (λ (h : Held _). h.step_limit) is ∙ c.args.db.now.unlimited in
     let inside = still_inside mid last (still_inside begun mid (ap (λ (h : Held _). h.in_transaction) is) (c.in_ok-make_all.ensures.goes_on clean_mid)) (c.in_ok-keep_reply.ensures.goes_on clean_last) in
-    if_err c.commit.result (λ e fails registry k over fresh fits. fault_if_by last end _ (fault_of_commit last end e unlimited inside fails)) (c.commit.ensures.err late)
+    if_err c.commit.result (λ e fails was over takes. fault_if_by last end _ (fault_of_commit last end e unlimited inside fails)) (c.commit.ensures.err late)
 
 pub returns-clause-was_open : goal.returns-clause-was_open
 returns-clause-was_open g c clean =

@@ -1,13 +1,14 @@
 use Rattle.std.proofs.Common.{subst}
-use Rattle.std.specs.Prelude.{IfErr}
 use Rattle.sqlite.specs.Held.{state}
-use Rattle.reg_store.specs.UnopenedFaults.{IsFaultFirst, IsToldFirst}
+use Rattle.reg_tables.specs.Frames.{StaysIdle}
+use Rattle.reg_store.proofs.OpenLemmas.{unread_unlimited}
 use Rattle.reg_store.proofs.store.checking.check_first.Goals as goal
 
-pub returns-clause-fault : goal.returns-clause-fault
-returns-clause-fault g c clean =
-    subst (λ h. IfErr c.find_first-found.result (IsFaultFirst (state g.S.Store h) (state g.S.Store c.find_first-found.new.db.idle.conn))) c.set_step_limit.ensures (c.find_first-found.ensures.fault clean)
+pub returns-clause-frame : goal.returns-clause-frame
+returns-clause-frame g c = subst (λ h. StaysIdle g.S.Store h c.test_first-found.new.db.idle.conn c.test_first-found.result) c.set_step_limit.ensures c.test_first-found.ensures.tests.frame
 
-pub returns-clause-told : goal.returns-clause-told
-returns-clause-told g c clean =
-    subst (λ h. IfErr c.find_first-found.result (IsToldFirst (state g.S.Store h) (state g.S.Store c.find_first-found.new.db.idle.conn))) c.set_step_limit.ensures (c.find_first-found.ensures.told clean)
+pub returns-clause-fails : goal.returns-clause-fails
+returns-clause-fails g c clean =
+    let it = c.test_first-found.ensures in
+    unread_unlimited g.S.Store c.args.connection c.set_step_limit.new.self c.set_step_limit.ensures (state g.S.Store c.test_first-found.new.db.idle.conn) c.test_first-found.result
+    (it.tests.fault clean) (it.tests.told clean) (it.refused clean) (it.other clean)

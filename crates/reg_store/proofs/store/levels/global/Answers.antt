@@ -14,7 +14,7 @@ returns-in-None g c =
     read c.in_ok-global_level.ensures.frame (λ clean was over.
     let it = over.spells in
     let none = rw c.in-None.is at (c.in_ok-global_level.ensures.found clean it.schema (second_tables_first it.schema it.known) it.contents.base it.holds.base) in
-    let some = sym none ∙ global_is it.contents was.registry was.replies it.spelled in
+    let some = sym none ∙ global_is it.contents was it.spelled in
     absurd (cc))
 
 pub returns-in-Some : goal.returns-in-Some
@@ -22,7 +22,7 @@ returns-in-Some g c =
     read c.in_ok-global_level.ensures.frame (λ clean was over.
     let it = over.spells in
     let found = rw c.in-Some.is at (c.in_ok-global_level.ensures.found clean it.schema (second_tables_first it.schema it.known) it.contents.base it.holds.base) in
-    let same : Some (string_bytes c.in-Some.text) ≡ Some (level_text was.registry.global) = sym found ∙ global_is it.contents was.registry was.replies it.spelled in
+    let same : Some (string_bytes c.in-Some.text) ≡ Some (level_text was.registry.global) = sym found ∙ global_is it.contents was it.spelled in
     let text : string_bytes c.in-Some.text ≡ level_text was.registry.global = cc in
     match_on c.level_in.result (λ level spells. level_is c.as_str.result.now level was.registry.global (c.as_str.ensures.value ∙ text) spells)
     (λ none e. let both = sym none ∙ ap level_of (c.as_str.ensures.value ∙ text) ∙ level_of-level_text was.registry.global in absurd (cc)) c.level_in.ensures.ok c.level_in.ensures.err)

@@ -8,13 +8,12 @@ use Rattle.reg_tables.specs.SecondContents.{HoldsAllIn}
 use Rattle.reg_tables.proofs.EvidenceParents.{added_tables}
 use Rattle.reg_store.specs.declared.layout.Layout.TheVariants.{Second}
 use Rattle.reg_store.specs.Failures.{failure_of}
-use Rattle.reg_store.specs.Opening.{TellsLayout}
-use Rattle.reg_store.specs.Stores.{LeavesBefore}
-use Rattle.reg_store.specs.UnopenedFaults.{IsFaultUnopened, IsToldUnopened}
-use Rattle.reg_store.proofs.Failing.{passed, by_since, told_if_by}
+use Rattle.reg_store.specs.Stores.{LeavesConnection}
+use Rattle.reg_store.specs.UnopenedFaults.{IsUnopened}
+use Rattle.reg_store.proofs.Failing.{passed, by_since, told_if_by, numberless}
 use Rattle.reg_store.proofs.MetaLemmas.{not_other}
-use Rattle.reg_store.proofs.OpenLemmas.{opens_as_it_is, opens_with_index, bare_contents, index_survives, spells_bare, only_reads}
-use Rattle.reg_store.proofs.Committing.{on_err_each, before_if_undone, before_then, before_if_faulted}
+use Rattle.reg_store.proofs.OpenLemmas.{opens_as_it_is, opens_with_index, bare_contents, index_survives, spells_bare, only_reads, refused_if_plain}
+use Rattle.reg_store.proofs.Committing.{before_if_undone, before_then, before_if_faulted}
 use Rattle.reg_tables.proofs.Transactions.{keeps_then}
 use Rattle.reg_store.proofs.Rereading.{same_now}
 use Rattle.reg_store.proofs.store.opening.make_ready.Goals as goal
@@ -28,13 +27,6 @@ returns-then-not-is_second_unindexed-clause-done g c clean =
     let was_open = t.tests.frame.was_open clean in
     opens_as_it_is old mid (t.tests.frame.only_reads clean) (c.is_autocommit-idle.ensures.settled idle) t.known (c.schema-live.ensures.live was_open).0 (t.tests.tells clean (added_tables old.now.schema t.known))
     (λ bare. both_ways _ c.if-not-is_second_unindexed.true (c.is_second_unindexed.ensures.1 bare))
-
-pub returns-in_err-made-clause-other : goal.returns-in_err-made-clause-other
-returns-in_err-made-clause-other g c clean =
-    let old = state g.S.Store c.args.db.now.idle.conn in
-    let early : HasCleanDisk (state g.S.Store c.test_second.new.db.idle.conn) = omega (arith, c.make_index-made.ensures.survives.clean) in
-    let t = c.in_ok-test_second.ensures in
-    passed (TellsLayout old) c.from_residual-in_err-made.result _ c.from_residual-in_err-made.ensures.1 (λ number is_open out. absurd (not_other Second old.now number (t.tests.tells early (added_tables old.now.schema t.known)).base.meta out))
 
 pub returns-clause-done : goal.returns-clause-done
 returns-clause-done g c clean =
@@ -78,42 +70,8 @@ returns-in_err-made-clause-survives g c =
     bare_contents old mid (frame.only_reads early) settled t.known (c.schema-live.ensures.live (frame.was_open early)).0 (t.tests.tells early (added_tables old.now.schema t.known)) (c.is_second_unindexed.ensures.0 c.if-not-is_second_unindexed.false) mid_open)
     frame.survives c.make_index-made.ensures.survives
 
-pub returns-in_err-made-clause-fault : goal.returns-in_err-made-clause-fault
-returns-in_err-made-clause-fault g c clean =
-    let idle : IsTrue c.is_autocommit-idle.result = search rules in
-    let old = state g.S.Store c.args.db.now.idle.conn in
-    let mid = state g.S.Store c.test_second.new.db.idle.conn in
-    let early : HasCleanDisk mid = omega (arith, c.make_index-made.ensures.survives.clean) in
-    let t = c.in_ok-test_second.ensures in
-    let e = c.in_err-made.field-0.0 in
-    let new = state g.S.Store c.make_index-made.new.db.idle.conn in
-    let same = same_now old mid (t.tests.frame.only_reads early) (c.is_autocommit-idle.ensures.settled idle) in
-    let bare = λ (mid_open : IsTrue mid.is_open). sym (ap (λ (d : Database). d.schema) (same mid_open)) ∙ c.is_second_unindexed.ensures.0 c.if-not-is_second_unindexed.false in
-    passed (IsFaultUnopened old new) c.from_residual-in_err-made.result (failure_of e) c.from_residual-in_err-made.ensures.1
-    (λ registry k over.
-    let was_open = t.tests.frame.was_open early in
-    by_since old mid new (t.tests.frame.survives.closes early) t.tests.frame.survives.counts c.make_index-made.ensures.survives.counts (failure_of e) (c.in_err-made.ensures.fault clean (λ mid_open.
-    let spells = spells_bare old.now registry k (bare mid_open) (over was_open) in
-    (spells.contents, subst (λ (d : Database). HoldsAllIn second_unindexed d spells.contents) (sym (same mid_open)) spells.holds))))
-
-pub returns-in_err-made-clause-nothing : goal.returns-in_err-made-clause-nothing
-returns-in_err-made-clause-nothing g c clean =
-    let idle : IsTrue c.is_autocommit-settled.result = search rules in
-    let old = state g.S.Store c.args.db.now.idle.conn in
-    let mid = state g.S.Store c.test_second.new.db.idle.conn in
-    let new = state g.S.Store c.make_index-made.new.db.idle.conn in
-    let early : HasCleanDisk mid = omega (arith, c.make_index-made.ensures.survives.clean) in
-    let kept = keeps_then old mid new (c.in_ok-test_second.ensures.tests.frame.only_reads early).commit_stays (c.in_err-made.ensures.nothing clean) in
-    on_err_each c.from_residual-in_err-made.result (only_reads old new kept (c.is_autocommit-settled.ensures.settled idle))
-
-pub returns-in_err-test_second-clause-before : goal.returns-in_err-test_second-clause-before
-returns-in_err-test_second-clause-before g c clean =
-    let old = state g.S.Store c.args.db.now.idle.conn in
-    let mid = state g.S.Store c.test_second.new.db.idle.conn in
-    passed (λ e. IsTrue old.is_open → LeavesBefore old mid e) c.from_residual.result c.in_err-test_second.field-0.0 c.from_residual.ensures.1 (λ is_open. before_if_undone old mid c.in_err-test_second.field-0.0 c.in_err-test_second.ensures.tests.frame.survives clean)
-
-pub returns-in_err-made-clause-before : goal.returns-in_err-made-clause-before
-returns-in_err-made-clause-before g c clean =
+pub returns-in_err-made-clause-fails : goal.returns-in_err-made-clause-fails
+returns-in_err-made-clause-fails g c clean =
     let idle : IsTrue c.is_autocommit-idle.result = search rules in
     let old = state g.S.Store c.args.db.now.idle.conn in
     let mid = state g.S.Store c.test_second.new.db.idle.conn in
@@ -123,34 +81,65 @@ returns-in_err-made-clause-before g c clean =
     let frame = t.tests.frame in
     let e = c.in_err-made.field-0.0 in
     let settled = c.is_autocommit-idle.ensures.settled idle in
+    let is = c.is_second_unindexed.ensures.0 c.if-not-is_second_unindexed.false in
     let same = same_now old mid (frame.only_reads early) settled in
-    let there = bare_contents old mid (frame.only_reads early) settled t.known (c.schema-live.ensures.live (frame.was_open early)).0 (t.tests.tells early (added_tables old.now.schema t.known)) (c.is_second_unindexed.ensures.0 c.if-not-is_second_unindexed.false) in
-    passed (λ x. IsTrue old.is_open → LeavesBefore old new x) c.from_residual-in_err-made.result (failure_of e) c.from_residual-in_err-made.ensures.1
-    (λ is_open. elim (frame.survives.closes early is_open) [
-      | inl mid_open ↦ before_then old mid new (failure_of e) frame.survives early c.make_index-made.ensures.survives.counts (c.in_err-made.ensures.before clean mid_open)
-      | inr more ↦ before_if_faulted old mid new (failure_of e) more c.make_index-made.ensures.survives.counts
-          (c.in_err-made.ensures.fault clean (λ mid_open. let it = there mid_open in (it.0, subst (λ (d : Database). HoldsAllIn second_unindexed d it.0) (sym (same mid_open)) it.1)))
-    ])
+    let passes = t.tests.tells early (added_tables old.now.schema t.known) in
+    let there = bare_contents old mid (frame.only_reads early) settled t.known (c.schema-live.ensures.live (frame.was_open early)).0 passes is in
+    let since = by_since old mid new (frame.survives.closes early) frame.survives.counts c.make_index-made.ensures.survives.counts (failure_of e) in
+    passed (IsUnopened old new) c.from_residual-in_err-made.result (failure_of e) c.from_residual-in_err-made.ensures.1
+    (record {
+      fault = λ was over. since (c.in_err-made.ensures.fault clean (λ mid_open.
+          let spells = spells_bare old.now was (sym (ap (λ (d : Database). d.schema) (same mid_open)) ∙ is) (over (frame.was_open early)) in
+          (spells.contents, subst (λ (d : Database). HoldsAllIn second_unindexed d spells.contents) (sym (same mid_open)) spells.holds)));
+      told = λ known. told_if_by old new (failure_of e) (since (c.in_err-made.ensures.fault clean (λ mid_open. let it = there mid_open in (it.0, subst (λ (d : Database). HoldsAllIn second_unindexed d it.0) (sym (same mid_open)) it.1))));
+      refused = refused_if_plain 2 old.now (failure_of e) (numberless e);
+      other = λ number is_open out. absurd (not_other Second old.now number passes.base.meta out);
+    })
 
-pub returns-in_err-made-clause-told : goal.returns-in_err-made-clause-told
-returns-in_err-made-clause-told g c clean =
+pub returns-in_err-made-clause-leaves : goal.returns-in_err-made-clause-leaves
+returns-in_err-made-clause-leaves g c =
     let idle : IsTrue c.is_autocommit-idle.result = search rules in
+    let idle_after : IsTrue c.is_autocommit-settled.result = search rules in
     let old = state g.S.Store c.args.db.now.idle.conn in
     let mid = state g.S.Store c.test_second.new.db.idle.conn in
     let new = state g.S.Store c.make_index-made.new.db.idle.conn in
-    let early : HasCleanDisk mid = omega (arith, c.make_index-made.ensures.survives.clean) in
     let t = c.in_ok-test_second.ensures in
     let frame = t.tests.frame in
     let e = c.in_err-made.field-0.0 in
     let settled = c.is_autocommit-idle.ensures.settled idle in
-    let same = same_now old mid (frame.only_reads early) settled in
-    let there = bare_contents old mid (frame.only_reads early) settled t.known (c.schema-live.ensures.live (frame.was_open early)).0 (t.tests.tells early (added_tables old.now.schema t.known)) (c.is_second_unindexed.ensures.0 c.if-not-is_second_unindexed.false) in
-    passed (IsToldUnopened old new) c.from_residual-in_err-made.result (failure_of e) c.from_residual-in_err-made.ensures.1
-    (λ known. told_if_by old new (failure_of e) (by_since old mid new (frame.survives.closes early) frame.survives.counts c.make_index-made.ensures.survives.counts (failure_of e)
-    (c.in_err-made.ensures.fault clean (λ mid_open. let it = there mid_open in (it.0, subst (λ (d : Database). HoldsAllIn second_unindexed d it.0) (sym (same mid_open)) it.1)))))
+    let made = c.make_index-made.ensures.survives in
+    let early = λ (clean : HasCleanDisk new). (let it : HasCleanDisk mid = omega (arith, made.clean) in it) in
+    passed (LeavesConnection old new) c.from_residual-in_err-made.result (failure_of e) c.from_residual-in_err-made.ensures.1
+    (record {
+      nothing = λ clean. only_reads old new (keeps_then old mid new (frame.only_reads (early clean)).commit_stays (c.in_err-made.ensures.nothing clean)) (c.is_autocommit-settled.ensures.settled idle_after);
+      before = λ clean is_open. elim (frame.survives.closes (early clean) is_open) [
+        | inl mid_open ↦ before_then old mid new (failure_of e) frame.survives (early clean) made.counts (c.in_err-made.ensures.before clean mid_open)
+        | inr more ↦
+            let reads = frame.only_reads (early clean) in
+            let there = bare_contents old mid reads settled t.known (c.schema-live.ensures.live (frame.was_open (early clean))).0 (t.tests.tells (early clean) (added_tables old.now.schema t.known)) (c.is_second_unindexed.ensures.0 c.if-not-is_second_unindexed.false) in
+            before_if_faulted old mid new (failure_of e) more made.counts
+            (c.in_err-made.ensures.fault clean (λ mid_open. let it = there mid_open in (it.0, subst (λ (d : Database). HoldsAllIn second_unindexed d it.0) (sym (same_now old mid reads settled mid_open)) it.1)))
+      ];
+      closes = (returns-in_err-made-clause-survives g c).closes;
+      settled = λ is_open db it. g.met.S.Store.settled c.make_index-made.new.db.idle.conn.store db is_open it;
+    })
 
-pub returns-in_err-test_second-clause-fault : goal.returns-in_err-test_second-clause-fault
-returns-in_err-test_second-clause-fault g c clean =
+pub returns-in_err-test_second-clause-fails : goal.returns-in_err-test_second-clause-fails
+returns-in_err-test_second-clause-fails g c clean =
+    let it = c.in_err-test_second.ensures in
+    passed (IsUnopened (state g.S.Store c.args.db.now.idle.conn) (state g.S.Store c.test_second.new.db.idle.conn)) c.from_residual.result c.in_err-test_second.field-0.0 c.from_residual.ensures.1
+    (record { fault = λ was over. it.tests.fault clean (λ is_open. record { stored = was; spells = over is_open }); told = it.tests.told clean; refused = it.refused clean; other = it.other clean })
+
+pub returns-in_err-test_second-clause-leaves : goal.returns-in_err-test_second-clause-leaves
+returns-in_err-test_second-clause-leaves g c =
     let old = state g.S.Store c.args.db.now.idle.conn in
     let new = state g.S.Store c.test_second.new.db.idle.conn in
-    passed (IsFaultUnopened old new) c.from_residual.result _ c.from_residual.ensures.1 (λ registry k over. c.in_err-test_second.ensures.tests.fault clean (λ is_open. record { registry = registry; kept = k; spells = over is_open }))
+    let e = c.in_err-test_second.field-0.0 in
+    let frame = c.in_err-test_second.ensures.tests.frame in
+    passed (LeavesConnection old new) c.from_residual.result e c.from_residual.ensures.1
+    (record {
+      nothing = frame.only_reads;
+      before = λ clean is_open. before_if_undone old new e frame.survives clean;
+      closes = frame.survives.closes;
+      settled = λ is_open db it. g.met.S.Store.settled c.test_second.new.db.idle.conn.store db is_open it;
+    })

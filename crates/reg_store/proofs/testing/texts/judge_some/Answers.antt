@@ -1,18 +1,22 @@
-use Rattle.sqlite.specs.Held.{state}
-use Rattle.reg_tables.specs.Reads.{CanBeRead}
-use Rattle.reg_store.specs.Failures.{IsFaultBy}
-use Rattle.reg_store.specs.UnopenedFaults.{IsToldFirst}
-use Rattle.reg_store.proofs.Failing.{fault_by, told_by, passed}
+use Rattle.std.proofs.Common.{◌↔◌, List, subst}
+use Rattle.std.specs.Prelude.{IsTrue}
+use Rattle.std.specs.List.{AllByRecursion}
+use Rattle.reg_tables.specs.declared.lines.TextLine.{TextLine}
+use Rattle.reg_tables.specs.Layout.{HasTablesFirst}
+use Rattle.reg_tables.specs.Listings.{ListsTextsBetween}
+use Rattle.reg_tables.specs.Reads.{HoldsReadable}
+use Rattle.reg_store.specs.Inside.Testing.{text_fits}
+use Rattle.reg_store.proofs.TestLemmas.{test_unread, test_read, test_tells}
 use Rattle.reg_store.proofs.testing.texts.judge_some.Goals as goal
 
-pub returns-in_err-lines-clause-fault : goal.returns-in_err-lines-clause-fault
-returns-in_err-lines-clause-fault g c clean =
-    let old = state g.S.Store c.args.db.now.idle.conn in
-    let new = state g.S.Store c.texts_between.new.db.conn in
-    passed (λ e. CanBeRead old → IsFaultBy old new e) c.from_residual.result _ c.from_residual.ensures.1 (λ can. fault_by old new c.in_err-lines.field-0.0 c.args.db.now.unlimited (c.in_err-lines.ensures.fault clean can))
+pub returns-in_err-lines-clause-tests : goal.returns-in_err-lines-clause-tests
+returns-in_err-lines-clause-tests g c =
+    test_unread g.S.Store c.args.db.now.idle.conn c.texts_between.new.db.conn c.from_residual.result c.in_err-lines.field-0.0 (λ can. can) c.args.db.now.unlimited c.in_err-lines.ensures.frame c.in_err-lines.ensures.fault c.in_err-lines.ensures.told c.from_residual.ensures.1
 
-pub returns-in_err-lines-clause-told : goal.returns-in_err-lines-clause-told
-returns-in_err-lines-clause-told g c clean =
-    let old = state g.S.Store c.args.db.now.idle.conn in
-    let new = state g.S.Store c.texts_between.new.db.conn in
-    passed (IsToldFirst old new) c.from_residual.result _ c.from_residual.ensures.1 (λ known. told_by old new c.in_err-lines.field-0.0 c.args.db.now.unlimited (c.in_err-lines.ensures.told clean known))
+pub returns-clause-tests : goal.returns-clause-tests
+returns-clause-tests g c =
+    let lines = c.in_ok-lines.lines in
+    let fit = c.in_ok-are_identities.field-0 in
+    test_tells g.S.Store c.args.db.now.idle.conn c.texts_between.new.db.conn {P = λ l d. ListsTextsBetween c.args.first c.args.last d l.items}
+    (test_read {Declared = HasTablesFirst} {Spelled = HoldsReadable} g.S.Store c.args.db.now.idle.conn c.texts_between.new.db.conn lines c.in_ok-lines.ensures.frame c.in_ok-lines.ensures.listed) fit
+    (λ db lists. record { lines = lines.items; lists = lists; judged = subst (λ (l : List TextLine). IsTrue fit ↔ AllByRecursion text_fits l) c.deref.ensures.value c.in_ok-are_identities.ensures })

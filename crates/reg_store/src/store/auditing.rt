@@ -1,0 +1,183 @@
+//! Whether what versions were admitted by is true.
+
+ghost use Rattle.std.specs.Prelude.{◌≡◌, ◌↔◌, ℕ, List, All, None, IsTrue, option_map, option_and_then};
+ghost use Rattle.std.specs.FinMap.{get};
+ghost use Rattle.avro_nodes.specs.Nodes.{NodeView, nodes_view};
+ghost use Rattle.reg_core.specs.Evidence.{Evidence, GoesWith};
+ghost use Rattle.reg_core.specs.Registry.{schema_at};
+ghost use Rattle.reg_core.specs.Stored.{HasTrueEvidence};
+ghost use Rattle.reg_store.specs.Spells.{id_at};
+ghost use Rattle.reg_store.specs.Stores.{ReadsStore};
+ghost use Rattle.reg_store.specs.Inside.Auditing.{HasSchema, IsAdmittedBy, IsTrueAt};
+ghost use Rattle.reg_store.specs.Inside.Reads.{MayRead, Reads};
+
+use crate::error::StoreError;
+use crate::idle::Idle;
+use crate::store::Store;
+use crate::store::behind::next_version;
+use crate::store::levels::level_in;
+use crate::store::texts::text_under;
+use avro_schema::Schema;
+use reg_core::{Level, Row, goes_with, schema_of};
+use reg_tables::{against_at, evidence_of};
+use schema_memory::Memory;
+use sqlite::Alter;
+use std::alloc::Global;
+
+impl<S: Alter> Store<S> {
+    /// Whether all stored evidence is true: whether each version's schema goes with the schemas that
+    /// its evidence names, in the directions of its level. Soft-deleted versions are asked too. A
+    /// version without evidence passes, and one whose level is NONE.
+    ///
+    /// It holds the texts of one pair at a time, and a memory of few schemas.
+    ///
+    /// # Errors
+    ///
+    /// `Memory`, `Disk`, and `NotARegistry` where the tables no longer spell one. Whatever is
+    /// answered, nothing is changed.
+    pub fn audit(&mut self) -> Result<bool, StoreError>
+        ensures { ReadsStore self.old self.new result (λ was yes. IsTrue yes ↔ HasTrueEvidence was) }
+    {
+        if self.failed {
+            return Err(StoreError::Disk);
+        }
+        let yes = all_hold(self.alloc, &mut self.db);
+        self.failed = matches!(yes, Err(StoreError::Disk));
+        yes
+    }
+}
+
+/// Whether what all versions were admitted by is true.
+fn all_hold<S: Alter>(alloc: Global, db: &mut Idle<S>) -> Result<bool, StoreError>
+    ensures { Reads db.old db.new result (λ was yes. IsTrue yes ↔ HasTrueEvidence was) }
+{
+    let mut memory = Memory::new();
+    let mut last = None;
+    for _ in 0..u64::MAX {
+        let Some(row) = next_version(db, last.as_ref())? else {
+            return Ok(true);
+        };
+        if !holds(alloc, db, &mut memory, &row)? {
+            return Ok(false);
+        }
+        last = Some(row);
+    }
+    // No file holds so many versions.
+    Err(StoreError::Memory)
+}
+
+/// Whether what the version was admitted by is true, if it has evidence. It isn't where the version
+/// has no schema.
+fn holds<S: Alter>(
+    alloc: Global,
+    db: &mut Idle<S>,
+    memory: &mut Memory,
+    row: &Row,
+) -> Result<bool, StoreError>
+    ensures { Reads db.old db.new result (λ was yes. (nodes : List NodeView)
+        → HasSchema was row.now.1.id nodes → IsTrue yes ↔ IsTrueAt was row.now.0 nodes) }
+{
+    match level_admitted(db, row)? {
+        None => Ok(true),
+        // Nothing is asked under NONE.
+        Some(Level::Off) => Ok(true),
+        Some(level) => holds_under(alloc, db, memory, row, level),
+    }
+}
+
+/// Whether the version's schema goes with those that its evidence names, in the directions of the
+/// level.
+fn holds_under<S: Alter>(
+    alloc: Global,
+    db: &mut Idle<S>,
+    memory: &mut Memory,
+    row: &Row,
+    level: Level,
+) -> Result<bool, StoreError>
+    ensures { Reads db.old db.new result (λ was yes. (nodes : List NodeView) (one : Evidence)
+        → HasSchema was row.now.1.id nodes → IsAdmittedBy was row.now.0 one
+        → IsTrue yes ↔ All (GoesWith was.registry.schemas level nodes) one.against) }
+{
+    match schema_under(alloc, db, row.id())? {
+        None => Ok(false),
+        Some(new) => goes_with_all(alloc, db, memory, row, level, &new),
+    }
+}
+
+/// Whether the new schema goes with those that the version's evidence names, in the directions of the
+/// level.
+fn goes_with_all<S: Alter>(
+    alloc: Global,
+    db: &mut Idle<S>,
+    memory: &mut Memory,
+    row: &Row,
+    level: Level,
+    new: &Schema,
+) -> Result<bool, StoreError>
+    ensures { MayRead db.old db.new result (λ was yes. (one : Evidence) → IsAdmittedBy was row.now.0 one
+        → IsTrue yes ↔ All (GoesWith was.registry.schemas level (nodes_view new.now)) one.against) }
+{
+    for index in 0..u32::MAX {
+        let Some(id) = id_named(db, row, index + 1)? else {
+            return Ok(true);
+        };
+        if !goes_with_id(alloc, db, memory, level, id, new)? {
+            return Ok(false);
+        }
+    }
+    Ok(true)
+}
+
+/// Whether the new schema goes with the one that has the id, in the directions of the level. It
+/// doesn't where there is none.
+fn goes_with_id<S: Alter>(
+    alloc: Global,
+    db: &mut Idle<S>,
+    memory: &mut Memory,
+    level: Level,
+    id: u32,
+    new: &Schema,
+) -> Result<bool, StoreError>
+    ensures { Reads db.old db.new result (λ was yes.
+        IsTrue yes ↔ GoesWith was.registry.schemas level (nodes_view new.now) id) }
+{
+    match text_under(db, id)? {
+        None => Ok(false),
+        Some(text) => Ok(goes_with(alloc, level, id, text.as_str(), new, memory)?),
+    }
+}
+
+/// The schema that has the id, if there is one.
+fn schema_under<S: Alter>(
+    alloc: Global,
+    db: &mut Idle<S>,
+    id: u32,
+) -> Result<Option<Schema>, StoreError>
+    ensures { Reads db.old db.new result (λ was found.
+        option_map nodes_view found ≡ schema_at was.registry.schemas id) }
+{
+    match text_under(db, id)? {
+        None => Ok(None),
+        Some(text) => Ok(schema_of(alloc, text.as_str())?),
+    }
+}
+
+/// The level that the version was admitted by, if it has evidence.
+fn level_admitted<S: Alter>(db: &mut Idle<S>, row: &Row) -> Result<Option<Level>, StoreError>
+    ensures { Reads db.old db.new result (λ was found.
+        found ≡ option_map (λ one. one.level) (get was.evidence row.now.0)) }
+{
+    match evidence_of(&mut db.idle, row.subject().as_str(), row.version())? {
+        None => Ok(None),
+        Some(text) => Ok(Some(level_in(text.as_str())?)),
+    }
+}
+
+/// The id at the position, counted from 1, of those that the version's evidence names.
+fn id_named<S: Alter>(db: &mut Idle<S>, row: &Row, position: u32) -> Result<Option<u32>, StoreError>
+    ensures { Reads db.old db.new result (λ was found.
+        found ≡ option_and_then (id_at position) (get was.evidence row.now.0)) }
+{
+    let subject = row.subject().as_str();
+    Ok(against_at(&mut db.idle, subject, row.version(), position)?)
+}

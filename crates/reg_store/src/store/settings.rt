@@ -1,0 +1,114 @@
+//! The levels and the modes that a command needs.
+
+ghost use Rattle.std.specs.Prelude.{◌≡◌, ◌⊎◌, None, Some, IfOk, OnErr, IsTrue, codes, option_and_then, option_copied};
+ghost use Rattle.reg_core.specs.Levels.{level_of};
+ghost use Rattle.reg_core.specs.Modes.{mode_of};
+ghost use Rattle.reg_store.specs.Inside.Viewing.{value_in};
+ghost use Rattle.reg_store.specs.Inside.Reads.{Reads};
+
+use crate::error::StoreError;
+use crate::idle::Idle;
+use crate::store::levels::{levels_for, own_for as own_level_for};
+use crate::store::modes::own_for as own_mode_for;
+use reg_core::{Level, Mode, Needs, Subject};
+use reg_tables::{MetaLine, meta_lines};
+use sqlite::Alter;
+use std::alloc::Global;
+
+/// The levels and the modes that are needed.
+pub(crate) fn settings_for<S: Alter>(
+    alloc: Global,
+    db: &mut Idle<S>,
+    subject: Option<&Subject>,
+    needs: Needs,
+) -> Result<((Option<Level>, Level), (Option<Mode>, Mode)), StoreError>
+    ensures { Reads db.old db.new result (λ was settings.
+        (IsTrue needs.levels
+        → (settings.0.0 ≡ option_and_then was.registry.own (option_copied subject.entry))
+        × (settings.0.1 ≡ was.registry.global))
+        × (IsTrue needs.modes
+        → (settings.1.0 ≡ option_and_then was.registry.own_modes (option_copied subject.entry))
+        × (settings.1.1 ≡ was.registry.global_mode))) }
+{
+    if needs.modes {
+        return with_modes(alloc, db, subject, needs.levels);
+    }
+    let levels = levels_for(db, subject, needs.levels)?;
+    Ok((levels, (None, Mode::Readwrite)))
+}
+
+/// The modes, and the levels. That of the subject is there if it is needed.
+fn with_modes<S: Alter>(
+    alloc: Global,
+    db: &mut Idle<S>,
+    subject: Option<&Subject>,
+    needs_levels: bool,
+) -> Result<((Option<Level>, Level), (Option<Mode>, Mode)), StoreError>
+    ensures { Reads db.old db.new result (λ was settings.
+        (IsTrue needs_levels
+        → (settings.0.0 ≡ option_and_then was.registry.own (option_copied subject.entry))
+        × (settings.0.1 ≡ was.registry.global))
+        × ((settings.1.0 ≡ option_and_then was.registry.own_modes (option_copied subject.entry))
+        × (settings.1.1 ≡ was.registry.global_mode))) }
+{
+    let globals = globals(alloc, db)?;
+    let level = own_level_for(db, subject, needs_levels)?;
+    let mode = own_mode_for(db, subject)?;
+    Ok(((level, globals.0), (mode, globals.1)))
+}
+
+/// The global level and the global mode, in one read.
+fn globals<S: Alter>(alloc: Global, db: &mut Idle<S>) -> Result<(Level, Mode), StoreError>
+    ensures { Reads db.old db.new result (λ was globals.
+        (globals.0 ≡ was.registry.global) × (globals.1 ≡ was.registry.global_mode)) }
+{
+    let lines = meta_lines(alloc, &mut db.idle)?;
+    globals_in(lines.as_slice())
+}
+
+/// The global level and the global mode that the rows of `meta` spell.
+fn globals_in(lines: &[MetaLine]) -> Result<(Level, Mode), StoreError>
+    ensures ok { IfOk result (λ globals.
+        (option_and_then level_of (value_in (codes "global") lines.now) ≡ Some globals.0)
+        × (option_and_then mode_of (value_in (codes "mode") lines.now) ≡ Some globals.1)) }
+    ensures err { OnErr result ((option_and_then level_of (value_in (codes "global") lines.now) ≡ None)
+        ⊎ (option_and_then mode_of (value_in (codes "mode") lines.now) ≡ None)) }
+{
+    let Some(level) = level_under(lines) else {
+        return Err(StoreError::NotARegistry);
+    };
+    let Some(mode) = mode_under(lines) else {
+        return Err(StoreError::NotARegistry);
+    };
+    Ok((level, mode))
+}
+
+/// The level under the name `global`.
+fn level_under(lines: &[MetaLine]) -> Option<Level>
+    ensures { result ≡ option_and_then level_of (value_in (codes "global") lines.now) }
+{
+    match value_under(lines, "global") {
+        None => None,
+        Some(text) => Level::parse(text),
+    }
+}
+
+/// The mode under the name `mode`.
+fn mode_under(lines: &[MetaLine]) -> Option<Mode>
+    ensures { result ≡ option_and_then mode_of (value_in (codes "mode") lines.now) }
+{
+    match value_under(lines, "mode") {
+        None => None,
+        Some(text) => Mode::parse(text),
+    }
+}
+
+/// The value under the name.
+fn value_under<'a>(lines: &'a [MetaLine], name: &str) -> Option<&'a str>
+    ensures { option_copied result ≡ value_in name.now lines.now }
+{
+    lines
+        .iter()
+        .find(|line| line.name.as_str() == name)
+        .map(|line| line.value.as_str())
+}
