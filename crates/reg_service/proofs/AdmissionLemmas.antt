@@ -1,7 +1,7 @@
 -- Each version that is added was admitted.
 use Rattle.std.proofs.Common.{List}
-use Rattle.reg_core.specs.Registry.{Registry, IsRegistry}
-use Rattle.reg_core.specs.KeptReplies.{Kept}
+use Rattle.reg_core.specs.Registry.{IsRegistry}
+use Rattle.reg_core.specs.Stored.{Stored}
 use Rattle.reg_core.specs.Machine.{run_commands}
 use Rattle.reg_core.proofs.RegistryLemmas.{run_commands-IsRegistry}
 use Rattle.reg_core.proofs.AdditionLemmas.{step_adds_admitted}
@@ -9,6 +9,6 @@ use Rattle.reg_service.specs.Deliveries.{Exchange, firsts}
 use Rattle.reg_service.specs.Admissions.{AllAdmitted}
 
 -- whatever the exchanges are, since the plain machine's registries stay registries
-pub all_admitted : (g : Registry) (k : Kept) → IsRegistry g → (xs : List Exchange) → AllAdmitted g k xs
-all_admitted g k is xs before x after e first =
-    step_adds_admitted (run_commands g (firsts k before)) x.0.command (run_commands-IsRegistry g (firsts k before) is)
+pub all_admitted : (was : Stored) → IsRegistry was.registry → (xs : List Exchange) → AllAdmitted was xs
+all_admitted was is xs before x after e first =
+    step_adds_admitted (run_commands was.registry (firsts was.replies before)) x.0.command (run_commands-IsRegistry was.registry (firsts was.replies before) is)

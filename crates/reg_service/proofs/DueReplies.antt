@@ -6,10 +6,10 @@ use Rattle.std.specs.Bool.{Decides}
 use Rattle.std.proofs.lemmas.Slice.Eq.{bytes_eq-Decides}
 use Rattle.reg_core.specs.CommandTexts.{command_text}
 use Rattle.reg_core.specs.Machine.{is_write}
-use Rattle.reg_core.specs.Registry.{Registry}
 use Rattle.reg_core.specs.Replies.{Told}
 use Rattle.reg_core.specs.declared.delivery.Delivery.{Delivery}
 use Rattle.reg_core.specs.KeptReplies.{Kept, Entry}
+use Rattle.reg_core.specs.Stored.{Stored}
 use Rattle.reg_service.specs.Deliveries.{Exchange, key_of, has_key, entry_of, kept_after, is_first, is_new, IsDue, Answers, Serves, RepeatsAgree, NoOtherAnswers, KeepsAll}
 use Rattle.reg_service.proofs.JoinedExchanges.{kept_after-append, is_none-kept_after}
 
@@ -26,8 +26,8 @@ pub kept_stays : (k : Kept) (xs : List Exchange) → KeepsAll k (kept_after k xs
 kept_stays k xs key entry e = ap (λ o. option_or o (option_map entry_of (find (λ x. has_key key x.0) xs))) e
 
 -- so whatever is served keeps it
-pub serves-KeepsAll : (g g' : Registry) (k k' : Kept) (xs : List Exchange) → Serves g k xs g' k' → KeepsAll k k'
-serves-KeepsAll g g' k k' xs h key entry e = (λ i. h.kept i key) ∙ kept_stays k xs key entry e
+pub serves-KeepsAll : (was now : Stored) (xs : List Exchange) → Serves was xs now → KeepsAll was.replies now.replies
+serves-KeepsAll was now xs h key entry e = (λ i. h.leads.kept i key) ∙ kept_stays was.replies xs key entry e
 
 -- a write whose key is free leaves its own entry
 kept_here : (k : Kept) (x : Exchange) (xs : List Exchange) (key : List ℕ) → key_of x.0 ≡ Some key → k key ≡ None
@@ -37,13 +37,16 @@ kept_here k x xs key some none =
     λ i. option_or (none i) (option_map entry_of (cond (found i) (Some x) (find (λ y. has_key key y.0) xs)))
 
 -- of two writes with one key and one command the second gets the first's reply, or both get 42290
-pub repeats_agree : (g : Registry) (k : Kept) (xs : List Exchange) → Answers g k xs → RepeatsAgree xs
-repeats_agree g k xs due before x between y after key e some_x some_y text = by (kept_after k before key) refl
+pub repeats_agree : (was : Stored) (xs : List Exchange) → Answers was xs → RepeatsAgree xs
+repeats_agree was xs due before x between y after key e some_x some_y text = by (kept_after k before key) refl
   where
-    due_x : IsDue g k before x.0 x.1
+    k : Kept
+    k = was.replies
+
+    due_x : IsDue was before x.0 x.1
     due_x = due before x (between ++ y ∷ after) e
 
-    due_y : IsDue g k (before ++ x ∷ between) y.0 y.1
+    due_y : IsDue was (before ++ x ∷ between) y.0 y.1
     due_y = due (before ++ x ∷ between) y after (e ∙ sym (append_assoc before (x ∷ between) (y ∷ after)))
 
     then : kept_after k (before ++ x ∷ between) key ≡ kept_after (kept_after k before) (x ∷ between) key
@@ -77,36 +80,36 @@ known k before d write later = by (key_of d) refl
     by (Some key) some = at key (kept_after k before key) some refl
 
 -- only one reply is due
-pub due_unique : (g : Registry) (k : Kept) (before : List Exchange) (d : Delivery) (p q : Told)
-    → IsDue g k before d p → IsDue g k before d q → p ≡ q
-due_unique g k before d p q x y = by (is_write d.command) (is_first k before d) refl refl
+pub due_unique : (was : Stored) (before : List Exchange) (d : Delivery) (p q : Told)
+    → IsDue was before d p → IsDue was before d q → p ≡ q
+due_unique was before d p q x y = by (is_write d.command) (is_first was.replies before d) refl refl
   where
-    repeat : (key : List ℕ) × (entry : Entry) × (key_of d ≡ Some key) × (kept_after k before key ≡ Some entry) → p ≡ q
+    repeat : (key : List ℕ) × (entry : Entry) × (key_of d ≡ Some key) × (kept_after was.replies before key ≡ Some entry) → p ≡ q
     repeat (key, entry, some, has) = ⊎_elim
         (λ (s : command_text d.command ≡ entry.text). x.again key entry some has s ∙ sym (y.again key entry some has s))
         (λ (s : command_text d.command ≢ entry.text). x.other key entry some has s ∙ sym (y.other key entry some has s))
         (same_or_other (command_text d.command) entry.text)
 
-    by : (write first : Bool) → is_write d.command ≡ write → is_first k before d ≡ first → p ≡ q
+    by : (write first : Bool) → is_write d.command ≡ write → is_first was.replies before d ≡ first → p ≡ q
     by false first w f = x.read w ∙ sym (y.read w)
     by true true w f = x.first f ∙ sym (y.first f)
-    by true false w f = repeat (known k before d w f)
+    by true false w f = repeat (known was.replies before d w f)
 
 -- replies that are due to the rest of a list are the only ones
-no_other_after : (g : Registry) (k : Kept) (before xs ys : List Exchange) → Answers g k (before ++ xs) → Answers g k (before ++ ys)
+no_other_after : (was : Stored) (before xs ys : List Exchange) → Answers was (before ++ xs) → Answers was (before ++ ys)
     → map (λ y. y.0) ys ≡ map (λ x. x.0) xs → ys ≡ xs
-no_other_after g k before [] [] p q e = refl
-no_other_after g k before [] (y ∷ ys) p q e = absurd (cc)
-no_other_after g k before (x ∷ xs) [] p q e = absurd (cc)
-no_other_after g k before (x ∷ xs) (y ∷ ys) p q e =
+no_other_after was before [] [] p q e = refl
+no_other_after was before [] (y ∷ ys) p q e = absurd (cc)
+no_other_after was before (x ∷ xs) [] p q e = absurd (cc)
+no_other_after was before (x ∷ xs) (y ∷ ys) p q e =
     let d : y.0 ≡ x.0 = cc in
-    let reply : y.1 ≡ x.1 = due_unique g k before x.0 y.1 x.1 (subst (λ d. IsDue g k before d y.1) d (q before y ys refl)) (p before x xs refl) in
+    let reply : y.1 ≡ x.1 = due_unique was before x.0 y.1 x.1 (subst (λ d. IsDue was before d y.1) d (q before y ys refl)) (p before x xs refl) in
     let same : y ≡ x = λ i. (d i, reply i) in
-    let rest : ys ≡ xs = no_other_after g k (before ++ x ∷ []) xs ys
-    (subst (Answers g k) (sym (append_assoc before (x ∷ []) xs)) p)
-    (subst (Answers g k) (ap (λ z. before ++ z ∷ ys) same ∙ sym (append_assoc before (x ∷ []) ys)) q) (cc) in
+    let rest : ys ≡ xs = no_other_after was (before ++ x ∷ []) xs ys
+    (subst (Answers was) (sym (append_assoc before (x ∷ []) xs)) p)
+    (subst (Answers was) (ap (λ z. before ++ z ∷ ys) same ∙ sym (append_assoc before (x ∷ []) ys)) q) (cc) in
     λ i. same i ∷ rest i
 
 -- only these replies are due to these deliveries
-pub no_other_answers : (g : Registry) (k : Kept) (xs : List Exchange) → Answers g k xs → NoOtherAnswers g k xs
-no_other_answers g k xs p ys e q = no_other_after g k [] xs ys p q e
+pub no_other_answers : (was : Stored) (xs : List Exchange) → Answers was xs → NoOtherAnswers was xs
+no_other_answers was xs p ys e q = no_other_after was [] xs ys p q e

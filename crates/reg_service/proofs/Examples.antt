@@ -1,19 +1,22 @@
 -- What the definitions say of a few short lists.
-use Rattle.std.proofs.Common.{◌≡◌, inl, inr, ℕ, List, [], ◌∷◌, ◌++◌, refl, ap, get_or, arith}
+use Rattle.std.proofs.Common.{◌≡◌, inl, inr, ℕ, List, [], ◌∷◌, ◌++◌, refl, ap, ◌∙◌, get_or, arith}
 use Rattle.std.proofs.lemmas.Bool.{eqb-false}
 use Rattle.std.specs.Prelude.{Some, None, unwrap_or, codes}
+use Rattle.std.specs.FinMap.{get}
 use Rattle.sqlite.specs.Tree.{Trees}
 use Rattle.reg_core.specs.declared.code.Code.TheVariants.{InvalidLevel, KeyReused, BackendFault}
 use Rattle.reg_core.specs.declared.command.Command.{Command}
 use Rattle.reg_core.specs.declared.command.Command.TheVariants.{SetGlobal, SetLevel, Global}
 use Rattle.reg_core.specs.CommandTexts.{command_text}
-use Rattle.reg_core.specs.Machine.{subject_of}
-use Rattle.reg_core.specs.Registry.{Registry}
+use Rattle.reg_core.specs.Machine.{subject_of, step}
+use Rattle.reg_core.specs.Registry.{Registry, RowKey, Version}
 use Rattle.reg_core.specs.Replies.{Told, fault, answer}
 use Rattle.reg_core.proofs.CommandTextLemmas.{command_text-injective}
 use Rattle.reg_core.specs.declared.delivery.Delivery.{Delivery}
-use Rattle.reg_core.specs.KeptReplies.{Kept, nothing_kept}
-use Rattle.reg_service.specs.Deliveries.{Exchange, firsts, entry_of, kept_after, IsDue}
+use Rattle.reg_core.specs.KeptReplies.{nothing_kept}
+use Rattle.reg_core.specs.Evidence.{EvidenceOf, evidence_in, kept_or_new}
+use Rattle.reg_core.specs.Stored.{Stored}
+use Rattle.reg_service.specs.Deliveries.{Exchange, firsts, entry_of, kept_after, AreAdmittedBy, IsDue}
 use Rattle.reg_service.specs.Crashes.{LeavesAfter, IsFoundAfter}
 
 abbrev full : Command
@@ -64,11 +67,14 @@ key_of_read_is_ignored = refl
 kept_key_is_not_first : firsts (kept_after nothing_kept ((keyed (codes "k1") full, done) ∷ [])) ((keyed (codes "k1") full, done) ∷ []) ≡ []
 kept_key_is_not_first = refl
 
+abbrev keeps_nothing : Registry → EvidenceOf → Stored
+keeps_nothing g evidence = record { registry = g; replies = nothing_kept; evidence = evidence }
+
 -- a refusal is a first reply too: the repeat gets it, whatever came between
-refusal_is_kept : (g : Registry) (reply : Told)
-    → IsDue g nothing_kept ((keyed (codes "k5") unknown, fault InvalidLevel) ∷ (keyless full, done) ∷ []) (keyed (codes "k5") unknown) reply
+refusal_is_kept : (g : Registry) (evidence : EvidenceOf) (reply : Told)
+    → IsDue (keeps_nothing g evidence) ((keyed (codes "k5") unknown, fault InvalidLevel) ∷ (keyless full, done) ∷ []) (keyed (codes "k5") unknown) reply
     → reply ≡ fault InvalidLevel
-refusal_is_kept g reply due = due.again (codes "k5") (entry_of (keyed (codes "k5") unknown, fault InvalidLevel)) refl refl refl
+refusal_is_kept g evidence reply due = due.again (codes "k5") (entry_of (keyed (codes "k5") unknown, fault InvalidLevel)) refl refl refl
 
 abbrev full_of_s : Command
 full_of_s = SetLevel (codes "s") (codes "FULL")
@@ -82,18 +88,30 @@ other_texts e =
     eqb-false 116 115 refl (ap (λ (command : Command). get_or (unwrap_or (subject_of command) []) 0 0) same)
 
 -- the key of one subject's level with another subject is refused
-other_subject_is_refused : (g : Registry) (reply : Told)
-    → IsDue g nothing_kept ((keyed (codes "k1") full_of_s, done) ∷ []) (keyed (codes "k1") full_of_t) reply → reply ≡ fault KeyReused
-other_subject_is_refused g reply due = due.other (codes "k1") (entry_of (keyed (codes "k1") full_of_s, done)) refl refl other_texts
+other_subject_is_refused : (g : Registry) (evidence : EvidenceOf) (reply : Told)
+    → IsDue (keeps_nothing g evidence) ((keyed (codes "k1") full_of_s, done) ∷ []) (keyed (codes "k1") full_of_t) reply → reply ≡ fault KeyReused
+other_subject_is_refused g evidence reply due = due.other (codes "k1") (entry_of (keyed (codes "k1") full_of_s, done)) refl refl other_texts
+
+-- a version that a command adds has the level and the ids that the registry named for it, and nothing else
+addition_is_admitted_by : (g : Registry) (c : Command) (old new : EvidenceOf) (key : RowKey) (version : Version) → AreAdmittedBy g (c ∷ []) old new
+    → get g.rows key ≡ None → get (step g c).0.rows key ≡ Some version → get new key ≡ Some (evidence_in g key.0)
+addition_is_admitted_by g c old new key version (mid, becomes, same) none there =
+    ap (λ (e : EvidenceOf). get e key) same ∙ becomes key ∙ (λ i. kept_or_new (none i) (there i) (get old key) (evidence_in g key.0))
+
+-- one that a command leaves has what it had
+old_one_is_admitted_by : (g : Registry) (c : Command) (old new : EvidenceOf) (key : RowKey) (before after : Version) → AreAdmittedBy g (c ∷ []) old new
+    → get g.rows key ≡ Some before → get (step g c).0.rows key ≡ Some after → get new key ≡ get old key
+old_one_is_admitted_by g c old new key before after (mid, becomes, same) was there =
+    ap (λ (e : EvidenceOf). get e key) same ∙ becomes key ∙ (λ i. kept_or_new (was i) (there i) (get old key) (evidence_in g key.0))
 
 abbrev status_at : List Exchange → ℕ
 status_at [] = 0
 status_at (x ∷ xs) = x.1.status
 
 -- what was answered stays: no delivery was under way then
-answered_stays : (g : Registry) (k : Kept) (d : Delivery) (body : List ℕ) (may_leave : Trees → Type 0) → IsFoundAfter g k ((d, answer body) ∷ []) may_leave → (db : Trees) → may_leave db → LeavesAfter g k ((d, answer body) ∷ []) db
-answered_stays g k d body may_leave (inl leaves) db it = leaves db it
-answered_stays g k d body may_leave (inr u) db it = absurd (none u.before u.split)
+answered_stays : (was : Stored) (d : Delivery) (body : List ℕ) (may_leave : Trees → Type 0) → IsFoundAfter was ((d, answer body) ∷ []) may_leave → (db : Trees) → may_leave db → LeavesAfter was ((d, answer body) ∷ []) db
+answered_stays was d body may_leave (inl leaves) db it = leaves db it
+answered_stays was d body may_leave (inr u) db it = absurd (none u.before u.split)
   where
     no_more : (before : List Exchange) (x : Exchange) (after : List Exchange) → [] ≡ before ++ x ∷ after → ⊥
     no_more [] x after e = absurd (cc)

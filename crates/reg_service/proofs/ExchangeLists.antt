@@ -2,10 +2,9 @@
 use Rattle.std.proofs.Common.{◌≡◌, ℕ, not, List, [], ◌∷◌, ◌++◌, ◌+◌, ◌<◌, refl, sym, ap, ◌∙◌, subst, length, zip, take, get_or, arith}
 use Rattle.std.proofs.lemmas.List.{take_more, length-take}
 use Rattle.std.proofs.lemmas.List.Elements.{filter-append}
-use Rattle.reg_core.specs.Registry.{Registry}
 use Rattle.reg_core.specs.Replies.{Told}
 use Rattle.reg_core.specs.declared.delivery.Delivery.{Delivery}
-use Rattle.reg_core.specs.KeptReplies.{Kept}
+use Rattle.reg_core.specs.Stored.{Stored}
 use Rattle.reg_service.specs.Deliveries.{Exchange, Serves, served, is_backend_fault}
 use Rattle.reg_service.proofs.JoinedExchanges.{serves-append}
 
@@ -20,23 +19,23 @@ pub served-append : (xs ys : List Exchange) → served (xs ++ ys) ≡ served xs 
 served-append xs ys = filter-append (λ (x : Exchange). not (is_backend_fault x.1)) xs ys
 
 -- One delivery more, after those that were served before it.
-pub serves-push : (list : List Delivery) (replies : List Told) (d : Delivery) (reply : Told) (g g' g'' : Registry) (k k' k'' : Kept)
+pub serves-push : (list : List Delivery) (replies : List Told) (d : Delivery) (reply : Told) (was mid now : Stored)
     → length list ≡ length replies
-    → Serves g k (served (zip list replies)) g' k' → Serves g' k' (served ((d, reply) ∷ [])) g'' k''
-    → Serves g k (served (zip (list ++ d ∷ []) (replies ++ reply ∷ []))) g'' k''
-serves-push list replies d reply g g' g'' k k' k'' same before now =
+    → Serves was (served (zip list replies)) mid → Serves mid (served ((d, reply) ∷ [])) now
+    → Serves was (served (zip (list ++ d ∷ []) (replies ++ reply ∷ []))) now
+serves-push list replies d reply was mid now same before one =
     let e : served (zip (list ++ d ∷ []) (replies ++ reply ∷ [])) ≡ served (zip list replies) ++ served ((d, reply) ∷ []) =
     ap served (zip-push list replies d reply same) ∙ served-append (zip list replies) ((d, reply) ∷ []) in
-    let P : List Exchange → Type 0 = λ xs. Serves g k xs g'' k'' in
-    subst P (sym e) (serves-append g g' g'' k k' k'' (served (zip list replies)) (served ((d, reply) ∷ [])) before now)
+    let P : List Exchange → Type 0 = λ xs. Serves was xs now in
+    subst P (sym e) (serves-append was mid now (served (zip list replies)) (served ((d, reply) ∷ [])) before one)
 
 -- The same, where the delivery is the next of a list.
-pub serves_next : (list : List Delivery) (i : ℕ) (d : Delivery) (replies replies' : List Told) (reply : Told) (g g' g'' : Registry) (k k' k'' : Kept)
+pub serves_next : (list : List Delivery) (i : ℕ) (d : Delivery) (replies replies' : List Told) (reply : Told) (was mid now : Stored)
     → i < length list → d ≡ get_or list i d → length replies ≡ i → replies' ≡ replies ++ reply ∷ []
-    → Serves g k (served (zip (take i list) replies)) g' k' → Serves g' k' (served ((d, reply) ∷ [])) g'' k''
-    → Serves g k (served (zip (take (i + 1) list) replies')) g'' k''
-serves_next list i d replies replies' reply g g' g'' k k' k'' lt item count more before now =
+    → Serves was (served (zip (take i list) replies)) mid → Serves mid (served ((d, reply) ∷ [])) now
+    → Serves was (served (zip (take (i + 1) list) replies')) now
+serves_next list i d replies replies' reply was mid now lt item count more before one =
     let front : take (i + 1) list ≡ take i list ++ d ∷ [] = take_more list i d lt ∙ ap (λ (x : Delivery). take i list ++ x ∷ []) (sym item) in
     let same : length (take i list) ≡ length replies = omega (arith, length-take i list) in
-    let P : List Delivery × List Told → Type 0 = λ both. Serves g k (served (zip both.0 both.1)) g'' k'' in
-    subst P (λ j. (sym front j, sym more j)) (serves-push (take i list) replies d reply g g' g'' k k' k'' same before now)
+    let P : List Delivery × List Told → Type 0 = λ both. Serves was (served (zip both.0 both.1)) now in
+    subst P (λ j. (sym front j, sym more j)) (serves-push (take i list) replies d reply was mid now same before one)

@@ -10,7 +10,9 @@ use Rattle.reg_core.specs.Machine.{is_write, step, run_commands}
 use Rattle.reg_core.specs.Registry.{Registry}
 use Rattle.reg_core.specs.declared.delivery.Delivery.{Delivery}
 use Rattle.reg_core.specs.KeptReplies.{Kept}
-use Rattle.reg_service.specs.Deliveries.{Exchange, key_of, has_key, is_new, is_first, firsts_after, firsts, entry_of, kept_after, reply_after, IsDue, Answers, Serves}
+use Rattle.reg_core.specs.Evidence.{EvidenceOf}
+use Rattle.reg_core.specs.Stored.{Stored}
+use Rattle.reg_service.specs.Deliveries.{Exchange, key_of, has_key, is_new, is_first, firsts_after, firsts, entry_of, kept_after, reply_after, IsDue, Answers, AreAdmittedBy, LeadsTo, Serves}
 
 option_or_assoc : {A : Type 0} (a b c : Option A) → option_or (option_or a b) c ≡ option_or a (option_or b c)
 option_or_assoc (Some a) b c = refl
@@ -118,18 +120,44 @@ pub registry-append : (g : Registry) (k : Kept) (xs ys : List Exchange)
     → run_commands g (firsts k (xs ++ ys)) ≡ run_commands (run_commands g (firsts k xs)) (firsts (kept_after k xs) ys)
 registry-append g k xs ys = ap (run_commands g) (firsts-append k xs ys) ∙ run_commands-append g (firsts k xs) (firsts (kept_after k xs) ys)
 
+-- evidence after commands in two parts
+admitted-append : (g : Registry) (a b : List Command) (old mid new : EvidenceOf)
+    → AreAdmittedBy g a old mid → AreAdmittedBy (run_commands g a) b mid new → AreAdmittedBy g (a ++ b) old new
+admitted-append g [] b old mid new p q = subst (λ (had : EvidenceOf). AreAdmittedBy g b had new) p q
+admitted-append g (c ∷ a) b old mid new p q = (p.0, p.1, admitted-append (step g c).0 a b p.0 mid new p.2 q)
+
+-- what is stored after exchanges, with this evidence
+abbrev pub led : Stored → List Exchange → EvidenceOf → Stored
+led was xs evidence = record { registry = run_commands was.registry (firsts was.replies xs); replies = kept_after was.replies xs; evidence = evidence }
+
+-- where exchanges lead to is that
+pub is_led : (was now : Stored) (xs : List Exchange) → LeadsTo was xs now → now ≡ led was xs now.evidence
+is_led was now xs h = λ i. record { registry = h.registry i; replies = h.kept i; evidence = now.evidence }
+
+-- exchanges that follow others lead from where the others led
+pub leads-append : (was mid now : Stored) (xs ys : List Exchange) → LeadsTo was xs mid → LeadsTo mid ys now → LeadsTo was (xs ++ ys) now
+leads-append was mid now xs ys p q =
+    let P : Stored → Type 0 = λ s. LeadsTo s ys now in
+    let h : LeadsTo (led was xs mid.evidence) ys now = subst P (is_led was mid xs p) q in
+    let both = admitted-append was.registry (firsts was.replies xs) (firsts (kept_after was.replies xs) ys) was.evidence mid.evidence now.evidence p.evidence h.evidence in
+    record {
+      registry = h.registry ∙ sym (registry-append was.registry was.replies xs ys);
+      kept = h.kept ∙ sym (kept_after-append was.replies xs ys);
+      evidence = subst (λ (cs : List Command). AreAdmittedBy was.registry cs was.evidence now.evidence) (sym (firsts-append was.replies xs ys)) both;
+    }
+
 -- what is due among the second is due there in both
-due_later : (g : Registry) (k : Kept) (xs more : List Exchange) (x : Exchange)
-    → IsDue (run_commands g (firsts k xs)) (kept_after k xs) more x.0 x.1 → IsDue g k (xs ++ more) x.0 x.1
-due_later g k xs more x h = record {
+due_later : (was : Stored) (evidence : EvidenceOf) (xs more : List Exchange) (x : Exchange)
+    → IsDue (led was xs evidence) more x.0 x.1 → IsDue was (xs ++ more) x.0 x.1
+due_later was evidence xs more x h = record {
   read = λ f. h.read f ∙ later;
-  first = λ f. h.first (sym (is_first-append k xs more x.0) ∙ f) ∙ later;
-  again = λ key entry some has. h.again key entry some (sym (kept_at k xs more key) ∙ has);
-  other = λ key entry some has. h.other key entry some (sym (kept_at k xs more key) ∙ has);
+  first = λ f. h.first (sym (is_first-append was.replies xs more x.0) ∙ f) ∙ later;
+  again = λ key entry some has. h.again key entry some (sym (kept_at was.replies xs more key) ∙ has);
+  other = λ key entry some has. h.other key entry some (sym (kept_at was.replies xs more key) ∙ has);
 }
   where
-    later : reply_after (run_commands g (firsts k xs)) (kept_after k xs) more x.0.command ≡ reply_after g k (xs ++ more) x.0.command
-    later = ap (λ (state : Registry). (step state x.0.command).1) (sym (registry-append g k xs more))
+    later : reply_after (led was xs evidence) more x.0.command ≡ reply_after was (xs ++ more) x.0.command
+    later = ap (λ (state : Registry). (step state x.0.command).1) (sym (registry-append was.registry was.replies xs more))
 
 -- an element of two lists is one of the first or one of the second
 split : {A : Type 0} (xs ys before : List A) (x : A) (after : List A) → xs ++ ys ≡ before ++ x ∷ after
@@ -145,32 +173,36 @@ split {A} (y ∷ xs) ys (b ∷ before) x after e =
     (split xs ys before x after t)
 
 -- replies that are due in each part are due in both
-pub answers-append : (g : Registry) (k : Kept) (xs ys : List Exchange)
-    → Answers g k xs → Answers (run_commands g (firsts k xs)) (kept_after k xs) ys → Answers g k (xs ++ ys)
-answers-append g k xs ys p q before x after e =
+answers-append : (was : Stored) (evidence : EvidenceOf) (xs ys : List Exchange)
+    → Answers was xs → Answers (led was xs evidence) ys → Answers was (xs ++ ys)
+answers-append was evidence xs ys p q before x after e =
     ⊎_elim
     (λ (u : (rest : List Exchange) × (xs ≡ before ++ x ∷ rest)). p before x u.0 u.1)
     (λ (u : (more : List Exchange) × (xs ++ more ≡ before) × (ys ≡ more ++ x ∷ after)).
-    let P : List Exchange → Type 0 = λ zs. IsDue g k zs x.0 x.1 in
-    subst P u.1 (due_later g k xs u.0 x (q u.0 x after u.2)))
+    let P : List Exchange → Type 0 = λ zs. IsDue was zs x.0 x.1 in
+    subst P u.1 (due_later was evidence xs u.0 x (q u.0 x after u.2)))
     (split xs ys before x after e)
 
--- What is served from one registry to a second, and from there to a third, is served from the first to the third.
-pub serves-append : (g g' g'' : Registry) (k k' k'' : Kept) (xs ys : List Exchange)
-    → Serves g k xs g' k' → Serves g' k' ys g'' k'' → Serves g k (xs ++ ys) g'' k''
-serves-append g g' g'' k k' k'' xs ys p q =
-    let P : Registry × Kept → Type 0 = λ s. Serves s.0 s.1 ys g'' k'' in
-    let h = subst P (λ i. (p.registry i, p.kept i)) q in
+-- What is served from one state to a second, and from there to a third, is served from the first to the third.
+pub serves-append : (was mid now : Stored) (xs ys : List Exchange) → Serves was xs mid → Serves mid ys now → Serves was (xs ++ ys) now
+serves-append was mid now xs ys p q =
+    let P : Stored → Type 0 = λ s. Answers s ys in
     record {
-      registry = h.registry ∙ sym (registry-append g k xs ys);
-      kept = h.kept ∙ sym (kept_after-append k xs ys);
-      replies = answers-append g k xs ys p.replies h.replies;
+      leads = leads-append was mid now xs ys p.leads q.leads;
+      replies = answers-append was mid.evidence xs ys p.replies (subst P (is_led was mid xs p.leads) q.replies);
     }
 
--- No exchange leads from a registry to itself.
-pub serves_none : (g g' : Registry) (k k' : Kept) → g' ≡ g → k' ≡ k → Serves g k [] g' k'
-serves_none g g' k k' e f = record { registry = e; kept = f ∙ sym (kept_after-nil k); replies = none }
+-- No exchange leads from what is stored to itself.
+pub leads_none : (was : Stored) → LeadsTo was [] was
+leads_none was = record { registry = refl; kept = sym (kept_after-nil was.replies); evidence = refl }
+
+-- and to nothing else
+pub leads_nowhere : (was now : Stored) → LeadsTo was [] now → now ≡ was
+leads_nowhere was now h = λ i. record { registry = h.registry i; replies = (h.kept ∙ kept_after-nil was.replies) i; evidence = h.evidence i }
+
+pub serves_none : (was : Stored) → Serves was [] was
+serves_none was = record { leads = leads_none was; replies = none }
   where
-    none : Answers g k []
+    none : Answers was []
     none [] x after h = absurd (cc)
     none (b ∷ before) x after h = absurd (cc)

@@ -2,7 +2,6 @@ pub mod JoinedExchanges
 pub mod SingleDeliveries
 pub mod DueReplies
 pub mod ExchangeLists
-pub mod AnsweredOnce
 pub mod StoreCalls
 pub mod OverTables
 pub mod CrashLemmas

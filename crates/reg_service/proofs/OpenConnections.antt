@@ -1,6 +1,7 @@
 -- What calls leave of the connection, and what a service keeps, one call after the other.
 use Rattle.std.proofs.Common.{◌≡◌, inl, inr, sym, subst, Result, Ok, Err, IsTrue, ℕ, ◌+◌, ◌≤◌, ◌++◌, ◌∷◌, List, [], min, arith}
 use Rattle.std.specs.Prelude.{OnOk}
+use Rattle.std.proofs.lemmas.Bool.{cases_Bool, both_ways}
 use Rattle.std.proofs.lemmas.List.Elements.{All-push, All-same}
 use Rattle.sqlite.specs.State.{State, HasCleanDisk}
 use Rattle.sqlite_trees.specs.declared.store.Store.{Ghosts}
@@ -8,7 +9,7 @@ use Rattle.reg_core.specs.declared.code.Code.TheVariants.{BackendFault}
 use Rattle.reg_core.specs.Replies.{Told, fault}
 use Rattle.reg_store.specs.declared.error.StoreError.{StoreError}
 use Rattle.reg_store.specs.declared.store.Store.{Store}
-use Rattle.reg_store.specs.Spells.{Stored}
+use Rattle.reg_core.specs.Stored.{Stored}
 use Rattle.reg_store.specs.Stores.{has_failed, KeepsOpen, ReadsStore}
 use Rattle.reg_service.specs.declared.service.Service.{Service}
 use Rattle.reg_service.specs.Services.{store_in, state_in, KeepsService, AreUnanswered}
@@ -45,6 +46,10 @@ module _ {S : Type 0} {g : Ghosts S} where
     clean = λ clean. clean;
     connection = keeps_open (state_in s);
   }
+
+  -- one that gives an answer stood over an open connection
+  pub was_open : (old new : Service S g) → KeepsService old new ⊥ → HasCleanDisk (state_in new) → IsTrue (state_in old).is_open
+  was_open old new keeps clean = elim (cases_Bool (state_in old).is_open) [ inl is_open ↦ is_open | inr is_shut ↦ absurd (keeps.shut clean (λ is_open. both_ways _ is_shut is_open)).0 ]
 
   -- one delivery more
   pub keeps_next : (old mid new : Service S g) (replies more : List Told) (reply : Told) → more ≡ replies ++ reply ∷ []

@@ -8,13 +8,16 @@ use Rattle.std.proofs.lemmas.Bool.Decides.{Decides-eqb}
 use Rattle.std.proofs.lemmas.Slice.Eq.{bytes_eq-Decides}
 use Rattle.reg_core.specs.declared.code.Code.TheVariants.{KeyReused, BackendFault}
 use Rattle.reg_core.specs.CommandTexts.{command_text}
+use Rattle.reg_core.specs.declared.command.Command.{Command}
 use Rattle.reg_core.specs.Machine.{is_write, step, run_commands}
-use Rattle.reg_core.specs.Registry.{Registry}
 use Rattle.reg_core.specs.Replies.{Told, fault}
 use Rattle.reg_core.specs.declared.delivery.Delivery.{Delivery}
-use Rattle.reg_core.specs.KeptReplies.{Kept, Entry}
-use Rattle.reg_service.specs.Deliveries.{Exchange, key_of, has_key, is_new, is_first, firsts, entry_of, kept_after, IsDue, Answers, Serves, served, is_backend_fault}
-use Rattle.reg_service.proofs.JoinedExchanges.{option_or-none, kept_after-nil, serves_none}
+use Rattle.reg_core.specs.KeptReplies.{Kept, Entry, kept_with}
+use Rattle.reg_core.specs.Stored.{Stored}
+use Rattle.reg_core.proofs.UnchangedRegistries.{step-read}
+use Rattle.reg_service.specs.Deliveries.{Exchange, key_of, has_key, is_new, is_first, firsts, entry_of, kept_after, IsDue, Answers, AreAdmittedBy, LeadsTo, Serves, served, is_backend_fault}
+use Rattle.reg_service.specs.Inside.Steps.{StepsTo}
+use Rattle.reg_service.proofs.JoinedExchanges.{option_or-none, kept_after-nil, leads_nowhere, serves_none}
 
 off : {A : Type 0} (b : Bool) → b ≡ true → b ≡ false → A
 off b t f = absurd (true≢false (sym t ∙ f))
@@ -45,9 +48,9 @@ is_first-keyed k d key e =
     by false = refl
 
 -- the reply that is due to a read, or to a write without a key
-due_keyless : (g : Registry) (k : Kept) (d : Delivery) (reply : Told)
-    → key_of d ≡ None → reply ≡ (step g d.command).1 → IsDue g k [] d reply
-due_keyless g k d reply keyless e = record {
+due_keyless : (was : Stored) (d : Delivery) (reply : Told)
+    → key_of d ≡ None → reply ≡ (step was.registry d.command).1 → IsDue was [] d reply
+due_keyless was d reply keyless e = record {
   read = λ _. e;
   first = λ _. e;
   again = λ key entry some _ _. absurd (cc);
@@ -55,42 +58,42 @@ due_keyless g k d reply keyless e = record {
 }
 
 -- the reply that is due where nothing is kept under the key
-due_first : (g : Registry) (k : Kept) (d : Delivery) (key : List ℕ) (reply : Told)
-    → key_of d ≡ Some key → k key ≡ None → reply ≡ (step g d.command).1 → IsDue g k [] d reply
-due_first g k d key reply some new e = record {
+due_first : (was : Stored) (d : Delivery) (key : List ℕ) (reply : Told)
+    → key_of d ≡ Some key → was.replies key ≡ None → reply ≡ (step was.registry d.command).1 → IsDue was [] d reply
+due_first was d key reply some new e = record {
   read = λ _. e;
   first = λ _. e;
   again = λ key2 entry some2 has _. absurd (none key2 entry some2 has);
   other = λ key2 entry some2 has _. absurd (none key2 entry some2 has);
 }
   where
-    none : (key2 : List ℕ) (entry : Entry) → key_of d ≡ Some key2 → kept_after k [] key2 ≡ Some entry → ⊥
+    none : (key2 : List ℕ) (entry : Entry) → key_of d ≡ Some key2 → kept_after was.replies [] key2 ≡ Some entry → ⊥
     none key2 entry some2 has =
         let same : key ≡ key2 = cc in
-        let at : k key2 ≡ Some entry = (λ i. sym (kept_after-nil k) i key2) ∙ has in
-        let gone : k key2 ≡ None = ap k (sym same) ∙ new in
+        let at : was.replies key2 ≡ Some entry = (λ i. sym (kept_after-nil was.replies) i key2) ∙ has in
+        let gone : was.replies key2 ≡ None = ap was.replies (sym same) ∙ new in
         cc
 
 -- the reply that is due where an entry is kept under the key
-due_again : (g : Registry) (k : Kept) (d : Delivery) (key : List ℕ) (entry : Entry) (reply : Told)
-    → key_of d ≡ Some key → k key ≡ Some entry
+due_again : (was : Stored) (d : Delivery) (key : List ℕ) (entry : Entry) (reply : Told)
+    → key_of d ≡ Some key → was.replies key ≡ Some entry
     → (command_text d.command ≡ entry.text → reply ≡ entry.reply)
     → (command_text d.command ≢ entry.text → reply ≡ fault KeyReused)
-    → IsDue g k [] d reply
-due_again g k d key entry reply some has same other = record {
+    → IsDue was [] d reply
+due_again was d key entry reply some has same other = record {
   read = λ f. off (is_write d.command) (key_of-write d key some) f;
-  first = λ f. off (is_first k [] d) f (is_first-keyed k d key some ∙ ap is_none has);
+  first = λ f. off (is_first was.replies [] d) f (is_first-keyed was.replies d key some ∙ ap is_none has);
   again = λ key2 entry2 some2 has2 text. let e : entry ≡ entry2 = one key2 entry2 some2 has2 in
       same (text ∙ ap (λ (x : Entry). x.text) (sym e)) ∙ ap (λ (x : Entry). x.reply) e;
   other = λ key2 entry2 some2 has2 text. let e : entry ≡ entry2 = one key2 entry2 some2 has2 in
       other (λ h. text (h ∙ ap (λ (x : Entry). x.text) e));
 }
   where
-    one : (key2 : List ℕ) (entry2 : Entry) → key_of d ≡ Some key2 → kept_after k [] key2 ≡ Some entry2 → entry ≡ entry2
+    one : (key2 : List ℕ) (entry2 : Entry) → key_of d ≡ Some key2 → kept_after was.replies [] key2 ≡ Some entry2 → entry ≡ entry2
     one key2 entry2 some2 has2 =
         let e : key ≡ key2 = cc in
-        let at : k key2 ≡ Some entry2 = (λ i. sym (kept_after-nil k) i key2) ∙ has2 in
-        let f : k key ≡ k key2 = ap k e in cc
+        let at : was.replies key2 ≡ Some entry2 = (λ i. sym (kept_after-nil was.replies) i key2) ∙ has2 in
+        let f : was.replies key ≡ was.replies key2 = ap was.replies e in cc
 
 -- what a write leaves under its key
 pub kept_after-keyed : (k : Kept) (d : Delivery) (reply : Told) (key q : List ℕ) → key_of d ≡ Some key → k key ≡ None
@@ -125,27 +128,47 @@ kept_after-known k d reply known = λ i q. at (key_of d) known q (k q) refl i
     at (Some key) old q None e = test (bytes_eq q key) (differs q key (bytes_eq q key) (bytes_eq-Decides q key) (old key refl) e)
 
 -- the firsts of one delivery
-pub run_commands-one : (g : Registry) (k : Kept) (d : Delivery) (reply : Told) (b : Bool) → is_first k [] d ≡ b
-    → run_commands g (firsts k ((d, reply) ∷ [])) ≡ (if b then (step g d.command).0 else g)
-run_commands-one g k d reply b e = ap (λ (t : Bool). run_commands g ((if t then d.command ∷ [] else []) ++ [])) e ∙ by b
+firsts-one : (k : Kept) (d : Delivery) (reply : Told) (b : Bool) → is_first k [] d ≡ b → firsts k ((d, reply) ∷ []) ≡ (if b then d.command ∷ [] else [])
+firsts-one k d reply b e = ap (λ (t : Bool). (if t then d.command ∷ [] else []) ++ []) e ∙ by b
   where
-    by : (t : Bool) → run_commands g ((if t then d.command ∷ [] else []) ++ []) ≡ (if t then (step g d.command).0 else g)
+    by : (t : Bool) → (if t then d.command ∷ [] else []) ++ [] ≡ (if t then d.command ∷ [] else [])
     by true = refl
     by false = refl
 
-serves_one : (g g' : Registry) (k k' : Kept) (d : Delivery) (reply : Told) (b : Bool) → is_first k [] d ≡ b
-    → g' ≡ (if b then (step g d.command).0 else g) → k' ≡ kept_after k ((d, reply) ∷ []) → IsDue g k [] d reply
-    → Serves g k ((d, reply) ∷ []) g' k'
-serves_one g g' k k' d reply b first registry kept due = record {
-  registry = registry ∙ sym (run_commands-one g k d reply b first);
-  kept = kept;
-  replies = alone;
-}
+-- a first delivery leads to what its command makes, where its reply is kept as it is due
+pub leads_first : (was now : Stored) (d : Delivery) (reply : Told) → is_first was.replies [] d ≡ true → StepsTo was d.command now
+    → now.replies ≡ kept_after was.replies ((d, reply) ∷ []) → LeadsTo was ((d, reply) ∷ []) now
+leads_first was now d reply first steps kept =
+    let one = firsts-one was.replies d reply true first in
+    record {
+      registry = steps.registry ∙ ap (run_commands was.registry) (sym one);
+      kept = kept;
+      evidence = subst (λ (cs : List Command). AreAdmittedBy was.registry cs was.evidence now.evidence) (sym one) (now.evidence, steps.evidence, refl);
+    }
+
+-- another one leads nowhere
+leads_still : (was : Stored) (d : Delivery) (reply : Told) → is_first was.replies [] d ≡ false
+    → kept_after was.replies ((d, reply) ∷ []) ≡ was.replies → LeadsTo was ((d, reply) ∷ []) was
+leads_still was d reply later kept =
+    let none = firsts-one was.replies d reply false later in
+    record {
+      registry = ap (run_commands was.registry) (sym none);
+      kept = sym kept;
+      evidence = subst (λ (cs : List Command). AreAdmittedBy was.registry cs was.evidence was.evidence) (sym none) refl;
+    }
+
+-- a read makes nothing of what is stored
+pub steps_nowhere : (was now : Stored) (c : Command) → is_write c ≡ false → StepsTo was c now → now.replies ≡ was.replies → now ≡ was
+steps_nowhere was now c read steps kept =
+    λ i. record { registry = (steps.registry ∙ step-read was.registry c read) i; replies = kept i; evidence = steps.read read i }
+
+serves_one : (was now : Stored) (d : Delivery) (reply : Told) → LeadsTo was ((d, reply) ∷ []) now → IsDue was [] d reply → Serves was ((d, reply) ∷ []) now
+serves_one was now d reply leads due = record { leads = leads; replies = alone }
   where
-    alone : Answers g k ((d, reply) ∷ [])
+    alone : Answers was ((d, reply) ∷ [])
     alone [] x after e =
         let h : (d, reply) ≡ x = cc in
-        subst (λ (y : Exchange). IsDue g k [] y.0 y.1) h due
+        subst (λ (y : Exchange). IsDue was [] y.0 y.1) h due
     alone (b ∷ []) x after e = absurd (cc)
     alone (b ∷ c ∷ before) x after e = absurd (cc)
 
@@ -158,55 +181,66 @@ not_backend_fault reply differs = by (reply.status == 500) (Decides-eqb reply.st
     by false same = refl
 
 -- A read, or a write without a key, is carried out.
-pub serves_keyless : (g g' : Registry) (k k' : Kept) (d : Delivery) (reply : Told)
-    → key_of d ≡ None → reply ≡ (step g d.command).1 → reply.status ≢ 500 → g' ≡ (step g d.command).0
-    → (is_write d.command ≡ false → g' ≡ g) → k' ≡ k → Serves g k (served ((d, reply) ∷ [])) g' k'
-serves_keyless g g' k k' d reply keyless e ok registry read kept =
-    rw (not_backend_fault reply ok)
-    (serves_one g g' k k' d reply (is_write d.command) (is_first-keyless k [] d keyless) (by (is_write d.command) read)
-    (kept ∙ sym (kept_after-known k d reply (λ key some. absurd (cc)))) (due_keyless g k d reply keyless e))
+pub serves_keyless : (was now : Stored) (d : Delivery) (reply : Told) → key_of d ≡ None → reply ≡ (step was.registry d.command).1 → reply.status ≢ 500
+    → StepsTo was d.command now → now.replies ≡ was.replies → Serves was (served ((d, reply) ∷ [])) now
+serves_keyless was now d reply keyless e ok steps kept =
+    rw (not_backend_fault reply ok) (serves_one was now d reply (by (is_write d.command) refl) (due_keyless was d reply keyless e))
   where
-    by : (w : Bool) → (w ≡ false → g' ≡ g) → g' ≡ (if w then (step g d.command).0 else g)
-    by true r = registry
-    by false r = r refl
+    nothing : kept_after was.replies ((d, reply) ∷ []) ≡ was.replies
+    nothing = kept_after-known was.replies d reply (λ key some. absurd (let none : None ≡ Some key = sym keyless ∙ some in cc))
+
+    by : (w : Bool) → is_write d.command ≡ w → LeadsTo was ((d, reply) ∷ []) now
+    by true write = leads_first was now d reply (is_first-keyless was.replies [] d keyless ∙ write) steps (kept ∙ sym nothing)
+    by false read =
+        let P : Stored → Type 0 = λ s. LeadsTo was ((d, reply) ∷ []) s in
+        subst P (sym (steps_nowhere was now d.command read steps kept)) (leads_still was d reply (is_first-keyless was.replies [] d keyless ∙ read) nothing)
+
+-- what is kept of a first delivery of a key is what it leaves
+pub kept_first : (k : Kept) (d : Delivery) (key : List ℕ) (reply : Told) → key_of d ≡ Some key → k key ≡ None
+    → kept_with k key (record { text = command_text d.command; reply = reply }) ≡ kept_after k ((d, reply) ∷ [])
+kept_first k d key reply some new = λ i q. sym (kept_after-keyed k d reply key q some new) i
 
 -- The first delivery of a key is carried out and kept.
-pub serves_first : (g g' : Registry) (k k' : Kept) (d : Delivery) (key : List ℕ) (reply : Told)
-    → key_of d ≡ Some key → k key ≡ None → reply ≡ (step g d.command).1 → reply.status ≢ 500 → g' ≡ (step g d.command).0
-    → ((q : List ℕ) → k' q ≡ (if bytes_eq key q then Some (record { text = command_text d.command; reply = reply }) else k q))
-    → Serves g k (served ((d, reply) ∷ [])) g' k'
-serves_first g g' k k' d key reply some new e ok registry kept =
+pub serves_first : (was now : Stored) (d : Delivery) (key : List ℕ) (reply : Told)
+    → key_of d ≡ Some key → was.replies key ≡ None → reply ≡ (step was.registry d.command).1 → reply.status ≢ 500 → StepsTo was d.command now
+    → now.replies ≡ kept_with was.replies key (record { text = command_text d.command; reply = reply }) → Serves was (served ((d, reply) ∷ [])) now
+serves_first was now d key reply some new e ok steps kept =
     rw (not_backend_fault reply ok)
-    (serves_one g g' k k' d reply true (is_first-keyed k d key some ∙ ap is_none new) registry
-    (λ i q. (kept q ∙ sym (kept_after-keyed k d reply key q some new)) i) (due_first g k d key reply some new e))
+    (serves_one was now d reply
+    (leads_first was now d reply (is_first-keyed was.replies d key some ∙ ap is_none new) steps (kept ∙ kept_first was.replies d key reply some new))
+    (due_first was d key reply some new e))
 
 -- A later delivery of a key changes nothing.
-pub serves_again : (g g' : Registry) (k k' : Kept) (d : Delivery) (key : List ℕ) (entry : Entry) (reply : Told)
-    → key_of d ≡ Some key → k key ≡ Some entry
+pub serves_again : (was : Stored) (d : Delivery) (key : List ℕ) (entry : Entry) (reply : Told)
+    → key_of d ≡ Some key → was.replies key ≡ Some entry
     → (command_text d.command ≡ entry.text → reply ≡ entry.reply)
     → (command_text d.command ≢ entry.text → reply ≡ fault KeyReused)
-    → g' ≡ g → k' ≡ k → Serves g k (served ((d, reply) ∷ [])) g' k'
-serves_again g g' k k' d key entry reply some has same other registry kept = by (is_backend_fault reply)
+    → Serves was (served ((d, reply) ∷ [])) was
+serves_again was d key entry reply some has same other = by (is_backend_fault reply)
   where
-    old : (key2 : List ℕ) → key_of d ≡ Some key2 → is_none (k key2) ≡ false
-    old key2 some2 = let e : key ≡ key2 = cc in ap is_none (ap k (sym e) ∙ has)
+    old : (key2 : List ℕ) → key_of d ≡ Some key2 → is_none (was.replies key2) ≡ false
+    old key2 some2 = let e : key ≡ key2 = cc in ap is_none (ap was.replies (sym e) ∙ has)
 
-    by : (b : Bool) → Serves g k (cond (not b) ((d, reply) ∷ []) []) g' k'
-    by true = serves_none g g' k k' registry kept
-    by false = serves_one g g' k k' d reply false (is_first-keyed k d key some ∙ ap is_none has) registry
-        (kept ∙ sym (kept_after-known k d reply old)) (due_again g k d key entry reply some has same other)
+    by : (b : Bool) → Serves was (cond (not b) ((d, reply) ∷ []) []) was
+    by true = serves_none was
+    by false = serves_one was was d reply
+        (leads_still was d reply (is_first-keyed was.replies d key some ∙ ap is_none has) (kept_after-known was.replies d reply old))
+        (due_again was d key entry reply some has same other)
+
+-- what is answered 50001 counts for nothing
+pub served_fault : (d : Delivery) (reply : Told) → reply ≡ fault BackendFault → served ((d, reply) ∷ []) ≡ []
+served_fault d reply e =
+    let is : is_backend_fault reply ≡ true = ap is_backend_fault e ∙ (bytes_eq-Decides (fault BackendFault).body (fault BackendFault).body).1 refl in
+    ap (λ (b : Bool). cond (not b) ((d, reply) ∷ []) []) is
 
 -- A delivery that is answered 50001 changes nothing.
-pub unserved-still : (g g' : Registry) (k k' : Kept) (d : Delivery) (reply : Told) → reply ≡ fault BackendFault
-    → Serves g k (served ((d, reply) ∷ [])) g' k' → (g' ≡ g) × (k' ≡ k)
-unserved-still g g' k k' d reply e h =
-    let none : is_backend_fault reply ≡ true = ap is_backend_fault e ∙ (bytes_eq-Decides (fault BackendFault).body (fault BackendFault).body).1 refl in
-    let s : Serves g k [] g' k' = subst (λ b. Serves g k (cond (not b) ((d, reply) ∷ []) []) g' k') none h in
-    (s.registry, s.kept ∙ kept_after-nil k)
+pub served_nowhere : (was now : Stored) (d : Delivery) (reply : Told) → reply ≡ fault BackendFault → Serves was (served ((d, reply) ∷ [])) now → now ≡ was
+served_nowhere was now d reply e h =
+    let P : List Exchange → Type 0 = λ xs. Serves was xs now in
+    leads_nowhere was now (subst P (served_fault d reply e) h).leads
 
 -- A delivery for which memory was refused.
-pub serves_refused : (g g' : Registry) (k k' : Kept) (d : Delivery) (reply : Told) → reply ≡ fault BackendFault
-    → g' ≡ g → k' ≡ k → Serves g k (served ((d, reply) ∷ [])) g' k'
-serves_refused g g' k k' d reply e registry kept =
-    let none : is_backend_fault reply ≡ true = ap is_backend_fault e ∙ (bytes_eq-Decides (fault BackendFault).body (fault BackendFault).body).1 refl in
-    subst (λ b. Serves g k (cond (not b) ((d, reply) ∷ []) []) g' k') (sym none) (serves_none g g' k k' registry kept)
+pub serves_refused : (was : Stored) (d : Delivery) (reply : Told) → reply ≡ fault BackendFault → Serves was (served ((d, reply) ∷ [])) was
+serves_refused was d reply e =
+    let P : List Exchange → Type 0 = λ xs. Serves was xs was in
+    subst P (sym (served_fault d reply e)) (serves_none was)

@@ -1,19 +1,24 @@
 -- What the calls of a store leave, one after the other.
-use Rattle.std.proofs.Common.{◌≡◌, ◌≢◌, ℕ, true, false, List, [], length, ap, Result, Ok, Err, Vec, Global, vec_len, sym, subst, ◌∙◌, arith}
-use Rattle.std.specs.Prelude.{◌==◌, OnErr}
+use Rattle.std.proofs.Common.{◌≡◌, ◌≢◌, true, false, List, [], length, refl, ap, Option, Result, Ok, Err, Vec, Global, vec_len, sym, subst, ◌∙◌, arith}
+use Rattle.std.specs.Prelude.{ℕ, ◌==◌, OnErr}
 use Rattle.std.proofs.lemmas.Bool.{both_ways}
 use Rattle.std.proofs.lemmas.Bool.Decides.{nat_tests}
 use Rattle.std.proofs.lemmas.List.{nil_from_length}
 use Rattle.sqlite.specs.State.{State}
-use Rattle.reg_core.specs.Registry.{Registry}
-use Rattle.reg_core.specs.Views.{after_changes}
+use Rattle.avro_nodes.specs.Nodes.{NodeView}
+use Rattle.reg_core.specs.declared.command.Command.{Command}
 use Rattle.reg_core.specs.declared.decision.Change.{Change}
+use Rattle.reg_core.specs.declared.decision.Decision.{Decision}
+use Rattle.reg_core.specs.declared.decision.View.{View}
+use Rattle.reg_core.specs.Registry.{Registry}
 use Rattle.reg_core.specs.KeptReplies.{Kept}
-use Rattle.reg_store.specs.Spells.{Stored, SpellsWhileOpen}
+use Rattle.reg_core.specs.Evidence.{IsOfVersions, IsTrueIn}
+use Rattle.reg_core.specs.Stored.{Stored}
+use Rattle.reg_core.specs.Views.{ChangesFit, IsGround, Decides, schema_taken, evidence_after_changes}
+use Rattle.reg_core.proofs.EvidenceLaws.{evidence_stays_true}
+use Rattle.reg_store.specs.Changes.{made_of}
 use Rattle.reg_store.specs.Stores.{SpellsOn}
-
-abbrev pub stored : Registry → Kept → Stored
-stored registry k = record { registry = registry; replies = k }
+use Rattle.reg_service.specs.Inside.Steps.{StepsTo, HoldsAfter, IsDecidedFor}
 
 -- what holds anyway holds where a result is an error
 pub whatever_fails : {X E P : Type 0} (r : Result X E) → P → OnErr r P
@@ -32,11 +37,46 @@ no_changes changes e = nil_from_length changes.items (sym changes.ok.0 ∙ is_ze
 pub some_changes : (changes : Vec Change Global) → (vec_len changes == 0) ≡ false → changes.items ≢ []
 some_changes changes e none = both_ways _ e (ap (λ n. n == 0) (changes.ok.0 ∙ ap length none))
 
--- no change leaves the registry
-pub spells_changed : (new : State) (g g' : Registry) (k : Kept) (changes : List Change) → changes ≡ [] → after_changes changes g ≡ g' → SpellsWhileOpen new g k → SpellsWhileOpen new g' k
-spells_changed new g g' k changes none same s = subst (λ (r : Registry). SpellsWhileOpen new r k) (rw none at same) s
-
 -- what follows from what holds where a result is an error
 pub fails_as : {X E P Q : Type 0} (r : Result X E) → (P → Q) → OnErr r P → OnErr r Q
 fails_as (Ok x) f h = tt
 fails_as (Err e) f h = f h
+
+-- ---- decisions
+
+-- on its ground a decision is the one for what is stored
+pub decided_for : (was : Stored) (command : Command) (schema : Option (List NodeView)) (view : View) (d : Decision) → Decides command schema view d
+    → IsGround was.registry command (schema_taken command schema) view → IsOfVersions was.registry was.evidence → IsDecidedFor was command d
+decided_for was command schema view d decides ground owners =
+    let has = evidence_after_changes d.changes.items was.evidence in
+    let after = decides.evidence was.registry ground was.evidence owners in
+    record {
+      reply = decides.reply was.registry ground;
+      steps = record {
+        registry = decides.changes was.registry ground;
+        evidence = after;
+        read = λ read. ap (λ (l : List Change). evidence_after_changes l was.evidence) (decides.read read);
+        stays_true = λ holds. subst (λ (g : Registry). IsTrueIn g has) (sym (decides.changes was.registry ground)) (evidence_stays_true was.registry command was.evidence has ground.registry holds after);
+      };
+      fit = decides.fit was.registry ground;
+    }
+
+module _ (was : Stored) (command : Command) (d : Decision) (decided : IsDecidedFor was command d) where
+  -- what is stored can have the changes of a decision
+  pub fits : (changes : List Change) → changes ≡ d.changes.items → ChangesFit changes was.registry
+  fits changes is = subst (λ (l : List Change). ChangesFit l was.registry) (sym is) decided.fit
+
+  -- what holds after them, with these replies, holds after the command
+  pub makes : (changes : List Change) (made kept : Kept) (Holds : Stored → Type 0) → changes ≡ d.changes.items → made ≡ kept → Holds (record (made_of changes was) { replies = made }) → HoldsAfter was command kept Holds
+  makes changes made kept Holds is replies holds =
+      let s : StepsTo was command (made_of changes was) = subst (λ (l : List Change). StepsTo was command (made_of l was)) (sym is) decided.steps in
+      record {
+        now = record (made_of changes was) { replies = made };
+        steps = record { registry = s.registry; evidence = s.evidence; read = s.read; stays_true = s.stays_true };
+        replies = replies;
+        holds = holds;
+      }
+
+  -- without a change, what holds before holds after it
+  pub makes_nothing : (Holds : Stored → Type 0) → d.changes.items ≡ [] → Holds was → HoldsAfter was command was.replies Holds
+  makes_nothing Holds none holds = makes [] was.replies was.replies Holds (sym none) refl holds

@@ -10,6 +10,8 @@ use Rattle.reg_core.specs.Machine.{is_write, step, run_commands}
 use Rattle.reg_core.specs.Registry.{Registry}
 use Rattle.reg_core.specs.Replies.{Told, fault}
 use Rattle.reg_core.specs.KeptReplies.{Entry, Kept}
+use Rattle.reg_core.specs.Evidence.{EvidenceOf, IsEvidenceAfter}
+use Rattle.reg_core.specs.Stored.{Stored}
 use Rattle.reg_core.specs.declared.delivery.Delivery.{Delivery}
 
 -- A delivery and the reply to it.
@@ -53,32 +55,44 @@ abbrev pub kept_after : Kept → List Exchange → Kept
 kept_after k xs key = option_or (k key) (option_map entry_of (find (λ x. has_key key x.0) xs))
 
 -- The plain machine's reply to a command, after the first deliveries among the exchanges `before`.
-abbrev pub reply_after : Registry → Kept → List Exchange → Command → Told
-reply_after g k before command = (step (run_commands g (firsts k before)) command).1
+abbrev pub reply_after : Stored → List Exchange → Command → Told
+reply_after was before command = (step (run_commands was.registry (firsts was.replies before)) command).1
 
 -- The reply that is due to a delivery that comes after the exchanges `before`.
-pub record IsDue (g : Registry) (k : Kept) (before : List Exchange) (d : Delivery) (reply : Told) : Type 0 where
+pub record IsDue (was : Stored) (before : List Exchange) (d : Delivery) (reply : Told) : Type 0 where
   -- A read and a first delivery are carried out.
-  pub read : IsFalse (is_write d.command) → reply ≡ reply_after g k before d.command
-  pub first : IsTrue (is_first k before d) → reply ≡ reply_after g k before d.command
+  pub read : IsFalse (is_write d.command) → reply ≡ reply_after was before d.command
+  pub first : IsTrue (is_first was.replies before d) → reply ≡ reply_after was before d.command
   -- A key that comes with its own command again gets the reply that it has.
-  pub again : (key : List ℕ) (entry : Entry) → key_of d ≡ Some key → kept_after k before key ≡ Some entry
+  pub again : (key : List ℕ) (entry : Entry) → key_of d ≡ Some key → kept_after was.replies before key ≡ Some entry
       → command_text d.command ≡ entry.text → reply ≡ entry.reply
   -- A key that comes with another command is refused.
-  pub other : (key : List ℕ) (entry : Entry) → key_of d ≡ Some key → kept_after k before key ≡ Some entry
+  pub other : (key : List ℕ) (entry : Entry) → key_of d ≡ Some key → kept_after was.replies before key ≡ Some entry
       → command_text d.command ≢ entry.text → reply ≡ fault KeyReused
 
 -- Each exchange, at its position in the list, has the reply that is due there.
-abbrev pub Answers : Registry → Kept → List Exchange → Type 0
-Answers g k xs = (before : List Exchange) (x : Exchange) (after : List Exchange)
-    → xs ≡ before ++ x ∷ after → IsDue g k before x.0 x.1
+abbrev pub Answers : Stored → List Exchange → Type 0
+Answers was xs = (before : List Exchange) (x : Exchange) (after : List Exchange)
+    → xs ≡ before ++ x ∷ after → IsDue was before x.0 x.1
 
--- The exchanges lead from the registry g and the kept replies k to g' and k': the registry is the plain
--- machine's after the first deliveries, each once; these are kept; and each reply is the one that is due.
-pub record Serves (g : Registry) (k : Kept) (xs : List Exchange) (g' : Registry) (k' : Kept) : Type 0 where
-  pub registry : g' ≡ run_commands g (firsts k xs)
-  pub kept : k' ≡ kept_after k xs
-  pub replies : Answers g k xs
+-- The evidence of versions after the commands, a fold beside the registry's: a version that one of them added has the level
+-- that was in force then, and the ids that this named; one that is gone has none; and one that was there has what it had.
+abbrev pub AreAdmittedBy : Registry → List Command → EvidenceOf → EvidenceOf → Type 0
+AreAdmittedBy g [] old new = new ≡ old
+AreAdmittedBy g (command ∷ commands) old new =
+    (mid : EvidenceOf) × IsEvidenceAfter g command old mid × AreAdmittedBy (step g command).0 commands mid new
+
+-- The exchanges lead from what was stored to what is: the registry is the plain machine's after the first deliveries, each
+-- once; their replies are kept; and the evidence of versions is what the registry named as each of them was carried out.
+pub record LeadsTo (was : Stored) (xs : List Exchange) (now : Stored) : Type 0 where
+  pub registry : now.registry ≡ run_commands was.registry (firsts was.replies xs)
+  pub kept : now.replies ≡ kept_after was.replies xs
+  pub evidence : AreAdmittedBy was.registry (firsts was.replies xs) was.evidence now.evidence
+
+-- They lead there, and each reply is the one that is due.
+pub record Serves (was : Stored) (xs : List Exchange) (now : Stored) : Type 0 where
+  pub leads : LeadsTo was xs now
+  pub replies : Answers was xs
 
 -- The reply is that of the code 50001, status and body.
 abbrev pub is_backend_fault : Told → Bool
@@ -96,8 +110,8 @@ RepeatsAgree xs =
     → command_text x.0.command ≡ command_text y.0.command → x.1 ≡ y.1
 
 -- No other replies to these deliveries would be due.
-abbrev pub NoOtherAnswers : Registry → Kept → List Exchange → Type 0
-NoOtherAnswers g k xs = (ys : List Exchange) → map (λ y. y.0) ys ≡ map (λ x. x.0) xs → Answers g k ys → ys ≡ xs
+abbrev pub NoOtherAnswers : Stored → List Exchange → Type 0
+NoOtherAnswers was xs = (ys : List Exchange) → map (λ y. y.0) ys ≡ map (λ x. x.0) xs → Answers was ys → ys ≡ xs
 
 -- What was kept is kept still.
 abbrev pub KeepsAll : Kept → Kept → Type 0

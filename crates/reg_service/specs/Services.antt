@@ -3,8 +3,7 @@ use Rattle.std.specs.Prelude.{◌≡◌, List, IsTrue}
 use Rattle.std.specs.List.{All}
 use Rattle.sqlite.specs.State.{State, HasCleanDisk}
 use Rattle.sqlite_trees.specs.declared.store.Store.{Ghosts}
-use Rattle.reg_core.specs.Registry.{Registry}
-use Rattle.reg_core.specs.KeptReplies.{Kept}
+use Rattle.reg_core.specs.Stored.{Stored, HasTrueEvidence}
 use Rattle.reg_core.specs.Replies.{Told, fault}
 use Rattle.reg_core.specs.declared.code.Code.TheVariants.{BackendFault}
 use Rattle.reg_store.specs.Spells.{SpellsWhileOpen}
@@ -21,18 +20,19 @@ store_in service = service.store
 abbrev pub state_in : {S : Type 0} {g : Ghosts S} → Service S g → State
 state_in service = state_of (store_in service)
 
--- this project's choice: the exchanges lead from the registry g and the kept replies k to those that the tables spell
-pub record ServesTo (g : Registry) (k : Kept) (xs : List Exchange) (new : State) : Type 0 where
-  pub registry : Registry
-  pub kept : Kept
-  pub serves : Serves g k xs registry kept
+-- this project's choice: the exchanges lead from what was stored to what the tables spell
+pub record ServesTo (was : Stored) (xs : List Exchange) (new : State) : Type 0 where
+  pub now : Stored
+  pub serves : Serves was xs now
   -- what was kept is kept still
-  pub keeps : KeepsAll k kept
-  pub spells : SpellsWhileOpen new registry kept
+  pub keeps : KeepsAll was.replies now.replies
+  -- where the evidence of versions was true, it is
+  pub stays_true : HasTrueEvidence was → HasTrueEvidence now
+  pub spells : SpellsWhileOpen new now
 
 -- this project's choice: they lead from what the tables spelled to what they spell
 abbrev pub ServesOver : State → State → List Exchange → Type 0
-ServesOver old new xs = (g : Registry) (k : Kept) → SpellsWhileOpen old g k → ServesTo g k xs new
+ServesOver old new xs = (was : Stored) → SpellsWhileOpen old was → ServesTo was xs new
 
 -- this project's choice: each reply is that of the code 50001
 abbrev pub AreUnanswered : List Told → Type 0

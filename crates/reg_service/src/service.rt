@@ -1,20 +1,16 @@
 //! A registry that carries out deliveries, each first one once.
 
-ghost use Rattle.std.specs.Prelude.{◌≡◌, ◌≢◌, ◌⊎◌, [], ◌∷◌, zip, length, vec_len, IsTrue, IfOk, OnOk, OnErr};
-ghost use Rattle.sqlite.specs.Tree.{Trees};
+ghost use Rattle.std.specs.Prelude.{◌≡◌, Some, None, [], ◌∷◌, zip, length, vec_len, IfOk, OnOk, OnErr};
 ghost use Rattle.sqlite.specs.State.{HasCleanDisk};
-ghost use Rattle.reg_core.specs.CommandTexts.{command_text};
-ghost use Rattle.reg_core.specs.Machine.{step};
-ghost use Rattle.reg_core.specs.Registry.{Registry};
 ghost use Rattle.reg_core.specs.Replies.{IsOwnReply, fault};
-ghost use Rattle.reg_core.specs.Views.{ChangesFit, after_changes};
-ghost use Rattle.reg_core.specs.KeptReplies.{Kept, kept_with};
-ghost use Rattle.reg_store.specs.Spells.{Leaves, IsOpenOver, SpellsWhileOpen};
+ghost use Rattle.reg_core.specs.Stored.{Stored};
+ghost use Rattle.reg_store.specs.Spells.{IsOpenOver, SpellsWhileOpen};
 ghost use Rattle.reg_store.specs.Stores.{has_failed, LeavesNoMore, SpellsOn};
 ghost use Rattle.reg_service.specs.Deliveries.{served, RepeatsAgree, NoOtherAnswers};
 ghost use Rattle.reg_service.specs.Admissions.{AllAdmitted};
-ghost use Rattle.reg_service.specs.Crashes.{IsFoundAfter, reply_of, LeavesOne};
+ghost use Rattle.reg_service.specs.Crashes.{IsFoundAfter, LeavesSpelled, reply_of};
 ghost use Rattle.reg_service.specs.Services.{store_in, state_in, ServesOver, AreUnanswered, KeepsService};
+ghost use Rattle.reg_service.specs.Inside.Steps.{IsDecidedFor, CarriesOut};
 
 use crate::delivery::retry_key;
 use crate::error::Unanswered;
@@ -72,24 +68,25 @@ impl<S: Alter> Service<S> {
     pub fn answer(&mut self, delivery: &Delivery) -> Reply
         // After a fault of the disk, and over a connection that is shut, nothing is done.
         ensures frame { KeepsService self.old self.new (result ≡ fault Code.BackendFault) }
+
+        // The evidence of versions is what the registry named, and where it was true it is.
         ensures served { HasCleanDisk (state_in self.new)
             → ServesOver (state_in self.old) (state_in self.new) (served ((delivery.now, result) ∷ [])) }
         ensures fault { HasCleanDisk (state_in self.new) → result ≡ fault Code.BackendFault
             → SpellsOn (state_in self.old) (state_in self.new) }
 
         // Each version that is added was admitted by its subject's level.
-        ensures admitted { HasCleanDisk (state_in self.new) → (g : Registry) (k : Kept)
-            → IsOpenOver (state_in self.old) g k
-            → AllAdmitted g k (served ((delivery.now, result) ∷ [])) }
+        ensures admitted { HasCleanDisk (state_in self.new) → (was : Stored)
+            → IsOpenOver (state_in self.old) was
+            → AllAdmitted was (served ((delivery.now, result) ∷ [])) }
 
-        // A crash leaves what was answered, and may leave a delivery that was answered 50001.
-        ensures crash { HasCleanDisk (state_in self.new) → (g : Registry) (k : Kept)
-            → IsOpenOver (state_in self.old) g k
-            → IsFoundAfter g k ((delivery.now, result) ∷ []) (state_in self.new).may_leave }
+        // A crash leaves what was answered, and may leave a delivery that was answered 50001: version,
+        // reply and evidence together.
+        ensures crash { HasCleanDisk (state_in self.new) → (was : Stored)
+            → IsOpenOver (state_in self.old) was
+            → IsFoundAfter was ((delivery.now, result) ∷ []) (state_in self.new).may_leave }
 
-        // Over a connection that is open, a crash leaves what the tables spell, and nothing else.
-        ensures settled { (g : Registry) (k : Kept) → IsOpenOver (state_in self.new) g k
-            → (db : Trees) → (state_in self.new).may_leave db → Leaves db g k }
+        ensures settled { LeavesSpelled (state_in self.new) }
     {
         match self.try_answer(delivery) {
             Ok(reply) => reply,
@@ -108,29 +105,30 @@ impl<S: Alter> Service<S> {
 
         // After a fault of the disk, and over a connection that is shut, nothing is done.
         ensures frame { KeepsService self.old self.new (IfOk result (λ replies. AreUnanswered replies.items)) }
+
+        // The evidence of versions is what the registry named, and where it was true it is.
         ensures served { HasCleanDisk (state_in self.new) → IfOk result (λ replies.
             ServesOver (state_in self.old) (state_in self.new) (served (zip list.now replies.items))) }
         ensures repeats { HasCleanDisk (state_in self.new) → IfOk result (λ replies.
-            (g : Registry) (k : Kept) → SpellsWhileOpen (state_in self.old) g k
+            (was : Stored) → SpellsWhileOpen (state_in self.old) was
             → RepeatsAgree (served (zip list.now replies.items))) }
         ensures only { HasCleanDisk (state_in self.new) → IfOk result (λ replies.
-            (g : Registry) (k : Kept) → SpellsWhileOpen (state_in self.old) g k
-            → NoOtherAnswers g k (served (zip list.now replies.items))) }
+            (was : Stored) → SpellsWhileOpen (state_in self.old) was
+            → NoOtherAnswers was (served (zip list.now replies.items))) }
         ensures err { OnErr result (self.new ≡ self.old) }
 
         // Each version that was added was admitted by its subject's level, as that was then.
         ensures admitted { HasCleanDisk (state_in self.new) → IfOk result (λ replies.
-            (g : Registry) (k : Kept) → IsOpenOver (state_in self.old) g k
-            → AllAdmitted g k (served (zip list.now replies.items))) }
+            (was : Stored) → IsOpenOver (state_in self.old) was
+            → AllAdmitted was (served (zip list.now replies.items))) }
 
-        // A crash leaves all that was answered, with or without the one delivery under way.
+        // A crash leaves all that was answered, with or without the one delivery under way: each time
+        // version, reply and evidence together.
         ensures crash { HasCleanDisk (state_in self.new) → IfOk result (λ replies.
-            (g : Registry) (k : Kept) → IsOpenOver (state_in self.old) g k
-            → IsFoundAfter g k (zip list.now replies.items) (state_in self.new).may_leave) }
+            (was : Stored) → IsOpenOver (state_in self.old) was
+            → IsFoundAfter was (zip list.now replies.items) (state_in self.new).may_leave) }
 
-        // Over a connection that is open, a crash leaves what the tables spell, and nothing else.
-        ensures settled { (g : Registry) (k : Kept) → IsOpenOver (state_in self.new) g k
-            → (db : Trees) → (state_in self.new).may_leave db → Leaves db g k }
+        ensures settled { LeavesSpelled (state_in self.new) }
     {
         let mut replies = Vec::with_capacity(self.alloc, list.len())?;
         for delivery in list {
@@ -147,9 +145,9 @@ impl<S: Alter> Service<S> {
             ServesOver (state_in self.old) (state_in self.new) (served ((delivery.now, reply) ∷ []))) }
         ensures err { HasCleanDisk (state_in self.new)
             → OnErr result (SpellsOn (state_in self.old) (state_in self.new)) }
-        ensures crash { HasCleanDisk (state_in self.new) → (g : Registry) (k : Kept)
-            → IsOpenOver (state_in self.old) g k
-            → IsFoundAfter g k ((delivery.now, reply_of result) ∷ []) (state_in self.new).may_leave }
+        ensures crash { HasCleanDisk (state_in self.new) → (was : Stored)
+            → IsOpenOver (state_in self.old) was
+            → IsFoundAfter was ((delivery.now, reply_of result) ∷ []) (state_in self.new).may_leave }
     {
         let Some(key) = retry_key(delivery) else {
             return self.carry_out(&delivery.command);
@@ -164,15 +162,8 @@ impl<S: Alter> Service<S> {
     /// The answer to a command whose reply isn't kept.
     fn carry_out(&mut self, command: &Command) -> Result<Reply, Unanswered>
         ensures frame { KeepsService self.old self.new (OnOk result ⊥) }
-        ensures done { HasCleanDisk (state_in self.new) → IfOk result (λ reply. (g : Registry) (k : Kept)
-            → SpellsWhileOpen (state_in self.old) g k
-            → (reply ≡ (step g command.now).1) × SpellsWhileOpen (state_in self.new) (step g command.now).0 k) }
-        ensures own { IfOk result (λ reply. IsOwnReply reply) }
-        ensures err { HasCleanDisk (state_in self.new)
-            → OnErr result (SpellsOn (state_in self.old) (state_in self.new)) }
-        ensures crash { HasCleanDisk (state_in self.new) → (g : Registry) (k : Kept)
-            → IsOpenOver (state_in self.old) g k → (db : Trees) → (state_in self.new).may_leave db
-            → LeavesOne result (state_in self.old) db (step g command.now).0 k }
+        ensures carries { HasCleanDisk (state_in self.new)
+            → CarriesOut (state_in self.old) (state_in self.new) command.now None result }
     {
         let Decision { changes, reply } = self.decision(command)?;
         if !changes.is_empty() {
@@ -189,18 +180,8 @@ impl<S: Alter> Service<S> {
         command: &Command,
     ) -> Result<Reply, Unanswered>
         ensures frame { KeepsService self.old self.new (OnOk result ⊥) }
-        ensures done { HasCleanDisk (state_in self.new) → IfOk result (λ reply. (g : Registry) (k : Kept)
-            → SpellsWhileOpen (state_in self.old) g k → k key.now ≡ None
-            → (reply ≡ (step g command.now).1) × SpellsWhileOpen (state_in self.new) (step g command.now).0
-            (kept_with k key.now (record { text = text.now; reply = reply }))) }
-        ensures own { IfOk result (λ reply. IsOwnReply reply) }
-        ensures err { HasCleanDisk (state_in self.new)
-            → OnErr result (SpellsOn (state_in self.old) (state_in self.new)) }
-        ensures crash { HasCleanDisk (state_in self.new) → (g : Registry) (k : Kept)
-            → SpellsWhileOpen (state_in self.old) g k → k key.now ≡ None
-            → (db : Trees) → (state_in self.new).may_leave db
-            → LeavesOne result (state_in self.old) db (step g command.now).0
-            (kept_with k key.now (record { text = text.now; reply = (step g command.now).1 })) }
+        ensures carries { HasCleanDisk (state_in self.new) → CarriesOut
+            (state_in self.old) (state_in self.new) command.now (Some (key.now, text.now)) result }
     {
         let Decision { changes, reply } = self.decision(command)?;
         let keep = Keep {
@@ -216,10 +197,8 @@ impl<S: Alter> Service<S> {
     fn decision(&mut self, command: &Command) -> Result<Decision, Unanswered>
         ensures frame { KeepsService self.old self.new (OnOk result ⊥) }
         ensures same { HasCleanDisk (state_in self.new) → SpellsOn (state_in self.old) (state_in self.new) }
-        ensures decided { HasCleanDisk (state_in self.new) → IfOk result (λ d. (g : Registry) (k : Kept)
-            → SpellsWhileOpen (state_in self.old) g k
-            → (d.reply ≡ (step g command.now).1) × (after_changes d.changes.items g ≡ (step g command.now).0)
-            × ChangesFit d.changes.items g) }
+        ensures decided { HasCleanDisk (state_in self.new) → IfOk result (λ d. (was : Stored)
+            → SpellsWhileOpen (state_in self.old) was → IsDecidedFor was command.now d) }
         ensures own { IfOk result (λ d. IsOwnReply d.reply) }
         ensures crash { HasCleanDisk (state_in self.new)
             → LeavesNoMore (state_in self.old) (state_in self.new) }

@@ -11,23 +11,23 @@ pub returns-in-Err-clause-served : goal.returns-in-Err-clause-served
 returns-in-Err-clause-served g c clean = refused_over _ _ c.args.delivery.now _ c.fault.ensures (c.in-Err.ensures.err clean)
 
 pub returns-in-Ok-clause-fault : goal.returns-in-Ok-clause-fault
-returns-in-Ok-clause-fault g c clean is was over = fault_over _ c.args.delivery.now c.in-Ok.reply was.registry was.replies is (c.in-Ok.ensures.served clean was.registry was.replies over)
+returns-in-Ok-clause-fault g c clean is was over = fault_over _ c.args.delivery.now c.in-Ok.reply was is (c.in-Ok.ensures.served clean was over)
 
 pub returns-in-Err-clause-fault : goal.returns-in-Err-clause-fault
 returns-in-Err-clause-fault g c clean is = c.in-Err.ensures.err clean
 
 pub returns-in-Ok-clause-settled : goal.returns-in-Ok-clause-settled
-returns-in-Ok-clause-settled g c registry k over db it = leaves_open (state_in c.try_answer.new.self) registry k db (g.met.S.Store.settled c.try_answer.new.self.store.db.idle.conn.store db) over it
+returns-in-Ok-clause-settled g c = leaves_open (state_in c.try_answer.new.self) (g.met.S.Store.settled c.try_answer.new.self.store.db.idle.conn.store)
 
 pub returns-in-Err-clause-settled : goal.returns-in-Err-clause-settled
-returns-in-Err-clause-settled g c registry k over db it = leaves_open (state_in c.try_answer.new.self) registry k db (g.met.S.Store.settled c.try_answer.new.self.store.db.idle.conn.store db) over it
+returns-in-Err-clause-settled g c = leaves_open (state_in c.try_answer.new.self) (g.met.S.Store.settled c.try_answer.new.self.store.db.idle.conn.store)
 
 pub returns-in-Ok-clause-admitted : goal.returns-in-Ok-clause-admitted
-returns-in-Ok-clause-admitted g c clean registry k over = all_admitted registry k over.spells.spelled.base.registry _
+returns-in-Ok-clause-admitted g c clean was over = all_admitted was over.spells.spelled.base.registry _
 
 pub returns-in-Err-clause-admitted : goal.returns-in-Err-clause-admitted
-returns-in-Err-clause-admitted g c clean registry k over = all_admitted registry k over.spells.spelled.base.registry _
+returns-in-Err-clause-admitted g c clean was over = all_admitted was over.spells.spelled.base.registry _
 
 pub returns-in-Err-clause-crash : goal.returns-in-Err-clause-crash
-returns-in-Err-clause-crash g c clean registry k over =
-    subst (λ (reply : Told). IsFoundAfter registry k ((c.args.delivery.now, reply) ∷ []) (state_in c.try_answer.new.self).may_leave) (sym c.fault.ensures) (c.in-Err.ensures.crash clean registry k over)
+returns-in-Err-clause-crash g c clean was over =
+    subst (λ (reply : Told). IsFoundAfter was ((c.args.delivery.now, reply) ∷ []) (state_in c.try_answer.new.self).may_leave) (sym c.fault.ensures) (c.in-Err.ensures.crash clean was over)

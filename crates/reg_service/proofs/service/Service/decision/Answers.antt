@@ -5,22 +5,23 @@ use Rattle.avro_nodes.specs.Identity.{identity}
 use Rattle.reg_core.specs.Machine.{schema_sent}
 use Rattle.reg_core.specs.Views.{IsGround, schema_taken}
 use Rattle.reg_core.proofs.ViewLemmas.{taken-sent}
-use Rattle.reg_service.proofs.StoreCalls.{stored}
+use Rattle.reg_store.proofs.EvidenceOwners.{is_of_versions}
+use Rattle.reg_service.proofs.StoreCalls.{decided_for}
 use Rattle.reg_service.proofs.OpenConnections.{keeps_reading}
 use Rattle.reg_service.proofs.service.Service.decision.Goals as goal
 
 pub returns-clause-decided : goal.returns-clause-decided
-returns-clause-decided g c clean registry k over =
+returns-clause-decided g c clean was over =
     let command = c.args.command.now in
     let text : option_copied c.as_deref.result ≡ option_map identity (schema_sent command) = search rules in
     let sent : option_map nodes_view (option_copied c.as_ref-2.result) ≡ schema_sent command = search rules in
-    let ground : IsGround registry command (schema_taken command (option_map nodes_view (option_copied c.as_ref-2.result))) c.in_ok-view.view = record {
-      registry = (over (c.in_ok-view.ensures.frame.was_open clean)).spells.spelled.base.registry;
+    let spells = (over (c.in_ok-view.ensures.frame.was_open clean)).spells in
+    let ground : IsGround was.registry command (schema_taken command (option_map nodes_view (option_copied c.as_ref-2.result))) c.in_ok-view.view = record {
+      registry = spells.spelled.base.registry;
       sent = ap (schema_taken command) sent ∙ taken-sent command;
-      shows = (c.in_ok-view.ensures.tells clean).answers (stored registry k) over text;
+      shows = (c.in_ok-view.ensures.tells clean).answers was over text;
     } in
-    let decides = c.in_ok-decide_with.ensures in
-    (decides.reply registry ground, decides.changes registry ground, decides.fit registry ground)
+    decided_for was command _ c.in_ok-view.view c.in_ok-decide_with.field-0 c.in_ok-decide_with.ensures ground (is_of_versions _ was spells)
 
 pub returns-in_err-view-clause-frame : goal.returns-in_err-view-clause-frame
 returns-in_err-view-clause-frame g c =

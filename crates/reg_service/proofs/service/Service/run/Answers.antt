@@ -23,7 +23,7 @@ loop-delivery-init g c =
       room = new.capacity;
       frame = subst (λ items. KeepsService c.args.self.now c.args.self.now (AreUnanswered items)) (sym new.items) (keeps_still c.args.self.now (AreUnanswered []) (All-nil (λ reply. reply ≡ fault BackendFault)));
       served = λ h. none_over _;
-      crash = λ h registry k over. found_none registry k (state_in c.args.self.now).may_leave (λ db it. leaves_open (state_in c.args.self.now) registry k db (g.met.S.Store.settled c.args.self.now.store.db.idle.conn.store db) over it);
+      crash = λ h was over. found_none was (state_in c.args.self.now).may_leave (leaves_open (state_in c.args.self.now) (g.met.S.Store.settled c.args.self.now.store.db.idle.conn.store) was over);
     }
 
 pub loop-delivery-preserved : goal.loop-delivery-preserved
@@ -38,33 +38,33 @@ loop-delivery-preserved g c =
       frame = keeps_next c.args.self.now c.loop-delivery.self c.answer-reply.new.self c.loop-delivery.replies.items c.push_reserved.new.self.items c.answer-reply.result more.items i.frame one.frame;
       served = λ h. next_over _ _ _ c.args.list.now c.loop-delivery.delivery-index c.delivery-item.result c.loop-delivery.replies.items c.push_reserved.new.self.items c.answer-reply.result
           c.loop-delivery-test.true c.delivery-item.is i.count more.items (i.served (one.frame.clean h)) (one.served h);
-      crash = λ h registry k over. found_next (state_in c.args.self.now) (state_in c.loop-delivery.self) (state_in c.answer-reply.new.self) c.args.list.now c.loop-delivery.delivery-index c.delivery-item.result c.loop-delivery.replies.items c.push_reserved.new.self.items c.answer-reply.result
-          c.loop-delivery-test.true c.delivery-item.is i.count more.items registry k over (i.served (one.frame.clean h)) (i.crash (one.frame.clean h) registry k over) (one.crash h) (one.frame.shut h);
+      crash = λ h was over. found_next (state_in c.args.self.now) (state_in c.loop-delivery.self) (state_in c.answer-reply.new.self) c.args.list.now c.loop-delivery.delivery-index c.delivery-item.result c.loop-delivery.replies.items c.push_reserved.new.self.items c.answer-reply.result
+          c.loop-delivery-test.true c.delivery-item.is i.count more.items was over (i.served (one.frame.clean h)) (i.crash (one.frame.clean h) was over) (one.crash h) (one.frame.shut h);
     }
 
 pub returns-clause-served : goal.returns-clause-served
-returns-clause-served g c clean registry k over =
+returns-clause-served g c clean was over =
     let all : take c.loop-delivery.delivery-index c.args.list.now ≡ c.args.list.now = take_all c.loop-delivery.delivery-index c.args.list.now c.loop-delivery-test.false in
-    rw all at (c.loop-delivery.invariant.served clean registry k over)
+    rw all at (c.loop-delivery.invariant.served clean was over)
 
 pub returns-clause-repeats : goal.returns-clause-repeats
-returns-clause-repeats g c clean registry k over =
-    repeats_agree _ _ (served (zip c.args.list.now c.loop-delivery.replies.items)) (returns-clause-served g c clean registry k over).serves.replies
+returns-clause-repeats g c clean was over =
+    repeats_agree _ (served (zip c.args.list.now c.loop-delivery.replies.items)) (returns-clause-served g c clean was over).serves.replies
 
 pub returns-clause-only : goal.returns-clause-only
-returns-clause-only g c clean registry k over =
-    no_other_answers _ _ (served (zip c.args.list.now c.loop-delivery.replies.items)) (returns-clause-served g c clean registry k over).serves.replies
+returns-clause-only g c clean was over =
+    no_other_answers _ (served (zip c.args.list.now c.loop-delivery.replies.items)) (returns-clause-served g c clean was over).serves.replies
 
 pub returns-clause-crash : goal.returns-clause-crash
-returns-clause-crash g c clean registry k over =
+returns-clause-crash g c clean was over =
     let all : take c.loop-delivery.delivery-index c.args.list.now ≡ c.args.list.now = take_all c.loop-delivery.delivery-index c.args.list.now c.loop-delivery-test.false in
-    subst (λ (list : List Delivery). IsFoundAfter registry k (zip list c.loop-delivery.replies.items) (state_in c.loop-delivery.self).may_leave) all (c.loop-delivery.invariant.crash clean registry k over)
+    subst (λ (list : List Delivery). IsFoundAfter was (zip list c.loop-delivery.replies.items) (state_in c.loop-delivery.self).may_leave) all (c.loop-delivery.invariant.crash clean was over)
 
 pub returns-in_err-replies-clause-settled : goal.returns-in_err-replies-clause-settled
-returns-in_err-replies-clause-settled g c registry k over db it = leaves_open (state_in c.args.self.now) registry k db (g.met.S.Store.settled c.args.self.now.store.db.idle.conn.store db) over it
+returns-in_err-replies-clause-settled g c = leaves_open (state_in c.args.self.now) (g.met.S.Store.settled c.args.self.now.store.db.idle.conn.store)
 
 pub returns-clause-settled : goal.returns-clause-settled
-returns-clause-settled g c registry k over db it = leaves_open (state_in c.loop-delivery.self) registry k db (g.met.S.Store.settled c.loop-delivery.self.store.db.idle.conn.store db) over it
+returns-clause-settled g c = leaves_open (state_in c.loop-delivery.self) (g.met.S.Store.settled c.loop-delivery.self.store.db.idle.conn.store)
 
 pub returns-clause-admitted : goal.returns-clause-admitted
-returns-clause-admitted g c clean registry k over = all_admitted registry k over.spells.spelled.base.registry _
+returns-clause-admitted g c clean was over = all_admitted was over.spells.spelled.base.registry _
