@@ -1,4 +1,5 @@
 mod Layouts
 mod Told
 mod Spelled
+mod NoEvidence
 mod Moves

@@ -1,25 +1,38 @@
 -- A move over tables that were tested.
-use Rattle.std.proofs.Common.{◌≡◌, ◌⊎◌, ◌∙◌, ℕ, None, Ok, Err, Result, inl, inr, sym, ap, subst, IsTrue}
+use Rattle.std.proofs.Common.{◌≡◌, ◌⊎◌, ◌∙◌, ◌≤◌, ℕ, None, Ok, Err, Result, inl, inr, sym, ap, subst, arith, IsTrue}
 use Rattle.std.specs.Prelude.{IfOk, OnOk}
+use Rattle.sqlite_disk.specs.Disk.{MoreFaults}
 use Rattle.sqlite.specs.Tree.{Trees}
 use Rattle.sqlite.specs.Effect.{Database}
 use Rattle.sqlite.specs.Held.{Held, state}
 use Rattle.sqlite.specs.State.{State}
 use Rattle.sqlite_trees.specs.declared.store.Store.{Ghosts}
-use Rattle.reg_core.specs.Registry.{Registry}
-use Rattle.reg_core.specs.KeptReplies.{Kept}
 use Rattle.reg_tables.specs.Reads.{OnlyReads}
 use Rattle.reg_tables.proofs.Transactions.{keeps_then}
 use Rattle.reg_store.specs.Opening.{FindsFirst}
-use Rattle.reg_store.specs.Spells.{SpellsFirst, SpellsWhileOpen, LeavesFirst, Leaves}
-use Rattle.reg_migrate.specs.Migrations.{LeavesMoved, LosesNothing, Moves, SpellsSome}
+use Rattle.reg_store.specs.Spells.{SpellsFirst}
+use Rattle.reg_store.specs.Stores.{LeavesNoMore}
+use Rattle.reg_migrate.specs.Migrations.{LeavesMoved, LosesNothing, Moves}
 use Rattle.reg_migrate.specs.Inside.{CanMove, HasFirst, HoldsMoved, IsMovedOver, TakesMoved}
 use Rattle.reg_migrate.proofs.Layouts.{taken_if_held}
+use Rattle.reg_migrate.proofs.NoEvidence.{no_evidence_left}
 use Rattle.reg_migrate.proofs.Spelled.{leaves_moved, spells_moved}
 
 -- the test sets no limit on steps, and nothing is said of that here
 pub unlimited_reads : {S : Type 0} (g : Ghosts S) (conn : Held S) (mid : State) → OnlyReads (state g (record conn { step_limit = None })) mid → OnlyReads (state g conn) mid
 unlimited_reads g conn mid reads = record { commit_stays = record { was_open = reads.commit_stays.was_open; committed = reads.commit_stays.committed }; settled = reads.settled }
+
+-- where nothing was committed, a crash leaves nothing new
+pub no_more : (old new : State) → ((db : Trees) → new.may_leave db → old.may_leave db ⊎ ⊥) → LeavesNoMore old new
+no_more old new crash db it = elim (crash db it) as (λ _. old.may_leave db) [ inl was ↦ was | inr none ↦ absurd none ]
+
+-- a fault alone shuts a connection in two calls
+pub closes_both : (old mid new : State) → old.faults ≤ mid.faults → mid.faults ≤ new.faults → (IsTrue old.is_open → IsTrue mid.is_open ⊎ MoreFaults old.faults mid.faults)
+    → (IsTrue mid.is_open → IsTrue new.is_open ⊎ MoreFaults mid.faults new.faults) → IsTrue old.is_open → IsTrue new.is_open ⊎ MoreFaults old.faults new.faults
+closes_both old mid new up later first second is_open = elim (first is_open) [
+  | inl mid_open ↦ elim (second mid_open) [ inl still ↦ inl still | inr more ↦ inr (omega (arith, up, more)) ]
+  | inr more ↦ inr (omega (arith, more, later))
+]
 
 -- a report has the number that was counted
 pub reported : {X E : Type 0} (P : ℕ → Type 0) (number : X → ℕ) (count : ℕ) (r : Result X E) → IfOk r (λ x. number x ≡ count) → OnOk r (P count) → IfOk r (λ x. P (number x))
@@ -43,35 +56,33 @@ module _ (old mid : State) (reads : OnlyReads old mid) (settled : IsTrue old.is_
 
   -- what is left of the tables that were tested
   pub takes_on : (db : Trees) → IsTrue mid.is_open → TakesMoved mid.now db → LeavesMoved old.now db
-  takes_on db is_open takes g k spelled = leaves_moved old.now db g k (subst (λ (d : Database). TakesMoved d db) (same_now is_open) takes) spelled
+  takes_on db is_open takes was spelled = leaves_moved old.now db was (subst (λ (d : Database). TakesMoved d db) (same_now is_open) takes) spelled
 
   module _ (new : State) (count : ℕ) (found : FindsFirst old.now count) (over : IsMovedOver mid new) where
+    held : HoldsMoved old.now new.now
+    held = subst (λ (d : Database). HoldsMoved d new.now) (same_now over.was_open) over.holds
+
     -- the registry that the tables spelled
     pub moves : Moves old new count
     moves = record {
-      found = record { registry = found.registry; kept = found.kept; spelled = found.spells };
+      found = record { stored = found.stored; spelled = found.spells };
       counted = found.counted;
-      spells = λ g k spelled is_open. record {
-        is_open = over.is_open;
-        settled = over.settled;
-        spells = spells_moved old.now new.now g k (subst (λ (d : Database). HoldsMoved d new.now) (same_now over.was_open) over.holds) spelled;
-      };
+      spells = λ was spelled is_open. record { is_open = over.is_open; settled = over.settled; spells = spells_moved old.now new.now was held spelled };
+      evidence = no_evidence_left old.now new.now found.stored found.spells held;
     }
 
     -- a crash leaves it in layout 2 alone
     pub crashes_moved : ((db : Trees) → IsTrue new.is_open → new.may_leave db → db ≡ new.committed.trees) → (db : Trees) → new.may_leave db → LeavesMoved old.now db
-    crashes_moved only db it =
-        let held = subst (λ (d : Database). HoldsMoved d new.now) (same_now over.was_open) over.holds in
-        λ g k spelled. leaves_moved old.now db g k (taken_if_held old.now new.now db (only db over.is_open it ∙ ap (λ (d : Database). d.trees) over.settled) held) spelled
+    crashes_moved only db it was spelled = leaves_moved old.now db was (taken_if_held old.now new.now db (only db over.is_open it ∙ ap (λ (d : Database). d.trees) over.settled) held) spelled
 
 -- whatever a crash leaves, nothing is lost
 pub loses_nothing : (old new : State) → (IsTrue old.is_open → old.now ≡ old.committed) → ((db : Trees) → IsTrue old.is_open → old.may_leave db → db ≡ old.committed.trees)
     → ((db : Trees) → new.may_leave db → old.may_leave db ⊎ LeavesMoved old.now db) → LosesNothing old new
-loses_nothing old new settled only crash is_open g k spelled db it = elim (crash db it) [
-  | inl was ↦ inl (record {
+loses_nothing old new settled only crash is_open was spelled db it = elim (crash db it) [
+  | inl before ↦ inl (record {
     schema = spelled.schema;
-    spells = subst (λ t. SpellsFirst (record { schema = spelled.schema; trees = t }) g k) (sym (only db is_open was ∙ sym (ap (λ (d : Database). d.trees) (settled is_open))))
-        (subst (λ x. SpellsFirst (record { schema = x; trees = old.now.trees }) g k) spelled.holds.declared spelled);
+    spells = subst (λ t. SpellsFirst (record { schema = spelled.schema; trees = t }) was) (sym (only db is_open before ∙ sym (ap (λ (d : Database). d.trees) (settled is_open))))
+        (subst (λ x. SpellsFirst (record { schema = x; trees = old.now.trees }) was) spelled.holds.declared spelled);
   })
-  | inr made ↦ inr (made g k spelled)
+  | inr made ↦ inr (made was spelled)
 ]

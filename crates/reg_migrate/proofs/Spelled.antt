@@ -1,22 +1,18 @@
 -- What layout 1 spells, in layout 2.
-use Rattle.std.proofs.Common.{◌≡◌, ◌≢◌, ◌∙◌, ◌<◌, ◌≤◌, ℕ, List, [], sym, ap, refl, subst, Some, None, option_map, is_some, lit<, arith, inl, inr, IsTrue, codes}
-use Rattle.std.specs.FinMap.{FinMap, get, insert, empty, get-empty, get-insert, same_map}
-use Rattle.std.proofs.lemmas.Bool.{both_ways}
+use Rattle.std.proofs.Common.{◌≡◌, ◌≢◌, ◌∙◌, ℕ, List, sym, ap, refl, subst, option_map, inl, inr, codes}
+use Rattle.std.specs.FinMap.{get, insert, empty, get-empty, get-insert, same_map}
 use Rattle.sqlite.specs.Tree.{Trees}
 use Rattle.sqlite.specs.Effect.{Database}
-use Rattle.reg_core.specs.declared.mode.Mode.{Mode}
-use Rattle.reg_core.specs.declared.mode.Mode.TheVariants.{Readwrite}
 use Rattle.reg_core.specs.Levels.{level_text}
 use Rattle.reg_core.specs.Modes.{mode_text}
-use Rattle.reg_core.specs.Registry.{Registry}
-use Rattle.reg_core.specs.KeptReplies.{Kept}
-use Rattle.reg_tables.specs.Contents.{text_cmp, version_cmp, TextMap, Contents}
+use Rattle.reg_core.specs.Stored.{Stored}
+use Rattle.reg_tables.specs.Contents.{text_cmp, TextMap, Contents}
 use Rattle.reg_tables.specs.SecondLayout.{second}
-use Rattle.reg_tables.specs.SecondContents.{place_cmp, with_no_more}
 use Rattle.reg_tables.specs.Changes.{meta_as, numbered_meta, numbered_second}
 use Rattle.reg_tables.proofs.MapLemmas.{get-insert-same, get-insert-other, same_or_not}
 use Rattle.reg_tables.proofs.KeyedTables.{text_order}
-use Rattle.reg_store.specs.Spells.{IsSpelled, IsSpelledFirst, IsSpelledSecond, IsEvidence, Leaves, Spells, SpellsFirst, second_meta}
+use Rattle.reg_store.specs.Spells.{IsSpelledEvidence, IsSpelledFirst, IsSpelledSecond, Leaves, Spells, SpellsFirst, second_meta}
+use Rattle.reg_store.proofs.Evidence.{no_evidence}
 use Rattle.reg_migrate.specs.Inside.{HoldsMoved, TakesMoved, moved}
 
 -- the layout's number alone is another one
@@ -44,21 +40,9 @@ module _ (level : List ℕ) where
         ]
   ])
 
--- no version has evidence
-no_evidence : (contents : Contents) → IsEvidence (with_no_more contents)
-no_evidence contents = record {
-  levels = λ key level there. absurd (let none = sym (get-empty version_cmp key) ∙ there in cc);
-  owners = λ place id there. absurd (let none = sym (get-empty place_cmp place) ∙ there in cc);
-  places = λ key. record {
-    count = 0;
-    few = lit< tt;
-    each = λ position. (λ some. absurd (both_ways _ (ap is_some (get-empty place_cmp (key, position))) some), λ within. absurd (omega (arith, within.0, within.1)));
-  };
-}
-
 -- what layout 1 spells, its contents spell in layout 2
-pub moved_spelled : (contents : Contents) (g : Registry) (k : Kept) → IsSpelledFirst contents g k → IsSpelledSecond (moved contents) g k
-moved_spelled contents g k s = record {
+pub moved_spelled : (contents : Contents) (was : Stored) → IsSpelledFirst contents was → IsSpelledSecond (moved contents) was
+moved_spelled contents was s = record {
   base = record {
     registry = s.base.registry;
     texts = s.base.texts;
@@ -71,23 +55,23 @@ moved_spelled contents g k s = record {
     keys = s.base.keys;
   };
   meta = ap (λ (m : TextMap (List ℕ)). insert (insert m (codes "layout") (codes "2")) (codes "mode") (codes "READWRITE")) s.meta
-      ∙ ap (λ (m : TextMap (List ℕ)). insert m (codes "mode") (codes "READWRITE")) (renumbered (level_text g.global))
-      ∙ ap (λ mode. second_meta (level_text g.global) (mode_text mode)) (sym s.modes.global);
+      ∙ ap (λ (m : TextMap (List ℕ)). insert m (codes "mode") (codes "READWRITE")) (renumbered (level_text was.registry.global))
+      ∙ ap (λ mode. second_meta (level_text was.registry.global) (mode_text mode)) (sym s.modes.global);
   modes = λ subject. get-empty text_cmp subject ∙ sym (ap (option_map mode_text) (s.modes.own subject));
   owners = λ subject mode there. absurd (let none = sym (s.modes.own subject) ∙ there in cc);
-  evidence = no_evidence (numbered_second contents);
+  evidence = subst (IsSpelledEvidence (moved contents)) (sym s.evidence) (no_evidence (numbered_second contents));
 }
 
 -- a database to which the tables were moved spells what they spelled
-pub spells_moved : (before now : Database) (g : Registry) (k : Kept) → HoldsMoved before now → SpellsFirst before g k → Spells now g k
-spells_moved before now g k moves s = record {
+pub spells_moved : (before now : Database) (was : Stored) → HoldsMoved before now → SpellsFirst before was → Spells now was
+spells_moved before now was moves s = record {
   schema = second;
   known = inl refl;
   contents = moved s.contents;
   holds = moves s.schema s.known s.contents s.holds;
-  spelled = moved_spelled s.contents g k s.spelled;
+  spelled = moved_spelled s.contents was s.spelled;
 }
 
 -- so do trees that a crash leaves
-pub leaves_moved : (before : Database) (db : Trees) (g : Registry) (k : Kept) → TakesMoved before db → SpellsFirst before g k → Leaves db g k
-leaves_moved before db g k takes s = record { schema = second; spells = spells_moved before (record { schema = second; trees = db }) g k takes s }
+pub leaves_moved : (before : Database) (db : Trees) (was : Stored) → TakesMoved before db → SpellsFirst before was → Leaves db was
+leaves_moved before db was takes s = record { schema = second; spells = spells_moved before (record { schema = second; trees = db }) was takes s }

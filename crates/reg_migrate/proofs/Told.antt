@@ -1,12 +1,11 @@
 -- What the store answers, as it is told.
-use Rattle.std.proofs.Common.{◌≡◌, ◌⊎◌, ◌<◌, ◌≤◌, ◌∙◌, ℕ, Bool, true, false, ◌==◌, inl, inr, refl, sym, ap, subst, arith, IsTrue}
-use Rattle.std.specs.Prelude.{if◌then◌else◌, nat_lt}
+use Rattle.std.proofs.Common.{◌≡◌, ◌≤◌, ◌∙◌, ℕ, Bool, true, false, ◌==◌, inl, inr, refl, sym, ap, subst, arith, IsTrue}
+use Rattle.std.specs.Prelude.{if◌then◌else◌}
 use Rattle.std.proofs.lemmas.Bool.{both_ways, cases_lt, eqb-true, le-ltb}
 use Rattle.sqlite_disk.specs.Disk.{MoreFaults}
-use Rattle.reg_core.specs.Registry.{new_registry}
-use Rattle.reg_core.specs.KeptReplies.{nothing_kept}
+use Rattle.reg_core.specs.Stored.{new_stored}
 use Rattle.sqlite.specs.Effect.{Database}
-use Rattle.sqlite.specs.State.{State, HasCleanDisk, Survives}
+use Rattle.sqlite.specs.State.{State}
 use Rattle.reg_store.specs.declared.error.StoreError.{StoreError}
 use Rattle.reg_store.specs.declared.error.StoreError.TheVariants as store
 use Rattle.reg_store.specs.Failures as failures
@@ -17,7 +16,7 @@ use Rattle.reg_store.specs.Stores.{LeavesNoMore}
 use Rattle.reg_migrate.specs.declared.error.MigrateError.{MigrateError}
 use Rattle.reg_migrate.specs.declared.error.MigrateError.TheVariants.{Memory, Disk, NotARegistry, AlreadyNew, NewerLayout}
 use Rattle.reg_migrate.specs.Errors.{told_as, is_fault, IsRefusedBy, IsToldAs, TellsNewer, LeavesBefore}
-use Rattle.reg_migrate.specs.Migrations.{IsFaultOver}
+use Rattle.reg_migrate.specs.Migrations.{IsFaultOver, IsReasonOver}
 use Rattle.reg_store.proofs.Failing.{fault_if_by}
 
 -- what tells a newer layout is one of two
@@ -62,12 +61,16 @@ told_newer s e tells number is_open up holds names = elim (tells number is_open 
 ]
 
 -- a fault is no refusal
-pub refused_if_fault : (db : Database) (e : MigrateError) → IsTrue (is_fault e) → IsRefusedBy db e
+refused_if_fault : (db : Database) (e : MigrateError) → IsTrue (is_fault e) → IsRefusedBy db e
 refused_if_fault db Memory h = tt
 refused_if_fault db Disk h = tt
 refused_if_fault db NotARegistry h = tt
 refused_if_fault db AlreadyNew h = absurd (cc)
 refused_if_fault db (NewerLayout number) h = absurd (cc)
+
+-- it may come over any tables
+pub reason_if_fault : (old : State) (e : MigrateError) → IsTrue (is_fault e) → IsReasonOver old e
+reason_if_fault old e is = record { fault = λ spells. is; refused = refused_if_fault old.now e is; newer = λ number is_open up holds names. inr is }
 
 -- where a crash leaves no more than before, no error says otherwise
 pub leaves_before : (old new : State) (e : MigrateError) → LeavesNoMore old new → LeavesBefore old new e
@@ -99,5 +102,5 @@ pub fault_over : (old new : State) (e : StoreError) → IsFaultFirst old new e �
 fault_over old new e fault spells = told_fault e (fault_if_by old new e (go old.is_open refl))
   where
     go : (b : Bool) → old.is_open ≡ b → failures.IsFaultBy old new e
-    go true is = let it = spells is in fault it.registry it.kept (λ _. it.spelled)
-    go false shut = fault new_registry nothing_kept (λ is_open. absurd (both_ways _ shut is_open))
+    go true is = let it = spells is in fault it.stored (λ _. it.spelled)
+    go false shut = fault new_stored (λ is_open. absurd (both_ways _ shut is_open))

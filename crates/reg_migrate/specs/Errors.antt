@@ -1,14 +1,14 @@
 -- Why a registry isn't moved.
-use Rattle.std.specs.Prelude.{◌≡◌, ◌⊎◌, ◌<◌, ◌==◌, ℕ, Bool, true, false, IsTrue, if◌then◌else◌}
+use Rattle.std.specs.Prelude.{◌≡◌, ◌⊎◌, ◌<◌, ◌==◌, ℕ, Bool, true, false, IsTrue, Result, IfErr, OnErr, if◌then◌else◌}
 use Rattle.sqlite_disk.specs.Disk.{MoreFaults}
 use Rattle.sqlite.specs.Effect.{Database}
-use Rattle.sqlite.specs.State.{State}
+use Rattle.sqlite.specs.State.{State, HasCleanDisk}
 use Rattle.reg_tables.specs.Layout.{HasTablesFirst}
-use Rattle.reg_tables.specs.Reads.{HoldsMeta}
+use Rattle.reg_tables.specs.Reads.{HoldsMeta, OnlyReads}
 use Rattle.reg_store.specs.declared.error.StoreError.{StoreError}
 use Rattle.reg_store.specs.declared.error.StoreError.TheVariants as store
 use Rattle.reg_store.specs.Opening.{NamesLayout}
-use Rattle.reg_store.specs.Stores.{LeavesNoMore}
+use Rattle.reg_store.specs.Stores.{LeavesCommit, LeavesNoMore}
 use Rattle.reg_migrate.specs.declared.error.MigrateError.{MigrateError}
 use Rattle.reg_migrate.specs.declared.error.MigrateError.TheVariants.{Memory, Disk, NotARegistry, AlreadyNew, NewerLayout}
 
@@ -48,3 +48,11 @@ abbrev pub LeavesBefore : State → State → MigrateError → Type 0
 LeavesBefore old new Disk = Unit {0}
 LeavesBefore old new Memory = LeavesNoMore old new ⊎ MoreFaults old.faults new.faults
 LeavesBefore old new _ = LeavesNoMore old new
+
+-- what is left of a connection that is given back, whatever is answered: after an error nothing has changed, and one that isn't `Disk` leaves the database as
+-- it was, also after a crash; and a fault of the disk alone shuts it
+pub record LeavesConnection {T : Type 0} (old new : State) (result : Result T MigrateError) : Type 0 where
+  pub nothing : HasCleanDisk new → OnErr result (OnlyReads old new)
+  pub before : HasCleanDisk new → IfErr result (λ e. IsTrue old.is_open → LeavesBefore old new e)
+  pub closes : HasCleanDisk new → IsTrue old.is_open → IsTrue new.is_open ⊎ MoreFaults old.faults new.faults
+  pub settled : LeavesCommit new

@@ -1,15 +1,13 @@
 //! A registry of layout 1, moved to layout 2.
 
 ghost use Rattle.std.specs.Prelude.{◌≡◌, ◌⊎◌, IfErr, IfOk, OnErr, OnOk, IsTrue, None, false};
-ghost use Rattle.sqlite_disk.specs.Disk.{MoreFaults};
 ghost use Rattle.sqlite.specs.Tree.{Trees};
 ghost use Rattle.sqlite.specs.Held.{state};
 ghost use Rattle.sqlite.specs.State.{HasCleanDisk, Survives};
 ghost use Rattle.reg_tables.specs.Reads.{OnlyReads};
-ghost use Rattle.reg_store.specs.Stores.{LeavesCommit};
-ghost use Rattle.reg_migrate.specs.Errors.{IsRefusedBy, LeavesBefore, TellsNewer, is_fault};
+ghost use Rattle.reg_migrate.specs.Errors.{LeavesBefore, LeavesConnection, is_fault};
 ghost use Rattle.reg_migrate.specs.Inside.{CanMove, IsMovedOver, TakesMoved};
-ghost use Rattle.reg_migrate.specs.Migrations.{IsFaultOver, LeavesMoved, LosesNothing, Moves};
+ghost use Rattle.reg_migrate.specs.Migrations.{IsReasonOver, LeavesMoved, LosesNothing, Moves};
 
 use crate::error::MigrateError;
 use crate::moving::move_all;
@@ -72,22 +70,12 @@ pub fn migrate<S: Alter>(
     requires { connection.in_transaction ≡ false }
     ensures done { HasCleanDisk (state S.Store result.1) → IfOk result.0 (λ report.
         Moves (state S.Store connection) (state S.Store result.1) report.versions) }
-
-    // Over tables that spell a registry in layout 1 memory and the disk alone fail, and a newer layout is told.
-    ensures fault { HasCleanDisk (state S.Store result.1)
-        → IfErr result.0 (IsFaultOver (state S.Store connection)) }
-    ensures refused { HasCleanDisk (state S.Store result.1)
-        → IfErr result.0 (IsRefusedBy (state S.Store connection).now) }
-    ensures newer { HasCleanDisk (state S.Store result.1)
-        → IfErr result.0 (TellsNewer (state S.Store connection)) }
+    ensures reason { HasCleanDisk (state S.Store result.1)
+        → IfErr result.0 (IsReasonOver (state S.Store connection)) }
     ensures idle { result.1.in_transaction ≡ false }
-    ensures nothing { HasCleanDisk (state S.Store result.1)
-        → OnErr result.0 (OnlyReads (state S.Store connection) (state S.Store result.1)) }
+    ensures leaves { LeavesConnection (state S.Store connection) (state S.Store result.1) result.0 }
 
-    // An error that isn't `Disk` leaves the database as it was, also after a crash; whatever is answered, nothing is lost.
-    ensures before { HasCleanDisk (state S.Store result.1) → IfErr result.0 (λ e.
-        IsTrue (state S.Store connection).is_open
-        → LeavesBefore (state S.Store connection) (state S.Store result.1) e) }
+    // A crash leaves layout 2 after an `Ok`, and else that or what it left before; whatever is answered, nothing is lost.
     ensures crash_after { HasCleanDisk (state S.Store result.1) → OnOk result.0 ((db : Trees)
         → (state S.Store result.1).may_leave db → LeavesMoved (state S.Store connection).now db) }
     ensures crash { HasCleanDisk (state S.Store result.1) → (db : Trees)
@@ -95,10 +83,6 @@ pub fn migrate<S: Alter>(
         → (state S.Store connection).may_leave db ⊎ LeavesMoved (state S.Store connection).now db }
     ensures found { HasCleanDisk (state S.Store result.1)
         → LosesNothing (state S.Store connection) (state S.Store result.1) }
-    ensures closes { HasCleanDisk (state S.Store result.1)
-        → IsTrue (state S.Store connection).is_open → IsTrue (state S.Store result.1).is_open
-        ⊎ MoreFaults (state S.Store connection).faults (state S.Store result.1).faults }
-    ensures settled { LeavesCommit (state S.Store result.1) }
 {
     let _idle = connection.is_autocommit();
     let (counted, connection) = check_first(alloc, connection);

@@ -1,15 +1,15 @@
-use Rattle.std.proofs.Common.{◌≡◌, ◌⊎◌, inl, inr, sym, subst, arith, rules, IsTrue}
+use Rattle.std.proofs.Common.{◌⊎◌, inl, inr, refl, sym, subst, arith, rules, IsTrue}
 use Rattle.sqlite.specs.Tree.{Trees}
 use Rattle.sqlite.specs.Held.{state}
 use Rattle.sqlite.specs.State.{HasCleanDisk}
-use Rattle.reg_tables.specs.Reads.{OnlyReads}
 use Rattle.reg_tables.proofs.Transactions.{if_err, on_ok}
+use Rattle.reg_store.specs.UnopenedFaults.{IsUnread}
 use Rattle.reg_migrate.specs.declared.migrating.Report.{Report}
-use Rattle.reg_migrate.specs.Errors.{IsRefusedBy, TellsNewer}
-use Rattle.reg_migrate.specs.Migrations.{IsFaultOver, LeavesMoved, Moves}
+use Rattle.reg_migrate.specs.Migrations.{IsReasonOver, LeavesMoved, Moves}
+use Rattle.reg_store.proofs.Committing.{on_err_same}
 use Rattle.reg_store.proofs.Writing.{if_err_both}
-use Rattle.reg_migrate.proofs.Moves.{can_move, crashes_moved, loses_nothing, moves, reported, takes_on, unlimited_reads}
-use Rattle.reg_migrate.proofs.Told.{before_if_faulted, before_then, fault_over, leaves_before, refused_if_fault, told_newer, told_refused}
+use Rattle.reg_migrate.proofs.Moves.{can_move, closes_both, crashes_moved, loses_nothing, moves, no_more, reads_both, reported, takes_on, unlimited_reads}
+use Rattle.reg_migrate.proofs.Told.{before_if_faulted, before_then, fault_over, leaves_before, reason_if_fault, told_newer, told_refused}
 use Rattle.reg_migrate.proofs.migrating.migrate.Goals as goal
 
 pub returns-in-Ok-clause-done : goal.returns-in-Ok-clause-done
@@ -24,8 +24,8 @@ returns-in-Ok-clause-done g c clean =
     reported (Moves old new) (λ (report : Report). report.versions) c.in-Ok.versions c.move_connection.result.0 c.move_connection.ensures.counted
     (on_ok c.move_connection.result.0 (λ over. moves old mid reads (c.is_autocommit-idle.ensures.settled idle) new c.in-Ok.versions found over) (c.move_connection.ensures.done clean))
 
-pub returns-in-Ok-clause-fault : goal.returns-in-Ok-clause-fault
-returns-in-Ok-clause-fault g c clean =
+pub returns-in-Ok-clause-reason : goal.returns-in-Ok-clause-reason
+returns-in-Ok-clause-reason g c clean =
     let idle : IsTrue c.is_autocommit-idle.result = search rules in
     let old = state g.S.Store c.args.connection in
     let mid = state g.S.Store c.check_first-counted.result.1 in
@@ -33,46 +33,34 @@ returns-in-Ok-clause-fault g c clean =
     let reads = unlimited_reads g.S.Store c.args.connection mid (c.check_first-counted.ensures.frame.only_reads early) in
     let found = rw c.in-Ok.is at c.check_first-counted.ensures.found early in
     let can = can_move old mid reads (c.is_autocommit-idle.ensures.settled idle) c.in-Ok.versions found in
-    if_err c.move_connection.result.0 (λ e fails spells. fails can) (c.move_connection.ensures.fault clean)
+    if_err c.move_connection.result.0 (λ e fails. reason_if_fault old e (fails can)) (c.move_connection.ensures.fault clean)
 
-pub returns-in-Ok-clause-refused : goal.returns-in-Ok-clause-refused
-returns-in-Ok-clause-refused g c clean =
-    let idle : IsTrue c.is_autocommit-idle.result = search rules in
-    let old = state g.S.Store c.args.connection in
-    let mid = state g.S.Store c.check_first-counted.result.1 in
-    let early : HasCleanDisk mid = omega (arith, c.move_connection.ensures.survives.clean) in
-    let reads = unlimited_reads g.S.Store c.args.connection mid (c.check_first-counted.ensures.frame.only_reads early) in
-    let found = rw c.in-Ok.is at c.check_first-counted.ensures.found early in
-    let can = can_move old mid reads (c.is_autocommit-idle.ensures.settled idle) c.in-Ok.versions found in
-    if_err c.move_connection.result.0 (λ e fails. refused_if_fault old.now e (fails can)) (c.move_connection.ensures.fault clean)
-
-pub returns-in-Ok-clause-newer : goal.returns-in-Ok-clause-newer
-returns-in-Ok-clause-newer g c clean =
-    let idle : IsTrue c.is_autocommit-idle.result = search rules in
-    let old = state g.S.Store c.args.connection in
-    let mid = state g.S.Store c.check_first-counted.result.1 in
-    let early : HasCleanDisk mid = omega (arith, c.move_connection.ensures.survives.clean) in
-    let reads = unlimited_reads g.S.Store c.args.connection mid (c.check_first-counted.ensures.frame.only_reads early) in
-    let found = rw c.in-Ok.is at c.check_first-counted.ensures.found early in
-    let can = can_move old mid reads (c.is_autocommit-idle.ensures.settled idle) c.in-Ok.versions found in
-    if_err c.move_connection.result.0 (λ e fails number is_open up holds names. inr (fails can)) (c.move_connection.ensures.fault clean)
-
-pub returns-in-Ok-clause-before : goal.returns-in-Ok-clause-before
-returns-in-Ok-clause-before g c clean =
+pub returns-in-Ok-clause-leaves : goal.returns-in-Ok-clause-leaves
+returns-in-Ok-clause-leaves g c =
     let idle : IsTrue c.is_autocommit-idle.result = search rules in
     let old = state g.S.Store c.args.connection in
     let mid = state g.S.Store c.check_first-counted.result.1 in
     let new = state g.S.Store c.move_connection.result.1 in
-    let early : HasCleanDisk mid = omega (arith, c.move_connection.ensures.survives.clean) in
+    let moved = c.move_connection.ensures in
     let frame = c.check_first-counted.ensures.frame in
-    let reads = unlimited_reads g.S.Store c.args.connection mid (frame.only_reads early) in
-    let found = rw c.in-Ok.is at c.check_first-counted.ensures.found early in
-    let can = can_move old mid reads (c.is_autocommit-idle.ensures.settled idle) c.in-Ok.versions found in
-    let unchanged = λ (db : Trees) (it : mid.may_leave db). elim (frame.survives.crash early db it) as (λ _. old.may_leave db) [ inl was ↦ was | inr none ↦ absurd none ] in
-    if_err_both c.move_connection.result.0 (λ e later fails is_open. elim (frame.survives.closes early is_open) [
-      | inl mid_open ↦ before_then old mid new e unchanged frame.survives.counts (later mid_open)
-      | inr more ↦ before_if_faulted old mid new e more c.move_connection.ensures.survives.counts (fails can)
-    ]) (c.move_connection.ensures.before clean) (c.move_connection.ensures.fault clean)
+    record {
+      nothing = λ clean.
+          let early : HasCleanDisk mid = omega (arith, moved.survives.clean) in
+          let reads = unlimited_reads g.S.Store c.args.connection mid (frame.only_reads early) in
+          on_err_same c.move_connection.result.0 c.move_connection.result.0 refl (reads_both old mid reads (c.is_autocommit-idle.ensures.settled idle) new) (moved.nothing clean);
+      before = λ clean.
+          let early : HasCleanDisk mid = omega (arith, moved.survives.clean) in
+          let reads = unlimited_reads g.S.Store c.args.connection mid (frame.only_reads early) in
+          let can = can_move old mid reads (c.is_autocommit-idle.ensures.settled idle) c.in-Ok.versions (rw c.in-Ok.is at c.check_first-counted.ensures.found early) in
+          if_err_both c.move_connection.result.0 (λ e later fails is_open. elim (frame.survives.closes early is_open) [
+            | inl mid_open ↦ before_then old mid new e (no_more old mid (frame.survives.crash early)) frame.survives.counts (later mid_open)
+            | inr more ↦ before_if_faulted old mid new e more moved.survives.counts (fails can)
+          ]) (moved.before clean) (moved.fault clean);
+      closes = λ clean.
+          let early : HasCleanDisk mid = omega (arith, moved.survives.clean) in
+          closes_both old mid new frame.survives.counts moved.survives.counts (frame.survives.closes early) (moved.survives.closes clean);
+      settled = λ is_open db it. g.met.S.Store.settled c.move_connection.result.1.store db is_open it;
+    }
 
 pub returns-in-Ok-clause-crash_after : goal.returns-in-Ok-clause-crash_after
 returns-in-Ok-clause-crash_after g c clean =
@@ -105,20 +93,28 @@ returns-in-Ok-clause-found g c clean =
     loses_nothing (state g.S.Store c.args.connection) (state g.S.Store c.move_connection.result.1) (c.is_autocommit-idle.ensures.settled idle)
     (λ db is_open it. g.met.S.Store.settled c.args.connection.store db is_open it) (returns-in-Ok-clause-crash g c clean)
 
-pub returns-in-Err-clause-fault : goal.returns-in-Err-clause-fault
-returns-in-Err-clause-fault g c clean =
+pub returns-in-Err-clause-reason : goal.returns-in-Err-clause-reason
+returns-in-Err-clause-reason g c clean =
     let old = state g.S.Store c.args.connection in
-    subst (IsFaultOver old) (sym c.from.ensures) (fault_over old (state g.S.Store c.check_first-counted.result.1) c.in-Err.error (rw c.in-Err.is at c.check_first-counted.ensures.fault clean))
+    let new = state g.S.Store c.check_first-counted.result.1 in
+    let unread : IsUnread old new c.in-Err.error = rw c.in-Err.is at c.check_first-counted.ensures.fails clean in
+    subst (IsReasonOver old) (sym c.from.ensures) (record {
+      fault = fault_over old new c.in-Err.error unread.fault;
+      refused = told_refused old.now c.in-Err.error unread.refused;
+      newer = told_newer old c.in-Err.error unread.other;
+    })
 
-pub returns-in-Err-clause-refused : goal.returns-in-Err-clause-refused
-returns-in-Err-clause-refused g c clean =
+pub returns-in-Err-clause-leaves : goal.returns-in-Err-clause-leaves
+returns-in-Err-clause-leaves g c =
     let old = state g.S.Store c.args.connection in
-    subst (IsRefusedBy old.now) (sym c.from.ensures) (told_refused old.now c.in-Err.error (rw c.in-Err.is at c.check_first-counted.ensures.refused clean))
-
-pub returns-in-Err-clause-newer : goal.returns-in-Err-clause-newer
-returns-in-Err-clause-newer g c clean =
-    let old = state g.S.Store c.args.connection in
-    subst (TellsNewer old) (sym c.from.ensures) (told_newer old c.in-Err.error (rw c.in-Err.is at c.check_first-counted.ensures.other clean))
+    let new = state g.S.Store c.check_first-counted.result.1 in
+    let frame = c.check_first-counted.ensures.frame in
+    record {
+      nothing = λ clean. unlimited_reads g.S.Store c.args.connection new (frame.only_reads clean);
+      before = λ clean is_open. leaves_before old new c.from.result (no_more old new (frame.survives.crash clean));
+      closes = λ clean is_open. frame.survives.closes clean is_open;
+      settled = λ is_open db it. g.met.S.Store.settled c.check_first-counted.result.1.store db is_open it;
+    }
 
 pub returns-in-Err-clause-found : goal.returns-in-Err-clause-found
 returns-in-Err-clause-found g c clean =
@@ -128,9 +124,3 @@ returns-in-Err-clause-found g c clean =
     elim (c.check_first-counted.ensures.frame.survives.crash clean db it) as (λ _. old.may_leave db ⊎ LeavesMoved old.now db) [ inl was ↦ inl was | inr none ↦ absurd none ] in
     loses_nothing old (state g.S.Store c.check_first-counted.result.1) (c.is_autocommit-idle.ensures.settled idle)
     (λ db is_open it. g.met.S.Store.settled c.args.connection.store db is_open it) crash
-
-pub returns-in-Err-clause-before : goal.returns-in-Err-clause-before
-returns-in-Err-clause-before g c clean is_open =
-    let old = state g.S.Store c.args.connection in
-    leaves_before old (state g.S.Store c.check_first-counted.result.1) c.from.result
-    (λ db it. elim (c.check_first-counted.ensures.frame.survives.crash clean db it) as (λ _. old.may_leave db) [ inl was ↦ was | inr none ↦ absurd none ])
