@@ -3,8 +3,7 @@ use Rattle.std.proofs.Common.{◌≡◌, ◌⊎◌, ◌<◌, ℕ, List, [], ◌�
 use Rattle.std.specs.Prelude.{Option}
 use Rattle.std.specs.Io.KnownBytes.{Consumes, IsAtEnd}
 use Rattle.std.proofs.KnownBytes.{Consumes-nil}
-use Rattle.reg_core.specs.Registry.{Registry}
-use Rattle.reg_core.specs.KeptReplies.{Kept}
+use Rattle.reg_core.specs.Stored.{Stored}
 use Rattle.reg_messages.specs.Messages.{Follows, Part}
 use Rattle.reg_messages.specs.MessageLooks.{IsPartUpTo}
 use Rattle.reg_http.specs.declared.serving.Ended.{Ended}
@@ -53,9 +52,9 @@ Waits-more bytes more needs w short = record {
       subst (λ (b : List ℕ). (b ≡ []) ⊎ Follows b Part) (sym e) (w.part (more ++ others) (omega (arith, few, ap length e)));
 }
 
-module _ (r r' w w' : Option (List ℕ)) (g g' : Registry) (k k' : Kept) (input rest : List ℕ) (reads : Consumes r r' input) (s : Served w w' g k g' k' input rest) where
+module _ (r r' w w' : Option (List ℕ)) (was now : Stored) (input rest : List ℕ) (reads : Consumes r r' input) (s : Served w w' was now input rest) where
   -- a session so far
-  so_far : (ended : Ended) → EndsAs r' s.answered rest (answers s.answered) ended → Session r r' w w' g k g' k' ended
+  so_far : (ended : Ended) → EndsAs r' s.answered rest (answers s.answered) ended → Session r r' w w' was now ended
   so_far ended e = record {
     input = input;
     reads = reads;
@@ -70,34 +69,34 @@ module _ (r r' w w' : Option (List ℕ)) (g g' : Registry) (k k' : Kept) (input 
   whole = sym (append-nil (answers s.answered))
 
   -- the input ended
-  pub Session-ended : (needs : ℕ) → Waits rest needs → IsAtEnd r' → Session r r' w w' g k g' k' (end_of rest)
+  pub Session-ended : (needs : ℕ) → Waits rest needs → IsAtEnd r' → Session r r' w w' was now (end_of rest)
   Session-ended needs waits end = by rest refl
     where
-      by : (held_now : List ℕ) → rest ≡ held_now → Session r r' w w' g k g' k' (end_of held_now)
+      by : (held_now : List ℕ) → rest ≡ held_now → Session r r' w w' was now (end_of held_now)
       by [] e = so_far Closed (inr (s.stay, end, e, whole))
       by (byte ∷ bytes) e = inside (held rest needs waits)
         where
-          inside : (rest ≡ []) ⊎ Follows rest Part → Session r r' w w' g k g' k' Malformed
+          inside : (rest ≡ []) ⊎ Follows rest Part → Session r r' w w' was now Malformed
           inside (inl none) = absurd (cc)
           inside (inr part) = so_far Malformed (inr (s.stay, end, part, whole))
 
   -- a read failed
-  pub Session-failed : (needs : ℕ) → Waits rest needs → Session r r' w w' g k g' k' ReadFailed
+  pub Session-failed : (needs : ℕ) → Waits rest needs → Session r r' w w' was now ReadFailed
   Session-failed needs waits = by (held rest needs waits)
     where
-      by : (rest ≡ []) ⊎ Follows rest Part → Session r r' w w' g k g' k' ReadFailed
+      by : (rest ≡ []) ⊎ Follows rest Part → Session r r' w w' was now ReadFailed
       by (inl none) = so_far ReadFailed (s.stay, inl none, refl)
       by (inr part) = so_far ReadFailed (s.stay, inr part, refl)
 
 -- room was refused before anything was read
-pub Session-unread : (r w : Option (List ℕ)) (g : Registry) (k : Kept) → Session r r w w g k g k Memory
-Session-unread r w g k =
-    record { input = []; reads = Consumes-nil r; answered = []; rest = []; out = []; carries = Carries-nil w g k []; ends = inl (tt, refl) }
+pub Session-unread : (r w : Option (List ℕ)) (was : Stored) → Session r r w w was was Memory
+Session-unread r w was =
+    record { input = []; reads = Consumes-nil r; answered = []; rest = []; out = []; carries = Carries-nil w was []; ends = inl (tt, refl) }
 
 -- a session up to a stop of its answers
-pub Session-stopped : (r r' w w' : Option (List ℕ)) (g g' : Registry) (k k' : Kept) (input bytes : List ℕ) (stop : Stop) (ended : Ended) → Consumes r r' input
-    → (a : AnswersAs w w' g k g' k' input bytes stop) → EndsAs r' a.answered a.rest a.out ended → Session r r' w w' g k g' k' ended
-Session-stopped r r' w w' g g' k k' input bytes stop ended reads a e = record {
+pub Session-stopped : (r r' w w' : Option (List ℕ)) (was now : Stored) (input bytes : List ℕ) (stop : Stop) (ended : Ended) → Consumes r r' input
+    → (a : AnswersAs w w' was now input bytes stop) → EndsAs r' a.answered a.rest a.out ended → Session r r' w w' was now ended
+Session-stopped r r' w w' was now input bytes stop ended reads a e = record {
   input = input;
   reads = reads;
   answered = a.answered;
@@ -108,17 +107,17 @@ Session-stopped r r' w w' g g' k k' input bytes stop ended reads a e = record {
 }
 
 -- and one that waits for more bytes
-pub Served-waiting : (w w' : Option (List ℕ)) (g g' : Registry) (k k' : Kept) (input bytes : List ℕ) (needs : ℕ)
-    → AnswersAs w w' g k g' k' input bytes (Waiting needs) → Served w w' g k g' k' input bytes
-Served-waiting w w' g g' k k' input bytes needs a =
-    let P : List ℕ × List ℕ → Type 0 = λ s. Carries w w' g k g' k' input a.answered s.0 s.1 in
+pub Served-waiting : (w w' : Option (List ℕ)) (was now : Stored) (input bytes : List ℕ) (needs : ℕ)
+    → AnswersAs w w' was now input bytes (Waiting needs) → Served w w' was now input bytes
+Served-waiting w w' was now input bytes needs a =
+    let P : List ℕ × List ℕ → Type 0 = λ s. Carries w w' was now input a.answered s.0 s.1 in
     record { answered = a.answered; stay = a.stops.0; carries = subst P (λ i. (a.stops.1 i, a.stops.3 i)) a.carries }
 
 -- what was answered once more was read
-pub AnswersAs-read : (w w1 w2 : Option (List ℕ)) (g g1 g2 : Registry) (k k1 k2 : Kept) (input before bytes more held : List ℕ) (stop : Stop)
-    → Served w w1 g k g1 k1 input before → bytes ≡ before ++ more → AnswersAs w1 w2 g1 k1 g2 k2 bytes held stop
-    → AnswersAs w w2 g k g2 k2 (input ++ more) held stop
-AnswersAs-read w w1 w2 g g1 g2 k k1 k2 input before bytes more held stop s is a =
-    let P : List ℕ → Type 0 = λ rest. Served w w1 g k g1 k1 (input ++ more) rest in
-    let now = subst P (sym is) (Served-more w w1 g k g1 k1 input before more s) in
-    AnswersAs-after w w1 w2 g g1 g2 k k1 k2 (input ++ more) bytes held now.answered stop now.stay now.carries a
+pub AnswersAs-read : (w w1 w2 : Option (List ℕ)) (was mid now : Stored) (input before bytes more held : List ℕ) (stop : Stop)
+    → Served w w1 was mid input before → bytes ≡ before ++ more → AnswersAs w1 w2 mid now bytes held stop
+    → AnswersAs w w2 was now (input ++ more) held stop
+AnswersAs-read w w1 w2 was mid now input before bytes more held stop s is a =
+    let P : List ℕ → Type 0 = λ rest. Served w w1 was mid (input ++ more) rest in
+    let all = subst P (sym is) (Served-more w w1 was mid input before more s) in
+    AnswersAs-after w w1 w2 was mid now (input ++ more) bytes held all.answered stop all.stay all.carries a

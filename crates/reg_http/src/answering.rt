@@ -89,7 +89,7 @@ fn answer_message<W: Write, S: Alter>(
     ensures clean { HasCleanDisk (state_in service.new) → HasCleanDisk (state_in service.old) }
     ensures within { IsWithin bytes.now result }
     ensures next { HasCleanDisk (state_in service.new) → Over (state_in service.old) (state_in service.new)
-        (λ g k g' k'. NextAs (W.contents writer.old) (W.contents writer.new) g k g' k' bytes.now result) }
+        (λ was now. NextAs (W.contents writer.old) (W.contents writer.new) was now bytes.now result) }
 {
     let request = Request::of(bytes, headers, whole);
     let close = request.closes();
@@ -122,7 +122,7 @@ fn answer_front<W: Write, S: Alter>(
     ensures clean { HasCleanDisk (state_in service.new) → HasCleanDisk (state_in service.old) }
     ensures within { IsWithin bytes.now result }
     ensures next { HasCleanDisk (state_in service.new) → Over (state_in service.old) (state_in service.new)
-        (λ g k g' k'. NextAs (W.contents writer.old) (W.contents writer.new) g k g' k' bytes.now result) }
+        (λ was now. NextAs (W.contents writer.old) (W.contents writer.new) was now bytes.now result) }
 {
     match look_at(bytes, headers) {
         Look::Whole(whole) => {
@@ -146,7 +146,7 @@ pub fn answer_held<W: Write, S: Alter>(
 ) -> Stop
     ensures clean { HasCleanDisk (state_in service.new) → HasCleanDisk (state_in service.old) }
     ensures answers { HasCleanDisk (state_in service.new) → Over (state_in service.old) (state_in service.new)
-        (λ g k g' k'. AnswersAs (W.contents writer.old) (W.contents writer.new) g k g' k' buffer.old buffer.new result) }
+        (λ was now. AnswersAs (W.contents writer.old) (W.contents writer.new) was now buffer.old buffer.new result) }
     ensures waits { WaitsAt buffer.new result }
 {
     loop {

@@ -81,7 +81,7 @@ fn answer_more<W: Write, S: Alter>(
     requires { length buffer.old < needs → Waits buffer.old needs }
     ensures clean { HasCleanDisk (state_in service.new) → HasCleanDisk (state_in service.old) }
     ensures answers { HasCleanDisk (state_in service.new) → Over (state_in service.old) (state_in service.new)
-        (λ g k g' k'. AnswersAs (W.contents writer.old) (W.contents writer.new) g k g' k' buffer.old buffer.new result) }
+        (λ was now. AnswersAs (W.contents writer.old) (W.contents writer.new) was now buffer.old buffer.new result) }
     ensures waits { WaitsAt buffer.new result }
 {
     if buffer.held().len() < needs {
@@ -103,8 +103,8 @@ fn serve_with<R: Read, W: Write, S: Alter>(
     requires { buffer ≡ [] }
     ensures clean { HasCleanDisk (state_in service.new) → HasCleanDisk (state_in service.old) }
     ensures session { HasCleanDisk (state_in service.new) → Over (state_in service.old) (state_in service.new)
-        (λ g k g' k'. Session (R.remaining reader.old) (R.remaining reader.new)
-        (W.contents writer.old) (W.contents writer.new) g k g' k' result) }
+        (λ was now. Session (R.remaining reader.old) (R.remaining reader.new)
+        (W.contents writer.old) (W.contents writer.new) was now result) }
 {
     let mut needs = 1;
     for _ in 0..u64::MAX {
@@ -134,8 +134,8 @@ pub fn serve<R: Read, W: Write, S: Alter>(
 ) -> Ended
     ensures clean { HasCleanDisk (state_in service.new) → HasCleanDisk (state_in service.old) }
     ensures session { HasCleanDisk (state_in service.new) → Over (state_in service.old) (state_in service.new)
-        (λ g k g' k'. Session (R.remaining reader.old) (R.remaining reader.new)
-        (W.contents writer.old) (W.contents writer.new) g k g' k' result) }
+        (λ was now. Session (R.remaining reader.old) (R.remaining reader.new)
+        (W.contents writer.old) (W.contents writer.new) was now result) }
 {
     let Ok(routes) = Routes::new(alloc) else {
         return Ended::Memory;

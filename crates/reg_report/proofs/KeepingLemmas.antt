@@ -3,10 +3,10 @@ use Rattle.std.proofs.Common.{◌≡◌, inl, inr, Result, IsTrue, refl, sym, su
 use Rattle.std.specs.Prelude.{Ok, Err, OnErr, OnOk, IfErr, IsErrAnd}
 use Rattle.sqlite.specs.State.{State, HasCleanDisk}
 use Rattle.sqlite_trees.specs.declared.store.Store.{Ghosts}
+use Rattle.reg_core.specs.Stored.{Stored}
 use Rattle.reg_store.specs.declared.error.StoreError.{StoreError}
 use Rattle.reg_store.specs.declared.store.Store.{Store}
 use Rattle.reg_store.specs.Failures.{IsFaultOver}
-use Rattle.reg_store.specs.Spells.{Stored}
 use Rattle.reg_store.specs.Stores.{state_of, has_failed, KeepsOpen, KeepsLent, LeavesCommit, LeavesNoMore, SpellsOn, TellsStored}
 use Rattle.reg_store.proofs.Failing.{by_since}
 use Rattle.reg_store.proofs.Keeping.{Settles}
@@ -69,9 +69,8 @@ module _ {S : Type 0} {g : Ghosts S} where
   -- a fault that the last call tells is one of all
   pub fault_on : {T Goes : Type 0} {Tells : Stored → T → Type 0} (a b c : Store S g) (e : StoreError) → Keeps a b → KeepsLent {T = T} b c (Err e) → HasCleanDisk (state_of c) → TellsStored {T = T} (state_of b) (state_of c) Goes (Err e) Tells → Goes
       → IsFaultOver (state_of a) (state_of c) e
-  fault_on a b c e p q clean tells going registry k over =
+  fault_on a b c e p q clean tells going was over =
       let early = q.clean clean in
-      let was : Stored = record { registry = registry; replies = k } in
       by_since (state_of a) (state_of b) (state_of c) (p.connection.closes early) p.connection.counts q.connection.counts e (tells.answers was (p.same early was over) going)
 
 -- an error of the store that `?` passes on

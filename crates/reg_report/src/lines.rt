@@ -2,15 +2,13 @@
 
 ghost use Rattle.std.specs.Prelude.{◌≡◌, ◌<◌, ◌-◌, ◌^◌, [], None, IfOk, IfErr, IsOk, OnErr, OnOk, length, map};
 ghost use Rattle.std.specs.Io.KnownBytes.{Appends};
-ghost use Rattle.sqlite.specs.Tree.{Trees};
 ghost use Rattle.sqlite.specs.State.{HasCleanDisk};
 ghost use Rattle.csv.specs.Writing.{default_writer, row_text};
-ghost use Rattle.reg_core.specs.Registry.{Registry};
-ghost use Rattle.reg_core.specs.KeptReplies.{Kept};
+ghost use Rattle.reg_core.specs.Stored.{Stored};
 ghost use Rattle.reg_store.specs.declared.listing.Listing.{Listing};
 ghost use Rattle.reg_store.specs.Spells.{SpellsWhileOpen};
 ghost use Rattle.reg_store.specs.Failures.{IsFaultOver};
-ghost use Rattle.reg_store.specs.Stores.{state_of};
+ghost use Rattle.reg_store.specs.Stores.{state_of, LeavesNoMore, SpellsOn};
 ghost use Rattle.reg_store.specs.Listings.{listing_lines};
 ghost use Rattle.reg_store.specs.Handing.{store_of, failure_in, HasHanded};
 ghost use Rattle.reg_report.specs.Csv.{IsBegun, csv_text};
@@ -36,21 +34,19 @@ pub(crate) fn put_lines<W: Write, S: Alter>(
     ensures same_reference { lines.new.store.ghost_name ≡ lines.old.store.ghost_name }
     ensures frame { KeepsListed (store_of lines.old) (store_of lines.new) result }
     ensures text { HasCleanDisk (state_of (store_of lines.new)) → OnOk result ((kind : Listing)
-        (g : Registry) (k : Kept) → SpellsWhileOpen (state_of (store_of lines.old)) g k
-        → HasHanded lines.old kind g []
-        → Appends (W.contents writer.old) (W.contents writer.new) (csv_text (listing_lines kind g))) }
+        (was : Stored) → SpellsWhileOpen (state_of (store_of lines.old)) was
+        → HasHanded lines.old kind was.registry []
+        → Appends (W.contents writer.old) (W.contents writer.new) (csv_text (listing_lines kind was.registry))) }
     ensures begun { HasCleanDisk (state_of (store_of lines.new)) → OnErr (store_answer result) ((kind : Listing)
-        (g : Registry) (k : Kept) → SpellsWhileOpen (state_of (store_of lines.old)) g k
-        → HasHanded lines.old kind g []
-        → IsBegun (listing_lines kind g) (W.contents writer.old) (W.contents writer.new)) }
+        (was : Stored) → SpellsWhileOpen (state_of (store_of lines.old)) was
+        → HasHanded lines.old kind was.registry []
+        → IsBegun (listing_lines kind was.registry) (W.contents writer.old) (W.contents writer.new)) }
     ensures fault { HasCleanDisk (state_of (store_of lines.new)) → IfErr (store_answer result)
         (IsFaultOver (state_of (store_of lines.old)) (state_of (store_of lines.new))) }
-    ensures same { HasCleanDisk (state_of (store_of lines.new)) → (g : Registry) (k : Kept)
-        → SpellsWhileOpen (state_of (store_of lines.old)) g k
-        → SpellsWhileOpen (state_of (store_of lines.new)) g k }
-    ensures crash { HasCleanDisk (state_of (store_of lines.new)) → (db : Trees)
-        → (state_of (store_of lines.new)).may_leave db
-        → (state_of (store_of lines.old)).may_leave db }
+    ensures same { HasCleanDisk (state_of (store_of lines.new))
+        → SpellsOn (state_of (store_of lines.old)) (state_of (store_of lines.new)) }
+    ensures crash { HasCleanDisk (state_of (store_of lines.new))
+        → LeavesNoMore (state_of (store_of lines.old)) (state_of (store_of lines.new)) }
 {
     for _ in 0..u64::MAX {
         let Some(line) = lines.next()? else {

@@ -2,14 +2,12 @@
 
 ghost use Rattle.std.specs.Prelude.{◌≡◌, ◌∷◌, [], None, Err, IfErr, IsOk, IsTrue, OnErr, OnOk, false};
 ghost use Rattle.std.specs.Io.KnownBytes.{Appends};
-ghost use Rattle.sqlite.specs.Tree.{Trees};
 ghost use Rattle.sqlite.specs.State.{HasCleanDisk};
 ghost use Rattle.csv.specs.Writing.{default_writer, row_text};
-ghost use Rattle.reg_core.specs.Registry.{Registry};
-ghost use Rattle.reg_core.specs.KeptReplies.{Kept};
+ghost use Rattle.reg_core.specs.Stored.{Stored};
 ghost use Rattle.reg_store.specs.Spells.{SpellsWhileOpen};
 ghost use Rattle.reg_store.specs.Failures.{IsFaultOver};
-ghost use Rattle.reg_store.specs.Stores.{state_of, has_failed};
+ghost use Rattle.reg_store.specs.Stores.{state_of, has_failed, LeavesNoMore, SpellsOn};
 ghost use Rattle.reg_store.specs.Listings.{listing_lines};
 ghost use Rattle.reg_store.specs.Handing.{store_of, failure_in, HasHanded};
 ghost use Rattle.reg_store.specs.declared.error.StoreError.TheVariants.{Disk};
@@ -42,18 +40,16 @@ pub fn list_subjects<W: Write, S: Alter>(
     ensures refused { IsTrue (has_failed store.old)
         → (store_answer result ≡ Err Disk) × (store.new ≡ store.old)
         × (W.contents writer.new ≡ W.contents writer.old) }
-    ensures ok { HasCleanDisk (state_of store.new) → OnOk result ((g : Registry) (k : Kept)
-        → SpellsWhileOpen (state_of store.old) g k
-        → Appends (W.contents writer.old) (W.contents writer.new) (listing Subjects g)) }
-    ensures begun { HasCleanDisk (state_of store.new) → OnErr (store_answer result) ((g : Registry) (k : Kept)
-        → SpellsWhileOpen (state_of store.old) g k → IsBegun (header Subjects ∷ listing_lines Subjects g)
+    ensures ok { HasCleanDisk (state_of store.new) → OnOk result ((was : Stored)
+        → SpellsWhileOpen (state_of store.old) was
+        → Appends (W.contents writer.old) (W.contents writer.new) (listing Subjects was.registry)) }
+    ensures begun { HasCleanDisk (state_of store.new) → OnErr (store_answer result) ((was : Stored)
+        → SpellsWhileOpen (state_of store.old) was → IsBegun (header Subjects ∷ listing_lines Subjects was.registry)
         (W.contents writer.old) (W.contents writer.new)) }
     ensures fault { HasCleanDisk (state_of store.new) → has_failed store.old ≡ false
         → IfErr (store_answer result) (IsFaultOver (state_of store.old) (state_of store.new)) }
-    ensures same { HasCleanDisk (state_of store.new) → (g : Registry) (k : Kept)
-        → SpellsWhileOpen (state_of store.old) g k → SpellsWhileOpen (state_of store.new) g k }
-    ensures crash { HasCleanDisk (state_of store.new) → (db : Trees)
-        → (state_of store.new).may_leave db → (state_of store.old).may_leave db }
+    ensures same { HasCleanDisk (state_of store.new) → SpellsOn (state_of store.old) (state_of store.new) }
+    ensures crash { HasCleanDisk (state_of store.new) → LeavesNoMore (state_of store.old) (state_of store.new) }
 {
     list(alloc, store, Listing::Subjects, writer)
 }
@@ -74,18 +70,16 @@ pub fn list_versions<W: Write, S: Alter>(
     ensures refused { IsTrue (has_failed store.old)
         → (store_answer result ≡ Err Disk) × (store.new ≡ store.old)
         × (W.contents writer.new ≡ W.contents writer.old) }
-    ensures ok { HasCleanDisk (state_of store.new) → OnOk result ((g : Registry) (k : Kept)
-        → SpellsWhileOpen (state_of store.old) g k
-        → Appends (W.contents writer.old) (W.contents writer.new) (listing Versions g)) }
-    ensures begun { HasCleanDisk (state_of store.new) → OnErr (store_answer result) ((g : Registry) (k : Kept)
-        → SpellsWhileOpen (state_of store.old) g k → IsBegun (header Versions ∷ listing_lines Versions g)
+    ensures ok { HasCleanDisk (state_of store.new) → OnOk result ((was : Stored)
+        → SpellsWhileOpen (state_of store.old) was
+        → Appends (W.contents writer.old) (W.contents writer.new) (listing Versions was.registry)) }
+    ensures begun { HasCleanDisk (state_of store.new) → OnErr (store_answer result) ((was : Stored)
+        → SpellsWhileOpen (state_of store.old) was → IsBegun (header Versions ∷ listing_lines Versions was.registry)
         (W.contents writer.old) (W.contents writer.new)) }
     ensures fault { HasCleanDisk (state_of store.new) → has_failed store.old ≡ false
         → IfErr (store_answer result) (IsFaultOver (state_of store.old) (state_of store.new)) }
-    ensures same { HasCleanDisk (state_of store.new) → (g : Registry) (k : Kept)
-        → SpellsWhileOpen (state_of store.old) g k → SpellsWhileOpen (state_of store.new) g k }
-    ensures crash { HasCleanDisk (state_of store.new) → (db : Trees)
-        → (state_of store.new).may_leave db → (state_of store.old).may_leave db }
+    ensures same { HasCleanDisk (state_of store.new) → SpellsOn (state_of store.old) (state_of store.new) }
+    ensures crash { HasCleanDisk (state_of store.new) → LeavesNoMore (state_of store.old) (state_of store.new) }
 {
     list(alloc, store, Listing::Versions, writer)
 }
@@ -106,18 +100,16 @@ pub fn list_schemas<W: Write, S: Alter>(
     ensures refused { IsTrue (has_failed store.old)
         → (store_answer result ≡ Err Disk) × (store.new ≡ store.old)
         × (W.contents writer.new ≡ W.contents writer.old) }
-    ensures ok { HasCleanDisk (state_of store.new) → OnOk result ((g : Registry) (k : Kept)
-        → SpellsWhileOpen (state_of store.old) g k
-        → Appends (W.contents writer.old) (W.contents writer.new) (listing Schemas g)) }
-    ensures begun { HasCleanDisk (state_of store.new) → OnErr (store_answer result) ((g : Registry) (k : Kept)
-        → SpellsWhileOpen (state_of store.old) g k → IsBegun (header Schemas ∷ listing_lines Schemas g)
+    ensures ok { HasCleanDisk (state_of store.new) → OnOk result ((was : Stored)
+        → SpellsWhileOpen (state_of store.old) was
+        → Appends (W.contents writer.old) (W.contents writer.new) (listing Schemas was.registry)) }
+    ensures begun { HasCleanDisk (state_of store.new) → OnErr (store_answer result) ((was : Stored)
+        → SpellsWhileOpen (state_of store.old) was → IsBegun (header Schemas ∷ listing_lines Schemas was.registry)
         (W.contents writer.old) (W.contents writer.new)) }
     ensures fault { HasCleanDisk (state_of store.new) → has_failed store.old ≡ false
         → IfErr (store_answer result) (IsFaultOver (state_of store.old) (state_of store.new)) }
-    ensures same { HasCleanDisk (state_of store.new) → (g : Registry) (k : Kept)
-        → SpellsWhileOpen (state_of store.old) g k → SpellsWhileOpen (state_of store.new) g k }
-    ensures crash { HasCleanDisk (state_of store.new) → (db : Trees)
-        → (state_of store.new).may_leave db → (state_of store.old).may_leave db }
+    ensures same { HasCleanDisk (state_of store.new) → SpellsOn (state_of store.old) (state_of store.new) }
+    ensures crash { HasCleanDisk (state_of store.new) → LeavesNoMore (state_of store.old) (state_of store.new) }
 {
     list(alloc, store, Listing::Schemas, writer)
 }
@@ -139,18 +131,16 @@ pub fn list<W: Write, S: Alter>(
     ensures refused { IsTrue (has_failed store.old)
         → (store_answer result ≡ Err Disk) × (store.new ≡ store.old)
         × (W.contents writer.new ≡ W.contents writer.old) }
-    ensures ok { HasCleanDisk (state_of store.new) → OnOk result ((g : Registry) (k : Kept)
-        → SpellsWhileOpen (state_of store.old) g k
-        → Appends (W.contents writer.old) (W.contents writer.new) (listing kind g)) }
-    ensures begun { HasCleanDisk (state_of store.new) → OnErr (store_answer result) ((g : Registry) (k : Kept)
-        → SpellsWhileOpen (state_of store.old) g k → IsBegun (header kind ∷ listing_lines kind g)
+    ensures ok { HasCleanDisk (state_of store.new) → OnOk result ((was : Stored)
+        → SpellsWhileOpen (state_of store.old) was
+        → Appends (W.contents writer.old) (W.contents writer.new) (listing kind was.registry)) }
+    ensures begun { HasCleanDisk (state_of store.new) → OnErr (store_answer result) ((was : Stored)
+        → SpellsWhileOpen (state_of store.old) was → IsBegun (header kind ∷ listing_lines kind was.registry)
         (W.contents writer.old) (W.contents writer.new)) }
     ensures fault { HasCleanDisk (state_of store.new) → has_failed store.old ≡ false
         → IfErr (store_answer result) (IsFaultOver (state_of store.old) (state_of store.new)) }
-    ensures same { HasCleanDisk (state_of store.new) → (g : Registry) (k : Kept)
-        → SpellsWhileOpen (state_of store.old) g k → SpellsWhileOpen (state_of store.new) g k }
-    ensures crash { HasCleanDisk (state_of store.new) → (db : Trees)
-        → (state_of store.new).may_leave db → (state_of store.old).may_leave db }
+    ensures same { HasCleanDisk (state_of store.new) → SpellsOn (state_of store.old) (state_of store.new) }
+    ensures crash { HasCleanDisk (state_of store.new) → LeavesNoMore (state_of store.old) (state_of store.new) }
 {
     let mut lines = store.lines(kind)?;
     put_listing(alloc, writer, kind, &mut lines)
@@ -166,20 +156,18 @@ fn put_listing<W: Write, S: Alter>(
     requires { failure_in lines.old ≡ None }
     ensures same_reference { lines.new.store.ghost_name ≡ lines.old.store.ghost_name }
     ensures frame { KeepsListed (store_of lines.old) (store_of lines.new) result }
-    ensures text { HasCleanDisk (state_of (store_of lines.new)) → OnOk result ((g : Registry) (k : Kept)
-        → SpellsWhileOpen (state_of (store_of lines.old)) g k → HasHanded lines.old kind g []
-        → Appends (W.contents writer.old) (W.contents writer.new) (listing kind g)) }
-    ensures begun { HasCleanDisk (state_of (store_of lines.new)) → OnErr (store_answer result) ((g : Registry) (k : Kept)
-        → SpellsWhileOpen (state_of (store_of lines.old)) g k → HasHanded lines.old kind g []
-        → IsBegun (header kind ∷ listing_lines kind g) (W.contents writer.old) (W.contents writer.new)) }
+    ensures text { HasCleanDisk (state_of (store_of lines.new)) → OnOk result ((was : Stored)
+        → SpellsWhileOpen (state_of (store_of lines.old)) was → HasHanded lines.old kind was.registry []
+        → Appends (W.contents writer.old) (W.contents writer.new) (listing kind was.registry)) }
+    ensures begun { HasCleanDisk (state_of (store_of lines.new)) → OnErr (store_answer result) ((was : Stored)
+        → SpellsWhileOpen (state_of (store_of lines.old)) was → HasHanded lines.old kind was.registry []
+        → IsBegun (header kind ∷ listing_lines kind was.registry) (W.contents writer.old) (W.contents writer.new)) }
     ensures fault { HasCleanDisk (state_of (store_of lines.new)) → IfErr (store_answer result)
         (IsFaultOver (state_of (store_of lines.old)) (state_of (store_of lines.new))) }
-    ensures same { HasCleanDisk (state_of (store_of lines.new)) → (g : Registry) (k : Kept)
-        → SpellsWhileOpen (state_of (store_of lines.old)) g k
-        → SpellsWhileOpen (state_of (store_of lines.new)) g k }
-    ensures crash { HasCleanDisk (state_of (store_of lines.new)) → (db : Trees)
-        → (state_of (store_of lines.new)).may_leave db
-        → (state_of (store_of lines.old)).may_leave db }
+    ensures same { HasCleanDisk (state_of (store_of lines.new))
+        → SpellsOn (state_of (store_of lines.old)) (state_of (store_of lines.new)) }
+    ensures crash { HasCleanDisk (state_of (store_of lines.new))
+        → LeavesNoMore (state_of (store_of lines.old)) (state_of (store_of lines.new)) }
 {
     put_header(alloc, writer, kind)?;
     put_lines(alloc, writer, lines)

@@ -6,7 +6,7 @@ use Rattle.reg_http.proofs.answering.answer_held.Goals as goal
 pub loop-size-init : goal.loop-size-init
 loop-size-init g c = record {
   clean = λ h. h;
-  served = λ h registry k over. record { registry = registry; kept = k; spells = over; holds = Served-none _ _ _ _ };
+  served = λ h was over. record { stored = was; spells = over; holds = Served-none _ _ _ };
 }
 
 pub loop-size-preserved : goal.loop-size-preserved
@@ -15,27 +15,25 @@ loop-size-preserved g c =
     let size = c.in-Answered.size in
     record {
       clean = λ h. c.loop-size.invariant.clean (c.answer_front.ensures.clean h);
-      served = λ h registry k over.
-          let before = c.loop-size.invariant.served (c.answer_front.ensures.clean h) registry k over in
-          let now = c.in-Answered.ensures.next h before.registry before.kept before.spells in
-          let P : List ℕ → Type 0 = λ bytes. AnswersOne (g.W.Write.contents c.loop-size.writer) (g.W.Write.contents c.answer_front.new.writer) before.registry before.kept now.registry now.kept bytes size in
+      served = λ h was over.
+          let before = c.loop-size.invariant.served (c.answer_front.ensures.clean h) was over in
+          let after = c.in-Answered.ensures.next h before.stored before.spells in
+          let P : List ℕ → Type 0 = λ bytes. AnswersOne (g.W.Write.contents c.loop-size.writer) (g.W.Write.contents c.answer_front.new.writer) before.stored after.stored bytes size in
           record {
-            registry = now.registry;
-            kept = now.kept;
-            spells = now.spells;
-            holds = rw c.let_go.ensures (Served-one _ _ _ _ _ _ _ _ _ _ held size before.holds (subst P c.held.ensures now.holds));
+            stored = after.stored;
+            spells = after.spells;
+            holds = rw c.let_go.ensures (Served-one _ _ _ _ _ _ _ held size before.holds (subst P c.held.ensures after.holds));
           };
     }
 
 pub returns-in-Stopped-clause-answers : goal.returns-in-Stopped-clause-answers
-returns-in-Stopped-clause-answers g c h registry k over =
-    let before = c.loop-size.invariant.served (c.answer_front.ensures.clean h) registry k over in
-    let now = c.in-Stopped.ensures.next h before.registry before.kept before.spells in
-    let P : List ℕ → Type 0 = λ bytes. AnswersAs (g.W.Write.contents c.loop-size.writer) (g.W.Write.contents c.answer_front.new.writer) before.registry before.kept now.registry now.kept bytes bytes c.in-Stopped.stop in
+returns-in-Stopped-clause-answers g c h was over =
+    let before = c.loop-size.invariant.served (c.answer_front.ensures.clean h) was over in
+    let after = c.in-Stopped.ensures.next h before.stored before.spells in
+    let P : List ℕ → Type 0 = λ bytes. AnswersAs (g.W.Write.contents c.loop-size.writer) (g.W.Write.contents c.answer_front.new.writer) before.stored after.stored bytes bytes c.in-Stopped.stop in
     let mine = before.holds in
     record {
-      registry = now.registry;
-      kept = now.kept;
-      spells = now.spells;
-      holds = AnswersAs-after _ _ _ _ _ _ _ _ _ _ _ _ mine.answered c.in-Stopped.stop mine.stay mine.carries (subst P c.held.ensures now.holds);
+      stored = after.stored;
+      spells = after.spells;
+      holds = AnswersAs-after _ _ _ _ _ _ _ _ _ mine.answered c.in-Stopped.stop mine.stay mine.carries (subst P c.held.ensures after.holds);
     }

@@ -9,7 +9,7 @@ abbrev pub invariant-loop-size : goal.invariant-loop-size
 invariant-loop-size g l = record {
   clean : HasCleanDisk (state_in l.service) → HasCleanDisk (state_in l.fn.service);
   served : HasCleanDisk (state_in l.service) → Over (state_in l.fn.service) (state_in l.service)
-      (λ before k after k'. Served (g.W.Write.contents l.fn.writer) (g.W.Write.contents l.writer) before k after k' l.fn.buffer l.buffer);
+      (λ was now. Served (g.W.Write.contents l.fn.writer) (g.W.Write.contents l.writer) was now l.fn.buffer l.buffer);
 }
 
 abbrev pub decreases-loop-size : goal.decreases-loop-size

@@ -13,7 +13,7 @@ loop-init g c = record {
   input = [];
   reads = Consumes-nil (g.R.Read.remaining c.args.reader.now);
   clean = λ h. h;
-  served = λ h registry k over. record { registry = registry; kept = k; spells = over; holds = rw c.requires (Served-none _ registry k []) };
+  served = λ h was over. record { stored = was; spells = over; holds = rw c.requires (Served-none _ was []) };
 }
 
 pub loop-preserved : goal.loop-preserved
@@ -25,108 +25,100 @@ loop-preserved g c =
       input = inv.input ++ more;
       reads = Consumes-trans _ _ _ _ _ inv.reads read;
       clean = λ h. inv.clean (c.answer_more.ensures.clean h);
-      served = λ h registry k over.
-          let before = inv.served (c.answer_more.ensures.clean h) registry k over in
-          let now = c.in-Waiting.ensures.answers h before.registry before.kept before.spells in
+      served = λ h was over.
+          let before = inv.served (c.answer_more.ensures.clean h) was over in
+          let after = c.in-Waiting.ensures.answers h before.stored before.spells in
           record {
-            registry = now.registry;
-            kept = now.kept;
-            spells = now.spells;
-            holds = Served-waiting _ _ _ _ _ _ _ _ c.in-Waiting.more (AnswersAs-read _ _ _ _ _ _ _ _ _ inv.input _ _ more _ (Waiting c.in-Waiting.more) before.holds is now.holds);
+            stored = after.stored;
+            spells = after.spells;
+            holds = Served-waiting _ _ _ _ _ _ c.in-Waiting.more (AnswersAs-read _ _ _ _ _ _ inv.input _ _ more _ (Waiting c.in-Waiting.more) before.holds is after.holds);
           };
     }
 
 pub returns-in-End-clause-session : goal.returns-in-End-clause-session
-returns-in-End-clause-session g c clean registry k over =
+returns-in-End-clause-session g c clean was over =
     let inv = c.loop.invariant in
     let (same, read, end) = c.in-End.ensures in
-    let before = inv.served clean registry k over in
+    let before = inv.served clean was over in
     let P : List ℕ → Type 0 = λ input. Consumes (g.R.Read.remaining c.args.reader.now) (g.R.Read.remaining c.read_more.new.reader) input in
     let reads = subst P (append-nil inv.input) (Consumes-trans _ _ _ _ _ inv.reads read) in
     record {
-      registry = before.registry;
-      kept = before.kept;
+      stored = before.stored;
       spells = before.spells;
-      holds = rw (c.end_of.ensures, c.held.ensures, same) (Session-ended _ _ _ _ _ _ _ _ inv.input c.loop.buffer reads before.holds c.loop.needs inv.waits end);
+      holds = rw (c.end_of.ensures, c.held.ensures, same) (Session-ended _ _ _ _ _ _ inv.input c.loop.buffer reads before.holds c.loop.needs inv.waits end);
     }
 
 pub returns-in-Failed-clause-session : goal.returns-in-Failed-clause-session
-returns-in-Failed-clause-session g c clean registry k over =
+returns-in-Failed-clause-session g c clean was over =
     let inv = c.loop.invariant in
     let (same, read) = c.in-Failed.ensures in
-    let before = inv.served clean registry k over in
+    let before = inv.served clean was over in
     let P : List ℕ → Type 0 = λ input. Consumes (g.R.Read.remaining c.args.reader.now) (g.R.Read.remaining c.read_more.new.reader) input in
     let reads = subst P (append-nil inv.input) (Consumes-trans _ _ _ _ _ inv.reads read) in
     record {
-      registry = before.registry;
-      kept = before.kept;
+      stored = before.stored;
       spells = before.spells;
-      holds = Session-failed _ _ _ _ _ _ _ _ inv.input c.loop.buffer reads before.holds c.loop.needs inv.waits;
+      holds = Session-failed _ _ _ _ _ _ inv.input c.loop.buffer reads before.holds c.loop.needs inv.waits;
     }
 
 pub returns-in-AtClose-clause-session : goal.returns-in-AtClose-clause-session
-returns-in-AtClose-clause-session g c clean registry k over =
+returns-in-AtClose-clause-session g c clean was over =
     let inv = c.loop.invariant in
     let (more, is, read) = c.in-Bytes.ensures in
-    let before = inv.served (c.answer_more.ensures.clean clean) registry k over in
-    let now = c.in-AtClose.ensures.answers clean before.registry before.kept before.spells in
-    let all = AnswersAs-read _ _ _ _ _ _ _ _ _ inv.input _ _ more _ AtClose before.holds is now.holds in
+    let before = inv.served (c.answer_more.ensures.clean clean) was over in
+    let after = c.in-AtClose.ensures.answers clean before.stored before.spells in
+    let all = AnswersAs-read _ _ _ _ _ _ inv.input _ _ more _ AtClose before.holds is after.holds in
     record {
-      registry = now.registry;
-      kept = now.kept;
-      spells = now.spells;
-      holds = Session-stopped _ _ _ _ _ _ _ _ _ _ AtClose Closed (Consumes-trans _ _ _ _ _ inv.reads read) all (inl all.stops);
+      stored = after.stored;
+      spells = after.spells;
+      holds = Session-stopped _ _ _ _ _ _ _ _ AtClose Closed (Consumes-trans _ _ _ _ _ inv.reads read) all (inl all.stops);
     }
 
 pub returns-in-AtFault-clause-session : goal.returns-in-AtFault-clause-session
-returns-in-AtFault-clause-session g c clean registry k over =
+returns-in-AtFault-clause-session g c clean was over =
     let inv = c.loop.invariant in
     let (more, is, read) = c.in-Bytes.ensures in
-    let before = inv.served (c.answer_more.ensures.clean clean) registry k over in
-    let now = c.in-AtFault.ensures.answers clean before.registry before.kept before.spells in
-    let all = AnswersAs-read _ _ _ _ _ _ _ _ _ inv.input _ _ more _ AtFault before.holds is now.holds in
+    let before = inv.served (c.answer_more.ensures.clean clean) was over in
+    let after = c.in-AtFault.ensures.answers clean before.stored before.spells in
+    let all = AnswersAs-read _ _ _ _ _ _ inv.input _ _ more _ AtFault before.holds is after.holds in
     record {
-      registry = now.registry;
-      kept = now.kept;
-      spells = now.spells;
-      holds = Session-stopped _ _ _ _ _ _ _ _ _ _ AtFault Malformed (Consumes-trans _ _ _ _ _ inv.reads read) all (inl all.stops);
+      stored = after.stored;
+      spells = after.spells;
+      holds = Session-stopped _ _ _ _ _ _ _ _ AtFault Malformed (Consumes-trans _ _ _ _ _ inv.reads read) all (inl all.stops);
     }
 
 pub returns-in-NotWritten-clause-session : goal.returns-in-NotWritten-clause-session
-returns-in-NotWritten-clause-session g c clean registry k over =
+returns-in-NotWritten-clause-session g c clean was over =
     let inv = c.loop.invariant in
     let (more, is, read) = c.in-Bytes.ensures in
-    let before = inv.served (c.answer_more.ensures.clean clean) registry k over in
-    let now = c.in-NotWritten.ensures.answers clean before.registry before.kept before.spells in
-    let all = AnswersAs-read _ _ _ _ _ _ _ _ _ inv.input _ _ more _ NotWritten before.holds is now.holds in
+    let before = inv.served (c.answer_more.ensures.clean clean) was over in
+    let after = c.in-NotWritten.ensures.answers clean before.stored before.spells in
+    let all = AnswersAs-read _ _ _ _ _ _ inv.input _ _ more _ NotWritten before.holds is after.holds in
     record {
-      registry = now.registry;
-      kept = now.kept;
-      spells = now.spells;
-      holds = Session-stopped _ _ _ _ _ _ _ _ _ _ NotWritten WriteFailed (Consumes-trans _ _ _ _ _ inv.reads read) all all.stops;
+      stored = after.stored;
+      spells = after.spells;
+      holds = Session-stopped _ _ _ _ _ _ _ _ NotWritten WriteFailed (Consumes-trans _ _ _ _ _ inv.reads read) all all.stops;
     }
 
 pub returns-in-OutOfMemory-clause-session : goal.returns-in-OutOfMemory-clause-session
-returns-in-OutOfMemory-clause-session g c clean registry k over =
+returns-in-OutOfMemory-clause-session g c clean was over =
     let inv = c.loop.invariant in
     let (more, is, read) = c.in-Bytes.ensures in
-    let before = inv.served (c.answer_more.ensures.clean clean) registry k over in
-    let now = c.in-OutOfMemory.ensures.answers clean before.registry before.kept before.spells in
-    let all = AnswersAs-read _ _ _ _ _ _ _ _ _ inv.input _ _ more _ OutOfMemory before.holds is now.holds in
+    let before = inv.served (c.answer_more.ensures.clean clean) was over in
+    let after = c.in-OutOfMemory.ensures.answers clean before.stored before.spells in
+    let all = AnswersAs-read _ _ _ _ _ _ inv.input _ _ more _ OutOfMemory before.holds is after.holds in
     record {
-      registry = now.registry;
-      kept = now.kept;
-      spells = now.spells;
-      holds = Session-stopped _ _ _ _ _ _ _ _ _ _ OutOfMemory Memory (Consumes-trans _ _ _ _ _ inv.reads read) all all.stops;
+      stored = after.stored;
+      spells = after.spells;
+      holds = Session-stopped _ _ _ _ _ _ _ _ OutOfMemory Memory (Consumes-trans _ _ _ _ _ inv.reads read) all all.stops;
     }
 
 pub returns-clause-session : goal.returns-clause-session
-returns-clause-session g c clean registry k over =
+returns-clause-session g c clean was over =
     let inv = c.loop.invariant in
-    let before = inv.served clean registry k over in
+    let before = inv.served clean was over in
     record {
-      registry = before.registry;
-      kept = before.kept;
+      stored = before.stored;
       spells = before.spells;
-      holds = Session-failed _ _ _ _ _ _ _ _ inv.input c.loop.buffer inv.reads before.holds c.loop.needs inv.waits;
+      holds = Session-failed _ _ _ _ _ _ inv.input c.loop.buffer inv.reads before.holds c.loop.needs inv.waits;
     }

@@ -13,5 +13,5 @@ invariant-loop g l = record {
   reads : Consumes (g.R.Read.remaining l.initial.reader) (g.R.Read.remaining l.reader) input;
   clean : HasCleanDisk (state_in l.service) → HasCleanDisk (state_in l.initial.service);
   served : HasCleanDisk (state_in l.service) → Over (state_in l.initial.service) (state_in l.service)
-      (λ before k after k'. Served (g.W.Write.contents l.initial.writer) (g.W.Write.contents l.writer) before k after k' input l.buffer);
+      (λ was now. Served (g.W.Write.contents l.initial.writer) (g.W.Write.contents l.writer) was now input l.buffer);
 }

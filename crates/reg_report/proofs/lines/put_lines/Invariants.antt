@@ -1,8 +1,7 @@
 use Rattle.std.proofs.Common.{◌≡◌, List, [], None}
 use Rattle.std.specs.Io.KnownBytes.{Appends}
 use Rattle.sqlite.specs.State.{HasCleanDisk}
-use Rattle.reg_core.specs.Registry.{Registry}
-use Rattle.reg_core.specs.KeptReplies.{Kept}
+use Rattle.reg_core.specs.Stored.{Stored}
 use Rattle.reg_store.specs.declared.listing.Listing.{Listing}
 use Rattle.reg_store.specs.Handing.{store_of, failure_in, HasHanded}
 use Rattle.reg_store.specs.Listings.{Fields}
@@ -17,6 +16,6 @@ invariant-loop g l = record {
   same_reference : l.lines.store.ghost_name ≡ l.initial.lines.store.ghost_name;
   going : failure_in l.lines ≡ None;
   keeps : Keeps (store_of l.initial.lines) (store_of l.lines);
-  written : HasCleanDisk (state_of (store_of l.lines)) → (kind : Listing) (registry : Registry) (k : Kept) → SpellsWhileOpen (state_of (store_of l.initial.lines)) registry k → HasHanded l.initial.lines kind registry []
-      → (done : List Fields) × HasHanded l.lines kind registry done × Appends (g.W.Write.contents l.initial.writer) (g.W.Write.contents l.writer) (csv_text done);
+  written : HasCleanDisk (state_of (store_of l.lines)) → (kind : Listing) (was : Stored) → SpellsWhileOpen (state_of (store_of l.initial.lines)) was → HasHanded l.initial.lines kind was.registry []
+      → (done : List Fields) × HasHanded l.lines kind was.registry done × Appends (g.W.Write.contents l.initial.writer) (g.W.Write.contents l.writer) (csv_text done);
 }
