@@ -74,7 +74,9 @@ fn database_of(job: &Job) -> Option<&str> {
             database: Some(file),
         } => Some(file.as_str()),
         Job::Run { database: None } | Job::Text { .. } | Job::Check { .. } => None,
-        Job::List { database, .. } | Job::Migrate { database } => Some(database.as_str()),
+        Job::List { database, .. } | Job::Migrate { database } | Job::Audit { database } => {
+            Some(database.as_str())
+        }
     }
 }
 

@@ -1,3 +1,4 @@
+mod AuditLemmas
 mod JobLemmas
 mod LineLemmas
 mod ListeningLemmas

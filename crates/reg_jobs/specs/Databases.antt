@@ -3,17 +3,15 @@ use Rattle.std.specs.Prelude.{◌≡◌, ◌≢◌, ◌⊎◌, Option, Some, IsT
 use Rattle.sqlite.specs.Held.{Held, state}
 use Rattle.sqlite.specs.State.{State, HasCleanDisk}
 use Rattle.sqlite_trees.specs.declared.store.Store.{Ghosts}
-use Rattle.reg_core.specs.Registry.{new_registry}
-use Rattle.reg_core.specs.KeptReplies.{nothing_kept}
+use Rattle.reg_core.specs.Stored.{new_stored}
 use Rattle.reg_tables.specs.Layout.{no_schema}
-use Rattle.reg_tables.specs.Reads.{OnlyReads}
 use Rattle.reg_store.specs.declared.error.StoreError.{StoreError}
 use Rattle.reg_store.specs.declared.error.StoreError.TheVariants.{Disk, NotARegistry}
 use Rattle.reg_store.specs.Failures.{IsFaultBy}
-use Rattle.reg_store.specs.Opening.{IsRefusedBy, TellsLayout, LosesNothing}
+use Rattle.reg_store.specs.Opening.{LosesNothing}
 use Rattle.reg_store.specs.Spells.{SpellsWhileOpen}
-use Rattle.reg_store.specs.Stores.{LeavesBefore}
-use Rattle.reg_store.specs.UnopenedFaults.{IsFaultUnopened, IsToldUnopened}
+use Rattle.reg_store.specs.Stores.{LeavesConnection}
+use Rattle.reg_store.specs.UnopenedFaults.{IsUnopened}
 
 -- a connection comes back, and this holds of what it shows
 pub record GivesBack {S : Type 0} (g : Ghosts S) (back : Option (Held S)) (P : State → Type 0) : Type 0 where
@@ -21,28 +19,23 @@ pub record GivesBack {S : Type 0} (g : Ghosts S) (back : Option (Held S)) (P : S
   pub given : back ≡ Some connection
   pub holds : HasCleanDisk (state g connection) → P (state g connection)
 
--- the database was empty, and its tables spell the new registry, which keeps no reply
+-- the database was empty, and its tables spell a new registry, which keeps no reply and has no evidence
 pub record IsMadeIn (old new : State) : Type 0 where
   pub empty : ¬ (old.now.schema ≢ no_schema)
-  pub spells : SpellsWhileOpen new new_registry nothing_kept
+  pub spells : SpellsWhileOpen new new_stored
 
 -- why no registry was made: a database that isn't empty is told so, over an empty one memory was refused or there was a fault of the disk, and nothing is
 -- committed, nor left by a crash but after `Disk`
 pub record FailsToMake (old new : State) (error : StoreError) : Type 0 where
   pub full : old.now.schema ≢ no_schema → error ≡ NotARegistry
   pub fault : old.now.schema ≡ no_schema → IsFaultBy old new error
-  pub only_reads : OnlyReads old new
-  pub before : IsTrue old.is_open → LeavesBefore old new error
+  pub leaves : LeavesConnection old new error
 
 -- Why a database gave no registry. Where its tables spell one, memory was refused or there was a fault of the disk. Another layout is told,
 -- and with its own number; `Disk` is for a fault of the disk over the tables of a layout. Nothing is committed, and a crash leaves what the tables spelled.
 pub record FailsToOpen (old new : State) (error : StoreError) : Type 0 where
-  pub fault : IsFaultUnopened old new error
-  pub told : IsToldUnopened old new error
-  pub other : TellsLayout old error
-  pub refused : IsRefusedBy old.now error
-  pub only_reads : OnlyReads old new
-  pub before : IsTrue old.is_open → LeavesBefore old new error
+  pub fails : IsUnopened old new error
+  pub leaves : LeavesConnection old new error
   pub found : LosesNothing old new
 
 -- a transaction was under way, or no registry was made

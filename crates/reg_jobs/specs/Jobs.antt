@@ -4,8 +4,7 @@ use Rattle.std.specs.Global.{Global}
 use Rattle.sqlite.specs.Held.{Held, state}
 use Rattle.sqlite.specs.State.{State}
 use Rattle.sqlite_trees.specs.declared.store.Store.{Ghosts}
-use Rattle.reg_core.specs.Registry.{Registry, new_registry}
-use Rattle.reg_core.specs.KeptReplies.{Kept, nothing_kept}
+use Rattle.reg_core.specs.Stored.{Stored, new_stored}
 use Rattle.reg_tables.specs.Layout.{no_schema}
 use Rattle.reg_store.specs.declared.error.StoreError.{StoreError}
 use Rattle.reg_store.specs.declared.error.StoreError.TheVariants.{Disk, NotARegistry}
@@ -17,14 +16,16 @@ use Rattle.reg_http.specs.declared.serving.Ended.{Ended}
 use Rattle.reg_jobs.specs.declared.files.TextOutcome.{TextOutcome}
 use Rattle.reg_jobs.specs.declared.files.CheckOutcome.{CheckOutcome}
 use Rattle.reg_words.specs.declared.task.Job.{Job}
-use Rattle.reg_words.specs.declared.task.Job.TheVariants.{Run, Text as TextJob, Check as CheckJob, List as ListJob, Migrate}
+use Rattle.reg_words.specs.declared.task.Job.TheVariants.{Run, Text as TextJob, Check as CheckJob, List as ListJob, Migrate, Audit}
 use Rattle.reg_words.specs.declared.task.Listing.{Listing}
 use Rattle.reg_jobs.specs.declared.errors.Errors.{Errors}
 use Rattle.reg_jobs.specs.declared.job.Opened.{Opened}
 use Rattle.reg_jobs.specs.declared.job.Opened.TheVariants.{Nothing, Texts, Failed, Empty, Fresh, Database}
 use Rattle.reg_jobs.specs.declared.outcome.Fault.{Fault}
 use Rattle.reg_jobs.specs.declared.outcome.Outcome.{Outcome}
-use Rattle.reg_jobs.specs.declared.outcome.Outcome.TheVariants.{Session as SessionEnded, Unopened, NotListening, Text as TextEnded, Check as CheckEnded, List as ListEnded, Moved}
+use Rattle.reg_jobs.specs.declared.outcome.Outcome.TheVariants.{Session as SessionEnded, Unopened, NotListening, Text as TextEnded, Check as CheckEnded, List as ListEnded, Moved, Audited}
+use Rattle.reg_jobs.specs.Auditing.{AuditsAs}
+use Rattle.reg_jobs.specs.declared.auditing.AuditOutcome.{AuditOutcome}
 use Rattle.reg_jobs.specs.Databases.{GivesBack, IsMadeIn, LacksMade, LacksFound}
 use Rattle.reg_jobs.specs.Files.{PrintsAs, ChecksAs}
 use Rattle.reg_jobs.specs.Listings.{IfUnread, ListsAs, table_of}
@@ -41,6 +42,7 @@ file_of (TextJob file) = string_bytes file
 file_of (CheckJob reader writer) = string_bytes reader
 file_of (ListJob database kind) = string_bytes database
 file_of (Migrate database) = string_bytes database
+file_of (Audit database) = string_bytes database
 
 -- the writer's file of a job that names two, or the one that it names
 abbrev pub writer_of : Job → List ℕ
@@ -49,6 +51,7 @@ writer_of (TextJob file) = string_bytes file
 writer_of (CheckJob reader writer) = string_bytes writer
 writer_of (ListJob database kind) = string_bytes database
 writer_of (Migrate database) = string_bytes database
+writer_of (Audit database) = string_bytes database
 
 -- what a job answers: the program's status, or a fault and the file that it is on
 abbrev pub job_answer : Job → Outcome → Result ℕ (Fault × List ℕ)
@@ -80,10 +83,9 @@ connection_in (Database connection) = Some connection
 
 -- a session over a new registry
 pub record RunsAs (reader reader' writer writer' : Option (List ℕ)) (outcome : Outcome) : Type 0 where
-  pub registry : Registry
-  pub kept : Kept
+  pub now : Stored
   pub ended : Ended
-  pub session : Session reader reader' writer writer' new_registry nothing_kept registry kept ended
+  pub session : Session reader reader' writer writer' new_stored now ended
   pub outcome_is : outcome ≡ SessionEnded ended
 
 -- the registry of what was opened: the new one that was made in an empty database, or the one that the tables of a database spelled
@@ -104,21 +106,20 @@ LacksRegistry g Empty back error = (back ≡ None) × (error ≡ NotARegistry)
 LacksRegistry g (Fresh old) back error = GivesBack g back (λ new. LacksMade (state g old) new error)
 LacksRegistry g (Database old) back error = GivesBack g back (λ new. LacksFound (state g old) new error)
 
--- the registry and the kept replies with which a session begins, by what was opened
-abbrev pub BeginsWith : {S : Type 0} (g : Ghosts S) → Opened S → Registry → Kept → Type 0
-BeginsWith g Nothing registry kept = ⊥
-BeginsWith g (Texts texts) registry kept = ⊥
-BeginsWith g Failed registry kept = ⊥
-BeginsWith g Empty registry kept = ⊥
-BeginsWith g (Fresh old) registry kept = ¬ ((state g old).now.schema ≢ no_schema) × (registry ≡ new_registry) × (kept ≡ nothing_kept)
-BeginsWith g (Database old) registry kept = SpellsUnopened (state g old).now registry kept
+-- what is stored as a session begins, by what was opened
+abbrev pub BeginsWith : {S : Type 0} (g : Ghosts S) → Opened S → Stored → Type 0
+BeginsWith g Nothing was = ⊥
+BeginsWith g (Texts texts) was = ⊥
+BeginsWith g Failed was = ⊥
+BeginsWith g Empty was = ⊥
+BeginsWith g (Fresh old) was = ¬ ((state g old).now.schema ≢ no_schema) × (was ≡ new_stored)
+BeginsWith g (Database old) was = SpellsUnopened (state g old).now was
 
--- a session led from these to what the tables spell
+-- a session led from that to what the tables spell
 pub record SessionOver {S : Type 0} (g : Ghosts S) (opened : Opened S) (reader reader' writer writer' : Option (List ℕ)) (ended : Ended) (new : State) : Type 0 where
-  pub registry : Registry
-  pub kept : Kept
-  pub begins : BeginsWith g opened registry kept
-  pub leads : Reaches new (λ after kept_after. Session reader reader' writer writer' registry kept after kept_after ended)
+  pub was : Stored
+  pub begins : BeginsWith g opened was
+  pub leads : Reaches new (λ now. Session reader reader' writer writer' was now ended)
 
 -- there was no registry, and nothing was read or written
 pub record RunsOnNothing {S : Type 0} (g : Ghosts S) (opened : Opened S) (back : Option (Held S)) (reader reader' writer writer' : Option (List ℕ)) (error : StoreError) : Type 0 where
@@ -135,6 +136,7 @@ RunsOn g opened back reader reader' writer writer' (TextEnded printed) = ⊥
 RunsOn g opened back reader reader' writer writer' (CheckEnded checked) = ⊥
 RunsOn g opened back reader reader' writer writer' (ListEnded listed) = ⊥
 RunsOn g opened back reader reader' writer writer' (Moved printed) = ⊥
+RunsOn g opened back reader reader' writer writer' (Audited audited) = ⊥
 
 -- how a session comes out that is asked for: over what was opened where the job names a file, and else over a new registry in memory
 abbrev pub RunsAsked : {S : Type 0} (g : Ghosts S) → Opened S → Bool → Option (Held S) → Option (List ℕ) → Option (List ℕ) → Option (List ℕ) → Option (List ℕ) → Outcome → Type 0
@@ -161,27 +163,45 @@ FindsNone g (Database old) back error = LacksRegistry g (Database old) back erro
 
 -- a listing of the registry of a database, which the tables still spell
 pub record ListsOver (old : State) (kind : Listing) (writer writer' : Option (List ℕ)) (listed : ListOutcome) (new : State) : Type 0 where
-  pub registry : Registry
-  pub kept : Kept
-  pub begins : SpellsUnopened old.now registry kept
-  pub lists : ListsAs (table_of kind) registry writer writer' listed
+  pub was : Stored
+  pub begins : SpellsUnopened old.now was
+  pub lists : ListsAs (table_of kind) was.registry writer writer' listed
   pub fault : IfUnread listed (λ error. IsTrue (is_fault error))
-  pub spells : SpellsWhileOpen new registry kept
+  pub spells : SpellsWhileOpen new was
 
 -- no registry was found, and nothing was written
-pub record ListsNothing {S : Type 0} (g : Ghosts S) (opened : Opened S) (back : Option (Held S)) (writer writer' : Option (List ℕ)) (error : StoreError) : Type 0 where
+pub record WritesNothing {S : Type 0} (g : Ghosts S) (opened : Opened S) (back : Option (Held S)) (writer writer' : Option (List ℕ)) (error : StoreError) : Type 0 where
   pub unwritten : writer' ≡ writer
   pub lacks : FindsNone g opened back error
 
 -- how a listing of what was opened comes out
 abbrev pub ListsOn : {S : Type 0} (g : Ghosts S) → Opened S → Listing → Option (Held S) → Option (List ℕ) → Option (List ℕ) → Outcome → Type 0
 ListsOn g opened kind back writer writer' (SessionEnded ended) = ⊥
-ListsOn g opened kind back writer writer' (Unopened error) = ListsNothing g opened back writer writer' error
+ListsOn g opened kind back writer writer' (Unopened error) = WritesNothing g opened back writer writer' error
 ListsOn g opened kind back writer writer' (NotListening port) = ⊥
 ListsOn g opened kind back writer writer' (TextEnded printed) = ⊥
 ListsOn g opened kind back writer writer' (CheckEnded checked) = ⊥
 ListsOn g opened kind back writer writer' (ListEnded listed) = OverDatabase g opened (λ old. GivesBack g back (ListsOver old kind writer writer' listed))
 ListsOn g opened kind back writer writer' (Moved printed) = ⊥
+ListsOn g opened kind back writer writer' (Audited audited) = ⊥
+
+-- an audit of what a database has stored, which the tables still spell
+pub record AuditsOver (old : State) (writer writer' : Option (List ℕ)) (audited : AuditOutcome) (new : State) : Type 0 where
+  pub was : Stored
+  pub begins : SpellsUnopened old.now was
+  pub audits : AuditsAs was writer writer' audited
+  pub spells : SpellsWhileOpen new was
+
+-- how an audit of what was opened comes out
+abbrev pub AuditsOn : {S : Type 0} (g : Ghosts S) → Opened S → Option (Held S) → Option (List ℕ) → Option (List ℕ) → Outcome → Type 0
+AuditsOn g opened back writer writer' (SessionEnded ended) = ⊥
+AuditsOn g opened back writer writer' (Unopened error) = WritesNothing g opened back writer writer' error
+AuditsOn g opened back writer writer' (NotListening port) = ⊥
+AuditsOn g opened back writer writer' (TextEnded printed) = ⊥
+AuditsOn g opened back writer writer' (CheckEnded checked) = ⊥
+AuditsOn g opened back writer writer' (ListEnded listed) = ⊥
+AuditsOn g opened back writer writer' (Moved printed) = ⊥
+AuditsOn g opened back writer writer' (Audited audited) = OverDatabase g opened (λ old. GivesBack g back (AuditsOver old writer writer' audited))
 
 -- nothing was opened that could be moved, and nothing was written
 abbrev pub MovesNothing : Option (List ℕ) → Option (List ℕ) → StoreError → Outcome → Type 0
@@ -215,6 +235,7 @@ ComesOut g (TextJob file) opened back reader reader' writer writer' outcome = (b
 ComesOut g (CheckJob r w) opened back reader reader' writer writer' outcome = (back ≡ connection_in opened) × (reader' ≡ reader) × CheckedAs (text_at opened 0) (text_at opened 1) writer writer' outcome
 ComesOut g (ListJob database kind) opened back reader reader' writer writer' outcome = (reader' ≡ reader) × ListsOn g opened kind back writer writer' outcome
 ComesOut g (Migrate database) opened back reader reader' writer writer' outcome = (reader' ≡ reader) × MovesOn g opened back writer writer' outcome
+ComesOut g (Audit database) opened back reader reader' writer writer' outcome = (reader' ≡ reader) × AuditsOn g opened back writer writer' outcome
 
 -- a job that was done, with the connection that comes back, its line on standard error and the status
 pub record DoesAs {S E : Type 0} (g : Ghosts S) (contents : E → Option (List ℕ)) (job : Job) (opened : Opened S) (back : Option (Held S))

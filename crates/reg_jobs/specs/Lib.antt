@@ -2,6 +2,7 @@ pub mod Errors
 pub mod Files
 pub mod Names
 pub mod Outcomes
+pub mod Auditing
 pub mod Databases
 pub mod Jobs
 pub mod Listening

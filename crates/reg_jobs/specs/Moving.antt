@@ -8,8 +8,8 @@ use Rattle.reg_store.specs.declared.error.StoreError.{StoreError}
 use Rattle.reg_store.specs.declared.error.StoreError.TheVariants.{Memory, Disk, NotARegistry, NewerLayout}
 use Rattle.reg_migrate.specs.declared.error.MigrateError.{MigrateError}
 use Rattle.reg_migrate.specs.declared.error.MigrateError.TheVariants as migrating
-use Rattle.reg_migrate.specs.Errors.{IsRefusedBy, LeavesBefore, TellsNewer}
-use Rattle.reg_migrate.specs.Migrations.{IsFaultOver, LosesNothing, Moves}
+use Rattle.reg_migrate.specs.Errors.{LeavesBefore}
+use Rattle.reg_migrate.specs.Migrations.{IsReasonOver, LosesNothing, Moves}
 use Rattle.reg_http.specs.Output.{Begins}
 use Rattle.reg_jobs.specs.declared.outcome.Outcome.{Outcome}
 use Rattle.reg_jobs.specs.declared.outcome.Outcome.TheVariants.{Unopened, Moved}
@@ -38,9 +38,7 @@ pub record MovesTelling (old new : State) (writer writer' : Option (List ℕ)) (
 -- Why a database wasn't moved: where its tables spell a registry in layout 1, for memory or the disk alone, and a newer layout is told, with its own
 -- number. Nothing is committed; a crash leaves what it left before, but after `Disk` perhaps layout 2, and always what the tables spelled.
 pub record FailsToMove (old new : State) (error : MigrateError) : Type 0 where
-  pub fault : IsFaultOver old error
-  pub refused : IsRefusedBy old.now error
-  pub newer : TellsNewer old error
+  pub reason : IsReasonOver old error
   pub only_reads : OnlyReads old new
   pub before : IsTrue old.is_open → LeavesBefore old new error
   pub found : LosesNothing old new

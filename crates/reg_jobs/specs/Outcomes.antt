@@ -11,7 +11,8 @@ use Rattle.reg_jobs.specs.declared.files.FileFault.TheVariants.{CannotRead, NotS
 use Rattle.reg_jobs.specs.declared.files.TextOutcome.TheVariants.{Whole, Nothing as NothingPrinted, NotWritten}
 use Rattle.reg_jobs.specs.declared.files.CheckOutcome.TheVariants.{Verdict, Reader, Writer, OutOfMemory as CheckOutOfMemory, NotWritten as VerdictNotWritten}
 use Rattle.reg_jobs.specs.declared.outcome.Outcome.{Outcome}
-use Rattle.reg_jobs.specs.declared.outcome.Outcome.TheVariants.{Session as SessionEnded, Unopened, NotListening, Text as TextEnded, Check as CheckEnded, List as ListEnded, Moved}
+use Rattle.reg_jobs.specs.declared.outcome.Outcome.TheVariants.{Session as SessionEnded, Unopened, NotListening, Text as TextEnded, Check as CheckEnded, List as ListEnded, Moved, Audited}
+use Rattle.reg_jobs.specs.declared.auditing.AuditOutcome.TheVariants.{Verdict as EvidenceTold, Unread as EvidenceUnread, NotWritten as EvidenceNotWritten}
 use Rattle.reg_jobs.specs.declared.moving.MoveOutcome.TheVariants.{Whole as MoveTold, NotWritten as MoveNotWritten}
 use Rattle.reg_jobs.specs.declared.listings.ListOutcome.TheVariants.{Whole as ListedWhole, Unread, NotWritten as ListNotWritten, OutOfMemory as ListOutOfMemory}
 use Rattle.reg_jobs.specs.declared.outcome.Trouble.{Trouble}
@@ -40,7 +41,7 @@ abbrev pub named : Result ℕ Trouble → Result ℕ (Fault × List ℕ)
 named (Ok status) = Ok status
 named (Err trouble) = Err (trouble.fault, trouble.file.now)
 
--- what a job answers, by how it came out: the program's status, 1 for a verdict of incompatible, or the fault and the file that it is on
+-- what a job answers, by how it came out: the program's status, 1 for a verdict of incompatible and for evidence that doesn't hold, or the fault and the file that it is on
 abbrev pub answer_of : Outcome → List ℕ → List ℕ → Result ℕ (Fault × List ℕ)
 answer_of (SessionEnded Closed) file writer = Ok 0
 answer_of (SessionEnded ReadFailed) file writer = Err (FaultReadFailed, file)
@@ -64,6 +65,10 @@ answer_of (ListEnded ListNotWritten) file writer = Err (FaultWriteFailed, file)
 answer_of (ListEnded ListOutOfMemory) file writer = Err (FaultOutOfMemory, file)
 answer_of (Moved MoveTold) file writer = Ok 0
 answer_of (Moved MoveNotWritten) file writer = Err (FaultWriteFailed, file)
+answer_of (Audited (EvidenceTold true)) file writer = Ok 0
+answer_of (Audited (EvidenceTold false)) file writer = Ok 1
+answer_of (Audited (EvidenceUnread error)) file writer = Err (fault_of_database error, file)
+answer_of (Audited EvidenceNotWritten) file writer = Err (FaultWriteFailed, file)
 
 -- the program's status, 2 for each fault
 abbrev pub status_of : Result ℕ (Fault × List ℕ) → ℕ

@@ -25,8 +25,8 @@ pub fn run_on_store<R: Read, W: Write, S: Alter>(
 ) -> (Ended, Connection<S>)
     ensures clean { HasCleanDisk (state S.Store result.1) → HasCleanDisk (state_of store) }
     ensures session { HasCleanDisk (state S.Store result.1)
-        → Over (state_of store) (state S.Store result.1) (λ g k g' k'. Session (R.remaining reader.old)
-        (R.remaining reader.new) (W.contents writer.old) (W.contents writer.new) g k g' k' result.0) }
+        → Over (state_of store) (state S.Store result.1) (λ was now. Session (R.remaining reader.old)
+        (R.remaining reader.new) (W.contents writer.old) (W.contents writer.new) was now result.0) }
 {
     let mut service = Service::new(alloc, store);
     let ended = serve(alloc, reader, writer, &mut service);

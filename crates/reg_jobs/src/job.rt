@@ -4,8 +4,9 @@ ghost use Rattle.std.specs.Prelude.{◌≡◌, IfOk, IfErr, false, option_map};
 ghost use Rattle.sqlite.specs.State.{HasCleanDisk};
 ghost use Rattle.reg_store.specs.Opening.{OpensOver};
 ghost use Rattle.reg_store.specs.Stores.{has_failed, state_of};
-ghost use Rattle.reg_jobs.specs.Jobs.{DoesAs, FindsNone, HasRegistry, LacksRegistry, ListsOn, OverDatabase, RunsAs, RunsAsked, RunsOn, MovesOn, file_of, writer_of};
+ghost use Rattle.reg_jobs.specs.Jobs.{AuditsOn, DoesAs, FindsNone, HasRegistry, LacksRegistry, ListsOn, OverDatabase, RunsAs, RunsAsked, RunsOn, MovesOn, file_of, writer_of};
 
+use crate::auditing::audit_store;
 use crate::database::{create_in, open_in, run_on_store};
 use crate::errors::Errors;
 use crate::files::{check, print_text};
@@ -51,6 +52,7 @@ fn file_of(job: &Job) -> &str
         Job::Check { reader, .. } => reader.as_str(),
         Job::List { database, .. } => database.as_str(),
         Job::Migrate { database } => database.as_str(),
+        Job::Audit { database } => database.as_str(),
     }
 }
 
@@ -233,8 +235,26 @@ fn move_on<S: Alter + Drop, W: Write>(
     }
 }
 
-/// Does a job with what was opened for it, and answers the program's status: 0, 1 for a verdict
-/// of incompatible, or 2 after a fault, whose line goes to `errors`. A connection is given back.
+/// Prints whether the evidence that what was opened has of its versions holds, and gives the connection
+/// back. Without a registry nothing is written.
+fn audit_on<S: Alter + Drop, W: Write>(
+    alloc: Global,
+    opened: Opened<S>,
+    writer: &mut W,
+) -> (Outcome, Option<Connection<S>>)
+    ensures { AuditsOn S.Store opened result.1 (W.contents writer.old) (W.contents writer.new) result.0 }
+{
+    match found_in(alloc, opened) {
+        Ok(store) => {
+            let (audited, connection) = audit_store(store, writer);
+            (Outcome::Audited(audited), Some(connection))
+        }
+        Err((error, connection)) => (Outcome::Unopened(error), connection),
+    }
+}
+
+/// Does a job with what was opened for it, and answers the program's status: 0, 1 for a verdict of
+/// incompatible or for evidence that doesn't hold, or 2 after a fault, whose line goes to `errors`. A connection is given back.
 pub fn do_job<S: Alter + Drop, R: Read, W: Write, E: Write + Drop>(
     alloc: Global,
     job: &Job,
@@ -258,6 +278,7 @@ pub fn do_job<S: Alter + Drop, R: Read, W: Write, E: Write + Drop>(
         }
         Job::List { kind, .. } => list_on(alloc, opened, *kind, writer),
         Job::Migrate { .. } => move_on(alloc, opened, writer),
+        Job::Audit { .. } => audit_on(alloc, opened, writer),
     };
     let answer = answer_of(outcome, file_of(job), writer_of(job));
     (tell_answer(errors, answer), connection)

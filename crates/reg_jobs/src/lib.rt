@@ -1,9 +1,10 @@
 //! The jobs of the program: a session of messages over a registry, connections to a listener, a listing
-//! of a registry, its move to this program's layout, the identity text of a schema in a file, and the
-//! verdict on two.
+//! of a registry, its move to this program's layout, an audit of the evidence that it has of its
+//! versions, the identity text of a schema in a file, and the verdict on two.
 
 #![tactic(auto)]
 
+mod auditing;
 mod database;
 mod errors;
 mod files;
@@ -16,6 +17,7 @@ mod name;
 mod opening;
 mod outcome;
 
+pub use auditing::AuditOutcome;
 pub use errors::Errors;
 pub use job::{Opened, do_job, store_in};
 pub use line::report;

@@ -3,11 +3,10 @@
 ghost use Rattle.std.specs.Prelude.{◌≡◌, false};
 ghost use Rattle.sqlite.specs.Held.{state};
 ghost use Rattle.sqlite.specs.State.{HasCleanDisk};
-ghost use Rattle.reg_core.specs.Registry.{Registry};
-ghost use Rattle.reg_core.specs.KeptReplies.{Kept};
+ghost use Rattle.reg_core.specs.Stored.{Stored};
 ghost use Rattle.reg_store.specs.Spells.{SpellsWhileOpen};
 ghost use Rattle.reg_store.specs.Failures.{IsFaultOver};
-ghost use Rattle.reg_store.specs.Stores.{has_failed, state_of};
+ghost use Rattle.reg_store.specs.Stores.{has_failed, state_of, SpellsOn};
 ghost use Rattle.reg_jobs.specs.Listings.{IfUnread, ListsAs, listed_as, table_of};
 
 use reg_report::{ReportError, list};
@@ -60,13 +59,12 @@ pub fn list_store<W: Write, S: Alter>(
     writer: &mut W,
 ) -> (ListOutcome, Connection<S>)
     ensures clean { HasCleanDisk (state S.Store result.1) → HasCleanDisk (state_of store) }
-    ensures lists { HasCleanDisk (state S.Store result.1) → (g : Registry) (k : Kept)
-        → SpellsWhileOpen (state_of store) g k
-        → ListsAs kind g (W.contents writer.old) (W.contents writer.new) result.0 }
+    ensures lists { HasCleanDisk (state S.Store result.1) → (was : Stored)
+        → SpellsWhileOpen (state_of store) was
+        → ListsAs kind was.registry (W.contents writer.old) (W.contents writer.new) result.0 }
     ensures fault { HasCleanDisk (state S.Store result.1) → has_failed store ≡ false
         → IfUnread result.0 (IsFaultOver (state_of store) (state S.Store result.1)) }
-    ensures same { HasCleanDisk (state S.Store result.1) → (g : Registry) (k : Kept)
-        → SpellsWhileOpen (state_of store) g k → SpellsWhileOpen (state S.Store result.1) g k }
+    ensures same { HasCleanDisk (state S.Store result.1) → SpellsOn (state_of store) (state S.Store result.1) }
 {
     let printed = list(alloc, &mut store, kind, writer);
     (listed_as(printed), store.into_connection())

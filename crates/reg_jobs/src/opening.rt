@@ -55,7 +55,7 @@ pub fn open_for<S: Alter, O: Opener<S>>(
         Job::Run {
             database: Some(file),
         } => opener.open_to_run(file.as_str()),
-        Job::List { database, .. } | Job::Migrate { database } => {
+        Job::List { database, .. } | Job::Migrate { database } | Job::Audit { database } => {
             opener.open_to_list(database.as_str())
         }
         Job::Text { file } => {

@@ -3,6 +3,7 @@
 ghost use Rattle.std.specs.Prelude.{◌≡◌};
 ghost use Rattle.reg_jobs.specs.Outcomes.{answer_of, fault_of_database, fault_of_file, named, status_of};
 
+use crate::auditing::AuditOutcome;
 use crate::files::{CheckOutcome, FileFault, TextOutcome};
 use crate::listings::ListOutcome;
 use crate::moving::MoveOutcome;
@@ -26,6 +27,8 @@ pub enum Outcome {
     List(ListOutcome),
     /// A registry was moved to this program's layout, or had it.
     Moved(MoveOutcome),
+    /// The evidence of a registry's versions was to be audited.
+    Audited(AuditOutcome),
 }
 
 /// A fault that has a line on standard error.
@@ -87,7 +90,7 @@ fn fault_of_database(error: StoreError) -> Fault
 }
 
 /// What a job answers, by how it came out: the program's status, which is 1 for a verdict of
-/// incompatible, or its trouble. That is on the writer's file where that one gives no schema.
+/// incompatible and for evidence that doesn't hold, or its trouble. That is on the writer's file where that one gives no schema.
 ///
 /// # Errors
 ///
@@ -118,6 +121,10 @@ pub fn answer_of<'a>(outcome: Outcome, file: &'a str, writer: &'a str) -> Result
         Outcome::List(ListOutcome::OutOfMemory) => Err(Fault::OutOfMemory.on(file)),
         Outcome::Moved(MoveOutcome::Whole) => Ok(0),
         Outcome::Moved(MoveOutcome::NotWritten) => Err(Fault::WriteFailed.on(file)),
+        Outcome::Audited(AuditOutcome::Verdict(true)) => Ok(0),
+        Outcome::Audited(AuditOutcome::Verdict(false)) => Ok(1),
+        Outcome::Audited(AuditOutcome::Unread(error)) => Err(fault_of_database(error).on(file)),
+        Outcome::Audited(AuditOutcome::NotWritten) => Err(Fault::WriteFailed.on(file)),
     }
 }
 

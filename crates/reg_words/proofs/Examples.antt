@@ -2,7 +2,7 @@
 use Rattle.std.proofs.Common.{◌≡◌, refl, [], ◌∷◌, Some, None, codes}
 use Rattle.clap.proofs.OnLiterals.{clap_on_literals}
 use Rattle.reg_words.specs.Line.{line}
-use Rattle.reg_words.specs.Tasks.{to_run, to_print, to_check, to_list, to_migrate, to_serve}
+use Rattle.reg_words.specs.Tasks.{to_run, to_print, to_check, to_list, to_migrate, to_audit, to_serve}
 use Rattle.reg_words.specs.declared.task.Listing.TheVariants.{Versions}
 
 -- `run`
@@ -54,6 +54,16 @@ migrated = refl
 pub migrate_nothing : line (codes "migrate" ∷ []) ≡ None
 unfolding clap_on_literals
 migrate_nothing = refl
+
+-- `audit --db F`
+pub audited : line (codes "audit" ∷ codes "--db" ∷ codes "F" ∷ []) ≡ Some (to_audit (codes "F"))
+unfolding clap_on_literals
+audited = refl
+
+-- `audit --db F versions`: a word too many
+pub audit_a_listing : line (codes "audit" ∷ codes "--db" ∷ codes "F" ∷ codes "versions" ∷ []) ≡ None
+unfolding clap_on_literals
+audit_a_listing = refl
 
 -- no words
 pub no_words : line [] ≡ None

@@ -51,14 +51,17 @@ list_command = with_rule (with_rule (new_app (codes "list")) (needed database_ru
 abbrev pub migrate_command : App
 migrate_command = with_rule (new_app (codes "migrate")) (needed database_rule)
 
+abbrev pub audit_command : App
+audit_command = with_rule (new_app (codes "audit")) (needed database_rule)
+
 -- The words begin behind the program's name, and name a command.
 abbrev pub bare : App
 bare = on_top (λ top. record top { no_binary_name = true; subcommand_required = true }) (new_app (codes "avroreg"))
 
 abbrev pub program : App
 program =
-    with_subcommand (with_subcommand (with_subcommand (with_subcommand (with_subcommand (with_subcommand bare run_command.top) serve_command.top) check_command.top) text_command.top)
-    list_command.top) migrate_command.top
+    with_subcommand (with_subcommand (with_subcommand (with_subcommand (with_subcommand (with_subcommand (with_subcommand bare run_command.top) serve_command.top) check_command.top) text_command.top)
+    list_command.top) migrate_command.top) audit_command.top
 
 -- the command is this one, and no argument of it is one of its subcommands' too
 pub record IsApp (app : App) (command : Command) : Type 0 where

@@ -3,7 +3,7 @@ use Rattle.std.specs.Prelude.{ℕ, List, [], ◌∷◌, codes, bytes_eq, Option,
 use Rattle.clap.specs.Words.{Kinds, Row, Text, fault_of, first_of, subcommand_of}
 use Rattle.reg_words.specs.Commands.{most_connections, program}
 use Rattle.reg_words.specs.Numbers.{number_in}
-use Rattle.reg_words.specs.Tasks.{Asked, to_run, to_print, to_check, to_list, to_migrate, to_serve}
+use Rattle.reg_words.specs.Tasks.{Asked, to_run, to_print, to_check, to_list, to_migrate, to_audit, to_serve}
 use Rattle.reg_words.specs.declared.task.Listing.{Listing}
 use Rattle.reg_words.specs.declared.task.Listing.TheVariants.{Subjects, Versions, Schemas}
 
@@ -52,6 +52,10 @@ list_in rows =
 abbrev pub migrate_in : List Row → Option Asked
 migrate_in rows = option_map to_migrate (first_of (codes "db") rows)
 
+-- `audit --db F`
+abbrev pub audit_in : List Row → Option Asked
+audit_in rows = option_map to_audit (first_of (codes "db") rows)
+
 -- what a command with these values asks for
 abbrev pub task_in : Text → List Row → Option Asked
 task_in name rows =
@@ -61,6 +65,7 @@ task_in name rows =
     else if bytes_eq name (codes "text") then text_in rows
     else if bytes_eq name (codes "list") then list_in rows
     else if bytes_eq name (codes "migrate") then migrate_in rows
+    else if bytes_eq name (codes "audit") then audit_in rows
     else None
 
 -- what the command that the words name asks for, where clap finds no fault in them

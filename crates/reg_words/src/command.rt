@@ -2,9 +2,10 @@
 
 ghost use Rattle.std.specs.Prelude.{◌≡◌, IfOk, false};
 ghost use Rattle.clap.specs.Words.{new_rule, rule_of};
-ghost use Rattle.reg_words.specs.Commands.{IsApp, bare, check_command, connections_rule};
-ghost use Rattle.reg_words.specs.Commands.{list_command, migrate_command, needed, option_rule, port_rule, program};
-ghost use Rattle.reg_words.specs.Commands.{run_command, serve_command, text_command};
+ghost use Rattle.reg_words.specs.Commands.{IsApp, audit_command, bare, check_command};
+ghost use Rattle.reg_words.specs.Commands.{connections_rule, list_command, migrate_command, needed};
+ghost use Rattle.reg_words.specs.Commands.{option_rule, port_rule, program, run_command, serve_command};
+ghost use Rattle.reg_words.specs.Commands.{text_command};
 
 use crate::task::MOST_CONNECTIONS;
 use clap::{Arg, Command, value_parser};
@@ -157,6 +158,22 @@ it then. Status 0, or 2 at a fault, with a line on standard error.",
         .arg(database.required(true))
 }
 
+/// `audit --db F`.
+fn audit_command<'a>(alloc: Global) -> Result<Command<'a>, AllocError>
+    ensures { IfOk result (IsApp audit_command) }
+{
+    let database = option(alloc, "db", "F", "The database file, which has a registry");
+    Command::new(alloc, "audit")
+        .about("Prints whether the evidence of a registry's versions holds")
+        .after_help(
+            "Reads each version beside those that it was compared with when it was registered,
+and prints evidence holds, status 0, where each pair resolves as the level asked
+then, or evidence does not hold, status 1. Status 2 at a fault, with a line on
+standard error.",
+        )
+        .arg(database.required(true))
+}
+
 /// The program without its commands.
 fn bare<'a>(alloc: Global) -> Result<Command<'a>, AllocError>
     ensures { IfOk result (IsApp bare) }
@@ -190,5 +207,6 @@ pub fn program<'a>(alloc: Global) -> Result<Command<'a>, AllocError>
         .subcommand(check_command(alloc)?)?
         .subcommand(text_command(alloc)?)?
         .subcommand(list_command(alloc)?)?
-        .subcommand(migrate_command(alloc)?)
+        .subcommand(migrate_command(alloc)?)?
+        .subcommand(audit_command(alloc)?)
 }

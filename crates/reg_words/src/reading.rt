@@ -2,7 +2,7 @@
 
 ghost use Rattle.std.specs.Prelude.{◌≡◌, None, Some, MatchResult, map, string_bytes};
 ghost use Rattle.clap.specs.Words.{found_of, rows_of};
-ghost use Rattle.reg_words.specs.Line.{check_in, line, list_in, migrate_in, serve_in, task_in, text_in};
+ghost use Rattle.reg_words.specs.Line.{audit_in, check_in, line, list_in, migrate_in, serve_in, task_in, text_in};
 ghost use Rattle.reg_words.specs.Tasks.{IsUsage, asked_of};
 
 use crate::command::{list_command, program};
@@ -124,6 +124,20 @@ fn migrate_task(alloc: Global, matches: &ArgMatches<'_>) -> Result<Task, LineFau
     }))
 }
 
+/// The job of `audit`.
+fn audit_task(alloc: Global, matches: &ArgMatches<'_>) -> Result<Task, LineFault>
+    ensures { MatchResult result
+        (λ task. audit_in (rows_of (found_of matches.now)) ≡ Some (asked_of task))
+        (λ fault. IsUsage fault → audit_in (rows_of (found_of matches.now)) ≡ None) }
+{
+    let Some(database) = value_of(matches, "db") else {
+        return Err(incomplete(alloc)?);
+    };
+    Ok(Task::Job(Job::Audit {
+        database: String::from_str(alloc, database)?,
+    }))
+}
+
 /// What a command asks for, with the values of its arguments.
 fn task_named(alloc: Global, name: &str, matches: &ArgMatches<'_>) -> Result<Task, LineFault>
     ensures { MatchResult result
@@ -139,6 +153,7 @@ fn task_named(alloc: Global, name: &str, matches: &ArgMatches<'_>) -> Result<Tas
         "text" => text_task(alloc, matches),
         "list" => list_task(alloc, matches),
         "migrate" => migrate_task(alloc, matches),
+        "audit" => audit_task(alloc, matches),
         _ => Err(incomplete(alloc)?),
     }
 }

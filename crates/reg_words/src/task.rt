@@ -29,6 +29,8 @@ pub enum Job {
     List { database: String, kind: Listing },
     /// Move the registry in a database file to the newest layout.
     Migrate { database: String },
+    /// Print whether the evidence of the registry in a database file holds.
+    Audit { database: String },
 }
 
 /// A registry on a port of 127.0.0.1.

@@ -14,4 +14,4 @@ returns-in-Ok-clause-done g c clean = record { empty = λ full. c.in-Ok.ensures.
 pub returns-in-Err-clause-fault : goal.returns-in-Err-clause-fault
 returns-in-Err-clause-fault g c =
     let e = c.in-Err.ensures in
-    record { connection = c.in-Err.connection; given = refl; holds = λ clean. inr (record { full = λ full. e.full full; fault = e.fault clean; only_reads = e.nothing clean; before = e.before clean }) }
+    record { connection = c.in-Err.connection; given = refl; holds = λ clean. inr (record { full = λ full. e.full full; fault = e.fails.fault clean; leaves = e.fails.leaves }) }

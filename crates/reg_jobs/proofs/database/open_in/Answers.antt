@@ -11,4 +11,4 @@ returns-then-not-is_autocommit-clause-fault g c =
 pub returns-in-Err-clause-fault : goal.returns-in-Err-clause-fault
 returns-in-Err-clause-fault g c =
     let e = c.in-Err.ensures in
-    record { connection = c.in-Err.connection; given = refl; holds = λ clean. inr (record { fault = e.fault clean; told = e.told clean; other = e.other clean; refused = e.refused clean; only_reads = e.nothing clean; before = e.before clean; found = e.found clean }) }
+    record { connection = c.in-Err.connection; given = refl; holds = λ clean. inr (record { fails = e.fails clean; leaves = e.leaves; found = e.found clean }) }

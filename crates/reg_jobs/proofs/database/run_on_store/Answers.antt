@@ -6,14 +6,13 @@ use Rattle.reg_store.specs.Stores.{connection_of, state_of}
 use Rattle.reg_jobs.proofs.database.run_on_store.Goals as goal
 
 pub returns-clause-session : goal.returns-clause-session
-returns-clause-session g c clean registry kept spells =
+returns-clause-session g c clean was spells =
     let back = c.into_connection.ensures.same ∙ ap connection_of c.into_store.ensures in
     let still = subst (λ held. HasCleanDisk (state g.S.Store held)) back clean in
-    let over = subst (λ store. SpellsWhileOpen (state_of store) registry kept) (sym c.new-service.ensures) spells in
-    let s = c.serve-ended.ensures.session still registry kept over in
+    let over = subst (λ store. SpellsWhileOpen (state_of store) was) (sym c.new-service.ensures) spells in
+    let s = c.serve-ended.ensures.session still was over in
     record {
-      registry = s.registry;
-      kept = s.kept;
-      spells = subst (λ held. SpellsWhileOpen (state g.S.Store held) s.registry s.kept) (sym back) s.spells;
+      stored = s.stored;
+      spells = subst (λ held. SpellsWhileOpen (state g.S.Store held) s.stored) (sym back) s.spells;
       holds = s.holds;
     }

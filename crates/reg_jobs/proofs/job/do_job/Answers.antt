@@ -2,7 +2,7 @@ use Rattle.std.proofs.Common.{◌≡◌, ◌∙◌, ap, refl}
 use Rattle.reg_jobs.specs.Jobs.{ComesOut, job_answer}
 use Rattle.reg_jobs.specs.Outcomes.{TellsFault, named, status_of}
 use Rattle.reg_jobs.proofs.job.do_job.Goals as goal
-use Rattle.reg_jobs.proofs.job.do_job.Goals.{in-Run, in-Text, in-Check, in-List, in-Migrate}
+use Rattle.reg_jobs.proofs.job.do_job.Goals.{in-Run, in-Text, in-Check, in-List, in-Migrate, in-Audit}
 
 pub returns : goal.returns
 returns g c =
@@ -16,6 +16,7 @@ returns g c =
           (w.into_connection-in-Check.ensures, refl, record { checked = w.check-checked.result; checks = rw (w.text-in-Check.ensures, w.text-in-Check-2.ensures) at w.check-checked.ensures; outcome_is = refl })
       | in-List w ↦ rw (w.in-List.is, w.outcome-is, w.writer-is, w.reader-is) (refl, w.list_on.ensures)
       | in-Migrate w ↦ rw (w.in-Migrate.is, w.outcome-is, w.writer-is, w.reader-is) (refl, w.move_on.ensures)
+      | in-Audit w ↦ rw (w.in-Audit.is, w.outcome-is, w.writer-is, w.reader-is) (refl, w.audit_on.ensures)
     ] in
     let answer : named c.answer_of-answer.result ≡ job_answer c.args.job.now c.match-job.outcome.0 =
     rw (c.file_of.ensures, c.writer_of.ensures) at c.answer_of-answer.ensures in

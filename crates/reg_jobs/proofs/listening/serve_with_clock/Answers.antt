@@ -1,4 +1,7 @@
+use Rattle.std.proofs.Common.{◌≡◌, subst, rules}
 use Rattle.reg_service.specs.Services.{state_in}
+use Rattle.reg_http.specs.OverTables.{Over}
+use Rattle.reg_jobs.specs.Listening.{ServesUpTo}
 use Rattle.reg_jobs.proofs.ListeningLemmas.{Over-none, Over-next}
 use Rattle.reg_jobs.proofs.listening.serve_with_clock.Goals as goal
 
@@ -12,3 +15,8 @@ loop-number-preserved g c =
       clean = λ h. inv.clean (c.serve_next.ensures.clean h);
       served = λ h. Over-next _ _ _ _ (inv.served (c.serve_next.ensures.clean h)) (c.serve_next.ensures.session h);
     }
+
+pub returns-clause-sessions : goal.returns-clause-sessions
+returns-clause-sessions g c clean =
+    let all : c.loop-number.number ≡ c.args.connections = search rules in
+    subst (λ count. Over (state_in c.args.service.now) (state_in c.loop-number.service) (ServesUpTo count)) all (c.loop-number.invariant.served clean)

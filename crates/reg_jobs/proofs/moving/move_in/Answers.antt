@@ -16,11 +16,9 @@ returns g c clean =
       | in-Err w ↦ rw (w.outcome-is, w.writer-is) (inr (inl (record {
         error = w.in-Err.error;
         fails = record {
-          fault = rw w.in-Err.is at moved.fault clean;
-          refused = rw w.in-Err.is at moved.refused clean;
-          newer = rw w.in-Err.is at moved.newer clean;
-          only_reads = rw w.in-Err.is at moved.nothing clean;
-          before = rw w.in-Err.is at moved.before clean;
+          reason = rw w.in-Err.is at moved.reason clean;
+          only_reads = rw w.in-Err.is at moved.leaves.nothing clean;
+          before = rw w.in-Err.is at moved.leaves.before clean;
           found = moved.found clean;
         };
         tells = w.tell_unmoved-outcome.ensures;

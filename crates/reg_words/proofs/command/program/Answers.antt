@@ -9,4 +9,5 @@ returns c =
     let three = joined _ _ _ _ _ two c.in_ok-check_command.ensures c.in_ok-subcommand-3.ensures in
     let four = joined _ _ _ _ _ three c.in_ok-text_command.ensures c.in_ok-subcommand-4.ensures in
     let five = joined _ _ _ _ _ four c.in_ok-list_command.ensures c.in_ok-subcommand-5.ensures in
-    IfOk-weaker c.subcommand-6.result _ _ (λ r added. joined _ _ _ _ _ five c.in_ok-migrate_command.ensures added) c.subcommand-6.ensures
+    let six = joined _ _ _ _ _ five c.in_ok-migrate_command.ensures c.in_ok-subcommand-6.ensures in
+    IfOk-weaker c.subcommand-7.result _ _ (λ r added. joined _ _ _ _ _ six c.in_ok-audit_command.ensures added) c.subcommand-7.ensures

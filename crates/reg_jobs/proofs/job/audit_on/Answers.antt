@@ -1,0 +1,17 @@
+use Rattle.std.proofs.Common.{refl}
+use Rattle.reg_jobs.proofs.JobLemmas.{AuditsOver-found, OverDatabase-map}
+use Rattle.reg_jobs.proofs.job.audit_on.Goals as goal
+
+pub returns-in-Ok : goal.returns-in-Ok
+returns-in-Ok g c =
+    OverDatabase-map g.S.Store c.args.opened _ _
+    (λ old opens. record {
+      connection = c.audit_store-audited.result.1;
+      given = refl;
+      holds = λ clean. AuditsOver-found old _ _ _ _ c.audit_store-audited.result.0
+          (opens (c.audit_store-audited.ensures.clean clean)) (c.audit_store-audited.ensures.audits clean) (c.audit_store-audited.ensures.same clean);
+    })
+    c.in-Ok.ensures.over
+
+pub returns-in-Err : goal.returns-in-Err
+returns-in-Err g c = record { unwritten = refl; lacks = c.in-Err.ensures.none }
