@@ -1,9 +1,7 @@
-//! What no clause says of jobs: what is opened for them, how they come out, and what is printed.
+//! What no clause says of jobs: how they come out, and what is printed of them; and of connections.
 
 mod doing;
 mod jobs;
-mod listings;
 mod loopback;
 mod outcomes;
-mod schema_files;
 mod waiting;

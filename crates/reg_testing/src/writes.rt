@@ -3,7 +3,7 @@
 use crate::bodies::{FULL_SET, INCOMPATIBLE, NOT_SOFT_DELETED};
 use crate::deliveries::{Ask, Row};
 
-/// Writes to a new registry. They leave eight kept replies, two texts and no version.
+/// Writes to a new registry. They leave eight kept replies, two texts, no version and no evidence.
 pub const WRITES: [Row; 8] = [
     (Some("z1"), Ask::SetGlobal("FULL"), 200, FULL_SET),
     (Some("z2"), Ask::Register("t", "\"int\""), 200, "{\"id\":1}"),

@@ -1,9 +1,12 @@
-//! What a job does, without what it promises.
+//! What a job and a server do, without what they promise.
 
-use reg_jobs::{Errors, Job, Opened, do_job};
+use reg_jobs::{Errors, Job, Opened, do_job, serve_on, serve_with_clock};
+use reg_service::Service;
 use sqlite::{Alter, Connection};
-use std::alloc::{AllocError, Global};
+use std::alloc::Global;
 use std::io::{Read, Write};
+use std::net::TcpListener;
+use std::time::Clock;
 
 /// What a job tells on standard error, its status, and the connection that comes back.
 pub(super) type Told<S> = (Vec<u8>, u8, Option<Connection<S>>);
@@ -21,16 +24,23 @@ pub(super) fn done<S: Alter + Drop, R: Read, W: Write>(
     (errors.into_writer(), status, connection)
 }
 
-/// Runs over a database in the file F.
-pub(super) fn run_over<S: Alter + Drop>(
+/// Serves so many connections.
+pub(super) fn accept<S: Alter>(
     alloc: Global,
-    opened: Opened<S>,
-    input: &str,
-) -> Result<(Vec<u8>, Told<S>), AllocError> {
-    let job = Job::Run {
-        database: Some(String::from_str(alloc, "F")?),
-    };
-    let mut written = Vec::new(alloc);
-    let told = done(alloc, &job, opened, &mut input.as_bytes(), &mut written);
-    Ok((written, told))
+    listener: &TcpListener,
+    count: u32,
+    service: &mut Service<S>,
+) {
+    serve_on(alloc, listener, count, service);
+}
+
+/// Serves so many connections by a clock.
+pub(super) fn accept_by<C: Clock, S: Alter>(
+    alloc: Global,
+    clock: &C,
+    listener: &TcpListener,
+    count: u32,
+    service: &mut Service<S>,
+) {
+    serve_with_clock(alloc, clock, listener, count, service);
 }

@@ -1,104 +1,130 @@
-//! Jobs: their status, their line on standard error, and the databases that they run over.
+//! Jobs over one database, one after the other, each with an output that fails after so many bytes: what
+//! is printed, the line on standard error, and the status.
 
-use super::doing::{done, run_over};
-use reg_jobs::{Job, Opened};
-use reg_testing::{
-    FULL_KEPT, FULL_SET, Failing, GET, IS_FULL, OnDatabase, Pieces, SET_FULL, empty_disk, kept,
-    on_disk,
-};
-use sqlite::{Alter, Connection, MemStore};
-use std::alloc::Global;
-use std::io::{Read, Write};
-use std::process::Abort;
-use std::str;
+use super::doing::done;
+use reg_jobs::{Job, Listing, Opened};
+use reg_testing::{FULL_SET, Failing, GET, IS_FULL, OnDatabase, SET_FULL, empty_disk, on_disk};
+use sqlite::{Alter, Connection};
+use std::alloc::{AllocError, Global};
 use std::test::Fail;
 
-/// Holds a run over a new registry in memory to its line; it is a fault.
-fn fails<R: Read, W: Write>(
-    rt: &(impl Abort + AllocGlobal),
-    reader: &mut R,
-    writer: &mut W,
-    line: &str,
-) {
-    let job = Job::Run { database: None };
-    let opened = Opened::<MemStore>::Nothing;
-    let (told, status, _) = done(rt.alloc(), &job, opened, reader, writer);
-    assert_eq!(rt; str::from_utf8(told.as_slice()), Ok(line));
-    assert_eq!(rt; status, 2);
+/// What is done with the database in the file F.
+#[derive(Clone, Copy)]
+enum What {
+    /// A run that makes the registry.
+    Make,
+    Run,
+    List,
+    Migrate,
+    Audit,
 }
 
-#[test]
-fn a_job_has_a_status_and_a_line(rt: HostRuntime) {
-    let mut written = Vec::new(rt.alloc());
-    let mut cut = "GET /con".as_bytes();
-    fails(&rt, &mut cut, &mut written, "avroreg: malformed input\n");
-    let mut reader = Pieces {
-        left: b"",
-        size: 1,
-        reads: 0,
-    };
-    fails(&rt, &mut reader, &mut written, "avroreg: read failed\n");
-    assert!(rt; written.is_empty());
-    let mut writer = Failing {
-        taken: Vec::new(rt.alloc()),
-        writes: 3,
-        takes_nothing: true,
-    };
-    let mut reader = SET_FULL.as_bytes();
-    fails(&rt, &mut reader, &mut writer, "avroreg: write failed\n");
+/// A job, its input, and what it prints.
+#[derive(Clone, Copy)]
+struct Row(What, &'static str, &'static str);
+
+const REGISTER: &str =
+    "POST /subjects/s/versions HTTP/1.1\r\nContent-Length: 20\r\n\r\n{\"schema\":\"\\\"int\\\"\"}";
+
+const REGISTERED: &str =
+    "HTTP/1.1 200 OK\r\nContent-Type: application/vnd.schemaregistry.v1+json\r\nContent-Length: 8\r\n\r\n{\"id\":1}";
+
+/// Jobs over a new registry. Those that don't read leave their input where it is.
+const ROWS: [Row; 7] = [
+    Row(What::Run, SET_FULL, FULL_SET),
+    Row(What::Run, GET, IS_FULL),
+    Row(What::Run, REGISTER, REGISTERED),
+    Row(What::List, GET, "subject,level,live,deleted\ns,,1,0\n"),
+    Row(What::Audit, GET, "evidence holds\n"),
+    Row(What::Migrate, GET, "layout 2: nothing to do\n"),
+    Row(What::Audit, GET, "evidence holds\n"),
+];
+
+/// The job over the file F.
+fn job_of(alloc: Global, what: What) -> Result<Job, AllocError> {
+    let database = String::from_str(alloc, "F")?;
+    Ok(match what {
+        What::Make | What::Run => Job::Run {
+            database: Some(database),
+        },
+        What::List => Job::List {
+            database,
+            kind: Listing::Subjects,
+        },
+        What::Migrate => Job::Migrate { database },
+        What::Audit => Job::Audit { database },
+    })
 }
 
-/// A run over a database, with its input and the output due. The first run makes the registry.
+/// A job over a database, whose output takes so many bytes.
 #[derive(Drop)]
-struct Run<'a> {
-    is_first: bool,
-    input: &'a str,
-    output: &'a str,
+struct Task {
+    row: Row,
+    takes: usize,
 }
 
-impl<'a> OnDatabase for Run<'a> {
+impl Task {
+    /// What is printed is the beginning that fits; where that isn't all, the line and the status tell it.
+    fn is_due(&self, written: &[u8], told: &[u8], status: u8) -> bool {
+        let whole = self.row.2.as_bytes();
+        let (line, due) = if self.takes < whole.len() {
+            ("avroreg: write failed\n", 2)
+        } else {
+            ("", 0)
+        };
+        whole.get(..self.takes.min(whole.len())) == Some(written)
+            && told == line.as_bytes()
+            && status == due
+    }
+}
+
+impl OnDatabase for Task {
     fn work<S: Alter + Drop>(
         &mut self,
         alloc: Global,
         connection: Connection<S>,
     ) -> Result<Connection<S>, Fail> {
-        let opened = if self.is_first {
-            Opened::Fresh(connection)
-        } else {
-            Opened::Database(connection)
+        let Row(what, input, _) = self.row;
+        let opened = match what {
+            What::Make => Opened::Fresh(connection),
+            _ => Opened::Database(connection),
         };
-        let (written, (told, status, connection)) = run_over(alloc, opened, self.input)?;
-        let mut connection = connection.ok_or("no connection came back")?;
-        let kept = kept(alloc, &mut connection)?;
-        if written.as_slice() == self.output.as_bytes()
-            && told.is_empty()
-            && status == 0
-            && kept.as_str() == FULL_KEPT
-        {
-            return Ok(connection);
+        let mut writer = Failing {
+            taken: Vec::new(alloc),
+            writes: self.takes,
+            takes_nothing: false,
+        };
+        let job = job_of(alloc, what)?;
+        let (told, status, connection) = done(
+            alloc,
+            &job,
+            opened,
+            &mut input.as_bytes(),
+            &mut writer,
+        );
+        if !self.is_due(writer.taken.as_slice(), told.as_slice(), status) {
+            return Err("another output, line or status is due".into());
         }
-        Err("another output, or another reply is kept".into())
+        Ok(connection.ok_or("no connection came back")?)
     }
 }
 
-/// Over the same files a repeat gets its first answer, and is kept once.
 #[test]
-fn several_runs_on_one_disk(rt: HostRuntime) -> Result<(), Fail> {
+fn jobs_follow_one_another(rt: HostRuntime) -> Result<(), Fail> {
     let alloc = rt.alloc();
-    let mut files = empty_disk(alloc);
-    for (is_first, input, output) in [
-        (true, SET_FULL, FULL_SET),
-        (false, SET_FULL, FULL_SET),
-        (false, GET, IS_FULL),
-    ] {
-        let mut run = Run {
-            is_first,
-            input,
-            output,
-        };
-        let (left, closed) = on_disk(alloc, files, &mut run)?;
-        assert!(rt; closed);
-        files = left;
+    let mut make = Task {
+        row: Row(What::Make, "", ""),
+        takes: 0,
+    };
+    let (mut files, closed) = on_disk(alloc, empty_disk(alloc), &mut make)?;
+    assert!(rt; closed);
+    for row in ROWS {
+        for takes in [0, 1, row.2.len().saturating_sub(1), row.2.len()] {
+            let mut task = Task { row, takes };
+            let (left, closed) = on_disk(alloc, files, &mut task)?;
+            assert!(rt; closed, "{takes} bytes of {}", row.2);
+            files = left;
+        }
     }
     Ok(())
 }

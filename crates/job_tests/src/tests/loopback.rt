@@ -1,10 +1,7 @@
 //! Connections on loopback, in one thread: what the client sends lies in the system's buffers until it is served.
 
-use reg_jobs::serve_on;
-use reg_service::Service;
+use super::doing::accept;
 use reg_testing::{FULL_SET, GET, IS_BACKWARD, IS_FULL, SET_FULL, new_service};
-use sqlite::MemStore;
-use std::alloc::Global;
 use std::io::{self, Read, Write};
 use std::net::{Ipv4Addr, Shutdown, TcpListener, TcpStream};
 use std::process::Abort;
@@ -25,11 +22,6 @@ fn expect(rt: &(impl Abort + AllocGlobal), mut stream: TcpStream, text: &str) ->
     stream.read_to_end(&mut bytes)?;
     assert_eq!(rt; str::from_utf8(bytes.as_slice()), Ok(text));
     Ok(())
-}
-
-/// Serves so many connections.
-fn accept(alloc: Global, listener: &TcpListener, count: u32, service: &mut Service<MemStore>) {
-    serve_on(alloc, listener, count, service);
 }
 
 #[test]

@@ -1,14 +1,14 @@
 //! What is told on standard error, and the status, by how a server or a job comes out.
 
 use reg_http::Ended;
-use reg_jobs::{Errors, ListOutcome, Outcome, report};
+use reg_jobs::{AuditOutcome, Errors, ListOutcome, Outcome, report};
 use reg_store::StoreError;
 use reg_testing::Failing;
 use std::test::Fail;
 
 /// How a server or a job over the file F comes out, and the line. The status is 2.
 #[rattlefmt::skip]
-const FAULTS: [(Outcome, &str); 19] = [
+const FAULTS: [(Outcome, &str); 22] = [
     (Outcome::Session(Ended::ReadFailed), "avroreg: read failed\n"),
     (Outcome::Session(Ended::WriteFailed), "avroreg: write failed\n"),
     (Outcome::Session(Ended::Malformed), "avroreg: malformed input\n"),
@@ -28,6 +28,9 @@ const FAULTS: [(Outcome, &str); 19] = [
     (Outcome::List(ListOutcome::Unread(StoreError::NewerLayout(2))), "avroreg: F has layout 2, newer than this program\n"),
     (Outcome::List(ListOutcome::NotWritten), "avroreg: write failed\n"),
     (Outcome::List(ListOutcome::OutOfMemory), "avroreg: out of memory\n"),
+    (Outcome::Audited(AuditOutcome::Unread(StoreError::Memory)), "avroreg: out of memory\n"),
+    (Outcome::Audited(AuditOutcome::Unread(StoreError::Disk)), "avroreg: cannot open F\n"),
+    (Outcome::Audited(AuditOutcome::NotWritten), "avroreg: write failed\n"),
 ];
 
 /// A line is written whole, or where a write fails, as far as that goes.
@@ -52,15 +55,17 @@ fn each_fault_has_its_line(rt: HostRuntime) -> Result<(), Fail> {
     Ok(())
 }
 
-/// What ends in order has no line.
+/// What ends in order has no line; a verdict has its status.
 #[test]
 fn an_end_in_order_has_no_line(rt: HostRuntime) {
-    for outcome in [
-        Outcome::Session(Ended::Closed),
-        Outcome::List(ListOutcome::Whole),
+    for (outcome, status) in [
+        (Outcome::Session(Ended::Closed), 0),
+        (Outcome::List(ListOutcome::Whole), 0),
+        (Outcome::Audited(AuditOutcome::Verdict(true)), 0),
+        (Outcome::Audited(AuditOutcome::Verdict(false)), 1),
     ] {
         let mut errors = Errors::to(Vec::new(rt.alloc()));
-        assert_eq!(rt; report(&mut errors, outcome, "F"), 0);
+        assert_eq!(rt; report(&mut errors, outcome, "F"), status);
         assert!(rt; !errors.has_lost());
         assert!(rt; errors.into_writer().is_empty());
     }

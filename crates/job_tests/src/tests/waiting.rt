@@ -1,6 +1,6 @@
 //! Connections that wait behind others, on loopback and in one thread, served by a clock and without one.
 
-use reg_jobs::{serve_on, serve_with_clock};
+use super::doing::{accept, accept_by};
 use reg_testing::{FULL_SET, GET, IS_BACKWARD, SET_FULL, new_service};
 use std::cell::Cell;
 use std::io::{self, Read, Write};
@@ -45,13 +45,13 @@ fn serve(rt: &HostRuntime, by: By, listener: &TcpListener, count: u32) -> Result
     let mut service = new_service(rt.alloc())?;
     let begun = Instant::now(rt)?;
     match by {
-        By::None => serve_on(rt.alloc(), listener, count, &mut service),
-        By::Host => serve_with_clock(rt.alloc(), rt, listener, count, &mut service),
+        By::None => accept(rt.alloc(), listener, count, &mut service),
+        By::Host => accept_by(rt.alloc(), rt, listener, count, &mut service),
         By::Leaping => {
             let clock = Leaping {
                 looks: Cell::new(0),
             };
-            serve_with_clock(rt.alloc(), &clock, listener, count, &mut service);
+            accept_by(rt.alloc(), &clock, listener, count, &mut service);
         }
     }
     Ok(begun.elapsed(rt)?)

@@ -134,7 +134,7 @@ fn answers_all(rt: &impl Abort, alloc: Global, rows: &[Row]) -> Result<(), Fail>
 }
 
 /// No contract refuses a service that answers 50001 to every delivery. This does: with ample memory
-/// each delivery has its answer, and each command a 200. Under `rt try --test --fail-alloc N`, for each
+/// each delivery has its answer, and each of these commands a 200. Under `rt try --test --fail-alloc N`, for each
 /// N, at most one request for memory is refused. The delivery is then answered 50001 and has changed
 /// nothing: sent again, it gets its answer.
 #[test]

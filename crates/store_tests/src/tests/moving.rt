@@ -136,18 +136,25 @@ fn moved_again(alloc: Global, files: Files<Fuse<Memory>>) -> Result<Again, Fail>
     Ok(task)
 }
 
+/// How the lines of rows begin, but for those of `meta`.
+const KINDS: [&str; 7] = [
+    "against|",
+    "evidence|",
+    "kept|",
+    "level|",
+    "mode|",
+    "text|",
+    "version|",
+];
+
 /// The rows of a registry without those of `meta`, from what its database holds.
 fn rows(alloc: Global, text: &str) -> Result<Vec<&str>, Fail> {
-    let is_row = |line: &&str| {
-        ["kept|", "level|", "text|", "version|"]
-            .iter()
-            .any(|start| line.starts_with(start))
-    };
+    let is_row = |line: &&str| KINDS.iter().any(|kind| line.starts_with(kind));
     Ok(text.lines().filter(is_row).collect(alloc)?)
 }
 
 impl Again {
-    /// The rows stay, and those of `meta` are those of layout 2.
+    /// The rows stay, none comes, and those of `meta` are those of layout 2.
     fn keeps_rows(&self, rt: &impl Abort, alloc: Global) -> Result<(), Fail> {
         let found = rows(alloc, &self.found)?;
         assert_eq!(rt; found.len(), 9);

@@ -166,11 +166,16 @@ fn stages(rt: &impl Abort, alloc: Global) -> Result<Vec<String>, Fail> {
     for count in 0..=WRITES.len() {
         stages.push(deliver(alloc, empty_disk(alloc), Way::InTurn, count)?.left)?;
     }
+    // a version that is soft-deleted keeps its evidence
+    let registered = stages.get(6).ok_or("there are fewer stages")?;
+    assert_eq!(rt; lines_with(registered, "evidence|"), 2);
     let last = stages.last().ok_or("there is no stage")?;
     for (start, count) in [
         ("kept|", 8),
         ("text|", 2),
         ("version|", 0),
+        ("evidence|", 0),
+        ("against|", 0),
         ("meta|global|FULL|", 1),
     ] {
         assert_eq!(rt; lines_with(last, start), count, "{start}");
