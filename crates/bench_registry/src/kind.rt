@@ -25,9 +25,11 @@ pub struct Kind {
     pub body: &'static str,
 }
 
-/// What is measured together. The kind that makes the registry larger is the last.
+/// What is measured together. A kind that makes the registry larger or smaller stands behind the others.
 #[derive(Clone, Copy)]
 pub struct Series {
+    /// what is asked before the registry is made, if something is
+    pub before: Option<Kind>,
     /// what makes the registry
     pub fill: Kind,
     pub kinds: &'static [Kind],
@@ -99,6 +101,7 @@ const GLOBAL: Kind = Kind {
 
 /// Levels of subjects, with retry keys and without.
 static LEVELS: Series = Series {
+    before: None,
     fill: FILL,
     kinds: &[
         GLOBAL,
@@ -137,6 +140,7 @@ static LEVELS: Series = Series {
 
 /// Schemas, as versions of subjects.
 static VERSIONS: Series = Series {
+    before: None,
     fill: REGISTER,
     kinds: &[
         REGISTER_AGAIN,
@@ -163,31 +167,49 @@ static VERSIONS: Series = Series {
     has_schemas: true,
 };
 
+const DELETE: Kind = Kind {
+    name: "delete",
+    which: Which::Same,
+    key: "",
+    asked: "DELETE /subjects/subject-#",
+    body: "",
+};
+
+const DELETE_FOR_GOOD: Kind = Kind {
+    name: "delete for good",
+    which: Which::Same,
+    key: "",
+    asked: "DELETE /subjects/subject-#?permanent=true",
+    body: "",
+};
+
 /// Subjects that go.
 static DELETIONS: Series = Series {
+    before: None,
     fill: REGISTER,
-    kinds: &[
-        Kind {
-            name: "delete",
-            which: Which::Same,
-            key: "",
-            asked: "DELETE /subjects/subject-#",
-            body: "",
-        },
-        Kind {
-            name: "delete for good",
-            which: Which::Same,
-            key: "",
-            asked: "DELETE /subjects/subject-#?permanent=true",
-            body: "",
-        },
-    ],
+    kinds: &[DELETE, DELETE_FOR_GOOD],
+    by_bytes: false,
+    has_schemas: true,
+};
+
+/// Versions that are compared with all before them in their subject, and whose subjects go then.
+static TRANSITIVE: Series = Series {
+    before: Some(Kind {
+        name: "set level",
+        which: Which::Same,
+        key: "",
+        asked: "PUT /config",
+        body: r#"{"compatibility":"BACKWARD_TRANSITIVE"}"#,
+    }),
+    fill: REGISTER,
+    kinds: &[REGISTER, DELETE, DELETE_FOR_GOOD],
     by_bytes: false,
     has_schemas: true,
 };
 
 /// Some of each, as bytes on a connection.
 static REQUESTS: Series = Series {
+    before: None,
     fill: REGISTER,
     kinds: &[
         Kind {
@@ -220,6 +242,7 @@ pub fn series_of(name: &str) -> Option<&'static Series> {
         "levels" => Some(&LEVELS),
         "versions" => Some(&VERSIONS),
         "deletions" => Some(&DELETIONS),
+        "transitive" => Some(&TRANSITIVE),
         "requests" => Some(&REQUESTS),
         _ => None,
     }

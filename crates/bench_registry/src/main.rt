@@ -4,13 +4,17 @@
 
 #![tactic(auto)]
 
+mod audits;
 mod kind;
+mod layouts;
 mod measure;
 mod request;
 
 use anyhow::{Context, Result, bail, ensure};
+use audits::{audit, resolve_pairs};
 use kind::series_of;
-use measure::{Task, measure_all};
+use layouts::{make_first, move_on};
+use measure::{Task, measure_all, print_memory};
 use reg_service::Service;
 use reg_store::Store;
 use request::Size;
@@ -27,18 +31,27 @@ const USAGE: &str = "Usage: bench_registry SERIES memory SIZE D
        bench_registry SERIES fill F SIZE
        bench_registry SERIES file F SIZE D
        bench_registry SERIES open F
+       bench_registry SERIES first F SIZE
+       bench_registry SERIES migrate F
+       bench_registry SERIES audit F SIZE
 
-  memory  makes a registry in memory and measures D requests of each kind
-  fill    makes such a registry in the file F, which is missing or empty
-  file    measures D requests of each kind over the registry that fill made in F with
-          this size; they change it, so a further run wants a copy
-  open    measures how long the registry in F takes to open
+  memory   makes a registry in memory and measures D requests of each kind
+  fill     makes such a registry in the file F, which is missing or empty
+  file     measures D requests of each kind over the registry that fill made in F with
+           this size; they change it, so a further run wants a copy
+  open     measures how long the registry in F takes to open
+  first    makes a registry of layout 1 in the file F, which is missing or empty; it keeps
+           as many replies as it has versions
+  migrate  measures how long the registry in F takes to be moved from layout 1
+  audit    measures how long the registry that fill made in F with this size takes to be
+           audited, and how long the pairs of the series versions take in memory
 
-A series is levels, versions, deletions or requests. The size of levels is a number N: a
-registry of N kept keys and N subjects with a level of their own. That of the others is
-V S B: a registry of V versions in S subjects, with schemas of about B bytes, each of which
-one version has. The deletions are of D subjects, softly and then for good. The requests are
-read from one connection; those of the other series are deliveries.
+A series is levels, versions, deletions, transitive or requests. The size of levels is a
+number N: a registry of N kept keys and N subjects with a level of their own. That of the
+others is V S B: a registry of V versions in S subjects, with schemas of about B bytes, each
+of which one version has. The deletions are of D subjects, softly and then for good. The
+versions of transitive are compared with all before them. The requests are read from one
+connection; those of the other series are deliveries.
 ";
 
 /// Opens the database in a file, and prints how long that took.
@@ -62,35 +75,82 @@ fn created<S: Alter + Drop>(alloc: Global, connection: Connection<S>) -> Result<
     }
 }
 
-/// The service over the registry in a file. Prints how long the registry took to open.
-fn opened(rt: &HostRuntime, connection: Connection<FileDatabase>) -> Result<Service<FileDatabase>> {
+/// The service over the registry of a database. Prints how long the registry took to open.
+fn opened<S: Alter + Drop>(rt: &HostRuntime, connection: Connection<S>) -> Result<Service<S>> {
     ensure!(connection.is_autocommit(), "a transaction is open");
     let start = Instant::now(rt)?;
     match Store::open(rt.alloc(), connection) {
         Ok(store) => {
             println!(rt; "registry opened in {:?}", start.elapsed(rt)?)?;
+            print_memory(rt)?;
             Ok(Service::new(rt.alloc(), store))
         }
         Err((error, _)) => bail!("{error}"),
     }
 }
 
-/// Does the task over a new registry in memory.
-fn over_memory(rt: &HostRuntime, task: &Task) -> Result<()> {
-    let mut service = created(rt.alloc(), Connection::open_in_memory(rt.alloc())?)?;
-    measure_all(rt, &mut service, task)
-}
-
-/// Does the task over the registry in a file, and closes the file.
-fn over_file(rt: &HostRuntime, file: &str, task: &Task) -> Result<()> {
-    let connection = connected(rt, file)?;
+/// Measures over the registry of a database, which is made, or was, and gives the database back.
+fn measured<S: Alter + Drop>(
+    rt: &HostRuntime,
+    connection: Connection<S>,
+    task: &Task,
+) -> Result<Connection<S>> {
     let mut service = if task.fills {
         created(rt.alloc(), connection)?
     } else {
         opened(rt, connection)?
     };
     measure_all(rt, &mut service, task)?;
-    service.into_store().into_connection().close()?;
+    Ok(service.into_store().into_connection())
+}
+
+/// Audits the registry of a database, resolves its pairs in memory, and gives the database back.
+fn audited<S: Alter + Drop>(
+    rt: &HostRuntime,
+    connection: Connection<S>,
+    task: &Task,
+) -> Result<Connection<S>> {
+    let mut store = opened(rt, connection)?.into_store();
+    audit(rt, &mut store)?;
+    resolve_pairs(rt, task.size)?;
+    Ok(store.into_connection())
+}
+
+/// What is done with a database.
+#[derive(Clone, Copy)]
+enum Doing {
+    Measure,
+    MakeFirst,
+    Move,
+    Audit,
+}
+
+/// Does it, and gives the database back.
+fn done<S: Alter + Drop>(
+    rt: &HostRuntime,
+    connection: Connection<S>,
+    doing: Doing,
+    task: &Task,
+) -> Result<Connection<S>> {
+    match doing {
+        Doing::Measure => measured(rt, connection, task),
+        Doing::MakeFirst => make_first(rt.alloc(), connection, task.size),
+        Doing::Move => move_on(rt, connection),
+        Doing::Audit => audited(rt, connection, task),
+    }
+}
+
+/// Does the task over a new registry in memory.
+fn over_memory(rt: &HostRuntime, task: &Task) -> Result<()> {
+    let connection = Connection::open_in_memory(rt.alloc())?;
+    done(rt, connection, Doing::Measure, task)?;
+    Ok(())
+}
+
+/// Does it with the database in a file, and closes the file.
+fn over_file(rt: &HostRuntime, file: &str, doing: Doing, task: &Task) -> Result<()> {
+    let connection = connected(rt, file)?;
+    done(rt, connection, doing, task)?.close()?;
     Ok(())
 }
 
@@ -139,9 +199,17 @@ fn work(rt: &HostRuntime, words: &[String]) -> Result<()> {
     let file = word_at(words, 2);
     match word_at(words, 1) {
         "memory" => over_memory(rt, &task_of(words, 2, true, true)?),
-        "fill" => over_file(rt, file, &task_of(words, 3, true, false)?),
-        "file" => over_file(rt, file, &task_of(words, 3, false, true)?),
-        "open" => over_file(rt, file, &task_of(words, 3, false, false)?),
+        "fill" => over_file(rt, file, Doing::Measure, &task_of(words, 3, true, false)?),
+        "file" => over_file(rt, file, Doing::Measure, &task_of(words, 3, false, true)?),
+        "open" => over_file(rt, file, Doing::Measure, &task_of(words, 3, false, false)?),
+        "first" => over_file(
+            rt,
+            file,
+            Doing::MakeFirst,
+            &task_of(words, 3, false, false)?,
+        ),
+        "migrate" => over_file(rt, file, Doing::Move, &task_of(words, 3, false, false)?),
+        "audit" => over_file(rt, file, Doing::Audit, &task_of(words, 3, false, false)?),
         _ => {
             eprint!(rt; "{USAGE}")?;
             bail!("other words are wanted");

@@ -6,6 +6,7 @@ use anyhow::{Result, ensure};
 use reg_http::{Ended, serve};
 use reg_service::{Delivery, Service};
 use sqlite::Alter;
+use std::fs;
 use std::rt::Clock;
 use std::time::{Duration, Instant};
 
@@ -24,6 +25,17 @@ pub struct Task {
     pub fills: bool,
     /// whether the kinds are measured
     pub measures: bool,
+}
+
+/// Prints the most memory that the process held so far.
+pub fn print_memory(rt: &HostRuntime) -> Result<()> {
+    let status = fs::read_to_string(rt, "/proc/self/status")?;
+    for line in status.lines() {
+        if line.starts_with("VmHWM:") {
+            println!(rt; "{line}")?;
+        }
+    }
+    Ok(())
 }
 
 /// How long the service takes for the deliveries, each of which it has to carry out.
@@ -88,6 +100,11 @@ pub fn measure_all<S: Alter>(
     task: &Task,
 ) -> Result<()> {
     let Task { series, size, .. } = *task;
+    if task.fills
+        && let Some(kind) = series.before
+    {
+        measure(rt, service, &kind, size, 1, false)?;
+    }
     let parts = if task.fills {
         size.versions.div_ceil(PART)
     } else {

@@ -37,21 +37,30 @@ fn number_of(which: Which, size: Size, at: usize) -> usize {
     }
 }
 
-/// Adds the schema with this number, as it stands in a string of JSON: a record of fields that may
-/// be null. All are compatible.
-fn push_schema(text: &mut String, number: usize, bytes: usize) -> Result<(), AllocError> {
-    write!(
-        text,
-        "{{\\\"type\\\":\\\"record\\\",\\\"name\\\":\\\"R\\\",\\\"doc\\\":\\\"{number}\\\",\\\"fields\\\":["
-    )?;
+/// The identity text of the schema with this number: a record of fields that may be null. All are
+/// compatible.
+pub fn schema_text(alloc: Global, number: usize, bytes: usize) -> Result<String, AllocError> {
+    let mut text = format!(in alloc; "{{\"doc\":\"{number}\",\"fields\":[")?;
     for at in 0..bytes / FIELD {
         let comma = if at == 0 { "" } else { "," };
         write!(
             text,
-            "{comma}{{\\\"name\\\":\\\"field{at}\\\",\\\"type\\\":[\\\"null\\\",\\\"string\\\"],\\\"default\\\":null}}"
+            "{comma}{{\"default\":null,\"name\":\"field{at}\",\"type\":[\"null\",\"string\"]}}"
         )?;
     }
-    text.push_str("]}")
+    text.push_str("],\"name\":\"R\",\"type\":\"record\"}")?;
+    Ok(text)
+}
+
+/// Adds a text as it stands in a string of JSON.
+fn push_escaped(text: &mut String, added: &str) -> Result<(), AllocError> {
+    for mark in added.chars() {
+        if mark == '"' {
+            text.push('\\')?;
+        }
+        text.push(mark)?;
+    }
+    Ok(())
 }
 
 /// A kind's text, with what its marks stand for.
@@ -69,7 +78,7 @@ fn filled(
             '#' => write!(text, "{}", number.checked_rem(size.subjects).unwrap_or(0))?,
             '>' => write!(text, "{}", number.saturating_add(1))?,
             '<' => write!(text, "{at}")?,
-            '@' => push_schema(&mut text, number, size.bytes)?,
+            '@' => push_escaped(&mut text, &schema_text(alloc, number, size.bytes)?)?,
             _ => text.push(mark)?,
         }
     }
