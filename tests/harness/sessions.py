@@ -8,6 +8,9 @@ from .program import Wrong, ended, held, run, scratch, served
 from .tables import asked, shows
 
 
+STATUSES = {"evidence holds": 0, "evidence does not hold": 1}
+
+
 class Run:
     """Requests of one run of the program, the answers due, how it ends, and what is looked at in the file afterwards."""
 
@@ -44,7 +47,7 @@ def runs_of(case):
             cut = True
         elif line.text == "restart":
             runs.append(Run())
-        elif line.word in ("list", "rows", "sql"):
+        elif line.word in ("list", "rows", "sql", "audit"):
             runs[-1].after.append((line.where, line.word, case.filled(line.rest), [case.filled(it) for it in line.inner]))
         else:
             if runs[-1].after:
@@ -114,6 +117,8 @@ def looked_at(it, folder):
         if word == "list":
             lines = "".join(f"{line}\n" for line in inner)
             held(f"{where}: list {rest}", (0, lines, ""), run(["list", "--db", "F", rest], folder=folder))
+        elif word == "audit":
+            held(f"{where}: audit", (STATUSES[rest], f"{rest}\n", ""), run(["audit", "--db", "F"], folder=folder))
         elif word == "rows":
             shows(where, folder, "F", rest, inner)
         else:
