@@ -1,6 +1,6 @@
 #!/usr/bin/env bash
 # What a new user does first: a level, versions, a refusal, repeats with a retry key, a kill, a freeze, a
-# listing, SQL, a layout.
+# listing, SQL, a layout, an audit.
 # Prints each request and its answer, and ends with status 0 where each is as written here, else at the first
 # that isn't.
 #
@@ -46,14 +46,20 @@ request() {
   same "$5 $6" "$found"
 }
 
-# output WANTED COMMAND..: prints a command and its output, and compares.
-output() {
-  local wanted=$1 found
-  shift
+# ending STATUS WANTED COMMAND..: prints a command and its output, and compares both.
+ending() {
+  local status=$1 wanted=$2 found
+  shift 2
   printf '   %s\n' "${*/#$avroreg/avroreg}"
-  found=$("$@") || fail "step $step failed: $*"
-  printf '%s\n' "$found" | sed 's/^/   -> /'
+  found=$("$@")
+  same "$status" $?
+  [ -z "$found" ] || printf '%s\n' "$found" | sed 's/^/   -> /'
   same "$wanted" "$found"
+}
+
+# output WANTED COMMAND..: the same of a command that succeeds.
+output() {
+  ending 0 "$@"
 }
 
 title "A server on a file that isn't there yet"
@@ -121,5 +127,22 @@ output 'ok' sqlite3 "$file" 'PRAGMA integrity_check'
 
 title "It has this program's layout, to which a file of an earlier program is moved"
 output 'layout 2: nothing to do' "$avroreg" migrate --db "$file"
+
+title "Each version carries why it was let in: the level then, and the ids that it was compared with"
+start_server "$file"
+request '' PUT /config/counts-value '{"compatibility":"BACKWARD"}' 200 '{"compatibility":"BACKWARD"}'
+request '' POST /subjects/counts-value/versions '{"schema":"\"int\""}' 200 '{"id":3}'
+request '' POST /subjects/counts-value/versions '{"schema":"\"long\""}' 200 '{"id":4}'
+stop_server
+output "orders-value|1|$level|
+orders-value|2|$level|1
+orders-value|3|$level|1
+counts-value|1|BACKWARD|
+counts-value|2|BACKWARD|3" sqlite3 "$file" 'SELECT e.subject, e.version, e.level, a.id FROM evidence AS e LEFT JOIN against AS a USING (subject, version) ORDER BY e.rowid'
+
+title "An audit reads each stored pair again and resolves it; what somebody writes past the program, it finds"
+output 'evidence holds' "$avroreg" audit --db "$file"
+output '' sqlite3 "$file" "UPDATE evidence SET level = 'FORWARD' WHERE subject = 'counts-value' AND version = 2"
+ending 1 'evidence does not hold' "$avroreg" audit --db "$file"
 
 printf '\nAll %d steps went as written.\n' "$step"
