@@ -4,7 +4,7 @@ use Rattle.reg_core.specs.Replies.{Told}
 
 -- What is kept under a retry key: the text of its command, and its reply.
 pub record Entry : Type 0 where
-  pub text : List ℕ
+  pub command : List ℕ
   pub reply : Told
 
 -- What is kept, by key.
@@ -21,4 +21,4 @@ kept_with k key entry q = if bytes_eq key q then Some entry else k q
 
 -- What a text and a reply that were kept say.
 abbrev pub entry_told : List ℕ → Told → Entry
-entry_told text reply = record { text = text; reply = reply }
+entry_told text reply = record { command = text; reply = reply }

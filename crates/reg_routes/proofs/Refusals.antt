@@ -6,11 +6,11 @@ use Rattle.reg_core.specs.declared.code.Code.TheVariants.{NotFound, MethodNotAll
 use Rattle.reg_core.specs.declared.delivery.Delivery.{Delivery}
 use Rattle.reg_core.specs.Replies.{Told, fault}
 use Rattle.reg_messages.specs.Fields.{Pair}
-use Rattle.reg_routes.specs.declared.line.Line.{Line}
-use Rattle.reg_routes.specs.declared.line.Asked.{Asked}
-use Rattle.reg_routes.specs.Routes.{line_of, methods_of, asked_among, allow_of}
+use Rattle.reg_routes.specs.declared.resource.Resource.{Resource}
+use Rattle.reg_routes.specs.declared.resource.Asked.{Asked}
+use Rattle.reg_routes.specs.Routes.{resource_of, methods_of, asked_among, allow_of}
 use Rattle.reg_routes.specs.Targets.{path_of}
-use Rattle.reg_routes.specs.Deliveries.{Refusal, plainly, by_method, by_line, asked, allow_beside, IsRefused}
+use Rattle.reg_routes.specs.Deliveries.{Refusal, plainly, by_method, by_resource, asked, allow_beside, IsRefused}
 
 -- the methods that a refusal names are those that are due beside its fault
 IsDue : Refusal → Type 0
@@ -31,25 +31,25 @@ plain_due (Err code) refusal e =
     let same : (code, None) ≡ refusal = cc in
     none_due refusal (sym (ap (λ (r : Refusal). r.1) same))
 
-method_due : (line : Line) (a : Option Asked) (target : List ℕ) (fields : List Pair) (body : List ℕ) (refusal : Refusal)
-    → by_method line a target fields body ≡ Err refusal → IsDue refusal
+method_due : (resource : Resource) (a : Option Asked) (target : List ℕ) (fields : List Pair) (body : List ℕ) (refusal : Refusal)
+    → by_method resource a target fields body ≡ Err refusal → IsDue refusal
 unfolding IsDue
-method_due line None target fields body refusal e = λ reply is.
-    let same : (MethodNotAllowed, Some (allow_of line)) ≡ refusal = cc in
+method_due resource None target fields body refusal e = λ reply is.
+    let same : (MethodNotAllowed, Some (allow_of resource)) ≡ refusal = cc in
     let status : reply ≡ fault MethodNotAllowed = is ∙ ap (λ (r : Refusal). fault r.0) (sym same) in
     ap (λ (told : Told). cond (told.status == 405) refusal.1 None) (sym status)
-method_due line (Some a) target fields body refusal e = plain_due _ refusal e
+method_due resource (Some a) target fields body refusal e = plain_due _ refusal e
 
-line_due : (line : Option Line) (method target : List ℕ) (fields : List Pair) (body : List ℕ) (refusal : Refusal)
-    → by_line line method target fields body ≡ Err refusal → IsDue refusal
-line_due None method target fields body refusal e =
+resource_due : (resource : Option Resource) (method target : List ℕ) (fields : List Pair) (body : List ℕ) (refusal : Refusal)
+    → by_resource resource method target fields body ≡ Err refusal → IsDue refusal
+resource_due None method target fields body refusal e =
     let same : (NotFound, None) ≡ refusal = cc in
     none_due refusal (sym (ap (λ (r : Refusal). r.1) same))
-line_due (Some line) method target fields body refusal e = method_due line (asked_among method (methods_of line)) target fields body refusal e
+resource_due (Some resource) method target fields body refusal e = method_due resource (asked_among method (methods_of resource)) target fields body refusal e
 
 asked_due : (method target : List ℕ) (fields : List Pair) (body : List ℕ) (refusal : Refusal) → asked method target fields body ≡ Err refusal → IsDue refusal
 unfolding asked
-asked_due method target fields body refusal e = line_due (line_of (path_of target)) method target fields body refusal e
+asked_due method target fields body refusal e = resource_due (resource_of (path_of target)) method target fields body refusal e
 
 due : (what : Result Delivery Refusal) (code : Code) (allow : Option (List ℕ)) (reply : Told) → ((refusal : Refusal) → what ≡ Err refusal → IsDue refusal)
     → IsRefused what code allow → reply ≡ fault code → allow ≡ allow_beside what reply

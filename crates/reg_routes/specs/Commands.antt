@@ -1,11 +1,11 @@
--- The command that a path, a query and a body ask for, by the kind of command that its line and method name. None where a
+-- The command that a path, a query and a body ask for, by the kind of command that its resource and method name. None where a
 -- part of the path isn't UTF-8 or no subject, or the body isn't what such a command needs. The number of a part is that of
 -- the slashes before it. (Schema Registry API reference, Subjects, Schemas, Config, Compatibility and Mode.)
 use Rattle.std.specs.Prelude.{ℕ, Bool, List, codes, Option, Some, option_map, option_and_then}
 use Rattle.reg_core.specs.declared.command.Command.{Command}
 use Rattle.reg_core.specs.declared.command.Command.TheVariants.{SetGlobal, SetLevel, Register, DeleteVersion, DeleteSubject, Global, LevelOf, Lookup, Subjects, Versions, Version, Text, ById, VersionsOfId, Types, Check, CheckAll, SetGlobalMode, SetMode, GlobalMode, ModeOf}
-use Rattle.reg_routes.specs.declared.line.Asked.{Asked}
-use Rattle.reg_routes.specs.declared.line.Asked.TheVariants as asks
+use Rattle.reg_routes.specs.declared.resource.Asked.{Asked}
+use Rattle.reg_routes.specs.declared.resource.Asked.TheVariants as asks
 use Rattle.reg_routes.specs.declared.command.Sent.{Sent}
 use Rattle.reg_routes.specs.Targets.{text_at, subject_at}
 use Rattle.reg_routes.specs.Queries.{is_on}

@@ -9,9 +9,9 @@ use Rattle.reg_messages.specs.Fields.{Pair, values_named}
 use Rattle.reg_messages.specs.Messages.{Message, fields_of}
 use Rattle.reg_messages.specs.BorrowedRequests.{fields_in}
 use Rattle.reg_messages.specs.declared.request.Request.{Request}
-use Rattle.reg_routes.specs.declared.line.Line.{Line}
-use Rattle.reg_routes.specs.declared.line.Asked.{Asked}
-use Rattle.reg_routes.specs.Routes.{line_of, methods_of, asked_among, allow_of}
+use Rattle.reg_routes.specs.declared.resource.Resource.{Resource}
+use Rattle.reg_routes.specs.declared.resource.Asked.{Asked}
+use Rattle.reg_routes.specs.Routes.{resource_of, methods_of, asked_among, allow_of}
 use Rattle.reg_routes.specs.Targets.{path_of, query_of}
 use Rattle.reg_routes.specs.Commands.{command_sent}
 use Rattle.reg_routes.specs.Keys.{key_for}
@@ -39,18 +39,18 @@ abbrev pub plainly : Result Delivery Code → Result Delivery Refusal
 plainly (Ok delivery) = Ok delivery
 plainly (Err code) = Err (code, None)
 
--- what a method of a line asks for
-abbrev pub by_method : Line → Option Asked → List ℕ → List Pair → List ℕ → Result Delivery Refusal
-by_method line None target fields body = Err (MethodNotAllowed, Some (allow_of line))
-by_method line (Some asked) target fields body = plainly (delivered (command_sent asked (path_of target) (query_of target) body) fields)
+-- what a method of a resource asks for
+abbrev pub by_method : Resource → Option Asked → List ℕ → List Pair → List ℕ → Result Delivery Refusal
+by_method resource None target fields body = Err (MethodNotAllowed, Some (allow_of resource))
+by_method resource (Some asked) target fields body = plainly (delivered (command_sent asked (path_of target) (query_of target) body) fields)
 
-abbrev pub by_line : Option Line → List ℕ → List ℕ → List Pair → List ℕ → Result Delivery Refusal
-by_line None method target fields body = Err (NotFound, None)
-by_line (Some line) method target fields body = by_method line (asked_among method (methods_of line)) target fields body
+abbrev pub by_resource : Option Resource → List ℕ → List ℕ → List Pair → List ℕ → Result Delivery Refusal
+by_resource None method target fields body = Err (NotFound, None)
+by_resource (Some resource) method target fields body = by_method resource (asked_among method (methods_of resource)) target fields body
 
 -- What is asked by method, target, fields and body. The path comes before the method, and the method before all else.
 unfoldable pub asked : List ℕ → List ℕ → List Pair → List ℕ → Result Delivery Refusal
-asked method target fields body = by_line (line_of (path_of target)) method target fields body
+asked method target fields body = by_resource (resource_of (path_of target)) method target fields body
 
 -- what a message asks for
 abbrev pub delivery_of : Message → Result Delivery Refusal

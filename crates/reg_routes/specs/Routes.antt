@@ -8,42 +8,42 @@ use Rattle.matchit.specs.Seek.{first}
 use Rattle.matchit.specs.Route.{Scan, parse_route}
 use Rattle.matchit.specs.Router.{RouteOf, route_from}
 use Rattle.matchit.specs.declared.error.InsertError.{InsertError}
-use Rattle.reg_routes.specs.declared.line.Line.{Line}
-use Rattle.reg_routes.specs.declared.line.Line.TheVariants as line
-use Rattle.reg_routes.specs.declared.line.Asked.{Asked}
-use Rattle.reg_routes.specs.declared.line.Asked.TheVariants as asks
+use Rattle.reg_routes.specs.declared.resource.Resource.{Resource}
+use Rattle.reg_routes.specs.declared.resource.Resource.TheVariants as resource
+use Rattle.reg_routes.specs.declared.resource.Asked.{Asked}
+use Rattle.reg_routes.specs.declared.resource.Asked.TheVariants as asks
 
 -- ---- the paths
 
 -- the rows with one more path, as matchit reads it; a text that is no path adds none
-abbrev pub with_read : Result Scan InsertError → Line → RowsOf (RouteOf Line) → RowsOf (RouteOf Line)
+abbrev pub with_read : Result Scan InsertError → Resource → RowsOf (RouteOf Resource) → RowsOf (RouteOf Resource)
 with_read (Ok scan) value rows = placed (scan.pattern, route_from scan value) rows
 with_read (Err error) value rows = rows
 
-abbrev pub with_path : List ℕ → Line → RowsOf (RouteOf Line) → RowsOf (RouteOf Line)
+abbrev pub with_path : List ℕ → Resource → RowsOf (RouteOf Resource) → RowsOf (RouteOf Resource)
 with_path path value rows = with_read (parse_route path) value rows
 
--- each path, and its line
-unfoldable pub paths : RowsOf (RouteOf Line)
+-- each path, and its resource
+unfoldable pub paths : RowsOf (RouteOf Resource)
 paths =
-    with_path (codes "/mode/{subject}") line.ModeOf
-    (with_path (codes "/mode") line.Mode
-    (with_path (codes "/compatibility/subjects/{subject}/versions/{version}") line.CompatibilityOf
-    (with_path (codes "/compatibility/subjects/{subject}/versions") line.Compatibility
-    (with_path (codes "/config/{subject}") line.ConfigOf
-    (with_path (codes "/config") line.Config
-    (with_path (codes "/schemas/ids/{id}/versions") line.VersionsOfId
-    (with_path (codes "/schemas/ids/{id}") line.Id
-    (with_path (codes "/schemas/types") line.Types
-    (with_path (codes "/subjects/{subject}/versions/{version}/schema") line.Text
-    (with_path (codes "/subjects/{subject}/versions/{version}") line.Version
-    (with_path (codes "/subjects/{subject}/versions") line.Versions
-    (with_path (codes "/subjects/{subject}") line.Subject
-    (with_path (codes "/subjects") line.Subjects [])))))))))))))
+    with_path (codes "/mode/{subject}") resource.ModeOf
+    (with_path (codes "/mode") resource.Mode
+    (with_path (codes "/compatibility/subjects/{subject}/versions/{version}") resource.CompatibilityOf
+    (with_path (codes "/compatibility/subjects/{subject}/versions") resource.Compatibility
+    (with_path (codes "/config/{subject}") resource.ConfigOf
+    (with_path (codes "/config") resource.Config
+    (with_path (codes "/schemas/ids/{id}/versions") resource.VersionsOfId
+    (with_path (codes "/schemas/ids/{id}") resource.Id
+    (with_path (codes "/schemas/types") resource.Types
+    (with_path (codes "/subjects/{subject}/versions/{version}/schema") resource.Text
+    (with_path (codes "/subjects/{subject}/versions/{version}") resource.Version
+    (with_path (codes "/subjects/{subject}/versions") resource.Versions
+    (with_path (codes "/subjects/{subject}") resource.Subject
+    (with_path (codes "/subjects") resource.Subjects [])))))))))))))
 
--- the line that a path has, by matchit's look-up; one that isn't UTF-8 has none
-unfoldable pub line_of : List ℕ → Option Line
-line_of path = if is_utf8 path then option_map (λ route. route.value) (first paths path) else None
+-- the resource that a path has, by matchit's look-up; one that isn't UTF-8 has none
+unfoldable pub resource_of : List ℕ → Option Resource
+resource_of path = if is_utf8 path then option_map (λ route. route.value) (first paths path) else None
 
 -- ---- the methods (RFC 9110, section 9)
 
@@ -59,22 +59,22 @@ post = codes "POST"
 abbrev pub delete : List ℕ
 delete = codes "DELETE"
 
--- the methods of a line in the order of their bytes, and what each asks for
-abbrev pub methods_of : Line → List (List ℕ × Asked)
-methods_of line.Subjects = (get, asks.Subjects) ∷ []
-methods_of line.Subject = (delete, asks.DeleteSubject) ∷ (post, asks.Lookup) ∷ []
-methods_of line.Versions = (get, asks.Versions) ∷ (post, asks.Register) ∷ []
-methods_of line.Version = (delete, asks.DeleteVersion) ∷ (get, asks.Version) ∷ []
-methods_of line.Text = (get, asks.Text) ∷ []
-methods_of line.Types = (get, asks.Types) ∷ []
-methods_of line.Id = (get, asks.ById) ∷ []
-methods_of line.VersionsOfId = (get, asks.VersionsOfId) ∷ []
-methods_of line.Config = (get, asks.Global) ∷ (put, asks.SetGlobal) ∷ []
-methods_of line.ConfigOf = (get, asks.LevelOf) ∷ (put, asks.SetLevel) ∷ []
-methods_of line.Compatibility = (post, asks.CheckAll) ∷ []
-methods_of line.CompatibilityOf = (post, asks.Check) ∷ []
-methods_of line.Mode = (get, asks.GlobalMode) ∷ (put, asks.SetGlobalMode) ∷ []
-methods_of line.ModeOf = (get, asks.ModeOf) ∷ (put, asks.SetMode) ∷ []
+-- the methods of a resource in the order of their bytes, and what each asks for
+abbrev pub methods_of : Resource → List (List ℕ × Asked)
+methods_of resource.Subjects = (get, asks.Subjects) ∷ []
+methods_of resource.Subject = (delete, asks.DeleteSubject) ∷ (post, asks.Lookup) ∷ []
+methods_of resource.Versions = (get, asks.Versions) ∷ (post, asks.Register) ∷ []
+methods_of resource.Version = (delete, asks.DeleteVersion) ∷ (get, asks.Version) ∷ []
+methods_of resource.Text = (get, asks.Text) ∷ []
+methods_of resource.Types = (get, asks.Types) ∷ []
+methods_of resource.Id = (get, asks.ById) ∷ []
+methods_of resource.VersionsOfId = (get, asks.VersionsOfId) ∷ []
+methods_of resource.Config = (get, asks.Global) ∷ (put, asks.SetGlobal) ∷ []
+methods_of resource.ConfigOf = (get, asks.LevelOf) ∷ (put, asks.SetLevel) ∷ []
+methods_of resource.Compatibility = (post, asks.CheckAll) ∷ []
+methods_of resource.CompatibilityOf = (post, asks.Check) ∷ []
+methods_of resource.Mode = (get, asks.GlobalMode) ∷ (put, asks.SetGlobalMode) ∷ []
+methods_of resource.ModeOf = (get, asks.ModeOf) ∷ (put, asks.SetMode) ∷ []
 
 -- what a method asks for; the case of its letters counts (RFC 9110, section 9.1)
 abbrev pub asked_among : List ℕ → List (List ℕ × Asked) → Option Asked
@@ -87,6 +87,6 @@ listed [] = []
 listed (name ∷ []) = name
 listed (name ∷ other ∷ names) = name ++ codes ", " ++ listed (other ∷ names)
 
--- a line's methods, as an `Allow` field names them (RFC 9110, section 10.2.1)
-abbrev pub allow_of : Line → List ℕ
-allow_of line = listed (map (λ m. m.0) (methods_of line))
+-- a resource's methods, as an `Allow` field names them (RFC 9110, section 10.2.1)
+abbrev pub allow_of : Resource → List ℕ
+allow_of resource = listed (map (λ m. m.0) (methods_of resource))

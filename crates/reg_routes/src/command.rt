@@ -2,10 +2,10 @@
 
 ghost use Rattle.std.specs.Prelude.{◌≡◌, IfOk};
 ghost use Rattle.reg_routes.specs.Commands.{command_in};
-ghost use Rattle.reg_routes.specs.declared.line.Asked.TheVariants as asks;
+ghost use Rattle.reg_routes.specs.declared.resource.Asked.TheVariants as asks;
 
 use crate::body::{SentSchema, schema_sent, string_sent};
-use crate::line::Asked;
+use crate::resource::Asked;
 use crate::target::Target;
 use reg_core::{Command, OutOfMemory};
 use std::alloc::Global;

@@ -7,7 +7,7 @@ ghost use Rattle.reg_messages.specs.BorrowedRequests.{fields_in};
 ghost use Rattle.reg_routes.specs.Commands.{command_in};
 
 use crate::command::Sent;
-use crate::line::Asked;
+use crate::resource::Asked;
 use crate::routes::Routes;
 use crate::target::Target;
 use reg_core::{Code, Command, Delivery, Key, OutOfMemory};
@@ -96,11 +96,11 @@ pub fn command_of<'a>(
         (λ refusal. IsRefused (asked_by request.entry.now) refusal.0 (option_map (λ text. text.now) refusal.1)) }
 {
     let target = Target::of(request.target);
-    let Some(line) = routes.line_of(target.path) else {
+    let Some(resource) = routes.resource_of(target.path) else {
         return Err((Code::NotFound, None));
     };
-    let Some(asked) = line.asked(request.method) else {
-        return Err((Code::MethodNotAllowed, Some(line.allow())));
+    let Some(asked) = resource.asked(request.method) else {
+        return Err((Code::MethodNotAllowed, Some(resource.allow())));
     };
     let sent = Sent {
         target,

@@ -6,12 +6,12 @@ mod body;
 mod command;
 mod cut;
 mod delivery;
-mod line;
 mod path_parts;
 mod query;
+mod resource;
 mod routes;
 mod target;
 
 pub use delivery::command_of;
-pub use line::{Asked, Line};
+pub use resource::{Asked, Resource};
 pub use routes::Routes;

@@ -1,10 +1,10 @@
-//! Which line of the table a path has.
+//! Which resource of the table a path has.
 
 ghost use Rattle.std.specs.Prelude.{◌≡◌, IfOk, MatchOption, OnOk, None, Some};
 ghost use Rattle.matchit.specs.Seek.{first};
-ghost use Rattle.reg_routes.specs.Routes.{line_of, paths, with_path};
+ghost use Rattle.reg_routes.specs.Routes.{resource_of, paths, with_path};
 
-use crate::line::Line;
+use crate::resource::Resource;
 use matchit::{InsertError, Router};
 use reg_core::OutOfMemory;
 use std::alloc::Global;
@@ -14,7 +14,7 @@ use std::str;
 /// The table of paths, ready for look-ups.
 #[derive(Drop)]
 pub struct Routes {
-    router: Router<Line>,
+    router: Router<Resource>,
 }
 
 impl Model for Routes {
@@ -29,51 +29,55 @@ impl Model for Routes {
 }
 
 /// Adds a path.
-fn add(router: &mut Router<Line>, path: &str, line: Line) -> Result<(), InsertError>
-    ensures { OnOk result (router.new ≡ with_path path.now line router.old) }
+fn add(router: &mut Router<Resource>, path: &str, resource: Resource) -> Result<(), InsertError>
+    ensures { OnOk result (router.new ≡ with_path path.now resource router.old) }
 {
-    router.insert(path, line)
+    router.insert(path, resource)
 }
 
 /// The router of the table.
-fn router(alloc: Global) -> Result<Router<Line>, InsertError>
+fn router(alloc: Global) -> Result<Router<Resource>, InsertError>
     ensures { IfOk result (λ router. router ≡ paths) }
 {
     let mut router = Router::new(alloc);
-    add(&mut router, "/subjects", Line::Subjects)?;
-    add(&mut router, "/subjects/{subject}", Line::Subject)?;
-    add(&mut router, "/subjects/{subject}/versions", Line::Versions)?;
+    add(&mut router, "/subjects", Resource::Subjects)?;
+    add(&mut router, "/subjects/{subject}", Resource::Subject)?;
+    add(
+        &mut router,
+        "/subjects/{subject}/versions",
+        Resource::Versions,
+    )?;
     add(
         &mut router,
         "/subjects/{subject}/versions/{version}",
-        Line::Version,
+        Resource::Version,
     )?;
     add(
         &mut router,
         "/subjects/{subject}/versions/{version}/schema",
-        Line::Text,
+        Resource::Text,
     )?;
-    add(&mut router, "/schemas/types", Line::Types)?;
-    add(&mut router, "/schemas/ids/{id}", Line::Id)?;
+    add(&mut router, "/schemas/types", Resource::Types)?;
+    add(&mut router, "/schemas/ids/{id}", Resource::Id)?;
     add(
         &mut router,
         "/schemas/ids/{id}/versions",
-        Line::VersionsOfId,
+        Resource::VersionsOfId,
     )?;
-    add(&mut router, "/config", Line::Config)?;
-    add(&mut router, "/config/{subject}", Line::ConfigOf)?;
+    add(&mut router, "/config", Resource::Config)?;
+    add(&mut router, "/config/{subject}", Resource::ConfigOf)?;
     add(
         &mut router,
         "/compatibility/subjects/{subject}/versions",
-        Line::Compatibility,
+        Resource::Compatibility,
     )?;
     add(
         &mut router,
         "/compatibility/subjects/{subject}/versions/{version}",
-        Line::CompatibilityOf,
+        Resource::CompatibilityOf,
     )?;
-    add(&mut router, "/mode", Line::Mode)?;
-    add(&mut router, "/mode/{subject}", Line::ModeOf)?;
+    add(&mut router, "/mode", Resource::Mode)?;
+    add(&mut router, "/mode/{subject}", Resource::ModeOf)?;
     Ok(router)
 }
 
@@ -90,10 +94,10 @@ impl Routes {
         }
     }
 
-    /// The line of a text.
-    fn look(&self, path: &str) -> Option<Line>
+    /// The resource of a text.
+    fn look(&self, path: &str) -> Option<Resource>
         ensures { MatchOption result (first paths path.now ≡ None)
-            (λ line. (found : _) × (first paths path.now ≡ Some found) × (found.value ≡ line)) }
+            (λ resource. (found : _) × (first paths path.now ≡ Some found) × (found.value ≡ resource)) }
     {
         match self.router.at(path) {
             Ok(found) => Some(*found.value),
@@ -101,9 +105,9 @@ impl Routes {
         }
     }
 
-    /// The line of a path as it was sent, if it has one. It takes no memory.
-    pub fn line_of(&self, path: &[u8]) -> Option<Line>
-        ensures { result ≡ line_of path.now }
+    /// The resource of a path as it was sent, if it has one. It takes no memory.
+    pub fn resource_of(&self, path: &[u8]) -> Option<Resource>
+        ensures { result ≡ resource_of path.now }
     {
         match str::from_utf8(path) {
             Ok(path) => self.look(path),

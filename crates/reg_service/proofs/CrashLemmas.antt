@@ -20,7 +20,7 @@ use Rattle.reg_store.proofs.Committing.{leaves_if_open}
 use Rattle.reg_service.specs.Deliveries.{Exchange, key_of, is_first, kept_after, reply_after, served, LeadsTo}
 use Rattle.reg_service.specs.Services.{ServesOver}
 use Rattle.reg_service.specs.Inside.Steps.{HoldsAfter, Under, IsFree, kept_under, CarriesOut}
-use Rattle.reg_service.specs.Crashes.{LeavesAfter, LeavesUnderWay, IsFoundAfter, LeavesSpelled, reply_of}
+use Rattle.reg_service.specs.Crashes.{LeavesAfter, LeavesUnderWay, IsFoundAfter, LeavesSpelled, reply_or_fault}
 use Rattle.reg_service.proofs.JoinedExchanges.{is_led, is_first-append, registry-append, leads-append, leads_none}
 use Rattle.reg_service.proofs.ExchangeLists.{served-append, zip-push}
 use Rattle.reg_service.proofs.SingleDeliveries.{is_first-keyless, is_first-keyed, kept_after-known, kept_first, leads_first, steps_nowhere, served_fault, serves_keyless, serves_first, serves_again}
@@ -142,19 +142,19 @@ module _ (was : Stored) (d : Delivery) (may_leave : Trees → Type 0) where
   }
 
   -- one that wasn't answered, and did nothing
-  pub found_failed : {E : Type 0} (r : Result Told E) → OnOk r ⊥ → ((db : Trees) → may_leave db → Leaves db was) → IsFoundAfter was ((d, reply_of r) ∷ []) may_leave
+  pub found_failed : {E : Type 0} (r : Result Told E) → OnOk r ⊥ → ((db : Trees) → may_leave db → Leaves db was) → IsFoundAfter was ((d, reply_or_fault r) ∷ []) may_leave
   found_failed (Ok reply) none leaves = absurd none
   found_failed (Err e) none leaves = inl (λ db it. unanswered db (leaves db it))
 
   -- a later delivery of a key
   pub found_again : (key text : List ℕ) (entry : Entry) (reply : Told) → key_of d ≡ Some key → text ≡ command_text d.command → was.replies key ≡ Some entry
-      → (text ≡ entry.text → reply ≡ entry.reply) → (text ≢ entry.text → reply ≡ fault KeyReused) → ((db : Trees) → may_leave db → Leaves db was) → IsFoundAfter was ((d, reply) ∷ []) may_leave
+      → (text ≡ entry.command → reply ≡ entry.reply) → (text ≢ entry.command → reply ≡ fault KeyReused) → ((db : Trees) → may_leave db → Leaves db was) → IsFoundAfter was ((d, reply) ∷ []) may_leave
   found_again key text entry reply some is has same other leaves =
       inl (λ db it. leaves_still was (served ((d, reply) ∷ [])) db (serves_again was d key entry reply some has (rw is at same) (rw is at other)).leads (leaves db it))
 
 -- a read, or a write without a key
 pub found_keyless : {E : Type 0} (was : Stored) (d : Delivery) (old new : State) (r : Result Told E) → key_of d ≡ None → ((db : Trees) → old.may_leave db → Leaves db was) → SpellsWhileOpen old was
-    → CarriesOut old new d.command None r → IsFoundAfter was ((d, reply_of r) ∷ []) new.may_leave
+    → CarriesOut old new d.command None r → IsFoundAfter was ((d, reply_or_fault r) ∷ []) new.may_leave
 found_keyless was d old new (Ok reply) keyless before over carries =
     inl (λ db it.
     let after = carries.crash was over tt db it in
@@ -171,7 +171,7 @@ found_keyless was d old new (Err e) keyless before over carries =
 
 -- the first delivery of a key
 pub found_first : {E : Type 0} (was : Stored) (d : Delivery) (mid new : State) (r : Result Told E) (key text : List ℕ) → key_of d ≡ Some key → text ≡ command_text d.command → was.replies key ≡ None
-    → ((db : Trees) → mid.may_leave db → Leaves db was) → SpellsWhileOpen mid was → CarriesOut mid new d.command (Some (key, text)) r → IsFoundAfter was ((d, reply_of r) ∷ []) new.may_leave
+    → ((db : Trees) → mid.may_leave db → Leaves db was) → SpellsWhileOpen mid was → CarriesOut mid new d.command (Some (key, text)) r → IsFoundAfter was ((d, reply_or_fault r) ∷ []) new.may_leave
 found_first was d mid new (Ok reply) key text some is fresh before over carries =
     let e = (carries.done was over fresh).0 in
     let same : kept_with was.replies key (entry_told text (step was.registry d.command).1) ≡ kept_with was.replies key (entry_told (command_text d.command) reply) =

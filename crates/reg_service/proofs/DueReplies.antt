@@ -57,9 +57,9 @@ repeats_agree was xs due before x between y after key e some_x some_y text = by 
     by (Some entry) has =
         let later : kept_after k (before ++ x ∷ between) key ≡ Some entry = then ∙ kept_stays (kept_after k before) (x ∷ between) key entry has in
         ⊎_elim
-        (λ (s : command_text x.0.command ≡ entry.text). due_x.again key entry some_x has s ∙ sym (due_y.again key entry some_y later (sym text ∙ s)))
-        (λ (s : command_text x.0.command ≢ entry.text). due_x.other key entry some_x has s ∙ sym (due_y.other key entry some_y later (λ r. s (text ∙ r))))
-        (same_or_other (command_text x.0.command) entry.text)
+        (λ (s : command_text x.0.command ≡ entry.command). due_x.again key entry some_x has s ∙ sym (due_y.again key entry some_y later (sym text ∙ s)))
+        (λ (s : command_text x.0.command ≢ entry.command). due_x.other key entry some_x has s ∙ sym (due_y.other key entry some_y later (λ r. s (text ∙ r))))
+        (same_or_other (command_text x.0.command) entry.command)
 
 -- a write that isn't first has a key under which something is kept
 known : (k : Kept) (before : List Exchange) (d : Delivery) → is_write d.command ≡ true → is_first k before d ≡ false
@@ -86,9 +86,9 @@ due_unique was before d p q x y = by (is_write d.command) (is_first was.replies 
   where
     repeat : (key : List ℕ) × (entry : Entry) × (key_of d ≡ Some key) × (kept_after was.replies before key ≡ Some entry) → p ≡ q
     repeat (key, entry, some, has) = ⊎_elim
-        (λ (s : command_text d.command ≡ entry.text). x.again key entry some has s ∙ sym (y.again key entry some has s))
-        (λ (s : command_text d.command ≢ entry.text). x.other key entry some has s ∙ sym (y.other key entry some has s))
-        (same_or_other (command_text d.command) entry.text)
+        (λ (s : command_text d.command ≡ entry.command). x.again key entry some has s ∙ sym (y.again key entry some has s))
+        (λ (s : command_text d.command ≢ entry.command). x.other key entry some has s ∙ sym (y.other key entry some has s))
+        (same_or_other (command_text d.command) entry.command)
 
     by : (write first : Bool) → is_write d.command ≡ write → is_first was.replies before d ≡ first → p ≡ q
     by false first w f = x.read w ∙ sym (y.read w)

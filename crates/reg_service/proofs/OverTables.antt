@@ -47,7 +47,7 @@ module _ {E : Type 0} (old new : State) (d : Delivery) where
 
 -- a later delivery of a key
 pub again_over : (new : State) (d : Delivery) (reply : Told) (key text : List ℕ) (was : Stored) (entry : Entry) → key_of d ≡ Some key → text ≡ command_text d.command → was.replies key ≡ Some entry
-    → (text ≡ entry.text → reply ≡ entry.reply) → (text ≢ entry.text → reply ≡ fault KeyReused) → SpellsWhileOpen new was → ServesTo was (served ((d, reply) ∷ [])) new
+    → (text ≡ entry.command → reply ≡ entry.reply) → (text ≢ entry.command → reply ≡ fault KeyReused) → SpellsWhileOpen new was → ServesTo was (served ((d, reply) ∷ [])) new
 again_over new d reply key text was entry some is has same other spells =
     stands was (serves_again was d key entry reply some has (rw is at same) (rw is at other)) spells
 

@@ -77,16 +77,16 @@ due_first was d key reply some new e = record {
 -- the reply that is due where an entry is kept under the key
 due_again : (was : Stored) (d : Delivery) (key : List ℕ) (entry : Entry) (reply : Told)
     → key_of d ≡ Some key → was.replies key ≡ Some entry
-    → (command_text d.command ≡ entry.text → reply ≡ entry.reply)
-    → (command_text d.command ≢ entry.text → reply ≡ fault KeyReused)
+    → (command_text d.command ≡ entry.command → reply ≡ entry.reply)
+    → (command_text d.command ≢ entry.command → reply ≡ fault KeyReused)
     → IsDue was [] d reply
 due_again was d key entry reply some has same other = record {
   read = λ f. off (is_write d.command) (key_of-write d key some) f;
   first = λ f. off (is_first was.replies [] d) f (is_first-keyed was.replies d key some ∙ ap is_none has);
   again = λ key2 entry2 some2 has2 text. let e : entry ≡ entry2 = one key2 entry2 some2 has2 in
-      same (text ∙ ap (λ (x : Entry). x.text) (sym e)) ∙ ap (λ (x : Entry). x.reply) e;
+      same (text ∙ ap (λ (x : Entry). x.command) (sym e)) ∙ ap (λ (x : Entry). x.reply) e;
   other = λ key2 entry2 some2 has2 text. let e : entry ≡ entry2 = one key2 entry2 some2 has2 in
-      other (λ h. text (h ∙ ap (λ (x : Entry). x.text) e));
+      other (λ h. text (h ∙ ap (λ (x : Entry). x.command) e));
 }
   where
     one : (key2 : List ℕ) (entry2 : Entry) → key_of d ≡ Some key2 → kept_after was.replies [] key2 ≡ Some entry2 → entry ≡ entry2
@@ -97,7 +97,7 @@ due_again was d key entry reply some has same other = record {
 
 -- what a write leaves under its key
 pub kept_after-keyed : (k : Kept) (d : Delivery) (reply : Told) (key q : List ℕ) → key_of d ≡ Some key → k key ≡ None
-    → kept_after k ((d, reply) ∷ []) q ≡ (if bytes_eq key q then Some (record { text = command_text d.command; reply = reply }) else k q)
+    → kept_after k ((d, reply) ∷ []) q ≡ (if bytes_eq key q then Some (record { command = command_text d.command; reply = reply }) else k q)
 kept_after-keyed k d reply key q some new =
     (λ i. option_or (k q) (option_map entry_of (cond (test i) (Some (d, reply)) None))) ∙ by (bytes_eq key q) (bytes_eq-Decides key q)
   where
@@ -105,8 +105,8 @@ kept_after-keyed k d reply key q some new =
     test = ap (λ o. option_map_or (bytes_eq q) o false) some ∙ nat_list_eq_equiv.symm q key
 
     by : (b : Bool) → Decides b (key ≡ q)
-        → option_or (k q) (option_map entry_of (cond b (Some (d, reply)) None)) ≡ (if b then Some (record { text = command_text d.command; reply = reply }) else k q)
-    by true same = ap (λ o. option_or o (Some (record { text = command_text d.command; reply = reply }))) (ap k (sym (same.0 refl)) ∙ new)
+        → option_or (k q) (option_map entry_of (cond b (Some (d, reply)) None)) ≡ (if b then Some (record { command = command_text d.command; reply = reply }) else k q)
+    by true same = ap (λ o. option_or o (Some (record { command = command_text d.command; reply = reply }))) (ap k (sym (same.0 refl)) ∙ new)
     by false differs = option_or-none (k q)
 
 -- what has no key, or a known one, leaves nothing
@@ -197,13 +197,13 @@ serves_keyless was now d reply keyless e ok steps kept =
 
 -- what is kept of a first delivery of a key is what it leaves
 pub kept_first : (k : Kept) (d : Delivery) (key : List ℕ) (reply : Told) → key_of d ≡ Some key → k key ≡ None
-    → kept_with k key (record { text = command_text d.command; reply = reply }) ≡ kept_after k ((d, reply) ∷ [])
+    → kept_with k key (record { command = command_text d.command; reply = reply }) ≡ kept_after k ((d, reply) ∷ [])
 kept_first k d key reply some new = λ i q. sym (kept_after-keyed k d reply key q some new) i
 
 -- The first delivery of a key is carried out and kept.
 pub serves_first : (was now : Stored) (d : Delivery) (key : List ℕ) (reply : Told)
     → key_of d ≡ Some key → was.replies key ≡ None → reply ≡ (step was.registry d.command).1 → reply.status ≢ 500 → StepsTo was d.command now
-    → now.replies ≡ kept_with was.replies key (record { text = command_text d.command; reply = reply }) → Serves was (served ((d, reply) ∷ [])) now
+    → now.replies ≡ kept_with was.replies key (record { command = command_text d.command; reply = reply }) → Serves was (served ((d, reply) ∷ [])) now
 serves_first was now d key reply some new e ok steps kept =
     rw (not_backend_fault reply ok)
     (serves_one was now d reply
@@ -213,8 +213,8 @@ serves_first was now d key reply some new e ok steps kept =
 -- A later delivery of a key changes nothing.
 pub serves_again : (was : Stored) (d : Delivery) (key : List ℕ) (entry : Entry) (reply : Told)
     → key_of d ≡ Some key → was.replies key ≡ Some entry
-    → (command_text d.command ≡ entry.text → reply ≡ entry.reply)
-    → (command_text d.command ≢ entry.text → reply ≡ fault KeyReused)
+    → (command_text d.command ≡ entry.command → reply ≡ entry.reply)
+    → (command_text d.command ≢ entry.command → reply ≡ fault KeyReused)
     → Serves was (served ((d, reply) ∷ [])) was
 serves_again was d key entry reply some has same other = by (is_backend_fault reply)
   where

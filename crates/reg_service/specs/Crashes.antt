@@ -34,9 +34,9 @@ abbrev pub IsFoundAfter : Stored → List Exchange → (Trees → Type 0) → Ty
 IsFoundAfter was xs may_leave = ((db : Trees) → may_leave db → LeavesAfter was (served xs) db) ⊎ LeavesUnderWay was xs may_leave
 
 -- this project's choice: an error is answered 50001
-abbrev pub reply_of : {E : Type 0} → Result Told E → Told
-reply_of (Ok reply) = reply
-reply_of (Err e) = fault BackendFault
+abbrev pub reply_or_fault : {E : Type 0} → Result Told E → Told
+reply_or_fault (Ok reply) = reply
+reply_or_fault (Err e) = fault BackendFault
 
 -- SQLite, transactions: over a connection that is open, a crash leaves what the tables spell, and nothing else
 abbrev pub LeavesSpelled : State → Type 0

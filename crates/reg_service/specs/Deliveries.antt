@@ -47,7 +47,7 @@ firsts k xs = firsts_after k [] xs
 
 -- What an exchange leaves under its key.
 abbrev pub entry_of : Exchange → Entry
-entry_of x = record { text = command_text x.0.command; reply = x.1 }
+entry_of x = record { command = command_text x.0.command; reply = x.1 }
 
 -- What is kept after the list: what was kept before, and under each other key the text and the
 -- reply of the first write with it.
@@ -65,10 +65,10 @@ pub record IsDue (was : Stored) (before : List Exchange) (d : Delivery) (reply :
   pub first : IsTrue (is_first was.replies before d) → reply ≡ reply_after was before d.command
   -- A key that comes with its own command again gets the reply that it has.
   pub again : (key : List ℕ) (entry : Entry) → key_of d ≡ Some key → kept_after was.replies before key ≡ Some entry
-      → command_text d.command ≡ entry.text → reply ≡ entry.reply
+      → command_text d.command ≡ entry.command → reply ≡ entry.reply
   -- A key that comes with another command is refused.
   pub other : (key : List ℕ) (entry : Entry) → key_of d ≡ Some key → kept_after was.replies before key ≡ Some entry
-      → command_text d.command ≢ entry.text → reply ≡ fault KeyReused
+      → command_text d.command ≢ entry.command → reply ≡ fault KeyReused
 
 -- Each exchange, at its position in the list, has the reply that is due there.
 abbrev pub Answers : Stored → List Exchange → Type 0

@@ -8,7 +8,7 @@ ghost use Rattle.reg_store.specs.Spells.{IsOpenOver, SpellsWhileOpen};
 ghost use Rattle.reg_store.specs.Stores.{has_failed, LeavesNoMore, SpellsOn};
 ghost use Rattle.reg_service.specs.Deliveries.{served, RepeatsAgree, NoOtherAnswers};
 ghost use Rattle.reg_service.specs.Admissions.{AllAdmitted};
-ghost use Rattle.reg_service.specs.Crashes.{IsFoundAfter, LeavesSpelled, reply_of};
+ghost use Rattle.reg_service.specs.Crashes.{IsFoundAfter, LeavesSpelled, reply_or_fault};
 ghost use Rattle.reg_service.specs.Services.{store_in, state_in, ServesOver, AreUnanswered, KeepsService};
 ghost use Rattle.reg_service.specs.Inside.Steps.{IsDecidedFor, CarriesOut};
 
@@ -147,7 +147,7 @@ impl<S: Alter> Service<S> {
             → OnErr result (SpellsOn (state_in self.old) (state_in self.new)) }
         ensures crash { HasCleanDisk (state_in self.new) → (was : Stored)
             → IsOpenOver (state_in self.old) was
-            → IsFoundAfter was ((delivery.now, reply_of result) ∷ []) (state_in self.new).may_leave }
+            → IsFoundAfter was ((delivery.now, reply_or_fault result) ∷ []) (state_in self.new).may_leave }
     {
         let Some(key) = retry_key(delivery) else {
             return self.carry_out(&delivery.command);

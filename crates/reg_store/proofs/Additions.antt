@@ -23,7 +23,7 @@ use Rattle.reg_tables.specs.Writing.{ChangesIf}
 use Rattle.reg_tables.specs.Changes.{with_text, with_version}
 use Rattle.reg_tables.proofs.MapLemmas.{get-insert-same, get-insert-other, same_or_not}
 use Rattle.reg_tables.proofs.KeyedTables.{number_order, version_order}
-use Rattle.reg_store.specs.Spells.{IsSpelled, version_row}
+use Rattle.reg_store.specs.Spells.{IsSpelled, stored_version}
 use Rattle.reg_store.specs.Inside.Making.{Makes}
 use Rattle.reg_store.proofs.Maps.{insert_each}
 use Rattle.reg_store.proofs.Seconds.{spelled_in, put}
@@ -72,12 +72,12 @@ module _ (contents : Contents) (g : Registry) (k : Kept) (s : IsSpelled contents
   pub text_is_new : (id : ℕ) (text : List ℕ) → IsNewText g.schemas id text → (other : ℕ) → get contents.texts other ≢ Some text
   text_is_new id text new other has = id_of-no_text g.schemas text new.unknown other (sym (s.texts other) ∙ has)
 
-  pub spelled_row : (row : Row) (evidence : Evidence) → IsTrue (is_subject row.0.0) → IsNewRow g row → IsSpelled (with_version row.0 (version_row row.1) contents) (after_change (AddRow row evidence) g) k
+  pub spelled_row : (row : Row) (evidence : Evidence) → IsTrue (is_subject row.0.0) → IsNewRow g row → IsSpelled (with_version row.0 (stored_version row.1) contents) (after_change (AddRow row evidence) g) k
   spelled_row row evidence within new = record {
     registry = inserted-IsRegistry g row.0 row.1 s.registry new.fits;
     texts = s.texts;
     utf8 = s.utf8;
-    versions = insert_each version_order version_row contents.versions g.rows s.versions row.0 row.1;
+    versions = insert_each version_order stored_version contents.versions g.rows s.versions row.0 row.1;
     registered = get_inserted g.rows row.0 row.1 (λ key _. IsTrue (is_subject key.0)) within s.registered;
     levels = s.levels;
     subjects = s.subjects;
@@ -87,7 +87,7 @@ module _ (contents : Contents) (g : Registry) (k : Kept) (s : IsSpelled contents
 
   -- a new version's number is free, and its id has a text
   pub number_is_free : (row : Row) → IsNewRow g row → get contents.versions row.0 ≡ None
-  number_is_free row new = s.versions row.0 ∙ ap (option_map version_row) new.absent
+  number_is_free row new = s.versions row.0 ∙ ap (option_map stored_version) new.absent
 
   pub id_has_text : (row : Row) → IsNewRow g row → IsSome (get contents.texts row.1.id)
   id_has_text row new =

@@ -17,7 +17,7 @@ use Rattle.reg_tables.specs.declared.listed.SubjectVersion.{SubjectVersion}
 use Rattle.reg_tables.specs.declared.versions.VersionEntry.{VersionEntry}
 use Rattle.reg_tables.specs.Contents.{Contents, VersionRow}
 use Rattle.reg_tables.specs.Entries.{NumberedVersion, numbered, subject_versions, version_row as entry_row}
-use Rattle.reg_store.specs.Spells.{version_row}
+use Rattle.reg_store.specs.Spells.{stored_version}
 use Rattle.reg_store.specs.Inside.Viewing.{row_numbered}
 use Rattle.reg_store.proofs.RowLemmas.{subject_spelled}
 use Rattle.reg_store.proofs.Texts.{was_written}
@@ -36,7 +36,7 @@ pub map_map : {A B C : Type 0} (f : A → B) (h : B → C) (o : Option A) → op
 map_map f h None = refl
 map_map f h (Some x) = refl
 
-module _ (contents : Contents) (g : Registry) (spelled : (key : RowKey) → get contents.versions key ≡ option_map version_row (get g.rows key)) (subject : List ℕ) where
+module _ (contents : Contents) (g : Registry) (spelled : (key : RowKey) → get contents.versions key ≡ option_map stored_version (get g.rows key)) (subject : List ℕ) where
   -- the last of all, of which each is shown where deleted ones are
   pub last_told : (found : Option SubjectVersion) → option_map numbered found ≡ last_or None (subject_versions subject contents)
       → option_map (λ (line : SubjectVersion). row_numbered subject (numbered line)) found ≡ last_or None (shown_rows true (rows_of g subject))
@@ -55,13 +55,13 @@ module _ (contents : Contents) (g : Registry) (spelled : (key : RowKey) → get 
   -- the version that an entry of the table is of
   pub entry_told : (number : ℕ) (entry : VersionEntry) → get contents.versions (subject, number) ≡ Some (entry_row entry) → get g.rows (subject, number) ≡ Some (record { id = entry.id; deleted = entry.deleted })
   entry_told number entry there =
-      let it = was_written version_row (get g.rows (subject, number)) (entry_row entry) (sym (spelled (subject, number)) ∙ there) in
+      let it = was_written stored_version (get g.rows (subject, number)) (entry_row entry) (sym (spelled (subject, number)) ∙ there) in
       let is = sym it.2 in
       it.1 ∙ λ i. Some (record { id = (is i).id; deleted = (is i).deleted })
 
   -- where the table has no entry, there is no version
   pub none_told : (number : ℕ) → get contents.versions (subject, number) ≡ None → (version : Version) → get g.rows (subject, number) ≡ Some version → ⊥
-  none_told number none version there = let both = sym none ∙ spelled (subject, number) ∙ ap (option_map version_row) there in cc
+  none_told number none version there = let both = sym none ∙ spelled (subject, number) ∙ ap (option_map stored_version) there in cc
 
 -- ---- ids
 
@@ -79,21 +79,21 @@ id_of_last id (first ∷ rows) row ids there = at_last first rows ids
     at_last r [] all = ap (λ n. n ∷ []) (All-head (λ (x : Row). x.1.id ≡ id) r [] all)
     at_last r (next ∷ rs) all = at_last next rs (All-tail (λ (x : Row). x.1.id ≡ id) r (next ∷ rs) all)
 
-module _ (contents : Contents) (g : Registry) (spelled : (key : RowKey) → get contents.versions key ≡ option_map version_row (get g.rows key)) (id : ℕ) where
+module _ (contents : Contents) (g : Registry) (spelled : (key : RowKey) → get contents.versions key ≡ option_map stored_version (get g.rows key)) (id : ℕ) where
   -- where no entry of the table has the id, no version has it
   pub no_version_told : ((key : RowKey) (entry : VersionRow) → get contents.versions key ≡ Some entry → entry.id ≢ id) → rows_with id (entries g.rows) ≡ []
   no_version_told none = filter_none (λ (row : Row). row.1.id == id) (entries g.rows) (λ k d lt. not_it _ (each_got row_cmp row_order g.rows k d lt))
     where
       not_it : (row : Row) → get g.rows row.0 ≡ Some row.1 → (row.1.id == id) ≡ false
       not_it row found = elim (cases_Bool (row.1.id == id)) [
-        | inl has ↦ absurd (none row.0 (version_row row.1) (spelled row.0 ∙ ap (option_map version_row) found) (eqb-true row.1.id id has))
+        | inl has ↦ absurd (none row.0 (stored_version row.1) (spelled row.0 ∙ ap (option_map stored_version) found) (eqb-true row.1.id id has))
         | inr not ↦ not
       ]
 
   -- and where an entry has it, the last of its versions does
   pub version_told : (key : RowKey) (entry : VersionRow) → get contents.versions key ≡ Some entry → entry.id ≡ id → map (λ (row : Row). row.1.id) (latest (rows_with id (entries g.rows))) ≡ id ∷ []
   version_told key entry there is =
-      let it = was_written version_row (get g.rows key) entry (sym (spelled key) ∙ there) in
+      let it = was_written stored_version (get g.rows key) entry (sym (spelled key) ∙ there) in
       let has : (it.0.id == id) ≡ true = eq-eqb it.0.id id (sym (ap (λ (e : VersionRow). e.id) it.2) ∙ is) in
       let p = λ (row : Row). row.1.id == id in
       id_of_last id (rows_with id (entries g.rows)) (key, it.0)

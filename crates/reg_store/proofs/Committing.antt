@@ -31,7 +31,7 @@ use Rattle.reg_store.specs.declared.error.StoreError.{StoreError}
 use Rattle.reg_store.specs.declared.error.StoreError.TheVariants.{Memory, Disk, NotARegistry, OldLayout, NewerLayout}
 use Rattle.reg_store.specs.Failures.{failure_of, IsFaultBy}
 use Rattle.reg_store.specs.Stores.{LeavesBefore, LeavesCommit}
-use Rattle.reg_store.specs.Spells.{version_row, IsSpelled, SpellsFirst, LeavesFirst, SpellsIn, Spells, LeavesIn, Leaves, IsOpenOver, SpellsWhileOpen}
+use Rattle.reg_store.specs.Spells.{stored_version, IsSpelled, SpellsFirst, LeavesFirst, SpellsIn, Spells, LeavesIn, Leaves, IsOpenOver, SpellsWhileOpen}
 use Rattle.reg_store.specs.declared.layout.Layout.{Layout}
 use Rattle.reg_store.specs.declared.layout.Layout.TheVariants.{First, Second}
 use Rattle.reg_store.specs.Inside.Making.{SpellsNew, IsNew, LeavesNew}
@@ -87,7 +87,7 @@ new_is_spelled meta = record {
   };
   texts = λ id. get-empty nat_cmp id ∙ sym (ap (option_map identity) (none_at id));
   utf8 = λ id nodes there. absurd (no_schema id nodes there);
-  versions = λ key. get-empty version_cmp key ∙ sym (ap (option_map version_row) (get-empty row_cmp key));
+  versions = λ key. get-empty version_cmp key ∙ sym (ap (option_map stored_version) (get-empty row_cmp key));
   registered = λ key version there. absurd (let none = sym (get-empty row_cmp key) ∙ there in cc);
   levels = λ subject. get-empty text_cmp subject;
   subjects = λ subject level some. absurd (cc);

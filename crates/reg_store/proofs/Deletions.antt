@@ -20,22 +20,22 @@ use Rattle.reg_tables.specs.Changes as tables
 use Rattle.reg_tables.proofs.MapLemmas.{get-altered-same, get-altered-other, same_or_not}
 use Rattle.reg_tables.proofs.KeyedTables.{version_order}
 use Rattle.reg_store.specs.Inside.Making.{Makes}
-use Rattle.reg_store.specs.Spells.{IsSpelled, version_row}
+use Rattle.reg_store.specs.Spells.{IsSpelled, stored_version}
 use Rattle.reg_store.proofs.Maps.{remove_both, remove_each}
 use Rattle.reg_store.proofs.Evidence.{evidence_left}
 use Rattle.reg_store.proofs.Seconds.{spelled_in, changed}
 
 -- a row is marked as its version is
-marked_row : (found : Option Version) → option_map tables.as_deleted (option_map version_row found) ≡ option_map version_row (option_map as_deleted found)
+marked_row : (found : Option Version) → option_map tables.as_deleted (option_map stored_version found) ≡ option_map stored_version (option_map as_deleted found)
 marked_row None = refl
 marked_row (Some version) = refl
 
-module _ (m : FinMap version_cmp VersionRow) (rows : Rows) (same : (key : RowKey) → get m key ≡ option_map version_row (get rows key)) (key : RowKey) where
+module _ (m : FinMap version_cmp VersionRow) (rows : Rows) (same : (key : RowKey) → get m key ≡ option_map stored_version (get rows key)) (key : RowKey) where
   -- the rows of versions are those of the registry, with one soft-deleted on both sides
-  deleted_both : (q : RowKey) → get (tables.altered m key tables.as_deleted) q ≡ option_map version_row (get (altered rows key as_deleted) q)
+  deleted_both : (q : RowKey) → get (tables.altered m key tables.as_deleted) q ≡ option_map stored_version (get (altered rows key as_deleted) q)
   deleted_both q = elim (same_or_not row_cmp version_order q key) [
-    | inl e ↦ ap (get (tables.altered m key tables.as_deleted)) e ∙ get-altered-same version_cmp version_order m key tables.as_deleted ∙ ap (option_map tables.as_deleted) (same key) ∙ marked_row (get rows key) ∙ sym (ap (option_map version_row) (ap (get (altered rows key as_deleted)) e ∙ get-altered-same row_cmp version_order rows key as_deleted))
-    | inr other ↦ get-altered-other version_cmp version_order m key tables.as_deleted q other ∙ same q ∙ sym (ap (option_map version_row) (get-altered-other row_cmp version_order rows key as_deleted q other))
+    | inl e ↦ ap (get (tables.altered m key tables.as_deleted)) e ∙ get-altered-same version_cmp version_order m key tables.as_deleted ∙ ap (option_map tables.as_deleted) (same key) ∙ marked_row (get rows key) ∙ sym (ap (option_map stored_version) (ap (get (altered rows key as_deleted)) e ∙ get-altered-same row_cmp version_order rows key as_deleted))
+    | inr other ↦ get-altered-other version_cmp version_order m key tables.as_deleted q other ∙ same q ∙ sym (ap (option_map stored_version) (get-altered-other row_cmp version_order rows key as_deleted q other))
   ]
 
 -- a level or a mode that is left is one that was there
@@ -62,7 +62,7 @@ module _ (contents : Contents) (g : Registry) (k : Kept) (s : IsSpelled contents
     registry = fewer-IsRegistry g (remove g.rows (subject, number)) g.own s.registry (removed_was g.rows (subject, number));
     texts = s.texts;
     utf8 = s.utf8;
-    versions = remove_each version_order version_row contents.versions g.rows s.versions (subject, number);
+    versions = remove_each version_order stored_version contents.versions g.rows s.versions (subject, number);
     registered = λ key version there. let was = removed_was g.rows (subject, number) key version there in s.registered key was.old was.there;
     levels = s.levels;
     subjects = s.subjects;

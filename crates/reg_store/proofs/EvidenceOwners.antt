@@ -10,7 +10,7 @@ use Rattle.reg_core.specs.Levels.{level_text}
 use Rattle.reg_core.specs.Registry.{RowKey, schema_at}
 use Rattle.reg_core.specs.Stored.{Stored}
 use Rattle.reg_tables.proofs.EvidenceParents.{added_tables, has_evidence_version, has_against_text}
-use Rattle.reg_store.specs.Spells.{Spells, id_at, version_row}
+use Rattle.reg_store.specs.Spells.{Spells, id_at, stored_version}
 
 is_some-map : {V W : Type 0} (f : V → W) (o : Option V) → is_some (option_map f o) ≡ is_some o
 is_some-map f None = refl
@@ -23,7 +23,7 @@ module _ (db : Database) (was : Stored) (s : Spells db was) where
       let it = s.spelled in
       let level = it.evidence.levels key ∙ ap (option_map (λ (e : Evidence). level_text e.level)) is in
       let row = has_evidence_version s.schema db s.contents (added_tables s.schema (inl s.known)) s.holds key (level_text one.level) level in
-      let none = it.base.versions key ∙ ap (option_map version_row) gone in
+      let none = it.base.versions key ∙ ap (option_map stored_version) gone in
       absurd (let some = subst IsSome none row in cc)
 
   -- only versions have evidence

@@ -34,7 +34,7 @@ use Rattle.reg_store.specs.declared.store.cursor.Cursor.{Cursor}
 use Rattle.reg_store.specs.declared.store.cursor.Cursor.TheVariants.{Version, Schema}
 use Rattle.reg_store.specs.Handing.{is_behind, subject_in, key_in, IsAt, LeadsOn, HasHanded, HandsOn}
 use Rattle.reg_store.specs.Listings.{Fields, fields_of, listing_lines, schema_line, schema_lines, subject_listed, subjects_of, version_line}
-use Rattle.reg_store.specs.Spells.{IsSpelled, version_row}
+use Rattle.reg_store.specs.Spells.{IsSpelled, stored_version}
 use Rattle.reg_store.specs.Inside.Viewing.{row_spelled, row_numbered}
 use Rattle.reg_store.proofs.Behind.{next_of, none_same, some_same, find-dedup, dedup_rises}
 use Rattle.reg_store.proofs.ListingLemmas.{length-schema_lines, taken_more}
@@ -43,7 +43,7 @@ use Rattle.reg_store.proofs.Texts.{was_written}
 
 -- ---- what the tables tell
 
-module _ (contents : Contents) (g : Registry) (spelled : (key : RowKey) → get contents.versions key ≡ option_map version_row (get g.rows key)) (subject : List ℕ) where
+module _ (contents : Contents) (g : Registry) (spelled : (key : RowKey) → get contents.versions key ≡ option_map stored_version (get g.rows key)) (subject : List ℕ) where
   pub behind_told : (found : Option ListedVersion) → option_map keyed found ≡ find (λ (e : KeyedVersion). is_gt (text_cmp e.0.0 subject)) (entries contents.versions)
       → option_map (λ (line : ListedVersion). row_spelled (keyed line)) found ≡ find (λ (row : Row). is_gt (text_cmp row.0.0 subject)) (entries g.rows)
   behind_told found is =
@@ -118,14 +118,14 @@ module _ (g : Registry) where
 abbrev entry_line : ℕ × List NodeView → Fields
 entry_line entry = schema_line entry.0 (identity entry.1)
 
-line_of : (n : ℕ) (schemas : Schemas) (i id : ℕ) → id ≡ n + i → slice_get (map entry_line (enumerate_from n schemas)) i ≡ option_map (λ text. schema_line id text) (option_map identity (slice_get schemas i))
-line_of n [] i id is = refl
-line_of n (nodes ∷ schemas) zero id is = let same : n ≡ id = omega arith in ap (λ m. Some (schema_line m (identity nodes))) same
-line_of n (nodes ∷ schemas) (suc i) id is = line_of (n + 1) schemas i id (omega arith)
+found_line : (n : ℕ) (schemas : Schemas) (i id : ℕ) → id ≡ n + i → slice_get (map entry_line (enumerate_from n schemas)) i ≡ option_map (λ text. schema_line id text) (option_map identity (slice_get schemas i))
+found_line n [] i id is = refl
+found_line n (nodes ∷ schemas) zero id is = let same : n ≡ id = omega arith in ap (λ m. Some (schema_line m (identity nodes))) same
+found_line n (nodes ∷ schemas) (suc i) id is = found_line (n + 1) schemas i id (omega arith)
 
 -- the line at a cursor is that of the next id
 pub schema_leads : (g : Registry) (count : ℕ) → option_map (schema_line (count + 1)) (text_at g.schemas (count + 1)) ≡ slice_get (listing_lines AllSchemas g) count
-schema_leads g count = subst (λ id. option_map (schema_line id) (text_at g.schemas id) ≡ slice_get (schema_lines g.schemas) count) (sym (add-one count)) (sym (line_of 1 g.schemas count (suc count) (omega arith)))
+schema_leads g count = subst (λ id. option_map (schema_line id) (text_at g.schemas id) ≡ slice_get (schema_lines g.schemas) count) (sym (add-one count)) (sym (found_line 1 g.schemas count (suc count) (omega arith)))
 
 -- ---- subjects of the table
 
@@ -141,7 +141,7 @@ found_passes p (y ∷ xs) x h = go (p y) h (found_passes p xs x)
 pub of_subject : (contents : Contents) (g : Registry) (k : Kept) → IsSpelled contents g k → (subject : List ℕ) (entry : KeyedVersion) → find (λ (e : KeyedVersion). is_gt (text_cmp e.0.0 subject)) (entries contents.versions) ≡ Some entry → IsTrue (is_subject entry.0.0)
 of_subject contents g k s subject entry h =
     let got = entry_got version_cmp version_order contents.versions entry (found_passes _ (entries contents.versions) entry h) in
-    let it = was_written version_row (get g.rows entry.0) entry.1 (sym (s.versions entry.0) ∙ got) in
+    let it = was_written stored_version (get g.rows entry.0) entry.1 (sym (s.versions entry.0) ∙ got) in
     s.registered entry.0 it.0 it.1
 
 -- ---- the first of all

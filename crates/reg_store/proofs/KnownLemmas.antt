@@ -20,7 +20,7 @@ use Rattle.reg_tables.specs.declared.listed.SubjectVersion.{SubjectVersion}
 use Rattle.reg_tables.specs.Entries.{NumberedVersion, numbered, subject_versions, KeyedVersion, keyed, id_versions, most, AreOfId}
 use Rattle.reg_tables.proofs.LastVersions.{filter_both}
 use Rattle.reg_tables.proofs.ListMembers.{has_mapped, maps_had}
-use Rattle.reg_store.specs.Spells.{version_row}
+use Rattle.reg_store.specs.Spells.{stored_version}
 use Rattle.reg_store.specs.Inside.Viewing.{AreSome, IsLastShown, IsLaterOf, is_shown_of, row_numbered, row_spelled}
 use Rattle.reg_store.proofs.ChosenLemmas.{map_map}
 use Rattle.reg_store.proofs.RowLemmas.{subject_spelled}
@@ -162,7 +162,7 @@ module _ (contents : Contents) (g : Registry) (id : ℕ) (spelled : map row_spel
   }
 
 -- the last one of the subject, as a line tells it
-module _ (contents : Contents) (g : Registry) (spelled : (key : RowKey) → get contents.versions key ≡ option_map version_row (get g.rows key)) (subject : List ℕ) (id : ℕ) (deleted : Bool) where
+module _ (contents : Contents) (g : Registry) (spelled : (key : RowKey) → get contents.versions key ≡ option_map stored_version (get g.rows key)) (subject : List ℕ) (id : ℕ) (deleted : Bool) where
   pub last_with_id_told : (found : Option SubjectVersion)
       → option_map numbered found ≡ last_or None (filter (λ (version : NumberedVersion). (deleted || not version.1.deleted) && (version.1.id == id)) (subject_versions subject contents))
       → option_map (λ (line : SubjectVersion). row_numbered subject (numbered line)) found ≡ last_or None (rows_with id (shown_rows deleted (rows_of g subject)))

@@ -21,7 +21,7 @@ use Rattle.reg_tables.proofs.ListingLemmas.{found_first, find_had}
 use Rattle.reg_rows.specs.Spelling.{pair_of}
 use Rattle.reg_rows.specs.Meta.{Pair, value_at, names, second_names, is_name, names_known, has_value, has_level, has_mode, has_common, is_meta, is_second_meta}
 use Rattle.reg_store.specs.Spells.{second_meta}
-use Rattle.reg_store.specs.Opening.{meta_row}
+use Rattle.reg_store.specs.Opening.{meta_shown}
 use Rattle.reg_store.proofs.Bridge.{find_passes, spelt}
 use Rattle.reg_store.proofs.Maps.{same_bytes, other_bytes}
 use Rattle.reg_store.proofs.ReadBack.{level_of-level_text, mode_of-mode_text}
@@ -88,9 +88,9 @@ value_found : (q : List ℕ) (rows : List Pair) → value_at q rows ≡ find tex
 value_found q [] = refl
 value_found q (row ∷ rows) = ap (λ b. cond b (Some row.1) (value_at q rows)) (same_test row.0 q) ∙ ap (cond (is_eq (text_cmp q row.0)) (Some row.1)) (value_found q rows)
 
-pairs_are : (lines : List MetaLine) → map pair_of (map meta_row lines) ≡ map without_rowid (map meta_entry lines)
+pairs_are : (lines : List MetaLine) → map pair_of (map meta_shown lines) ≡ map without_rowid (map meta_entry lines)
 pairs_are [] = refl
-pairs_are (l ∷ ls) = ap (λ r. pair_of (meta_row l) ∷ r) (pairs_are ls)
+pairs_are (l ∷ ls) = ap (λ r. pair_of (meta_shown l) ∷ r) (pairs_are ls)
 
 each_known : (known : List (List ℕ)) (rows : List Pair) → names_known known rows ≡ true → (row : Pair) → Has rows row → is_name known row.0 ≡ true
 each_known known [] h row there = absurd there
@@ -154,7 +154,7 @@ module _ (lines : List MetaLine) where
   meta_in = from_entries (map without_rowid (map meta_entry lines))
 
   abbrev pub pairs_in : List Pair
-  pairs_in = map pair_of (map meta_row lines)
+  pairs_in = map pair_of (map meta_shown lines)
 
   -- the first value of a name is that of the map
   pub meta_found : (q : List ℕ) → value_at q pairs_in ≡ get meta_in q

@@ -24,7 +24,7 @@ use Rattle.reg_tables.specs.Changes.{with_version}
 use Rattle.reg_tables.proofs.EvidenceParents.{added_tables, has_evidence_version}
 use Rattle.reg_tables.proofs.MapLemmas.{get-insert-same}
 use Rattle.reg_tables.proofs.KeyedTables.{version_order}
-use Rattle.reg_store.specs.Spells.{Spells, IsSpelledEvidence, IsSpelledSecond, version_row}
+use Rattle.reg_store.specs.Spells.{Spells, IsSpelledEvidence, IsSpelledSecond, stored_version}
 use Rattle.reg_store.specs.Changes.{made_of}
 use Rattle.reg_store.specs.Inside.Making.{HasNoPlace, HasTexts, PutsOwn, IsFaultOfOwn, with_own}
 use Rattle.reg_store.proofs.Additions.{number_is_free, spelled_row}
@@ -41,9 +41,9 @@ no_level {db} s key none = go (get s.contents.evidence key) refl
 
 -- the contents with a version more
 abbrev with_row : Row → SecondContents → SecondContents
-with_row row contents = record contents { base = with_version row.0 (version_row row.1) contents.base }
+with_row row contents = record contents { base = with_version row.0 (stored_version row.1) contents.base }
 
-module _ (old mid new : State) (row : Row) (own : Evidence) (puts : ChangesIf old mid (λ contents. get contents.versions row.0 ≡ None) (with_version row.0 (version_row row.1)))
+module _ (old mid new : State) (row : Row) (own : Evidence) (puts : ChangesIf old mid (λ contents. get contents.versions row.0 ≡ None) (with_version row.0 (stored_version row.1)))
     (was : Stored) (s : Spells old.now was) (fits : ChangeFits (AddRow row own) was.registry) where
   absent : get s.contents.base.versions row.0 ≡ None
   absent = number_is_free s.contents.base was.registry was.replies s.spelled.base row fits.0
@@ -60,7 +60,7 @@ module _ (old mid new : State) (row : Row) (own : Evidence) (puts : ChangesIf ol
   -- the schemas that true evidence names have texts
   named : (nodes : List NodeView) → schema_at was.registry.schemas row.1.id ≡ Some nodes → HasTexts (with_row row s.contents) row.0 own.against
   named nodes schema = record {
-    version = subst IsSome (sym (get-insert-same version_cmp version_order s.contents.base.versions row.0 (version_row row.1))) refl;
+    version = subst IsSome (sym (get-insert-same version_cmp version_order s.contents.base.versions row.0 (stored_version row.1))) refl;
     texts = All-weaker (GoesWith was.registry.schemas own.level nodes) (λ id. IsSome (get s.contents.base.texts id)) (λ id goes. subst IsSome (sym (s.spelled.base.texts id ∙ ap (option_map identity) goes.1)) refl) own.against (fits.1.holds nodes schema);
   }
 
@@ -69,7 +69,7 @@ module _ (old mid new : State) (row : Row) (own : Evidence) (puts : ChangesIf ol
 
   pub spells_row : IsTrue (is_subject row.0.0) → PutsOwn mid new row.0 own → Spells new.now (made_of (AddRow row own ∷ []) was)
   spells_row within given =
-      let base = with_version row.0 (version_row row.1) s.contents.base in
+      let base = with_version row.0 (stored_version row.1) s.contents.base in
       let bare_there = with_evidence row.0 (level_text own.level) (with_row row s.contents) in
       let same = ids_beside row.0 1 own.against bare_there in
       let evidence = evidence_more (with_row row s.contents) was.evidence (evidence_beside s.contents was.evidence s.spelled.evidence base) row.0 own given.few free in

@@ -12,7 +12,7 @@ use Rattle.reg_tables.proofs.MapLemmas.{tied_key, other_key}
 use Rattle.reg_tables.proofs.KeyedTables.{number_order}
 use Rattle.reg_tables.specs.declared.lines.TextLine.{TextLine}
 use Rattle.reg_rows.specs.Spelling.{AreNumbered, Text}
-use Rattle.reg_store.specs.Opening.{text_row}
+use Rattle.reg_store.specs.Opening.{text_shown}
 
 -- none is greater than one after it
 abbrev pub Rises : List ℕ → Type 0
@@ -60,7 +60,7 @@ few_numbered first most (n ∷ ns) h high l =
     omega (arith, rest)
 
 abbrev ids : List TextLine → List ℕ
-ids lines = map (λ (row : ℕ × Text). row.0) (map text_row lines)
+ids lines = map (λ (row : ℕ × Text). row.0) (map text_shown lines)
 
 -- so none stands twice
 pub ids_apart : (lines : List TextLine) → AreNumbered 1 (ids lines) → IsDistinct (eq_by_cmp int_cmp) (map (λ (line : TextLine). pos line.id) lines)

@@ -50,10 +50,10 @@ pub kept_is : (o : Option Entry) (entry : Entry) → option_map row_of o ≡ Som
 kept_is None entry h = absurd (cc)
 kept_is (Some e) entry h =
     let same : row_of e ≡ row_of entry = cc in
-    let text : e.text ≡ entry.text = ap (λ (r : KeptRow). r.command) same in
+    let text : e.command ≡ entry.command = ap (λ (r : KeptRow). r.command) same in
     let status : e.reply.status ≡ entry.reply.status = ap (λ (r : KeptRow). r.status) same in
     let body : e.reply.body ≡ entry.reply.body = ap (λ (r : KeptRow). r.body) same in
-    λ i. Some (record { text = text i; reply = record { status = status i; body = body i } })
+    λ i. Some (record { command = text i; reply = record { status = status i; body = body i } })
 
 -- the mode that a text spells is the one that was written so
 pub mode_of-mode_text : (mode : Mode) → mode_of (mode_text mode) ≡ Some mode

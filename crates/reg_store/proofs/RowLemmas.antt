@@ -19,7 +19,7 @@ use Rattle.reg_tables.specs.Contents.{Contents, version_cmp}
 use Rattle.reg_tables.specs.Entries.{KeyedVersion, keyed, subject_versions, id_versions}
 use Rattle.reg_tables.proofs.KeyedTables.{version_order}
 use Rattle.reg_tables.proofs.OrderedQueries.{entry_got}
-use Rattle.reg_store.specs.Spells.{IsSpelled, version_row}
+use Rattle.reg_store.specs.Spells.{IsSpelled, stored_version}
 use Rattle.reg_store.proofs.Schemas.{find-mapped}
 use Rattle.reg_store.proofs.Texts.{was_written}
 use Rattle.reg_store.specs.Inside.Viewing.{HasSubject, version_spelled, row_spelled, row_numbered}
@@ -28,7 +28,7 @@ use Rattle.reg_store.specs.Inside.Viewing.{HasSubject, version_spelled, row_spel
 
 -- the row of `versions` that spells a version
 abbrev entry_of : Row → KeyedVersion
-entry_of row = (row.0, version_row row.1)
+entry_of row = (row.0, stored_version row.1)
 
 entries_back : (rows : List Row) → map row_spelled (map entry_of rows) ≡ rows
 entries_back [] = refl
@@ -43,13 +43,13 @@ sorted_mapped (row ∷ rows) = λ i. below rows i && sorted_mapped rows i
     below [] = refl
     below (r ∷ rs) = ap (λ b. is_lt (row_cmp row.0 r.0) && b) (below rs)
 
-module _ (contents : Contents) (g : Registry) (spelled : (key : RowKey) → get contents.versions key ≡ option_map version_row (get g.rows key)) where
+module _ (contents : Contents) (g : Registry) (spelled : (key : RowKey) → get contents.versions key ≡ option_map stored_version (get g.rows key)) where
   entries_spelled : entries contents.versions ≡ map entry_of (entries g.rows)
   entries_spelled =
       let es = map entry_of (entries g.rows) in
       let sorted = subst T (sym (sorted_mapped (entries g.rows))) (entries_sorted g.rows) in
       let same = same_map version_order.total version_order.antisymmetric contents.versions (from_sorted es) (λ key.
-      spelled key ∙ ap (option_map version_row) (get-entries g.rows key) ∙ sym (find-mapped version_cmp version_row key (entries g.rows)) ∙ sym (get-from_sorted version_cmp es key sorted)) in
+      spelled key ∙ ap (option_map stored_version) (get-entries g.rows key) ∙ sym (find-mapped version_cmp stored_version key (entries g.rows)) ∙ sym (get-from_sorted version_cmp es key sorted)) in
       ap entries same ∙ entries-from_sorted version_cmp es sorted
 
   -- the versions, in their order
@@ -94,7 +94,7 @@ module _ (contents : Contents) (g : Registry) (k : Kept) (s : IsSpelled contents
   of_subjects : All IsOfSubject (entries contents.versions)
   of_subjects = all_of IsOfSubject (entries contents.versions) (all_from IsOfSubject (entries contents.versions) (λ entry there.
       let found = entry_got version_cmp version_order contents.versions entry there in
-      let it = was_written version_row (get g.rows entry.0) entry.1 (sym (s.versions entry.0) ∙ found) in
+      let it = was_written stored_version (get g.rows entry.0) entry.1 (sym (s.versions entry.0) ∙ found) in
       s.registered entry.0 it.0 it.1))
 
   -- each line of the table has a subject

@@ -23,9 +23,9 @@ use Rattle.reg_tables.proofs.MapLemmas.{tied_key, other_key}
 use Rattle.reg_tables.proofs.KeyedTables.{number_order, version_order}
 use Rattle.reg_tables.proofs.ListingLemmas.{found_first, find_had}
 use Rattle.reg_rows.specs.Spelling.{Text, AreNumbered, IsTextRow, AreTexts, FitsVersions, IsVersionRow}
-use Rattle.reg_store.specs.Spells.{version_row}
-use Rattle.reg_store.specs.Opening.{text_row}
-use Rattle.reg_store.specs.Opening.{version_row as row_of_line}
+use Rattle.reg_store.specs.Spells.{stored_version}
+use Rattle.reg_store.specs.Opening.{text_shown}
+use Rattle.reg_store.specs.Opening.{version_shown}
 use Rattle.reg_store.proofs.Numbering.{Rises, numbered, few_numbered}
 use Rattle.reg_store.proofs.Ids.{schema_within, schema_there, is_schema_at}
 use Rattle.reg_store.proofs.Texts.{was_written}
@@ -33,29 +33,29 @@ use Rattle.reg_store.proofs.Texts.{was_written}
 -- ---- texts
 
 -- the schemas of rows that have identity texts
-abbrev pub schemas_in : (lines : List TextLine) → AllByRecursion IsTextRow (map text_row lines) → Schemas
+abbrev pub schemas_in : (lines : List TextLine) → AllByRecursion IsTextRow (map text_shown lines) → Schemas
 schemas_in [] fit = []
 schemas_in (line ∷ lines) fit = fit.0.nodes ∷ schemas_in lines fit.1
 
-pub all_schemas : (lines : List TextLine) (fit : AllByRecursion IsTextRow (map text_row lines)) → All IsSchema (schemas_in lines fit)
+pub all_schemas : (lines : List TextLine) (fit : AllByRecursion IsTextRow (map text_shown lines)) → All IsSchema (schemas_in lines fit)
 all_schemas [] fit = All-nil IsSchema
 all_schemas (line ∷ lines) fit = All-cons IsSchema fit.0.nodes (schemas_in lines fit.1) fit.0.schema (all_schemas lines fit.1)
 
-pub length_schemas : (lines : List TextLine) (fit : AllByRecursion IsTextRow (map text_row lines)) → length (schemas_in lines fit) ≡ length (map text_row lines)
+pub length_schemas : (lines : List TextLine) (fit : AllByRecursion IsTextRow (map text_shown lines)) → length (schemas_in lines fit) ≡ length (map text_shown lines)
 length_schemas [] fit = refl
 length_schemas (line ∷ lines) fit = ap suc (length_schemas lines fit.1)
 
-pub utf8_schemas : (lines : List TextLine) (fit : AllByRecursion IsTextRow (map text_row lines)) (id : ℕ) (nodes : List NodeView) → schema_at (schemas_in lines fit) id ≡ Some nodes → IsUtf8 (identity nodes)
+pub utf8_schemas : (lines : List TextLine) (fit : AllByRecursion IsTextRow (map text_shown lines)) (id : ℕ) (nodes : List NodeView) → schema_at (schemas_in lines fit) id ≡ Some nodes → IsUtf8 (identity nodes)
 utf8_schemas lines fit zero nodes h = absurd (cc)
 utf8_schemas lines fit (suc n) nodes h = at lines fit n h
   where
-    at : (ls : List TextLine) (fit : AllByRecursion IsTextRow (map text_row ls)) (n : ℕ) → slice_get (schemas_in ls fit) n ≡ Some nodes → IsUtf8 (identity nodes)
+    at : (ls : List TextLine) (fit : AllByRecursion IsTextRow (map text_shown ls)) (n : ℕ) → slice_get (schemas_in ls fit) n ≡ Some nodes → IsUtf8 (identity nodes)
     at [] fit n h = absurd (cc)
     at (l ∷ ls) fit zero h = let same : fit.0.nodes ≡ nodes = cc in subst IsUtf8 (fit.0.is ∙ ap identity same) (IsUtf8-string_bytes l.text)
     at (l ∷ ls) fit (suc n) h = at ls fit.1 n h
 
 abbrev ids_of : List TextLine → List ℕ
-ids_of lines = map (λ (row : ℕ × Text). row.0) (map text_row lines)
+ids_of lines = map (λ (row : ℕ × Text). row.0) (map text_shown lines)
 
 abbrev pairs_of : List TextLine → List (ℕ × List ℕ)
 pairs_of lines = map without_rowid (map text_entry lines)
@@ -68,7 +68,7 @@ below_none first (line ∷ lines) n id l =
     ∙ below_none (first + 1) lines n.1 id (omega (arith, l))
 
 -- numbered rows have the text of each id at its position
-found_at : (first : ℕ) (lines : List TextLine) → AreNumbered first (ids_of lines) → (fit : AllByRecursion IsTextRow (map text_row lines)) → (n id : ℕ) → id ≡ first + n
+found_at : (first : ℕ) (lines : List TextLine) → AreNumbered first (ids_of lines) → (fit : AllByRecursion IsTextRow (map text_shown lines)) → (n id : ℕ) → id ≡ first + n
     → find nat_cmp id (pairs_of lines) ≡ option_map identity (slice_get (schemas_in lines fit) n)
 found_at first [] h fit n id e = refl
 found_at first (line ∷ lines) h fit zero id e =
@@ -82,7 +82,7 @@ module _ (lines : List TextLine) where
   texts_in = from_entries (pairs_of lines)
 
   -- rows that fit spell their schemas
-  pub texts_spelled : (fit : AreTexts (map text_row lines)) → (id : ℕ) → get texts_in id ≡ option_map identity (schema_at (schemas_in lines fit.identities) id)
+  pub texts_spelled : (fit : AreTexts (map text_shown lines)) → (id : ℕ) → get texts_in id ≡ option_map identity (schema_at (schemas_in lines fit.identities) id)
   texts_spelled fit zero = get-from_entries number_order.total (pairs_of lines) 0 ∙ below_none 1 lines fit.numbered 0 (omega arith)
   texts_spelled fit (suc n) = get-from_entries number_order.total (pairs_of lines) (suc n) ∙ found_at 1 lines fit.numbered fit.identities n (suc n) (omega arith)
 
@@ -102,12 +102,12 @@ module _ (lines : List TextLine) where
         let e = find_had nat_cmp number_order (map text_entry lines) id (identity it.0) (sym (get-from_entries number_order.total (pairs_of lines) id) ∙ spelled id ∙ ap (option_map identity) it.1) in
         let line = has_mapped text_entry lines e.0 e.1 in
         let its : line.0.id ≡ id = ap (λ (x : ℤ × ℕ × List ℕ). x.1) (sym line.2) ∙ e.2 in
-        subst (Has (ids_of lines)) its (maps_had (λ (row : ℕ × Text). row.0) (map text_row lines) (text_row line.0) (maps_had text_row lines line.0 line.1))
+        subst (Has (ids_of lines)) its (maps_had (λ (row : ℕ × Text). row.0) (map text_shown lines) (text_shown line.0) (maps_had text_shown lines line.0 line.1))
 
     id_within : (id : ℕ) → Has (ids_of lines) id → (0 < id) × (id ≤ length schemas)
     id_within id there =
-        let row = has_mapped (λ (r : ℕ × Text). r.0) (map text_row lines) id there in
-        let line = has_mapped text_row lines row.0 row.1 in
+        let row = has_mapped (λ (r : ℕ × Text). r.0) (map text_shown lines) id there in
+        let line = has_mapped text_shown lines row.0 row.1 in
         let its : id ≡ line.0.id = row.2 ∙ ap (λ (r : ℕ × Text). r.0) line.2 in
         let it = schema_of line.0 line.1 in
         let within = schema_within schemas line.0.id it.0 it.1 in
@@ -121,17 +121,17 @@ module _ (lines : List TextLine) where
         same (l ∷ ls) = ap (λ r. l.id ∷ r) (same ls)
 
     -- rows of tables that spell schemas fit, in the order of their ids
-    pub texts_fit : Rises (ids_of lines) → AreTexts (map text_row lines)
+    pub texts_fit : Rises (ids_of lines) → AreTexts (map text_shown lines)
     texts_fit rising =
         let in_order = numbered 1 (ids_of lines) rising ids_apart (λ id there. (id_within id there).0) (λ id other there a b. line_there other a (let l = (id_within id there).1 in omega (arith, b, l))) in
         record {
           numbered = in_order;
           few =
               let most = few_numbered 1 (length schemas) (ids_of lines) in_order (λ id there. (id_within id there).1) (omega arith) in
-              let same = length-map (map text_row lines) in
+              let same = length-map (map text_shown lines) in
               omega (arith, most, few, same);
-          identities = all_from IsTextRow (map text_row lines) (λ row there.
-              let line = has_mapped text_row lines row there in
+          identities = all_from IsTextRow (map text_shown lines) (λ row there.
+              let line = has_mapped text_shown lines row there in
               let it = schema_of line.0 line.1 in
               subst IsTextRow (sym line.2) (record { nodes = it.0; schema = is_schema_at schemas line.0.id it.0 all it.1; is = it.2 }));
         }
@@ -146,7 +146,7 @@ module _ (lines : List TextLine) where
 abbrev version_in : VersionRow → Version
 version_in row = record { id = row.id; deleted = row.deleted }
 
-version_back : (o : Option VersionRow) → o ≡ option_map version_row (option_map version_in o)
+version_back : (o : Option VersionRow) → o ≡ option_map stored_version (option_map version_in o)
 version_back None = refl
 version_back (Some row) = refl
 
@@ -168,8 +168,8 @@ module _ (versions : FinMap version_cmp VersionRow) where
   unfolding rows_in
   row_found key = get-from_entries version_order.total _ key ∙ find-mapped version_cmp version_in key (entries versions) ∙ ap (option_map version_in) (sym (get-entries versions key))
 
-  pub versions_spelled : (key : RowKey) → get versions key ≡ option_map version_row (get (rows_in versions) key)
-  versions_spelled key = version_back (get versions key) ∙ ap (option_map version_row) (sym (row_found key))
+  pub versions_spelled : (key : RowKey) → get versions key ≡ option_map stored_version (get (rows_in versions) key)
+  versions_spelled key = version_back (get versions key) ∙ ap (option_map stored_version) (sym (row_found key))
 
   -- a version is that of a row
   pub row_there : (key : RowKey) (version : Version) → get (rows_in versions) key ≡ Some version → (row : VersionRow) × (get versions key ≡ Some row) × (version ≡ version_in row)
@@ -180,22 +180,22 @@ module _ (lines : List VersionLine) where
   versions_in = from_entries (map without_rowid (map version_entry lines))
 
   -- the rows that fit have subjects and numbers
-  pub version_fits : AllByRecursion IsVersionRow (map row_of_line lines) → (key : RowKey) (row : VersionRow) → get versions_in key ≡ Some row → FitsVersions key.0 key.1
+  pub version_fits : AllByRecursion IsVersionRow (map version_shown lines) → (key : RowKey) (row : VersionRow) → get versions_in key ≡ Some row → FitsVersions key.0 key.1
   version_fits all key row there =
       let es = map version_entry lines in
       let e = find_had version_cmp version_order es key row (sym (get-from_entries version_order.total (map without_rowid es) key) ∙ there) in
       let line = has_mapped version_entry lines e.0 e.1 in
-      let fits = all_has IsVersionRow (map row_of_line lines) (row_of_line line.0) all (maps_had row_of_line lines line.0 line.1) in
+      let fits = all_has IsVersionRow (map version_shown lines) (version_shown line.0) all (maps_had version_shown lines line.0 line.1) in
       subst (λ (k : RowKey). FitsVersions k.0 k.1) (ap (λ (x : ℤ × RowKey × VersionRow). x.1) (sym line.2) ∙ e.2) fits
 
   -- each row of a table that spells versions fits
-  pub versions_fit : HasNoTwins version_cmp (map version_entry lines) → (schemas : Schemas) (rows : Rows) → ((key : RowKey) → get versions_in key ≡ option_map version_row (get rows key))
-      → ((key : RowKey) (version : Version) → get rows key ≡ Some version → IsRow schemas key version) → ((key : RowKey) (version : Version) → get rows key ≡ Some version → IsTrue (is_subject key.0)) → AllByRecursion IsVersionRow (map row_of_line lines)
-  versions_fit apart schemas rows spelled are subjects = all_from IsVersionRow (map row_of_line lines) (λ row there.
-      let line = has_mapped row_of_line lines row there in
+  pub versions_fit : HasNoTwins version_cmp (map version_entry lines) → (schemas : Schemas) (rows : Rows) → ((key : RowKey) → get versions_in key ≡ option_map stored_version (get rows key))
+      → ((key : RowKey) (version : Version) → get rows key ≡ Some version → IsRow schemas key version) → ((key : RowKey) (version : Version) → get rows key ≡ Some version → IsTrue (is_subject key.0)) → AllByRecursion IsVersionRow (map version_shown lines)
+  versions_fit apart schemas rows spelled are subjects = all_from IsVersionRow (map version_shown lines) (λ row there.
+      let line = has_mapped version_shown lines row there in
       let es = map version_entry lines in
       let e = version_entry line.0 in
       let found = get-from_entries version_order.total (map without_rowid es) e.1 ∙ found_first version_cmp version_order es e apart.keys (maps_had version_entry lines line.0 line.1) in
-      let it = was_written version_row (get rows e.1) e.2 (sym (spelled e.1) ∙ found) in
-      let fits : IsVersionRow (row_of_line line.0) = record { subject = subjects e.1 it.0 it.1; within = (are e.1 it.0 it.1).within } in
+      let it = was_written stored_version (get rows e.1) e.2 (sym (spelled e.1) ∙ found) in
+      let fits : IsVersionRow (version_shown line.0) = record { subject = subjects e.1 it.0 it.1; within = (are e.1 it.0 it.1).within } in
       subst IsVersionRow (sym line.2) fits)

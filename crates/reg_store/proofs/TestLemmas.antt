@@ -34,7 +34,7 @@ use Rattle.reg_rows.specs.Spelling.{Text, AreTexts, IsVersionRow, IsLevelRow, Is
 use Rattle.reg_store.specs.declared.error.StoreError.{StoreError}
 use Rattle.reg_store.specs.declared.error.StoreError.TheVariants.{Memory, NotARegistry}
 use Rattle.reg_store.specs.Failures.{failure_of, IsFaultBy, IsTold}
-use Rattle.reg_store.specs.Opening.{text_row, version_row, level_row, kept_row, HasVersionRows}
+use Rattle.reg_store.specs.Opening.{text_shown, version_shown, level_shown, kept_shown, HasVersionRows}
 use Rattle.reg_core.specs.KeptReplies.{Kept}
 use Rattle.reg_core.specs.Stored.{Stored}
 use Rattle.reg_store.specs.Spells.{IsSpelled}
@@ -73,7 +73,7 @@ pub is_known : (db : Database) (was : Stored) → SpellsBase db was → HasTable
 is_known db was s = laid_out s.holds s.first
 
 module _ (db : Database) (was : Stored) (s : SpellsBase db was) where
-  pub texts_pass : (lines : List TextLine) → ListsTexts db lines → Rises (map (λ (row : ℕ × Text). row.0) (map text_row lines)) → AreTexts (map text_row lines)
+  pub texts_pass : (lines : List TextLine) → ListsTexts db lines → Rises (map (λ (row : ℕ × Text). row.0) (map text_shown lines)) → AreTexts (map text_shown lines)
   texts_pass lines lists rising =
       let shown = listed_if_shown text_form _ number_order distinct_numbers (db.trees texts.tree) (map text_entry lines) lists s.contents.texts distinct_texts s.holds.texts in
       texts_fit lines shown.apart was.registry.schemas s.spelled.registry.schemas s.spelled.registry.few (λ id. sym (ap (λ m. get m id) shown.is) ∙ s.spelled.texts id) rising
@@ -82,21 +82,21 @@ module _ (db : Database) (was : Stored) (s : SpellsBase db was) where
   versions_pass lines lists =
       let shown = listed_if_shown version_form version_cmp version_order distinct_versions (db.trees versions.tree) (map version_entry lines) lists s.contents.versions distinct_version_rows s.holds.versions in (
         subst AreApart (rowids_of version_entry (λ (line : VersionLine). line.rowid) (λ line. refl) lines) shown.apart.rowids,
-        each_line version_row IsVersionRow lines (versions_fit lines shown.apart was.registry.schemas was.registry.rows (λ key. sym (ap (λ m. get m key) shown.is) ∙ s.spelled.versions key) s.spelled.registry.rows s.spelled.registered),
+        each_line version_shown IsVersionRow lines (versions_fit lines shown.apart was.registry.schemas was.registry.rows (λ key. sym (ap (λ m. get m key) shown.is) ∙ s.spelled.versions key) s.spelled.registry.rows s.spelled.registered),
       )
 
   pub levels_pass : (lines : List LevelLine) → ListsLevels db lines → AreApart (map (λ (line : LevelLine). line.rowid) lines) × AllByRecursion level_fits lines
   levels_pass lines lists =
       let shown = listed_if_shown pair_form text_cmp text_order distinct_texts (db.trees levels.tree) (map level_entry lines) lists s.contents.levels distinct_texts s.holds.levels in (
         subst AreApart (rowids_of level_entry (λ (line : LevelLine). line.rowid) (λ line. refl) lines) shown.apart.rowids,
-        each_line level_row IsLevelRow lines (levels_fit lines shown.apart was.registry.own (λ q. sym (ap (λ m. get m q) shown.is) ∙ s.spelled.levels q) s.spelled.subjects),
+        each_line level_shown IsLevelRow lines (levels_fit lines shown.apart was.registry.own (λ q. sym (ap (λ m. get m q) shown.is) ∙ s.spelled.levels q) s.spelled.subjects),
       )
 
   pub kept_pass : (lines : List KeptLine) → ListsKept db lines → AreApart (map (λ (line : KeptLine). line.rowid) lines) × AllByRecursion kept_fits lines
   kept_pass lines lists =
       let shown = listed_if_shown kept_form text_cmp text_order distinct_texts (db.trees kept.tree) (map kept_entry lines) lists s.contents.kept distinct_kept_rows s.holds.kept in (
         subst AreApart (rowids_of kept_entry (λ (line : KeptLine). line.rowid) (λ line. refl) lines) shown.apart.rowids,
-        each_line kept_row IsKeptRow lines (kept_fit lines shown.apart was.replies (λ q. sym (ap (λ m. get m q) shown.is) ∙ s.spelled.kept q) s.spelled.keys),
+        each_line kept_shown IsKeptRow lines (kept_fit lines shown.apart was.replies (λ q. sym (ap (λ m. get m q) shown.is) ∙ s.spelled.kept q) s.spelled.keys),
       )
 
 -- ---- tables that pass spell a registry
@@ -125,7 +125,7 @@ module _ (db : Database) (known : HasKeysFirst db.schema) (sound : IsDatabase db
   pub spelled_if_passed : (g : Registry) × (k : Kept) × IsSpelled (contents_of (lines_in meta rest)) g k
   spelled_if_passed =
       spelled_if_rows (lines_in meta rest) apart_if_passed (one_id db.schema db (contents_of (lines_in meta rest)) known holds_if_passed) (has_text db.schema db (contents_of (lines_in meta rest)) known holds_if_passed)
-      rest.texts.fit (each_row version_row IsVersionRow rest.versions.lines rest.versions.fit) (each_row level_row IsLevelRow rest.levels.lines rest.levels.fit) (each_row kept_row IsKeptRow rest.kept.lines rest.kept.fit)
+      rest.texts.fit (each_row version_shown IsVersionRow rest.versions.lines rest.versions.fit) (each_row level_shown IsLevelRow rest.levels.lines rest.levels.fit) (each_row kept_shown IsKeptRow rest.kept.lines rest.kept.fit)
 
 -- ---- how a test comes out
 

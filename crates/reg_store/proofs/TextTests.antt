@@ -20,7 +20,7 @@ use Rattle.reg_tables.specs.Listings.{ListsTexts}
 use Rattle.reg_tables.specs.Reads.{HoldsReadable}
 use Rattle.reg_tables.proofs.ListMembers.{has_permuted}
 use Rattle.reg_store.specs.declared.error.StoreError.{StoreError}
-use Rattle.reg_store.specs.Opening.{text_row}
+use Rattle.reg_store.specs.Opening.{text_shown}
 use Rattle.reg_store.specs.Inside.Testing.{text_fits, SpellsSome, Tests, TextsPass, NumbersTexts, Judges}
 use Rattle.reg_store.specs.Inside.Reads.{SpellsBase, Rests}
 use Rattle.reg_store.proofs.Numbering.{Rises}
@@ -44,8 +44,8 @@ module _ (db : Database) (count : ℕ) (numbers : NumbersTexts db count) (fit : 
   lists : ListsTexts db ordered.0
   lists = lists_sorted db it.lines ordered.0 ordered.1 it.lists
 
-  ids : map (λ (row : ℕ × Text). row.0) (map text_row ordered.0) ≡ numbers.ids
-  ids = map-map (λ (row : ℕ × Text). row.0) text_row ordered.0 ∙ ordered.2
+  ids : map (λ (row : ℕ × Text). row.0) (map text_shown ordered.0) ≡ numbers.ids
+  ids = map-map (λ (row : ℕ × Text). row.0) text_shown ordered.0 ∙ ordered.2
 
   pub texts_passed : IsTrue fit → TextsPass db
   texts_passed fits = record {
@@ -54,13 +54,13 @@ module _ (db : Database) (count : ℕ) (numbers : NumbersTexts db count) (fit : 
     fit = record {
       numbered = subst (AreNumbered 1) (sym ids) numbers.numbered;
       few =
-          let rows = length-map ordered.0 text_row in
+          let rows = length-map ordered.0 text_shown in
           let line_ids = length-map ordered.0 (λ (line : TextLine). line.id) in
           let same = ap length ordered.2 in
           let all = numbers.is in
           let few = numbers.few in
           omega (arith, rows, line_ids, same, all, few);
-      identities = each_row text_row IsTextRow ordered.0 (fits_permuted it.lines ordered.0 ordered.1 (it.judged.0 fits));
+      identities = each_row text_shown IsTextRow ordered.0 (fits_permuted it.lines ordered.0 ordered.1 (it.judged.0 fits));
     };
   }
 
@@ -70,7 +70,7 @@ module _ (db : Database) (count : ℕ) (numbers : NumbersTexts db count) (fit : 
       let fits = texts_pass db s.stored s.spells ordered.0 lists (subst Rises (sym ids) (numbered_rise 1 numbers.ids numbers.numbered)) in
       both_ways _ unfit (it.judged.1 (fits_permuted ordered.0 it.lines (IsPermutation-sym _ _ ordered.1) (each_fit ordered.0 fits.identities)))
     where
-      each_fit : (lines : List TextLine) → AllByRecursion IsTextRow (map text_row lines) → AllByRecursion text_fits lines
+      each_fit : (lines : List TextLine) → AllByRecursion IsTextRow (map text_shown lines) → AllByRecursion text_fits lines
       each_fit [] h = tt
       each_fit (line ∷ lines) h = (h.0, each_fit lines h.1)
 

@@ -25,7 +25,7 @@ use Rattle.reg_tables.specs.Changes.{meta_as, meta_of}
 use Rattle.reg_tables.proofs.MapLemmas.{get-insert-same, get-insert-other, same_or_not}
 use Rattle.reg_tables.proofs.KeyedTables.{text_order}
 use Rattle.reg_core.specs.KeptReplies.{Kept}
-use Rattle.reg_store.specs.Spells.{IsSpelled, IsSpelledFirst, second_meta, IsSpelledSecond, row_of, version_row}
+use Rattle.reg_store.specs.Spells.{IsSpelled, IsSpelledFirst, second_meta, IsSpelledSecond, row_of, stored_version}
 use Rattle.reg_store.proofs.Ids.{schema_within}
 
 key_byte_ascii : (c : ℕ) → is_key_byte c ≡ true → c < 128
@@ -111,7 +111,7 @@ module _ (contents : Contents) (g : Registry) (k : Kept) (s : IsSpelled contents
         let few = s.registry.few in
         (omega (arith, within, few), subst IsUtf8 (sym it.2) (s.utf8 id it.0 it.1));
     versions = λ key version there.
-        let it = was_written version_row (get g.rows key) version (sym (s.versions key) ∙ there) in
+        let it = was_written stored_version (get g.rows key) version (sym (s.versions key) ∙ there) in
         let row = s.registry.rows key it.0 it.1 in
         let number = row.within.1 in
         let id = row.has_schema.1 in

@@ -12,7 +12,7 @@ use Rattle.reg_store.specs.Spells.{Spells, Leaves, SpellsWhileOpen}
 
 -- this project's choice: what is kept of a command and its reply
 abbrev pub entry_of : Keep → Entry
-entry_of keep = record { text = keep.command.now; reply = keep.reply.now }
+entry_of keep = record { command = keep.command.now; reply = keep.reply.now }
 
 -- this project's choice: the kept replies with one more, if there is one to keep
 abbrev pub with_reply : Option Keep → Kept → Kept

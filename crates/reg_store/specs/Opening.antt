@@ -29,29 +29,20 @@ use Rattle.reg_store.specs.Spells.{SpellsFirst, SpellsUnopened, LeavesIn, Spells
 
 -- ---- rows
 
-abbrev pub text_row : TextLine → ℕ × Text
-text_row line = (line.id, line.text)
+abbrev pub text_shown : TextLine → ℕ × Text
+text_shown line = (line.id, line.text)
 
-abbrev pub version_row : VersionLine → Text × ℕ × ℕ × Bool
-version_row line = (line.subject, line.version, line.id, line.deleted)
+abbrev pub version_shown : VersionLine → Text × ℕ × ℕ × Bool
+version_shown line = (line.subject, line.version, line.id, line.deleted)
 
-abbrev pub level_row : LevelLine → Text × Text
-level_row line = (line.subject, line.level)
+abbrev pub level_shown : LevelLine → Text × Text
+level_shown line = (line.subject, line.level)
 
-abbrev pub kept_row : KeptLine → Text × Text × ℕ × Text
-kept_row line = (line.key, line.reply.command, line.reply.status, line.reply.body)
+abbrev pub kept_shown : KeptLine → Text × Text × ℕ × Text
+kept_shown line = (line.key, line.reply.command, line.reply.status, line.reply.body)
 
-abbrev pub meta_row : MetaLine → Text × Text
-meta_row line = (line.name, line.value)
-
-abbrev pub mode_row : ModeLine → Text × Text
-mode_row line = (line.subject, line.mode)
-
-abbrev pub evidence_row : EvidenceLine → Text × ℕ × Text
-evidence_row line = (line.subject, line.version, line.level)
-
-abbrev pub against_row : AgainstLine → Text × ℕ × ℕ × ℕ
-against_row line = (line.subject, line.version, line.position, line.id)
+abbrev pub meta_shown : MetaLine → Text × Text
+meta_shown line = (line.name, line.value)
 
 -- ---- databases
 

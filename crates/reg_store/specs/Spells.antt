@@ -27,17 +27,17 @@ use Rattle.reg_core.specs.KeptReplies.{Entry, Kept}
 
 -- this project's choice: a row of `kept` has the command's text, and the status and the body of its reply
 abbrev pub row_of : Entry → KeptRow
-row_of entry = record { command = entry.text; status = entry.reply.status; body = entry.reply.body }
+row_of entry = record { command = entry.command; status = entry.reply.status; body = entry.reply.body }
 
 -- this project's choice: a row of `versions` has the version's id, and whether it is soft-deleted
-abbrev pub version_row : Version → VersionRow
-version_row version = record { id = version.id; deleted = version.deleted }
+abbrev pub stored_version : Version → VersionRow
+stored_version version = record { id = version.id; deleted = version.deleted }
 
 -- this project's choice: a retry key, the status of a reply that is kept, and two texts
 pub record CanBeKept (key : List ℕ) (entry : Entry) : Type 0 where
   pub is_key : IsKey key
   pub status : IsKeptStatus entry.reply.status
-  pub text : IsUtf8 entry.text
+  pub text : IsUtf8 entry.command
   pub body : IsUtf8 entry.reply.body
 
 -- this project's choice: what the tables of both layouts hold spells these schemas, versions and levels, and these kept replies. (Of modes, and of
@@ -47,7 +47,7 @@ pub record IsSpelled (contents : Contents) (g : Registry) (k : Kept) : Type 0 wh
   -- the text of an id is the identity text of its schema
   pub texts : (id : ℕ) → get contents.texts id ≡ option_map identity (schema_at g.schemas id)
   pub utf8 : (id : ℕ) (nodes : List NodeView) → schema_at g.schemas id ≡ Some nodes → IsUtf8 (identity nodes)
-  pub versions : (key : RowKey) → get contents.versions key ≡ option_map version_row (get g.rows key)
+  pub versions : (key : RowKey) → get contents.versions key ≡ option_map stored_version (get g.rows key)
   pub registered : (key : RowKey) (version : Version) → get g.rows key ≡ Some version → IsTrue (is_subject key.0)
   pub levels : (subject : List ℕ) → get contents.levels subject ≡ option_map level_text (g.own subject)
   pub subjects : (subject : List ℕ) (level : Level) → g.own subject ≡ Some level → IsTrue (is_subject subject)

@@ -31,7 +31,7 @@ use sqlite::Alter;
 use std::alloc::{AllocError, Global};
 
 /// A line that may be a row of its table by itself, or may not.
-trait Line {
+trait Tested {
     ghost rowid_of: { Self → ℤ };
 
     ghost fits_table: { Self → Type 0 };
@@ -43,7 +43,7 @@ trait Line {
         ensures { IsTrue result ↔ fits_table self.now };
 }
 
-impl Line for VersionLine {
+impl Tested for VersionLine {
     ghost rowid_of = { λ line. line.rowid };
 
     ghost fits_table = { version_fits };
@@ -57,7 +57,7 @@ impl Line for VersionLine {
     }
 }
 
-impl Line for LevelLine {
+impl Tested for LevelLine {
     ghost rowid_of = { λ line. line.rowid };
 
     ghost fits_table = { level_fits };
@@ -71,7 +71,7 @@ impl Line for LevelLine {
     }
 }
 
-impl Line for KeptLine {
+impl Tested for KeptLine {
     ghost rowid_of = { λ line. line.rowid };
 
     ghost fits_table = { kept_fits };
@@ -86,7 +86,7 @@ impl Line for KeptLine {
 }
 
 /// Whether each line fits.
-fn all_fit<L: Line>(lines: &[L]) -> bool
+fn all_fit<L: Tested>(lines: &[L]) -> bool
     ensures { IsTrue result ↔ AllByRecursion L.fits_table lines.now }
 {
     for line in lines {
@@ -97,7 +97,7 @@ fn all_fit<L: Line>(lines: &[L]) -> bool
     true
 }
 
-fn rowids_of<L: Line>(alloc: Global, lines: &[L]) -> Result<Vec<i64>, AllocError>
+fn rowids_of<L: Tested>(alloc: Global, lines: &[L]) -> Result<Vec<i64>, AllocError>
     ensures { IfOk result (λ rowids. rowids.items ≡ map L.rowid_of lines.now) }
 {
     let mut rowids = Vec::new(alloc);
@@ -108,7 +108,7 @@ fn rowids_of<L: Line>(alloc: Global, lines: &[L]) -> Result<Vec<i64>, AllocError
 }
 
 /// Whether each line fits, and no rowid comes twice.
-fn pass<L: Line>(alloc: Global, lines: &[L]) -> Result<bool, AllocError>
+fn pass<L: Tested>(alloc: Global, lines: &[L]) -> Result<bool, AllocError>
     ensures { IfOk result (λ yes. IsTrue yes ↔ (AreApart (map L.rowid_of lines.now)
         × AllByRecursion L.fits_table lines.now)) }
 {

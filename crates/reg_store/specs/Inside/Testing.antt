@@ -30,7 +30,7 @@ use Rattle.reg_store.specs.declared.error.StoreError.TheVariants.{Memory, Disk, 
 use Rattle.reg_store.specs.declared.layout.Layout.{Layout}
 use Rattle.reg_store.specs.declared.layout.Layout.TheVariants.{First, Second}
 use Rattle.reg_store.specs.Failures.{IsFaultBy, IsTold}
-use Rattle.reg_store.specs.Opening.{text_row, meta_row}
+use Rattle.reg_store.specs.Opening.{text_shown, meta_shown}
 use Rattle.reg_store.specs.Spells.{SpellsFirst, SpellsUnopened}
 use Rattle.reg_store.specs.Inside.Reads.{SpellsBase}
 
@@ -65,7 +65,7 @@ pub record KeptPass (db : Database) : Type 0 where
   pub fit : AllByRecursion kept_fits lines
 
 abbrev pub pairs_of : List MetaLine → List Pair
-pairs_of lines = map pair_of (map meta_row lines)
+pairs_of lines = map pair_of (map meta_shown lines)
 
 -- the number of a layout
 abbrev pub number_of : Layout → ℕ
@@ -87,7 +87,7 @@ pub record MetaPass (layout : Layout) (db : Database) : Type 0 where
 pub record TextsPass (db : Database) : Type 0 where
   pub lines : List TextLine
   pub lists : ListsTexts db lines
-  pub fit : AreTexts (map text_row lines)
+  pub fit : AreTexts (map text_shown lines)
 
 pub record VersionsPass (db : Database) : Type 0 where
   pub lines : List VersionLine

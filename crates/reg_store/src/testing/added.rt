@@ -8,13 +8,13 @@ ghost use Rattle.reg_store.specs.Inside.Testing.{mode_fits, evidence_fits, again
 
 use crate::error::StoreError;
 use crate::idle::Idle;
-use crate::testing::{Line, allow, pass};
+use crate::testing::{Tested, allow, pass};
 use reg_rows::{are_positions, fits_evidence, fits_modes, have_evidence};
 use reg_tables::{AgainstLine, EvidenceLine, ModeLine, against_lines, evidence_lines, mode_lines};
 use sqlite::Alter;
 use std::alloc::{AllocError, Global};
 
-impl Line for ModeLine {
+impl Tested for ModeLine {
     ghost rowid_of = { λ line. line.rowid };
 
     ghost fits_table = { mode_fits };
@@ -28,7 +28,7 @@ impl Line for ModeLine {
     }
 }
 
-impl Line for EvidenceLine {
+impl Tested for EvidenceLine {
     ghost rowid_of = { λ line. line.rowid };
 
     ghost fits_table = { evidence_fits };
@@ -42,7 +42,7 @@ impl Line for EvidenceLine {
     }
 }
 
-impl Line for AgainstLine {
+impl Tested for AgainstLine {
     ghost rowid_of = { λ line. line.rowid };
 
     // The other columns are said of the rows together.

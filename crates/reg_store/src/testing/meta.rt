@@ -3,7 +3,7 @@
 ghost use Rattle.std.specs.Prelude.{◌≡◌, ◌↔◌, map, IfOk, IfErr, OnOk, IsTrue};
 ghost use Rattle.sqlite.specs.State.{HasCleanDisk};
 ghost use Rattle.reg_tables.specs.Layout.{HasTablesFirst};
-ghost use Rattle.reg_store.specs.Opening.{meta_row, IsRefusedAs, TellsOther};
+ghost use Rattle.reg_store.specs.Opening.{meta_shown, IsRefusedAs, TellsOther};
 ghost use Rattle.reg_rows.specs.Spelling.{pair_of};
 ghost use Rattle.reg_store.specs.Inside.Testing.{Allows, AreApart, number_of, is_meta_of, JudgesMeta, SpellsAs, Tests, MetaPass};
 ghost use Rattle.reg_store.specs.Inside.Reads.{shown};
@@ -12,13 +12,13 @@ use crate::error::StoreError;
 use crate::idle::Idle;
 use crate::layout::Layout;
 use crate::rowids::are_apart;
-use crate::testing::{Line, allow, rowids_of};
+use crate::testing::{Tested, allow, rowids_of};
 use reg_rows::{is_meta, is_second_meta, layout_of};
 use reg_tables::{MetaLine, meta_lines};
 use sqlite::Alter;
 use std::alloc::{AllocError, Global};
 
-impl Line for MetaLine {
+impl Tested for MetaLine {
     ghost rowid_of = { λ line. line.rowid };
 
     // What the rows of `meta` may be is said of them together.
@@ -54,7 +54,7 @@ fn is_meta_of(rows: &[(String, String)], layout: Layout) -> bool
 }
 
 fn meta_rows(alloc: Global, lines: Vec<MetaLine>) -> Result<Vec<(String, String)>, AllocError>
-    ensures { IfOk result (λ rows. rows.items ≡ map meta_row lines.items) }
+    ensures { IfOk result (λ rows. rows.items ≡ map meta_shown lines.items) }
 {
     let mut rows = Vec::new(alloc);
     for line in lines {

@@ -1,14 +1,14 @@
-//! The lines of the API: what each method of a path asks for.
+//! The resources of the API: what each method of a path asks for.
 
 ghost use Rattle.std.specs.Prelude.{◌≡◌, [], ◌∷◌, bytes_eq};
 ghost use Rattle.reg_routes.specs.Routes.{allow_of, asked_among, get, methods_of, put};
 
 use http::Method;
 
-/// A line of the table of paths. (Schema Registry API reference, Subjects, Schemas, Config,
+/// A resource of the table of paths. (Schema Registry API reference, Subjects, Schemas, Config,
 /// Compatibility and Mode.)
 #[derive(Clone, Copy, Debug, PartialEq, Eq)]
-pub enum Line {
+pub enum Resource {
     /// `/subjects`
     Subjects,
     /// `/subjects/{subject}`
@@ -39,7 +39,7 @@ pub enum Line {
     ModeOf,
 }
 
-/// What a method of a line asks for: the kind of a command.
+/// What a method of a resource asks for: the kind of a command.
 #[derive(Clone, Copy, Debug, PartialEq, Eq)]
 pub enum Asked {
     SetGlobal,
@@ -101,58 +101,62 @@ fn get_or_put(method: &[u8], shown: Asked, set: Asked) -> Option<Asked>
     either(method, &Method::GET, shown, &Method::PUT, set)
 }
 
-impl Line {
-    /// What the method asks for on this line, its case regarded.
+impl Resource {
+    /// What the method asks for on this resource, its case regarded.
     pub fn asked(self, method: &[u8]) -> Option<Asked>
         ensures { result ≡ asked_among method.now (methods_of self) }
     {
         match self {
-            Line::Subjects => only(method, &Method::GET, Asked::Subjects),
-            Line::Subject => either(
+            Resource::Subjects => only(method, &Method::GET, Asked::Subjects),
+            Resource::Subject => either(
                 method,
                 &Method::DELETE,
                 Asked::DeleteSubject,
                 &Method::POST,
                 Asked::Lookup,
             ),
-            Line::Versions => either(
+            Resource::Versions => either(
                 method,
                 &Method::GET,
                 Asked::Versions,
                 &Method::POST,
                 Asked::Register,
             ),
-            Line::Version => either(
+            Resource::Version => either(
                 method,
                 &Method::DELETE,
                 Asked::DeleteVersion,
                 &Method::GET,
                 Asked::Version,
             ),
-            Line::Text => only(method, &Method::GET, Asked::Text),
-            Line::Types => only(method, &Method::GET, Asked::Types),
-            Line::Id => only(method, &Method::GET, Asked::ById),
-            Line::VersionsOfId => only(method, &Method::GET, Asked::VersionsOfId),
-            Line::Config => get_or_put(method, Asked::Global, Asked::SetGlobal),
-            Line::ConfigOf => get_or_put(method, Asked::LevelOf, Asked::SetLevel),
-            Line::Compatibility => only(method, &Method::POST, Asked::CheckAll),
-            Line::CompatibilityOf => only(method, &Method::POST, Asked::Check),
-            Line::Mode => get_or_put(method, Asked::GlobalMode, Asked::SetGlobalMode),
-            Line::ModeOf => get_or_put(method, Asked::ModeOf, Asked::SetMode),
+            Resource::Text => only(method, &Method::GET, Asked::Text),
+            Resource::Types => only(method, &Method::GET, Asked::Types),
+            Resource::Id => only(method, &Method::GET, Asked::ById),
+            Resource::VersionsOfId => only(method, &Method::GET, Asked::VersionsOfId),
+            Resource::Config => get_or_put(method, Asked::Global, Asked::SetGlobal),
+            Resource::ConfigOf => get_or_put(method, Asked::LevelOf, Asked::SetLevel),
+            Resource::Compatibility => only(method, &Method::POST, Asked::CheckAll),
+            Resource::CompatibilityOf => only(method, &Method::POST, Asked::Check),
+            Resource::Mode => get_or_put(method, Asked::GlobalMode, Asked::SetGlobalMode),
+            Resource::ModeOf => get_or_put(method, Asked::ModeOf, Asked::SetMode),
         }
     }
 
-    /// The methods of this line, as an `Allow` field names them. (RFC 9110, section 10.2.1.)
+    /// The methods of this resource, as an `Allow` field names them. (RFC 9110, section 10.2.1.)
     pub fn allow(self) -> &'static str
         ensures { result.now ≡ allow_of self }
     {
         match self {
-            Line::Subjects | Line::Text | Line::Types | Line::Id | Line::VersionsOfId => "GET",
-            Line::Subject => "DELETE, POST",
-            Line::Versions => "GET, POST",
-            Line::Version => "DELETE, GET",
-            Line::Config | Line::ConfigOf | Line::Mode | Line::ModeOf => "GET, PUT",
-            Line::Compatibility | Line::CompatibilityOf => "POST",
+            Resource::Subjects
+            | Resource::Text
+            | Resource::Types
+            | Resource::Id
+            | Resource::VersionsOfId => "GET",
+            Resource::Subject => "DELETE, POST",
+            Resource::Versions => "GET, POST",
+            Resource::Version => "DELETE, GET",
+            Resource::Config | Resource::ConfigOf | Resource::Mode | Resource::ModeOf => "GET, PUT",
+            Resource::Compatibility | Resource::CompatibilityOf => "POST",
         }
     }
 }
