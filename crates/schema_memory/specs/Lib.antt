@@ -1,4 +1,4 @@
 pub mod Entries
 pub mod Remembered
-pub mod Shelves
+pub mod Inside
 pub mod Answers

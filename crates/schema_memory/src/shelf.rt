@@ -34,7 +34,7 @@ impl Model for Shelf {
 
     ghost coded = { coded_list (coded× coded_ℕ read_code) };
 
-    ghost use Rattle.schema_memory.specs.Shelves.{IsCounted};
+    ghost use Rattle.schema_memory.specs.Inside.Shelves.{IsCounted};
 
     ghost view = { λ s. s.cache.entries };
 
