@@ -4,7 +4,7 @@ use crate::measure::print_memory;
 use crate::request::{Size, schema_text};
 use anyhow::{Result, ensure};
 use reg_migrate::migrate;
-use reg_store::create_first;
+use reg_store::{check_first, create_first};
 use sqlite::{Alter, Connection, Transaction, params};
 use std::alloc::Global;
 use std::time::Instant;
@@ -77,11 +77,18 @@ pub fn make_first<S: Alter + Drop>(
     Ok(connection)
 }
 
-/// Moves a registry of layout 1, and prints how long that took.
+/// Tests the tables as those of layout 1, as a start tested them before there was layout 2, moves
+/// the registry, and prints how long each took.
 pub fn move_on<S: Alter + Drop>(
     rt: &HostRuntime,
     connection: Connection<S>,
 ) -> Result<Connection<S>> {
+    ensure!(connection.is_autocommit(), "a transaction is open");
+    let start = Instant::now(rt)?;
+    let (counted, connection) = check_first(rt.alloc(), connection);
+    let took = start.elapsed(rt)?;
+    let versions = counted?;
+    println!(rt; "{versions} versions of layout 1 tested in {took:?}")?;
     ensure!(connection.is_autocommit(), "a transaction is open");
     let start = Instant::now(rt)?;
     let (moved, connection) = migrate(rt.alloc(), connection);

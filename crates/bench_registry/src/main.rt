@@ -1,4 +1,4 @@
-//! Measures the registry's service, over a store in memory and over one in a file.
+//! Measures the registry's service over a file.
 //!
 //! Without words it does nothing. What is delivered is made before the time of it begins.
 
@@ -27,16 +27,14 @@ use std::time::Instant;
 type FileDatabase = FileStore<FileFrom<Wary>>;
 
 /// What is printed where the words are no measurement's.
-const USAGE: &str = "Usage: bench_registry SERIES memory SIZE D
-       bench_registry SERIES fill F SIZE
+const USAGE: &str = "Usage: bench_registry SERIES fill F SIZE
        bench_registry SERIES file F SIZE D
        bench_registry SERIES open F
        bench_registry SERIES first F SIZE
        bench_registry SERIES migrate F
        bench_registry SERIES audit F SIZE
 
-  memory   makes a registry in memory and measures D requests of each kind
-  fill     makes such a registry in the file F, which is missing or empty
+  fill     makes a registry in the file F, which is missing or empty
   file     measures D requests of each kind over the registry that fill made in F with
            this size; they change it, so a further run wants a copy
   open     measures how long the registry in F takes to open
@@ -140,13 +138,6 @@ fn done<S: Alter + Drop>(
     }
 }
 
-/// Does the task over a new registry in memory.
-fn over_memory(rt: &HostRuntime, task: &Task) -> Result<()> {
-    let connection = Connection::open_in_memory(rt.alloc())?;
-    done(rt, connection, Doing::Measure, task)?;
-    Ok(())
-}
-
 /// Does it with the database in a file, and closes the file.
 fn over_file(rt: &HostRuntime, file: &str, doing: Doing, task: &Task) -> Result<()> {
     let connection = connected(rt, file)?;
@@ -170,20 +161,20 @@ fn number_at(words: &[String], at: usize) -> Result<usize> {
     }
 }
 
-/// The task of a series whose numbers begin at this word.
-fn task_of(words: &[String], at: usize, fills: bool, measures: bool) -> Result<Task> {
+/// The task of a series.
+fn task_of(words: &[String], fills: bool, measures: bool) -> Result<Task> {
     let series = series_of(word_at(words, 0)).context("no series has this name")?;
-    let versions = number_at(words, at)?;
+    let versions = number_at(words, 3)?;
     let mut size = Size {
         versions,
         subjects: versions,
         bytes: 0,
     };
-    let mut behind = at.saturating_add(1);
+    let mut behind = 4;
     if series.has_schemas {
-        size.subjects = number_at(words, behind)?;
-        size.bytes = number_at(words, at.saturating_add(2))?;
-        behind = at.saturating_add(3);
+        size.subjects = number_at(words, 4)?;
+        size.bytes = number_at(words, 5)?;
+        behind = 6;
     }
     Ok(Task {
         series,
@@ -198,18 +189,12 @@ fn task_of(words: &[String], at: usize, fills: bool, measures: bool) -> Result<T
 fn work(rt: &HostRuntime, words: &[String]) -> Result<()> {
     let file = word_at(words, 2);
     match word_at(words, 1) {
-        "memory" => over_memory(rt, &task_of(words, 2, true, true)?),
-        "fill" => over_file(rt, file, Doing::Measure, &task_of(words, 3, true, false)?),
-        "file" => over_file(rt, file, Doing::Measure, &task_of(words, 3, false, true)?),
-        "open" => over_file(rt, file, Doing::Measure, &task_of(words, 3, false, false)?),
-        "first" => over_file(
-            rt,
-            file,
-            Doing::MakeFirst,
-            &task_of(words, 3, false, false)?,
-        ),
-        "migrate" => over_file(rt, file, Doing::Move, &task_of(words, 3, false, false)?),
-        "audit" => over_file(rt, file, Doing::Audit, &task_of(words, 3, false, false)?),
+        "fill" => over_file(rt, file, Doing::Measure, &task_of(words, true, false)?),
+        "file" => over_file(rt, file, Doing::Measure, &task_of(words, false, true)?),
+        "open" => over_file(rt, file, Doing::Measure, &task_of(words, false, false)?),
+        "first" => over_file(rt, file, Doing::MakeFirst, &task_of(words, false, false)?),
+        "migrate" => over_file(rt, file, Doing::Move, &task_of(words, false, false)?),
+        "audit" => over_file(rt, file, Doing::Audit, &task_of(words, false, false)?),
         _ => {
             eprint!(rt; "{USAGE}")?;
             bail!("other words are wanted");
