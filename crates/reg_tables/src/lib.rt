@@ -46,7 +46,7 @@ pub use listed::{
     ListedVersion, SubjectVersion, a_version_of_id, all_versions, first_version_behind,
     last_live_version_of, last_version_of, next_version_of, versions_of, versions_of_id,
 };
-pub use meta::{global_level, global_mode, number_second, set_global, set_global_mode};
+pub use meta::{global_level, number_second, set_global, set_global_mode};
 pub use modes::{ModeLine, drop_mode, mode_lines, own_mode, set_mode};
 pub use second::{add_tables, create_second};
 pub use second_lines::{AgainstLine, EvidenceLine, against_lines, evidence_lines};

@@ -173,16 +173,3 @@ pub fn global_level<S: Alter>(db: &mut Idle<S>) -> Result<Option<String>, Error>
 {
     find::<S, Meta>(db, params!["global"])
 }
-
-/// The global mode, if the database has one, as layout 2 does.
-///
-/// # Errors
-///
-/// As `global_level`.
-pub fn global_mode<S: Alter>(db: &mut Idle<S>) -> Result<Option<String>, Error>
-    ensures { Finds db.old db.new result (λ contents found.
-        MatchOption found (get contents.meta (codes "mode") ≡ None)
-        (λ mode. get contents.meta (codes "mode") ≡ Some (string_bytes mode))) }
-{
-    find::<S, Meta>(db, params!["mode"])
-}
