@@ -26,7 +26,10 @@ use Rattle.reg_tables.specs.Layout.{HasTablesFirst}
 use Rattle.reg_tables.specs.Contents.{flag_cell}
 use Rattle.reg_tables.specs.Reads.{CanBeRead}
 use Rattle.reg_tables.specs.FailedCalls.{IsFault}
-use Rattle.reg_tables.specs.Inside.Statements.{IsWhole, Takes, TableQuery, body_of, program_of, IsQuery}
+use Rattle.sqlite.specs.Query.{Query}
+use Rattle.sqlite.specs.Tree.{Trees}
+use Rattle.sqlite_sql.specs.Program.{ProgramOverflows}
+use Rattle.reg_tables.specs.Inside.Statements.{IsWhole, IsSelect, TakesSelect, Takes, TableQuery, body_of, IsQuery}
 use Rattle.sqlite.specs.Schema.{Schema}
 use Rattle.reg_tables.proofs.Reasons.{reason_of, reason_if_shut, reason_by, fault_until}
 use Rattle.reg_tables.proofs.Statements.{laid_out, behind_tables, find_id, find_versions, find_last_version, find_last_live, find_last, find_behind, find_next, find_of_id, find_one_of_id, find_some_of_id, find_last_with_id, list_versions, all_ids, texts_between, all_versions, all_levels, all_kept, all_meta}
@@ -107,48 +110,59 @@ pub read_fault_until : (old mid new : State) → mid.faults ≤ new.faults → (
 read_fault_until old mid new up e (inl store) = inl (store.0, store.1, reason_by old mid old new (fault_until old mid new up) store.0 store.2)
 read_fault_until old mid new up e (inr stopped) = inr stopped
 
-module _ {Known : Schema → Type 0} (q : TableQuery) (is : (schema : Schema) → Known schema → IsQuery q schema) (params : Row) (fits : (schema : Schema) → Known schema → Takes q params schema) (old new : State)
+-- a query in which no sum overflows
+module _ {Known : Schema → Type 0} (sql : List ℕ) (names : List (List ℕ)) (body : Query) (never : (db : Trees) (params : Row) → ProgramOverflows db params [] [] body → ⊥)
+    (is : (schema : Schema) → Known schema → IsSelect sql names body schema) (params : Row) (fits : (schema : Schema) → Known schema → TakesSelect sql body params schema) (old new : State)
     (laid : IsTrue old.is_open → Known old.now.schema) where
-  its : IsTrue old.is_open → IsQuery q old.now.schema
+  its : IsTrue old.is_open → IsSelect sql names body old.now.schema
   its is_open = is old.now.schema (laid is_open)
 
   -- a connection that is shut has no other error than the store's
-  open_or_fault : (c : Compiled) (values : Row) (e : Error) (o : Option Returning) → FailsToShow old new q.sql c values e o → IsTrue old.is_open ⊎ IsFault old new e
+  open_or_fault : (c : Compiled) (values : Row) (e : Error) (o : Option Returning) → FailsToShow old new sql c values e o → IsTrue old.is_open ⊎ IsFault old new e
   open_or_fault c values e None s = inl s.3.0.was_open
   open_or_fault c values e (Some what) (inl s) = inl s.1.0.was_open
   open_or_fault c values e (Some what) (inr s) = elim (cases_Bool old.is_open) [ inl is_open ↦ inl is_open | inr shut ↦ inr (inl (s.0, s.1, reason_if_shut old new s.0 shut)) ]
 
-  fails : (e : Error) → FailsToQuery q.sql params old new e → IsFault old new e
+  fails : (e : Error) → FailsToQuery sql params old new e → IsFault old new e
   unfolding FailsToQuery IsNotRun
   fails e (inl (inr store)) = inl (store.0, store.1, reason_of old new store.0 store.2)
   fails e (inl (inl (inl fault, same))) = absurd (subst IsPlain fault.1 (its same.0.was_open).command.plain)
   fails e (inl (inl (inr wrong, same))) =
       let takes = fits old.now.schema (laid same.0.was_open) in
-      let given = subst (IsWhole q.sql (length params)) wrong.1 takes.whole in
+      let given = subst (IsWhole sql (length params)) wrong.1 takes.whole in
       let bare = subst IsPlain wrong.1 (its same.0.was_open).command.plain in
       absurd (elim wrong.2 [ inl tail ↦ tail.0 given.0 | inr rest ↦ elim rest [ inl other ↦ other.0 (sym given.1) | inr clock ↦ clock.0 bare.1 ] ])
   fails e (inr shows) = elim (open_or_fault shows.0 (timed params shows.0.formats shows.1.now) e shows.0.returning shows.2) [ inl is_open ↦ shown_faults e (laid is_open) shows | inr fault ↦ fault ]
     where
-      shown_faults : (e : Error) → Known old.now.schema → (shows : (c : Compiled) × (given : IsStatement old q.sql params c) × FailsToShow old new q.sql c (timed params c.formats given.now) e c.returning) → IsFault old new e
+      shown_faults : (e : Error) → Known old.now.schema → (shows : (c : Compiled) × (given : IsStatement old sql params c) × FailsToShow old new sql c (timed params c.formats given.now) e c.returning) → IsFault old new e
       shown_faults e here shows =
           let it = is old.now.schema here in
           let known = shows.1.is in
           let bare = subst IsPlain known it.command.plain in
           let read = rw (bare.0, bare.1, append-nil params) at shows.2 in
           let db : read.0 ≡ old.now = subst (λ b. IsSourceOf b old.now read.0) it.unlisted read.1 in
-          let command : shows.0.command ≡ Select (program_of q) q.names = ap command_of (sym known) ∙ it.command.is in
+          let command : shows.0.command ≡ Select (record { lets = []; body = body }) names = ap command_of (sym known) ∙ it.command.is in
           let refused = subst (λ k. RefusesToRead old.step_limit k read.0 params e) command read.2 in
-          let typed : accepts_program read.0.schema [] (body_of q) params ≡ true = ap (λ (d : Database). accepts_program d.schema [] (body_of q) params) db ∙ (fits old.now.schema here).typed in
+          let typed : accepts_program read.0.schema [] body params ≡ true = ap (λ (d : Database). accepts_program d.schema [] body params) db ∙ (fits old.now.schema here).typed in
           elim refused [
             | inl ill ↦ absurd (both_ways _ ill.1 typed)
-            | inr rest ↦ elim rest [ inl over ↦ absurd (elim over.1 [ inl none ↦ none | inr some ↦ (any_has _ _ some).2 ]) | inr stopped ↦ inr stopped ]
+            | inr rest ↦ elim rest [ inl over ↦ absurd (never read.0.trees params over.1) | inr stopped ↦ inr stopped ]
           ]
 
-  pub known_query_faults : (e : Error) → FailsToQuery q.sql params old new e ⊎ IsTooLate q.sql params old new e → IsFault old new e
-  known_query_faults e (inl failed) = fails e failed
-  known_query_faults e (inr late) =
+  pub select_faults : (e : Error) → FailsToQuery sql params old new e ⊎ IsTooLate sql params old new e → IsFault old new e
+  select_faults e (inl failed) = fails e failed
+  select_faults e (inr late) =
       let bare = subst IsPlain late.1.is (its late.5.0.was_open).command.plain in
       absurd (let none = subst IsSome bare.0 late.2 in cc)
+
+-- a query of one table, which sums nothing up
+pub sums_nothing : (q : TableQuery) (db : Trees) (params : Row) → ProgramOverflows db params [] [] (body_of q) → ⊥
+sums_nothing q db params over = elim over [ inl none ↦ none | inr some ↦ (any_has _ _ some).2 ]
+
+module _ {Known : Schema → Type 0} (q : TableQuery) (is : (schema : Schema) → Known schema → IsQuery q schema) (params : Row) (fits : (schema : Schema) → Known schema → Takes q params schema) (old new : State)
+    (laid : IsTrue old.is_open → Known old.now.schema) where
+  pub known_query_faults : (e : Error) → FailsToQuery q.sql params old new e ⊎ IsTooLate q.sql params old new e → IsFault old new e
+  known_query_faults = select_faults q.sql q.names (body_of q) (sums_nothing q) is params fits old new laid
 
 -- where the five tables come first
 module _ (q : TableQuery) (is : (schema : Schema) → HasTablesFirst schema → IsQuery q schema) (params : Row) (fits : (schema : Schema) → HasTablesFirst schema → Takes q params schema) (old new : State) (can : CanBeRead old) where
@@ -178,6 +192,9 @@ abbrev pub FailsByFault : {X : Type 0} → State → State → Result X Error �
 FailsByFault old new r = IfErr r (λ e. CanBeRead old → IsFault old new e)
 
 -- an error that `?` passes on
+pub if_passed : {X : Type 0} (P : Error → Type 0) (r : Result X Error) (first : Error) → IsErrAnd r (λ e. e ≡ first) → P first → IfErr r P
+if_passed P (Ok x) first is h = tt
+if_passed P (Err e) first is h = subst P (sym is) h
+
 pub passed_on : {X : Type 0} (old new : State) (r : Result X Error) (first : Error) → IsErrAnd r (λ e. e ≡ first) → (CanBeRead old → IsFault old new first) → FailsByFault old new r
-passed_on old new (Ok x) first is h = tt
-passed_on old new (Err e) first is h = λ can. subst (IsFault old new) (sym is) (h can)
+passed_on old new r first is h = if_passed (λ e. CanBeRead old → IsFault old new e) r first is h

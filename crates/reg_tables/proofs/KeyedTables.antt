@@ -19,7 +19,7 @@ use Rattle.sqlite.specs.Edit.{edit_of, is_taken, put_all, are_fresh, have_rowids
 use Rattle.sqlite.specs.Rowids.TheVariants.{Chosen, Given}
 use Rattle.sqlite.specs.Term.{Term, col, eval_all}
 use Rattle.sqlite.specs.Table.{Table}
-use Rattle.sqlite.specs.Query.{IsAnswer}
+use Rattle.sqlite.specs.Query.{Query, IsAnswer}
 use Rattle.sqlite.specs.Program.{overlay}
 use Rattle.sqlite.specs.Command.TheVariants.{Insert, Update, Delete, Select}
 use Rattle.sqlite.specs.Source.TheVariants.{Values}
@@ -40,7 +40,7 @@ use Rattle.reg_tables.proofs.Rooms.{room_after}
 use Rattle.reg_tables.proofs.ListMembers.{has_mapped, maps_had}
 use Rattle.reg_tables.specs.Contents.{version_cmp, number_cells, version_key_cells, flag_cell, text_cmp, text_cells}
 use Rattle.reg_tables.specs.Inside.KeyedLaws.{IsIdle, IsSteady, TurnsTable, IsKeyOrder}
-use Rattle.reg_tables.specs.Inside.Statements.{plain_query, IsCommand, TableQuery, body_of, program_of, IsQuery, by_key, by_id, by_version}
+use Rattle.reg_tables.specs.Inside.Statements.{plain_query, IsCommand, IsSelect, TableQuery, body_of, IsQuery, by_key, by_id, by_version}
 use Rattle.reg_tables.proofs.Queries.{passes, passing, one_passing, found_count, answer_has, has_answer}
 use Rattle.reg_tables.proofs.MapLemmas.{same_key, tied_key}
 use Rattle.reg_tables.proofs.RowLemmas.{FindsRowids, shows_inserted, shows_removed, shows_altered}
@@ -295,10 +295,14 @@ pub record FindsValue {K V : Type 0} (form : Form K V) (value : Option V) (found
   pub sound : (x : Row) → Has found x → (v : V) × (value ≡ Some v) × (x ≡ form.value_cells v)
   pub complete : (v : V) → value ≡ Some v → Has found (form.value_cells v)
 
+-- what a query shows is its answer
+pub select_answered : (sql : List ℕ) (names : List (List ℕ)) (body : Query) (params : Row) (old new : State) → IsSelect sql names body old.now.schema → (found : List Row) → Shown sql params old new found → IsAnswer body (overlay old.now.trees []) params found
+select_answered sql names body params old new it found h = (reads_as sql params old new old.now.schema refl (Select (record { lets = []; body = body }) names) it.command.is it.command.plain it.unlisted found h).answer Null
+
 -- what is shown is what passes
 module _ (q : TableQuery) (params : Row) (old new : State) (it : IsQuery q old.now.schema) (found : List Row) (h : Shown q.sql params old new found) where
   pub answered : IsAnswer (body_of q) (overlay old.now.trees []) params found
-  answered = (reads_as q.sql params old new old.now.schema refl (Select (program_of q) q.names) it.command.is it.command.plain it.unlisted found h).answer Null
+  answered = select_answered q.sql q.names (body_of q) params old new it found h
 
   module _ (plain : body_of q ≡ plain_query q.tree q.tests q.shown) where
     answer : IsAnswer (plain_query q.tree q.tests q.shown) (overlay old.now.trees []) params found

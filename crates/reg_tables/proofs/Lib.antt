@@ -44,6 +44,8 @@ pub mod SecondReferences
 pub mod SecondTables
 pub mod Written
 pub mod SecondLines
+pub mod VersionIds
+pub mod Counts
 pub mod SecondCreation
 pub mod Drops
 pub mod SecondDrops

@@ -37,7 +37,7 @@ same_id_swaps a b = sym (ap is_eq (value_cmp_total.antisymm b a) ∙ turned (val
     turned Equal = refl
     turned Greater = refl
 
-apart_if_distinct : (rows : List Row) → IsDistinct same_id (map rowid rows) → IsAscending HaveOwnRowids rows
+pub apart_if_distinct : (rows : List Row) → IsDistinct same_id (map rowid rows) → IsAscending HaveOwnRowids rows
 unfolding IsDistinct
 apart_if_distinct [] h = tt
 apart_if_distinct (r ∷ rows) h = (all_from (HaveOwnRowids r) rows (λ x there. all_has (λ v. same_id (rowid r) v ≡ false) (map rowid rows) (rowid x) h.0 (maps_had rowid rows x there)), apart_if_distinct rows h.1)
@@ -47,7 +47,7 @@ unfolding IsDistinct
 distinct_if_apart [] h = tt
 distinct_if_apart (r ∷ rows) h = (all_from (λ v. same_id (rowid r) v ≡ false) (map rowid rows) (λ v there. let x = has_mapped rowid rows v there in ap (same_id (rowid r)) x.2 ∙ all_has (HaveOwnRowids r) rows x.0 h.0 x.1), distinct_if_apart rows h.1)
 
-distinct_ints : (ids : List ℤ) → IsDistinct (eq_by_cmp int_cmp) ids → IsDistinct same_id (map Int ids)
+pub distinct_ints : (ids : List ℤ) → IsDistinct (eq_by_cmp int_cmp) ids → IsDistinct same_id (map Int ids)
 unfolding IsDistinct
 distinct_ints [] h = tt
 distinct_ints (i ∷ ids) h =

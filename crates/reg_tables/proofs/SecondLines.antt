@@ -1,5 +1,5 @@
 -- What the queries of all rows of the tables that layout 2 adds list.
-use Rattle.std.proofs.Common.{◌≡◌, ◌⊎◌, inl, inr, false, ℕ, ◌+◌, ℤ, pos, List, [], ◌∷◌, map, lit≤, codes, refl, sym, ap, subst, ◌∙◌}
+use Rattle.std.proofs.Common.{◌≡◌, ◌⊎◌, inl, inr, false, ℕ, ◌+◌, ℤ, pos, List, [], ◌∷◌, map, All, lit≤, codes, refl, sym, ap, subst, ◌∙◌}
 use Rattle.std.proofs.lemmas.Bool.{cases_Bool, both_ways}
 use Rattle.std.specs.FinMap.{get}
 use Rattle.sqlite.specs.declared.types.Value.TheVariants.{Int, Text}
@@ -24,33 +24,80 @@ use Rattle.reg_tables.specs.SecondLayout.{added, HasSecondTables, table_at}
 use Rattle.reg_tables.specs.SecondContents.{PlaceKey, evidence_form, against_form, SecondContents, HoldsAllIn, AreAllReadable, CanBeReadSecond, HasSecondLayout}
 use Rattle.reg_tables.specs.Inside.ReadableRows.{IsReadablePair, IsReadableEvidence, IsReadableAgainst}
 use Rattle.reg_tables.specs.Inside.FailedLists.{FailsToList}
-use Rattle.reg_tables.specs.Inside.Statements.{TableQuery, all_rows, IsQuery, Takes}
+use Rattle.sqlite.specs.Query.{Query}
+use Rattle.sqlite.specs.Tree.{Trees}
+use Rattle.sqlite_sql.specs.Program.{ProgramOverflows}
+use Rattle.reg_tables.specs.Inside.Statements.{TableQuery, body_of, all_rows, IsSelect, TakesSelect, IsQuery, Takes}
 use Rattle.reg_tables.proofs.ReadableRows.{by_entry, pair_is}
-use Rattle.reg_tables.proofs.TableLines.{ShowsTable, lists_lines, lines_fault, lines_told, known_list_fault}
+use Rattle.reg_tables.proofs.Faults.{sums_nothing}
+use Rattle.reg_tables.proofs.TableLines.{ShowsTable, lists_lines, shown_readable, select_fault, select_told}
 
 -- the database has this schema, of layout 2, and holds what can be read
-record HoldsHere (schema : Schema) (db : Database) : Type 0 where
-  contents : SecondContents
-  holds : HoldsAllIn schema db contents
-  readable : AreAllReadable contents
+pub record HoldsHere (schema : Schema) (db : Database) : Type 0 where
+  pub contents : SecondContents
+  pub holds : HoldsAllIn schema db contents
+  pub readable : AreAllReadable contents
 
 -- the new tables stand before the index, or behind it
-abbrev IsPlace : ℕ → Type 0
+abbrev pub IsPlace : ℕ → Type 0
 IsPlace first = (first ≡ 10) ⊎ (first ≡ 11)
 
-at_places : (P : ℕ → Type 0) → P 10 → P 11 → (first : ℕ) → IsPlace first → P first
+pub at_places : (P : ℕ → Type 0) → P 10 → P 11 → (first : ℕ) → IsPlace first → P first
 at_places P before behind first (inl is) = subst P (sym is) before
 at_places P before behind first (inr is) = subst P (sym is) behind
 
 -- where the new tables stand in a schema that has them
-record StandsAt (schema : Schema) : Type 0 where
-  first : ℕ
-  place : IsPlace first
-  indexes : List Index
-  is : schema ≡ begins (added first) indexes
+pub record StandsAt (schema : Schema) : Type 0 where
+  pub first : ℕ
+  pub place : IsPlace first
+  pub indexes : List Index
+  pub is : schema ≡ begins (added first) indexes
 
-stands_at : (schema : Schema) → HasSecondTables schema → StandsAt schema
+pub stands_at : (schema : Schema) → HasSecondTables schema → StandsAt schema
 stands_at schema known = elim known.is [ inl is ↦ record { first = 10; place = inl refl; indexes = known.indexes; is = is } | inr is ↦ record { first = 11; place = inr refl; indexes = known.indexes; is = is } ]
+
+-- the text is a query of the new tables, wherever these stand, and what it shows of what can be read is readable
+pub record AsksAdded (sql : List ℕ) (params : Row) (is_readable : Row → Type 0) : Type 1 where
+  pub names : List (List ℕ)
+  pub body : ℕ → Query
+  pub never : (first : ℕ) (db : Trees) (values : Row) → ProgramOverflows db values [] [] (body first) → ⊥
+  pub is : (first : ℕ) → IsPlace first → (indexes : List Index) → IsSelect sql names (body first) (begins (added first) indexes)
+  pub takes : (first : ℕ) → IsPlace first → (indexes : List Index) → TakesSelect sql (body first) params (begins (added first) indexes)
+  pub readable : (first : ℕ) → IsPlace first → (indexes : List Index) (old new : State) → old.now.schema ≡ begins (added first) indexes → HoldsHere (begins (added first) indexes) old.now
+      → (found : List Row) → Shown sql params old new found → All is_readable found
+
+module _ {sql : List ℕ} {params : Row} {is_readable : Row → Type 0} (asks : AsksAdded sql params is_readable) (old new end : State) (e : Error) (why : FailsToList is_readable sql params old new end e) where
+  -- over a connection that is shut
+  shut_fault : old.is_open ≡ false → IsFault old end e
+  shut_fault shut =
+      select_fault {Known = λ s. ⊥} {Holds = λ db. ⊥} (λ db none. none) sql asks.names (asks.body 0) (asks.never 0) params (λ s none. absurd none) (λ s none. absurd none) is_readable old new end (λ found shown none. absurd none) e why
+      (λ is_open. absurd (both_ways _ shut is_open))
+
+  pub asked_fault : CanBeReadSecond old → IsFault old end e
+  asked_fault can = elim (cases_Bool old.is_open) [
+    | inl is_open ↦
+        let it = can is_open in
+        let here = stands_at it.schema it.known in
+        let schema = begins (added here.first) here.indexes in
+        select_fault {Known = λ s. s ≡ schema} {Holds = HoldsHere schema} (λ db there. there.holds.base.declared) sql asks.names (asks.body here.first) (asks.never here.first) params
+        (λ s same. subst (IsSelect sql asks.names (asks.body here.first)) (sym same) (asks.is here.first here.place here.indexes))
+        (λ s same. subst (TakesSelect sql (asks.body here.first) params) (sym same) (asks.takes here.first here.place here.indexes))
+        is_readable old new end (λ found shown there. asks.readable here.first here.place here.indexes old new there.holds.base.declared there found shown) e why
+        (λ open_now. record { contents = it.contents; holds = subst (λ s. HoldsAllIn s old.now it.contents) here.is it.holds; readable = it.readable })
+    | inr shut ↦ shut_fault shut
+  ]
+
+  pub asked_told : HasSecondLayout old → IsFault old end e ⊎ IsUnreadable e
+  asked_told can = elim (cases_Bool old.is_open) [
+    | inl is_open ↦
+        let here = stands_at old.now.schema (can is_open) in
+        let schema = begins (added here.first) here.indexes in
+        select_told {Known = λ s. s ≡ schema} sql asks.names (asks.body here.first) (asks.never here.first) params
+        (λ s same. subst (IsSelect sql asks.names (asks.body here.first)) (sym same) (asks.is here.first here.place here.indexes))
+        (λ s same. subst (TakesSelect sql (asks.body here.first) params) (sym same) (asks.takes here.first here.place here.indexes))
+        is_readable old new end e why (λ open_now. here.is)
+    | inr shut ↦ inl (shut_fault shut)
+  ]
 
 -- the query of all rows of a table, which shows these terms
 abbrev all_of : List ℕ → ℕ → List Term → List (List ℕ) → TableQuery
@@ -81,6 +128,16 @@ module _ {K V : Type 0} {form : Form K V} {is_readable : Row → Type 0} {at : �
         readable = table.readable first indexes;
       }
 
+  asks_all : AsksAdded sql [] is_readable
+  asks_all = record {
+    names = table.names;
+    body = λ first. body_of (all_of sql (table.tree_of first) table.shown table.names);
+    never = λ first. sums_nothing (all_of sql (table.tree_of first) table.shown table.names);
+    is = table.is;
+    takes = table.takes;
+    readable = λ first place indexes old new same there found h. shown_readable (shows first place indexes) old new same found h there;
+  }
+
   module _ (old new : State) where
     pub lists_added : {L : Type 0} (entry : L → ℤ × K × V) (lines : List L) (found : List Row) → Shown sql [] old new found → map (parts_of form) found ≡ map (λ line. entry_parts form (entry line)) lines
         → HasSecondTables old.now.schema → Lists form (old.now.trees (table_at old.now.schema at).tree) (map entry lines)
@@ -90,26 +147,11 @@ module _ {K V : Type 0} {form : Form K V} {is_readable : Row → Type 0} {at : �
         subst (λ t. Lists form (old.now.trees t) (map entry lines)) tree (lists_lines (shows it.first it.place it.indexes) old new entry lines found h read it.is)
 
     module _ (end : State) (e : Error) (why : FailsToList is_readable sql [] old new end e) where
-      -- over a connection that is shut
-      shut_fault : old.is_open ≡ false → IsFault old end e
-      shut_fault shut =
-          known_list_fault {Known = λ s. ⊥} {Holds = λ db. ⊥} (λ db none. none) (all_of sql 0 table.shown table.names) [] (λ s none. absurd none) (λ s none. absurd none) is_readable old new end (λ found shown none. absurd none) e why
-          (λ is_open. absurd (both_ways _ shut is_open))
-
       pub added_fault : CanBeReadSecond old → IsFault old end e
-      added_fault can = elim (cases_Bool old.is_open) [
-        | inl is_open ↦
-            let it = can is_open in
-            let here = stands_at it.schema it.known in
-            lines_fault (shows here.first here.place here.indexes) old new end e why (λ open_now. record { contents = it.contents; holds = subst (λ s. HoldsAllIn s old.now it.contents) here.is it.holds; readable = it.readable })
-        | inr shut ↦ shut_fault shut
-      ]
+      added_fault = asked_fault asks_all old new end e why
 
       pub added_told : HasSecondLayout old → IsFault old end e ⊎ IsUnreadable e
-      added_told can = elim (cases_Bool old.is_open) [
-        | inl is_open ↦ let here = stands_at old.now.schema (can is_open) in lines_told (shows here.first here.place here.indexes) old new end e why (λ open_now. here.is)
-        | inr shut ↦ inl (shut_fault shut)
-      ]
+      added_told = asked_told asks_all old new end e why
 
 -- ---- modes
 
@@ -177,23 +219,11 @@ shows_evidence = record { tree_of = λ first. first + 2; shown = evidence_shown;
 
 -- ---- against
 
-abbrev against_sql : List ℕ
-against_sql = codes "SELECT rowid, subject, version, position, id FROM against"
-
-abbrev against_shown : List Term
+abbrev pub against_shown : List Term
 against_shown = col 1 0 ∷ col 1 1 ∷ col 1 2 ∷ col 1 3 ∷ col 1 4 ∷ []
 
-abbrev against_names : List (List ℕ)
+abbrev pub against_names : List (List ℕ)
 against_names = codes "rowid" ∷ codes "subject" ∷ codes "version" ∷ codes "position" ∷ codes "id" ∷ []
-
-against_is : (first : ℕ) → IsPlace first → (indexes : List Index) → IsQuery (all_of against_sql (first + 4) against_shown against_names) (begins (added first) indexes)
-unfolding understood everything
-against_is = at_places (λ n. (indexes : List Index) → IsQuery (all_of against_sql (n + 4) against_shown against_names) (begins (added n) indexes)) (λ indexes. record { command = record { is = refl; plain = (refl, refl) }; unlisted = refl })
-    (λ indexes. record { command = record { is = refl; plain = (refl, refl) }; unlisted = refl })
-
-against_takes : (first : ℕ) → IsPlace first → (indexes : List Index) → Takes (all_of against_sql (first + 4) against_shown against_names) [] (begins (added first) indexes)
-unfolding understood everything
-against_takes = at_places (λ n. (indexes : List Index) → Takes (all_of against_sql (n + 4) against_shown against_names) [] (begins (added n) indexes)) (λ indexes. record { whole = (lit≤ tt, refl); typed = refl }) (λ indexes. record { whole = (lit≤ tt, refl); typed = refl })
 
 against_row : (row : Row) (key : PlaceKey) (id : ℕ) → rowid row ≡ Int (id_in (rowid row)) → IsEntry against_form row key id
     → rowid row ∷ column row 1 ∷ column row 2 ∷ column row 3 ∷ column row 4 ∷ [] ≡ Int (id_in (rowid row)) ∷ Text key.0.0 ∷ Int (pos key.0.1) ∷ Int (pos key.1) ∷ Int (pos id) ∷ []
@@ -201,13 +231,10 @@ against_row row key id rowid_is is =
     ap (λ (r : Row). rowid row ∷ column row 1 ∷ column row 2 ∷ column row 3 ∷ r) is.1 ∙ ap (λ (r : Row). rowid row ∷ column r 0 ∷ column r 1 ∷ column r 2 ∷ Int (pos id) ∷ []) is.0
     ∙ ap (λ v. v ∷ Text key.0.0 ∷ Int (pos key.0.1) ∷ Int (pos key.1) ∷ Int (pos id) ∷ []) rowid_is
 
-readable_against : (first : ℕ) (indexes : List Index) (db : Database) → HoldsHere (begins (added first) indexes) db → (row : Row) → Has (db.trees (first + 4)) row
+pub readable_against : (first : ℕ) (indexes : List Index) (db : Database) → HoldsHere (begins (added first) indexes) db → (row : Row) → Has (db.trees (first + 4)) row
     → IsReadableAgainst (column row 0 ∷ column row 1 ∷ column row 2 ∷ column row 3 ∷ column row 4 ∷ [])
 readable_against first indexes db there row has =
     by_entry against_form (db.trees (first + 4)) (get there.contents.against) there.holds.against row has (IsReadableAgainst (column row 0 ∷ column row 1 ∷ column row 2 ∷ column row 3 ∷ column row 4 ∷ []))
     (λ key id rowid_is held is.
     let can = there.readable.against key id held in
     record { rowid = id_in (rowid row); subject = key.0.0; number = key.0.1; position = key.1; id = id; is = against_row row key id rowid_is is; utf8 = can.0; low = can.1; low_position = can.2; low_id = can.3 })
-
-pub shows_against : ShowsAdded against_form IsReadableAgainst 7 against_sql
-shows_against = record { tree_of = λ first. first + 4; shown = against_shown; names = against_names; stands = λ first indexes. refl; is = against_is; takes = against_takes; whole = λ row. refl; readable = readable_against }

@@ -1,5 +1,5 @@
 -- What a query of all rows of a table lists, and how a list of rows fails.
-use Rattle.std.proofs.Common.{◌≡◌, ◌⊎◌, inl, inr, ℤ, zero, suc, List, [], ◌∷◌, map, All, IsTrue, refl, sym, subst, ◌∙◌, arith}
+use Rattle.std.proofs.Common.{◌≡◌, ◌⊎◌, inl, inr, ℕ, ℤ, zero, suc, List, [], ◌∷◌, map, All, IsTrue, refl, sym, subst, ◌∙◌, arith}
 use Rattle.std.specs.List.Sorted.{IsPermutation}
 use Rattle.std.proofs.lemmas.List.Sorted.{IsPermutation-map}
 use Rattle.std.proofs.lemmas.Simd.{map-map}
@@ -8,7 +8,9 @@ use Rattle.sqlite.specs.Order.{Row}
 use Rattle.sqlite.specs.Term.{eval_all}
 use Rattle.sqlite.specs.Schema.{Schema}
 use Rattle.sqlite.specs.Effect.{Database}
-use Rattle.sqlite.specs.Query.{IsAnswer}
+use Rattle.sqlite.specs.Query.{Query, IsAnswer}
+use Rattle.sqlite.specs.Tree.{Trees}
+use Rattle.sqlite_sql.specs.Program.{ProgramOverflows}
 use Rattle.sqlite.specs.Program.{overlay}
 use Rattle.sqlite.specs.State.{State, Shown}
 use Rattle.sqlite_rules.specs.Lists.{Has}
@@ -20,11 +22,11 @@ use Rattle.reg_tables.specs.Contents.{version_form, pair_form, kept_form}
 use Rattle.reg_tables.specs.Listings.{parts_of, entry_parts, Lists}
 use Rattle.reg_tables.specs.Inside.ReadableRows.{IsReadableVersion, IsReadablePair, IsReadableKept}
 use Rattle.reg_tables.specs.Inside.FailedLists.{FailsToList}
-use Rattle.reg_tables.specs.Inside.Statements.{plain_query, TableQuery, body_of, IsQuery, Takes}
+use Rattle.reg_tables.specs.Inside.Statements.{plain_query, TableQuery, body_of, IsSelect, TakesSelect, IsQuery, Takes}
 use Rattle.reg_tables.proofs.Queries.{answer_has, answer_all}
 use Rattle.reg_tables.proofs.KeyedTables.{with_nothing, answered}
 use Rattle.reg_tables.proofs.Statements.{laid_out, all_versions, all_versions_is, all_levels, all_levels_is, all_kept, all_kept_is, all_meta, all_meta_is}
-use Rattle.reg_tables.proofs.Faults.{takes_all_versions, takes_all_levels, takes_all_kept, takes_all_meta, known_query_faults, read_fault_until, memory_is_fault}
+use Rattle.reg_tables.proofs.Faults.{takes_all_versions, takes_all_levels, takes_all_kept, takes_all_meta, sums_nothing, select_faults, read_fault_until, memory_is_fault}
 use Rattle.reg_tables.proofs.Transactions.{shown_open}
 use Rattle.reg_tables.proofs.ReadableRows.{readable_version, readable_level, readable_kept, readable_meta}
 
@@ -58,19 +60,32 @@ all_if_each P (x ∷ xs) each zero d low = each x (inl refl)
 all_if_each P (x ∷ xs) each (suc k) d low = all_if_each P xs (λ y h. each y (inr h)) k d (omega (arith, low))
 
 -- a query that shows what can be read fails with a fault alone
-module _ {Known : Schema → Type 0} {Holds : Database → Type 0} (known : (db : Database) → Holds db → Known db.schema) (q : TableQuery) (params : Row) (is : (schema : Schema) → Known schema → IsQuery q schema)
-    (takes : (schema : Schema) → Known schema → Takes q params schema) (is_readable : Row → Type 0) where
-  pub known_list_fault : (old new end : State) → ((found : List Row) → Shown q.sql params old new found → Holds old.now → All is_readable found) → (e : Error)
-      → FailsToList is_readable q.sql params old new end e
+module _ {Known : Schema → Type 0} {Holds : Database → Type 0} (known : (db : Database) → Holds db → Known db.schema) (sql : List ℕ) (names : List (List ℕ)) (body : Query)
+    (never : (db : Trees) (params : Row) → ProgramOverflows db params [] [] body → ⊥) (params : Row) (is : (schema : Schema) → Known schema → IsSelect sql names body schema)
+    (takes : (schema : Schema) → Known schema → TakesSelect sql body params schema) (is_readable : Row → Type 0) where
+  pub select_fault : (old new end : State) → ((found : List Row) → Shown sql params old new found → Holds old.now → All is_readable found) → (e : Error)
+      → FailsToList is_readable sql params old new end e
       → (IsTrue old.is_open → Holds old.now) → IsFault old end e
-  known_list_fault old new end readable e (inl failed) can = read_fault_until old new end failed.0 e (known_query_faults q is params takes old new (λ is_open. known old.now (can is_open)) e failed.1)
-  known_list_fault old new end readable e (inr read) can = memory_is_fault old end e (read.2 (readable read.0 read.1 (can (shown_open q.sql params old new read.0 read.1))))
+  select_fault old new end readable e (inl failed) can = read_fault_until old new end failed.0 e (select_faults sql names body never is params takes old new (λ is_open. known old.now (can is_open)) e failed.1)
+  select_fault old new end readable e (inr read) can = memory_is_fault old end e (read.2 (readable read.0 read.1 (can (shown_open sql params old new read.0 read.1))))
 
 -- and of any contents with a fault, or where a row can't be read
+module _ {Known : Schema → Type 0} (sql : List ℕ) (names : List (List ℕ)) (body : Query) (never : (db : Trees) (params : Row) → ProgramOverflows db params [] [] body → ⊥) (params : Row)
+    (is : (schema : Schema) → Known schema → IsSelect sql names body schema) (takes : (schema : Schema) → Known schema → TakesSelect sql body params schema) (is_readable : Row → Type 0) where
+  pub select_told : (old new end : State) (e : Error) → FailsToList is_readable sql params old new end e → (IsTrue old.is_open → Known old.now.schema) → IsFault old end e ⊎ IsUnreadable e
+  select_told old new end e (inl failed) known = inl (read_fault_until old new end failed.0 e (select_faults sql names body never is params takes old new known e failed.1))
+  select_told old new end e (inr read) known = elim read.3 [ inl memory ↦ inl (memory_is_fault old end e memory) | inr unread ↦ inr unread ]
+
+-- the same of queries of one table
+module _ {Known : Schema → Type 0} {Holds : Database → Type 0} (known : (db : Database) → Holds db → Known db.schema) (q : TableQuery) (params : Row) (is : (schema : Schema) → Known schema → IsQuery q schema)
+    (takes : (schema : Schema) → Known schema → Takes q params schema) (is_readable : Row → Type 0) where
+  pub known_list_fault : (old new end : State) → ((found : List Row) → Shown q.sql params old new found → Holds old.now → All is_readable found) → (e : Error) → FailsToList is_readable q.sql params old new end e
+      → (IsTrue old.is_open → Holds old.now) → IsFault old end e
+  known_list_fault = select_fault known q.sql q.names (body_of q) (sums_nothing q) params is takes is_readable
+
 module _ {Known : Schema → Type 0} (q : TableQuery) (params : Row) (is : (schema : Schema) → Known schema → IsQuery q schema) (takes : (schema : Schema) → Known schema → Takes q params schema) (is_readable : Row → Type 0) where
   pub list_told : (old new end : State) (e : Error) → FailsToList is_readable q.sql params old new end e → (IsTrue old.is_open → Known old.now.schema) → IsFault old end e ⊎ IsUnreadable e
-  list_told old new end e (inl failed) known = inl (read_fault_until old new end failed.0 e (known_query_faults q is params takes old new known e failed.1))
-  list_told old new end e (inr read) known = elim read.3 [ inl memory ↦ inl (memory_is_fault old end e memory) | inr unread ↦ inr unread ]
+  list_told = select_told q.sql q.names (body_of q) (sums_nothing q) params is takes is_readable
 
 -- where the five tables come first it fails with a fault alone
 module _ (q : TableQuery) (params : Row) (is : (schema : Schema) → HasTablesFirst schema → IsQuery q schema) (takes : (schema : Schema) → HasTablesFirst schema → Takes q params schema) (is_readable : Row → Type 0) where
@@ -91,7 +106,7 @@ module _ {K V : Type 0} {Known : Schema → Type 0} {Holds : Database → Type 0
         let same : map (parts_of form) (map show rows) ≡ map (parts_of form) rows = map-map (parts_of form) show rows ∙ (λ i. map (λ (row : Row). table.whole row i) rows) in
         subst (λ l. IsPermutation l (map (parts_of form) found)) same (IsPermutation-map (parts_of form) (map show rows) found all)
 
-    shown_readable : Holds old.now → All is_readable found
+    pub shown_readable : Holds old.now → All is_readable found
     shown_readable there = all_if_each is_readable found (λ x has.
         let r = answer_has [] [] q.tree q.shown (overlay old.now.trees []) found answer x has in
         subst is_readable (sym r.3) (table.readable old.now there r.0 (subst (λ l. Has l r.0) (with_nothing old.now.trees q.tree) r.1)))

@@ -1,5 +1,8 @@
 -- When a list has each row of a table that layout 2 adds once, in any order.
-use Rattle.std.specs.Prelude.{ℕ, ℤ, List, map, string_bytes}
+use Rattle.std.specs.Prelude.{◌≡◌, ℕ, ℤ, pos, min, Bool, ◌&&◌, List, map, filter, length, string_bytes}
+use Rattle.std.specs.Ordering.{is_eq}
+use Rattle.sqlite.specs.declared.types.Value.TheVariants.{Int, Text}
+use Rattle.sqlite.specs.Order.{Row, column, value_cmp}
 use Rattle.sqlite.specs.Effect.{Database}
 use Rattle.reg_tables.specs.declared.modes.ModeLine.{ModeLine}
 use Rattle.reg_tables.specs.declared.second_lines.EvidenceLine.{EvidenceLine}
@@ -26,3 +29,20 @@ ListsEvidence db lines = Lists evidence_form (db.trees (table_at db.schema 6).tr
 
 abbrev pub ListsAgainst : Database → List AgainstLine → Type 0
 ListsAgainst db lines = Lists against_form (db.trees (table_at db.schema 7).tree) (map against_entry lines)
+
+-- ---- parts of `against`
+
+abbrev pub against_rows : Database → List Row
+against_rows db = db.trees (table_at db.schema 7).tree
+
+-- the row has this subject and this number
+abbrev pub is_of : List ℕ × ℕ → Row → Bool
+is_of version row = is_eq (value_cmp (column row 1) (Text version.0)) && is_eq (value_cmp (column row 2) (Int (pos version.1)))
+
+-- the rows of a version
+abbrev pub ListsAgainstOf : List ℕ × ℕ → Database → List AgainstLine → Type 0
+ListsAgainstOf version db lines = Lists against_form (filter (is_of version) (against_rows db)) (map against_entry lines)
+
+-- SQLite, count(*): as many rows as there are, or the greatest number where there are more
+abbrev pub HasAgainstRows : Database → ℕ → Type 0
+HasAgainstRows db count = count ≡ min (length (against_rows db)) 9223372036854775807

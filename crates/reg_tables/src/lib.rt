@@ -49,7 +49,7 @@ pub use listed::{
 pub use meta::{global_level, number_second, set_global, set_global_mode};
 pub use modes::{ModeLine, drop_mode, mode_lines, own_mode, set_mode};
 pub use second::{add_tables, create_second};
-pub use second_lines::{AgainstLine, EvidenceLine, against_lines, evidence_lines};
+pub use second_lines::{AgainstLine, EvidenceLine, against_count, against_of, evidence_lines};
 pub use text_lines::{text_ids, texts_between};
 pub use texts::{id_of, last_id, put_text, text_of};
 pub use versions::{VersionEntry, drop_version, mark_deleted, put_version, version_of};

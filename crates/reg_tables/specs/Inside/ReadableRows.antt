@@ -63,3 +63,7 @@ pub record IsReadableAgainst (row : Row) : Type 0 where
   pub low : number < 2 ^ 32
   pub low_position : position < 2 ^ 32
   pub low_id : id < 2 ^ 32
+
+pub record IsReadableCount (row : Row) : Type 0 where
+  pub count : ℕ
+  pub is : row ≡ Int (pos count) ∷ []

@@ -14,7 +14,6 @@ use Rattle.sqlite.specs.Command.{Command}
 use Rattle.sqlite.specs.Command.TheVariants.{Select}
 use Rattle.sqlite.specs.Listing.{understood, reads_listing}
 use Rattle.sqlite.proofs.Callers.{IsPlain, command_of}
-use Rattle.sqlite_schema.specs.declared.program.Program.{Program}
 use Rattle.sqlite_resolve.specs.declared.compiled.Compiled.{Compiled}
 use Rattle.sqlite_resolve.specs.declared.error.CompileError.{CompileError}
 use Rattle.sqlite_typing.specs.Types.{accepts_program}
@@ -63,23 +62,27 @@ pub record TableQuery : Type 0 where
 abbrev pub body_of : TableQuery → Query
 body_of q = ordered_query q.tree q.tests q.shown q.order q.limit
 
-abbrev pub program_of : TableQuery → Program
-program_of q = record { lets = []; body = body_of q }
-
--- in this schema the text is that query, and reads no list of the tables
-pub record IsQuery (q : TableQuery) (schema : Schema) : Type 0 where
-  pub command : IsCommand schema q.sql (Select (program_of q) q.names)
-  pub unlisted : reads_listing schema q.sql ≡ false
-
 -- the text is one statement, with so many parameters
 abbrev pub IsWhole : List ℕ → ℕ → Result Compiled CompileError → Type 0
 IsWhole sql count (Ok c) = (length sql ≤ c.tail) × (length c.names ≡ count)
 IsWhole sql count (Err e) = ⊥
 
+-- in this schema the text is this query, and reads no list of the tables
+pub record IsSelect (sql : List ℕ) (names : List (List ℕ)) (body : Query) (schema : Schema) : Type 0 where
+  pub command : IsCommand schema sql (Select (record { lets = []; body = body }) names)
+  pub unlisted : reads_listing schema sql ≡ false
+
 -- in this schema the query takes these parameters
-pub record Takes (q : TableQuery) (params : Row) (schema : Schema) : Type 0 where
-  pub whole : IsWhole q.sql (length params) (understood schema q.sql)
-  pub typed : accepts_program schema [] (body_of q) params ≡ true
+pub record TakesSelect (sql : List ℕ) (body : Query) (params : Row) (schema : Schema) : Type 0 where
+  pub whole : IsWhole sql (length params) (understood schema sql)
+  pub typed : accepts_program schema [] body params ≡ true
+
+-- the same of a query of one table
+abbrev pub IsQuery : TableQuery → Schema → Type 0
+IsQuery q = IsSelect q.sql q.names (body_of q)
+
+abbrev pub Takes : TableQuery → Row → Schema → Type 0
+Takes q = TakesSelect q.sql (body_of q)
 
 -- ---- rows by their keys
 

@@ -1,0 +1,152 @@
+-- What the count of the rows of `against` shows.
+use Rattle.std.proofs.Common.{◌≡◌, inl, inr, ℕ, ◌+◌, pos, suc, List, [], ◌∷◌, map, filter, flat_map, length, Option, None, Some, false, lit≤, codes, refl, sym, ap, subst, ◌∙◌, arith}
+use Rattle.std.specs.List.{AllZip, list_all}
+use Rattle.std.specs.Prelude.{Any, min, slice_get, option_map, unwrap_or}
+use Rattle.std.specs.List.Sorted.{IsPermutation}
+use Rattle.std.proofs.lemmas.List.{length-map}
+use Rattle.std.proofs.lemmas.List.Sorted.{length_permutation}
+use Rattle.sqlite.specs.declared.types.Value.{Value}
+use Rattle.sqlite.specs.declared.types.Value.TheVariants.{Null, Int}
+use Rattle.sqlite.specs.Collation.TheVariants.{Binary}
+use Rattle.sqlite.specs.Order.{Row, column}
+use Rattle.sqlite.specs.Term.{lit, col, Env, eval, holds}
+use Rattle.sqlite.specs.Query.{Query, Output, IsAnswer, inner, end, output}
+use Rattle.sqlite.specs.Tree.{Trees}
+use Rattle.sqlite.specs.Program.{overlay}
+use Rattle.sqlite.specs.State.{State, Shown}
+use Rattle.sqlite.specs.Listing.{understood}
+use Rattle.sqlite_tied.specs.Compute.{everything}
+use Rattle.sqlite_rules.specs.Lists.{Has}
+use Rattle.sqlite_rules.proofs.ListLemmas.{any_has}
+use Rattle.sqlite_schema.specs.declared.schema.Index.{Index}
+use Rattle.sqlite_sql.specs.Group.{Aggregate, Grouping, IsSummary, value_over}
+use Rattle.sqlite_sql.specs.Program.{ProgramOverflows}
+use Rattle.sqlite_sql.specs.declared.aggregate.AggregateOp.TheVariants.{CountRows}
+use Rattle.reg_tables.specs.Layout.{begins}
+use Rattle.reg_tables.specs.SecondLayout.{added, HasSecondTables, table_at}
+use Rattle.reg_tables.specs.SecondListings.{against_rows, HasAgainstRows}
+use Rattle.reg_tables.specs.Inside.ReadableRows.{IsReadableCount}
+use Rattle.reg_tables.specs.Inside.Statements.{all_rows, IsSelect, TakesSelect}
+use Rattle.reg_tables.proofs.KeyedTables.{with_nothing, select_answered}
+use Rattle.reg_tables.proofs.ListMembers.{has_permuted}
+use Rattle.reg_tables.proofs.SecondLines.{IsPlace, at_places, stands_at, AsksAdded}
+use Rattle.reg_tables.proofs.TableLines.{all_if_each}
+
+abbrev pub count_sql : List ℕ
+count_sql = codes "SELECT count(*) FROM against"
+
+abbrev counting : Grouping
+counting = record { keys = []; collations = []; aggregates = record { op = CountRows; distinct = false; collation = Binary; argument = lit Null } ∷ []; having = [] }
+
+abbrev count_query : ℕ → Query
+count_query tree = record {
+  from = inner tree end;
+  filter = [];
+  group = Some counting;
+  project = col 1 0 ∷ [];
+  distinct = false;
+  collations = [];
+  order = [];
+  limit = all_rows;
+  offset = lit (Int (pos 0));
+}
+
+abbrev count_names : List (List ℕ)
+count_names = codes "count(*)" ∷ []
+
+count_is : (first : ℕ) → IsPlace first → (indexes : List Index) → IsSelect count_sql count_names (count_query (first + 4)) (begins (added first) indexes)
+unfolding understood everything
+count_is = at_places (λ n. (indexes : List Index) → IsSelect count_sql count_names (count_query (n + 4)) (begins (added n) indexes)) (λ indexes. record { command = record { is = refl; plain = (refl, refl) }; unlisted = refl })
+    (λ indexes. record { command = record { is = refl; plain = (refl, refl) }; unlisted = refl })
+
+count_takes : (first : ℕ) → IsPlace first → (indexes : List Index) → TakesSelect count_sql (count_query (first + 4)) [] (begins (added first) indexes)
+unfolding understood everything
+count_takes = at_places (λ n. (indexes : List Index) → TakesSelect count_sql (count_query (n + 4)) [] (begins (added n) indexes)) (λ indexes. record { whole = (lit≤ tt, refl); typed = refl })
+    (λ indexes. record { whole = (lit≤ tt, refl); typed = refl })
+
+-- a count never overflows
+count_never : (tree : ℕ) (db : Trees) (params : Row) → ProgramOverflows db params [] [] (count_query tree) → ⊥
+count_never tree db params (inl over) =
+    let group = any_has (λ (envs : List Env). Any (λ (a : Aggregate). value_over envs a ≡ None) counting.aggregates) over.0 over.2 in
+    let one = any_has (λ (a : Aggregate). value_over group.0 a ≡ None) counting.aggregates group.2 in
+    none_is one.0 group.0 one.1 one.2
+  where
+    none_is : (a : Aggregate) (group : List Env) → Has counting.aggregates a → value_over group a ≡ None → ⊥
+    none_is a group (inl same) none = let e = sym (ap (value_over group) same) ∙ none in cc
+    none_is a group (inr later) none = absurd later
+count_never tree db params (inr fold) = (any_has _ _ fold).2
+
+-- ---- what it shows
+
+alone : {X : Type 0} (x : X) (ys : List X) → IsPermutation (x ∷ []) ys → ys ≡ x ∷ []
+alone {X} x ys same = go ys same (length_permutation (x ∷ []) ys same)
+  where
+    go : (ys : List X) → IsPermutation (x ∷ []) ys → length ys ≡ 1 → ys ≡ x ∷ []
+    go [] same long = absurd (omega (arith, long))
+    go (y ∷ []) same long = elim (has_permuted (x ∷ []) (y ∷ []) x same (inl refl)) [ inl is ↦ ap (λ z. z ∷ []) (sym is) | inr later ↦ absurd later ]
+    go (y ∷ z ∷ ys) same long = absurd (omega (arith, long))
+
+each_once : (rows : List Row) (params : Row) → length (flat_map (λ (r : Row). (params ∷ r ∷ []) ∷ []) rows) ≡ length rows
+each_once [] params = refl
+each_once (r ∷ rows) params = ap suc (each_once rows params)
+
+abbrev many : List Row → Value
+many rows = Int (pos (min (length rows) 9223372036854775807))
+
+-- one row, with as many as there are
+module _ (tree : ℕ) (db : Trees) (found : List Row) (a : IsAnswer (count_query tree) db [] found) where
+  abbrev order : List Env
+  order = a.grouped.grouping.0
+
+  long : length (map (eval (lit Null)) order) ≡ length (db tree)
+  long = length-map order (eval (lit Null)) ∙ length_permutation _ _ a.grouped.grouping.1 ∙ each_once (db tree) []
+
+  by_values : (row values : Row) → AllZip (λ a v. value_over order a ≡ Some v) counting.aggregates values → row ≡ values → row ≡ many (db tree) ∷ []
+  by_values row [] h is = absurd h
+  by_values row (v ∷ []) h is =
+      let told = h.0 in
+      let same : Int (pos (min (length (map (eval (lit Null)) order)) 9223372036854775807)) ≡ v = cc in
+      is ∙ ap (λ x. x ∷ []) (sym same ∙ ap (λ n. Int (pos (min n 9223372036854775807))) long)
+  by_values row (v ∷ w ∷ values) h is = absurd h.1
+
+  by_rows : (rows : List Row) → AllZip (IsSummary counting) (order ∷ []) rows → a.staged ≡ filter (λ env. list_all (holds env) []) (map (λ (r : Row). [] ∷ r ∷ []) rows) → found ≡ (many (db tree) ∷ []) ∷ []
+  by_rows [] h staged = absurd h
+  by_rows (row ∷ x ∷ rows) h staged = absurd h.1
+  by_rows (row ∷ []) h staged =
+      let value = by_values row h.0.0 h.0.1 h.0.2 in
+      let kept : a.kept ≡ output (count_query tree) ([] ∷ row ∷ []) ∷ [] = a.distinct ∙ ap (map (output (count_query tree))) staged in
+      let ordered : a.ordered ≡ output (count_query tree) ([] ∷ row ∷ []) ∷ [] = alone _ a.ordered (subst (λ k. IsPermutation k a.ordered) kept a.same) in
+      a.shown ∙ ap (map (λ (o : Output). o.1)) ordered ∙ ap (λ (r : Row). (column r 0 ∷ []) ∷ []) value
+
+  pub shows_count : found ≡ (many (db tree) ∷ []) ∷ []
+  shows_count = by_rows a.grouped.rows (subst (λ g. AllZip (IsSummary counting) g a.grouped.rows) a.grouped.grouping.2 a.grouped.summaries) a.grouped.having
+
+count_found : (first : ℕ) → IsPlace first → (indexes : List Index) → (old new : State) → old.now.schema ≡ begins (added first) indexes → (found : List Row) → Shown count_sql [] old new found
+    → found ≡ (many (old.now.trees (first + 4)) ∷ []) ∷ []
+count_found first place indexes old new same found h =
+    let it = subst (IsSelect count_sql count_names (count_query (first + 4))) (sym same) (count_is first place indexes) in
+    shows_count (first + 4) (overlay old.now.trees []) found (select_answered count_sql count_names (count_query (first + 4)) [] old new it found h)
+    ∙ ap (λ l. (many l ∷ []) ∷ []) (with_nothing old.now.trees (first + 4))
+
+pub asks_count : AsksAdded count_sql [] IsReadableCount
+asks_count = record {
+  names = count_names;
+  body = λ first. count_query (first + 4);
+  never = λ first. count_never (first + 4);
+  is = count_is;
+  takes = count_takes;
+  readable = λ first place indexes old new same there found h.
+      all_if_each IsReadableCount found (λ x has. elim (subst (λ l. Has l x) (count_found first place indexes old new same found h) has) [ inl is ↦ record { count = min (length (old.now.trees (first + 4))) 9223372036854775807; is = is } | inr later ↦ absurd later ]);
+}
+
+pub counted : (old new : State) (found : List Row) → Shown count_sql [] old new found → HasSecondTables old.now.schema → option_map (λ (row : Row). column row 0) (slice_get found 0) ≡ Some (many (against_rows old.now))
+counted old new found h known =
+    let here = stands_at old.now.schema known in
+    let place : here.first + 4 ≡ (table_at old.now.schema 7).tree = ap (λ s. (table_at s 7).tree) (sym here.is) in
+    ap (λ (l : List Row). option_map (λ (row : Row). column row 0) (slice_get l 0)) (count_found here.first here.place here.indexes old new here.is found h) ∙ ap (λ t. Some (many (old.now.trees t))) place
+
+-- the number that is read
+pub count_told : (old new : State) (found : List Row) → Shown count_sql [] old new found → (o : Option ℕ) → option_map (λ (row : Row). column row 0) (slice_get found 0) ≡ option_map (λ n. Int (pos n)) o → HasSecondTables old.now.schema
+    → HasAgainstRows old.now (unwrap_or o 0)
+count_told old new found h None read known = absurd (let e = sym read ∙ counted old new found h known in cc)
+count_told old new found h (Some count) read known = (let e = sym read ∙ counted old new found h known in cc)

@@ -1,0 +1,121 @@
+-- What the query of the ids of a version lists.
+use Rattle.std.proofs.Common.{◌≡◌, ◌&&◌, ℕ, ◌+◌, pos, List, [], ◌∷◌, map, filter, lit≤, codes, Bool, true, false, Some, refl, sym, ap, subst, ◌∙◌}
+use Rattle.std.specs.Ordering.{is_eq}
+use Rattle.std.specs.List.Sorted.{IsPermutation}
+use Rattle.std.proofs.lemmas.List.Sorted.{IsPermutation-map}
+use Rattle.std.proofs.lemmas.Simd.{map-map}
+use Rattle.sqlite.specs.declared.types.Value.{Value}
+use Rattle.sqlite.specs.declared.types.Value.TheVariants.{Null, Int, Real, Text, Blob}
+use Rattle.sqlite.specs.Collation.TheVariants.{Binary}
+use Rattle.sqlite.specs.Order.{Row, column, value_cmp}
+use Rattle.sqlite.specs.Term.{eval_all}
+use Rattle.sqlite.specs.Program.{overlay}
+use Rattle.sqlite.specs.State.{State, Shown}
+use Rattle.sqlite.specs.Listing.{understood}
+use Rattle.sqlite_tied.specs.Compute.{everything}
+use Rattle.sqlite_rules.specs.Lists.{Has}
+use Rattle.sqlite_schema.specs.declared.schema.Index.{Index}
+use Rattle.sqlite_sql.specs.Ops.{binary, is_true, from_truth}
+use Rattle.sqlite_sql.specs.declared.ops.BinaryOp.TheVariants.{Compare}
+use Rattle.sqlite_sql.specs.declared.ops.CompareOp.TheVariants.{Eq}
+use Rattle.reg_tables.specs.Layout.{begins}
+use Rattle.reg_tables.specs.SecondLayout.{added, HasSecondTables, table_at}
+use Rattle.reg_tables.specs.Contents.{version_cmp, version_key_cells}
+use Rattle.reg_tables.specs.SecondContents.{against_form}
+use Rattle.reg_tables.specs.SecondListings.{against_entry, is_of, ListsAgainstOf}
+use Rattle.reg_tables.specs.Listings.{parts_of, entry_parts}
+use Rattle.reg_tables.specs.declared.second_lines.AgainstLine.{AgainstLine}
+use Rattle.reg_tables.specs.Inside.ReadableRows.{IsReadableAgainst}
+use Rattle.reg_tables.specs.Inside.Statements.{by_version, all_rows, TableQuery, body_of, IsQuery, Takes}
+use Rattle.reg_tables.proofs.Faults.{sums_nothing}
+use Rattle.reg_tables.proofs.KeyedTables.{by_version_test, with_nothing, answered}
+use Rattle.reg_tables.proofs.Queries.{passes, answer_has, answer_passing}
+use Rattle.reg_tables.proofs.SecondLines.{IsPlace, at_places, stands_at, AsksAdded, against_shown, against_names, readable_against}
+use Rattle.reg_tables.proofs.TableLines.{all_if_each}
+
+abbrev pub ids_sql : List ℕ
+ids_sql = codes "SELECT rowid, subject, version, position, id FROM against WHERE subject = ?1 AND version = ?2"
+
+abbrev ids_query : ℕ → TableQuery
+ids_query first = record { sql = ids_sql; tree = first + 4; tests = by_version; shown = against_shown; names = against_names; order = []; limit = all_rows }
+
+abbrev pub of_version : List ℕ × ℕ → Row
+of_version version = Text version.0 ∷ Int (pos version.1) ∷ []
+
+ids_is : (first : ℕ) → IsPlace first → (indexes : List Index) → IsQuery (ids_query first) (begins (added first) indexes)
+unfolding understood everything
+ids_is = at_places (λ n. (indexes : List Index) → IsQuery (ids_query n) (begins (added n) indexes)) (λ indexes. record { command = record { is = refl; plain = (refl, refl) }; unlisted = refl })
+    (λ indexes. record { command = record { is = refl; plain = (refl, refl) }; unlisted = refl })
+
+ids_takes : (version : List ℕ × ℕ) → (first : ℕ) → IsPlace first → (indexes : List Index) → Takes (ids_query first) (of_version version) (begins (added first) indexes)
+unfolding understood everything
+ids_takes version = at_places (λ n. (indexes : List Index) → Takes (ids_query n) (of_version version) (begins (added n) indexes)) (λ indexes. record { whole = (lit≤ tt, refl); typed = refl })
+    (λ indexes. record { whole = (lit≤ tt, refl); typed = refl })
+
+-- ---- a row passes by its subject and its number, whatever they are
+
+truth : (b : Bool) → is_true (from_truth (Some b)) ≡ b
+truth true = refl
+truth false = refl
+
+same_text : (v : Value) (text : List ℕ) → is_true (binary (Compare Eq Binary) v (Text text)) ≡ is_eq (value_cmp v (Text text))
+unfolding binary value_cmp
+same_text Null text = refl
+same_text (Int i) text = truth _
+same_text (Real x) text = truth _
+same_text (Text t) text = truth _
+same_text (Blob b) text = truth _
+
+same_number : (v : Value) (n : ℕ) → is_true (binary (Compare Eq Binary) v (Int (pos n))) ≡ is_eq (value_cmp v (Int (pos n)))
+unfolding binary value_cmp
+same_number Null n = refl
+same_number (Int i) n = truth _
+same_number (Real x) n = truth _
+same_number (Text t) n = truth _
+same_number (Blob b) n = truth _
+
+last : (b : Bool) → (b && true) ≡ b
+last true = refl
+last false = refl
+
+module _ (version : List ℕ × ℕ) where
+  by_columns : (row : Row) → passes by_version (of_version version) row ≡ is_of version row
+  by_columns row =
+      (λ i. same_text (column row 1) version.0 i && (same_number (column row 2) version.1 i && true)) ∙ ap (λ b. is_eq (value_cmp (column row 1) (Text version.0)) && b) (last (is_eq (value_cmp (column row 2) (Int (pos version.1)))))
+
+  -- so it does where they are those of a version
+  pub is_of_told : (row : Row) (other : List ℕ × ℕ) → column row 1 ∷ column row 2 ∷ [] ≡ version_key_cells other → is_of version row ≡ is_eq (version_cmp other version)
+  is_of_told row other is = sym (by_columns row) ∙ by_version_test row version other is
+
+  pub asks_ids : AsksAdded ids_sql (of_version version) IsReadableAgainst
+  asks_ids = record {
+    names = against_names;
+    body = λ first. body_of (ids_query first);
+    never = λ first. sums_nothing (ids_query first);
+    is = ids_is;
+    takes = ids_takes version;
+    readable = λ first place indexes old new same there found h.
+        (let it = subst (IsQuery (ids_query first)) (sym same) (ids_is first place indexes) in
+        all_if_each IsReadableAgainst found (λ x has.
+        let r = answer_has by_version (of_version version) (first + 4) against_shown (overlay old.now.trees []) found (answered (ids_query first) (of_version version) old new it found h) x has in
+        subst IsReadableAgainst (sym r.3) (readable_against first indexes old.now there r.0 (subst (λ l. Has l r.0) (with_nothing old.now.trees (first + 4)) r.1))));
+  }
+
+  pub lists_ids : (old new : State) (lines : List AgainstLine) (found : List Row) → Shown ids_sql (of_version version) old new found → map (parts_of against_form) found ≡ map (λ line. entry_parts against_form (against_entry line)) lines
+      → HasSecondTables old.now.schema → ListsAgainstOf version old.now lines
+  lists_ids old new lines found h read known =
+      let here = stands_at old.now.schema known in
+      let tree = here.first + 4 in
+      let params = of_version version in
+      let it = subst (IsQuery (ids_query here.first)) (sym here.is) (ids_is here.first here.place here.indexes) in
+      let show = λ (row : Row). eval_all against_shown (params ∷ row ∷ []) in
+      let parts = parts_of against_form in
+      let rows = old.now.trees tree in
+      let some : IsPermutation (map show (filter (passes by_version params) rows)) found =
+      subst (λ l. IsPermutation (map show (filter (passes by_version params) l)) found) (with_nothing old.now.trees tree) (answer_passing by_version params tree against_shown (overlay old.now.trees []) found (answered (ids_query here.first) params old new it found h)) in
+      let its : IsPermutation (map show (filter (is_of version) rows)) found = subst (λ (p : Row → Bool). IsPermutation (map show (filter p rows)) found) (λ i row. by_columns row i) some in
+      let listed : IsPermutation (map parts (filter (is_of version) rows)) (map (entry_parts against_form) (map against_entry lines)) =
+      subst (IsPermutation (map parts (filter (is_of version) rows))) (read ∙ sym (map-map (entry_parts against_form) against_entry lines))
+      (subst (λ l. IsPermutation l (map parts found)) (map-map parts show (filter (is_of version) rows)) (IsPermutation-map parts (map show (filter (is_of version) rows)) found its)) in
+      let place : tree ≡ (table_at old.now.schema 7).tree = ap (λ s. (table_at s 7).tree) (sym here.is) in
+      subst (λ t. IsPermutation (map parts (filter (is_of version) (old.now.trees t))) (map (entry_parts against_form) (map against_entry lines))) place listed
