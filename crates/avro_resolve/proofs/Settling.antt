@@ -1,7 +1,7 @@
 -- Pairs that were struck out, told to those that ask for them.
-use Rattle.std.proofs.Common.{◌≡◌, ℕ, ◌+◌, List, [], ◌∷◌, ◌++◌, Bool, true, false, ◌&&◌, length, get_or, refl, sym, subst, ◌∙◌, arith, true≢false, inl, inr, length-append}
+use Rattle.std.proofs.Common.{◌≡◌, ℕ, ◌+◌, List, [], ◌∷◌, ◌++◌, Bool, true, false, ◌&&◌, ◌<◌, ◌≤◌, length, get_or, refl, sym, subst, ◌∙◌, arith, true≢false, inl, inr, length-append}
 use Rattle.std.specs.Prelude.{◌==◌, ◌⊎◌, if◌then◌else◌}
-use Rattle.std.proofs.lemmas.Bool.{or_cases, or_left, or_right}
+use Rattle.std.proofs.lemmas.Bool.{cases_lt, or_cases, or_left, or_right}
 use Rattle.std.proofs.lemmas.List.Elements.{All-append, All-cons, All-nil, All-contains, Contains-append_left, Contains-append_right, Contains-get_or}
 use Rattle.std.proofs.lemmas.Bool.Decides.{nat_tests}
 use Rattle.avro_nodes.specs.Nodes.{NodeView}
@@ -96,6 +96,14 @@ settled_on w r t v ps qs i j ww wr h s l = supports_within (held t ps) (held v q
 -- what goes with a branch stays so
 pub goes_on : (t v : Table) (ps qs : List Pair) (i branch j : ℕ) → Lists t ps v qs → GoesWith t ps i branch j → GoesWith v qs i branch j
 goes_on t v ps qs i branch j h g l = h.held branch j (g (h.fewer i j l))
+
+-- what goes with the branch before a place, where the pairs of the row are left with it up to another
+pub goes_before : (t : Table) (ps : List Pair) (i branch from at : ℕ) → ((b : ℕ) → b < from → GoesWith t ps i branch b)
+    → ((b : ℕ) → from ≤ b → b < at → left t i b ≡ true → left t branch b ≡ true) → (b : ℕ) → b < at → GoesWith t ps i branch b
+goes_before t ps i branch from at goes rest b l = elim (cases_lt b from) [
+  | inl g ↦ goes b g
+  | inr g ↦ λ h. or_left (left t branch b) (member ps branch b) (rest b g l h)
+]
 
 onto : (v : Table) (qs more : List Pair) (a b : ℕ) → held v qs a b ≡ true → held v (qs ++ more) a b ≡ true
 onto v qs more a b h = elim (or_cases (left v a b) (member qs a b) h) [

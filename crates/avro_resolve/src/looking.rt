@@ -75,35 +75,7 @@ pub fn strike_down(
     Ok(())
 }
 
-/// Strikes out the pair of a writer's union, if that of this branch of it isn't left.
-fn look_at_branch(
-    sides: &Sides,
-    i: u32,
-    branch: u32,
-    j: u32,
-    progress: &mut Progress,
-) -> Result<(), AllocError>
-    requires sides { IsSides sides.now }
-    requires rest { IsRest (rows sides.now) (columns sides.now) progress.old.table }
-    requires i_in { i < length sides.now.writer.schema.now }
-    requires j_in { j < length sides.now.reader.schema.now }
-    requires branch_in { branch < length sides.now.writer.schema.now }
-    requires has_branch { (a : NodeView) → slice_get (rows sides.now) i ≡ Some a → HasBranch a branch }
-    ensures rest { OnOk result (IsRest (rows sides.now) (columns sides.now) progress.new.table) }
-    ensures lists { OnOk result (Lists progress.old.table progress.old.struck.items progress.new.table progress.new.struck.items) }
-    ensures goes { OnOk result (GoesWith progress.new.table progress.new.struck.items i branch j) }
-{
-    if !progress.table.has(i, j) {
-        return Ok(());
-    }
-    if progress.table.has(branch, j) {
-        return Ok(());
-    }
-    strike_unsupported(sides, i, j, progress)?;
-    Ok(())
-}
-
-/// Does so with each of the reader's places.
+/// Strikes out the pairs of a writer's union that aren't left with this branch of it.
 fn look_along_branch(
     sides: &Sides,
     i: u32,
@@ -120,8 +92,15 @@ fn look_along_branch(
     ensures goes { OnOk result ((j : ℕ) → j < length sides.now.reader.schema.now
         → GoesWith progress.new.table progress.new.struck.items i branch j) }
 {
-    for j in 0..sides.reader.places() {
-        look_at_branch(sides, i, branch, j, progress)?;
+    let places = sides.reader.places();
+    let mut from = 0u32;
+    while from < places {
+        let at = progress.table.next_apart(i, branch, from as usize);
+        if at >= places as usize {
+            return Ok(());
+        }
+        strike_unsupported(sides, i, at as u32, progress)?;
+        from = at as u32 + 1;
     }
     Ok(())
 }
