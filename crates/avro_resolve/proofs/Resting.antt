@@ -11,7 +11,7 @@ use Rattle.avro_nodes.specs.Nodes.{FieldView, NodeView, primitive, array, mappin
 use Rattle.avro_schema.specs.declared.index.FieldRanks.{FieldRanks}
 use Rattle.avro_schema.specs.Index.{IsFieldRanked}
 use Rattle.avro_resolve.specs.declared.aliased.Aliased.{Aliased}
-use Rattle.avro_resolve.specs.declared.askers.Askers.{Askers}
+use Rattle.avro_resolve.specs.declared.striking.Askers.{Askers}
 use Rattle.avro_resolve.specs.declared.links.Link.{Link}
 use Rattle.avro_resolve.specs.declared.links.Way.{Way}
 use Rattle.avro_resolve.specs.declared.links.Way.TheVariants.{OfContents, ByName, ByAlias}
@@ -55,14 +55,6 @@ branch_needed R i j p (rec n fs x) b h e s = h
 
 pub rests_by_branch : (w r : List NodeView) (i p q : ℕ) → ((a : NodeView) → slice_get w i ≡ Some a → HasBranch a p) → Rests w r i q p q
 rests_by_branch w r i p q meant R e s = let h = nodes_of_pair w r R i q s in branch_needed R i q p h.0 h.1 (meant h.0 h.2) e h.4
-
--- what supports it has each branch
-pub has_branch : (w r : List NodeView) (i p q : ℕ) → ((a : NodeView) → slice_get w i ≡ Some a → HasBranch a p) → (R : Pairs) → Supports w r R i q → R p q ≡ true
-has_branch w r i p q meant R s = by (R p q) refl
-  where
-    by : (b : Bool) → R p q ≡ b → R p q ≡ true
-    by true e = e
-    by false e = absurd (rests_by_branch w r i p q meant R e s)
 
 fits_any : (R : Pairs) (i j : ℕ) (a : NodeView) (places : List ℕ) → ((bs : List ℕ) → a ≡ union bs → ⊥) → Fits R i j a (union places) ↔ Any (λ p. IsTrue (R i p)) places
 fits_any R i j (union bs) places n = absurd (n bs refl)

@@ -11,7 +11,7 @@ use Rattle.std.proofs.lemmas.Slice.Eq.{bytes_eq-Decides}
 use Rattle.serde_json.specs.Data.{Members}
 use Rattle.avro_nodes.specs.Nodes.{FieldView, NamedView, NodeView, primitive, array, mapping, union, enumeration, fixed, rec}
 use Rattle.avro_resolve.specs.declared.aliased.Aliased.{Aliased}
-use Rattle.avro_resolve.specs.declared.askers.Askers.{Askers}
+use Rattle.avro_resolve.specs.declared.striking.Askers.{Askers}
 use Rattle.avro_resolve.specs.declared.links.Link.{Link}
 use Rattle.avro_resolve.specs.declared.links.Way.{Way}
 use Rattle.avro_resolve.specs.declared.links.Way.TheVariants.{OfContents, ByName, ByAlias}

@@ -1,21 +1,86 @@
 //! What two nodes say of a pair by themselves: their kinds, names, sizes and symbols. Names are
 //! told by their ranks.
 
-ghost use Rattle.std.specs.Prelude.{◌≡◌, ◌↔◌, ◌<◌, false, option_map, slice_get, All, Contains, IfOk, IsTrue, Some, length};
+ghost use Rattle.std.specs.Prelude.{◌≡◌, ◌↔◌, ◌<◌, false, option_map, slice_get, All, Contains, IfOk, IsTrue, Some, length, ℕ, ◌≤◌, slice_index};
 ghost use Rattle.avro_nodes.specs.Nodes.{NamedView, NodeView, node_view};
 ghost use Rattle.avro_schema.specs.Index.{IsNamedRanked};
-ghost use Rattle.avro_resolve.specs.Resolution.{NameMatch};
+ghost use Rattle.avro_resolve.specs.Resolution.{NameMatch, Promotes};
 ghost use Rattle.avro_resolve.specs.Inside.Agreeing.{named_ranks, symbol_ranks, symbols_of, Agree, AreSymbolsMet, IsAlike, SymbolsFit, TellsMatch};
 ghost use Rattle.avro_resolve.specs.Inside.Left.{Agreed};
 ghost use Rattle.avro_resolve.specs.Inside.Sides.{columns, names_of, rows, IsSides};
+ghost use Rattle.std.specs.List.Sorted.{IsStrictlyIncreasing};
 
-use crate::kinds::promotes;
-use crate::merging::{has_all, has_number};
 use crate::met::met_ranks;
 use crate::sides::Sides;
-use avro_nodes::Node;
+use avro_nodes::{Kind, Node};
 use avro_schema::{NamedRanks, Ranks};
 use std::alloc::{AllocError, Global};
+
+/// Whether a writer's primitive is read as the reader's: as itself, or by a promotion (Avro 1.11
+/// specification, Schema Resolution).
+fn promotes(writer: Kind, reader: Kind) -> bool
+    ensures { IsTrue result ↔ Promotes writer reader }
+{
+    match writer {
+        Kind::Null => matches!(reader, Kind::Null),
+        Kind::Boolean => matches!(reader, Kind::Boolean),
+        Kind::Int => matches!(reader, Kind::Int | Kind::Long | Kind::Float | Kind::Double),
+        Kind::Long => matches!(reader, Kind::Long | Kind::Float | Kind::Double),
+        Kind::Float => matches!(reader, Kind::Float | Kind::Double),
+        Kind::Double => matches!(reader, Kind::Double),
+        Kind::Bytes => matches!(reader, Kind::Bytes | Kind::Text),
+        Kind::Text => matches!(reader, Kind::Text | Kind::Bytes),
+    }
+}
+
+/// The first place from this one on at which the list has no less than the number, or else its
+/// length.
+fn first_from(list: &[u32], from: usize, number: u32) -> usize
+    ensures below { (k : ℕ) → from ≤ k → k < result → slice_index list.now k < number }
+    ensures at { result < length list.now → number ≤ slice_index list.now result }
+{
+    for at in from..list.len() {
+        if list[at] >= number {
+            return at;
+        }
+    }
+    list.len()
+}
+
+/// Whether the number stands at this place of the list.
+fn is_at(list: &[u32], at: usize, number: u32) -> bool
+    ensures { IsTrue result ↔ (at < length list.now) × (slice_index list.now at ≡ number) }
+{
+    at < list.len() && list[at] == number
+}
+
+/// Whether the number is one of the list's.
+fn has_number(list: &[u32], number: u32) -> bool
+    ensures { IsStrictlyIncreasing list.now → IsTrue result ↔ Contains list.now number }
+{
+    list.binary_search(&number).is_ok()
+}
+
+/// Whether each of the numbers is one of the list's. Where the two aren't equal, both are walked once,
+/// side by side.
+fn has_all(list: &[u32], numbers: &[u32]) -> bool
+    requires list { IsStrictlyIncreasing list.now }
+    requires numbers { IsStrictlyIncreasing numbers.now }
+    ensures { IsTrue result ↔ All (Contains list.now) numbers.now }
+{
+    if list == numbers {
+        return true;
+    }
+    let mut from = 0;
+    for number in numbers {
+        let at = first_from(list, from, *number);
+        if !is_at(list, at, *number) {
+            return false;
+        }
+        from = at + 1;
+    }
+    true
+}
 
 /// The names of a definition by their ranks, where these are a definition's.
 fn named_of(ranks: &Ranks) -> Option<&NamedRanks>

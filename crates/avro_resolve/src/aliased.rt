@@ -6,10 +6,10 @@ ghost use Rattle.std.specs.List.{AllZip};
 ghost use Rattle.std.specs.Option.{ForSome};
 ghost use Rattle.avro_nodes.specs.Nodes.{FieldView, NodeView, field_view};
 ghost use Rattle.avro_schema.specs.Index.{AreFieldsRanked, IsFieldRanked};
-ghost use Rattle.avro_resolve.specs.Inside.Agreeing.{fields_of};
+ghost use Rattle.avro_resolve.specs.Asking.{source_place};
 ghost use Rattle.avro_resolve.specs.Inside.Laying.{names_in, AreLaid};
 ghost use Rattle.avro_resolve.specs.Inside.Sides.{columns, names_of, nodes_of, rows, IsSide, IsSides};
-ghost use Rattle.avro_resolve.specs.Inside.Sources.{code, code_at, field_at, IsEntry, IsWanted};
+ghost use Rattle.avro_resolve.specs.Inside.Sources.{code, code_at, field_at, AreRanksOf, AreSomeRanks, IsEntry, IsWanted};
 
 use crate::desk::place_of;
 use crate::lists::list_of;
@@ -33,16 +33,18 @@ pub struct Numbered<'a> {
     pub aliased: &'a [Aliased],
     /// for each place of the reader's the number of its first such field, if it has one
     pub firsts: &'a [usize],
-    /// what else is asked of each of these fields
-    pub wanted: &'a [Wanted],
+    /// what is asked of each of these fields
+    pub wanted: &'a [Wanted<'a>],
 }
 
-/// What is asked of a reader's field beside its source.
+/// What is asked of a reader's field.
 #[derive(Clone, Copy)]
-pub struct Wanted {
+pub struct Wanted<'a> {
     /// the place of its type
     pub place: u32,
     pub has_default: bool,
+    /// its names, by their ranks
+    pub names: Option<&'a FieldRanks>,
 }
 
 /// The field that is meant.
@@ -61,19 +63,39 @@ fn field_of<'a>(side: &'a Side, aliased: Aliased) -> Option<&'a Field>
     Some(&fields[aliased.index])
 }
 
-/// What is asked of the field.
-fn wanted_of(side: &Side, aliased: Aliased) -> Wanted
-    requires { IsSide side.now }
-    ensures { IsWanted (nodes_of side.now) aliased result }
+/// The names of the field, by their ranks.
+fn names_at<'a>(side: &'a Side, aliased: Aliased) -> Option<&'a FieldRanks>
+    requires side { IsSide side.now }
+    ensures ranked { AreSomeRanks (names_of side.now) result }
+    ensures found { (f : FieldView) → field_at (nodes_of side.now) aliased ≡ Some f
+        → AreRanksOf (names_of side.now) result f }
 {
+    if aliased.place >= side.places() {
+        return None;
+    }
+    let ranks = side.fields(aliased.place).ranks;
+    if aliased.index >= ranks.len() {
+        return None;
+    }
+    Some(&ranks[aliased.index])
+}
+
+/// What is asked of the field.
+fn wanted_of<'a>(side: &'a Side, aliased: Aliased) -> Wanted<'a>
+    requires { IsSide side.now }
+    ensures { IsWanted side.now aliased result }
+{
+    let names = names_at(side, aliased);
     match field_of(side, aliased) {
         Some(field) => Wanted {
             place: field.place,
             has_default: field.value.is_some(),
+            names,
         },
         None => Wanted {
             place: 0,
             has_default: false,
+            names,
         },
     }
 }
@@ -83,13 +105,13 @@ fn wanted_of(side: &Side, aliased: Aliased) -> Wanted
 /// # Errors
 ///
 /// `AllocError` where memory for it is refused.
-pub fn all_wanted(
+pub fn all_wanted<'a>(
     alloc: Global,
-    side: &Side,
+    side: &'a Side,
     aliased: &[Aliased],
-) -> Result<Vec<Wanted>, AllocError>
+) -> Result<Vec<Wanted<'a>>, AllocError>
     requires { IsSide side.now }
-    ensures { IfOk result (λ v. AllZip (IsWanted (nodes_of side.now)) aliased.now v.items) }
+    ensures { IfOk result (λ v. AllZip (IsWanted side.now) aliased.now v.items) }
 {
     let mut wanted = Vec::with_capacity(alloc, aliased.len())?;
     for field in aliased {
@@ -148,36 +170,22 @@ pub fn place_told(entry: u16) -> Option<u32>
     Some(u32::from(entry) - 1)
 }
 
-/// The names of the field, by their ranks.
-fn names_at<'a>(side: &'a Side, aliased: Aliased) -> Option<&'a FieldRanks>
-    requires side { IsSide side.now }
-    ensures ranked { IfSome result (λ x. (f : FieldView) × IsFieldRanked (names_of side.now) f x.now) }
-    ensures found { (f : FieldView) → field_at (nodes_of side.now) aliased ≡ Some f
-        → MatchOption result ⊥ (λ x. IsFieldRanked (names_of side.now) f x.now) }
-{
-    if aliased.place >= side.places() {
-        return None;
-    }
-    let ranks = side.fields(aliased.place).ranks;
-    if aliased.index >= ranks.len() {
-        return None;
-    }
-    Some(&ranks[aliased.index])
-}
-
-/// Whence the field is read of a record whose fields are laid.
-fn entry_of(boxes: &[Option<usize>], sides: &Sides, fields: Fields, aliased: Aliased) -> u16
+/// The source of a reader's field among those that are laid, told by its place and one, or by 0 for
+/// none.
+fn source_code(boxes: &[Option<usize>], sides: &Sides, fields: Fields, wanted: Wanted) -> u16
     requires sides { IsSides sides.now }
     requires ranked { AreFieldsRanked (names_of sides.now.writer) (map field_view fields.fields.now) fields.ranks.now }
     requires laid { AreLaid sides.now.met.ranks.items (names_in fields.ranks.now) 0 boxes.now }
     requires room { length (names_of sides.now.reader) ≤ length boxes.now }
     requires fields_in { All (λ g. g.place < 65535) fields.fields.now }
-    ensures { IsEntry (columns sides.now) (map field_view fields.entry.fields.now) aliased result }
+    requires named { AreSomeRanks (names_of sides.now.reader) wanted.names }
+    ensures { (f : FieldView) → AreRanksOf (names_of sides.now.reader) wanted.entry.names f
+        → result ≡ code (source_place (map field_view fields.entry.fields.now) f) }
 {
     if fields.fields.is_empty() {
         return 0;
     }
-    match names_at(&sides.reader, aliased) {
+    match wanted.names {
         Some(names) => code_of(place_of(boxes, sides, fields.fields, fields.ranks, names)),
         None => 0,
     }
@@ -193,19 +201,20 @@ pub fn row_of(
     boxes: &[Option<usize>],
     sides: &Sides,
     fields: Fields,
-    aliased: &[Aliased],
+    numbered: Numbered,
 ) -> Result<Vec<u16>, AllocError>
     requires sides { IsSides sides.now }
     requires ranked { AreFieldsRanked (names_of sides.now.writer) (map field_view fields.fields.now) fields.ranks.now }
     requires laid { AreLaid sides.now.met.ranks.items (names_in fields.ranks.now) 0 boxes.now }
     requires room { length (names_of sides.now.reader) ≤ length boxes.now }
     requires fields_in { All (λ g. g.place < 65535) fields.fields.now }
+    requires wanted { AllZip (IsWanted sides.now.reader) numbered.aliased.now numbered.wanted.now }
     ensures { IfOk result (λ v. AllZip (IsEntry (columns sides.now) (map field_view fields.entry.fields.now))
-        aliased.now v.items) }
+        numbered.entry.aliased.now v.items) }
 {
-    let mut row = Vec::with_capacity(alloc, aliased.len())?;
-    for field in aliased {
-        row.push(entry_of(boxes, sides, fields, *field))?;
+    let mut row = Vec::with_capacity(alloc, numbered.wanted.len())?;
+    for wanted in numbered.wanted {
+        row.push(source_code(boxes, sides, fields, *wanted))?;
     }
     Ok(row)
 }

@@ -5,26 +5,21 @@
 
 mod agreeing;
 mod aliased;
-mod askers;
 mod desk;
 mod joining;
-mod kinds;
 mod links;
 mod lists;
 mod looking;
 mod looks;
-mod merging;
 mod met;
 mod pair_set;
 mod readable;
 mod recursion;
 mod resolving;
-mod roots;
 mod rows;
 mod sides;
 mod striking;
 mod support;
-mod sweeping;
 mod table;
 mod unions;
 mod walk;

@@ -6,13 +6,19 @@ ghost use Rattle.avro_resolve.specs.Resolution.{Resolves};
 ghost use Rattle.avro_resolve.specs.Witnesses.{Pair, HasClosedSet, HasRefutation};
 ghost use Rattle.avro_resolve.specs.Asking.{AreReached, HoldsAsked};
 ghost use Rattle.avro_resolve.specs.Verdicts.{is_resolved};
+ghost use Rattle.avro_resolve.specs.Inside.Walking.{Shows};
 
-use crate::roots::walk_roots;
+use crate::desk::Desk;
+use crate::looks::Looks;
+use crate::met::Met;
+use crate::pair_set::PairSet;
+use crate::recursion::ask;
+use crate::sides::{Side, Sides};
 use crate::striking::largest_closed;
-use crate::walk::Answer;
+use crate::walk::{Answer, Walk};
 use avro_nodes::OutOfMemory;
 use avro_schema::Schema;
-use std::alloc::Global;
+use std::alloc::{AllocError, Global};
 
 /// What `resolves` answers.
 #[derive(Clone, Copy, Debug, PartialEq, Eq)]
@@ -21,6 +27,42 @@ pub struct Verdict {
     pub yes: bool,
     /// how many pairs of places were opened
     pub visits: u128,
+}
+
+/// Opens the pair of the roots, and says what came of it and how many pairs were opened.
+fn walk_roots(alloc: Global, writer: &Schema, reader: &Schema) -> Result<(Answer, u128), AllocError>
+    ensures shows { IfOk result (λ p. Shows (nodes_view writer.now) (nodes_view reader.now) p.1 p.0) }
+    ensures at_least { IfOk result (λ p. 1 ≤ p.1) }
+    ensures at_most { IfOk result (λ p. (ps : List Pair) → HoldsAsked (nodes_view writer.now) (nodes_view reader.now) ps → p.1 ≤ length ps * length ps) }
+{
+    let (_rows, columns) = (writer.places(), reader.places());
+    let (written, read) = (writer.index(), reader.index());
+    let met = Met::of(alloc, &written.names, &read.names)?;
+    let sides = Sides {
+        writer: Side {
+            schema: writer,
+            index: written,
+        },
+        reader: Side {
+            schema: reader,
+            index: read,
+        },
+        met,
+    };
+    let mut walk = Walk {
+        assumed: Vec::new(alloc),
+        failed: Vec::new(alloc),
+        assumed_set: PairSet::none(alloc, columns),
+        failed_set: PairSet::none(alloc, columns),
+        visits: 0,
+    };
+    let mut looks = Looks {
+        alloc,
+        work: 0,
+        desk: Desk::none(alloc),
+    };
+    let answer = ask(&sides, 0, 0, 0, &mut walk, &mut looks)?;
+    Ok((answer, walk.visits))
 }
 
 /// Whether the writer's schema resolves with the reader's (Avro 1.11 specification, Schema

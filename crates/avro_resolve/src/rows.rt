@@ -1,15 +1,17 @@
-//! Looks at all pairs, a writer's place after the other, while its fields are laid.
+//! Passes over all pairs of places, a writer's place after the other: what two nodes say by
+//! themselves first, and then with the other pairs, while the fields of the place are laid.
 
-ghost use Rattle.std.specs.Prelude.{◌≡◌, ◌<◌, ◌≤◌, ℕ, IfOk, OnOk, Some, length, slice_get};
+ghost use Rattle.std.specs.Prelude.{◌≡◌, ◌<◌, ◌≤◌, ℕ, IfOk, OnOk, Some, length, slice_get, IsTrue};
 ghost use Rattle.std.specs.List.{AllZip};
 ghost use Rattle.avro_nodes.specs.Nodes.{NodeView};
-ghost use Rattle.avro_resolve.specs.Inside.Agreeing.{fields_of};
+ghost use Rattle.avro_resolve.specs.Inside.Agreeing.{fields_of, symbols_of, AreSymbolsMet};
 ghost use Rattle.avro_resolve.specs.Inside.Laying.{IsClear};
-ghost use Rattle.avro_resolve.specs.Inside.Left.{AllSettled, IsRest, Lists, Settled};
+ghost use Rattle.avro_resolve.specs.Inside.Left.{AllSettled, IsRest, Lists, Settled, left, Agreed, IsLeft};
 ghost use Rattle.avro_resolve.specs.Inside.Rows.{IsRow};
 ghost use Rattle.avro_resolve.specs.Inside.Sides.{columns, names_of, rows, IsSides};
 ghost use Rattle.avro_resolve.specs.Inside.Sources.{AreSources, IsEntry, IsWanted};
 
+use crate::agreeing::{agree_at, met_symbols};
 use crate::aliased::{Aliased, Numbered, all_wanted, firsts_of, row_of};
 use crate::desk::{lay, lift, make_room};
 use crate::lists::empty_lists;
@@ -17,8 +19,59 @@ use crate::looking::{Progress, look_along_union, strike_unsupported};
 use crate::readable::Row;
 use crate::sides::Sides;
 use crate::support::supports;
+use crate::table::Table;
 use avro_nodes::Node;
 use std::alloc::{AllocError, Global};
+
+/// Strikes the pair out if its nodes don't agree.
+fn strike_pair(sides: &Sides, symbols: &Option<Vec<u32>>, i: u32, j: u32, table: &mut Table)
+    requires sides { IsSides sides.now }
+    requires symbols { (a : NodeView) → slice_get (rows sides.now) i ≡ Some a
+        → AreSymbolsMet (names_of sides.now.reader) (symbols_of a) symbols.now }
+    requires rest { IsLeft (rows sides.now) (columns sides.now) table.old }
+    requires i_in { i < length sides.now.writer.schema.now }
+    requires j_in { j < length sides.now.reader.schema.now }
+    ensures rest { IsLeft (rows sides.now) (columns sides.now) table.new }
+    ensures fewer { (a b : ℕ) → IsTrue (left table.new a b) → IsTrue (left table.old a b) }
+    ensures agreed { IsTrue (left table.new i j) → Agreed (rows sides.now) (columns sides.now) i j }
+{
+    if table.has(i, j) && !agree_at(sides, symbols, i, j) {
+        table.strike(i, j);
+    }
+}
+
+/// Strikes out each pair of a writer's place whose nodes don't agree.
+fn strike_row(alloc: Global, sides: &Sides, i: u32, table: &mut Table) -> Result<(), AllocError>
+    requires sides { IsSides sides.now }
+    requires rest { IsLeft (rows sides.now) (columns sides.now) table.old }
+    requires i_in { i < length sides.now.writer.schema.now }
+    ensures rest { OnOk result (IsLeft (rows sides.now) (columns sides.now) table.new) }
+    ensures fewer { OnOk result ((a b : ℕ) → IsTrue (left table.new a b) → IsTrue (left table.old a b)) }
+    ensures agreed { OnOk result ((b : ℕ) → b < length sides.now.reader.schema.now
+        → IsTrue (left table.new i b) → Agreed (rows sides.now) (columns sides.now) i b) }
+{
+    let symbols = met_symbols(alloc, sides, i)?;
+    for j in 0..sides.reader.places() {
+        strike_pair(sides, &symbols, i, j, table);
+    }
+    Ok(())
+}
+
+/// Strikes out all pairs whose nodes don't agree.
+///
+/// # Errors
+///
+/// `AllocError` where memory for the ranks of symbols is refused.
+pub fn sweep(alloc: Global, sides: &Sides, table: &mut Table) -> Result<(), AllocError>
+    requires sides { IsSides sides.now }
+    requires rest { IsLeft (rows sides.now) (columns sides.now) table.old }
+    ensures { OnOk result (IsRest (rows sides.now) (columns sides.now) table.new) }
+{
+    for i in 0..sides.writer.places() {
+        strike_row(alloc, sides, i, table)?;
+    }
+    Ok(())
+}
 
 /// Strikes the pair of the writer's place and this one of the reader out and lists it, if the rest
 /// doesn't support it.
@@ -76,7 +129,7 @@ fn look_at_row(
     requires place_in { place < length sides.now.writer.schema.now }
     requires clear { IsClear boxes.old }
     requires room { length (names_of sides.now.reader) ≤ length boxes.old }
-    requires wanted { AllZip (IsWanted (columns sides.now)) numbered.aliased.now numbered.wanted.now }
+    requires wanted { AllZip (IsWanted sides.now.reader) numbered.aliased.now numbered.wanted.now }
     requires rest { IsRest (rows sides.now) (columns sides.now) progress.old.table }
     ensures clear { OnOk result (IsClear boxes.new) }
     ensures entries { IfOk result (λ v. (a : NodeView) → slice_get (rows sides.now) place ≡ Some a
@@ -88,7 +141,7 @@ fn look_at_row(
 {
     let fields = sides.writer.fields(place);
     lay(boxes, &sides.met, fields.ranks);
-    let entries = row_of(alloc, boxes, sides, fields, numbered.aliased)?;
+    let entries = row_of(alloc, boxes, sides, fields, numbered)?;
     let row = Row {
         place,
         fields,
@@ -114,7 +167,7 @@ fn look_at_rows(
     requires sides { IsSides sides.now }
     requires clear { IsClear boxes.old }
     requires room { length (names_of sides.now.reader) ≤ length boxes.old }
-    requires wanted { AllZip (IsWanted (columns sides.now)) numbered.aliased.now numbered.wanted.now }
+    requires wanted { AllZip (IsWanted sides.now.reader) numbered.aliased.now numbered.wanted.now }
     requires rest { IsRest (rows sides.now) (columns sides.now) progress.old.table }
     ensures sources { IfOk result (λ v. AreSources (rows sides.now) (columns sides.now) numbered.entry.aliased.now v.items) }
     ensures rest { OnOk result (IsRest (rows sides.now) (columns sides.now) progress.new.table) }

@@ -4,26 +4,51 @@ ghost use Rattle.std.specs.Prelude.{◌≡◌, ◌<◌, ◌≤◌, ◌++◌, ◌
 ghost use Rattle.avro_nodes.specs.Nodes.{nodes_view, union};
 ghost use Rattle.avro_schema.specs.Texts.{IsSchema};
 ghost use Rattle.avro_resolve.specs.Resolution.{Closed};
-ghost use Rattle.avro_resolve.specs.Inside.Sides.{columns, rows, IsSides};
+ghost use Rattle.avro_resolve.specs.Inside.Sides.{columns, rows, IsSides, names_of, nodes_of, IsSide};
 ghost use Rattle.avro_resolve.specs.Inside.Left.{left, AreOut, IsLeft, IsRest, Lists, Rests, Settled, AllSettled};
 ghost use Rattle.avro_resolve.specs.Inside.Lists.{list_at};
-ghost use Rattle.avro_resolve.specs.Inside.Askers.{AreAskers, AreNoted, IsNoted};
+ghost use Rattle.avro_resolve.specs.Inside.Askers.{AreAskers, AreNoted, IsNoted, HasAskers};
 
-use crate::askers::Askers;
 use crate::joining::strike_joined;
-use crate::links::Labels;
+use crate::links::{Labels, Links, links_of};
 use crate::lists::list_of;
 use crate::looking::{Progress, look_along, strike_down};
 use crate::met::Met;
-use crate::rows::look_everywhere;
+use crate::rows::{look_everywhere, sweep};
 use crate::sides::{Side, Sides};
 use crate::support::none_left;
-use crate::sweeping::sweep;
 use crate::table::Table;
-use crate::unions::{Noted, is_noted, note_at};
+use crate::unions::{Noted, is_noted, note_at, unions_of};
 use avro_nodes::Node;
 use avro_schema::Schema;
 use std::alloc::{AllocError, Global};
+
+/// For each place of a side what asks for it.
+#[derive(Drop)]
+struct Askers {
+    /// the unions that have it as a branch
+    unions: Vec<Vec<u32>>,
+    /// the arrays, maps and records that refer to it, by their labels
+    links: Links,
+}
+
+impl Askers {
+    /// Those of a side, whose fields have these labels.
+    ///
+    /// # Errors
+    ///
+    /// `AllocError` where memory for the lists is refused.
+    fn of(alloc: Global, side: &Side, labels: &Labels) -> Result<Askers, AllocError>
+        requires side { IsSide side.now }
+        ensures { IfOk result (λ a. HasAskers (names_of side.now) labels.now.met.now.ranks.items labels.now.aliased
+            (nodes_of side.now) a) }
+    {
+        Ok(Askers {
+            unions: unions_of(alloc, side.schema)?,
+            links: links_of(alloc, side, labels)?,
+        })
+    }
+}
 
 /// What asks for the places of both sides.
 #[derive(Drop)]

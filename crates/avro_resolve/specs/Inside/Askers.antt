@@ -6,7 +6,7 @@ use Rattle.avro_nodes.specs.Nodes.{FieldView, NodeView, primitive, array, mappin
 use Rattle.avro_schema.specs.declared.index.FieldRanks.{FieldRanks}
 use Rattle.avro_schema.specs.Index.{AreFieldsRanked}
 use Rattle.avro_resolve.specs.declared.aliased.Aliased.{Aliased}
-use Rattle.avro_resolve.specs.declared.askers.Askers.{Askers}
+use Rattle.avro_resolve.specs.declared.striking.Askers.{Askers}
 use Rattle.avro_resolve.specs.declared.links.Link.{Link}
 use Rattle.avro_resolve.specs.declared.links.Way.{Way}
 use Rattle.avro_resolve.specs.declared.links.Way.TheVariants.{OfContents, ByName, ByAlias}

@@ -25,7 +25,7 @@ pub record IsRow (sides : Sides) (row : Row) : Type 0 where
   pub laid : AreLaid sides.met.ranks.items (names_in row.fields.ranks.now) 0 row.boxes.now
   pub room : length (names_of sides.reader) ≤ length row.boxes.now
   pub entries : AllZip (IsEntry (columns sides) (row_fields row)) row.numbered.aliased.now row.entries.now
-  pub wanted : AllZip (IsWanted (columns sides)) row.numbered.aliased.now row.numbered.wanted.now
+  pub wanted : AllZip (IsWanted sides.reader) row.numbered.aliased.now row.numbered.wanted.now
 
 -- what reading a reader's field from these fields rests on
 abbrev pub IsFound : List FieldView → Found → FieldView → Type 0

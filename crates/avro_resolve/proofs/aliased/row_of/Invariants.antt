@@ -5,5 +5,5 @@ use Rattle.avro_resolve.specs.Inside.Sides.{columns}
 use Rattle.avro_resolve.specs.Inside.Sources.{IsEntry}
 use Rattle.avro_resolve.proofs.aliased.row_of.Given as goal
 
-abbrev pub invariant-loop-field : goal.invariant-loop-field
-invariant-loop-field l = AllZip (IsEntry (columns l.sides) (map field_view l.fields.fields.now)) (take l.field-index l.aliased) l.row.items
+abbrev pub invariant-loop-wanted : goal.invariant-loop-wanted
+invariant-loop-wanted l = AllZip (IsEntry (columns l.sides) (map field_view l.fields.fields.now)) (take l.wanted-index l.numbered.aliased.now) l.row.items

@@ -8,7 +8,7 @@ use Rattle.avro_resolve.proofs.MarkLemmas.{marks_none}
 use Rattle.avro_resolve.proofs.Reaching.{is_small}
 use Rattle.avro_resolve.proofs.WalkLemmas.{roots_asked}
 use Rattle.avro_resolve.proofs.WalkEnds.{good_start, shown, at_most, at_least}
-use Rattle.avro_resolve.proofs.roots.walk_roots.Goals as goal
+use Rattle.avro_resolve.proofs.resolving.walk_roots.Goals as goal
 
 pub of-requires-clause-writer : goal.of-requires-clause-writer
 of-requires-clause-writer c = rw c.deref.ensures.value c.index-written.ensures.names

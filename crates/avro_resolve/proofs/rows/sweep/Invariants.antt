@@ -1,7 +1,7 @@
 use Rattle.std.proofs.Common.{ℕ, ◌<◌, IsTrue, length}
 use Rattle.avro_nodes.specs.Nodes.{nodes_view}
 use Rattle.avro_resolve.specs.Inside.Left.{left, Agreed, IsLeft}
-use Rattle.avro_resolve.proofs.sweeping.sweep.Given as goal
+use Rattle.avro_resolve.proofs.rows.sweep.Given as goal
 
 abbrev pub invariant-loop-i : goal.invariant-loop-i
 invariant-loop-i l = record {

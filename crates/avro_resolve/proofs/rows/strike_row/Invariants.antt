@@ -1,7 +1,7 @@
 use Rattle.std.proofs.Common.{ℕ, ◌<◌, IsTrue}
 use Rattle.avro_nodes.specs.Nodes.{nodes_view}
 use Rattle.avro_resolve.specs.Inside.Left.{left, Agreed, IsLeft}
-use Rattle.avro_resolve.proofs.sweeping.strike_row.Given as goal
+use Rattle.avro_resolve.proofs.rows.strike_row.Given as goal
 
 abbrev pub invariant-loop-j : goal.invariant-loop-j
 invariant-loop-j l = record {

@@ -3,7 +3,7 @@ use Rattle.std.proofs.lemmas.Bool.{cases_lt}
 use Rattle.std.proofs.lemmas.List.{length-map}
 use Rattle.avro_nodes.specs.Nodes.{node_view, nodes_view}
 use Rattle.avro_resolve.specs.Inside.Left.{left, Agreed}
-use Rattle.avro_resolve.proofs.sweeping.sweep.Goals as goal
+use Rattle.avro_resolve.proofs.rows.sweep.Goals as goal
 
 pub loop-i-preserved : goal.loop-i-preserved
 loop-i-preserved c =

@@ -5,8 +5,8 @@ use Rattle.avro_resolve.specs.Inside.Left.{left}
 use Rattle.avro_resolve.proofs.Agreement.{supports_agreed}
 use Rattle.avro_resolve.proofs.Settling.{fewer_struck, gone_struck}
 use Rattle.avro_resolve.proofs.Strikes.{struck_pair}
-use Rattle.avro_resolve.proofs.sweeping.strike_pair.Goals.{else-has-via-then-has+else-not-agree_at, else-has-via-else-has}
-use Rattle.avro_resolve.proofs.sweeping.strike_pair.Goals as goal
+use Rattle.avro_resolve.proofs.rows.strike_pair.Goals.{else-has-via-then-has+else-not-agree_at, else-has-via-else-has}
+use Rattle.avro_resolve.proofs.rows.strike_pair.Goals as goal
 
 pub returns-then-not-agree_at-clause-rest : goal.returns-then-not-agree_at-clause-rest
 returns-then-not-agree_at-clause-rest c =

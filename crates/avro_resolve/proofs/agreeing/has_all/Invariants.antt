@@ -1,6 +1,6 @@
 use Rattle.std.proofs.Common.{ℕ, ◌<◌, ◌≤◌, All, get_or, length, take}
 use Rattle.std.specs.Prelude.{Contains}
-use Rattle.avro_resolve.proofs.merging.has_all.Given as goal
+use Rattle.avro_resolve.proofs.agreeing.has_all.Given as goal
 
 abbrev pub invariant-loop-number : goal.invariant-loop-number
 invariant-loop-number l = record {

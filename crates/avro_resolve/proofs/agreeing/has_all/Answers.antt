@@ -4,7 +4,7 @@ use Rattle.std.proofs.lemmas.Bool.Decides.{Decides-eqb}
 use Rattle.std.proofs.lemmas.Slice.Eq.{slice_eq-Decides}
 use Rattle.std.proofs.lemmas.List.Elements.{All-contains_itself, All-more, Contains-get_or}
 use Rattle.avro_resolve.proofs.Merges.{below_later, not_there}
-use Rattle.avro_resolve.proofs.merging.has_all.Goals as goal
+use Rattle.avro_resolve.proofs.agreeing.has_all.Goals as goal
 
 pub returns-then-eq : goal.returns-then-eq
 returns-then-eq c =

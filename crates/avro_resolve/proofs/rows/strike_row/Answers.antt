@@ -2,7 +2,7 @@ use Rattle.std.proofs.Common.{◌≡◌, ℕ, IsTrue, subst, inl, inr, arith}
 use Rattle.std.proofs.lemmas.Bool.{cases_lt}
 use Rattle.avro_nodes.specs.Nodes.{nodes_view}
 use Rattle.avro_resolve.specs.Inside.Left.{left, Agreed}
-use Rattle.avro_resolve.proofs.sweeping.strike_row.Goals as goal
+use Rattle.avro_resolve.proofs.rows.strike_row.Goals as goal
 
 pub loop-j-preserved : goal.loop-j-preserved
 loop-j-preserved c =
