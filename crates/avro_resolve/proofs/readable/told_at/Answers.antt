@@ -1,6 +1,5 @@
-use Rattle.std.proofs.Common.{◌≡◌, false, None, get_or, sym, subst, ◌∙◌}
+use Rattle.std.proofs.Common.{◌≡◌, get_or, sym, subst}
 use Rattle.std.proofs.lemmas.Option.{get_or_from_slice_get, same_Some}
-use Rattle.avro_resolve.specs.declared.aliased.Wanted.{Wanted}
 use Rattle.avro_resolve.specs.Inside.Rows.{row_fields}
 use Rattle.avro_resolve.specs.Inside.Sides.{columns}
 use Rattle.avro_resolve.specs.Inside.Sources.{IsEntry, IsWanted}
