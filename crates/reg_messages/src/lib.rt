@@ -13,4 +13,5 @@ pub use answer::bytes_of;
 pub use fields::Found;
 pub use framing::MAX_BODY;
 pub use message::{Look, MAX_HEAD, Whole, look_at, one_reading};
+pub use reg_core::OutOfMemory;
 pub use request::Request;

@@ -13,5 +13,6 @@ mod routes;
 mod target;
 
 pub use delivery::command_of;
+pub use reg_core::OutOfMemory;
 pub use resource::{Asked, Resource};
 pub use routes::Routes;
