@@ -66,11 +66,12 @@ fn add_part<S: Alter>(
 /// Makes a registry of layout 1 in an empty database, which keeps as many replies as it has versions.
 pub fn make_first<S: Alter + Drop>(
     alloc: Global,
-    mut connection: Connection<S>,
+    connection: Connection<S>,
     size: Size,
 ) -> Result<Connection<S>> {
     ensure!(connection.is_autocommit(), "a transaction is open");
-    create_first(&mut connection)?;
+    let (made, mut connection) = create_first(connection);
+    made?;
     for part in 0..size.versions.div_ceil(PART) {
         add_part(alloc, &mut connection, size, part.saturating_mul(PART))?;
     }

@@ -12,6 +12,7 @@ ghost use Rattle.reg_store.specs.Spells.{LeavesFirst, IsOpenOverFirst, Leaves, I
 ghost use Rattle.reg_store.specs.Failures.{failure_of, IsFaultBy};
 ghost use Rattle.reg_store.specs.Stores.{connection_of, state_of, has_failed, LeavesBefore, IsUnmade};
 ghost use Rattle.reg_store.specs.Inside.Making.{SpellsNew, IsNew, LeavesNew};
+ghost use Rattle.reg_store.specs.Inside.Reads.{shown};
 
 use crate::error::StoreError;
 use crate::idle::Idle;
@@ -53,17 +54,22 @@ impl<S: Alter> Store<S> {
             let _idle = connection.is_autocommit();
             return Err((StoreError::NotARegistry, connection));
         }
-        let made = make_in(&mut connection, Layout::Second);
-        let _idle = connection.is_autocommit();
+        let mut db = Idle {
+            idle: reg_tables::Idle { conn: connection },
+        };
+        let made = make_in(&mut db, Layout::Second);
+        let _idle = db.idle.conn.is_autocommit();
         match made {
             Ok(()) => Ok(Store {
                 alloc,
-                db: Idle {
-                    idle: reg_tables::Idle { conn: connection },
-                },
+                db,
                 failed: false,
             }),
-            Err(error) => Err((StoreError::from(error), connection)),
+            Err(error) => {
+                let Idle { idle } = db;
+                let reg_tables::Idle { conn } = idle;
+                Err((StoreError::from(error), conn))
+            }
         }
     }
 
@@ -91,58 +97,62 @@ impl<S: Alter> Store<S> {
 }
 
 /// Makes a new registry in layout 1, as programs before layout 2 made it, in an empty database. The
-/// connection is outside a transaction.
+/// connection is outside a transaction, and is given back.
 ///
 /// # Errors
 ///
 /// `NotARegistry` where the database isn't empty, and there alone; `Memory` and `Disk`. The database
 /// is as before then; but after `Disk` a crash may leave the new registry too.
-pub fn create_first<S: Alter>(connection: &mut Connection<S>) -> Result<(), StoreError>
-    requires { connection.old.in_transaction ≡ false }
-    ensures idle { connection.new.in_transaction ≡ false }
-    ensures done { HasCleanDisk (state S.Store connection.new)
-        → OnOk result (IsOpenOverFirst (state S.Store connection.new) new_stored) }
-    ensures full { (state S.Store connection.old).now.schema ≢ no_schema
-        → IsErrAnd result (λ e. e ≡ StoreError.NotARegistry) }
+pub fn create_first<S: Alter>(
+    mut connection: Connection<S>,
+) -> (Result<(), StoreError>, Connection<S>)
+    requires { connection.in_transaction ≡ false }
+    ensures idle { result.1.in_transaction ≡ false }
+    ensures done { HasCleanDisk (state S.Store result.1)
+        → OnOk result.0 (IsOpenOverFirst (state S.Store result.1) new_stored) }
+    ensures full { (state S.Store connection).now.schema ≢ no_schema
+        → IsErrAnd result.0 (λ e. e ≡ StoreError.NotARegistry) }
 
-    ensures fails { IfErr result (IsUnmade (λ db. LeavesFirst db new_stored)
-        (state S.Store connection.old) (state S.Store connection.new)) }
+    ensures fails { IfErr result.0 (IsUnmade (λ db. LeavesFirst db new_stored)
+        (state S.Store connection) (state S.Store result.1)) }
 
     // A crash leaves the new registry.
-    ensures crash_after { HasCleanDisk (state S.Store connection.new) → OnOk result ((db : Trees)
-        → (state S.Store connection.new).may_leave db → LeavesFirst db new_stored) }
+    ensures crash_after { HasCleanDisk (state S.Store result.1) → OnOk result.0 ((db : Trees)
+        → (state S.Store result.1).may_leave db → LeavesFirst db new_stored) }
 {
     connection.set_step_limit(None);
-    if !has_no_tables(connection) {
+    if !has_no_tables(&connection) {
         let _idle = connection.is_autocommit();
-        return Err(StoreError::NotARegistry);
+        return (Err(StoreError::NotARegistry), connection);
     }
-    let made = make_in(connection, Layout::First);
-    let _idle = connection.is_autocommit();
-    Ok(made?)
+    let mut db = Idle {
+        idle: reg_tables::Idle { conn: connection },
+    };
+    let made = make_in(&mut db, Layout::First);
+    let _idle = db.idle.conn.is_autocommit();
+    let Idle { idle } = db;
+    let reg_tables::Idle { conn } = idle;
+    match made {
+        Ok(()) => (Ok(()), conn),
+        Err(error) => (Err(StoreError::from(error)), conn),
+    }
 }
 
 /// Makes the tables of a new registry in one transaction.
-fn make_in<S: Alter>(connection: &mut Connection<S>, layout: Layout) -> Result<(), Error>
-    requires idle { connection.old.in_transaction ≡ false }
-    requires unlimited { connection.old.step_limit ≡ None }
-    ensures idle { connection.new.in_transaction ≡ false }
-    ensures unlimited { connection.new.step_limit ≡ None }
-    ensures done { HasCleanDisk (state S.Store connection.new)
-        → OnOk result ((state S.Store connection.old).now.schema ≡ no_schema
-        → IsNew layout (state S.Store connection.new)) }
-    ensures fault { HasCleanDisk (state S.Store connection.new) → IfErr result (λ e.
-        (state S.Store connection.old).now.schema ≡ no_schema
-        → IsFaultBy (state S.Store connection.old) (state S.Store connection.new) (failure_of e)) }
-    ensures nothing { HasCleanDisk (state S.Store connection.new)
-        → OnErr result (KeepsCommit (state S.Store connection.old) (state S.Store connection.new)) }
-    ensures before { HasCleanDisk (state S.Store connection.new) → IfErr result (λ e.
-        IsTrue (state S.Store connection.old).is_open → LeavesBefore
-        (state S.Store connection.old) (state S.Store connection.new) (failure_of e)) }
-    ensures survives { Survives (state S.Store connection.old) (state S.Store connection.new)
-        (λ left. (state S.Store connection.old).now.schema ≡ no_schema → LeavesNew layout left) }
+fn make_in<S: Alter>(db: &mut Idle<S>, layout: Layout) -> Result<(), Error>
+    ensures done { HasCleanDisk (shown db.new) → OnOk result ((shown db.old).now.schema ≡ no_schema
+        → IsNew layout (shown db.new)) }
+    ensures fault { HasCleanDisk (shown db.new) → IfErr result (λ e.
+        (shown db.old).now.schema ≡ no_schema
+        → IsFaultBy (shown db.old) (shown db.new) (failure_of e)) }
+    ensures nothing { HasCleanDisk (shown db.new)
+        → OnErr result (KeepsCommit (shown db.old) (shown db.new)) }
+    ensures before { HasCleanDisk (shown db.new) → IfErr result (λ e. IsTrue (shown db.old).is_open
+        → LeavesBefore (shown db.old) (shown db.new) (failure_of e)) }
+    ensures survives { Survives (shown db.old) (shown db.new) (λ left.
+        (shown db.old).now.schema ≡ no_schema → LeavesNew layout left) }
 {
-    let mut tx = connection.transaction();
+    let mut tx = db.idle.conn.transaction();
     make_tables(&mut tx, layout)?;
     tx.commit()
 }

@@ -33,12 +33,13 @@ impl OnDatabase for Make {
     fn work<S: Alter + Drop>(
         &mut self,
         _: Global,
-        mut connection: Connection<S>,
+        connection: Connection<S>,
     ) -> Result<Connection<S>, Fail> {
         if !connection.is_autocommit() {
             return Err("a transaction is open".into());
         }
-        create_first(&mut connection)?;
+        let (made, mut connection) = create_first(connection);
+        made?;
         connection.execute_batch(FILLED)?;
         Ok(connection)
     }
