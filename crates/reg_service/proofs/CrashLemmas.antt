@@ -33,7 +33,7 @@ leaves_still was xs db leads leaves = record { now = was; leads = leads; stays_t
 
 -- what one command makes is what its exchange leaves
 leaves_made : (was : Stored) (d : Delivery) (kept : Kept) (xs : List Exchange) (db : Trees) (after : HoldsAfter was d.command kept (Leaves db)) → LeadsTo was xs after.now → LeavesAfter was xs db
-leaves_made was d kept xs db after leads = record { now = after.now; leads = leads; stays_true = after.steps.stays_true; leaves = after.holds }
+leaves_made was d kept xs db after leads = record { now = after.now; leads = leads; stays_true = after.stays_true; leaves = after.holds }
 
 -- what exchanges leave that follow others is what both leave
 leaves_later : (was mid : Stored) (xs ys : List Exchange) (db : Trees) → LeadsTo was xs mid → (HasTrueEvidence was → HasTrueEvidence mid) → LeavesAfter mid ys db → LeavesAfter was (xs ++ ys) db

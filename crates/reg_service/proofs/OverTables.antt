@@ -32,7 +32,7 @@ module _ {E : Type 0} (old new : State) (d : Delivery) where
   keyless_over (Ok reply) keyless carries = λ was over.
       let it = carries.done was over tt in
       let after = it.1 in
-      served_to was after.now (serves_keyless was after.now d reply keyless it.0 carries.own.no_backend_fault after.steps after.replies) after.steps.stays_true after.holds
+      served_to was after.now (serves_keyless was after.now d reply keyless it.0 carries.own.no_backend_fault after.steps after.replies) after.stays_true after.holds
 
   -- the first delivery of a key
   pub first_over : (r : Result Told E) (mid : State) (key text : List ℕ) → key_of d ≡ Some key → text ≡ command_text d.command → CarriesOut mid new d.command (Some (key, text)) r
@@ -43,7 +43,7 @@ module _ {E : Type 0} (old new : State) (d : Delivery) where
       let it = carries.done was before.0 before.1 in
       let after = it.1 in
       let kept = after.replies ∙ ap (λ (t : List ℕ). kept_with was.replies key (entry_told t reply)) is in
-      served_to was after.now (serves_first was after.now d key reply some before.1 it.0 carries.own.no_backend_fault after.steps kept) after.steps.stays_true after.holds
+      served_to was after.now (serves_first was after.now d key reply some before.1 it.0 carries.own.no_backend_fault after.steps kept) after.stays_true after.holds
 
 -- a later delivery of a key
 pub again_over : (new : State) (d : Delivery) (reply : Told) (key text : List ℕ) (was : Stored) (entry : Entry) → key_of d ≡ Some key → text ≡ command_text d.command → was.replies key ≡ Some entry

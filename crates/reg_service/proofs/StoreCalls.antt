@@ -1,5 +1,5 @@
 -- What the calls of a store leave, one after the other.
-use Rattle.std.proofs.Common.{◌≡◌, ◌≢◌, true, false, List, [], length, refl, ap, Option, Result, Ok, Err, Vec, Global, vec_len, sym, subst, ◌∙◌, arith}
+use Rattle.std.proofs.Common.{◌≡◌, ◌≢◌, true, false, List, [], length, refl, ap, Option, None, Result, Ok, Err, Vec, Global, vec_len, sym, subst, ◌∙◌, arith}
 use Rattle.std.specs.Prelude.{ℕ, ◌==◌, OnErr}
 use Rattle.std.proofs.lemmas.Bool.{both_ways}
 use Rattle.std.proofs.lemmas.Bool.Decides.{nat_tests}
@@ -10,13 +10,12 @@ use Rattle.reg_core.specs.declared.command.Command.{Command}
 use Rattle.reg_core.specs.declared.decision.Change.{Change}
 use Rattle.reg_core.specs.declared.decision.Decision.{Decision}
 use Rattle.reg_core.specs.declared.decision.View.{View}
-use Rattle.reg_core.specs.Registry.{Registry}
 use Rattle.reg_core.specs.KeptReplies.{Kept}
-use Rattle.reg_core.specs.Evidence.{IsOfVersions, IsTrueIn}
+use Rattle.reg_core.specs.Evidence.{IsOfVersions}
 use Rattle.reg_core.specs.Stored.{Stored}
 use Rattle.reg_core.specs.Views.{ChangesFit, IsGround, Decides, schema_taken, evidence_after_changes}
-use Rattle.reg_core.proofs.EvidenceLaws.{evidence_stays_true}
-use Rattle.reg_store.specs.Changes.{made_of}
+use Rattle.reg_store.specs.declared.keep.Keep.{Keep}
+use Rattle.reg_store.specs.Changes.{IsTaken, made_of, stored_after, with_reply}
 use Rattle.reg_store.specs.Stores.{SpellsOn}
 use Rattle.reg_service.specs.Inside.Steps.{StepsTo, HoldsAfter, IsDecidedFor}
 
@@ -47,36 +46,37 @@ fails_as (Err e) f h = f h
 -- on its ground a decision is the one for what is stored
 pub decided_for : (was : Stored) (command : Command) (schema : Option (List NodeView)) (view : View) (d : Decision) → Decides command schema view d
     → IsGround was.registry command (schema_taken command schema) view → IsOfVersions was.registry was.evidence → IsDecidedFor was command d
-decided_for was command schema view d decides ground owners =
-    let has = evidence_after_changes d.changes.items was.evidence in
-    let after = decides.evidence was.registry ground was.evidence owners in
-    record {
-      reply = decides.reply was.registry ground;
-      steps = record {
-        registry = decides.changes was.registry ground;
-        evidence = after;
-        read = λ read. ap (λ (l : List Change). evidence_after_changes l was.evidence) (decides.read read);
-        stays_true = λ holds. subst (λ (g : Registry). IsTrueIn g has) (sym (decides.changes was.registry ground)) (evidence_stays_true was.registry command was.evidence has ground.registry holds after);
-      };
-      fit = decides.fit was.registry ground;
-    }
+decided_for was command schema view d decides ground owners = record {
+  reply = decides.reply was.registry ground;
+  steps = record {
+    registry = decides.changes was.registry ground;
+    evidence = decides.evidence was.registry ground was.evidence owners;
+    read = λ read. ap (λ (l : List Change). evidence_after_changes l was.evidence) (decides.read read);
+  };
+  fit = decides.fit was.registry ground;
+}
+
+-- what follows from what holds of what is taken holds of it
+pub taken_as : {changes : List Change} {keep : Option Keep} {was : Stored} {P Q : Stored → Type 0} → ((now : Stored) → P now → Q now) → IsTaken changes keep was P → IsTaken changes keep was Q
+taken_as {changes} {keep} {was} f taken = record { holds = f (stored_after changes keep was) taken.holds; stays_true = taken.stays_true }
 
 module _ (was : Stored) (command : Command) (d : Decision) (decided : IsDecidedFor was command d) where
   -- what is stored can have the changes of a decision
   pub fits : (changes : List Change) → changes ≡ d.changes.items → ChangesFit changes was.registry
   fits changes is = subst (λ (l : List Change). ChangesFit l was.registry) (sym is) decided.fit
 
-  -- what holds after them, with these replies, holds after the command
-  pub makes : (changes : List Change) (made kept : Kept) (Holds : Stored → Type 0) → changes ≡ d.changes.items → made ≡ kept → Holds (record (made_of changes was) { replies = made }) → HoldsAfter was command kept Holds
-  makes changes made kept Holds is replies holds =
+  -- what holds after them and the reply holds after the command
+  pub makes : (changes : List Change) (keep : Option Keep) (kept : Kept) (Holds : Stored → Type 0) → changes ≡ d.changes.items → IsTaken changes keep was Holds → with_reply keep was.replies ≡ kept → HoldsAfter was command kept Holds
+  makes changes keep kept Holds is taken replies =
       let s : StepsTo was command (made_of changes was) = subst (λ (l : List Change). StepsTo was command (made_of l was)) (sym is) decided.steps in
       record {
-        now = record (made_of changes was) { replies = made };
-        steps = record { registry = s.registry; evidence = s.evidence; read = s.read; stays_true = s.stays_true };
+        now = stored_after changes keep was;
+        steps = record { registry = s.registry; evidence = s.evidence; read = s.read };
         replies = replies;
-        holds = holds;
+        stays_true = taken.stays_true;
+        holds = taken.holds;
       }
 
   -- without a change, what holds before holds after it
   pub makes_nothing : (Holds : Stored → Type 0) → d.changes.items ≡ [] → Holds was → HoldsAfter was command was.replies Holds
-  makes_nothing Holds none holds = makes [] was.replies was.replies Holds (sym none) refl holds
+  makes_nothing Holds none holds = makes [] None was.replies Holds (sym none) (record { holds = holds; stays_true = λ all. all }) refl

@@ -40,6 +40,7 @@ pub mod Behind
 pub mod HandingLemmas
 pub mod EvidenceOwners
 pub mod AuditLemmas
+pub mod TrueEvidence
 pub mod TextParts
 pub mod TextIds
 pub mod TextTests

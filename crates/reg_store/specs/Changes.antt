@@ -4,7 +4,7 @@ use Rattle.sqlite.specs.Tree.{Trees}
 use Rattle.sqlite.specs.State.{State}
 use Rattle.reg_core.specs.declared.decision.Change.{Change}
 use Rattle.reg_core.specs.Replies.{IsKeptStatus}
-use Rattle.reg_core.specs.Stored.{Stored}
+use Rattle.reg_core.specs.Stored.{Stored, HasTrueEvidence}
 use Rattle.reg_core.specs.Views.{ChangesFit, after_changes, evidence_after_changes}
 use Rattle.reg_store.specs.declared.keep.Keep.{Keep}
 use Rattle.reg_core.specs.KeptReplies.{Entry, Kept, kept_with}
@@ -49,9 +49,14 @@ stored_after changes keep was = record (made_of changes was) { replies = with_re
 abbrev pub WhereTaken : State → List Change → Option Keep → (Stored → Type 0) → Type 0
 WhereTaken s changes keep P = (was : Stored) → SpellsWhileOpen s was → CanTake changes keep was → P was
 
--- SQLite, transactions: a crash leaves what is stored now, or a database that it left before; and that spells what was stored, if the connection was open
-abbrev pub LeavesEither : State → State → Stored → Stored → Type 0
-LeavesEither old new was now = (db : Trees) → new.may_leave db → (old.may_leave db × (IsTrue old.is_open → Leaves db was)) ⊎ Leaves db now
+-- this project's choice: so it holds of what is stored after the changes and the reply, where the evidence of versions is true if it was
+pub record IsTaken (changes : List Change) (keep : Option Keep) (was : Stored) (Holds : Stored → Type 0) : Type 0 where
+  pub holds : Holds (stored_after changes keep was)
+  pub stays_true : HasTrueEvidence was → HasTrueEvidence (stored_after changes keep was)
+
+-- SQLite, transactions: a crash leaves what is stored after them, or a database that it left before; and that spells what was stored, if the connection was open
+abbrev pub LeavesEither : State → State → List Change → Option Keep → Stored → Type 0
+LeavesEither old new changes keep was = (db : Trees) → new.may_leave db → (old.may_leave db × (IsTrue old.is_open → Leaves db was)) ⊎ IsTaken changes keep was (Leaves db)
 
 -- inside a transaction: as long as the connection is open, its tables spell what is stored
 abbrev pub SpellsInside : State → Stored → Type 0

@@ -20,14 +20,14 @@ pub record StepsTo (was : Stored) (command : Command) (now : Stored) : Type 0 wh
   pub evidence : IsEvidenceAfter was.registry command was.evidence now.evidence
   -- a read leaves it
   pub read : IsFalse (is_write command) → now.evidence ≡ was.evidence
-  -- where it was true, it is
-  pub stays_true : HasTrueEvidence was → HasTrueEvidence now
 
 -- so it holds of what the command makes, where these replies are kept then
 pub record HoldsAfter (was : Stored) (command : Command) (kept : Kept) (Holds : Stored → Type 0) : Type 0 where
   pub now : Stored
   pub steps : StepsTo was command now
   pub replies : now.replies ≡ kept
+  -- where the evidence of versions was true, it is
+  pub stays_true : HasTrueEvidence was → HasTrueEvidence now
   pub holds : Holds now
 
 -- a decision tells the plain machine's reply, and changes what is stored, which can have the changes, to what the command makes of it

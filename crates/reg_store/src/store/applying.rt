@@ -3,7 +3,7 @@
 ghost use Rattle.std.specs.Prelude.{◌⊎◌, IfSome, IfErr, OnOk, OnErr, IsTrue};
 ghost use Rattle.sqlite.specs.State.{HasCleanDisk, Survives, KeepsCommit};
 ghost use Rattle.reg_store.specs.Spells.{Leaves, IsOpenOver};
-ghost use Rattle.reg_store.specs.Changes.{stored_after, IsKeepable, ActsOn, WhereTaken, LeavesEither};
+ghost use Rattle.reg_store.specs.Changes.{IsKeepable, ActsOn, WhereTaken, IsTaken, LeavesEither};
 ghost use Rattle.reg_store.specs.Failures.{failure_of, is_fault};
 ghost use Rattle.reg_store.specs.Stores.{state_of, LeavesBefore, KeepsStore, SpellsOn};
 ghost use Rattle.reg_store.specs.Inside.Reads.{shown};
@@ -24,7 +24,7 @@ fn commit_all<S: Alter>(
 ) -> Result<(), Error>
     requires keepable { IfSome keep IsKeepable }
     ensures done { HasCleanDisk (shown db.new) → OnOk result (WhereTaken (shown db.old) changes.now keep.entry (λ was.
-        IsOpenOver (shown db.new) (stored_after changes.now keep.entry was))) }
+        IsTaken changes.now keep.entry was (IsOpenOver (shown db.new)))) }
     ensures fault { HasCleanDisk (shown db.new) → IfErr result (λ e.
         WhereTaken (shown db.old) changes.now keep.entry (λ was. IsTrue (is_fault (failure_of e)))) }
     ensures was_open { HasCleanDisk (shown db.new)
@@ -36,7 +36,7 @@ fn commit_all<S: Alter>(
     ensures survives { Survives (shown db.old) (shown db.new) (λ left.
         WhereTaken (shown db.old) changes.now keep.entry (λ was.
         IsTrue (shown db.old).is_open ⊎ ActsOn changes.now keep.entry
-        → Leaves left (stored_after changes.now keep.entry was))) }
+        → IsTaken changes.now keep.entry was (Leaves left))) }
 {
     let mut tx = db.idle.conn.transaction();
     make_all(&mut tx, changes)?;
@@ -57,9 +57,11 @@ impl<S: Alter> Store<S> {
     pub fn apply(&mut self, changes: &[Change], keep: Option<Keep<'_>>) -> Result<(), StoreError>
         requires { IfSome keep IsKeepable }
         ensures frame { KeepsStore self.old self.new result }
+
+        // The evidence of versions stays true, here and after a crash.
         ensures done { HasCleanDisk (state_of self.new) → OnOk result
             (WhereTaken (state_of self.old) changes.now keep.entry (λ was.
-            IsOpenOver (state_of self.new) (stored_after changes.now keep.entry was))) }
+            IsTaken changes.now keep.entry was (IsOpenOver (state_of self.new)))) }
         ensures fault { HasCleanDisk (state_of self.new) → IfErr result (λ e.
             WhereTaken (state_of self.old) changes.now keep.entry (λ was. IsTrue (is_fault e))) }
         ensures nothing { HasCleanDisk (state_of self.new)
@@ -73,7 +75,7 @@ impl<S: Alter> Store<S> {
         // have shut the connection, if there was something to do.
         ensures crash { HasCleanDisk (state_of self.new) → WhereTaken (state_of self.old) changes.now keep.entry (λ was.
             IsTrue (state_of self.old).is_open ⊎ ActsOn changes.now keep.entry
-            → LeavesEither (state_of self.old) (state_of self.new) was (stored_after changes.now keep.entry was)) }
+            → LeavesEither (state_of self.old) (state_of self.new) changes.now keep.entry was) }
     {
         if self.failed {
             return Err(StoreError::Disk);

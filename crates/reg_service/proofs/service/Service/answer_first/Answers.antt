@@ -6,7 +6,7 @@ use Rattle.reg_core.specs.Stored.{Stored}
 use Rattle.reg_store.specs.Spells.{Leaves, SpellsWhileOpen}
 use Rattle.reg_store.specs.Stores.{state_of}
 use Rattle.reg_store.proofs.Committing.{leaves_if_open}
-use Rattle.reg_service.proofs.StoreCalls.{on_then, fits, makes}
+use Rattle.reg_service.proofs.StoreCalls.{on_then, fits, taken_as, makes}
 use Rattle.reg_service.proofs.CrashLemmas.{carries_failed}
 use Rattle.reg_service.proofs.service.Service.answer_first.Goals as goal
 
@@ -27,7 +27,7 @@ returns-in_err-apply-clause-carries g c clean =
     let fit = fits was c.args.command.now d decided c.deref.result.now c.deref.ensures.value in
     elim (c.apply.ensures.crash clean was (c.in_ok-changes.ensures.same early was over) (record { fit = fit; fresh = free }) (inr (inr refl)) db it) [
       | inl before ↦ inl (c.in_ok-changes.ensures.crash early db before.0)
-      | inr made ↦ inr (makes was c.args.command.now d decided c.deref.result.now (kept was d.reply) _ (Leaves db) c.deref.ensures.value (ap (kept was) decided.reply) made)
+      | inr made ↦ inr (makes was c.args.command.now d decided c.deref.result.now _ _ (Leaves db) c.deref.ensures.value made (ap (kept was) decided.reply))
     ])
 
 pub returns-clause-carries : goal.returns-clause-carries
@@ -40,12 +40,12 @@ returns-clause-carries g c clean =
           let decided = c.in_ok-changes.ensures.decided early was over in
           let fit = fits was c.args.command.now d decided c.deref.result.now c.deref.ensures.value in
           let made = c.in_ok-apply.ensures.done clean was (c.in_ok-changes.ensures.same early was over) (record { fit = fit; fresh = free }) in
-          (decided.reply, makes was c.args.command.now d decided c.deref.result.now (kept was d.reply) _ (SpellsWhileOpen (state_of c.apply.new.self)) c.deref.ensures.value refl (λ _. made));
+          (decided.reply, makes was c.args.command.now d decided c.deref.result.now _ _ (SpellsWhileOpen (state_of c.apply.new.self)) c.deref.ensures.value (taken_as (λ now over _. over) made) refl);
       own = c.in_ok-changes.ensures.own;
       fails = tt;
       crash = λ was over free db it.
           let decided = c.in_ok-changes.ensures.decided early was over in
           let fit = fits was c.args.command.now d decided c.deref.result.now c.deref.ensures.value in
           let made = c.in_ok-apply.ensures.done clean was (c.in_ok-changes.ensures.same early was over) (record { fit = fit; fresh = free }) in
-          makes was c.args.command.now d decided c.deref.result.now (kept was d.reply) _ (Leaves db) c.deref.ensures.value (ap (kept was) decided.reply) (leaves_if_open _ _ c.in_ok-apply.ensures.frame.settled made db it);
+          makes was c.args.command.now d decided c.deref.result.now _ _ (Leaves db) c.deref.ensures.value (taken_as (λ now over. leaves_if_open _ now c.in_ok-apply.ensures.frame.settled over db it) made) (ap (kept was) decided.reply);
     }

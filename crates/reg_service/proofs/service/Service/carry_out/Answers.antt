@@ -1,11 +1,10 @@
 use Rattle.std.proofs.Common.{None, inl, inr, refl, sym, ◌∙◌, rules}
 use Rattle.std.specs.Prelude.{OnOk}
 use Rattle.reg_store.specs.Spells.{Leaves, SpellsWhileOpen}
-use Rattle.reg_store.specs.Changes.{stored_after}
 use Rattle.reg_store.specs.Stores.{state_of}
 use Rattle.reg_store.proofs.Committing.{leaves_if_open}
 use Rattle.reg_service.specs.Services.{state_in}
-use Rattle.reg_service.proofs.StoreCalls.{on_then, no_changes, some_changes, fits, makes, makes_nothing}
+use Rattle.reg_service.proofs.StoreCalls.{on_then, no_changes, some_changes, fits, taken_as, makes, makes_nothing}
 use Rattle.reg_service.proofs.OpenConnections.{was_open}
 use Rattle.reg_service.proofs.CrashLemmas.{leaves_open, carries_failed}
 use Rattle.reg_service.proofs.service.Service.carry_out.Goals as goal
@@ -27,7 +26,7 @@ returns-in_err-apply-clause-carries g c clean =
     let decided = c.in_ok-changes.ensures.decided early was over in
     elim (c.apply.ensures.crash clean was (c.in_ok-changes.ensures.same early was over) (record { fit = fits was c.args.command.now d decided c.deref.result.now c.deref.ensures.value; fresh = tt }) (inr (inl (λ e. some (sym c.deref.ensures.value ∙ e)))) db it) [
       | inl before ↦ inl (c.in_ok-changes.ensures.crash early db before.0)
-      | inr made ↦ inr (makes was c.args.command.now d decided c.deref.result.now was.replies was.replies (Leaves db) c.deref.ensures.value refl made)
+      | inr made ↦ inr (makes was c.args.command.now d decided c.deref.result.now None was.replies (Leaves db) c.deref.ensures.value made refl)
     ])
 
 pub returns-clause-carries : goal.returns-clause-carries
@@ -41,13 +40,13 @@ returns-clause-carries g c =
             done = λ was over free.
                 let decided = c.in_ok-changes.ensures.decided early was over in
                 let made = w.in_ok-apply.ensures.done clean was (c.in_ok-changes.ensures.same early was over) (record { fit = fits was c.args.command.now d decided w.deref.result.now w.deref.ensures.value; fresh = tt }) in
-                (decided.reply, makes was c.args.command.now d decided w.deref.result.now was.replies was.replies (SpellsWhileOpen (state_of w.apply.new.self)) w.deref.ensures.value refl (λ _. made));
+                (decided.reply, makes was c.args.command.now d decided w.deref.result.now None was.replies (SpellsWhileOpen (state_of w.apply.new.self)) w.deref.ensures.value (taken_as (λ now over _. over) made) refl);
             own = c.in_ok-changes.ensures.own;
             fails = tt;
             crash = λ was over free db it.
                 let decided = c.in_ok-changes.ensures.decided early was over in
                 let made = w.in_ok-apply.ensures.done clean was (c.in_ok-changes.ensures.same early was over) (record { fit = fits was c.args.command.now d decided w.deref.result.now w.deref.ensures.value; fresh = tt }) in
-                makes was c.args.command.now d decided w.deref.result.now was.replies was.replies (Leaves db) w.deref.ensures.value refl (leaves_if_open (state_of w.apply.new.self) (stored_after w.deref.result.now None was) settled made db it);
+                makes was c.args.command.now d decided w.deref.result.now None was.replies (Leaves db) w.deref.ensures.value (taken_as (λ now over. leaves_if_open (state_of w.apply.new.self) now settled over db it) made) refl;
           })
       | else-not-is_empty w ↦ rw w.self-is (λ clean.
           let none = no_changes d.changes (sym c.is_empty.ensures ∙ w.if-not-is_empty.false) in

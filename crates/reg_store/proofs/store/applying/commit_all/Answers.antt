@@ -9,12 +9,13 @@ use Rattle.reg_tables.proofs.Transactions.{on_ok, if_err, keeps_then, keeps_if_u
 use Rattle.reg_tables.proofs.WriteFaults.{erred_with}
 use Rattle.reg_core.specs.Stored.{Stored}
 use Rattle.reg_store.specs.Spells.{Spells, Leaves, IsOpenOver, SpellsWhileOpen}
-use Rattle.reg_store.specs.Changes.{made_of, stored_after, CanTake, WhereTaken, ActsOn}
+use Rattle.reg_store.specs.Changes.{made_of, stored_after, CanTake, WhereTaken, IsTaken, ActsOn}
 use Rattle.reg_store.specs.Failures.{failure_of, is_fault}
 use Rattle.reg_store.specs.Stores.{LeavesBefore}
 use Rattle.reg_store.proofs.Failing.{fault_if_by}
 use Rattle.reg_store.proofs.Writing.{fault_later, is_fault_of_insert, fault_of_commit, begun_spells, still_inside}
 use Rattle.reg_store.proofs.Committing.{keeps_begin, keeps_if_failed, on_err, on_err_each, leaves_if_spelled, before_if_undone, before_if_failed}
+use Rattle.reg_store.proofs.TrueEvidence.{taken}
 use Rattle.reg_store.proofs.store.applying.commit_all.Goals as goal
 
 pub returns-clause-done : goal.returns-clause-done
@@ -33,7 +34,7 @@ returns-clause-done g c clean =
     let put = c.in_ok-keep_reply.ensures.put clean_last (made_of c.args.changes.now was) made takes.fresh in
     let all : IsOpenOver (state g.S.Store end) after =
     record { is_open = done.1.is_open; settled = done.1.committed_is ∙ sym done.1.now_is; spells = subst (λ d. Spells d after) (sym done.1.now_is) put } in
-    all) (c.commit.ensures.ok late)
+    taken c.args.changes.now c.args.keep was (IsOpenOver (state g.S.Store end)) begun.spelled.base.registry takes.fit all) (c.commit.ensures.ok late)
 
 pub returns-clause-survives : goal.returns-clause-survives
 returns-clause-survives g c =
@@ -42,7 +43,7 @@ returns-clause-survives g c =
     let begun = state g.S.Store c.transaction-tx.result.conn.now in
     let mid = state g.S.Store c.make_all.new.tx.conn.now in
     let last = state g.S.Store c.keep_reply.new.tx.conn.now in
-    let P = λ (db : Trees). WhereTaken first c.args.changes.now c.args.keep (λ was. IsTrue first.is_open ⊎ ActsOn c.args.changes.now c.args.keep → Leaves db (stored_after c.args.changes.now c.args.keep was)) in
+    let P = λ (db : Trees). WhereTaken first c.args.changes.now c.args.keep (λ was. IsTrue first.is_open ⊎ ActsOn c.args.changes.now c.args.keep → IsTaken c.args.changes.now c.args.keep was (Leaves db)) in
     let inside = survives_both begun mid last c.make_all.ensures.frame.survives c.keep_reply.ensures.frame.survives in
     let commits = λ (clean : HasCleanDisk (state g.S.Store end)) (db : Trees) (is : db ≡ last.now.trees) (was : Stored) (over : SpellsWhileOpen first was) (takes : CanTake c.args.changes.now c.args.keep was) (acts : IsTrue first.is_open ⊎ ActsOn c.args.changes.now c.args.keep).
     let clean_last : HasCleanDisk last = omega (arith, c.commit.ensures.survives.clean) in
@@ -58,7 +59,8 @@ returns-clause-survives g c =
     let spelled = subst (λ h. Spells (state g.S.Store h).now was) (sym c.transaction-tx.ensures.begun) (over was_open).spells in
     let made = c.in_ok-make_all.ensures.made clean_mid was spelled takes.fit in
     let put = c.in_ok-keep_reply.ensures.put clean_last (made_of c.args.changes.now was) made takes.fresh in
-    leaves_if_spelled db last.now (stored_after c.args.changes.now c.args.keep was) is put in
+    let left = leaves_if_spelled db last.now (stored_after c.args.changes.now c.args.keep was) is put in
+    taken c.args.changes.now c.args.keep was (Leaves db) spelled.spelled.base.registry takes.fit left in
     let whole = survives_then first last (state g.S.Store end) _ _ P (λ _ db none. absurd none) commits
     (survives_begin g.S.Store c.args.db.now.idle.conn last _ (rw c.transaction-tx.ensures.begun at inside)) c.commit.ensures.survives in
     whole
