@@ -10,7 +10,7 @@ mod tables;
 mod texts;
 
 pub use meta::{is_meta, is_second_meta, layout_of};
-pub use places::{are_positions, have_evidence};
+pub use places::are_positions;
 pub use reg_core::OutOfMemory;
 pub use rows::{fits_evidence, fits_kept, fits_levels, fits_modes, fits_versions};
 pub use tables::{Tables, spells};
