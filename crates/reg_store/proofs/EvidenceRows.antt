@@ -70,7 +70,7 @@ module _ (evidence : List EvidenceLine) (against : List AgainstLine) (versions_a
       let l = has_mapped version_at evidence key (has_contained (map version_at evidence) key h) in
       subst (λ k. IsSome (get evidence_in k)) (sym l.2) (subst IsSome (sym (level_there l.0 l.1)) refl)
 
-  version_listed : (key : RowKey) → IsSome (get evidence_in key) → Contains (map version_at evidence) key
+  pub version_listed : (key : RowKey) → IsSome (get evidence_in key) → Contains (map version_at evidence) key
   version_listed key h =
       let it = the_value (get evidence_in key) h in
       let l = level_line key it.0 it.1 in

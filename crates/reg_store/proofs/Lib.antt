@@ -44,3 +44,6 @@ pub mod TrueEvidence
 pub mod TextParts
 pub mod TextIds
 pub mod TextTests
+pub mod VersionParts
+pub mod PartsPass
+pub mod VersionWalk

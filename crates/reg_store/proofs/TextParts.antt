@@ -76,10 +76,10 @@ module _ (low high id : ℕ) (row : Row) (is : rowid row ≡ Int (pos id)) where
 -- ---- rows that are split by a test
 
 -- what passes the first test passes one of the others, and nothing else does
-abbrev Splits : Bool → Bool → Bool → Type 0
+abbrev pub Splits : Bool → Bool → Bool → Type 0
 Splits whole one other = ((whole ≡ true) × (one ≡ true) × (other ≡ false)) ⊎ (((whole ≡ true) × (one ≡ false) × (other ≡ true)) ⊎ ((whole ≡ false) × (one ≡ false) × (other ≡ false)))
 
-split : {X : Type 0} (p q r : X → Bool) (xs : List X) → ((x : X) → Has xs x → Splits (p x) (q x) (r x)) → IsPermutation (filter p xs) (filter q xs ++ filter r xs)
+pub split : {X : Type 0} (p q r : X → Bool) (xs : List X) → ((x : X) → Has xs x → Splits (p x) (q x) (r x)) → IsPermutation (filter p xs) (filter q xs ++ filter r xs)
 split p q r [] each = IsPermutation-refl []
 split p q r (x ∷ xs) each = go (each x (inl refl)) (split p q r xs (λ y there. each y (inr there)))
   where
@@ -88,15 +88,15 @@ split p q r (x ∷ xs) each = go (each x (inl refl)) (split p q r xs (λ y there
     go (inr (inl is)) rest = rw (is.0, is.1, is.2) (IsPermutation-trans _ _ _ (IsPermutation-cons x _ _ rest) (IsPermutation-sym _ _ (IsPermutation-middle (filter q xs) x (filter r xs))))
     go (inr (inr is)) rest = rw (is.0, is.1, is.2) rest
 
-all_pass : {X : Type 0} (p : X → Bool) (xs : List X) → ((x : X) → Has xs x → p x ≡ true) → filter p xs ≡ xs
+pub all_pass : {X : Type 0} (p : X → Bool) (xs : List X) → ((x : X) → Has xs x → p x ≡ true) → filter p xs ≡ xs
 all_pass p [] each = refl
 all_pass p (x ∷ xs) each = ap (λ b. cond b (x ∷ filter p xs) (filter p xs)) (each x (inl refl)) ∙ ap (λ l. x ∷ l) (all_pass p xs (λ y there. each y (inr there)))
 
-none_passes : {X : Type 0} (p : X → Bool) (xs : List X) → ((x : X) → Has xs x → p x ≡ false) → filter p xs ≡ []
+pub none_passes : {X : Type 0} (p : X → Bool) (xs : List X) → ((x : X) → Has xs x → p x ≡ false) → filter p xs ≡ []
 none_passes p [] each = refl
 none_passes p (x ∷ xs) each = ap (λ b. cond b (x ∷ filter p xs) (filter p xs)) (each x (inl refl)) ∙ none_passes p xs (λ y there. each y (inr there))
 
-mapped-append : {A B : Type 0} (f : A → B) (xs ys : List A) → map f (xs ++ ys) ≡ map f xs ++ map f ys
+pub mapped-append : {A B : Type 0} (f : A → B) (xs ys : List A) → map f (xs ++ ys) ≡ map f xs ++ map f ys
 mapped-append f [] ys = refl
 mapped-append f (x ∷ xs) ys = ap (λ l. f x ∷ l) (mapped-append f xs ys)
 

@@ -7,6 +7,7 @@ use Rattle.std.proofs.lemmas.Bool.{both_ways}
 use Rattle.std.proofs.lemmas.List.{length-map}
 use Rattle.std.proofs.lemmas.List.Sorted.{IsPermutation-sym}
 use Rattle.std.proofs.lemmas.Simd.{map-map}
+use Rattle.sqlite.specs.Schema.{Schema}
 use Rattle.sqlite.specs.Effect.{Database}
 use Rattle.sqlite.specs.Held.{Held, state}
 use Rattle.sqlite.specs.State.{HasCleanDisk}
@@ -15,7 +16,6 @@ use Rattle.sqlite_rules.proofs.ListLemmas.{all_has, all_from}
 use Rattle.reg_rows.specs.Spelling.{Text, AreNumbered, IsTextRow}
 use Rattle.reg_tables.specs.declared.lines.TextLine.{TextLine}
 use Rattle.reg_tables.specs.Frames.{StaysIdle}
-use Rattle.reg_tables.specs.Layout.{HasTablesFirst}
 use Rattle.reg_tables.specs.Listings.{ListsTexts}
 use Rattle.reg_tables.specs.Reads.{HoldsReadable}
 use Rattle.reg_tables.proofs.ListMembers.{has_permuted}
@@ -26,7 +26,7 @@ use Rattle.reg_store.specs.Inside.Reads.{SpellsBase, Rests}
 use Rattle.reg_store.proofs.Numbering.{Rises}
 use Rattle.reg_store.proofs.TestLemmas.{each_row, lists_sorted, texts_pass}
 use Rattle.reg_store.proofs.TextParts.{within, in_order}
-use Rattle.reg_store.proofs.ReadLemmas.{rests_read, rests_on, clean_at, fault_of_all, readable_on, told_of_all, layout_on}
+use Rattle.reg_store.proofs.ReadLemmas.{rests_read, rests_on, clean_at, same_db, fault_of_all, told_of_all}
 
 -- ---- what all lines say of the table
 
@@ -87,19 +87,40 @@ module _ {S : Type 0} (g : Ghosts S) (a c : Held S) (settled : IsTrue (state g a
     survives = rests.survives;
   }
 
-  -- all were read
-  pub all_read : {X : Type 0} {P : X → Database → Type 0} (x : X) → Rests (state g a) (state g c) → (HasCleanDisk (state g c) → IsTrue (state g a).is_open)
-      → (HasCleanDisk (state g c) → HasTablesFirst (state g a).now.schema → P x (state g a).now) → Tests HasTablesFirst HoldsReadable g a c (Ok x) P
-  all_read x rests was_open tells = record { frame = stays (Ok x) rests was_open; tells = tells; fault = λ clean. tt; told = λ clean. tt }
+  same_there : (b : Held S) → Rests (state g a) (state g b) → HasCleanDisk (state g b) → IsTrue (state g b).is_open → (state g b).now ≡ (state g a).now
+  same_there b rests clean = same_db (state g a) (state g b) rests settled clean
 
-  -- some weren't, after others were
-  pub some_unread : {X Y : Type 0} {P : X → Database → Type 0} {Q : Y → Database → Type 0} (b : Held S) (e : StoreError) → Rests (state g a) (state g b) → Tests {X = X} HasTablesFirst HoldsReadable g b c (Err e) P → Tests {X = Y} HasTablesFirst HoldsReadable g a c (Err e) Q
-  some_unread b e rests t =
-      let step = rests_read g b c (Err e) t.frame in
-      let early = clean_at (state g a) (state g b) (state g c) step in
-      record {
-        frame = stays (Err e) (rests_on (state g a) (state g b) (state g c) rests step) (λ clean. tt);
-        tells = λ clean. tt;
-        fault = λ clean can. fault_of_all (state g a) (state g b) (state g c) rests step clean e (t.fault clean (readable_on (state g a) (state g b) rests settled (early clean) can));
-        told = λ clean known. told_of_all (state g a) (state g b) (state g c) rests step clean e (t.told clean (layout_on (state g a) (state g b) rests settled (early clean) known));
-      }
+  module _ {Declared : Schema → Type 0} {Spelled : Database → Type 0} where
+    -- all were read
+    pub all_read : {X : Type 0} {P : X → Database → Type 0} (x : X) → Rests (state g a) (state g c) → (HasCleanDisk (state g c) → IsTrue (state g a).is_open)
+        → (HasCleanDisk (state g c) → Declared (state g a).now.schema → P x (state g a).now) → Tests Declared Spelled g a c (Ok x) P
+    all_read x rests was_open tells = record { frame = stays (Ok x) rests was_open; tells = tells; fault = λ clean. tt; told = λ clean. tt }
+
+    module _ (b : Held S) (rests : Rests (state g a) (state g b)) where
+      -- some weren't, after others were
+      pub some_unread : {X Y : Type 0} {P : X → Database → Type 0} {Q : Y → Database → Type 0} (e : StoreError) → Tests {X = X} Declared Spelled g b c (Err e) P → Tests {X = Y} Declared Spelled g a c (Err e) Q
+      some_unread e t =
+          let step = rests_read g b c (Err e) t.frame in
+          let early = clean_at (state g a) (state g b) (state g c) step in
+          let was_open : HasCleanDisk (state g c) → IsTrue (state g b).is_open → IsTrue (state g a).is_open = λ clean. (rests.commit_stays (early clean)).was_open in
+          record {
+            frame = stays (Err e) (rests_on (state g a) (state g b) (state g c) rests step) (λ clean. tt);
+            tells = λ clean. tt;
+            fault = λ clean can. fault_of_all (state g a) (state g b) (state g c) rests step clean e (t.fault clean (λ is_open. subst Spelled (sym (same_there b rests (early clean) is_open)) (can (was_open clean is_open))));
+            told = λ clean known. told_of_all (state g a) (state g b) (state g c) rests step clean e (t.told clean (λ is_open. subst (λ (d : Database). Declared d.schema) (sym (same_there b rests (early clean) is_open)) (known (was_open clean is_open))));
+          }
+
+      -- the last one was, after others were
+      pub last_read : {X : Type 0} {P : X → Database → Type 0} {R : Database → Type 0} (x : X) → (HasCleanDisk (state g b) → Declared (state g a).now.schema → R (state g a).now) → Tests Declared Spelled g b c (Ok x) P
+          → Tests Declared Spelled g a c (Ok x) (λ y db. R db × P y db)
+      last_read {P = P} x before t =
+          let step = rests_read g b c (Ok x) t.frame in
+          let early = clean_at (state g a) (state g b) (state g c) step in
+          record {
+            frame = stays (Ok x) (rests_on (state g a) (state g b) (state g c) rests step) (λ clean. (rests.commit_stays (early clean)).was_open (t.frame.was_open clean));
+            tells = λ clean known.
+                (let same = same_there b rests (early clean) (t.frame.was_open clean) in
+                (before (early clean) known, subst (P x) same (t.tells clean (subst (λ (d : Database). Declared d.schema) (sym same) known))));
+            fault = λ clean. tt;
+            told = λ clean. tt;
+          }

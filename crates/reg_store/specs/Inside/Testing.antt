@@ -1,6 +1,6 @@
 -- What the tables are tested for before a store is opened over them.
-use Rattle.std.specs.Prelude.{◌≡◌, ◌<◌, ◌≤◌, ◌↔◌, ◌^◌, ℕ, ℤ, List, map, length, string_bytes, Bool, false, Option, Some, Result, Ok, Err, IfOk, IfErr, IsTrue}
-use Rattle.std.specs.List.{IsDistinct, AllByRecursion}
+use Rattle.std.specs.Prelude.{◌≡◌, ◌<◌, ◌≤◌, ◌↔◌, ◌^◌, ℕ, ℤ, List, map, flat_map, length, string_bytes, Bool, false, Option, Some, Result, Ok, Err, IfOk, IfErr, IsTrue}
+use Rattle.std.specs.List.{IsDistinct, AllByRecursion, AllZip}
 use Rattle.std.specs.Ordering.{int_cmp, eq_by_cmp}
 use Rattle.sqlite.specs.Schema.{Schema}
 use Rattle.sqlite.specs.Effect.{Database}
@@ -18,7 +18,7 @@ use Rattle.reg_tables.specs.declared.second_lines.AgainstLine.{AgainstLine}
 use Rattle.reg_tables.specs.Layout.{HasTablesFirst}
 use Rattle.reg_tables.specs.SecondLayout.{HasSecondTables}
 use Rattle.reg_tables.specs.Listings.{ListsIds, ListsTexts, ListsVersions, ListsLevels, ListsKept, ListsMeta}
-use Rattle.reg_tables.specs.SecondListings.{ListsModes, ListsEvidence, ListsAgainst}
+use Rattle.reg_tables.specs.SecondListings.{ListsModes, ListsEvidence, ListsAgainst, ListsAgainstOf, HasAgainstRows}
 use Rattle.reg_tables.specs.Frames.{StaysIdle}
 use Rattle.reg_rows.specs.Spelling.{pair_of, IsIdentity, AreNumbered, AreTexts, FitsVersions, FitsLevels, FitsKept, FitsModes, FitsEvidence}
 use Rattle.reg_rows.specs.Meta.{Pair, is_meta, is_second_meta, layout_in}
@@ -171,6 +171,34 @@ pub record Judges (Lists : List TextLine → Type 0) (fit : Bool) : Type 0 where
   pub lines : List TextLine
   pub lists : Lists lines
   pub judged : IsTrue fit ↔ AllByRecursion text_fits lines
+
+-- ---- ids, of which those of one version are held at a time
+
+-- lines of a version, whose ids stand in order
+abbrev pub StandInOrder : List AgainstLine → Type 0
+StandInOrder lines = AllByRecursion against_fits lines × ArePositions (map place_at lines)
+
+abbrev pub rowids_in : List AgainstLine → List ℤ
+rowids_in = map (λ (line : AgainstLine). line.rowid)
+
+-- what is said of the ids of a version: which rowids they have, and whether they stand in order
+pub record JudgesVersion (version : RowKey) (db : Database) (rowids : List ℤ) (fit : Bool) : Type 0 where
+  pub lines : List AgainstLine
+  pub lists : ListsAgainstOf version db lines
+  pub have : rowids_in lines ≡ rowids
+  pub judged : IsTrue fit ↔ StandInOrder lines
+
+-- the same of versions, one after the other
+pub record JudgesVersions (versions : List RowKey) (db : Database) (rowids : List ℤ) (fit : Bool) : Type 0 where
+  pub parts : List (List AgainstLine)
+  pub lists : AllZip (λ version lines. ListsAgainstOf version db lines) versions parts
+  pub have : rowids_in (flat_map (λ lines. lines) parts) ≡ rowids
+  pub judged : IsTrue fit ↔ AllByRecursion StandInOrder parts
+
+-- and how many rows `against` has
+pub record TellsIds (versions : List RowKey) (db : Database) (rowids : List ℤ) (fit : Bool) (count : ℕ) : Type 0 where
+  pub judged : JudgesVersions versions db rowids fit
+  pub counted : HasAgainstRows db count
 
 -- ---- verdicts
 

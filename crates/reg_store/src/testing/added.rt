@@ -1,18 +1,25 @@
 //! The test of the tables that layout 2 adds.
 
-ghost use Rattle.std.specs.Prelude.{◌≡◌, ◌↔◌, map, IfOk, IfErr, IsTrue};
-ghost use Rattle.reg_tables.specs.SecondListings.{ListsEvidence, ListsAgainst};
-ghost use Rattle.reg_rows.specs.Places.{version_in, place_in};
+ghost use Rattle.std.specs.Prelude.{◌≡◌, ◌↔◌, ◌<◌, ◌++◌, ℤ, List, map, length, IfOk, IfErr, OnOk, IsTrue};
+ghost use Rattle.std.specs.List.{AllByRecursion};
+ghost use Rattle.reg_tables.specs.SecondListings.{ListsEvidence, HasAgainstRows};
+ghost use Rattle.reg_rows.specs.Places.{place_in};
 ghost use Rattle.reg_store.specs.Failures.{IsNumberless};
-ghost use Rattle.reg_store.specs.Inside.Testing.{mode_fits, evidence_fits, against_fits, version_at, place_at, AreInPlace, EvidenceFits, ModesPass, EvidencePasses, AddedPass, TestsSecond};
+ghost use Rattle.reg_store.specs.Inside.Testing.{AreApart, mode_fits, evidence_fits, against_fits, version_at, place_at, StandInOrder, rowids_in, JudgesVersion, TellsIds, ModesPass, EvidencePasses, AddedPass, TestsSecond};
 
 use crate::error::StoreError;
 use crate::idle::Idle;
-use crate::testing::{Tested, allow, pass};
-use reg_rows::{are_positions, fits_evidence, fits_modes, have_evidence};
-use reg_tables::{AgainstLine, EvidenceLine, ModeLine, against_lines, evidence_lines, mode_lines};
+use crate::rowids::are_apart;
+use crate::testing::{Tested, all_fit, allow, pass};
+use reg_rows::{are_positions, fits_evidence, fits_modes};
+use reg_tables::{
+    AgainstLine, EvidenceLine, ModeLine, against_count, against_of, evidence_lines, mode_lines,
+};
 use sqlite::Alter;
 use std::alloc::{AllocError, Global};
+
+/// A count that SQLite tells of so many rows or more.
+const MOST: u64 = 9_223_372_036_854_775_807;
 
 impl Tested for ModeLine {
     ghost rowid_of = { λ line. line.rowid };
@@ -66,33 +73,14 @@ fn test_modes<S: Alter>(alloc: Global, db: &mut Idle<S>) -> Result<(), StoreErro
     allow(pass(alloc, &lines)?)
 }
 
-/// The lines of `evidence` and of `against`.
-fn read_evidence<S: Alter>(
-    alloc: Global,
-    db: &mut Idle<S>,
-) -> Result<(Vec<EvidenceLine>, Vec<AgainstLine>), StoreError>
+/// The lines of `evidence`.
+fn read_evidence<S: Alter>(alloc: Global, db: &mut Idle<S>) -> Result<Vec<EvidenceLine>, StoreError>
     ensures tests { TestsSecond S.Store db.old.idle.conn db.new.idle.conn result
-        (λ lines db. ListsEvidence db lines.0.items × ListsAgainst db lines.1.items) }
+        (λ lines db. ListsEvidence db lines.items) }
     ensures plain { IfErr result IsNumberless }
 {
-    let _idle = db.idle.conn.is_autocommit();
-    let evidence = evidence_lines(alloc, &mut db.idle)?;
-    let against = against_lines(alloc, &mut db.idle)?;
-    Ok((evidence, against))
-}
-
-/// The versions that have evidence.
-fn versions_in<'a>(
-    alloc: Global,
-    lines: &'a [EvidenceLine],
-) -> Result<Vec<(&'a str, u32)>, AllocError>
-    ensures { IfOk result (λ keys. map version_in keys.items ≡ map version_at lines.now) }
-{
-    let mut keys = Vec::new(alloc);
-    for line in lines {
-        keys.push((line.subject.as_str(), line.version))?;
-    }
-    Ok(keys)
+    let lines = evidence_lines(alloc, &mut db.idle)?;
+    Ok(lines)
 }
 
 /// The places at which ids stand.
@@ -109,34 +97,117 @@ fn places_in<'a>(
     Ok(places)
 }
 
-/// Whether each version that has ids has evidence, and the ids stand in order.
-fn are_in_place(
-    alloc: Global,
-    evidence: &[EvidenceLine],
-    against: &[AgainstLine],
-) -> Result<bool, AllocError>
-    ensures { IfOk result (λ yes. IsTrue yes ↔ AreInPlace evidence.now against.now) }
+/// Whether the ids of a version stand in order.
+fn are_in_order(alloc: Global, lines: &[AgainstLine]) -> Result<bool, AllocError>
+    ensures { IfOk result (λ yes. IsTrue yes ↔ StandInOrder lines.now) }
 {
-    let versions = versions_in(alloc, evidence)?;
-    let places = places_in(alloc, against)?;
-    Ok(have_evidence(versions, &places) && are_positions(places))
+    if !all_fit(lines) {
+        return Ok(false);
+    }
+    let places = places_in(alloc, lines)?;
+    Ok(are_positions(places))
 }
 
-/// Whether the lines pass together.
-fn pass_evidence(
-    alloc: Global,
-    evidence: &[EvidenceLine],
-    against: &[AgainstLine],
-) -> Result<bool, AllocError>
-    ensures { IfOk result (λ yes. IsTrue yes ↔ EvidenceFits evidence.now against.now) }
+/// Adds the rowids of the lines.
+fn add_rowids(rowids: &mut Vec<i64>, lines: &[AgainstLine]) -> Result<(), AllocError>
+    ensures { OnOk result (rowids.new.items ≡ rowids.old.items ++ rowids_in lines.now) }
 {
+    for line in lines {
+        rowids.push(line.rowid)?;
+    }
+    Ok(())
+}
+
+/// Reads the ids of a version, adds their rowids, and answers whether they stand in order.
+fn judge_version<S: Alter>(
+    alloc: Global,
+    db: &mut Idle<S>,
+    version: &EvidenceLine,
+    rowids: &mut Vec<i64>,
+) -> Result<bool, StoreError>
+    ensures tests { TestsSecond S.Store db.old.idle.conn db.new.idle.conn result
+        (λ fit db. (added : List ℤ) × (rowids.new.items ≡ rowids.old.items ++ added)
+        × JudgesVersion (version_at version.now) db added fit) }
+    ensures plain { IfErr result IsNumberless }
+{
+    let lines = against_of(
+        alloc,
+        &mut db.idle,
+        version.subject.as_str(),
+        version.version,
+    )?;
+    add_rowids(rowids, &lines)?;
+    Ok(are_in_order(alloc, &lines)?)
+}
+
+/// How many rows `against` has.
+fn count_against<S: Alter>(db: &mut Idle<S>) -> Result<u64, StoreError>
+    ensures tests { TestsSecond S.Store db.old.idle.conn db.new.idle.conn result
+        (λ count db. HasAgainstRows db count) }
+    ensures plain { IfErr result IsNumberless }
+{
+    let count = against_count(&mut db.idle)?;
+    Ok(count)
+}
+
+/// What is read of `against`.
+#[derive(Drop)]
+struct Ids {
+    /// The rowids of the ids of all versions that have evidence.
+    rowids: Vec<i64>,
+    /// Whether the ids of each of these stand in order.
+    fit: bool,
+    /// How many rows there are.
+    count: u64,
+}
+
+/// Reads the ids of each version that has evidence, of which one version's are held at a time.
+fn read_ids<S: Alter>(
+    alloc: Global,
+    db: &mut Idle<S>,
+    evidence: &[EvidenceLine],
+) -> Result<Ids, StoreError>
+    ensures tests { TestsSecond S.Store db.old.idle.conn db.new.idle.conn result
+        (λ ids db. TellsIds (map version_at evidence.now) db ids.rowids.items ids.fit ids.count) }
+    ensures plain { IfErr result IsNumberless }
+{
+    let _idle = db.idle.conn.is_autocommit();
+    let mut rowids = Vec::new(alloc);
+    let mut fit = true;
+    for version in evidence {
+        let some = judge_version(alloc, db, version, &mut rowids)?;
+        fit = fit && some;
+    }
+    let count = count_against(db)?;
+    Ok(Ids { rowids, fit, count })
+}
+
+/// Whether no number comes twice, and there are so many.
+fn are_all(numbers: Vec<i64>, count: u64) -> bool
+    ensures { IsTrue result
+        ↔ ((length numbers.items ≡ count) × AreApart numbers.items) }
+{
+    let mut sorted = numbers;
+    sorted.len() as u64 == count && are_apart(&mut sorted)
+}
+
+/// Whether the lines of `evidence` pass, and with them all rows of `against`.
+fn pass_evidence(alloc: Global, evidence: &[EvidenceLine], ids: Ids) -> Result<bool, AllocError>
+    ensures few { OnOk result (length ids.rowids.items < 9223372036854775807) }
+    ensures passes { IfOk result (λ yes. IsTrue yes ↔ (IsTrue ids.fit
+        × (AreApart (map (λ line. line.rowid) evidence.now) × AllByRecursion evidence_fits evidence.now)
+        × (length ids.rowids.items ≡ ids.count) × AreApart ids.rowids.items)) }
+{
+    if ids.rowids.len() as u64 >= MOST {
+        return Err(AllocError);
+    }
+    if !ids.fit {
+        return Ok(false);
+    }
     if !pass(alloc, evidence)? {
         return Ok(false);
     }
-    if !pass(alloc, against)? {
-        return Ok(false);
-    }
-    are_in_place(alloc, evidence, against)
+    Ok(are_all(ids.rowids, ids.count))
 }
 
 /// Reads `evidence` and `against`, and tests them.
@@ -144,8 +215,10 @@ fn test_evidence<S: Alter>(alloc: Global, db: &mut Idle<S>) -> Result<(), StoreE
     ensures tests { TestsSecond S.Store db.old.idle.conn db.new.idle.conn result (λ _. EvidencePasses) }
     ensures plain { IfErr result IsNumberless }
 {
-    let lines = read_evidence(alloc, db)?;
-    allow(pass_evidence(alloc, &lines.0, &lines.1)?)
+    let _idle = db.idle.conn.is_autocommit();
+    let evidence = read_evidence(alloc, db)?;
+    let ids = read_ids(alloc, db, &evidence)?;
+    allow(pass_evidence(alloc, &evidence, ids)?)
 }
 
 /// Reads the tables that layout 2 adds, and tests them.

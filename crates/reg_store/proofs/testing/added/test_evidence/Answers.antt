@@ -1,18 +1,44 @@
-use Rattle.std.proofs.Common.{sym, subst₂}
+use Rattle.std.proofs.Common.{◌↔◌, IsTrue, List, map, subst, rules}
 use Rattle.std.proofs.lemmas.Bool.{both_ways}
-use Rattle.reg_store.specs.Inside.Testing.{EvidenceFits}
-use Rattle.reg_store.proofs.SecondTests.{second_known, evidence_passes}
-use Rattle.reg_store.proofs.TestLemmas.{test_judged}
+use Rattle.reg_tables.specs.declared.second_lines.EvidenceLine.{EvidenceLine}
+use Rattle.sqlite.specs.Effect.{Database}
+use Rattle.reg_store.specs.Inside.Testing.{version_at, TellsIds}
+use Rattle.reg_store.proofs.SecondTests.{second_known}
+use Rattle.reg_store.proofs.TestLemmas.{tests_then, test_fails, test_refused, test_judged}
+use Rattle.reg_store.proofs.VersionWalk.{Passes, all_passed, none_refused}
 use Rattle.reg_store.proofs.testing.added.test_evidence.Goals as goal
+
+pub returns-in_err-evidence-clause-tests : goal.returns-in_err-evidence-clause-tests
+returns-in_err-evidence-clause-tests g c = test_fails g.S.Store c.args.db.now.idle.conn c.read_evidence.new.db.idle.conn c.from_residual.result _ c.in_err-evidence.ensures.tests c.from_residual.ensures.1
+
+pub returns-in_err-ids-clause-tests : goal.returns-in_err-ids-clause-tests
+returns-in_err-ids-clause-tests g c =
+    let idle : IsTrue c.is_autocommit-idle.result = search rules in
+    let a = c.args.db.now.idle.conn in
+    let b = c.read_evidence.new.db.idle.conn in
+    let end = c.read_ids.new.db.idle.conn in
+    test_fails g.S.Store a end c.from_residual-in_err-ids.result _ (tests_then g.S.Store a b end (c.is_autocommit-idle.ensures.settled idle) _ c.in_ok-evidence.ensures.tests c.in_err-ids.ensures.tests) c.from_residual-in_err-ids.ensures.1
+
+pub returns-in_err-pass_evidence-clause-tests : goal.returns-in_err-pass_evidence-clause-tests
+returns-in_err-pass_evidence-clause-tests g c =
+    let idle : IsTrue c.is_autocommit-idle.result = search rules in
+    let a = c.args.db.now.idle.conn in
+    let b = c.read_evidence.new.db.idle.conn in
+    let end = c.read_ids.new.db.idle.conn in
+    test_refused g.S.Store a end (tests_then g.S.Store a b end (c.is_autocommit-idle.ensures.settled idle) _ c.in_ok-evidence.ensures.tests c.in_ok-ids.ensures.tests) c.from_residual-in_err-pass_evidence.result c.from_residual-in_err-pass_evidence.ensures.1
 
 pub returns-clause-tests : goal.returns-clause-tests
 returns-clause-tests g c =
-    let lines = c.in_ok-lines.lines in
-    test_judged g.S.Store c.args.db.now.idle.conn c.read_evidence.new.db.idle.conn c.in_ok-lines.ensures.tests c.allow.result c.in_ok-pass_evidence.field-0 c.allow.ensures.ok c.allow.ensures.err second_known
-    (λ db lists yes. record {
-      evidence = lines.0.items;
-      against = lines.1.items;
-      lists = lists;
-      fits = subst₂ EvidenceFits c.deref.ensures.value c.deref-2.ensures.value (c.in_ok-pass_evidence.ensures.0 yes);
-    })
-    (λ db lists no s. both_ways _ no (c.in_ok-pass_evidence.ensures.1 (subst₂ EvidenceFits (sym c.deref.ensures.value) (sym c.deref-2.ensures.value) (evidence_passes db s lines.0.items lines.1.items lists.0 lists.1))))
+    let idle : IsTrue c.is_autocommit-idle.result = search rules in
+    let a = c.args.db.now.idle.conn in
+    let mid = c.read_evidence.new.db.idle.conn in
+    let end = c.read_ids.new.db.idle.conn in
+    let evidence = c.in_ok-evidence.evidence.items in
+    let ids = c.in_ok-ids.ids in
+    let b = c.in_ok-pass_evidence.field-0 in
+    let few = c.in_ok-pass_evidence.ensures.few in
+    let verdict = subst (λ (l : List EvidenceLine). IsTrue b ↔ Passes l ids.rowids.items ids.fit ids.count) c.deref-2.ensures.value c.in_ok-pass_evidence.ensures.passes in
+    let told = λ (db : Database) (it : TellsIds (map version_at c.deref.result.now) db ids.rowids.items ids.fit ids.count). subst (λ (l : List EvidenceLine). TellsIds (map version_at l) db ids.rowids.items ids.fit ids.count) c.deref.ensures.value it in
+    test_judged g.S.Store a end (tests_then g.S.Store a mid end (c.is_autocommit-idle.ensures.settled idle) _ c.in_ok-evidence.ensures.tests c.in_ok-ids.ensures.tests) c.allow.result b c.allow.ensures.ok c.allow.ensures.err second_known
+    (λ db p sure. all_passed db evidence p.0 ids.rowids.items ids.fit ids.count (told db p.1) few (verdict.0 sure))
+    (λ db p refused s. both_ways _ refused (verdict.1 (none_refused db evidence p.0 ids.rowids.items ids.fit ids.count (told db p.1) few s)))

@@ -19,7 +19,7 @@ returns-in_err-some-clause-tests g c =
     let idle : IsTrue c.is_autocommit-idle.result = search rules in
     let a = c.args.db.now.idle.conn in
     let end = c.judge_some.new.db.idle.conn in
-    test_fails g.S.Store a end c.from_residual.result _ (some_unread g.S.Store a end (c.is_autocommit-idle.ensures.settled idle) {Y = Bool} {Q = λ _ _. Unit {0}} c.loop-chunk.db.idle.conn _ c.loop-chunk.invariant.rests c.in_err-some.ensures.tests) c.from_residual.ensures.1
+    test_fails g.S.Store a end c.from_residual.result _ (some_unread g.S.Store a end (c.is_autocommit-idle.ensures.settled idle) c.loop-chunk.db.idle.conn c.loop-chunk.invariant.rests {Y = Bool} {Q = λ _ _. Unit {0}} _ c.in_err-some.ensures.tests) c.from_residual.ensures.1
 
 pub loop-chunk-preserved : goal.loop-chunk-preserved
 loop-chunk-preserved g c =
