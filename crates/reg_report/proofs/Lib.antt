@@ -1,2 +1,4 @@
 pub mod CsvLemmas
+pub mod HeldLemmas
 pub mod KeepingLemmas
+pub mod PrintingLemmas

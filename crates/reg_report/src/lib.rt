@@ -3,8 +3,9 @@
 #![tactic(auto)]
 
 mod error;
+mod held;
 mod lines;
 mod reports;
 
 pub use error::ReportError;
-pub use reports::{list, list_schemas, list_subjects, list_versions};
+pub use reports::{list, list_in_pieces, list_schemas, list_subjects, list_versions};
