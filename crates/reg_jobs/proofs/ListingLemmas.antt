@@ -1,15 +1,19 @@
 -- A listing that was printed, by what the printing answered.
-use Rattle.std.proofs.Common.{◌∷◌, ℕ, List}
-use Rattle.std.specs.Prelude.{Option, Result, Ok, Err, OnOk, OnErr}
-use Rattle.std.specs.Io.KnownBytes.{Appends}
+use Rattle.std.proofs.Common.{◌≡◌, ◌⊎◌, inl, inr, ◌∷◌, ℕ, List, sym, subst}
+use Rattle.std.specs.Prelude.{Option, Result, Ok, Err, OnOk, OnErr, IfErr}
+use Rattle.std.specs.Io.KnownBytes.{Appends, Keeps}
+use Rattle.std.proofs.KnownBytes.{Appends-kept}
 use Rattle.reg_core.specs.Registry.{Registry}
+use Rattle.reg_store.specs.declared.error.StoreError.{StoreError}
 use Rattle.reg_store.specs.declared.listing.Listing.{Listing}
 use Rattle.reg_store.specs.Listings.{listing_lines}
 use Rattle.reg_report.specs.Csv.{IsBegun, header, listing}
 use Rattle.reg_report.specs.StoreAnswers.{store_answer}
 use Rattle.reg_report.specs.declared.error.ReportError.{ReportError}
 use Rattle.reg_report.specs.declared.error.ReportError.TheVariants.{Store, Write, OutOfMemory}
-use Rattle.reg_jobs.specs.Listings.{ListsAs, listed_as}
+use Rattle.reg_jobs.specs.declared.listings.ListOutcome.{ListOutcome}
+use Rattle.reg_jobs.specs.declared.listings.ListOutcome.TheVariants as listed
+use Rattle.reg_jobs.specs.Listings.{IfUnread, ListsAs, listed_as}
 
 -- all of it was written, or so many lines where the registry couldn't be read to its end
 pub ListsAs-printed : (kind : Listing) (g : Registry) (writer writer' : Option (List ℕ)) (printed : Result (Unit {0}) ReportError)
@@ -19,3 +23,27 @@ ListsAs-printed kind g writer writer' (Ok done) whole begun = whole
 ListsAs-printed kind g writer writer' (Err (Store error)) whole begun = begun
 ListsAs-printed kind g writer writer' (Err Write) whole begun = tt
 ListsAs-printed kind g writer writer' (Err OutOfMemory) whole begun = tt
+
+-- what was flushed is as it was written
+ListsAs-kept : (kind : Listing) (g : Registry) (old mid new : Option (List ℕ)) (outcome : ListOutcome) → Keeps mid new → ListsAs kind g old mid outcome → ListsAs kind g old new outcome
+ListsAs-kept kind g old mid new listed.Whole kept lists = Appends-kept old mid new _ lists kept
+ListsAs-kept kind g old mid new (listed.Unread error) kept lists = (lists.0, Appends-kept old mid new _ lists.1 kept)
+ListsAs-kept kind g old mid new listed.NotWritten kept lists = tt
+ListsAs-kept kind g old mid new listed.OutOfMemory kept lists = tt
+
+pub ListsAs-flushed : (kind : Listing) (g : Registry) (old mid new : Option (List ℕ)) (outcome flushed : ListOutcome) → Keeps mid new
+    → (flushed ≡ outcome) ⊎ (flushed ≡ listed.NotWritten) → ListsAs kind g old mid outcome → ListsAs kind g old new flushed
+ListsAs-flushed kind g old mid new outcome flushed kept (inl same) lists = subst (ListsAs kind g old new) (sym same) (ListsAs-kept kind g old mid new outcome kept lists)
+ListsAs-flushed kind g old mid new outcome flushed kept (inr failed) lists = subst (ListsAs kind g old new) (sym failed) tt
+
+-- what holds of the error that the store answered, where the registry couldn't be read
+IfUnread-printed : (P : StoreError → Type 0) (printed : Result (Unit {0}) ReportError) → IfErr (store_answer printed) P → IfUnread (listed_as printed) P
+IfUnread-printed P (Ok done) holds = tt
+IfUnread-printed P (Err (Store error)) holds = holds
+IfUnread-printed P (Err Write) holds = tt
+IfUnread-printed P (Err OutOfMemory) holds = tt
+
+pub IfUnread-flushed : (P : StoreError → Type 0) (printed : Result (Unit {0}) ReportError) (outcome flushed : ListOutcome) → outcome ≡ listed_as printed
+    → (flushed ≡ outcome) ⊎ (flushed ≡ listed.NotWritten) → IfErr (store_answer printed) P → IfUnread flushed P
+IfUnread-flushed P printed outcome flushed is (inl same) holds = subst (λ (o : ListOutcome). IfUnread o P) (sym same) (subst (λ (o : ListOutcome). IfUnread o P) (sym is) (IfUnread-printed P printed holds))
+IfUnread-flushed P printed outcome flushed is (inr failed) holds = subst (λ (o : ListOutcome). IfUnread o P) (sym failed) tt

@@ -1,6 +1,7 @@
 //! Listings of the registry in a database.
 
-ghost use Rattle.std.specs.Prelude.{◌≡◌, false};
+ghost use Rattle.std.specs.Prelude.{◌≡◌, ◌⊎◌, false};
+ghost use Rattle.std.specs.Io.KnownBytes.{Keeps};
 ghost use Rattle.sqlite.specs.Held.{state};
 ghost use Rattle.sqlite.specs.State.{HasCleanDisk};
 ghost use Rattle.reg_core.specs.Stored.{Stored};
@@ -9,7 +10,7 @@ ghost use Rattle.reg_store.specs.Failures.{IsFaultOver};
 ghost use Rattle.reg_store.specs.Stores.{has_failed, state_of, SpellsOn};
 ghost use Rattle.reg_jobs.specs.Listings.{IfUnread, ListsAs, listed_as, table_of};
 
-use reg_report::{ReportError, list};
+use reg_report::{ReportError, list_in_pieces};
 use reg_store::{Listing, Store, StoreError};
 use sqlite::{Alter, Connection};
 use std::alloc::Global;
@@ -51,7 +52,19 @@ fn listed_as(printed: Result<(), ReportError>) -> ListOutcome
     }
 }
 
-/// Prints a listing of a store's registry, and gives its connection back.
+/// How a listing ended, once its writer was flushed too.
+fn flush<W: Write>(writer: &mut W, listed: ListOutcome) -> ListOutcome
+    ensures bytes { Keeps (W.contents writer.old) (W.contents writer.new) }
+    ensures outcome { (result ≡ listed) ⊎ (result ≡ ListOutcome.NotWritten) }
+{
+    match writer.flush() {
+        Ok(()) => listed,
+        Err(_) => ListOutcome::NotWritten,
+    }
+}
+
+/// Prints a listing of a store's registry in pieces, and gives its connection back. The writer is
+/// flushed, and where that fails a write has failed.
 pub fn list_store<W: Write, S: Alter>(
     alloc: Global,
     mut store: Store<S>,
@@ -66,6 +79,7 @@ pub fn list_store<W: Write, S: Alter>(
         → IfUnread result.0 (IsFaultOver (state_of store) (state S.Store result.1)) }
     ensures same { HasCleanDisk (state S.Store result.1) → SpellsOn (state_of store) (state S.Store result.1) }
 {
-    let printed = list(alloc, &mut store, kind, writer);
-    (listed_as(printed), store.into_connection())
+    let printed = list_in_pieces(alloc, &mut store, kind, writer);
+    let listed = flush(writer, listed_as(printed));
+    (listed, store.into_connection())
 }

@@ -1,6 +1,4 @@
-use Rattle.std.proofs.Common.{inl, inr, refl, rules}
-use Rattle.std.specs.Prelude.{IsTrue}
-use Rattle.sqlite.specs.Held.{state}
+use Rattle.std.proofs.Common.{inl, inr, refl}
 use Rattle.reg_jobs.proofs.moving.move_in.Goals as goal
 use Rattle.reg_jobs.proofs.moving.move_in.Goals.{in-Ok, in-Err}
 
