@@ -18,6 +18,7 @@ mod opening;
 mod outcome;
 
 pub use auditing::AuditOutcome;
+pub use avro_nodes::OutOfMemory;
 pub use errors::Errors;
 pub use job::{Opened, do_job, store_in};
 pub use line::report;
