@@ -28,3 +28,16 @@ pub const NOT_SOFT_DELETED: &str =
 
 pub const REUSED: &str =
     "{\"error_code\":42290,\"message\":\"Retry key was used for another request\"}";
+
+pub const READWRITE: &str = "{\"mode\":\"READWRITE\"}";
+
+pub const READONLY: &str = "{\"mode\":\"READONLY\"}";
+
+pub const NO_OWN_MODE: &str =
+    "{\"error_code\":40409,\"message\":\"Subject has no mode of its own\"}";
+
+pub const INVALID_MODE: &str = "{\"error_code\":42204,\"message\":\"Invalid mode\"}";
+
+pub const NOT_PERMITTED: &str = "{\"error_code\":42205,\"message\":\"Operation not permitted\"}";
+
+pub const NO_SUBJECT: &str = "{\"error_code\":40401,\"message\":\"Subject not found\"}";

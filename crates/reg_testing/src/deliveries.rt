@@ -7,20 +7,36 @@ use sqlite::Alter;
 use std::alloc::Global;
 use std::test::Fail;
 
-/// What is asked: of the global level, or of a subject.
+/// What is asked: a command, with texts in the place of the subject, the version, the schema and so on that it names. A
+/// schema is supported, and a version that is deleted is marked.
 #[derive(Clone, Copy)]
 pub enum Ask {
     SetGlobal(&'static str),
     SetLevel(&'static str, &'static str),
-    Global,
-    /// whether the global level stands in for it
-    LevelOf(&'static str, bool),
-    /// the text of a schema
     Register(&'static str, &'static str),
-    /// the number of a version
     DeleteVersion(&'static str, &'static str),
     /// whether for good
     DeleteSubject(&'static str, bool),
+    SetGlobalMode(&'static str),
+    SetMode(&'static str, &'static str),
+    Global,
+    /// whether the global level stands in for it
+    LevelOf(&'static str, bool),
+    GlobalMode,
+    /// whether the global mode stands in for it
+    ModeOf(&'static str, bool),
+    Lookup(&'static str, &'static str),
+    Subjects,
+    /// whether deleted ones are shown
+    Versions(&'static str, bool),
+    Version(&'static str, &'static str),
+    Text(&'static str, &'static str),
+    ById(&'static str),
+    VersionsOfId(&'static str),
+    Types,
+    /// the version, and the schema
+    Check(&'static str, &'static str, &'static str),
+    CheckAll(&'static str, &'static str),
 }
 
 /// A retry key, what is asked, and the status and the body of the answer.
@@ -31,51 +47,95 @@ fn text_of(alloc: Global, text: &str) -> Result<Text, OutOfMemory> {
 }
 
 /// The subject with this text. Each text of the rows is one.
-///
-/// # Errors
-///
-/// `OutOfMemory` where memory for it is refused.
-pub fn subject_of(alloc: Global, text: &str) -> Result<Subject, OutOfMemory> {
+fn subject_of(alloc: Global, text: &str) -> Result<Subject, OutOfMemory> {
     Subject::new(String::from_str(alloc, text)?).ok_or(OutOfMemory)
 }
 
 fn command_of(alloc: Global, ask: Ask) -> Result<Command, OutOfMemory> {
-    match ask {
-        Ask::SetGlobal(level) => Ok(Command::SetGlobal {
+    Ok(match ask {
+        Ask::SetGlobal(level) => Command::SetGlobal {
             level: text_of(alloc, level)?,
-        }),
-        Ask::SetLevel(subject, level) => Ok(Command::SetLevel {
+        },
+        Ask::SetLevel(subject, level) => Command::SetLevel {
             subject: subject_of(alloc, subject)?,
             level: text_of(alloc, level)?,
-        }),
-        Ask::Global => Ok(Command::Global),
-        Ask::LevelOf(subject, default_to_global) => Ok(Command::LevelOf {
+        },
+        Ask::SetGlobalMode(mode) => Command::SetGlobalMode {
+            mode: text_of(alloc, mode)?,
+        },
+        Ask::SetMode(subject, mode) => Command::SetMode {
             subject: subject_of(alloc, subject)?,
-            default_to_global,
-        }),
-        Ask::Register(subject, text) => Ok(Command::Register {
+            mode: text_of(alloc, mode)?,
+        },
+        Ask::Register(subject, text) => Command::Register {
             subject: subject_of(alloc, subject)?,
             text: text_of(alloc, text)?,
             supported: true,
-        }),
-        Ask::DeleteVersion(subject, version) => Ok(Command::DeleteVersion {
+        },
+        Ask::DeleteVersion(subject, version) => Command::DeleteVersion {
             subject: subject_of(alloc, subject)?,
             version: text_of(alloc, version)?,
             permanent: false,
-        }),
-        Ask::DeleteSubject(subject, permanent) => Ok(Command::DeleteSubject {
+        },
+        Ask::DeleteSubject(subject, permanent) => Command::DeleteSubject {
             subject: subject_of(alloc, subject)?,
             permanent,
-        }),
-    }
+        },
+        Ask::Global => Command::Global,
+        Ask::LevelOf(subject, default_to_global) => Command::LevelOf {
+            subject: subject_of(alloc, subject)?,
+            default_to_global,
+        },
+        Ask::GlobalMode => Command::GlobalMode,
+        Ask::ModeOf(subject, default_to_global) => Command::ModeOf {
+            subject: subject_of(alloc, subject)?,
+            default_to_global,
+        },
+        Ask::Subjects => Command::Subjects { deleted: false },
+        Ask::Versions(subject, deleted) => Command::Versions {
+            subject: subject_of(alloc, subject)?,
+            deleted,
+        },
+        Ask::ById(id) => Command::ById {
+            id: text_of(alloc, id)?,
+        },
+        Ask::VersionsOfId(id) => Command::VersionsOfId {
+            id: text_of(alloc, id)?,
+            deleted: false,
+        },
+        Ask::Version(subject, version) => Command::Version {
+            subject: subject_of(alloc, subject)?,
+            version: text_of(alloc, version)?,
+            deleted: false,
+        },
+        Ask::Text(subject, version) => Command::Text {
+            subject: subject_of(alloc, subject)?,
+            version: text_of(alloc, version)?,
+            deleted: false,
+        },
+        Ask::Lookup(subject, text) => Command::Lookup {
+            subject: subject_of(alloc, subject)?,
+            text: text_of(alloc, text)?,
+            supported: true,
+            deleted: false,
+        },
+        Ask::Check(subject, version, text) => Command::Check {
+            subject: subject_of(alloc, subject)?,
+            version: text_of(alloc, version)?,
+            text: text_of(alloc, text)?,
+            supported: true,
+        },
+        Ask::CheckAll(subject, text) => Command::CheckAll {
+            subject: subject_of(alloc, subject)?,
+            text: text_of(alloc, text)?,
+            supported: true,
+        },
+        Ask::Types => Command::Types,
+    })
 }
 
 /// The delivery of a row.
-///
-/// # Errors
-///
-/// `OutOfMemory` where memory for it is refused.
-pub fn delivery_of(alloc: Global, row: &Row) -> Result<Delivery<'static>, OutOfMemory> {
+fn delivery_of(alloc: Global, row: &Row) -> Result<Delivery<'static>, OutOfMemory> {
     Ok(Delivery {
         key: row.0.and_then(|text| Key::parse(text)),
         command: command_of(alloc, row.1)?,
@@ -162,20 +222,4 @@ pub fn answered(replies: &[Reply], rows: &[Row]) -> Result<usize, Fail> {
         }
     }
     Ok(count)
-}
-
-/// Delivers each row, and holds its reply to its answer.
-///
-/// # Errors
-///
-/// A failed test, where another answer comes, or memory is refused.
-pub fn answers_each<S: Alter + Drop>(
-    alloc: Global,
-    service: &mut Service<S>,
-    rows: &[Row],
-) -> Result<(), Fail> {
-    for row in rows {
-        is_answer(&answer(service, &delivery_of(alloc, row)?), row)?;
-    }
-    Ok(())
 }

@@ -7,18 +7,20 @@ pub mod bodies;
 mod databases;
 mod deliveries;
 mod disks;
+mod failed;
 mod messages;
 mod stores;
 mod streams;
 mod writes;
 
-pub use databases::{contents, kept};
+pub use databases::contents;
 pub use deliveries::{
-    Ask, Row, answer, answered, answers, answers_each, answers_in_turn, deliveries_of, delivery_of,
-    is_answer, subject_of,
+    Ask, Row, answer, answered, answers, answers_in_turn, deliveries_of, is_answer,
 };
 pub use disks::{OnDatabase, copy, empty_disk, on_disk};
 pub use messages::{FULL_KEPT, FULL_SET, GET, IS_BACKWARD, IS_FULL, SET_FULL, joined};
-pub use stores::{OnService, created, in_memory, new_service, opened, registry};
-pub use streams::{Failing, Pieces, in_pieces};
+pub use stores::{
+    OnService, connection_of, created, first_registry, in_memory, kept_in_memory, opened, refused,
+};
+pub use streams::{Failing, Pieces};
 pub use writes::WRITES;

@@ -1,67 +1,114 @@
-//! Stores and services over new registries, and stores over those that a database has.
+//! Services over new registries and over those that a database has, and why a database can't be opened.
 
+use crate::databases::kept;
 use crate::disks::{OnDatabase, empty_disk, on_disk};
+use crate::failed::fails_for_good;
 use reg_service::Service;
-use reg_store::Store;
+use reg_store::{Store, StoreError, create_first};
 use sqlite::{Alter, Connection, Files, MemStore};
 use sqlite_disk::{Fuse, Memory};
 use std::alloc::Global;
 use std::test::Fail;
 
-/// A store over a new registry in an empty database.
+/// A service over a new registry in an empty database; the connection, where the disk fails.
 ///
 /// # Errors
 ///
-/// A failed test, where a transaction is open, or no registry can be made.
+/// A failed test, where a transaction is open, or no registry can be made for another reason.
 pub fn created<S: Alter + Drop>(
     alloc: Global,
     connection: Connection<S>,
-) -> Result<Store<S>, Fail> {
+) -> Result<Result<Service<S>, Connection<S>>, Fail> {
     if !connection.is_autocommit() {
         return Err("a transaction is open".into());
     }
     match Store::create(alloc, connection) {
-        Ok(store) => Ok(store),
+        Ok(store) => Ok(Ok(Service::new(alloc, store))),
+        Err((StoreError::Disk, connection)) => Ok(Err(connection)),
         Err((error, _)) => Err(error.into()),
     }
 }
 
-/// A store over the registry that a database has.
+/// A service over the registry that a database has.
 ///
 /// # Errors
 ///
 /// A failed test, where a transaction is open, or the database is no registry.
-pub fn opened<S: Alter + Drop>(alloc: Global, connection: Connection<S>) -> Result<Store<S>, Fail> {
+pub fn opened<S: Alter + Drop>(
+    alloc: Global,
+    connection: Connection<S>,
+) -> Result<Service<S>, Fail> {
     if !connection.is_autocommit() {
         return Err("a transaction is open".into());
     }
     match Store::open(alloc, connection) {
-        Ok(store) => Ok(store),
+        Ok(store) => Ok(Service::new(alloc, store)),
         Err((error, _)) => Err(error.into()),
     }
 }
 
-/// Makes a new registry in an empty database.
-#[derive(Drop)]
-struct Create;
-
-impl OnDatabase for Create {
-    fn work<S: Alter + Drop>(
-        &mut self,
-        alloc: Global,
-        connection: Connection<S>,
-    ) -> Result<Connection<S>, Fail> {
-        Ok(created(alloc, connection)?.into_connection())
+/// Why a database can't be opened, if it can't.
+///
+/// # Errors
+///
+/// A failed test, where a transaction is open.
+pub fn refused<S: Alter + Drop>(
+    alloc: Global,
+    connection: Connection<S>,
+) -> Result<(Option<StoreError>, Connection<S>), Fail> {
+    if !connection.is_autocommit() {
+        return Err("a transaction is open".into());
+    }
+    match Store::open(alloc, connection) {
+        Ok(store) => Ok((None, store.into_connection())),
+        Err((error, connection)) => Ok((Some(error), connection)),
     }
 }
 
-/// The files of a new registry.
+/// The connection of a service. Where the service has failed, each call on its store answers so.
+///
+/// # Errors
+///
+/// A failed test, where a call answers otherwise, or memory is refused.
+pub fn connection_of<S: Alter + Drop>(
+    alloc: Global,
+    service: Service<S>,
+) -> Result<Connection<S>, Fail> {
+    let mut store = service.into_store();
+    if store.failed() {
+        fails_for_good(alloc, &mut store)?;
+    }
+    Ok(store.into_connection())
+}
+
+/// Makes a registry of layout 1 in an empty database, and executes statements.
+#[derive(Drop)]
+struct CreateFirst<'a> {
+    statements: &'a str,
+}
+
+impl<'a> OnDatabase for CreateFirst<'a> {
+    fn work<S: Alter + Drop>(
+        &mut self,
+        _: Global,
+        mut connection: Connection<S>,
+    ) -> Result<Connection<S>, Fail> {
+        if !connection.is_autocommit() {
+            return Err("a transaction is open".into());
+        }
+        create_first(&mut connection)?;
+        connection.execute_batch(self.statements)?;
+        Ok(connection)
+    }
+}
+
+/// The files of a registry of layout 1, which has what these statements put into it.
 ///
 /// # Errors
 ///
 /// A failed test, where no registry can be made.
-pub fn registry(alloc: Global) -> Result<Files<Fuse<Memory>>, Fail> {
-    let (files, closed) = on_disk(alloc, empty_disk(alloc), &mut Create)?;
+pub fn first_registry(alloc: Global, statements: &str) -> Result<Files<Fuse<Memory>>, Fail> {
+    let (files, closed) = on_disk(alloc, empty_disk(alloc), &mut CreateFirst { statements })?;
     if !closed {
         return Err("no registry was made".into());
     }
@@ -69,11 +116,7 @@ pub fn registry(alloc: Global) -> Result<Files<Fuse<Memory>>, Fail> {
 }
 
 /// A service over a new registry in memory. At most one request for memory is refused.
-///
-/// # Errors
-///
-/// A failed test, where memory is refused twice.
-pub fn new_service(alloc: Global) -> Result<Service<MemStore>, Fail> {
+fn new_service(alloc: Global) -> Result<Service<MemStore>, Fail> {
     for _ in 0..2 {
         if let Ok(connection) = Connection::open_in_memory(alloc)
             && let Ok(store) = Store::create(alloc, connection)
@@ -91,7 +134,11 @@ pub trait OnService {
     /// # Errors
     ///
     /// A failed test.
-    fn work<S: Alter + Drop>(&mut self, alloc: Global, service: Service<S>) -> Result<(), Fail>;
+    fn work<S: Alter + Drop>(
+        &mut self,
+        alloc: Global,
+        service: &mut Service<S>,
+    ) -> Result<(), Fail>;
 }
 
 /// Does it with a service over a new registry in memory. At most one request for memory is refused before.
@@ -100,5 +147,16 @@ pub trait OnService {
 ///
 /// A failed test, as the task says, or where memory is refused twice before.
 pub fn in_memory<T: OnService>(alloc: Global, task: &mut T) -> Result<(), Fail> {
-    task.work(alloc, new_service(alloc)?)
+    task.work(alloc, &mut new_service(alloc)?)
+}
+
+/// Does it with a service over a new registry in memory, and tells what is kept then.
+///
+/// # Errors
+///
+/// A failed test, as the task says, or where memory is refused.
+pub fn kept_in_memory<T: OnService>(alloc: Global, task: &mut T) -> Result<String, Fail> {
+    let mut service = new_service(alloc)?;
+    task.work(alloc, &mut service)?;
+    kept(alloc, &mut service.into_store().into_connection())
 }

@@ -23,15 +23,6 @@ impl<'a> Read for Pieces<'a> {
     }
 }
 
-/// The text, of which each read gives so many bytes.
-pub fn in_pieces(text: &[u8], size: usize) -> Pieces<'_> {
-    Pieces {
-        left: text,
-        size,
-        reads: usize::MAX,
-    }
-}
-
 /// A writer that takes a byte at a time, and fails or takes nothing once its writes are used up.
 #[derive(Drop)]
 pub struct Failing {
