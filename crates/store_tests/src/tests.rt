@@ -4,4 +4,3 @@ mod faults;
 mod moving;
 mod plans;
 mod stops;
-mod stores;

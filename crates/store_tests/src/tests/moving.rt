@@ -3,8 +3,8 @@
 
 use super::faults::Fault;
 use reg_migrate::{MigrateError, Report, migrate};
-use reg_store::{Store, StoreError, create_first};
-use reg_testing::{OnDatabase, contents, copy, empty_disk, on_disk};
+use reg_store::StoreError;
+use reg_testing::{OnDatabase, contents, copy, first_registry, joined, on_disk, refused};
 use sqlite::{Alter, Connection, Files};
 use sqlite_disk::{Fuse, Memory};
 use std::alloc::Global;
@@ -19,31 +19,17 @@ const FILLED: &str =
 /// What is reported of it.
 const COUNTED: Report = Report { versions: 3 };
 
-/// What a database of layout 1 shows, and one of layout 2, in the rows of `meta`.
+/// What its database shows at its end in each layout: the rows before those of `meta`, these, and those behind them.
+const BEFORE: &str =
+    "kept|k1 200 [\"set-global\",\"FULL\"]|{\"compatibility\":\"FULL\"}|\nkept|k2 404 [\"delete-subject\",\"z\",false]|{\"error_code\":40401,\"message\":\"Subject not found\"}|\nlevel|s|NONE|\nlevel|u|FORWARD|\n";
+
 const FIRST: &str = "meta|format|avroreg|\nmeta|global|FULL|\nmeta|layout|1|\n";
 
 const SECOND: &str =
     "meta|format|avroreg|\nmeta|global|FULL|\nmeta|layout|2|\nmeta|mode|READWRITE|\n";
 
-/// Makes the registry in an empty database.
-#[derive(Drop)]
-struct Make;
-
-impl OnDatabase for Make {
-    fn work<S: Alter + Drop>(
-        &mut self,
-        _: Global,
-        connection: Connection<S>,
-    ) -> Result<Connection<S>, Fail> {
-        if !connection.is_autocommit() {
-            return Err("a transaction is open".into());
-        }
-        let (made, mut connection) = create_first(connection);
-        made?;
-        connection.execute_batch(FILLED)?;
-        Ok(connection)
-    }
-}
+const BEHIND: &str =
+    "text|1|\"int\"|\ntext|2|\"string\"|\nversion|s 1|1 1|\nversion|s 2|2 0|\nversion|t 1|1 0|\n";
 
 /// What moving a database answers.
 fn moved<S: Alter + Drop>(
@@ -54,20 +40,6 @@ fn moved<S: Alter + Drop>(
         return Err("a transaction is open".into());
     }
     Ok(migrate(alloc, connection))
-}
-
-/// Why a database can't be opened, if it can't.
-fn refused<S: Alter + Drop>(
-    alloc: Global,
-    connection: Connection<S>,
-) -> Result<(Option<StoreError>, Connection<S>), Fail> {
-    if !connection.is_autocommit() {
-        return Err("a transaction is open".into());
-    }
-    match Store::open(alloc, connection) {
-        Ok(store) => Ok((None, store.into_connection())),
-        Err((error, connection)) => Ok((Some(error), connection)),
-    }
 }
 
 /// Moves a database whose disk may fail.
@@ -137,30 +109,13 @@ fn moved_again(alloc: Global, files: Files<Fuse<Memory>>) -> Result<Again, Fail>
     Ok(task)
 }
 
-/// How the lines of rows begin, but for those of `meta`.
-const KINDS: [&str; 7] = [
-    "against|",
-    "evidence|",
-    "kept|",
-    "level|",
-    "mode|",
-    "text|",
-    "version|",
-];
-
-/// The rows of a registry without those of `meta`, from what its database holds.
-fn rows(alloc: Global, text: &str) -> Result<Vec<&str>, Fail> {
-    let is_row = |line: &&str| KINDS.iter().any(|kind| line.starts_with(kind));
-    Ok(text.lines().filter(is_row).collect(alloc)?)
-}
-
 impl Again {
     /// The rows stay, none comes, and those of `meta` are those of layout 2.
     fn keeps_rows(&self, rt: &impl Abort, alloc: Global) -> Result<(), Fail> {
-        let found = rows(alloc, &self.found)?;
-        assert_eq!(rt; found.len(), 9);
-        assert!(rt; found == rows(alloc, &self.left)?);
-        assert!(rt; self.found.contains(FIRST) && self.left.contains(SECOND));
+        let found = joined(alloc, &[BEFORE, FIRST, BEHIND])?;
+        let left = joined(alloc, &[BEFORE, SECOND, BEHIND])?;
+        assert!(rt; self.found.ends_with(found.as_str()), "{}", self.found);
+        assert!(rt; self.left.ends_with(left.as_str()), "{}", self.left);
         Ok(())
     }
 }
@@ -174,8 +129,7 @@ struct OldRegistry {
 
 /// The registry.
 fn old_registry(rt: &impl Abort, alloc: Global) -> Result<OldRegistry, Fail> {
-    let (files, closed) = on_disk(alloc, empty_disk(alloc), &mut Make)?;
-    assert!(rt; closed);
+    let files = first_registry(alloc, FILLED)?;
     let whole = moved_again(alloc, copy(alloc, &files, u64::MAX, u64::MAX)?)?;
     whole.keeps_rows(rt, alloc)?;
     Ok(OldRegistry { files, whole })

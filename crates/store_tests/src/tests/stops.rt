@@ -5,10 +5,9 @@
 use super::faults::Fault;
 use reg_core::{OutOfMemory, Reply};
 use reg_service::Service;
-use reg_store::{Store, StoreError};
 use reg_testing::{
-    OnDatabase, Row, WRITES, answered, answers, answers_in_turn, contents, created, deliveries_of,
-    empty_disk, on_disk, opened,
+    OnDatabase, Row, WRITES, answered, answers, answers_in_turn, connection_of, contents, created,
+    deliveries_of, empty_disk, on_disk, opened,
 };
 use sqlite::{Alter, Connection, Files};
 use sqlite_disk::{Crash, Fuse, Memory};
@@ -68,19 +67,12 @@ impl OnDatabase for Stop {
         alloc: Global,
         connection: Connection<S>,
     ) -> Result<Connection<S>, Fail> {
-        if !connection.is_autocommit() {
-            return Err("a transaction is open".into());
-        }
-        match Store::create(alloc, connection) {
-            Ok(store) => {
-                let mut service = Service::new(alloc, store);
-                let delivered = self.deliver(alloc, &mut service);
-                let connection = service.into_store().into_connection();
-                delivered?;
-                Ok(connection)
+        match created(alloc, connection)? {
+            Ok(mut service) => {
+                self.deliver(alloc, &mut service)?;
+                connection_of(alloc, service)
             }
-            Err((StoreError::Disk, connection)) => Ok(connection),
-            Err((error, _)) => Err(error.into()),
+            Err(connection) => Ok(connection),
         }
     }
 }
@@ -120,15 +112,16 @@ impl OnDatabase for Again {
         mut connection: Connection<S>,
     ) -> Result<Connection<S>, Fail> {
         self.found = contents(alloc, &mut connection)?;
-        let store = if self.found.is_empty() {
-            created(alloc, connection)?
+        let mut service = if self.found.is_empty() {
+            match created(alloc, connection)? {
+                Ok(service) => service,
+                Err(_) => return Err("the disk failed".into()),
+            }
         } else {
             opened(alloc, connection)?
         };
-        let mut service = Service::new(alloc, store);
-        let delivered = self.deliver(alloc, &mut service);
-        let mut connection = service.into_store().into_connection();
-        delivered?;
+        self.deliver(alloc, &mut service)?;
+        let mut connection = connection_of(alloc, service)?;
         self.left = contents(alloc, &mut connection)?;
         Ok(connection)
     }
@@ -202,14 +195,9 @@ impl Fault {
         )?;
         let again = deliver(alloc, self.left(alloc, files)?, way, WRITES.len())?;
         let rest = stages.get(stop.done..).ok_or("there are fewer stages")?;
-        let is_due = rest
-            .iter()
-            .take(2)
-            .any(|stage| stage.as_str() == again.found.as_str());
+        let is_due = rest[..rest.len().min(2)].contains(&again.found);
         assert!(rt; is_due, "after {calls} calls: {}", again.found);
-        let is_last = stages
-            .last()
-            .is_some_and(|stage| stage.as_str() == again.left.as_str());
+        let is_last = stages.last() == Some(&again.left);
         assert!(rt; is_last, "after {calls} calls: {}", again.left);
         Ok(closed && rest.len() == 1)
     }
