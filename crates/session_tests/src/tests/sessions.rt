@@ -1,13 +1,14 @@
-//! Sessions whose input comes whole and in pieces, ends early, or fails.
+//! Sessions whose reads and writes fail in turn, and a body that is cut.
 
 use reg_http::{Ended, serve};
 use reg_service::Service;
 use reg_testing::{
-    FULL_KEPT, FULL_SET, Failing, OnService, Pieces, SET_FULL, in_memory, in_pieces, joined, kept,
+    FULL_KEPT, FULL_SET, Failing, OnService, Pieces, SET_FULL, in_memory, joined, kept_in_memory,
 };
 use sqlite::Alter;
 use std::alloc::Global;
 use std::io::{Read, Write};
+use std::process::Abort;
 use std::test::Fail;
 
 /// Serves a connection, without a promise.
@@ -23,20 +24,6 @@ pub(super) fn served<R: Read, W: Write, S: Alter + Drop>(
 /// Bytes, and how the session over them ends.
 pub(super) type Due<'a> = (&'a str, Ended);
 
-/// Holds what is written for an input that comes in pieces of so many bytes, and how it ends.
-fn expect<S: Alter + Drop>(
-    alloc: Global,
-    service: &mut Service<S>,
-    input: &str,
-    size: usize,
-    due: Due,
-) -> Result<(), Fail> {
-    let mut written = Vec::new(alloc);
-    let mut reader = in_pieces(input.as_bytes(), size);
-    let ended = served(alloc, &mut reader, &mut written, service);
-    is_due(written.as_slice(), ended, due)
-}
-
 /// Holds what was written, and how it ended, to what is due.
 pub(super) fn is_due(written: &[u8], ended: Ended, due: Due) -> Result<(), Fail> {
     if written == due.0.as_bytes() && ended == due.1 {
@@ -50,9 +37,9 @@ pub(super) fn is_due(written: &[u8], ended: Ended, due: Due) -> Result<(), Fail>
 }
 
 /// A message whose body comes in chunks, which is a fault, and the answer to that.
-const CHUNKED: &str = "PUT /config HTTP/1.1\r\nTransfer-Encoding: chunked\r\n\r\n";
+pub(super) const CHUNKED: &str = "PUT /config HTTP/1.1\r\nTransfer-Encoding: chunked\r\n\r\n";
 
-const NOT_SUPPORTED: &str =
+pub(super) const NOT_SUPPORTED: &str =
     "HTTP/1.1 501 Not Implemented\r\nContent-Type: application/vnd.schemaregistry.v1+json\r\nContent-Length: 60\r\nConnection: close\r\n\r\n{\"error_code\":501,\"message\":\"Transfer coding not supported\"}";
 
 /// Two messages, or one before a fault, with the answers to them and how the session ends.
@@ -65,83 +52,91 @@ const SESSIONS: [([&str; 2], [&str; 2], Ended); 2] = [
     ),
 ];
 
-/// Serves an input in pieces of so many bytes.
-#[derive(Drop)]
-struct Serve<'a> {
-    input: &'a str,
+/// A connection: so many bytes a read and one a write, until reads or writes are used up and fail, or writes take nothing.
+#[derive(Clone, Copy)]
+struct Connection<'a> {
     size: usize,
-    due: Due<'a>,
-}
-
-impl<'a> OnService for Serve<'a> {
-    fn work<S: Alter + Drop>(
-        &mut self,
-        alloc: Global,
-        mut service: Service<S>,
-    ) -> Result<(), Fail> {
-        expect(alloc, &mut service, self.input, self.size, self.due)
-    }
-}
-
-/// The same, in pieces of several sizes.
-fn serve_in_pieces<'a>(alloc: Global, input: &'a str, due: Due<'a>) -> Result<(), Fail> {
-    for size in [1, 3, 64, 1_000_000] {
-        in_memory(alloc, &mut Serve { input, size, due })?;
-    }
-    Ok(())
-}
-
-/// No contract refuses a `serve` that ends for want of memory before it reads. This does.
-#[test]
-fn serve_gives_up_at_once(rt: HostRuntime) -> Result<(), Fail> {
-    for (input, output, ended) in SESSIONS {
-        let input = joined(rt.alloc(), &input)?;
-        let output = joined(rt.alloc(), &output)?;
-        serve_in_pieces(rt.alloc(), input.as_str(), (output.as_str(), ended))?;
-    }
-    Ok(())
-}
-
-/// Serves the same once more, on the same service: it is answered whole, and kept once.
-fn is_repeated<S: Alter + Drop>(
-    alloc: Global,
-    mut service: Service<S>,
-    input: &str,
-    due: Due,
-) -> Result<(), Fail> {
-    expect(alloc, &mut service, input, 1000, due)?;
-    let mut connection = service.into_store().into_connection();
-    if kept(alloc, &mut connection)?.as_str() == FULL_KEPT {
-        return Ok(());
-    }
-    Err("another reply is kept".into())
-}
-
-/// Serves an input a byte a read, until a read fails, and then again.
-#[derive(Drop)]
-struct FailToRead<'a> {
-    input: &'a str,
     reads: usize,
-    due: &'a str,
-    whole: Due<'a>,
+    writes: usize,
+    takes_nothing: bool,
+    due: Due<'a>,
+    /// How it ends where nothing was read.
+    unread: Ended,
 }
 
-impl<'a> OnService for FailToRead<'a> {
-    fn work<S: Alter + Drop>(
-        &mut self,
+/// One that doesn't fail.
+fn whole<'a>(due: Due<'a>) -> Connection<'a> {
+    Connection {
+        size: 1000,
+        reads: usize::MAX,
+        writes: usize::MAX,
+        takes_nothing: false,
+        due,
+        unread: due.1,
+    }
+}
+
+impl<'a> Connection<'a> {
+    /// Serves the input over it.
+    fn serve<S: Alter + Drop>(
+        self,
         alloc: Global,
-        mut service: Service<S>,
+        input: &str,
+        service: &mut Service<S>,
     ) -> Result<(), Fail> {
-        let mut written = Vec::new(alloc);
         let mut reader = Pieces {
-            left: self.input.as_bytes(),
-            size: 1,
+            left: input.as_bytes(),
+            size: self.size,
             reads: self.reads,
         };
-        let ended = served(alloc, &mut reader, &mut written, &mut service);
-        is_due(written.as_slice(), ended, (self.due, Ended::ReadFailed))?;
-        is_repeated(alloc, service, self.input, self.whole)
+        let mut writer = Failing {
+            taken: Vec::new(alloc),
+            writes: self.writes,
+            takes_nothing: self.takes_nothing,
+        };
+        let ended = served(alloc, &mut reader, &mut writer, service);
+        let due = if reader.left.len() == input.len() {
+            self.unread
+        } else {
+            self.due.1
+        };
+        is_due(writer.taken.as_slice(), ended, (self.due.0, due))
     }
+}
+
+/// An input, and the connections over which it is sent, one after the other.
+#[derive(Drop)]
+struct Sent<'a> {
+    input: &'a str,
+    over: &'a [Connection<'a>],
+}
+
+impl<'a> OnService for Sent<'a> {
+    fn work<S: Alter + Drop>(
+        &mut self,
+        alloc: Global,
+        service: &mut Service<S>,
+    ) -> Result<(), Fail> {
+        for connection in self.over {
+            connection.serve(alloc, self.input, service)?;
+        }
+        Ok(())
+    }
+}
+
+/// Sends an input over a connection that fails, and once more over one that doesn't: it is kept once.
+fn is_repeated(
+    rt: &impl Abort,
+    alloc: Global,
+    input: &str,
+    failing: Connection<'_>,
+    due: Due,
+) -> Result<(), Fail> {
+    let over = [failing, whole(due)];
+    let mut task = Sent { input, over: &over };
+    let kept = kept_in_memory(alloc, &mut task)?;
+    assert_eq!(rt; kept.as_str(), FULL_KEPT);
+    Ok(())
 }
 
 /// A byte a read, each read fails in turn, that which would give the end too: what was read whole was answered.
@@ -158,57 +153,10 @@ fn each_read_fails_in_turn(rt: HostRuntime) -> Result<(), Fail> {
         } else {
             output.as_str()
         };
-        let mut task = FailToRead {
-            input: input.as_str(),
-            reads,
-            due,
-            whole: (output.as_str(), Ended::Closed),
-        };
-        in_memory(alloc, &mut task)?;
-    }
-    Ok(())
-}
-
-/// Serves an input a byte a write, until a write fails or takes nothing, and then again.
-#[derive(Drop)]
-struct FailToWrite<'a> {
-    input: &'a str,
-    writes: usize,
-    takes_nothing: bool,
-    whole: Due<'a>,
-}
-
-impl<'a> OnService for FailToWrite<'a> {
-    fn work<S: Alter + Drop>(
-        &mut self,
-        alloc: Global,
-        mut service: Service<S>,
-    ) -> Result<(), Fail> {
-        let mut writer = Failing {
-            taken: Vec::new(alloc),
-            writes: self.writes,
-            takes_nothing: self.takes_nothing,
-        };
-        let mut reader = in_pieces(self.input.as_bytes(), 1000);
-        let ended = served(alloc, &mut reader, &mut writer, &mut service);
-        let front = self.whole.0.get(..self.writes).ok_or("no beginning")?;
-        is_due(writer.taken.as_slice(), ended, (front, Ended::WriteFailed))?;
-        is_repeated(alloc, service, self.input, self.whole)
-    }
-}
-
-/// The same, with each write in turn.
-fn fail_each_write<'a>(alloc: Global, input: &'a str, whole: Due<'a>) -> Result<(), Fail> {
-    for writes in 0..whole.0.len() {
-        for takes_nothing in [false, true] {
-            let mut task = FailToWrite {
-                input,
-                writes,
-                takes_nothing,
-                whole,
-            };
-            in_memory(alloc, &mut task)?;
-        }
+        let mut failing = whole((due, Ended::ReadFailed));
+        failing.size = 1;
+        failing.reads = reads;
+        is_repeated(&rt, alloc, &input, failing, (&output, Ended::Closed))?;
     }
     Ok(())
 }
@@ -216,50 +164,38 @@ fn fail_each_write<'a>(alloc: Global, input: &'a str, whole: Due<'a>) -> Result<
 /// A byte a write, each write fails in turn, or takes nothing: written is a beginning of the answers, and of a fault's.
 #[test]
 fn each_write_fails_in_turn(rt: HostRuntime) -> Result<(), Fail> {
+    let alloc = rt.alloc();
     for (input, output, ended) in SESSIONS {
-        let input = joined(rt.alloc(), &input)?;
-        let output = joined(rt.alloc(), &output)?;
-        fail_each_write(rt.alloc(), input.as_str(), (output.as_str(), ended))?;
+        let input = joined(alloc, &input)?;
+        let output = joined(alloc, &output)?;
+        for writes in 0..output.len() {
+            let front = output.get(..writes).ok_or("no beginning")?;
+            for takes_nothing in [false, true] {
+                let mut failing = whole((front, Ended::WriteFailed));
+                failing.writes = writes;
+                failing.takes_nothing = takes_nothing;
+                is_repeated(&rt, alloc, &input, failing, (&output, ended))?;
+            }
+        }
     }
     Ok(())
-}
-
-/// Serves a body that is cut.
-#[derive(Drop)]
-struct ServeCut<'a> {
-    input: &'a str,
-}
-
-impl<'a> OnService for ServeCut<'a> {
-    fn work<S: Alter + Drop>(
-        &mut self,
-        alloc: Global,
-        mut service: Service<S>,
-    ) -> Result<(), Fail> {
-        let mut reader = in_pieces(self.input.as_bytes(), 1000);
-        let mut written = Vec::new(alloc);
-        let ended = served(alloc, &mut reader, &mut written, &mut service);
-        let is_unread = reader.left.len() == self.input.len();
-        let due = if is_unread {
-            Ended::Memory
-        } else {
-            Ended::Malformed
-        };
-        is_due(written.as_slice(), ended, ("", due))
-    }
 }
 
 /// A body that is cut has no answer. Where room is refused, nothing was read: with each request for memory refused in
 /// turn, so is each that comes before the first read, and none comes after it.
 #[test]
 fn a_cut_body_has_no_answer(rt: HostRuntime) -> Result<(), Fail> {
-    let body = " ".repeat(rt.alloc(), 1_000_000)?;
+    let alloc = rt.alloc();
+    let body = " ".repeat(alloc, 1_000_000)?;
     let head = "PUT /config HTTP/1.1\r\nContent-Length: 1048576\r\n\r\n";
-    let input = joined(rt.alloc(), &[head, body.as_str()])?;
-    in_memory(
-        rt.alloc(),
-        &mut ServeCut {
-            input: input.as_str(),
-        },
-    )
+    let input = joined(alloc, &[head, &body])?;
+    let nothing = input.get(..0).ok_or("no beginning")?;
+    let mut cut = whole((nothing, Ended::Malformed));
+    cut.unread = Ended::Memory;
+    let over = [cut];
+    let mut task = Sent {
+        input: input.as_str(),
+        over: &over,
+    };
+    in_memory(alloc, &mut task)
 }

@@ -1,6 +1,6 @@
 //! Who speaks on a connection: no byte is read while a whole message that was read has no answer.
 
-use super::sessions::{is_due, served};
+use super::sessions::{CHUNKED, Due, NOT_SUPPORTED, is_due, served};
 use reg_http::Ended;
 use reg_service::Service;
 use reg_testing::{FULL_SET, OnService, SET_FULL, in_memory, joined};
@@ -10,7 +10,8 @@ use std::cell::Cell;
 use std::io::{self, Read, Write};
 use std::test::Fail;
 
-/// Equal messages, so many bytes a read. Fails where one that was given whole has no answer yet.
+/// Messages, so many bytes a read. Fails where there are fewer answers than the bytes that were given make whole messages
+/// of one length: the last may be shorter.
 #[derive(Drop)]
 struct Asking<'a> {
     left: &'a [u8],
@@ -51,19 +52,19 @@ impl<'a> Write for Taking<'a> {
     }
 }
 
-/// Serves equal messages, so many bytes a read, each of which is answered before the next read.
+/// Messages, so many bytes a read, each of which is answered before the next read.
 #[derive(Drop)]
 struct TakeTurns<'a> {
     input: &'a str,
-    output: &'a str,
     size: usize,
+    due: Due<'a>,
 }
 
 impl<'a> OnService for TakeTurns<'a> {
     fn work<S: Alter + Drop>(
         &mut self,
         alloc: Global,
-        mut service: Service<S>,
+        service: &mut Service<S>,
     ) -> Result<(), Fail> {
         let answers = Cell::new(0);
         let mut reader = Asking {
@@ -76,26 +77,32 @@ impl<'a> OnService for TakeTurns<'a> {
             taken: Vec::new(alloc),
             answers: &answers,
         };
-        let ended = served(alloc, &mut reader, &mut writer, &mut service);
+        let ended = served(alloc, &mut reader, &mut writer, service);
         if answers.get() != 3 {
             return Err("there are more or fewer answers".into());
         }
-        is_due(writer.taken.as_slice(), ended, (self.output, Ended::Closed))
+        is_due(writer.taken.as_slice(), ended, self.due)
     }
 }
 
+/// Serves them over a new registry.
+fn take_turns<'a>(alloc: Global, input: &'a str, size: usize, due: Due<'a>) -> Result<(), Fail> {
+    in_memory(alloc, &mut TakeTurns { input, size, due })
+}
+
+/// No contract refuses a `serve` that ends for want of memory before it reads. This does too.
 #[test]
 fn each_message_is_answered_before_the_next_read(rt: HostRuntime) -> Result<(), Fail> {
     let alloc = rt.alloc();
-    let input = joined(alloc, &[SET_FULL, SET_FULL, SET_FULL])?;
-    let output = joined(alloc, &[FULL_SET, FULL_SET, FULL_SET])?;
-    for size in [1, 50, SET_FULL.len(), 150, 1000] {
-        let mut task = TakeTurns {
-            input: input.as_str(),
-            output: output.as_str(),
-            size,
-        };
-        in_memory(alloc, &mut task)?;
+    for (last, answer, ended) in [
+        (SET_FULL, FULL_SET, Ended::Closed),
+        (CHUNKED, NOT_SUPPORTED, Ended::Malformed),
+    ] {
+        let input = joined(alloc, &[SET_FULL, SET_FULL, last])?;
+        let output = joined(alloc, &[FULL_SET, FULL_SET, answer])?;
+        for size in [1, 3, 50, 64, SET_FULL.len(), 150, 1000] {
+            take_turns(alloc, input.as_str(), size, (output.as_str(), ended))?;
+        }
     }
     Ok(())
 }
