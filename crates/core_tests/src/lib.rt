@@ -1,5 +1,4 @@
-//! Tests of schemas, of the plain registry, of messages and of words: of what stands below the database, and no program
-//! shows.
+//! Tests of schemas, of the plain registry and of messages: of what stands below the database, and no program shows.
 
 #![tactic(auto)]
 

@@ -4,8 +4,10 @@
 use avro_resolve::{Verdict, resolves, resolves_itself, resolves_plain};
 use avro_schema::Schema;
 use avro_testing::{Text, random_text, text_of};
-use reg_core::{Level, admits};
+use reg_core::{Level, admits, goes_with};
+use schema_memory::Memory;
 use std::alloc::Global;
+use std::process::Abort;
 use std::test::Fail;
 
 /// Whether a writer, before the arrow, resolves with a reader.
@@ -104,22 +106,59 @@ no FULL "int" => "long"
 no FULL "long" => "int"
 no FULL_TRANSITIVE "int" => "bytes" => "string"
 yes FULL_TRANSITIVE "string" => "bytes" => "string"
-yes NONE "int" => "string""#;
+yes NONE "int" => "string"
+yes BACKWARD "int" => "long"
+no BACKWARD "long" => "int"
+yes BACKWARD_TRANSITIVE "int" => "long"
+no BACKWARD_TRANSITIVE "long" => "int"
+no FORWARD "int" => "long"
+yes FORWARD_TRANSITIVE "long" => "int"
+no FORWARD_TRANSITIVE "int" => "long"
+no FULL_TRANSITIVE "int" => "long"
+no FULL_TRANSITIVE "long" => "int"
+yes NONE "long" => "int"
+yes NONE "int" => "long""#;
+
+/// The schemas that the texts denote.
+fn schemas_of(alloc: Global, texts: &str) -> Result<Vec<Schema>, Fail> {
+    let mut schemas = Vec::new(alloc);
+    for text in texts.split(" => ") {
+        schemas.push(Schema::read(alloc, text)?)?;
+    }
+    Ok(schemas)
+}
+
+/// Whether a new schema goes with an earlier one, as an audit asks it.
+fn goes(alloc: Global, level: Level, earlier: &str, new: &Schema) -> Result<bool, Fail> {
+    Ok(goes_with(alloc, level, 1, earlier, new, &mut Memory::new())?)
+}
+
+/// Holds what a level answers to what is due. Where one schema is before the last, that goes with it or doesn't.
+fn is_admitted(
+    rt: &impl Abort,
+    alloc: Global,
+    level: Level,
+    texts: &str,
+    yes: bool,
+) -> Result<(), Fail> {
+    let mut schemas = schemas_of(alloc, texts)?;
+    let new = schemas.pop().ok_or("a row without a schema")?;
+    assert_eq!(rt; admits(alloc, level, &schemas, &new)?, yes, "{texts}");
+    if let Some((earlier, _)) = texts.split_once(" => ")
+        && schemas.len() == 1
+    {
+        assert_eq!(rt; goes(alloc, level, earlier, &new)?, yes, "{texts}");
+    }
+    Ok(())
+}
 
 #[test]
 fn levels_admit(rt: HostRuntime) -> Result<(), Fail> {
-    let alloc = rt.alloc();
     for row in ADMISSIONS.lines() {
         let (want, rest) = row.split_once(' ').ok_or("a row without an answer")?;
         let (level, texts) = rest.split_once(' ').ok_or("a row without a level")?;
-        let mut schemas = Vec::new(alloc);
-        for text in texts.split(" => ") {
-            schemas.push(Schema::read(alloc, text)?)?;
-        }
-        let new = schemas.pop().ok_or("a row without a schema")?;
         let level = Level::parse(level).ok_or("a row with another level")?;
-        let admitted = admits(alloc, level, &schemas, &new)?;
-        assert_eq!(rt; admitted, want == "yes", "{row}");
+        is_admitted(&rt, rt.alloc(), level, texts, want == "yes")?;
     }
     Ok(())
 }

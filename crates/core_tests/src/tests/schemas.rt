@@ -5,53 +5,6 @@ use avro_schema::{Schema, identity_denotes};
 use std::alloc::{AllocError, Global};
 use std::test::Fail;
 
-/// Texts that denote a schema, each before its identity text.
-const READ: &str = r#""int" => "int"
- { "type" : "int" }  => "int"
-{"type":"string","doc":"x","a":[1.0,-0,null]} => {"a":[1,0,null],"doc":"x","type":"string"}
-{"type":"long","logicalType":"timestamp-millis"} => {"logicalType":"timestamp-millis","type":"long"}
-["null","boolean","int","long","float","double","bytes","string"] => ["null","boolean","int","long","float","double","bytes","string"]
-{"type":"array","items":"int"} => {"items":"int","type":"array"}
-{"type":"map","values":["null","int"],"order":1,"name":"n"} => {"name":"n","order":1,"type":"map","values":["null","int"]}
-[] => []
-[{"type":"array","items":"int"},{"type":"map","values":"int"},"int"] => [{"items":"int","type":"array"},{"type":"map","values":"int"},"int"]
-{"type":"array","items":["int",{"type":"array","items":[]}]} => {"items":["int",{"items":[],"type":"array"}],"type":"array"}
-{"type":"fixed","name":"F","size":16.0} => {"name":"F","size":16,"type":"fixed"}
-{"type":"fixed","name":"F","size":2147483647} => {"name":"F","size":2147483647,"type":"fixed"}
-{"type":"fixed","name":"F","size":0,"aliases":["int","a.long"]} => {"aliases":["int","a.long"],"name":"F","size":0,"type":"fixed"}
-{"type":"fixed","name":"a.F","size":1,"aliases":["F","F"],"default":null} => {"aliases":["a.F","a.F"],"default":null,"name":"a.F","size":1,"type":"fixed"}
-{"type":"enum","name":"a.E","symbols":["X"],"aliases":["c","x.y"],"default":"X"} => {"aliases":["a.c","x.y"],"default":"X","name":"a.E","symbols":["X"],"type":"enum"}
-{"type":"enum","name":"E","symbols":[],"aliases":[]} => {"name":"E","symbols":[],"type":"enum"}
-{"type":"enum","name":"E","symbols":["int","_1","E"]} => {"name":"E","symbols":["int","_1","E"],"type":"enum"}
-{"type":"record","name":"R","fields":[]} => {"fields":[],"name":"R","type":"record"}
-{"type":"record","name":"R","fields":[{"name":"x","type":"R","order":"ascending"}]} => {"fields":[{"name":"x","type":"R"}],"name":"R","type":"record"}
-{"type":"record","name":"R","fields":[{"name":"x","type":"int","order":"descending","namespace":"!"},{"name":"y","type":"int","order":"ignore","size":[]}]} => {"fields":[{"name":"x","namespace":"!","order":"descending","type":"int"},{"name":"y","order":"ignore","size":[],"type":"int"}],"name":"R","type":"record"}
-{"type":"record","name":"R","fields":[{"name":"x","type":"int","aliases":["y","y"]},{"name":"z","type":"int","aliases":["y"]},{"name":"int","type":"int","aliases":[]}]} => {"fields":[{"aliases":["y","y"],"name":"x","type":"int"},{"aliases":["y"],"name":"z","type":"int"},{"name":"int","type":"int"}],"name":"R","type":"record"}
-{"type":"record","name":"R","doc":"d","default":{},"order":"x","symbols":1,"fields":[]} => {"default":{},"doc":"d","fields":[],"name":"R","order":"x","symbols":1,"type":"record"}
-{"type":"record","name":"R","fields":[{"name":"a","type":"int","default":0}]} => {"fields":[{"default":0,"name":"a","type":"int"}],"name":"R","type":"record"}
-{"type":"record","name":"N","fields":[{"name":"next","type":["null","N"]},{"name":"v","type":"int"}]} => {"fields":[{"name":"next","type":["null","N"]},{"name":"v","type":"int"}],"name":"N","type":"record"}
-{"type":"record","name":"a.b.R","namespace":"!","fields":[{"name":"x","type":{"type":"fixed","name":"F","size":1}},{"name":"y","type":"F"},{"name":"z","type":"a.b.R"}]} => {"fields":[{"name":"x","type":{"name":"a.b.F","size":1,"type":"fixed"}},{"name":"y","type":"a.b.F"},{"name":"z","type":"a.b.R"}],"name":"a.b.R","type":"record"}
-{"type":"fixed","name":"F","namespace":"a.b","size":1} => {"name":"a.b.F","size":1,"type":"fixed"}
-{"type":"fixed","name":"F","namespace":"","size":1} => {"name":"F","size":1,"type":"fixed"}
-{"type":"fixed","name":"\u0041_9","size":1} => {"name":"A_9","size":1,"type":"fixed"}
-{"type":"record","name":"a.B","fields":[{"name":"c","type":{"type":"record","name":"C","namespace":"","fields":[]}},{"name":"d","type":"C"}]} => {"fields":[{"name":"c","type":{"fields":[],"name":"C","namespace":"","type":"record"}},{"name":"d","type":"C"}],"name":"a.B","type":"record"}
-{"type":"record","name":"a.B","fields":[{"name":"c","type":{"type":"fixed","name":"C","namespace":"","size":1}},{"name":"d","type":{"type":"fixed","name":"C","size":2}},{"name":"e","type":"C"}]} => {"fields":[{"name":"c","type":{"name":"C","namespace":"","size":1,"type":"fixed"}},{"name":"d","type":{"name":"a.C","size":2,"type":"fixed"}},{"name":"e","type":"a.C"}],"name":"a.B","type":"record"}
-[{"type":"fixed","name":"C","size":1},{"type":"record","name":"a.B","fields":[{"name":"e","type":"C"}]}] => [{"name":"C","size":1,"type":"fixed"},{"fields":[{"name":"e","type":"C"}],"name":"a.B","type":"record"}]
-{"type":"record","name":"record","fields":[{"name":"x","type":["null","record"]},{"name":"y","type":{"type":"array","items":"record"}}]} => {"fields":[{"name":"x","type":["null","record"]},{"name":"y","type":{"items":"record","type":"array"}}],"name":"record","type":"record"}
-{"type":"record","name":"R","fields":[{"name":"x","type":{"type":"R","doc":[{}],"name":"dropped"}}]} => {"fields":[{"name":"x","type":"R"}],"name":"R","type":"record"}
-{"type":"record","name":"a.User","fields":[{"name":"n","type":{"type":"double"},"default":0.0}]} => {"fields":[{"default":0,"name":"n","type":"double"}],"name":"a.User","type":"record"}
-{"type":"record","name":"R","fields":[{"name":"u","type":["null","string"],"default":null}]} => {"fields":[{"default":null,"name":"u","type":["null","string"]}],"name":"R","type":"record"}
-{"type":"record","name":"R","fields":[{"name":"x","type":"R","default":{}}]} => {"fields":[{"default":{},"name":"x","type":"R"}],"name":"R","type":"record"}
-{"type":"record","name":"R","fields":[{"name":"a","type":"null","default":null},{"name":"b","type":"boolean","default":false}]} => {"fields":[{"default":null,"name":"a","type":"null"},{"default":false,"name":"b","type":"boolean"}],"name":"R","type":"record"}
-{"type":"record","name":"R","fields":[{"name":"a","type":"int","default":2147483647},{"name":"b","type":"int","default":-2147483648.0}]} => {"fields":[{"default":2147483647,"name":"a","type":"int"},{"default":-2147483648,"name":"b","type":"int"}],"name":"R","type":"record"}
-{"type":"record","name":"R","fields":[{"name":"a","type":"long","default":9223372036854775807},{"name":"b","type":"float","default":-9223372036854775808}]} => {"fields":[{"default":9223372036854775807,"name":"a","type":"long"},{"default":-9223372036854775808,"name":"b","type":"float"}],"name":"R","type":"record"}
-{"type":"record","name":"R","fields":[{"name":"a","type":"bytes","default":"\u00ff\u0000"},{"name":"b","type":"string","default":"\u0100"}]} => {"fields":[{"default":"ÿ\u0000","name":"a","type":"bytes"},{"default":"Ā","name":"b","type":"string"}],"name":"R","type":"record"}
-{"type":"record","name":"R","fields":[{"name":"a","type":{"type":"fixed","name":"F","size":2},"default":"a\u00ff"}]} => {"fields":[{"default":"aÿ","name":"a","type":{"name":"F","size":2,"type":"fixed"}}],"name":"R","type":"record"}
-{"type":"record","name":"R","fields":[{"name":"a","type":{"type":"enum","name":"E","symbols":["X"]},"default":"Y"}]} => {"fields":[{"default":"Y","name":"a","type":{"name":"E","symbols":["X"],"type":"enum"}}],"name":"R","type":"record"}
-{"type":"record","name":"R","fields":[{"name":"a","type":{"type":"array","items":["int","null"]},"default":[1,2]}]} => {"fields":[{"default":[1,2],"name":"a","type":{"items":["int","null"],"type":"array"}}],"name":"R","type":"record"}
-{"type":"record","name":"R","fields":[{"name":"a","type":{"type":"map","values":"int"},"default":{"x":1,"":2}}]} => {"fields":[{"default":{"":2,"x":1},"name":"a","type":{"type":"map","values":"int"}}],"name":"R","type":"record"}
-{"type":"record","name":"R","fields":[{"name":"a","type":{"type":"record","name":"S","fields":[{"name":"x","type":"int"},{"name":"y","type":"int","default":0}]},"default":{"x":1,"z":[]}}]} => {"fields":[{"default":{"x":1,"z":[]},"name":"a","type":{"fields":[{"name":"x","type":"int"},{"default":0,"name":"y","type":"int"}],"name":"S","type":"record"}}],"name":"R","type":"record"}"#;
-
 /// Texts that denote no schema, each behind the name of its error.
 const REFUSED: &str = r#"NotJson|
 NotJson|{'type':'int'}
@@ -167,17 +120,6 @@ fn outcome(alloc: Global, text: &str) -> Result<String, Fail> {
         Ok(schema) => Ok(schema.text(alloc)?),
         Err(error) => Ok(format!(in alloc; "{error:?}")?),
     }
-}
-
-/// No contract refuses a reading that always answers that memory is refused. This does.
-#[test]
-fn reading_gives_up(rt: HostRuntime) -> Result<(), Fail> {
-    for row in READ.lines() {
-        let (text, want) = row.split_once(" => ").ok_or("a row without a result")?;
-        assert_eq!(rt; outcome(rt.alloc(), text)?.as_str(), want, "{text}");
-        assert_eq!(rt; outcome(rt.alloc(), want)?.as_str(), want, "{want}");
-    }
-    Ok(())
 }
 
 #[test]
