@@ -91,12 +91,13 @@ impl<'a> OnDatabase for CreateFirst<'a> {
     fn work<S: Alter + Drop>(
         &mut self,
         _: Global,
-        mut connection: Connection<S>,
+        connection: Connection<S>,
     ) -> Result<Connection<S>, Fail> {
         if !connection.is_autocommit() {
             return Err("a transaction is open".into());
         }
-        create_first(&mut connection)?;
+        let (made, mut connection) = create_first(connection);
+        made?;
         connection.execute_batch(self.statements)?;
         Ok(connection)
     }

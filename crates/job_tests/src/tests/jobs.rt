@@ -1,11 +1,12 @@
-//! Jobs over one database, one after the other, each with an output that fails after so many bytes: what
-//! is printed, the line on standard error, and the status.
+//! Jobs over one database, one after the other, each with an output that fails after so many bytes, or as
+//! it is flushed: what is printed, the line on standard error, and the status.
 
 use super::doing::done;
 use reg_jobs::{Job, Listing, Opened};
 use reg_testing::{FULL_SET, Failing, GET, IS_FULL, OnDatabase, SET_FULL, empty_disk, on_disk};
 use sqlite::{Alter, Connection};
 use std::alloc::{AllocError, Global};
+use std::io::{self, Write};
 use std::test::Fail;
 
 /// What is done with the database in the file F.
@@ -56,18 +57,48 @@ fn job_of(alloc: Global, what: What) -> Result<Job, AllocError> {
     })
 }
 
-/// A job over a database, whose output takes so many bytes.
+/// An output that can be flushed, or not.
+#[derive(Drop)]
+struct Output {
+    writer: Failing,
+    flushes: bool,
+}
+
+impl Write for Output {
+    fn write(&mut self, buf: &[u8]) -> io::Result<usize> {
+        self.writer.write(buf)
+    }
+
+    fn flush(&mut self) -> io::Result<()> {
+        if !self.flushes {
+            return Err(io::Error::from(io::ErrorKind::BrokenPipe));
+        }
+        Ok(())
+    }
+}
+
+/// A job over a database, whose output takes so many bytes, and can be flushed or not.
 #[derive(Drop)]
 struct Task {
     row: Row,
     takes: usize,
+    flushes: bool,
 }
 
 impl Task {
-    /// What is printed is the beginning that fits; where that isn't all, the line and the status tell it.
+    /// Whether something of the output is lost: it doesn't fit, or it is a listing, which is flushed.
+    fn is_lost(&self) -> bool {
+        let Row(what, _, whole) = self.row;
+        match what {
+            What::List => self.takes < whole.len() || !self.flushes,
+            _ => self.takes < whole.len(),
+        }
+    }
+
+    /// What is printed is the beginning that fits; where something is lost, the line and the status tell it.
     fn is_due(&self, written: &[u8], told: &[u8], status: u8) -> bool {
         let whole = self.row.2.as_bytes();
-        let (line, due) = if self.takes < whole.len() {
+        let (line, due) = if self.is_lost() {
             ("avroreg: write failed\n", 2)
         } else {
             ("", 0)
@@ -89,10 +120,13 @@ impl OnDatabase for Task {
             What::Make => Opened::Fresh(connection),
             _ => Opened::Database(connection),
         };
-        let mut writer = Failing {
-            taken: Vec::new(alloc),
-            writes: self.takes,
-            takes_nothing: false,
+        let mut output = Output {
+            writer: Failing {
+                taken: Vec::new(alloc),
+                writes: self.takes,
+                takes_nothing: false,
+            },
+            flushes: self.flushes,
         };
         let job = job_of(alloc, what)?;
         let (told, status, connection) = done(
@@ -100,9 +134,9 @@ impl OnDatabase for Task {
             &job,
             opened,
             &mut input.as_bytes(),
-            &mut writer,
+            &mut output,
         );
-        if !self.is_due(writer.taken.as_slice(), told.as_slice(), status) {
+        if !self.is_due(output.writer.taken.as_slice(), told.as_slice(), status) {
             return Err("another output, line or status is due".into());
         }
         Ok(connection.ok_or("no connection came back")?)
@@ -115,12 +149,24 @@ fn jobs_follow_one_another(rt: HostRuntime) -> Result<(), Fail> {
     let mut make = Task {
         row: Row(What::Make, "", ""),
         takes: 0,
+        flushes: true,
     };
     let (mut files, closed) = on_disk(alloc, empty_disk(alloc), &mut make)?;
     assert!(rt; closed);
     for row in ROWS {
-        for takes in [0, 1, row.2.len().saturating_sub(1), row.2.len()] {
-            let mut task = Task { row, takes };
+        let all = row.2.len();
+        for (takes, flushes) in [
+            (0, true),
+            (1, true),
+            (all.saturating_sub(1), true),
+            (all, true),
+            (all, false),
+        ] {
+            let mut task = Task {
+                row,
+                takes,
+                flushes,
+            };
             let (left, closed) = on_disk(alloc, files, &mut task)?;
             assert!(rt; closed, "{takes} bytes of {}", row.2);
             files = left;
