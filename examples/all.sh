@@ -7,6 +7,7 @@
 #   WHOLE=1 examples/all.sh                      refused memory and failing disks to their end, in place of one session or none
 #
 # On a machine that does much else hold_the_line may find that somebody waited too long.
+# The page's trial wants localhost to have an address, as /etc/hosts of an installed Debian says; debootstrap leaves none.
 set -u
 source "$(dirname "$0")/serving.sh"
 [ -x "$avroreg" ] || fail "there is no program $avroreg; build it, or name it in AVROREG"

@@ -6,6 +6,7 @@
 set -u
 source "$(dirname "$0")/../serving.sh"
 packages nginx curl chromium chromium-driver python3-selenium
+getent hosts localhost >/dev/null || fail "localhost has no address here, and selenium asks chromedriver there; /etc/hosts wants a line 127.0.0.1 localhost"
 here=$examples/page
 shots=${SHOTS:-$(mktemp -d "${TMPDIR:-/tmp}/avroreg-page.XXXXXX")}
 mkdir -p "$shots"
