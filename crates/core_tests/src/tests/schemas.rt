@@ -5,6 +5,14 @@ use avro_schema::{Schema, identity_denotes};
 use std::alloc::{AllocError, Global};
 use std::test::Fail;
 
+/// Texts that denote schemas, each before its identity text.
+const READ: &str = r#""int" => "int"
+["null","boolean","int"] => ["null","boolean","int"]
+{"type":"string","doc":"x","a":[1.0,-0,null]} => {"a":[1,0,null],"doc":"x","type":"string"}
+{"type":"fixed","name":"a.F","size":16.0,"aliases":["F","b.G"]} => {"aliases":["a.F","b.G"],"name":"a.F","size":16,"type":"fixed"}
+{"type":"record","name":"a.User","fields":[{"name":"n","type":{"type":"double"},"default":0.0}]} => {"fields":[{"default":0,"name":"n","type":"double"}],"name":"a.User","type":"record"}
+{"type":"record","name":"N","fields":[{"name":"next","type":["null","N"]},{"name":"v","type":"int"}]} => {"fields":[{"name":"next","type":["null","N"]},{"name":"v","type":"int"}],"name":"N","type":"record"}"#;
+
 /// Texts that denote no schema, each behind the name of its error.
 const REFUSED: &str = r#"NotJson|
 NotJson|{'type':'int'}
@@ -120,6 +128,17 @@ fn outcome(alloc: Global, text: &str) -> Result<String, Fail> {
         Ok(schema) => Ok(schema.text(alloc)?),
         Err(error) => Ok(format!(in alloc; "{error:?}")?),
     }
+}
+
+/// No contract refuses a reading that always answers that memory is refused. This does.
+#[test]
+fn reading_gives_up(rt: HostRuntime) -> Result<(), Fail> {
+    for row in READ.lines() {
+        let (text, want) = row.split_once(" => ").ok_or("a row without a result")?;
+        assert_eq!(rt; outcome(rt.alloc(), text)?.as_str(), want, "{text}");
+        assert_eq!(rt; outcome(rt.alloc(), want)?.as_str(), want, "{want}");
+    }
+    Ok(())
 }
 
 #[test]

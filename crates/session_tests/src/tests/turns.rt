@@ -90,19 +90,28 @@ fn take_turns<'a>(alloc: Global, input: &'a str, size: usize, due: Due<'a>) -> R
     in_memory(alloc, &mut TakeTurns { input, size, due })
 }
 
-/// No contract refuses a `serve` that ends for want of memory before it reads. This does too.
-#[test]
-fn each_message_is_answered_before_the_next_read(rt: HostRuntime) -> Result<(), Fail> {
-    let alloc = rt.alloc();
-    for (last, answer, ended) in [
-        (SET_FULL, FULL_SET, Ended::Closed),
-        (CHUNKED, NOT_SUPPORTED, Ended::Malformed),
-    ] {
-        let input = joined(alloc, &[SET_FULL, SET_FULL, last])?;
-        let output = joined(alloc, &[FULL_SET, FULL_SET, answer])?;
-        for size in [1, 3, 50, 64, SET_FULL.len(), 150, 1000] {
-            take_turns(alloc, input.as_str(), size, (output.as_str(), ended))?;
-        }
+/// Serves two messages and then this one, in pieces of several sizes, each over a new registry.
+fn take_turns_until<'a>(
+    alloc: Global,
+    last: &'a str,
+    answer: &'a str,
+    ended: Ended,
+) -> Result<(), Fail> {
+    let input = joined(alloc, &[SET_FULL, SET_FULL, last])?;
+    let output = joined(alloc, &[FULL_SET, FULL_SET, answer])?;
+    for size in [1, 3, 50, 64, SET_FULL.len(), 150, 1000] {
+        take_turns(alloc, input.as_str(), size, (output.as_str(), ended))?;
     }
     Ok(())
+}
+
+/// No contract refuses a `serve` that ends for want of memory before it reads. This does.
+#[test]
+fn serve_gives_up_at_once(rt: HostRuntime) -> Result<(), Fail> {
+    take_turns_until(rt.alloc(), SET_FULL, FULL_SET, Ended::Closed)
+}
+
+#[test]
+fn each_message_is_answered_before_the_next_read(rt: HostRuntime) -> Result<(), Fail> {
+    take_turns_until(rt.alloc(), CHUNKED, NOT_SUPPORTED, Ended::Malformed)
 }
