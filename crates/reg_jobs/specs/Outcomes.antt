@@ -18,7 +18,7 @@ use Rattle.reg_jobs.specs.declared.listings.ListOutcome.TheVariants.{Whole as Li
 use Rattle.reg_jobs.specs.declared.outcome.Trouble.{Trouble}
 use Rattle.reg_jobs.specs.declared.outcome.Fault.{Fault}
 use Rattle.reg_jobs.specs.declared.outcome.Fault.TheVariants.{ReadFailed as FaultReadFailed, WriteFailed as FaultWriteFailed, MalformedInput as FaultMalformedInput, OutOfMemory as FaultOutOfMemory, CannotRead as FaultCannotRead, NotSchema as FaultNotSchema, CannotOpen as FaultCannotOpen, NotRegistry as FaultNotRegistry, OldLayout as FaultOldLayout, NewerLayout as FaultNewerLayout, CannotListen}
-use Rattle.reg_jobs.specs.declared.line.Line.{Line}
+use Rattle.reg_jobs.specs.declared.line.ErrorLine.{ErrorLine}
 use Rattle.reg_jobs.specs.declared.errors.Errors.{Errors}
 use Rattle.reg_jobs.specs.Errors.{Puts}
 use Rattle.reg_jobs.specs.Names.{shown_name}
@@ -105,7 +105,7 @@ abbrev pub text_of_parts : List (Bor (List ℕ)) → List ℕ
 text_of_parts parts = flat_map (λ part. part.now) parts
 
 -- a line, the file's name as it is shown
-abbrev pub text_of_line : Line → List ℕ
+abbrev pub text_of_line : ErrorLine → List ℕ
 text_of_line line = line.front.now ++ (shown_name line.name.now ++ text_of_parts line.rest)
 
 -- the line of a fault was put, and without a fault nothing was written or lost

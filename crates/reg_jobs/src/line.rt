@@ -11,19 +11,20 @@ use crate::outcome::{Fault, Outcome, Trouble, answer_of, status_of};
 use itoa::Buffer;
 use std::io::Write;
 
-/// A line: a text, the name of a file that it may name, and what follows, in three parts at most.
+/// A line on standard error: a text, the name of a file that it may name, and what follows, in three
+/// parts at most.
 #[derive(Clone, Copy)]
-struct Line<'a> {
+struct ErrorLine<'a> {
     front: &'a str,
     name: &'a str,
     rest: [&'a str; 3],
 }
 
 /// A line that names nothing.
-fn naming_nothing<'a>(front: &'a str) -> Line<'a>
+fn naming_nothing<'a>(front: &'a str) -> ErrorLine<'a>
     ensures { text_of_line result ≡ front.entry.now }
 {
-    Line {
+    ErrorLine {
         front,
         name: "",
         rest: ["", "", ""],
@@ -31,10 +32,10 @@ fn naming_nothing<'a>(front: &'a str) -> Line<'a>
 }
 
 /// A line that names a file.
-fn naming<'a>(front: &'a str, name: &'a str, rest: [&'a str; 3]) -> Line<'a>
+fn naming<'a>(front: &'a str, name: &'a str, rest: [&'a str; 3]) -> ErrorLine<'a>
     ensures { result ≡ record { front = front.entry; name = name.entry; rest = rest.entry } }
 {
-    Line { front, name, rest }
+    ErrorLine { front, name, rest }
 }
 
 /// The layout or the port that a fault names, 0 where it names none.
@@ -50,7 +51,7 @@ fn number_of(fault: Fault) -> u32
 }
 
 /// The line for a fault, with the digits of the number that it names.
-fn line_of<'a>(fault: Fault, file: &'a str, digits: &'a str) -> Line<'a>
+fn line_of<'a>(fault: Fault, file: &'a str, digits: &'a str) -> ErrorLine<'a>
     ensures { text_of_line result ≡ line_with fault (shown_name file.entry.now) digits.entry.now }
 {
     match fault {
@@ -86,7 +87,7 @@ fn put_parts<E: Write + Drop>(errors: &mut Errors<E>, parts: &[&str])
 }
 
 /// Writes a line, the file's name as it is shown.
-fn put_line<E: Write + Drop>(errors: &mut Errors<E>, line: Line)
+fn put_line<E: Write + Drop>(errors: &mut Errors<E>, line: ErrorLine)
     ensures { Puts E.contents errors.old errors.new (text_of_line line.entry) }
 {
     errors.put(line.front.as_bytes());
