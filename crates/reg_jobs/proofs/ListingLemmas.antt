@@ -1,6 +1,6 @@
 -- A listing that was printed, by what the printing answered.
-use Rattle.std.proofs.Common.{◌≡◌, ◌⊎◌, inl, inr, ◌∷◌, ℕ, List, sym, subst}
-use Rattle.std.specs.Prelude.{Option, Result, Ok, Err, OnOk, OnErr, IfErr}
+use Rattle.std.proofs.Common.{◌≡◌, ◌≢◌, ◌⊎◌, inl, inr, ◌∷◌, ℕ, List, sym, subst}
+use Rattle.std.specs.Prelude.{Option, Result, Ok, Err, OnOk, IfErr}
 use Rattle.std.specs.Io.KnownBytes.{Appends, Keeps}
 use Rattle.std.proofs.KnownBytes.{Appends-kept}
 use Rattle.reg_core.specs.Registry.{Registry}
@@ -15,21 +15,21 @@ use Rattle.reg_jobs.specs.declared.listings.ListOutcome.{ListOutcome}
 use Rattle.reg_jobs.specs.declared.listings.ListOutcome.TheVariants as listed
 use Rattle.reg_jobs.specs.Listings.{IfUnread, ListsAs, listed_as}
 
--- all of it was written, or so many lines where the registry couldn't be read to its end
+-- all of it was written, or so many lines, unless a write failed
 pub ListsAs-printed : (kind : Listing) (g : Registry) (writer writer' : Option (List ℕ)) (printed : Result (Unit {0}) ReportError)
-    → OnOk printed (Appends writer writer' (listing kind g)) → OnErr (store_answer printed) (IsBegun (header kind ∷ listing_lines kind g) writer writer')
+    → OnOk printed (Appends writer writer' (listing kind g)) → (printed ≢ Err Write → IsBegun (header kind ∷ listing_lines kind g) writer writer')
     → ListsAs kind g writer writer' (listed_as printed)
 ListsAs-printed kind g writer writer' (Ok done) whole begun = whole
-ListsAs-printed kind g writer writer' (Err (Store error)) whole begun = begun
+ListsAs-printed kind g writer writer' (Err (Store error)) whole begun = begun (λ same. cc)
 ListsAs-printed kind g writer writer' (Err Write) whole begun = tt
-ListsAs-printed kind g writer writer' (Err OutOfMemory) whole begun = tt
+ListsAs-printed kind g writer writer' (Err OutOfMemory) whole begun = begun (λ same. cc)
 
 -- what was flushed is as it was written
 ListsAs-kept : (kind : Listing) (g : Registry) (old mid new : Option (List ℕ)) (outcome : ListOutcome) → Keeps mid new → ListsAs kind g old mid outcome → ListsAs kind g old new outcome
 ListsAs-kept kind g old mid new listed.Whole kept lists = Appends-kept old mid new _ lists kept
 ListsAs-kept kind g old mid new (listed.Unread error) kept lists = (lists.0, Appends-kept old mid new _ lists.1 kept)
 ListsAs-kept kind g old mid new listed.NotWritten kept lists = tt
-ListsAs-kept kind g old mid new listed.OutOfMemory kept lists = tt
+ListsAs-kept kind g old mid new listed.OutOfMemory kept lists = (lists.0, Appends-kept old mid new _ lists.1 kept)
 
 pub ListsAs-flushed : (kind : Listing) (g : Registry) (old mid new : Option (List ℕ)) (outcome flushed : ListOutcome) → Keeps mid new
     → (flushed ≡ outcome) ⊎ (flushed ≡ listed.NotWritten) → ListsAs kind g old mid outcome → ListsAs kind g old new flushed

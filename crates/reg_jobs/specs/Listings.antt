@@ -27,13 +27,13 @@ listed_as (Err (Store error)) = Unread error
 listed_as (Err Write) = NotWritten
 listed_as (Err ReportOutOfMemory) = OutOfMemory
 
--- A listing of the registry, by how it ended: so many whole lines, from the header on, where the registry couldn't be read to the end. What was
--- written before a failed write, or before memory was refused, isn't said.
+-- A listing of the registry, by how it ended: so many whole lines, from the header on, where the registry couldn't be read to the end, or memory was
+-- refused. What was written before a failed write isn't said.
 abbrev pub ListsAs : Listing → Registry → Option (List ℕ) → Option (List ℕ) → ListOutcome → Type 0
 ListsAs kind g writer writer' Whole = Appends writer writer' (listing kind g)
 ListsAs kind g writer writer' (Unread error) = IsBegun (header kind ∷ listing_lines kind g) writer writer'
 ListsAs kind g writer writer' NotWritten = Unit {0}
-ListsAs kind g writer writer' OutOfMemory = Unit {0}
+ListsAs kind g writer writer' OutOfMemory = IsBegun (header kind ∷ listing_lines kind g) writer writer'
 
 -- what holds of the store's error, where the registry couldn't be read
 abbrev pub IfUnread : ListOutcome → (StoreError → Type 0) → Type 0

@@ -25,7 +25,7 @@ pub enum ListOutcome {
     Unread(StoreError),
     /// A write failed.
     NotWritten,
-    /// Memory for a line was refused.
+    /// Memory for a line was refused. So many whole lines were printed, from the header on.
     OutOfMemory,
 }
 

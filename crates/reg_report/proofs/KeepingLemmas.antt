@@ -1,6 +1,6 @@
 -- What several calls of lines that are lent keep of the store.
-use Rattle.std.proofs.Common.{◌≡◌, inl, inr, Result, IsTrue, refl, sym, subst, ◌∙◌, arith}
-use Rattle.std.specs.Prelude.{Ok, Err, OnErr, OnOk, IfErr, IsErrAnd}
+use Rattle.std.proofs.Common.{◌≡◌, inl, inr, Result, IsTrue, refl, ◌∙◌, arith}
+use Rattle.std.specs.Prelude.{Err, OnOk}
 use Rattle.sqlite.specs.State.{State, HasCleanDisk}
 use Rattle.sqlite_trees.specs.declared.store.Store.{Ghosts}
 use Rattle.reg_core.specs.Stored.{Stored}
@@ -11,14 +11,7 @@ use Rattle.reg_store.specs.Stores.{state_of, has_failed, KeepsOpen, KeepsLent, L
 use Rattle.reg_store.proofs.Failing.{by_since}
 use Rattle.reg_store.proofs.Keeping.{Settles}
 use Rattle.reg_report.specs.declared.error.ReportError.{ReportError}
-use Rattle.reg_report.specs.declared.error.ReportError.TheVariants.{Store as Stops}
 use Rattle.reg_report.specs.Keeping.{KeepsListed}
-use Rattle.reg_report.specs.StoreAnswers.{store_answer}
-
--- what holds, holds after an error
-pub after_err : {T E : Type 0} (r : Result T E) (P : Type 0) → P → OnErr r P
-after_err (Ok x) P holds = tt
-after_err (Err e) P holds = holds
 
 -- the same, whatever is answered
 pub record Keeps {S : Type 0} {g : Ghosts S} (old new : Store S g) : Type 0 where
@@ -72,8 +65,3 @@ module _ {S : Type 0} {g : Ghosts S} where
   fault_on a b c e p q clean tells going was over =
       let early = q.clean clean in
       by_since (state_of a) (state_of b) (state_of c) (p.connection.closes early) p.connection.counts q.connection.counts e (tells.answers was (p.same early was over) going)
-
--- an error of the store that `?` passes on
-pub passed_store : {T : Type 0} (P : StoreError → Type 0) (r : Result T ReportError) (e : StoreError) → IsErrAnd r (λ failure. failure ≡ Stops e) → P e → IfErr (store_answer r) P
-passed_store P (Ok x) e is h = absurd is
-passed_store P (Err failure) e is h = subst (λ (f : ReportError). IfErr (store_answer {T = Unit {0}} (Err f)) P) (sym is) h

@@ -1,5 +1,5 @@
 -- What a listing writes of what a store has, and what it keeps of the store.
-use Rattle.std.specs.Prelude.{◌≡◌, ℕ, List, [], ◌∷◌, false, IsTrue, Option, None, Result, Err, OnOk, OnErr, IfErr}
+use Rattle.std.specs.Prelude.{◌≡◌, ◌≢◌, ℕ, List, [], ◌∷◌, false, IsTrue, Option, None, Result, Err, OnOk, IfErr}
 use Rattle.std.specs.Io.KnownBytes.{Appends}
 use Rattle.sqlite.specs.State.{HasCleanDisk}
 use Rattle.sqlite_trees.specs.declared.store.Store.{Ghosts}
@@ -19,6 +19,7 @@ use Rattle.reg_report.specs.Csv.{IsBegun, header, listing}
 use Rattle.reg_report.specs.Keeping.{KeepsListed}
 use Rattle.reg_report.specs.StoreAnswers.{store_answer}
 use Rattle.reg_report.specs.declared.error.ReportError.{ReportError}
+use Rattle.reg_report.specs.declared.error.ReportError.TheVariants.{Write}
 
 -- lines of the listing that a store has lent which has answered no fault of the disk, and of which none was handed out
 pub record IsAtStart {S : Type 0} {g : Ghosts S} (kind : Listing) (lines : Lines S Cursor g) : Type 0 where
@@ -33,10 +34,10 @@ pub record Lists {S : Type 0} {g : Ghosts S} (kind : Listing) (old new : Store S
   pub refused : IsTrue (has_failed old) → (store_answer result ≡ Err Disk) × (new ≡ old) × (writer' ≡ writer)
   -- all of it is written
   pub ok : HasCleanDisk (state_of new) → OnOk result ((was : Stored) → SpellsWhileOpen (state_of old) was → Appends writer writer' (listing kind was.registry))
-  -- so many whole lines are, from the header on, where the registry couldn't be read to its end
-  pub begun : HasCleanDisk (state_of new) → OnErr (store_answer result) ((was : Stored) → SpellsWhileOpen (state_of old) was
-      → IsBegun (header kind ∷ listing_lines kind was.registry) writer writer')
-  -- over tables that spell a registry that comes for want of memory or a fault of the disk alone
+  -- so many whole lines are, from the header on, unless a write failed
+  pub begun : HasCleanDisk (state_of new) → result ≢ Err Write → (was : Stored) → SpellsWhileOpen (state_of old) was
+      → IsBegun (header kind ∷ listing_lines kind was.registry) writer writer'
+  -- over tables that spell a registry the store's error comes for want of memory or a fault of the disk alone
   pub fault : HasCleanDisk (state_of new) → has_failed old ≡ false → IfErr (store_answer result) (IsFaultOver (state_of old) (state_of new))
   pub same : HasCleanDisk (state_of new) → SpellsOn (state_of old) (state_of new)
   pub crash : HasCleanDisk (state_of new) → LeavesNoMore (state_of old) (state_of new)

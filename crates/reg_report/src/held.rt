@@ -1,10 +1,9 @@
 //! Bytes that are held until there are enough of them for a write.
 
-ghost use Rattle.std.specs.Prelude.{◌≡◌, [], IfErr, IsOk, OnOk};
+ghost use Rattle.std.specs.Prelude.{◌≡◌, [], IfErr, OnOk};
 ghost use Rattle.std.specs.Io.KnownBytes.{Appends};
 ghost use Rattle.reg_report.specs.declared.error.ReportError.TheVariants.{Write as WriteFailed};
-ghost use Rattle.reg_report.specs.Holding.{WritesHeld, held_contents};
-ghost use Rattle.reg_report.specs.StoreAnswers.{store_answer};
+ghost use Rattle.reg_report.specs.Holding.{PutsBehind, WritesHeld, held_contents};
 
 use crate::error::ReportError;
 use std::alloc::Global;
@@ -29,11 +28,11 @@ impl Held {
         }
     }
 
-    /// Puts bytes behind those that are held, and writes them all where they are too many.
+    /// Puts bytes behind those that are held, and writes them all where they are too many. Where memory
+    /// is refused nothing changes.
     pub fn put<W: Write>(&mut self, writer: &mut W, bytes: &[u8]) -> Result<(), ReportError>
-        ensures text { OnOk result (Appends (held_contents W.contents writer.old self.old)
-            (held_contents W.contents writer.new self.new) bytes.now) }
-        ensures apart { IsOk (store_answer result) }
+        ensures { PutsBehind result (held_contents W.contents writer.old self.old)
+            (held_contents W.contents writer.new self.new) bytes.now }
     {
         if self.bytes.extend_from_slice(bytes).is_err() {
             return Err(ReportError::OutOfMemory);

@@ -1,13 +1,11 @@
 //! Lines of CSV.
 
-ghost use Rattle.std.specs.Prelude.{◌≡◌, ◌<◌, ◌-◌, ◌^◌, [], IfOk, IsOk, OnOk, length, map};
-ghost use Rattle.std.specs.Io.KnownBytes.{Appends};
+ghost use Rattle.std.specs.Prelude.{◌≡◌, ◌<◌, ◌-◌, ◌^◌, [], IfOk, length, map};
 ghost use Rattle.csv.specs.Writing.{default_writer, row_text};
 ghost use Rattle.reg_store.specs.Handing.{store_of};
 ghost use Rattle.reg_report.specs.Csv.{header};
-ghost use Rattle.reg_report.specs.Holding.{held_contents};
+ghost use Rattle.reg_report.specs.Holding.{PutsBehind, held_contents};
 ghost use Rattle.reg_report.specs.Printing.{IsAtStart, Lists};
-ghost use Rattle.reg_report.specs.StoreAnswers.{store_answer};
 
 use crate::error::ReportError;
 use crate::held::Held;
@@ -51,9 +49,8 @@ fn put_header<W: Write>(
     held: &mut Held,
     kind: Listing,
 ) -> Result<(), ReportError>
-    ensures text { OnOk result (Appends (held_contents W.contents writer.old held.old)
-        (held_contents W.contents writer.new held.new) (row_text default_writer (header kind))) }
-    ensures apart { IsOk (store_answer result) }
+    ensures { PutsBehind result (held_contents W.contents writer.old held.old)
+        (held_contents W.contents writer.new held.new) (row_text default_writer (header kind)) }
 {
     match kind {
         Listing::Subjects => {
@@ -84,9 +81,8 @@ fn put_line<W: Write, T: AsSlice<u8>>(
     fields: &[T],
 ) -> Result<(), ReportError>
     requires { length fields.now < 2 ^ 64 - 1 }
-    ensures text { OnOk result (Appends (held_contents W.contents writer.old held.old)
-        (held_contents W.contents writer.new held.new) (row_text default_writer (map T.items fields.now))) }
-    ensures apart { IsOk (store_answer result) }
+    ensures { PutsBehind result (held_contents W.contents writer.old held.old)
+        (held_contents W.contents writer.new held.new) (row_text default_writer (map T.items fields.now)) }
 {
     let text = line_text(alloc, fields)?;
     held.put(writer, text.as_slice())

@@ -22,9 +22,9 @@ const PIECE: usize = 65_536;
 ///
 /// # Errors
 ///
-/// `Store` where the registry couldn't be read: so many whole lines were written, from the first on.
-/// `OutOfMemory` where memory for a line is refused, and `Write` where a write fails: a beginning of the
-/// text was written. Whatever is answered, the registry stays as it was.
+/// `Store` where the registry couldn't be read, and `OutOfMemory` where memory for a line is refused: so
+/// many whole lines were written, from the first on. `Write` where a write fails: what
+/// was written then isn't said. Whatever is answered, the registry stays as it was.
 pub fn list_subjects<W: Write, S: Alter>(
     alloc: Global,
     store: &mut Store<S>,
@@ -39,9 +39,9 @@ pub fn list_subjects<W: Write, S: Alter>(
 ///
 /// # Errors
 ///
-/// `Store` where the registry couldn't be read: so many whole lines were written, from the first on.
-/// `OutOfMemory` where memory for a line is refused, and `Write` where a write fails: a beginning of the
-/// text was written. Whatever is answered, the registry stays as it was.
+/// `Store` where the registry couldn't be read, and `OutOfMemory` where memory for a line is refused: so
+/// many whole lines were written, from the first on. `Write` where a write fails: what
+/// was written then isn't said. Whatever is answered, the registry stays as it was.
 pub fn list_versions<W: Write, S: Alter>(
     alloc: Global,
     store: &mut Store<S>,
@@ -56,9 +56,9 @@ pub fn list_versions<W: Write, S: Alter>(
 ///
 /// # Errors
 ///
-/// `Store` where the registry couldn't be read: so many whole lines were written, from the first on.
-/// `OutOfMemory` where memory for a line is refused, and `Write` where a write fails: a beginning of the
-/// text was written. Whatever is answered, the registry stays as it was.
+/// `Store` where the registry couldn't be read, and `OutOfMemory` where memory for a line is refused: so
+/// many whole lines were written, from the first on. `Write` where a write fails: what
+/// was written then isn't said. Whatever is answered, the registry stays as it was.
 pub fn list_schemas<W: Write, S: Alter>(
     alloc: Global,
     store: &mut Store<S>,
@@ -73,9 +73,9 @@ pub fn list_schemas<W: Write, S: Alter>(
 ///
 /// # Errors
 ///
-/// `Store` where the registry couldn't be read: so many whole lines were written, from the first on.
-/// `OutOfMemory` where memory for a line is refused, and `Write` where a write fails: a beginning of the
-/// text was written. Whatever is answered, the registry stays as it was.
+/// `Store` where the registry couldn't be read, and `OutOfMemory` where memory for a line is refused: so
+/// many whole lines were written, from the first on. `Write` where a write fails: what
+/// was written then isn't said. Whatever is answered, the registry stays as it was.
 pub fn list<W: Write, S: Alter>(
     alloc: Global,
     store: &mut Store<S>,
@@ -92,9 +92,9 @@ pub fn list<W: Write, S: Alter>(
 ///
 /// # Errors
 ///
-/// `Store` where the registry couldn't be read: so many whole lines were written, from the first on.
-/// `OutOfMemory` where memory for a line is refused, and `Write` where a write fails: a beginning of the
-/// text was written. Whatever is answered, the registry stays as it was.
+/// `Store` where the registry couldn't be read, and `OutOfMemory` where memory for a line is refused: so
+/// many whole lines were written, from the first on. `Write` where a write fails: what
+/// was written then isn't said. Whatever is answered, the registry stays as it was.
 pub fn list_in_pieces<W: Write, S: Alter>(
     alloc: Global,
     store: &mut Store<S>,

@@ -1,11 +1,10 @@
 use Rattle.std.proofs.Common.{sym, subst}
-use Rattle.std.proofs.lemmas.Result.{on_ok_weaker, on_err_weaker}
+use Rattle.std.proofs.lemmas.Result.{on_ok_weaker}
 use Rattle.sqlite.specs.Held.{state}
 use Rattle.sqlite.specs.State.{HasCleanDisk}
 use Rattle.reg_store.specs.Failures.{IsFaultOver}
 use Rattle.reg_store.specs.Spells.{SpellsWhileOpen}
 use Rattle.reg_store.specs.Stores.{state_of}
-use Rattle.reg_report.specs.StoreAnswers.{store_answer}
 use Rattle.reg_jobs.specs.Listings.{IfUnread, ListsAs}
 use Rattle.reg_jobs.proofs.ListingLemmas.{ListsAs-printed, ListsAs-flushed, IfUnread-flushed}
 use Rattle.reg_jobs.proofs.listings.list_store.Goals as goal
@@ -21,7 +20,7 @@ returns-clause-lists g c clean was spells =
     ListsAs-flushed c.args.kind was.registry old mid (contents c.flush-listed.new.writer) c.listed_as.result c.flush-listed.result c.flush-listed.ensures.bytes c.flush-listed.ensures.outcome
     (subst (ListsAs c.args.kind was.registry old mid) (sym c.listed_as.ensures) (ListsAs-printed c.args.kind was.registry old mid printed
     (on_ok_weaker printed (λ whole. whole was spells) (it.ok still))
-    (on_err_weaker (store_answer printed) (λ begun. begun was spells) (it.begun still))))
+    (λ unless. it.begun still unless was spells)))
 
 pub returns-clause-fault : goal.returns-clause-fault
 returns-clause-fault g c clean unfailed =

@@ -1,5 +1,5 @@
-use Rattle.std.proofs.Common.{◌∙◌, ◌++◌, ◌∷◌, [], append-nil, map, refl, sym, subst, suc}
-use Rattle.std.specs.Prelude.{string_bytes}
+use Rattle.std.proofs.Common.{◌∙◌, ◌++◌, ◌∷◌, [], append-nil, map, refl, sym, subst}
+use Rattle.std.specs.Prelude.{Err, string_bytes}
 use Rattle.std.specs.Io.KnownBytes.{Appends}
 use Rattle.csv.specs.Writing.{default_writer, row_text}
 use Rattle.csv.proofs.WriteFacts.{appends-more}
@@ -7,10 +7,10 @@ use Rattle.reg_store.specs.Handing.{store_of}
 use Rattle.reg_store.specs.Listings.{fields_of}
 use Rattle.reg_report.specs.Csv.{csv_text, header}
 use Rattle.reg_report.specs.Holding.{held_contents}
-use Rattle.reg_report.specs.declared.error.ReportError.TheVariants.{OutOfMemory}
+use Rattle.reg_report.specs.declared.error.ReportError.TheVariants.{Store as Stops, OutOfMemory}
 use Rattle.reg_report.proofs.CsvLemmas.{csv_text-snoc}
 use Rattle.reg_report.proofs.KeepingLemmas.{keeps_still, keeps_then, fault_on}
-use Rattle.reg_report.proofs.PrintingLemmas.{lists_cut, lists_stopped, lists_whole}
+use Rattle.reg_report.proofs.PrintingLemmas.{begun_handed, begun_none, lists_cut, lists_early, lists_whole}
 use Rattle.reg_report.proofs.lines.put_lines.Goals as goal
 
 pub loop-init : goal.loop-init
@@ -22,7 +22,7 @@ loop-init g c =
       same_reference = refl;
       going = c.requires.going;
       keeps = keeps_still g.met.S.Store.settled (store_of c.args.lines.now);
-      written = λ clean was over. ([], c.requires.starts was.registry, subst (Appends old new) (sym (append-nil (row_text default_writer (header c.args.kind)))) c.in_ok-put_header.ensures.text);
+      written = λ clean was over. ([], c.requires.starts was.registry, subst (Appends old new) (sym (append-nil (row_text default_writer (header c.args.kind)))) c.in_ok-put_header.ensures);
     }
 
 pub loop-preserved : goal.loop-preserved
@@ -32,7 +32,7 @@ loop-preserved g c =
     let new = held_contents g.W.Write.contents c.put_line.new.writer c.put_line.new.held in
     let before = c.loop.invariant in
     let it = c.in_ok-line.ensures in
-    let line = subst (λ line. Appends mid new (row_text default_writer (map string_bytes line))) c.as_slice.ensures.value c.in_ok-put_line.ensures.text in
+    let line = subst (λ line. Appends mid new (row_text default_writer (map string_bytes line))) c.as_slice.ensures.value c.in_ok-put_line.ensures in
     record {
       same_reference = it.same_reference ∙ before.same_reference;
       going = it.going;
@@ -46,8 +46,10 @@ loop-preserved g c =
 
 pub returns-in_err-put_header-clause-lists : goal.returns-in_err-put_header-clause-lists
 returns-in_err-put_header-clause-lists g c =
-    lists_cut c.args.kind (store_of c.args.lines.now) (store_of c.args.lines.now) _ _ c.from_residual.result c.in_err-put_header.field-0.0 c.requires.unfailed
-    (keeps_still g.met.S.Store.settled (store_of c.args.lines.now)) c.from_residual.ensures.1 c.in_err-put_header.ensures.apart
+    let old = held_contents g.W.Write.contents c.args.writer.now c.args.held.now in
+    let new = held_contents g.W.Write.contents c.put_header.new.writer c.put_header.new.held in
+    lists_cut c.args.kind (store_of c.args.lines.now) (store_of c.args.lines.now) old old new (row_text default_writer (header c.args.kind)) c.from_residual.result c.in_err-put_header.field-0.0
+    c.requires.unfailed (keeps_still g.met.S.Store.settled (store_of c.args.lines.now)) c.from_residual.ensures.1 c.in_err-put_header.ensures (λ _ was over. begun_none _ old)
 
 pub returns-in_err-line-clause-lists : goal.returns-in_err-line-clause-lists
 returns-in_err-line-clause-lists g c =
@@ -55,11 +57,9 @@ returns-in_err-line-clause-lists g c =
     let new = held_contents g.W.Write.contents c.loop.writer c.loop.held in
     let before = c.loop.invariant in
     let it = c.in_err-line.ensures in
-    lists_stopped c.args.kind (store_of c.args.lines.now) (store_of c.next.new.self) old new c.from_residual-in_err-line.result _ c.requires.unfailed
+    lists_early c.args.kind (store_of c.args.lines.now) (store_of c.next.new.self) old new c.from_residual-in_err-line.result (Stops c.in_err-line.field-0.0) c.requires.unfailed
     (keeps_then (store_of c.args.lines.now) (store_of c.loop.lines) (store_of c.next.new.self) _ before.keeps it.frame it.tells) c.from_residual-in_err-line.ensures.1
-    (λ clean was over.
-    (let done = before.written (it.frame.clean clean) was over in
-    (suc done.1.count, subst (λ lines. Appends old new (csv_text (header c.args.kind ∷ lines))) done.1.begins done.2)))
+    (λ clean _ was over. begun_handed c.args.kind c.loop.lines was.registry old new (before.written (it.frame.clean clean) was over))
     (λ clean. fault_on (store_of c.args.lines.now) (store_of c.loop.lines) (store_of c.next.new.self) _ before.keeps it.frame clean (it.tells clean) before.going)
 
 pub returns-in_default-clause-lists : goal.returns-in_default-clause-lists
@@ -79,11 +79,19 @@ returns-in_default-clause-lists g c =
 
 pub returns-in_err-put_line-clause-lists : goal.returns-in_err-put_line-clause-lists
 returns-in_err-put_line-clause-lists g c =
+    let old = held_contents g.W.Write.contents c.args.writer.now c.args.held.now in
+    let mid = held_contents g.W.Write.contents c.loop.writer c.loop.held in
+    let new = held_contents g.W.Write.contents c.put_line.new.writer c.put_line.new.held in
     let before = c.loop.invariant in
     let it = c.in_ok-line.ensures in
-    lists_cut c.args.kind (store_of c.args.lines.now) (store_of c.next.new.self) _ _ c.from_residual-in_err-put_line.result c.in_err-put_line.field-0.0 c.requires.unfailed
-    (keeps_then (store_of c.args.lines.now) (store_of c.loop.lines) (store_of c.next.new.self) _ before.keeps it.frame it.tells) c.from_residual-in_err-put_line.ensures.1 c.in_err-put_line.ensures.apart
+    lists_cut c.args.kind (store_of c.args.lines.now) (store_of c.next.new.self) old mid new (row_text default_writer (map string_bytes c.as_slice.result.now))
+    c.from_residual-in_err-put_line.result c.in_err-put_line.field-0.0 c.requires.unfailed
+    (keeps_then (store_of c.args.lines.now) (store_of c.loop.lines) (store_of c.next.new.self) _ before.keeps it.frame it.tells) c.from_residual-in_err-put_line.ensures.1 c.in_err-put_line.ensures
+    (λ clean was over. begun_handed c.args.kind c.loop.lines was.registry old mid (before.written (it.frame.clean clean) was over))
 
 pub returns-clause-lists : goal.returns-clause-lists
 returns-clause-lists g c =
-    lists_cut c.args.kind (store_of c.args.lines.now) (store_of c.loop.lines) _ _ _ OutOfMemory c.requires.unfailed c.loop.invariant.keeps refl refl
+    let old = held_contents g.W.Write.contents c.args.writer.now c.args.held.now in
+    let new = held_contents g.W.Write.contents c.loop.writer c.loop.held in
+    lists_early c.args.kind (store_of c.args.lines.now) (store_of c.loop.lines) old new (Err OutOfMemory) OutOfMemory c.requires.unfailed c.loop.invariant.keeps refl
+    (λ clean _ was over. begun_handed c.args.kind c.loop.lines was.registry old new (c.loop.invariant.written clean was over)) (λ _. tt)

@@ -1,14 +1,7 @@
-use Rattle.std.proofs.Common.{◌≡◌, inl, inr, refl, ap, ◌∙◌}
-use Rattle.std.specs.Prelude.{Result, Ok, Err, IsErrAnd}
-use Rattle.reg_report.specs.declared.error.ReportError.{ReportError}
+use Rattle.std.proofs.Common.{inl, inr, refl}
 use Rattle.reg_report.specs.declared.error.ReportError.TheVariants.{Write as WriteFailed}
-use Rattle.reg_report.proofs.HeldLemmas.{held_written}
+use Rattle.reg_report.proofs.HeldLemmas.{held_written, passed_on}
 use Rattle.reg_report.proofs.held.Held.end.Goals as goal
-
--- an error that is passed on
-passed_on : (r : Result (Unit {0}) ReportError) (e f : ReportError) → IsErrAnd r (λ failure. failure ≡ e) → e ≡ f → r ≡ Err f
-passed_on (Ok x) e f is same = absurd is
-passed_on (Err failure) e f is same = ap (λ (given : ReportError). Err given) (is ∙ same)
 
 pub returns-in_err-write_out : goal.returns-in_err-write_out
 returns-in_err-write_out g c = inl (passed_on c.from_residual.result c.in_err-write_out.field-0.0 WriteFailed c.from_residual.ensures.1 c.in_err-write_out.ensures.failed)
