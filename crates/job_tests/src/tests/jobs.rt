@@ -143,8 +143,10 @@ impl OnDatabase for Task {
     }
 }
 
+/// No contract refuses a store that answers `Disk` to each write over a sound disk, or a listing that always wants memory.
+/// This does.
 #[test]
-fn jobs_follow_one_another(rt: HostRuntime) -> Result<(), Fail> {
+fn store_gives_up(rt: HostRuntime) -> Result<(), Fail> {
     let alloc = rt.alloc();
     let mut make = Task {
         row: Row(What::Make, "", ""),

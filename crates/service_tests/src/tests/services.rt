@@ -246,25 +246,29 @@ fn are_answered(alloc: Global, rows: &[Row]) -> Result<(), Fail> {
 // answer, and each command a 200. Under `rt try --test --fail-alloc N`, for each N, at most one request for memory is
 // refused. The delivery is then answered 50001 and has changed nothing: sent again, it gets its answer. Each table has a
 // test of its own, since a check holds a table of rows in memory, several times over.
+mod every_delivery_fails {
+    use super::{GLOBAL, MODES, SUBJECTS, VERSIONS, are_answered};
+    use std::test::Fail;
 
-#[test]
-fn the_global_level_is_answered(rt: HostRuntime) -> Result<(), Fail> {
-    are_answered(rt.alloc(), &GLOBAL)
-}
+    #[test]
+    fn the_global_level_is_answered(rt: HostRuntime) -> Result<(), Fail> {
+        are_answered(rt.alloc(), &GLOBAL)
+    }
 
-#[test]
-fn levels_of_subjects_are_answered(rt: HostRuntime) -> Result<(), Fail> {
-    are_answered(rt.alloc(), &SUBJECTS)
-}
+    #[test]
+    fn levels_of_subjects_are_answered(rt: HostRuntime) -> Result<(), Fail> {
+        are_answered(rt.alloc(), &SUBJECTS)
+    }
 
-#[test]
-fn modes_are_answered(rt: HostRuntime) -> Result<(), Fail> {
-    are_answered(rt.alloc(), &MODES)
-}
+    #[test]
+    fn modes_are_answered(rt: HostRuntime) -> Result<(), Fail> {
+        are_answered(rt.alloc(), &MODES)
+    }
 
-#[test]
-fn versions_are_answered(rt: HostRuntime) -> Result<(), Fail> {
-    are_answered(rt.alloc(), &VERSIONS)
+    #[test]
+    fn versions_are_answered(rt: HostRuntime) -> Result<(), Fail> {
+        are_answered(rt.alloc(), &VERSIONS)
+    }
 }
 
 /// The same in one run.
