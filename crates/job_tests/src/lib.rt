@@ -1,4 +1,4 @@
-//! Tests of jobs and of connections.
+//! Tests of jobs.
 
 #![tactic(auto)]
 

@@ -1,6 +1,5 @@
-//! What no clause says of jobs: how they come out, and what is printed of them; and of connections.
+//! What no clause says of jobs: how they come out, and what is printed of them.
 
-mod connections;
 mod doing;
 mod jobs;
 mod outcomes;

@@ -1,4 +1,7 @@
-//! What no clause says of sessions: their bytes, whole and in pieces, and what fails in mid-stream.
+//! What no clause says of sessions: their bytes, whole and in pieces, what fails in mid-stream, and how connections take
+//! turns.
 
+mod accepting;
+mod connections;
 mod sessions;
 mod turns;

@@ -1,7 +1,7 @@
 //! Connections on loopback, in one thread, served by a clock and without one: what the clients send lies in the system's
 //! buffers until it is served.
 
-use super::doing::{accept, accept_by};
+use super::accepting::{accept, accept_by};
 use reg_service::Service;
 use reg_testing::{FULL_SET, GET, IS_BACKWARD, IS_FULL, OnService, SET_FULL, in_memory};
 use sqlite::Alter;

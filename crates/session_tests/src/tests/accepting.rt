@@ -1,0 +1,29 @@
+//! What a server does, without what it promises.
+
+use reg_jobs::{serve_on, serve_with_clock};
+use reg_service::Service;
+use sqlite::Alter;
+use std::alloc::Global;
+use std::net::TcpListener;
+use std::time::Clock;
+
+/// Serves so many connections.
+pub(super) fn accept<S: Alter>(
+    alloc: Global,
+    listener: &TcpListener,
+    count: u32,
+    service: &mut Service<S>,
+) {
+    serve_on(alloc, listener, count, service);
+}
+
+/// Serves so many connections by a clock.
+pub(super) fn accept_by<C: Clock, S: Alter>(
+    alloc: Global,
+    clock: &C,
+    listener: &TcpListener,
+    count: u32,
+    service: &mut Service<S>,
+) {
+    serve_with_clock(alloc, clock, listener, count, service);
+}
