@@ -242,10 +242,10 @@ fn are_answered(alloc: Global, rows: &[Row]) -> Result<(), Fail> {
     in_memory(alloc, &mut task)
 }
 
-// No contract refuses a service that answers 50001 to every delivery. These do: with ample memory each delivery has its
-// answer, and each command a 200. Under `rt try --test --fail-alloc N`, for each N, at most one request for memory is
-// refused. The delivery is then answered 50001 and has changed nothing: sent again, it gets its answer. Each table has a
-// test of its own, since a check holds a table of rows in memory, several times over.
+/// No contract refuses a service that answers 50001 to every delivery. These do: with ample memory each delivery has its
+/// answer, and each command a 200. Under `rt try --test --fail-alloc N`, for each N, at most one request for memory is
+/// refused. The delivery is then answered 50001 and has changed nothing: sent again, it gets its answer. Each table has a
+/// test of its own, since a check holds a table of rows in memory, several times over.
 mod every_delivery_fails {
     use super::{GLOBAL, MODES, SUBJECTS, VERSIONS, are_answered};
     use std::test::Fail;
