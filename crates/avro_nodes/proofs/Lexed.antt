@@ -12,9 +12,7 @@ use Rattle.json.specs.Word.{is_operator, is_space, head, ends_word, after_number
 use Rattle.json.specs.Lex.{Lexeme, token, comma, colon, Class, quote, backslash, operator, space, class, operator_lexeme, string_token, Mode, between, in_word, in_string, in_escape, lex_byte, lex}
 use Rattle.json.specs.Lex as lexer
 use Rattle.json.proofs.Printed.Numbers.{in_word-ended}
-use Rattle.avro_nodes.specs.declared.plain.Quoting.{Quoting}
-use Rattle.avro_nodes.specs.declared.plain.Quoting.TheVariants.{Outside, Inside, Escaped}
-use Rattle.avro_nodes.specs.Plain.{after, is_number_char, pieces, begins_number}
+use Rattle.avro_nodes.specs.Plain.{Quoting, Outside, Inside, Escaped, after, is_number_char, pieces, begins_number}
 use Rattle.avro_nodes.proofs.Runs.{no_number_next}
 use Rattle.avro_nodes.proofs.Unchanged.{Stops, run_copies}
 use Rattle.avro_nodes.proofs.Respelt.{IsWholeText, AllGood}

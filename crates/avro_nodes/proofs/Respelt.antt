@@ -9,9 +9,7 @@ use Rattle.std.proofs.lemmas.Option.{none-some, same_Some, cond_some, option_and
 use Rattle.serde_json.specs.Data.{Num, unsigned, negative}
 use Rattle.serde_json.specs.Read.{number_of}
 use Rattle.serde_json.proofs.Numbers.{number_of-decimal, number_of-negative}
-use Rattle.avro_nodes.specs.declared.plain.Quoting.{Quoting}
-use Rattle.avro_nodes.specs.declared.plain.Quoting.TheVariants.{Outside, Inside, Escaped}
-use Rattle.avro_nodes.specs.Plain.{after, is_number_char, is_outside, Piece, run, other, in_run, pieces, joined, before, piece_text, is_whole, whole_part, is_minus, in_range, signed, are_digits, respelt_digits, respelt_whole, respelt, begins_number, plain}
+use Rattle.avro_nodes.specs.Plain.{Quoting, Outside, Inside, Escaped, after, is_number_char, is_outside, Piece, run, other, in_run, pieces, joined, before, piece_text, is_whole, whole_part, is_minus, in_range, signed, are_digits, respelt_digits, respelt_whole, respelt, begins_number, plain}
 use Rattle.avro_nodes.specs.Whole.{is_whole_number}
 use Rattle.avro_nodes.proofs.Unchanged.{Stops, run_copies, number_chars, some_digits, all_digits}
 

@@ -1,5 +1,5 @@
 -- The runs of a text, for loops over its bytes.
-use Rattle.std.proofs.Common.{◌≡◌, ℕ, zero, suc, ◌+◌, ◌-◌, ◌<◌, ◌≤◌, ◌⊎◌, inl, inr, List, [], ◌∷◌, ◌++◌, length, take, drop, get_or, Bool, true, false, ◌&&◌, cond, Option, Some, None, refl, sym, ap, ◌∙◌, append_assoc, subst, length-drop, arith}
+use Rattle.std.proofs.Common.{◌≡◌, ℕ, zero, suc, ◌+◌, ◌-◌, ◌<◌, ◌≤◌, ◌⊎◌, inl, inr, List, [], ◌∷◌, ◌++◌, length, take, drop, get_or, Bool, true, false, ◌&&◌, ◌||◌, cond, Option, Some, None, refl, sym, ap, ◌∙◌, append_assoc, subst, length-drop, arith}
 use Rattle.std.proofs.Common.{tests}
 use Rattle.std.specs.List.{prefix_len}
 use Rattle.std.specs.Str.{IsCharBoundary, IsUtf8}
@@ -7,12 +7,10 @@ use Rattle.std.proofs.lemmas.List.Sums.{prefix_len-le-length, prefix_len_passes}
 use Rattle.std.proofs.lemmas.Str.{IsCharBoundary-before_ascii, IsCharBoundary-after_ascii, IsCharBoundary-end}
 use Rattle.std.specs.Prelude.{◌==◌, slice_range, option_and_then, unwrap_or, is_some}
 use Rattle.std.proofs.Math.Seq.{take-suc, take-add}
-use Rattle.std.proofs.lemmas.Bool.{false≢true, cases_lt}
-use Rattle.std.proofs.lemmas.List.{drop_all, get_or-drop, drop-drop}
-use Rattle.avro_nodes.specs.declared.plain.Quoting.{Quoting}
-use Rattle.avro_nodes.specs.declared.plain.Quoting.TheVariants.{Outside, Inside, Escaped}
+use Rattle.std.proofs.lemmas.Bool.{false≢true, cases_lt, false_from_ne_true, or_parts}
+use Rattle.std.proofs.lemmas.List.{drop_all, get_or-drop, get_or-take, length-take-le, drop-drop}
 use Rattle.avro_nodes.proofs.Lists.{drop_item}
-use Rattle.avro_nodes.specs.Plain.{after, is_number_char, is_outside, run, other, in_run, pieces, joined, before, piece_text, is_whole, whole_part, respelt, respelt_whole, begins_number}
+use Rattle.avro_nodes.specs.Plain.{Quoting, Outside, Inside, Escaped, after, is_number_char, is_outside, run, other, in_run, pieces, joined, before, piece_text, is_whole, whole_part, respelt, respelt_whole, begins_number}
 
 pub before_before : (a b : List ℕ) (o : Option (List ℕ)) → before a (before b o) ≡ before (a ++ b) o
 before_before a b None = refl
@@ -47,24 +45,63 @@ range_join xs i j k a b =
     let parts : take (k - i) (drop i xs) ≡ take (j - i) (drop i xs) ++ take (k - j) (drop (j - i) (drop i xs)) = rw total (take-add (j - i) (k - j) (drop i xs)) in
     sym (parts ∙ ap (λ (ys : List ℕ). take (j - i) (drop i xs) ++ take (k - j) ys) (drop-drop (j - i) i xs ∙ ap (λ n. drop n xs) there))
 
-pub joined_more : (bs : List ℕ) (from at end : ℕ) → from ≤ at → at ≤ end → joined (pieces Outside (drop at bs)) ≡ before (slice_range bs at end) (joined (pieces Outside (drop end bs)))
-    → before (slice_range bs from at) (joined (pieces Outside (drop at bs))) ≡ before (slice_range bs from end) (joined (pieces Outside (drop end bs)))
-joined_more bs from at end a b e =
+pub joined_more : (q r : Quoting) (bs : List ℕ) (from at end : ℕ) → from ≤ at → at ≤ end → joined (pieces q (drop at bs)) ≡ before (slice_range bs at end) (joined (pieces r (drop end bs)))
+    → before (slice_range bs from at) (joined (pieces q (drop at bs))) ≡ before (slice_range bs from end) (joined (pieces r (drop end bs)))
+joined_more q r bs from at end a b e =
     ap (before (slice_range bs from at)) e
-    ∙ before_before (slice_range bs from at) (slice_range bs at end) (joined (pieces Outside (drop end bs)))
-    ∙ ap (λ (s : List ℕ). before s (joined (pieces Outside (drop end bs)))) (range_join bs from at end a b)
+    ∙ before_before (slice_range bs from at) (slice_range bs at end) (joined (pieces r (drop end bs)))
+    ∙ ap (λ (s : List ℕ). before s (joined (pieces r (drop end bs)))) (range_join bs from at end a b)
 
 pub nothing_skipped : (bs : List ℕ) (at : ℕ) (q : Quoting) → joined (pieces q (drop at bs)) ≡ before (slice_range bs at at) (joined (pieces q (drop at bs)))
 nothing_skipped bs at q = let none : at - at ≡ 0 = omega arith in rw none (sym (before_nothing (joined (pieces q (drop at bs)))))
 
-pub outside_is : (q : Quoting) → is_outside q ≡ true → q ≡ Outside
-outside_is Outside e = refl
-outside_is Inside e = absurd (false≢true e)
-outside_is Escaped e = absurd (false≢true e)
+-- the byte behind what is left out inside a string
+pub inside_next : (bs : List ℕ) (at : ℕ) (q r : Quoting) → at < length bs → is_outside q ≡ false → after q (get_or bs at 0) ≡ r
+    → joined (pieces q (drop at bs)) ≡ before (slice_range bs at (at + 1)) (joined (pieces r (drop (at + 1) bs)))
+inside_next bs at q r h inside goes =
+    nothing_skipped bs at q ∙ sym (other_more bs at at q (omega arith) h (rw inside refl))
+    ∙ ap (λ (p : Quoting). before (slice_range bs at (at + 1)) (joined (pieces p (drop (at + 1) bs)))) goes
 
-pub inside_more : (bs : List ℕ) (from at : ℕ) (q : Quoting) → from ≤ at → at < length bs → is_outside q ≡ false
-    → before (slice_range bs from (at + 1)) (joined (pieces (after q (get_or bs at 0)) (drop (at + 1) bs))) ≡ before (slice_range bs from at) (joined (pieces q (drop at bs)))
-inside_more bs from at q a b e = other_more bs from at q a b (rw e refl)
+pub quote_ends : (c : ℕ) → c ≡ 34 → after Inside c ≡ Outside
+quote_ends c e = rw e refl
+
+pub escape_begins : (c : ℕ) → c ≡ 92 → after Inside c ≡ Escaped
+escape_begins c e = rw e refl
+
+stays_inside : (c : ℕ) → (c == 34) ≡ false → (c == 92) ≡ false → after Inside c ≡ Inside
+stays_inside c e f = rw (e, f) refl
+
+-- neither a quote nor a backslash
+abbrev IsPlainByte : ℕ → Type 0
+IsPlainByte c = (c == 34 || c == 92) ≡ false
+
+one_inside : (bs : List ℕ) (at : ℕ) → at < length bs → IsPlainByte (get_or bs at 0)
+    → joined (pieces Inside (drop at bs)) ≡ before (slice_range bs at (at + 1)) (joined (pieces Inside (drop (at + 1) bs)))
+one_inside bs at h is =
+    let c = get_or bs at 0 in
+    let parts = or_parts (c == 34) (c == 92) is in
+    inside_next bs at Inside Inside h refl (stays_inside c parts.0 parts.1)
+
+pub marks_skipped : (bs : List ℕ) (from n : ℕ) → from + n ≤ length bs → ((k : ℕ) → k < n → IsPlainByte (get_or bs (from + k) 0))
+    → joined (pieces Inside (drop from bs)) ≡ before (slice_range bs from (from + n)) (joined (pieces Inside (drop (from + n) bs)))
+marks_skipped bs from zero h each =
+    let here : from + 0 ≡ from = omega arith in
+    rw here (nothing_skipped bs from Inside)
+marks_skipped bs from (suc n) h each =
+    let next : from + n + 1 ≡ from + suc n = omega arith in
+    marks_skipped bs from n (omega (arith, h)) (λ k below. each k (omega (arith, below)))
+    ∙ joined_more Inside Inside bs from (from + n) (from + n + 1) (omega arith) (omega arith) (one_inside bs (from + n) (omega (arith, h)) (each n (omega arith)))
+    ∙ ap (λ m. before (slice_range bs from m) (joined (pieces Inside (drop m bs)))) next
+
+pub length_behind : (bs : List ℕ) (from : ℕ) → length (take (length bs - from) (drop from bs)) ≡ length bs - from
+length_behind bs from = length-take-le (length bs - from) (drop from bs) (omega (arith, length-drop from bs))
+
+-- a byte of what is searched that is no mark is none of the text
+pub plain_behind : (bs : List ℕ) (from k : ℕ) → k < length bs - from → ¬ ((get_or (take (length bs - from) (drop from bs)) k 0 == 34 || get_or (take (length bs - from) (drop from bs)) k 0 == 92) ≡ true)
+    → IsPlainByte (get_or bs (from + k) 0)
+plain_behind bs from k h differs =
+    let same : get_or (take (length bs - from) (drop from bs)) k 0 ≡ get_or bs (from + k) 0 = get_or-take (length bs - from) (drop from bs) k 0 h ∙ get_or-drop from bs k 0 in
+    subst IsPlainByte same (false_from_ne_true (get_or (take (length bs - from) (drop from bs)) k 0 == 34 || get_or (take (length bs - from) (drop from bs)) k 0 == 92) differs)
 
 other_skipped : (bs : List ℕ) (at : ℕ) → at < length bs → is_number_char (get_or bs at 0) ≡ false → joined (pieces Outside (drop at bs)) ≡ before (slice_range bs at (at + 1)) (joined (pieces (after Outside (get_or bs at 0)) (drop (at + 1) bs)))
 other_skipped bs at h e = nothing_skipped bs at Outside ∙ sym (other_more bs at at Outside (omega arith) h e)

@@ -14,9 +14,7 @@ use Rattle.std.specs.List.{flat_map}
 use Rattle.serde_json.proofs.OnLiterals.{serde_json_on_literals}
 use Rattle.serde_json.specs.Data.{Num, unsigned, negative, float, Data, null, boolean, number, string, array, object, Items, no_items, item, Members, no_members, member}
 use Rattle.serde_json.specs.Written.{number_text, comma_if, compact_text, items_text, members_text}
-use Rattle.avro_nodes.specs.declared.plain.Quoting.{Quoting}
-use Rattle.avro_nodes.specs.declared.plain.Quoting.TheVariants.{Outside, Inside, Escaped}
-use Rattle.avro_nodes.specs.Plain.{after, is_number_char, is_outside, Piece, run, in_run, pieces, joined, before, piece_text, is_point, is_minus, are_digits, respelt_whole, respelt, begins_number, plain}
+use Rattle.avro_nodes.specs.Plain.{Quoting, Outside, Inside, Escaped, after, is_number_char, is_outside, Piece, run, in_run, pieces, joined, before, piece_text, is_point, is_minus, are_digits, respelt_whole, respelt, begins_number, plain}
 use Rattle.avro_nodes.specs.Whole.{is_whole_number, has_whole_numbers, items_have_whole_numbers, members_have_whole_numbers}
 use Rattle.avro_nodes.specs.Nodes.{NodeView}
 use Rattle.avro_nodes.specs.Identity.{identity, identity_value, nodes_pass}

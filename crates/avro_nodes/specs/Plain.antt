@@ -5,12 +5,16 @@ use Rattle.std.specs.Char.{is_ascii_digit}
 use Rattle.std.specs.Fmt.{signed_decimal}
 use Rattle.std.specs.List.{list_any, list_all, before_first, after_first, position_or_len}
 use Rattle.std.specs.Str.Parse.{digits_value}
-use Rattle.avro_nodes.specs.declared.plain.Quoting.{Quoting}
-use Rattle.avro_nodes.specs.declared.plain.Quoting.TheVariants.{Outside, Inside, Escaped}
 
 -- ---- the runs of a text
 
--- where what follows a byte stands: outside the strings, inside one, or inside one behind a backslash (RFC 8259, section 7)
+-- where a byte stands: outside the strings, inside one, or inside one behind a backslash
+pub data Quoting : Type 0 where
+  Outside : Quoting
+  Inside : Quoting
+  Escaped : Quoting
+
+-- where what follows a byte stands (RFC 8259, section 7)
 abbrev pub after : Quoting → ℕ → Quoting
 after Outside c = if c == 34 then Inside else Outside
 after Inside c = if c == 34 then Outside else (if c == 92 then Escaped else Inside)

@@ -3,59 +3,44 @@
 //! section 6).
 
 ghost use Rattle.std.specs.Prelude.{◌≡◌, ◌+◌, ◌^◌, ◌==◌, ◌<◌, ◌≤◌, ◌&&◌, ◌⊎◌, length, drop, slice_range, slice_index, nat_lt, take, IsTrue, true, false, if◌then◌else◌, Some, None, IfOk, option_map, string_bytes};
-ghost use Rattle.avro_nodes.specs.declared.plain.Quoting.TheVariants.{Outside, Inside};
 ghost use Rattle.std.specs.Char.{is_ascii_digit};
 ghost use Rattle.std.specs.List.{prefix_len, list_all};
 ghost use Rattle.std.specs.Str.{IsCharBoundary};
 ghost use Rattle.std.specs.Str.Parse.{digits_value};
-ghost use Rattle.avro_nodes.specs.Plain.{after as after_of, is_number_char as is_number_char_of, is_outside as is_outside_of, pieces, joined, before, is_whole, whole_part as whole_part_of, are_digits as are_digits_of, are_zeros as are_zeros_of, respelt_whole, begins_number as begins_number_of, piece_text, run as run_of, plain};
+ghost use Rattle.avro_nodes.specs.Plain.{Inside, Outside, is_number_char as is_number_char_of, pieces, joined, before, is_whole, whole_part as whole_part_of, are_digits as are_digits_of, are_zeros as are_zeros_of, respelt_whole, begins_number as begins_number_of, piece_text, run as run_of, plain};
 
 use crate::error::OutOfMemory;
+use memchr::memchr2;
 use std::alloc::Global;
-
-/// Where a byte stands: outside the strings, inside one, or in one behind a backslash.
-#[derive(Clone, Copy, Debug)]
-enum Quoting {
-    Outside,
-    Inside,
-    Escaped,
-}
-
-fn after(quoting: Quoting, c: u8) -> Quoting
-    ensures { result ≡ after_of quoting c }
-{
-    match quoting {
-        Quoting::Outside => if c == b'"' {
-            Quoting::Inside
-        } else {
-            Quoting::Outside
-        },
-        Quoting::Inside => {
-            if c == b'"' {
-                Quoting::Outside
-            } else if c == b'\\' {
-                Quoting::Escaped
-            } else {
-                Quoting::Inside
-            }
-        }
-        Quoting::Escaped => Quoting::Inside,
-    }
-}
 
 fn is_number_char(c: u8) -> bool
     ensures { result ≡ is_number_char_of c }
 {
-    c.is_ascii_digit() || b"+-.eE".contains(&c)
+    matches!(c, b'0'..=b'9' | b'+' | b'-' | b'.' | b'e' | b'E')
 }
 
-fn is_outside(quoting: Quoting) -> bool
-    ensures { result ≡ is_outside_of quoting }
+/// Where what follows a backslash inside a string and the byte that it escapes begins.
+fn escape_end(bytes: &[u8], at: usize) -> usize
+    requires { (at < length bytes.now) × (slice_index bytes.now at ≡ 92) }
+    ensures place { (at < result) × (result ≤ length bytes.now) }
+    ensures pieces { joined (pieces Inside (drop at bytes.now))
+        ≡ before (slice_range bytes.now at result) (joined (pieces Inside (drop result bytes.now))) }
 {
-    match quoting {
-        Quoting::Outside => true,
-        Quoting::Inside => false,
-        Quoting::Escaped => false,
+    if at + 1 < bytes.len() { at + 2 } else { at + 1 }
+}
+
+/// Where the first quote or backslash stands, from a byte on that is inside a string.
+fn next_mark(bytes: &[u8], from: usize) -> usize
+    requires { from ≤ length bytes.now }
+    ensures place { (from ≤ result) × (result ≤ length bytes.now) }
+    ensures found { result < length bytes.now
+        → (slice_index bytes.now result ≡ 34) ⊎ (slice_index bytes.now result ≡ 92) }
+    ensures pieces { joined (pieces Inside (drop from bytes.now))
+        ≡ before (slice_range bytes.now from result) (joined (pieces Inside (drop result bytes.now))) }
+{
+    match memchr2(b'"', b'\\', &bytes[from..]) {
+        Some(skipped) => from + skipped,
+        None => bytes.len(),
     }
 }
 
@@ -66,14 +51,14 @@ fn string_end(bytes: &[u8], from: usize) -> usize
     ensures pieces { joined (pieces Inside (drop from bytes.now))
         ≡ before (slice_range bytes.now from result) (joined (pieces Outside (drop result bytes.now))) }
 {
-    let mut quoting = Quoting::Inside;
-    for at in from..bytes.len() {
-        quoting = after(quoting, bytes[at]);
-        if is_outside(quoting) {
+    let mut at = next_mark(bytes, from);
+    while at < bytes.len() {
+        if bytes[at] == b'"' {
             return at + 1;
         }
+        at = next_mark(bytes, escape_end(bytes, at));
     }
-    bytes.len()
+    at
 }
 
 /// Where what follows a string, or the byte that begins none, begins outside the strings.

@@ -24,9 +24,9 @@ held_all (Some x) (Some y) None bytes put kept = absurd kept
 held_all (Some x) (Some y) (Some z) bytes put kept = kept ∙ put ∙ ap (λ (l : List ℕ). l ++ bytes) (append-nil x)
 
 -- an error that is passed on
-pub passed_on : (r : Result (Unit {0}) ReportError) (e f : ReportError) → IsErrAnd r (λ failure. failure ≡ e) → e ≡ f → r ≡ Err f
-passed_on (Ok x) e f is same = absurd is
-passed_on (Err failure) e f is same = ap (λ (given : ReportError). Err given) (is ∙ same)
+pub fails_with : (r : Result (Unit {0}) ReportError) (e f : ReportError) → IsErrAnd r (λ failure. failure ≡ e) → e ≡ f → r ≡ Err f
+fails_with (Ok x) e f is same = absurd is
+fails_with (Err failure) e f is same = ap (λ (given : ReportError). Err given) (is ∙ same)
 
 -- it is none of the store where bytes were put
 pub PutsBehind-no_fault : (old new : Option (List ℕ)) (bytes : List ℕ) (e : ReportError) (P : StoreError → Type 0) → PutsBehind (Err e) old new bytes → IfErr (store_answer {T = Unit {0}} (Err e)) P

@@ -7,7 +7,7 @@ use Rattle.sqlite.specs.Effect.{Database}
 use Rattle.reg_core.specs.Registry.{RowKey}
 use Rattle.reg_tables.specs.declared.second_lines.EvidenceLine.{EvidenceLine}
 use Rattle.reg_tables.specs.declared.second_lines.AgainstLine.{AgainstLine}
-use Rattle.reg_tables.specs.SecondListings.{against_rows, ListsAgainstOf, ListsEvidence}
+use Rattle.reg_tables.specs.SecondListings.{against_rows, greatest_integer, ListsAgainstOf, ListsEvidence}
 use Rattle.reg_store.specs.Spells.{SpellsUnopened}
 use Rattle.reg_store.specs.Inside.Testing.{AreApart, evidence_fits, version_at, StandInOrder, rowids_in, JudgesVersion, JudgesVersions, TellsIds, EvidencePasses, SpellsSome}
 use Rattle.reg_store.proofs.PartsPass.{parts_passed, fits, parts_apart, parts_counted, parts_fit}
@@ -61,7 +61,7 @@ module _ (db : Database) (evidence : List EvidenceLine) where
 
   -- ---- the verdict
 
-  module _ (lists : ListsEvidence db evidence) (rowids : List ℤ) (fit : Bool) (count : ℕ) (it : TellsIds (map version_at evidence) db rowids fit count) (few : length rowids < 9223372036854775807) where
+  module _ (lists : ListsEvidence db evidence) (rowids : List ℤ) (fit : Bool) (count : ℕ) (it : TellsIds (map version_at evidence) db rowids fit count) (few : length rowids < greatest_integer) where
     pub all_passed : Passes evidence rowids fit count → EvidencePasses db
     all_passed p =
         let many : length (against_rows db) ≡ length rowids = (let same = p.2 in let counted = it.counted in omega (arith, same, counted, few)) in

@@ -9,9 +9,6 @@ use Rattle.reg_tables.specs.declared.lines.VersionLine.{VersionLine}
 use Rattle.reg_tables.specs.declared.lines.LevelLine.{LevelLine}
 use Rattle.reg_tables.specs.declared.lines.KeptLine.{KeptLine}
 use Rattle.reg_tables.specs.declared.lines.MetaLine.{MetaLine}
-use Rattle.reg_tables.specs.declared.modes.ModeLine.{ModeLine}
-use Rattle.reg_tables.specs.declared.second_lines.EvidenceLine.{EvidenceLine}
-use Rattle.reg_tables.specs.declared.second_lines.AgainstLine.{AgainstLine}
 use Rattle.sqlite_rules.specs.Lists.{Has}
 use Rattle.reg_tables.specs.Layout.{HasTablesFirst, versions, meta}
 use Rattle.reg_tables.specs.SecondLayout.{IsSecondLayout, second_unindexed, second_indexed_last}

@@ -24,7 +24,7 @@ use Rattle.sqlite_sql.specs.Program.{ProgramOverflows}
 use Rattle.sqlite_sql.specs.declared.aggregate.AggregateOp.TheVariants.{CountRows}
 use Rattle.reg_tables.specs.Layout.{begins}
 use Rattle.reg_tables.specs.SecondLayout.{added, HasSecondTables, table_at}
-use Rattle.reg_tables.specs.SecondListings.{against_rows, HasAgainstRows}
+use Rattle.reg_tables.specs.SecondListings.{against_rows, greatest_integer, HasAgainstRows}
 use Rattle.reg_tables.specs.Inside.ReadableRows.{IsReadableCount}
 use Rattle.reg_tables.specs.Inside.Statements.{all_rows, IsSelect, TakesSelect}
 use Rattle.reg_tables.proofs.KeyedTables.{with_nothing, select_answered}
@@ -91,7 +91,7 @@ each_once [] params = refl
 each_once (r ∷ rows) params = ap suc (each_once rows params)
 
 abbrev many : List Row → Value
-many rows = Int (pos (min (length rows) 9223372036854775807))
+many rows = Int (pos (min (length rows) greatest_integer))
 
 -- one row, with as many as there are
 module _ (tree : ℕ) (db : Trees) (found : List Row) (a : IsAnswer (count_query tree) db [] found) where
@@ -105,8 +105,8 @@ module _ (tree : ℕ) (db : Trees) (found : List Row) (a : IsAnswer (count_query
   by_values row [] h is = absurd h
   by_values row (v ∷ []) h is =
       let told = h.0 in
-      let same : Int (pos (min (length (map (eval (lit Null)) order)) 9223372036854775807)) ≡ v = cc in
-      is ∙ ap (λ x. x ∷ []) (sym same ∙ ap (λ n. Int (pos (min n 9223372036854775807))) long)
+      let same : Int (pos (min (length (map (eval (lit Null)) order)) greatest_integer)) ≡ v = cc in
+      is ∙ ap (λ x. x ∷ []) (sym same ∙ ap (λ n. Int (pos (min n greatest_integer))) long)
   by_values row (v ∷ w ∷ values) h is = absurd h.1
 
   by_rows : (rows : List Row) → AllZip (IsSummary counting) (order ∷ []) rows → a.staged ≡ filter (λ env. list_all (holds env) []) (map (λ (r : Row). [] ∷ r ∷ []) rows) → found ≡ (many (db tree) ∷ []) ∷ []
@@ -136,7 +136,7 @@ asks_count = record {
   is = count_is;
   takes = count_takes;
   readable = λ first place indexes old new same there found h.
-      all_if_each IsReadableCount found (λ x has. elim (subst (λ l. Has l x) (count_found first place indexes old new same found h) has) [ inl is ↦ record { count = min (length (old.now.trees (first + 4))) 9223372036854775807; is = is } | inr later ↦ absurd later ]);
+      all_if_each IsReadableCount found (λ x has. elim (subst (λ l. Has l x) (count_found first place indexes old new same found h) has) [ inl is ↦ record { count = min (length (old.now.trees (first + 4))) greatest_integer; is = is } | inr later ↦ absurd later ]);
 }
 
 pub counted : (old new : State) (found : List Row) → Shown count_sql [] old new found → HasSecondTables old.now.schema → option_map (λ (row : Row). column row 0) (slice_get found 0) ≡ Some (many (against_rows old.now))

@@ -43,6 +43,10 @@ is_of version row = is_eq (value_cmp (column row 1) (Text version.0)) && is_eq (
 abbrev pub ListsAgainstOf : List ℕ × ℕ → Database → List AgainstLine → Type 0
 ListsAgainstOf version db lines = Lists against_form (filter (is_of version) (against_rows db)) (map against_entry lines)
 
--- SQLite, count(*): as many rows as there are, or the greatest number where there are more
+-- SQLite, Datatypes: the greatest integer
+abbrev pub greatest_integer : ℕ
+greatest_integer = 9223372036854775807
+
+-- SQLite, count(*): as many rows as there are, or the greatest integer where there are more
 abbrev pub HasAgainstRows : Database → ℕ → Type 0
-HasAgainstRows db count = count ≡ min (length (against_rows db)) 9223372036854775807
+HasAgainstRows db count = count ≡ min (length (against_rows db)) greatest_integer

@@ -2,7 +2,7 @@
 
 ghost use Rattle.std.specs.Prelude.{◌≡◌, ◌↔◌, ◌<◌, ◌++◌, ℤ, List, map, length, IfOk, IfErr, OnOk, IsTrue};
 ghost use Rattle.std.specs.List.{AllByRecursion};
-ghost use Rattle.reg_tables.specs.SecondListings.{ListsEvidence, HasAgainstRows};
+ghost use Rattle.reg_tables.specs.SecondListings.{ListsEvidence, HasAgainstRows, greatest_integer};
 ghost use Rattle.reg_rows.specs.Places.{place_in};
 ghost use Rattle.reg_store.specs.Failures.{IsNumberless};
 ghost use Rattle.reg_store.specs.Inside.Testing.{AreApart, mode_fits, evidence_fits, against_fits, version_at, place_at, StandInOrder, rowids_in, JudgesVersion, TellsIds, ModesPass, EvidencePasses, AddedPass, TestsSecond};
@@ -193,7 +193,7 @@ fn are_all(numbers: Vec<i64>, count: u64) -> bool
 
 /// Whether the lines of `evidence` pass, and with them all rows of `against`.
 fn pass_evidence(alloc: Global, evidence: &[EvidenceLine], ids: Ids) -> Result<bool, AllocError>
-    ensures few { OnOk result (length ids.rowids.items < 9223372036854775807) }
+    ensures few { OnOk result (length ids.rowids.items < greatest_integer) }
     ensures passes { IfOk result (λ yes. IsTrue yes ↔ (IsTrue ids.fit
         × (AreApart (map (λ line. line.rowid) evidence.now) × AllByRecursion evidence_fits evidence.now)
         × (length ids.rowids.items ≡ ids.count) × AreApart ids.rowids.items)) }

@@ -1,8 +1,7 @@
 use Rattle.std.proofs.Common.{◌≡◌, ◌≤◌, ◌∙◌, List, ℕ, ap, sym, take, drop, arith}
 use Rattle.std.specs.Prelude.{slice_range}
 use Rattle.std.proofs.lemmas.Str.{IsCharBoundary-start}
-use Rattle.avro_nodes.specs.declared.plain.Quoting.TheVariants.{Outside}
-use Rattle.avro_nodes.specs.Plain.{before, joined, pieces, plain}
+use Rattle.avro_nodes.specs.Plain.{Outside, before, joined, pieces, plain}
 use Rattle.avro_nodes.proofs.Runs.{before_nothing, turn_done, run_cut, taken_more}
 use Rattle.avro_nodes.proofs.plain.kept_up_to.Goals as goal
 

@@ -1,7 +1,6 @@
 use Rattle.std.proofs.Common.{◌≡◌, ◌-◌, ◌≤◌, take, drop, length}
 use Rattle.std.specs.Str.{IsCharBoundary}
-use Rattle.avro_nodes.specs.declared.plain.Quoting.TheVariants.{Outside}
-use Rattle.avro_nodes.specs.Plain.{before, joined, pieces, plain}
+use Rattle.avro_nodes.specs.Plain.{Outside, before, joined, pieces, plain}
 use Rattle.avro_nodes.proofs.plain.kept_up_to.Given as goal
 
 abbrev pub invariant-loop-at : goal.invariant-loop-at

@@ -1,7 +1,6 @@
 use Rattle.std.proofs.Common.{◌∙◌, ℕ, List, Some, string_bytes, sym, ap}
 use Rattle.std.proofs.lemmas.List.{append-nil}
-use Rattle.avro_nodes.specs.declared.plain.Quoting.TheVariants.{Outside}
-use Rattle.avro_nodes.specs.Plain.{before, plain}
+use Rattle.avro_nodes.specs.Plain.{Outside, before, plain}
 use Rattle.avro_nodes.proofs.Runs.{front_range, nothing_left, turn_done, turn_fails, run_cut}
 use Rattle.avro_nodes.proofs.plain.plain_of.Goals as goal
 

@@ -1,5 +1,5 @@
 use Rattle.std.proofs.Common.{◌∙◌, arith}
-use Rattle.avro_nodes.specs.declared.plain.Quoting.TheVariants.{Outside}
+use Rattle.avro_nodes.specs.Plain.{Outside}
 use Rattle.avro_nodes.proofs.Runs.{joined_more, nothing_skipped}
 use Rattle.avro_nodes.proofs.plain.run_start.Goals as goal
 
@@ -12,5 +12,5 @@ loop-at-init c = record {
 pub loop-at-preserved : goal.loop-at-preserved
 loop-at-preserved c = record {
   place = (omega arith, omega arith);
-  skipped = c.loop-at.invariant.skipped ∙ joined_more c.args.bytes.now c.args.from c.loop-at.at c.next_outside-at.result c.loop-at.invariant.place.0 (omega arith) c.next_outside-at.ensures.pieces;
+  skipped = c.loop-at.invariant.skipped ∙ joined_more Outside Outside c.args.bytes.now c.args.from c.loop-at.at c.next_outside-at.result c.loop-at.invariant.place.0 (omega arith) c.next_outside-at.ensures.pieces;
 }

@@ -1,7 +1,6 @@
 use Rattle.std.proofs.Common.{◌≡◌, ◌≤◌, ◌-◌, drop, length}
 use Rattle.std.specs.Prelude.{slice_range}
-use Rattle.avro_nodes.specs.declared.plain.Quoting.TheVariants.{Outside}
-use Rattle.avro_nodes.specs.Plain.{before, joined, pieces}
+use Rattle.avro_nodes.specs.Plain.{Outside, before, joined, pieces}
 use Rattle.avro_nodes.proofs.plain.run_start.Given as goal
 
 abbrev pub invariant-loop-at : goal.invariant-loop-at
