@@ -5,11 +5,11 @@ ghost use Rattle.std.specs.Prelude.{◌≡◌, ◌≢◌, ℕ, ◌<◌, ◌≤�
 ghost use Rattle.avro_nodes.specs.Nodes.{FieldView, field_view};
 ghost use Rattle.avro_schema.specs.Index.{AreFieldsRanked, IsFieldRanked};
 ghost use Rattle.avro_resolve.specs.Asking.{source_place};
-ghost use Rattle.avro_resolve.specs.Inside.Laying.{box, names_in, AreLaid, Holds, IsClear, IsSource};
+ghost use Rattle.avro_resolve.specs.Inside.Laying.{box, names_in, AreLaid, AreReadOff, Holds, IsClear, IsSource};
 ghost use Rattle.avro_resolve.specs.Inside.Sides.{names_of, IsSides};
 
 use crate::met::Met;
-use crate::sides::Sides;
+use crate::sides::{Fields, Sides};
 use avro_nodes::Field;
 use avro_schema::FieldRanks;
 use std::alloc::{AllocError, Global};
@@ -128,22 +128,19 @@ fn read_off(
     alloc: Global,
     boxes: &[Option<usize>],
     sides: &Sides,
-    fields: &[Field],
-    ranks: &[FieldRanks],
-    wanted: &[Field],
-    names: &[FieldRanks],
+    fields: Fields,
+    wanted: Fields,
 ) -> Result<Vec<Option<u32>>, AllocError>
     requires sides { IsSides sides.now }
-    requires ranked { AreFieldsRanked (names_of sides.now.writer) (map field_view fields.now) ranks.now }
-    requires laid { AreLaid sides.now.met.ranks.items (names_in ranks.now) 0 boxes.now }
+    requires ranked { AreFieldsRanked (names_of sides.now.writer) (map field_view fields.fields.now) fields.ranks.now }
+    requires laid { AreLaid sides.now.met.ranks.items (names_in fields.ranks.now) 0 boxes.now }
     requires room { length (names_of sides.now.reader) ≤ length boxes.now }
-    requires named { AreFieldsRanked (names_of sides.now.reader) (map field_view wanted.now) names.now }
-    ensures { IfOk result (λ v. v.items ≡ map (λ f. source_place (map field_view fields.now) (field_view f)) wanted.now) }
+    requires named { AreFieldsRanked (names_of sides.now.reader) (map field_view wanted.fields.now) wanted.ranks.now }
+    ensures { IfOk result (λ v. AreReadOff (map field_view fields.entry.fields.now) (map field_view wanted.entry.fields.now) v.items) }
 {
-    let _wanted = wanted;
-    let mut places = Vec::with_capacity(alloc, names.len())?;
-    for field in names {
-        places.push(place_of(boxes, sides, fields, ranks, field))?;
+    let mut places = Vec::with_capacity(alloc, wanted.ranks.len())?;
+    for names in wanted.ranks {
+        places.push(place_of(boxes, sides, fields.fields, fields.ranks, names))?;
     }
     Ok(places)
 }
@@ -153,22 +150,20 @@ fn read_laid(
     alloc: Global,
     boxes: &mut [Option<usize>],
     sides: &Sides,
-    fields: &[Field],
-    ranks: &[FieldRanks],
-    wanted: &[Field],
-    names: &[FieldRanks],
+    fields: Fields,
+    wanted: Fields,
 ) -> Result<Vec<Option<u32>>, AllocError>
     requires sides { IsSides sides.now }
     requires clear { IsClear boxes.old }
     requires room { length (names_of sides.now.reader) ≤ length boxes.old }
-    requires ranked { AreFieldsRanked (names_of sides.now.writer) (map field_view fields.now) ranks.now }
-    requires named { AreFieldsRanked (names_of sides.now.reader) (map field_view wanted.now) names.now }
+    requires ranked { AreFieldsRanked (names_of sides.now.writer) (map field_view fields.fields.now) fields.ranks.now }
+    requires named { AreFieldsRanked (names_of sides.now.reader) (map field_view wanted.fields.now) wanted.ranks.now }
     ensures clear { IsClear boxes.new }
-    ensures told { IfOk result (λ v. v.items ≡ map (λ f. source_place (map field_view fields.now) (field_view f)) wanted.now) }
+    ensures told { IfOk result (λ v. AreReadOff (map field_view fields.entry.fields.now) (map field_view wanted.entry.fields.now) v.items) }
 {
-    lay(boxes, &sides.met, ranks);
-    let places = read_off(alloc, boxes, sides, fields, ranks, wanted, names);
-    lift(boxes, &sides.met, ranks);
+    lay(boxes, &sides.met, fields.ranks);
+    let places = read_off(alloc, boxes, sides, fields, wanted);
+    lift(boxes, &sides.met, fields.ranks);
     places
 }
 
@@ -203,10 +198,10 @@ impl Model for Desk {
 }
 
 impl Desk {
-    ghost use Rattle.std.specs.Prelude.{◌≡◌, IfOk, map};
+    ghost use Rattle.std.specs.Prelude.{IfOk, map};
     ghost use Rattle.avro_nodes.specs.Nodes.{field_view};
     ghost use Rattle.avro_schema.specs.Index.{AreFieldsRanked};
-    ghost use Rattle.avro_resolve.specs.Asking.{source_place};
+    ghost use Rattle.avro_resolve.specs.Inside.Laying.{AreReadOff};
     ghost use Rattle.avro_resolve.specs.Inside.Sides.{names_of, IsSides};
 
     /// A desk without boxes; they are made where they are needed first.
@@ -226,18 +221,15 @@ impl Desk {
         &mut self,
         alloc: Global,
         sides: &Sides,
-        fields: &[Field],
-        ranks: &[FieldRanks],
-        wanted: &[Field],
-        names: &[FieldRanks],
+        fields: Fields,
+        wanted: Fields,
     ) -> Result<Vec<Option<u32>>, AllocError>
         requires sides { IsSides sides.now }
-        requires ranked { AreFieldsRanked (names_of sides.now.writer) (map field_view fields.now) ranks.now }
-        requires named { AreFieldsRanked (names_of sides.now.reader) (map field_view wanted.now) names.now }
-        ensures { IfOk result (λ v. v.items
-            ≡ map (λ f. source_place (map field_view fields.now) (field_view f)) wanted.now) }
+        requires ranked { AreFieldsRanked (names_of sides.now.writer) (map field_view fields.fields.now) fields.ranks.now }
+        requires named { AreFieldsRanked (names_of sides.now.reader) (map field_view wanted.fields.now) wanted.ranks.now }
+        ensures { IfOk result (λ v. AreReadOff (map field_view fields.entry.fields.now) (map field_view wanted.entry.fields.now) v.items) }
     {
         make_room(&mut self.boxes, sides.reader.index.names.len())?;
-        read_laid(alloc, &mut self.boxes, sides, fields, ranks, wanted, names)
+        read_laid(alloc, &mut self.boxes, sides, fields, wanted)
     }
 }

@@ -3,8 +3,8 @@
 ghost use Rattle.std.specs.Prelude.{◌≡◌, ◌≤◌, ◌<◌, ◌↔◌, ℕ, false, Contains, IsTrue, OnOk, All, get_or, length};
 ghost use Rattle.std.specs.List.Sorted.{IsNonDecreasingBy};
 ghost use Rattle.avro_resolve.specs.Inside.Askers.{Joins, MayAsk};
-ghost use Rattle.avro_resolve.specs.Inside.Sides.{columns, rows, IsSides};
-ghost use Rattle.avro_resolve.specs.Inside.Left.{left, IsRest, Lists, Rests, Settled};
+ghost use Rattle.avro_resolve.specs.Inside.Sides.{columns, rows};
+ghost use Rattle.avro_resolve.specs.Inside.Left.{left, IsRestOf, IsSettled, Rests, Strikes};
 
 use crate::aliased::is_source;
 use crate::links::{Link, Way};
@@ -61,19 +61,17 @@ fn strike_at_label(
     told: (u32, u32),
     progress: &mut Progress,
 ) -> Result<(), AllocError>
-    requires sides { IsSides sides.now }
-    requires rest { IsRest (rows sides.now) (columns sides.now) progress.old.table }
+    requires rest { IsRestOf sides.now progress.old }
     requires out { left progress.old.table told.0 told.1 ≡ false }
     requires rests { (y : Link) → Contains beside.now y → link.label ≡ y.label → MayAsk sources.now told.0 link y
         → Rests (rows sides.now) (columns sides.now) link.asker y.asker told.0 told.1 }
     requires link_in { link.asker < length sides.now.writer.schema.now }
     requires beside_in { All (λ y. y.asker < length sides.now.reader.schema.now) beside.now }
     requires sorted { IsNonDecreasingBy (λ (y : Link). y.label) beside.now }
-    ensures rest { OnOk result (IsRest (rows sides.now) (columns sides.now) progress.new.table) }
-    ensures lists { OnOk result (Lists progress.old.table progress.old.struck.items progress.new.table progress.new.struck.items) }
+    ensures strikes { OnOk result (Strikes sides.now progress.old progress.new) }
     ensures settled { OnOk result ((k : ℕ) (d : Link) → from ≤ k → k < length beside.now
         → link.label ≡ (get_or beside.now k d).label → MayAsk sources.now told.0 link (get_or beside.now k d)
-        → Settled (rows sides.now) (columns sides.now) progress.new.table progress.new.struck.items link.asker
+        → IsSettled sides.now progress.new link.asker
         (get_or beside.now k d).asker) }
 {
     for at in from..beside.len() {
@@ -99,8 +97,7 @@ pub fn strike_joined(
     told: (u32, u32),
     progress: &mut Progress,
 ) -> Result<(), AllocError>
-    requires sides { IsSides sides.now }
-    requires rest { IsRest (rows sides.now) (columns sides.now) progress.old.table }
+    requires rest { IsRestOf sides.now progress.old }
     requires out { left progress.old.table told.0 told.1 ≡ false }
     requires rests { (x y : Link) → Contains above.now x → Contains beside.now y → x.label ≡ y.label
         → MayAsk sources.now told.0 x y → Rests (rows sides.now) (columns sides.now) x.asker y.asker told.0 told.1 }
@@ -108,10 +105,8 @@ pub fn strike_joined(
     requires beside_in { All (λ y. y.asker < length sides.now.reader.schema.now) beside.now }
     requires above_sorted { IsNonDecreasingBy (λ (x : Link). x.label) above.now }
     requires beside_sorted { IsNonDecreasingBy (λ (y : Link). y.label) beside.now }
-    ensures rest { OnOk result (IsRest (rows sides.now) (columns sides.now) progress.new.table) }
-    ensures lists { OnOk result (Lists progress.old.table progress.old.struck.items progress.new.table progress.new.struck.items) }
-    ensures settled { OnOk result (Joins sources.now told.0 (Settled (rows sides.now) (columns sides.now)
-        progress.new.table progress.new.struck.items) above.now beside.now) }
+    ensures strikes { OnOk result (Strikes sides.now progress.old progress.new) }
+    ensures settled { OnOk result (Joins sources.now told.0 (IsSettled sides.now progress.new) above.now beside.now) }
 {
     let mut from = 0;
     for link in above {

@@ -1,12 +1,12 @@
 //! Strikes out pairs of places that the rest doesn't support, and lists them; unions are looked at
 //! branch by branch.
 
-ghost use Rattle.std.specs.Prelude.{◌≡◌, ℕ, ◌<◌, false, length, List, OnOk, All, Some, [], ◌∷◌, ◌++◌, slice_get};
+ghost use Rattle.std.specs.Prelude.{◌≡◌, ℕ, ◌<◌, false, length, List, OnOk, All, Some, slice_get};
 ghost use Rattle.avro_nodes.specs.Nodes.{NodeView, union};
 ghost use Rattle.avro_resolve.specs.Resolution.{Supports};
-ghost use Rattle.avro_resolve.specs.Inside.Sides.{columns, rows, IsSides};
+ghost use Rattle.avro_resolve.specs.Inside.Sides.{columns, rows};
 ghost use Rattle.avro_resolve.specs.Inside.Askers.{HasBranch};
-ghost use Rattle.avro_resolve.specs.Inside.Left.{left, GoesWith, IsRest, Lists, Rests, Settled, AllSettled};
+ghost use Rattle.avro_resolve.specs.Inside.Left.{left, AreSettledBut, GoesWith, IsRestOf, IsRowSettled, IsSettled, Rests, Strikes};
 
 use crate::sides::Sides;
 use crate::support::any_left;
@@ -30,15 +30,12 @@ pub fn strike_unsupported(
     j: u32,
     progress: &mut Progress,
 ) -> Result<(), AllocError>
-    requires sides { IsSides sides.now }
-    requires rest { IsRest (rows sides.now) (columns sides.now) progress.old.table }
+    requires rest { IsRestOf sides.now progress.old }
     requires i_in { i < length sides.now.writer.schema.now }
     requires j_in { j < length sides.now.reader.schema.now }
     requires unsupported { Supports (rows sides.now) (columns sides.now) (left progress.old.table) i j → ⊥ }
-    ensures rest { OnOk result (IsRest (rows sides.now) (columns sides.now) progress.new.table) }
-    ensures lists { OnOk result (Lists progress.old.table progress.old.struck.items progress.new.table progress.new.struck.items) }
-    ensures settled { OnOk result (Settled (rows sides.now) (columns sides.now) progress.new.table
-        progress.new.struck.items i j) }
+    ensures strikes { OnOk result (Strikes sides.now progress.old progress.new) }
+    ensures settled { OnOk result (IsSettled sides.now progress.new i j) }
     ensures gone { OnOk result (left progress.new.table i j ≡ false) }
 {
     if !progress.table.has(i, j) {
@@ -49,32 +46,6 @@ pub fn strike_unsupported(
     Ok(())
 }
 
-/// Strikes out the pairs of these places of the writer with the reader's place of a pair that is told,
-/// on which they rest.
-pub fn strike_down(
-    sides: &Sides,
-    above: &[u32],
-    told: (u32, u32),
-    progress: &mut Progress,
-) -> Result<(), AllocError>
-    requires sides { IsSides sides.now }
-    requires rest { IsRest (rows sides.now) (columns sides.now) progress.old.table }
-    requires out { left progress.old.table told.0 told.1 ≡ false }
-    requires rests { All (λ i. Rests (rows sides.now) (columns sides.now) i told.1 told.0 told.1) above.now }
-    requires above_in { All (λ i. i < length sides.now.writer.schema.now) above.now }
-    requires j_in { told.1 < length sides.now.reader.schema.now }
-    ensures rest { OnOk result (IsRest (rows sides.now) (columns sides.now) progress.new.table) }
-    ensures lists { OnOk result (Lists progress.old.table progress.old.struck.items progress.new.table progress.new.struck.items) }
-    ensures settled { OnOk result (All (λ i. Settled (rows sides.now) (columns sides.now)
-        progress.new.table progress.new.struck.items i told.1) above.now) }
-    ensures gone { OnOk result (All (λ i. left progress.new.table i told.1 ≡ false) above.now) }
-{
-    for i in above {
-        strike_unsupported(sides, *i, told.1, progress)?;
-    }
-    Ok(())
-}
-
 /// Strikes out the pairs of a writer's union that aren't left with this branch of it.
 fn look_along_branch(
     sides: &Sides,
@@ -82,13 +53,11 @@ fn look_along_branch(
     branch: u32,
     progress: &mut Progress,
 ) -> Result<(), AllocError>
-    requires sides { IsSides sides.now }
-    requires rest { IsRest (rows sides.now) (columns sides.now) progress.old.table }
+    requires rest { IsRestOf sides.now progress.old }
     requires i_in { i < length sides.now.writer.schema.now }
     requires branch_in { branch < length sides.now.writer.schema.now }
     requires has_branch { (a : NodeView) → slice_get (rows sides.now) i ≡ Some a → HasBranch a branch }
-    ensures rest { OnOk result (IsRest (rows sides.now) (columns sides.now) progress.new.table) }
-    ensures lists { OnOk result (Lists progress.old.table progress.old.struck.items progress.new.table progress.new.struck.items) }
+    ensures strikes { OnOk result (Strikes sides.now progress.old progress.new) }
     ensures goes { OnOk result ((j : ℕ) → j < length sides.now.reader.schema.now
         → GoesWith progress.new.table progress.new.struck.items i branch j) }
 {
@@ -113,15 +82,12 @@ pub fn look_along_union(
     branches: &[u32],
     progress: &mut Progress,
 ) -> Result<(), AllocError>
-    requires sides { IsSides sides.now }
-    requires rest { IsRest (rows sides.now) (columns sides.now) progress.old.table }
+    requires rest { IsRestOf sides.now progress.old }
     requires i_in { i < length sides.now.writer.schema.now }
     requires is_union { slice_get (rows sides.now) i ≡ Some (union branches.now) }
     requires branches_in { All (λ p. p < length sides.now.writer.schema.now) branches.now }
-    ensures rest { OnOk result (IsRest (rows sides.now) (columns sides.now) progress.new.table) }
-    ensures lists { OnOk result (Lists progress.old.table progress.old.struck.items progress.new.table progress.new.struck.items) }
-    ensures settled { OnOk result ((j : ℕ) → j < length sides.now.reader.schema.now
-        → Settled (rows sides.now) (columns sides.now) progress.new.table progress.new.struck.items i j) }
+    ensures strikes { OnOk result (Strikes sides.now progress.old progress.new) }
+    ensures settled { OnOk result (IsRowSettled sides.now progress.new i) }
 {
     for branch in branches {
         look_along_branch(sides, i, *branch, progress)?;
@@ -131,22 +97,19 @@ pub fn look_along_union(
 
 /// Strikes out the pair of a writer's place, which has no union, with a union of the reader's, if none
 /// is left of the pairs with its branches.
-fn look_at_branches(
+pub fn look_at_branches(
     sides: &Sides,
     i: u32,
     j: u32,
     progress: &mut Progress,
 ) -> Result<(), AllocError>
-    requires sides { IsSides sides.now }
-    requires rest { IsRest (rows sides.now) (columns sides.now) progress.old.table }
+    requires rest { IsRestOf sides.now progress.old }
     requires i_in { i < length sides.now.writer.schema.now }
     requires j_in { j < length sides.now.reader.schema.now }
     requires apart { (places : List ℕ) → slice_get (rows sides.now) i ≡ Some (union places) → ⊥ }
     requires is_union { (places : List ℕ) × (slice_get (columns sides.now) j ≡ Some (union places)) }
-    ensures rest { OnOk result (IsRest (rows sides.now) (columns sides.now) progress.new.table) }
-    ensures lists { OnOk result (Lists progress.old.table progress.old.struck.items progress.new.table progress.new.struck.items) }
-    ensures settled { OnOk result (Settled (rows sides.now) (columns sides.now) progress.new.table
-        progress.new.struck.items i j) }
+    ensures strikes { OnOk result (Strikes sides.now progress.old progress.new) }
+    ensures settled { OnOk result (IsSettled sides.now progress.new i j) }
 {
     if !progress.table.has(i, j) {
         return Ok(());
@@ -158,34 +121,4 @@ fn look_at_branches(
         return Ok(());
     }
     strike_unsupported(sides, i, j, progress)
-}
-
-/// Looks again at the pairs of the writer's place of a pair that is told with these unions of the
-/// reader's.
-pub fn look_along(
-    sides: &Sides,
-    beside: &[u32],
-    told: (u32, u32),
-    progress: &mut Progress,
-) -> Result<(), AllocError>
-    requires sides { IsSides sides.now }
-    requires rest { IsRest (rows sides.now) (columns sides.now) progress.old.table }
-    requires out { left progress.old.table told.0 told.1 ≡ false }
-    requires before { AllSettled (rows sides.now) (columns sides.now) progress.old.table
-        (progress.old.struck.items ++ told ∷ []) }
-    requires i_in { told.0 < length sides.now.writer.schema.now }
-    requires beside_in { All (λ j. j < length sides.now.reader.schema.now) beside.now }
-    requires are_unions { All (λ j. (places : List ℕ) × (slice_get (columns sides.now) j ≡ Some (union places))) beside.now }
-    ensures rest { OnOk result (IsRest (rows sides.now) (columns sides.now) progress.new.table) }
-    ensures lists { OnOk result (Lists progress.old.table progress.old.struck.items progress.new.table progress.new.struck.items) }
-    ensures settled { OnOk result (All (Settled (rows sides.now) (columns sides.now) progress.new.table
-        progress.new.struck.items told.0) beside.now) }
-{
-    if let Node::Union { .. } = sides.writer.node(told.0) {
-        return Ok(());
-    }
-    for j in beside {
-        look_at_branches(sides, told.0, *j, progress)?;
-    }
-    Ok(())
 }

@@ -1,14 +1,14 @@
 //! What the recursion looks at, beside the pairs that it opens.
 
-ghost use Rattle.std.specs.Prelude.{◌≡◌, ◌<◌, IfOk, Some, length, map, option_map, slice_get};
-ghost use Rattle.avro_nodes.specs.Nodes.{field_view};
-ghost use Rattle.avro_resolve.specs.Asking.{source_place};
+ghost use Rattle.std.specs.Prelude.{◌≡◌, ◌<◌, IfOk, Some, length, slice_get};
+ghost use Rattle.avro_nodes.specs.Nodes.{NodeView};
 ghost use Rattle.avro_resolve.specs.Inside.Agreeing.{fields_of};
+ghost use Rattle.avro_resolve.specs.Inside.Laying.{AreReadOff};
 ghost use Rattle.avro_resolve.specs.Inside.Sides.{columns, rows, IsSides};
 
 use crate::desk::Desk;
-use crate::sides::{Sides, record_ranks};
-use avro_nodes::{Field, Node};
+use crate::sides::Sides;
+use avro_nodes::Node;
 use avro_schema::FieldRanks;
 use std::alloc::{AllocError, Global};
 
@@ -65,29 +65,18 @@ impl Looks {
     /// # Errors
     ///
     /// `AllocError` where memory for them is refused.
-    pub fn sources(
-        &mut self,
-        sides: &Sides,
-        fields: &[Field],
-        wanted: &[Field],
-        i: u32,
-        j: u32,
-    ) -> Result<Vec<Option<u32>>, AllocError>
+    pub fn sources(&mut self, sides: &Sides, i: u32, j: u32) -> Result<Vec<Option<u32>>, AllocError>
         requires sides { IsSides sides.now }
-        requires i_in { i < length (rows sides.now) }
-        requires j_in { j < length (columns sides.now) }
-        requires fields { option_map fields_of (slice_get (rows sides.now) i) ≡ Some (map field_view fields.now) }
-        requires wanted { option_map fields_of (slice_get (columns sides.now) j) ≡ Some (map field_view wanted.now) }
-        ensures { IfOk result (λ v. v.items
-            ≡ map (λ f. source_place (map field_view fields.now) (field_view f)) wanted.now) }
+        requires i_in { i < length sides.now.writer.schema.now }
+        requires j_in { j < length sides.now.reader.schema.now }
+        ensures { IfOk result (λ v. (a b : NodeView) → slice_get (rows sides.now) i ≡ Some a
+            → slice_get (columns sides.now) j ≡ Some b → AreReadOff (fields_of a) (fields_of b) v.items) }
     {
-        let ranks = record_ranks(sides.writer.ranks(i));
-        let names = record_ranks(sides.reader.ranks(j));
+        let (fields, wanted) = (sides.writer.fields(i), sides.reader.fields(j));
         self.work = self
             .work
-            .saturating_add(ranks.len() as u64)
-            .saturating_add(names_sought(names));
-        self.desk
-            .sources(self.alloc, sides, fields, ranks, wanted, names)
+            .saturating_add(fields.ranks.len() as u64)
+            .saturating_add(names_sought(wanted.ranks));
+        self.desk.sources(self.alloc, sides, fields, wanted)
     }
 }

@@ -1,59 +1,26 @@
 //! Resolution by recursion: a pair that is opened is assumed, until it turns out not to be
 //! supported.
 
-ghost use Rattle.std.specs.Prelude.{◌≡◌, ℕ, ◌<◌, false, true, map, Some, IfSome, IfNone, None, slice_get, length, All, Any, IsTrue, IfOk};
+ghost use Rattle.std.specs.Prelude.{◌≡◌, ◌<◌, map, Some, slice_get, length, All, Any, IsTrue, IfOk};
 ghost use Rattle.avro_nodes.specs.Nodes.{field_view, node_view};
-ghost use Rattle.avro_resolve.specs.Resolution.{source, Readable, Fits};
+ghost use Rattle.avro_resolve.specs.Resolution.{source, Readable, Fits, Supports};
 ghost use Rattle.avro_resolve.specs.Inside.Agreeing.{Agree};
+ghost use Rattle.avro_resolve.specs.Inside.Laying.{AreReadOff};
 ghost use Rattle.avro_resolve.specs.Inside.Places.{Names};
-ghost use Rattle.avro_resolve.specs.Inside.Sides.{columns, nodes_of, rows, IsSide, IsSides};
+ghost use Rattle.avro_resolve.specs.Inside.Sides.{columns, rows, IsSides};
 ghost use Rattle.avro_resolve.specs.Witnesses.{member, without};
-ghost use Rattle.avro_resolve.specs.Asking.{source_place};
 ghost use Rattle.avro_resolve.specs.Inside.Asked.{Asked, AreAsked, IsSourceAsked};
 ghost use Rattle.avro_resolve.specs.Inside.Walking.{Ready, Tells};
 
 use crate::agreeing::agree;
 use crate::looks::Looks;
-use crate::sides::{Side, Sides};
-use crate::walk::{Answer, Walk, fail_pair, is_long, is_marked, open_pair};
+use crate::sides::Sides;
+use crate::walk::{Answer, Walk, fail_pair, is_long, open_pair};
 use avro_nodes::{Field, Node};
 use std::alloc::AllocError;
 
 /// The most pairs that are open at once.
 const MAX_OPEN: usize = 1000;
-
-/// The node at a place, which names places of nodes.
-fn node_in<'a>(side: &'a Side, place: u32) -> &'a Node
-    requires side { IsSide side.now }
-    requires within { place < length (nodes_of side.now) }
-    ensures at { slice_get (nodes_of side.now) place ≡ Some (node_view result.now) }
-    ensures names { Names (length (nodes_of side.now)) (node_view result.now) }
-{
-    side.node(place)
-}
-
-/// The place of the type of the source of the reader's field at the index, as it was read off.
-fn source_in(
-    sides: &Sides,
-    fields: &[Field],
-    sources: &[Option<u32>],
-    index: usize,
-    f: &Field,
-) -> Option<u32>
-    requires told { slice_get sources.now index ≡ Some (source_place (map field_view fields.now) (field_view f.now)) }
-    requires fields_in { All (λ g. g.place < length (rows sides.now)) (map field_view fields.now) }
-    requires asked { IsSourceAsked (rows sides.now) (columns sides.now) (map field_view fields.now) (field_view f.now) }
-    ensures none { IfNone result (source_place (map field_view fields.now) (field_view f.now) ≡ None) }
-    ensures source { IfSome result (λ p. source_place (map field_view fields.now) (field_view f.now) ≡ Some p) }
-    ensures within { IfSome result (λ p. p < length (rows sides.now)) }
-    ensures asked { IfSome result (λ p. Asked (rows sides.now) (columns sides.now) p f.now.place) }
-{
-    let (_sides, _fields, _f) = (sides, fields, f);
-    match sources.get(index) {
-        Some(place) => *place,
-        None => None,
-    }
-}
 
 /// Whether the pair is assumed, or is supported if it is opened and assumed.
 #[cycle(walk)]
@@ -74,10 +41,10 @@ pub fn ask(
         (IsTrue (member walk.new.assumed.items i j))
         ((walk.new.assumed.items ≡ walk.old.assumed.items) × IsTrue (member walk.new.failed.items i j)) answer) }
 {
-    if is_marked(&walk.assumed_set, &walk.assumed, i, j) {
+    if walk.assumed_set.has(i, j) {
         return Ok(Answer::Yes);
     }
-    if is_marked(&walk.failed_set, &walk.failed, i, j) {
+    if walk.failed_set.has(i, j) {
         return Ok(Answer::No);
     }
     if depth == MAX_OPEN {
@@ -88,8 +55,7 @@ pub fn ask(
     }
     let mark = walk.assumed.len();
     open_pair(sides, i, j, depth, walk)?;
-    let (a, b) = (node_in(&sides.writer, i), node_in(&sides.reader, j));
-    match fits(sides, a, b, (i, j), depth + 1, walk, looks)? {
+    match is_supported(sides, (i, j), depth + 1, walk, looks)? {
         Answer::Yes => Ok(Answer::Yes),
         Answer::No => {
             fail_pair(i, j, mark, walk)?;
@@ -99,13 +65,10 @@ pub fn ask(
     }
 }
 
-/// Whether the pair of these nodes, at the places of the pair, is supported, by the first case that
-/// fits (Avro 1.11 specification, Schema Resolution).
+/// Whether the pair is supported, if it is assumed.
 #[cycle(walk)]
-fn fits(
+fn is_supported(
     sides: &Sides,
-    a: &Node,
-    b: &Node,
     at: (u32, u32),
     depth: usize,
     walk: &mut Walk,
@@ -113,27 +76,26 @@ fn fits(
 ) -> Result<Answer, AllocError>
     requires sides { IsSides sides.now }
     requires ready { Ready (rows sides.now) (columns sides.now) depth walk.old }
-    requires a_at { slice_get (rows sides.now) at.0 ≡ Some (node_view a.now) }
-    requires b_at { slice_get (columns sides.now) at.1 ≡ Some (node_view b.now) }
-    requires a_in { Names (length (rows sides.now)) (node_view a.now) }
-    requires b_in { Names (length (columns sides.now)) (node_view b.now) }
     requires i_in { at.0 < length (rows sides.now) }
     requires j_in { at.1 < length (columns sides.now) }
-    requires asked { AreAsked (rows sides.now) (columns sides.now) at.0 at.1 (node_view a.now) (node_view b.now) }
+    requires asked { Asked (rows sides.now) (columns sides.now) at.0 at.1 }
     ensures { IfOk result (λ answer. Tells (rows sides.now) (columns sides.now) depth walk.old walk.new
-        (Fits (member walk.new.assumed.items) at.0 at.1 (node_view a.now) (node_view b.now))
-        (Fits (without walk.new.failed.items) at.0 at.1 (node_view a.now) (node_view b.now) → ⊥) answer) }
+        (Supports (rows sides.now) (columns sides.now) (member walk.new.assumed.items) at.0 at.1)
+        (Supports (rows sides.now) (columns sides.now) (without walk.new.failed.items) at.0 at.1 → ⊥) answer) }
 {
+    let (a, b) = (sides.writer.node(at.0), sides.reader.node(at.1));
     looks.compare(a, b);
-    if !agree(looks.alloc, sides, a, b, at)? {
+    let agreed = agree(looks.alloc, sides, a, b, at)?;
+    if !agreed {
         return Ok(Answer::No);
     }
-    parts_fit(sides, a, b, at, depth, walk, looks)
+    fits(sides, a, b, at, depth, walk, looks)
 }
 
-/// Whether the pair of these nodes, which agree, is supported by the pairs that it asks for.
+/// Whether the pair of these nodes, which agree, is supported, by the first case that fits (Avro 1.11
+/// specification, Schema Resolution).
 #[cycle(walk)]
-fn parts_fit(
+fn fits(
     sides: &Sides,
     a: &Node,
     b: &Node,
@@ -166,7 +128,7 @@ fn parts_fit(
             ask(sides, *p, *q, depth, walk, looks)
         }
         (Node::Rec { fields, .. }, Node::Rec { fields: wanted, .. }) => {
-            let sources = looks.sources(sides, fields, wanted, at.0, at.1)?;
+            let sources = looks.sources(sides, at.0, at.1)?;
             all_readable(sides, fields, &sources, wanted, depth, walk, looks)
         }
         _ => Ok(Answer::Yes),
@@ -244,7 +206,7 @@ fn all_readable(
 ) -> Result<Answer, AllocError>
     requires sides { IsSides sides.now }
     requires ready { Ready (rows sides.now) (columns sides.now) depth walk.old }
-    requires told { sources.now ≡ map (λ f. source_place (map field_view fields.now) (field_view f)) wanted.now }
+    requires told { AreReadOff (map field_view fields.now) (map field_view wanted.now) sources.now }
     requires fields_in { All (λ f. f.place < length (rows sides.now)) (map field_view fields.now) }
     requires wanted_in { All (λ f. f.place < length (columns sides.now)) wanted.now }
     requires asked { All (λ f. IsSourceAsked (rows sides.now) (columns sides.now) (map field_view fields.now) (field_view f)) wanted.now }
@@ -252,9 +214,10 @@ fn all_readable(
         (All (λ f. Readable (member walk.new.assumed.items) (map field_view fields.now) (field_view f)) wanted.now)
         (Any (λ f. Readable (without walk.new.failed.items) (map field_view fields.now) (field_view f) → ⊥) wanted.now) answer) }
 {
+    let _fields = fields;
     for index in 0..wanted.len() {
         let f = &wanted[index];
-        match source_in(sides, fields, sources, index, f) {
+        match sources[index] {
             Some(p) => match ask(sides, p, f.place, depth, walk, looks)? {
                 Answer::Yes => {}
                 Answer::No => return Ok(Answer::No),

@@ -10,10 +10,9 @@ ghost use Rattle.avro_resolve.specs.Inside.Walking.{Shows};
 
 use crate::desk::Desk;
 use crate::looks::Looks;
-use crate::met::Met;
 use crate::pair_set::PairSet;
 use crate::recursion::ask;
-use crate::sides::{Side, Sides};
+use crate::sides::Sides;
 use crate::striking::largest_closed;
 use crate::walk::{Answer, Walk};
 use avro_nodes::OutOfMemory;
@@ -36,19 +35,7 @@ fn walk_roots(alloc: Global, writer: &Schema, reader: &Schema) -> Result<(Answer
     ensures at_most { IfOk result (λ p. (ps : List Pair) → HoldsAsked (nodes_view writer.now) (nodes_view reader.now) ps → p.1 ≤ length ps * length ps) }
 {
     let (_rows, columns) = (writer.places(), reader.places());
-    let (written, read) = (writer.index(), reader.index());
-    let met = Met::of(alloc, &written.names, &read.names)?;
-    let sides = Sides {
-        writer: Side {
-            schema: writer,
-            index: written,
-        },
-        reader: Side {
-            schema: reader,
-            index: read,
-        },
-        met,
-    };
+    let sides = Sides::of(alloc, writer, reader)?;
     let mut walk = Walk {
         assumed: Vec::new(alloc),
         failed: Vec::new(alloc),

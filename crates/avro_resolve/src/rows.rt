@@ -6,7 +6,7 @@ ghost use Rattle.std.specs.List.{AllZip};
 ghost use Rattle.avro_nodes.specs.Nodes.{NodeView};
 ghost use Rattle.avro_resolve.specs.Inside.Agreeing.{fields_of, symbols_of, AreSymbolsMet};
 ghost use Rattle.avro_resolve.specs.Inside.Laying.{IsClear};
-ghost use Rattle.avro_resolve.specs.Inside.Left.{AllSettled, IsRest, Lists, Settled, left, Agreed, IsLeft};
+ghost use Rattle.avro_resolve.specs.Inside.Left.{left, Agreed, AreSettled, IsLeft, IsRest, IsRestOf, IsRowSettled, IsSettled, Strikes};
 ghost use Rattle.avro_resolve.specs.Inside.Rows.{IsRow};
 ghost use Rattle.avro_resolve.specs.Inside.Sides.{columns, names_of, rows, IsSides};
 ghost use Rattle.avro_resolve.specs.Inside.Sources.{AreSources, IsEntry, IsWanted};
@@ -76,14 +76,11 @@ pub fn sweep(alloc: Global, sides: &Sides, table: &mut Table) -> Result<(), Allo
 /// Strikes the pair of the writer's place and this one of the reader out and lists it, if the rest
 /// doesn't support it.
 fn look(sides: &Sides, row: &Row, j: u32, progress: &mut Progress) -> Result<(), AllocError>
-    requires sides { IsSides sides.now }
     requires row { IsRow sides.now row.now }
-    requires rest { IsRest (rows sides.now) (columns sides.now) progress.old.table }
+    requires rest { IsRestOf sides.now progress.old }
     requires j_in { j < length sides.now.reader.schema.now }
-    ensures rest { OnOk result (IsRest (rows sides.now) (columns sides.now) progress.new.table) }
-    ensures lists { OnOk result (Lists progress.old.table progress.old.struck.items progress.new.table progress.new.struck.items) }
-    ensures settled { OnOk result (Settled (rows sides.now) (columns sides.now) progress.new.table
-        progress.new.struck.items row.now.place j) }
+    ensures strikes { OnOk result (Strikes sides.now progress.old progress.new) }
+    ensures settled { OnOk result (IsSettled sides.now progress.new row.now.place j) }
 {
     if !progress.table.has(row.place, j) {
         return Ok(());
@@ -97,13 +94,10 @@ fn look(sides: &Sides, row: &Row, j: u32, progress: &mut Progress) -> Result<(),
 
 /// Looks at all pairs of the writer's place.
 fn look_along_row(sides: &Sides, row: &Row, progress: &mut Progress) -> Result<(), AllocError>
-    requires sides { IsSides sides.now }
     requires row { IsRow sides.now row.now }
-    requires rest { IsRest (rows sides.now) (columns sides.now) progress.old.table }
-    ensures rest { OnOk result (IsRest (rows sides.now) (columns sides.now) progress.new.table) }
-    ensures lists { OnOk result (Lists progress.old.table progress.old.struck.items progress.new.table progress.new.struck.items) }
-    ensures settled { OnOk result ((j : ℕ) → j < length sides.now.reader.schema.now
-        → Settled (rows sides.now) (columns sides.now) progress.new.table progress.new.struck.items row.now.place j) }
+    requires rest { IsRestOf sides.now progress.old }
+    ensures strikes { OnOk result (Strikes sides.now progress.old progress.new) }
+    ensures settled { OnOk result (IsRowSettled sides.now progress.new row.now.place) }
 {
     if let Node::Union { branches } = sides.writer.node(row.place) {
         look_along_union(sides, row.place, branches, progress)?;
@@ -125,19 +119,16 @@ fn look_at_row(
     boxes: &mut [Option<usize>],
     progress: &mut Progress,
 ) -> Result<Vec<u16>, AllocError>
-    requires sides { IsSides sides.now }
     requires place_in { place < length sides.now.writer.schema.now }
     requires clear { IsClear boxes.old }
     requires room { length (names_of sides.now.reader) ≤ length boxes.old }
     requires wanted { AllZip (IsWanted sides.now.reader) numbered.aliased.now numbered.wanted.now }
-    requires rest { IsRest (rows sides.now) (columns sides.now) progress.old.table }
+    requires rest { IsRestOf sides.now progress.old }
     ensures clear { OnOk result (IsClear boxes.new) }
     ensures entries { IfOk result (λ v. (a : NodeView) → slice_get (rows sides.now) place ≡ Some a
         → AllZip (IsEntry (columns sides.now) (fields_of a)) numbered.entry.aliased.now v.items) }
-    ensures rest { OnOk result (IsRest (rows sides.now) (columns sides.now) progress.new.table) }
-    ensures lists { OnOk result (Lists progress.old.table progress.old.struck.items progress.new.table progress.new.struck.items) }
-    ensures settled { OnOk result ((j : ℕ) → j < length sides.now.reader.schema.now
-        → Settled (rows sides.now) (columns sides.now) progress.new.table progress.new.struck.items place j) }
+    ensures strikes { OnOk result (Strikes sides.now progress.old progress.new) }
+    ensures settled { OnOk result (IsRowSettled sides.now progress.new place) }
 {
     let fields = sides.writer.fields(place);
     lay(boxes, &sides.met, fields.ranks);
@@ -155,36 +146,7 @@ fn look_at_row(
 }
 
 /// Looks at all pairs, from the writer's first place to its last, since most references are to what
-/// was defined before, and answers the sources of the reader's fields that have aliases by the
-/// writer's places.
-fn look_at_rows(
-    alloc: Global,
-    sides: &Sides,
-    numbered: Numbered,
-    boxes: &mut [Option<usize>],
-    progress: &mut Progress,
-) -> Result<Vec<Vec<u16>>, AllocError>
-    requires sides { IsSides sides.now }
-    requires clear { IsClear boxes.old }
-    requires room { length (names_of sides.now.reader) ≤ length boxes.old }
-    requires wanted { AllZip (IsWanted sides.now.reader) numbered.aliased.now numbered.wanted.now }
-    requires rest { IsRest (rows sides.now) (columns sides.now) progress.old.table }
-    ensures sources { IfOk result (λ v. AreSources (rows sides.now) (columns sides.now) numbered.entry.aliased.now v.items) }
-    ensures rest { OnOk result (IsRest (rows sides.now) (columns sides.now) progress.new.table) }
-    ensures lists { OnOk result (Lists progress.old.table progress.old.struck.items progress.new.table progress.new.struck.items) }
-    ensures settled { OnOk result (AllSettled (rows sides.now) (columns sides.now) progress.new.table
-        progress.new.struck.items) }
-{
-    let mut sources = empty_lists(alloc, sides.writer.places())?;
-    for place in 0..sides.writer.places() {
-        let entries = look_at_row(alloc, sides, place, numbered, boxes, progress)?;
-        sources[place as usize] = entries;
-    }
-    Ok(sources)
-}
-
-/// Looks at all pairs, a writer's place after the other, and answers the sources of these fields of
-/// the reader's by the writer's places.
+/// was defined before, and answers the sources of these fields of the reader's by the writer's places.
 ///
 /// # Errors
 ///
@@ -196,16 +158,14 @@ pub fn look_everywhere(
     aliased: &[Aliased],
     progress: &mut Progress,
 ) -> Result<Vec<Vec<u16>>, AllocError>
-    requires sides { IsSides sides.now }
-    requires rest { IsRest (rows sides.now) (columns sides.now) progress.old.table }
+    requires rest { IsRestOf sides.now progress.old }
     ensures sources { IfOk result (λ v. AreSources (rows sides.now) (columns sides.now) aliased.now v.items) }
-    ensures rest { OnOk result (IsRest (rows sides.now) (columns sides.now) progress.new.table) }
-    ensures lists { OnOk result (Lists progress.old.table progress.old.struck.items progress.new.table progress.new.struck.items) }
-    ensures settled { OnOk result (AllSettled (rows sides.now) (columns sides.now) progress.new.table
-        progress.new.struck.items) }
+    ensures strikes { OnOk result (Strikes sides.now progress.old progress.new) }
+    ensures settled { OnOk result (AreSettled sides.now progress.new) }
 {
-    let mut boxes = Vec::new(alloc);
-    make_room(&mut boxes, sides.reader.index.names.len())?;
+    let mut made = Vec::new(alloc);
+    make_room(&mut made, sides.reader.index.names.len())?;
+    let boxes = made.as_mut_slice();
     let firsts = firsts_of(alloc, sides.reader.places() as usize, aliased)?;
     let wanted = all_wanted(alloc, &sides.reader, aliased)?;
     let numbered = Numbered {
@@ -213,5 +173,10 @@ pub fn look_everywhere(
         firsts: &firsts,
         wanted: &wanted,
     };
-    look_at_rows(alloc, sides, numbered, &mut boxes, progress)
+    let mut sources = empty_lists(alloc, sides.writer.places())?;
+    for place in 0..sides.writer.places() {
+        let entries = look_at_row(alloc, sides, place, numbered, boxes, progress)?;
+        sources[place as usize] = entries;
+    }
+    Ok(sources)
 }

@@ -1,14 +1,15 @@
 //! The two sides of a resolution: a writer's schema and a reader's, with their names met.
 
-ghost use Rattle.std.specs.Prelude.{◌≡◌, ◌<◌, All, slice_get, length, map, Some};
+ghost use Rattle.std.specs.Prelude.{◌≡◌, ◌<◌, All, IfOk, slice_get, length, map, Some};
 ghost use Rattle.avro_nodes.specs.Nodes.{NodeView, field_view, node_view};
 ghost use Rattle.avro_schema.specs.Index.{AreFieldsRanked, IsRanked};
 ghost use Rattle.avro_resolve.specs.Inside.Agreeing.{field_ranks, fields_of};
-ghost use Rattle.avro_resolve.specs.Inside.Sides.{names_of, nodes_of, IsSide};
+ghost use Rattle.avro_resolve.specs.Inside.Sides.{names_of, nodes_of, IsSide, IsSides};
 
 use crate::met::Met;
 use avro_nodes::{Field, Node};
 use avro_schema::{FieldRanks, Index, Ranks, Schema};
+use std::alloc::{AllocError, Global};
 
 /// A schema with its index.
 #[derive(Clone, Copy)]
@@ -48,7 +49,7 @@ fn record_fields(node: &Node) -> &[Field]
 }
 
 /// The same by the ranks of their names.
-pub fn record_ranks(ranks: &Ranks) -> &[FieldRanks]
+fn record_ranks(ranks: &Ranks) -> &[FieldRanks]
     ensures { result.now ≡ field_ranks ranks.now }
 {
     match ranks {
@@ -58,6 +59,15 @@ pub fn record_ranks(ranks: &Ranks) -> &[FieldRanks]
 }
 
 impl<'a> Side<'a> {
+    /// The side of a schema.
+    fn of(schema: &'a Schema) -> Side<'a>
+        ensures side { IsSide result }
+        ensures schema { result.schema.now ≡ schema.now }
+    {
+        let (_places, index) = (schema.places(), schema.index());
+        Side { schema, index }
+    }
+
     /// The number of places.
     pub fn places(&self) -> u32
         ensures places { result ≡ length self.now.schema.now }
@@ -97,5 +107,30 @@ impl<'a> Side<'a> {
         let fields = record_fields(self.node(place));
         let ranks = record_ranks(self.ranks(place));
         Fields { fields, ranks }
+    }
+}
+
+impl<'a> Sides<'a> {
+    /// The sides of two schemas, with their names met.
+    ///
+    /// # Errors
+    ///
+    /// `AllocError` where memory for the ranks is refused.
+    pub fn of(
+        alloc: Global,
+        writer: &'a Schema,
+        reader: &'a Schema,
+    ) -> Result<Sides<'a>, AllocError>
+        ensures sides { IfOk result (λ s. IsSides s) }
+        ensures writer { IfOk result (λ s. s.writer.schema.now ≡ writer.now) }
+        ensures reader { IfOk result (λ s. s.reader.schema.now ≡ reader.now) }
+    {
+        let (writer, reader) = (Side::of(writer), Side::of(reader));
+        let met = Met::of(alloc, &writer.index.names, &reader.index.names)?;
+        Ok(Sides {
+            writer,
+            reader,
+            met,
+        })
     }
 }

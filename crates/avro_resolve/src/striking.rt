@@ -1,19 +1,18 @@
 //! Striking out the pairs that the rest doesn't support, until none is left to strike.
 
-ghost use Rattle.std.specs.Prelude.{◌≡◌, ◌<◌, ◌≤◌, ◌++◌, ◌∷◌, ◌⊎◌, ℕ, List, [], All, false, IfOk, None, OnOk, Some, get_or, length, slice_get};
+ghost use Rattle.std.specs.Prelude.{◌≡◌, ◌<◌, ◌⊎◌, ℕ, List, [], All, false, IfOk, None, OnOk, Some, get_or, length, slice_get};
 ghost use Rattle.avro_nodes.specs.Nodes.{nodes_view, union};
 ghost use Rattle.avro_schema.specs.Texts.{IsSchema};
 ghost use Rattle.avro_resolve.specs.Resolution.{Closed};
 ghost use Rattle.avro_resolve.specs.Inside.Sides.{columns, rows, IsSides, names_of, nodes_of, IsSide};
-ghost use Rattle.avro_resolve.specs.Inside.Left.{left, AreOut, IsLeft, IsRest, Lists, Rests, Settled, AllSettled};
+ghost use Rattle.avro_resolve.specs.Inside.Left.{left, AreOut, AreSettled, AreSettledBut, IsLeft, IsRest, IsRestOf, IsSettled, Rests, AllSettled, Strikes};
 ghost use Rattle.avro_resolve.specs.Inside.Lists.{list_at};
 ghost use Rattle.avro_resolve.specs.Inside.Askers.{AreAskers, AreNoted, IsNoted, HasAskers};
 
 use crate::joining::strike_joined;
 use crate::links::{Labels, Links, links_of};
 use crate::lists::list_of;
-use crate::looking::{Progress, look_along, strike_down};
-use crate::met::Met;
+use crate::looking::{Progress, look_at_branches, strike_unsupported};
 use crate::rows::{look_everywhere, sweep};
 use crate::sides::{Side, Sides};
 use crate::support::none_left;
@@ -68,40 +67,25 @@ fn strike_unions(
     noted: &mut Vec<Option<u32>>,
     progress: &mut Progress,
 ) -> Result<(), AllocError>
-    requires sides { IsSides sides.now }
-    requires rest { IsRest (rows sides.now) (columns sides.now) progress.old.table }
+    requires rest { IsRestOf sides.now progress.old }
     requires out { left progress.old.table told.0 told.1 ≡ false }
     requires rests { All (λ i. Rests (rows sides.now) (columns sides.now) i told.1 told.0 told.1) (list_at unions.now told.0) }
     requires above_in { All (λ i. i < length sides.now.writer.schema.now) (list_at unions.now told.0) }
     requires j_in { told.1 < length sides.now.reader.schema.now }
     requires noted { AreNoted (left progress.old.table) unions.now noted.old.items }
-    ensures rest { OnOk result (IsRest (rows sides.now) (columns sides.now) progress.new.table) }
-    ensures lists { OnOk result (Lists progress.old.table progress.old.struck.items progress.new.table progress.new.struck.items) }
-    ensures settled { OnOk result (All (λ i. Settled (rows sides.now) (columns sides.now)
-        progress.new.table progress.new.struck.items i told.1) (list_at unions.now told.0)) }
+    ensures strikes { OnOk result (Strikes sides.now progress.old progress.new) }
+    ensures settled { OnOk result (All (λ i. IsSettled sides.now progress.new i told.1) (list_at unions.now told.0)) }
     ensures noted { OnOk result (AreNoted (left progress.new.table) unions.now noted.new.items) }
 {
     let above = list_of(unions, told.0 as usize);
     if is_noted(unions, noted, told.1, above) {
         return Ok(());
     }
-    strike_down(sides, above, told, progress)?;
+    for i in above {
+        strike_unsupported(sides, *i, told.1, progress)?;
+    }
     note_at(noted, told.1, told.0);
     Ok(())
-}
-
-/// Notes the reader's place of a pair for its writer's, if this is left with none of these unions.
-fn note_if_none(told: (u32, u32), beside: &[u32], noted: &mut Vec<Option<u32>>, table: &Table)
-    requires within { All (λ p. p < table.now.readers) beside.now }
-    requires i_in { told.0 < table.now.writers }
-    ensures { (k p : ℕ) → get_or noted.new.items k None ≡ Some p
-        → ((k ≡ told.0) × (p ≡ told.1) × All (λ u. left table.now told.0 u ≡ false) beside.now)
-        ⊎ (get_or noted.old.items k None ≡ Some p) }
-{
-    if !none_left(told.0, beside, table) {
-        return;
-    }
-    note_at(noted, told.0, told.1);
 }
 
 /// Looks again at the pairs of the writer's place of a pair that is told with the reader's unions that
@@ -114,27 +98,31 @@ fn look_along_unions(
     noted: &mut Vec<Option<u32>>,
     progress: &mut Progress,
 ) -> Result<(), AllocError>
-    requires sides { IsSides sides.now }
-    requires rest { IsRest (rows sides.now) (columns sides.now) progress.old.table }
+    requires rest { IsRestOf sides.now progress.old }
     requires out { left progress.old.table told.0 told.1 ≡ false }
-    requires before { AllSettled (rows sides.now) (columns sides.now) progress.old.table
-        (progress.old.struck.items ++ told ∷ []) }
+    requires before { AreSettledBut sides.now progress.old told }
     requires i_in { told.0 < length sides.now.writer.schema.now }
     requires beside_in { All (λ j. j < length sides.now.reader.schema.now) (list_at unions.now told.1) }
     requires are_unions { All (λ j. (places : List ℕ) × (slice_get (columns sides.now) j ≡ Some (union places))) (list_at unions.now told.1) }
     requires noted { AreNoted (λ u i. left progress.old.table i u) unions.now noted.old.items }
-    ensures rest { OnOk result (IsRest (rows sides.now) (columns sides.now) progress.new.table) }
-    ensures lists { OnOk result (Lists progress.old.table progress.old.struck.items progress.new.table progress.new.struck.items) }
-    ensures settled { OnOk result (All (Settled (rows sides.now) (columns sides.now) progress.new.table
-        progress.new.struck.items told.0) (list_at unions.now told.1)) }
+    ensures strikes { OnOk result (Strikes sides.now progress.old progress.new) }
+    ensures settled { OnOk result (All (IsSettled sides.now progress.new told.0) (list_at unions.now told.1)) }
     ensures noted { OnOk result (AreNoted (λ u i. left progress.new.table i u) unions.now noted.new.items) }
 {
     let beside = list_of(unions, told.1 as usize);
     if is_noted(unions, noted, told.0, beside) {
         return Ok(());
     }
-    look_along(sides, beside, told, progress)?;
-    note_if_none(told, beside, noted, &progress.table);
+    if let Node::Union { .. } = sides.writer.node(told.0) {
+        return Ok(());
+    }
+    for j in beside {
+        look_at_branches(sides, told.0, *j, progress)?;
+    }
+    if !none_left(told.0, beside, &progress.table) {
+        return Ok(());
+    }
+    note_at(noted, told.0, told.1);
     Ok(())
 }
 
@@ -148,17 +136,13 @@ fn tell(
     noted: &mut Noted,
     progress: &mut Progress,
 ) -> Result<(), AllocError>
-    requires sides { IsSides sides.now }
     requires askers { AreAskers sides.now asking.now.rows asking.now.columns asking.now.sources.items }
-    requires rest { IsRest (rows sides.now) (columns sides.now) progress.old.table }
+    requires rest { IsRestOf sides.now progress.old }
     requires out { left progress.old.table told.0 told.1 ≡ false }
-    requires before { AllSettled (rows sides.now) (columns sides.now) progress.old.table
-        (progress.old.struck.items ++ told ∷ []) }
+    requires before { AreSettledBut sides.now progress.old told }
     requires noted { IsNoted progress.old.table asking.now.rows.unions.items asking.now.columns.unions.items noted.old }
-    ensures rest { OnOk result (IsRest (rows sides.now) (columns sides.now) progress.new.table) }
-    ensures lists { OnOk result (Lists progress.old.table progress.old.struck.items progress.new.table progress.new.struck.items) }
-    ensures settled { OnOk result (AllSettled (rows sides.now) (columns sides.now) progress.new.table
-        progress.new.struck.items) }
+    ensures strikes { OnOk result (Strikes sides.now progress.old progress.new) }
+    ensures settled { OnOk result (AreSettled sides.now progress.new) }
     ensures noted { OnOk result (IsNoted progress.new.table asking.now.rows.unions.items asking.now.columns.unions.items noted.new) }
 {
     let (i, j) = told;
@@ -197,11 +181,10 @@ fn tell_listed(
     asking: &Asking,
     progress: &mut Progress,
 ) -> Result<(), AllocError>
-    requires sides { IsSides sides.now }
     requires askers { AreAskers sides.now asking.now.rows asking.now.columns asking.now.sources.items }
-    requires rest { IsRest (rows sides.now) (columns sides.now) progress.old.table }
+    requires rest { IsRestOf sides.now progress.old }
     requires out { AreOut progress.old.table progress.old.struck.items }
-    requires settled { AllSettled (rows sides.now) (columns sides.now) progress.old.table progress.old.struck.items }
+    requires settled { AreSettled sides.now progress.old }
     ensures rest { OnOk result (IsRest (rows sides.now) (columns sides.now) progress.new.table) }
     ensures closed { OnOk result (AllSettled (rows sides.now) (columns sides.now) progress.new.table []) }
 {
@@ -256,19 +239,7 @@ pub fn largest_closed(alloc: Global, writer: &Schema, reader: &Schema) -> Result
 {
     let (rows, columns) = (writer.places() as usize, reader.places() as usize);
     let table = Table::all(alloc, rows, columns, has_union(reader))?;
-    let (written, read) = (writer.index(), reader.index());
-    let met = Met::of(alloc, &written.names, &read.names)?;
-    let sides = Sides {
-        writer: Side {
-            schema: writer,
-            index: written,
-        },
-        reader: Side {
-            schema: reader,
-            index: read,
-        },
-        met,
-    };
+    let sides = Sides::of(alloc, writer, reader)?;
     let mut progress = Progress {
         table,
         struck: Vec::new(alloc),

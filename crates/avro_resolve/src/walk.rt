@@ -47,16 +47,6 @@ pub fn is_long(walk: &Walk, work: u64) -> bool
     walk.visits >= 1000 && work >= MAX_WORK
 }
 
-/// Whether the pair is one of a list, whose pairs this set has.
-pub fn is_marked(set: &PairSet, pairs: &[(u16, u16)], i: u32, j: u32) -> bool
-    requires marks { Marks set.now.readers set.now pairs.now }
-    requires j_in { j < set.now.readers }
-    ensures { result ≡ member pairs.now i j }
-{
-    let _pairs = pairs;
-    set.has(i, j)
-}
-
 /// Assumes the pair, and counts a visit.
 pub fn open_pair(
     sides: &Sides,

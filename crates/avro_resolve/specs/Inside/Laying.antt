@@ -1,7 +1,9 @@
 -- The fields of a writer's record, laid in the boxes of the reader's ranks of their names, and the source of a reader's field among them (this
 -- project's choice).
 use Rattle.std.specs.Prelude.{◌≡◌, ◌⊎◌, ℕ, ◌<◌, ◌≤◌, ◌∷◌, [], List, Option, None, Some, IfSome, get_or, length, map, slice_get}
+use Rattle.avro_nodes.specs.Nodes.{FieldView}
 use Rattle.avro_schema.specs.declared.index.FieldRanks.{FieldRanks}
+use Rattle.avro_resolve.specs.Asking.{source_place}
 use Rattle.avro_resolve.specs.Inside.Meeting.{met_at}
 
 -- the ranks of the names of fields
@@ -41,3 +43,7 @@ Holds boxes met = (name rank : ℕ) → met_at met name ≡ Some rank → rank <
 abbrev pub IsSource : List (Option ℕ) → List ℕ → List ℕ → Option ℕ → Type 0
 IsSource met names [] source = source ≡ None
 IsSource met names (rank ∷ ranks) source = IfSome source (λ k. IsFirst met names 0 k rank) × (source ≡ None → ⊥) ⊎ NoField met names rank × IsSource met names ranks source
+
+-- for each of the reader's fields the place of the type of its source among the writer's, if it has one
+abbrev pub AreReadOff : List FieldView → List FieldView → List (Option ℕ) → Type 0
+AreReadOff fields wanted places = places ≡ map (source_place fields) wanted

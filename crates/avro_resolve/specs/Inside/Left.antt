@@ -1,9 +1,12 @@
 -- The pairs that a table has left.
-use Rattle.std.specs.Prelude.{◌≡◌, ◌⊎◌, ℕ, ◌+◌, ◌*◌, List, [], Bool, true, false, All, ◌&&◌, ◌||◌, length, ◌<◌, nat_lt, slice_get, slice_index_or, sum_by, IsTrue, MatchOption}
+use Rattle.std.specs.Prelude.{◌≡◌, ◌⊎◌, ℕ, ◌+◌, ◌*◌, List, [], ◌∷◌, ◌++◌, Bool, true, false, All, ◌&&◌, ◌||◌, length, ◌<◌, nat_lt, slice_get, slice_index_or, sum_by, IsTrue, MatchOption}
 use Rattle.avro_nodes.specs.Nodes.{NodeView}
+use Rattle.avro_resolve.specs.declared.looking.Progress.{Progress}
+use Rattle.avro_resolve.specs.declared.sides.Sides.{Sides}
 use Rattle.avro_resolve.specs.declared.table.Table.{Table}
 use Rattle.avro_resolve.specs.Resolution.{Pairs, Supports}
 use Rattle.avro_resolve.specs.Inside.Agreeing.{Agree}
+use Rattle.avro_resolve.specs.Inside.Sides.{columns, rows, IsSides}
 use Rattle.avro_resolve.specs.Witnesses.{Pair, member, without, RefutesAfter, Differ}
 
 -- the flag of a pair, where the flags stand row by row
@@ -83,3 +86,29 @@ Ignores w r i j p q = (R S : Pairs) → WithinBut p q R S → Supports w r R i j
 -- without the pair (p, q) nothing supports the pair (i, j)
 abbrev pub Rests : List NodeView → List NodeView → ℕ → ℕ → ℕ → ℕ → Type 0
 Rests w r i j p q = (R : Pairs) → R p q ≡ false → Supports w r R i j → ⊥
+
+-- ---- the same of how far the striking out has come, for the two sides of a resolution
+
+-- the sides, and what is left of their pairs after those were struck out whose nodes don't agree
+abbrev pub IsRestOf : Sides → Progress → Type 0
+IsRestOf sides p = IsSides sides × IsRest (rows sides) (columns sides) p.table
+
+-- some pairs were struck out, which nothing left supports, and each is listed
+abbrev pub Strikes : Sides → Progress → Progress → Type 0
+Strikes sides p q = IsRest (rows sides) (columns sides) q.table × Lists p.table p.struck.items q.table q.struck.items
+
+-- the pair is settled
+abbrev pub IsSettled : Sides → Progress → ℕ → ℕ → Type 0
+IsSettled sides p i j = Settled (rows sides) (columns sides) p.table p.struck.items i j
+
+-- each pair of a writer's place
+abbrev pub IsRowSettled : Sides → Progress → ℕ → Type 0
+IsRowSettled sides p i = (j : ℕ) → j < length sides.reader.schema.now → IsSettled sides p i j
+
+-- each pair
+abbrev pub AreSettled : Sides → Progress → Type 0
+AreSettled sides p = AllSettled (rows sides) (columns sides) p.table p.struck.items
+
+-- each pair, if the one that is told counts as listed
+abbrev pub AreSettledBut : Sides → Progress → Pair → Type 0
+AreSettledBut sides p told = AllSettled (rows sides) (columns sides) p.table (p.struck.items ++ told ∷ [])

@@ -1,58 +1,52 @@
-use Rattle.std.proofs.Common.{◌≡◌, ◌<◌, ◌≤◌, length, map, sym, ap, ◌∙◌, take_all, arith}
+use Rattle.std.proofs.Common.{◌≡◌, ℕ, ◌<◌, ◌≤◌, List, length, map, sym, ap, ◌∙◌, take_all, arith}
 use Rattle.std.specs.Prelude.{Some, slice_get}
-use Rattle.std.proofs.lemmas.List.{length-map}
 use Rattle.std.proofs.lemmas.List.Elements.{All-weaker}
 use Rattle.std.proofs.lemmas.Option.{slice_get-get_or, slice_get_within}
 use Rattle.std.proofs.lemmas.Slice.Zip.{AllZip-long}
-use Rattle.avro_nodes.specs.Nodes.{field_view}
-use Rattle.avro_schema.specs.Index.{IsFieldRanked}
+use Rattle.avro_nodes.specs.Nodes.{FieldView, field_view}
+use Rattle.avro_schema.specs.declared.index.FieldRanks.{FieldRanks}
+use Rattle.avro_schema.specs.Index.{AreFieldsRanked, IsFieldRanked}
 use Rattle.avro_resolve.specs.Asking.{source_place}
 use Rattle.avro_resolve.specs.Inside.Sides.{names_of}
-use Rattle.avro_resolve.proofs.ViewLemmas.{view_got}
 use Rattle.avro_resolve.proofs.Sourcing.{mapped_more, nth, ranked_field, ranks_below}
 use Rattle.avro_resolve.proofs.desk.read_off.Goals as goal
 
+-- the field whose names these are
+named_at : (r : List (List ℕ)) (fields : List FieldView) (ranks : List FieldRanks) (i : ℕ) (x : FieldRanks) → AreFieldsRanked r fields ranks → i < length ranks → slice_get ranks i ≡ Some x
+    → (f : FieldView) × (slice_get fields i ≡ Some f) × IsFieldRanked r f x
+named_at r fields ranks i x ranked l here =
+    let long = AllZip-long (IsFieldRanked r) fields ranks ranked in
+    let n = nth fields i (omega arith) in
+    (n.0, n.1, ranked_field r fields ranks i n.0 x ranked n.1 here)
+
 pub place_of-requires-clause-name_in : goal.place_of-requires-clause-name_in
 place_of-requires-clause-name_in c =
-    let r = names_of c.args.sides.now.reader in let wanted = c.args.wanted.now in let names = c.args.names.now in let i = c.loop-field.field-index in let x = c.field-item.result in
-    let long = AllZip-long (IsFieldRanked r) (map field_view wanted) names c.requires.named in
-    let view = length-map wanted field_view in
-    let l : i < length wanted = omega arith in
-    let n = nth wanted i l in
-    let here : slice_get names i ≡ Some x = slice_get-get_or names i x c.loop-field-test.true ∙ ap (λ v. Some v) (sym c.field-item.is) in
-    let is = ranked_field r (map field_view wanted) names i (field_view n.0) x c.requires.named (view_got field_view wanted i n.0 n.1) here in
-    let below = slice_get_within r x.name (field_view n.0).name is.name in
+    let r = names_of c.args.sides.now.reader in let ranks = c.args.wanted.ranks.now in let i = c.loop-names.names-index in let x = c.names-item.result in
+    let here : slice_get ranks i ≡ Some x = slice_get-get_or ranks i x c.loop-names-test.true ∙ ap (λ v. Some v) (sym c.names-item.is) in
+    let f = named_at r (map field_view c.args.wanted.fields.now) ranks i x c.requires.named c.loop-names-test.true here in
+    let below = slice_get_within r x.name f.0.name f.2.name in
     let room = c.requires.room in
     omega arith
 
 pub place_of-requires-clause-aliases_in : goal.place_of-requires-clause-aliases_in
 place_of-requires-clause-aliases_in c =
-    let r = names_of c.args.sides.now.reader in let wanted = c.args.wanted.now in let names = c.args.names.now in let i = c.loop-field.field-index in let x = c.field-item.result in
-    let long = AllZip-long (IsFieldRanked r) (map field_view wanted) names c.requires.named in
-    let view = length-map wanted field_view in
-    let l : i < length wanted = omega arith in
-    let n = nth wanted i l in
-    let here : slice_get names i ≡ Some x = slice_get-get_or names i x c.loop-field-test.true ∙ ap (λ v. Some v) (sym c.field-item.is) in
-    let is = ranked_field r (map field_view wanted) names i (field_view n.0) x c.requires.named (view_got field_view wanted i n.0 n.1) here in
+    let r = names_of c.args.sides.now.reader in let ranks = c.args.wanted.ranks.now in let i = c.loop-names.names-index in let x = c.names-item.result in
+    let here : slice_get ranks i ≡ Some x = slice_get-get_or ranks i x c.loop-names-test.true ∙ ap (λ v. Some v) (sym c.names-item.is) in
+    let f = named_at r (map field_view c.args.wanted.fields.now) ranks i x c.requires.named c.loop-names-test.true here in
     let room = c.requires.room in
-    All-weaker (λ rank. rank < length r) (λ rank. rank < length c.args.boxes.now) (λ rank h. omega arith) x.aliases.items (ranks_below r (field_view n.0).aliases x.aliases.items is.aliases)
+    All-weaker (λ rank. rank < length r) (λ rank. rank < length c.args.boxes.now) (λ rank h. omega arith) x.aliases.items (ranks_below r f.0.aliases x.aliases.items f.2.aliases)
 
-pub loop-field-preserved : goal.loop-field-preserved
-loop-field-preserved c =
-    let r = names_of c.args.sides.now.reader in let wanted = c.args.wanted.now in let names = c.args.names.now in let i = c.loop-field.field-index in let x = c.field-item.result in
-    let fields = map field_view c.args.fields.now in
-    let long = AllZip-long (IsFieldRanked r) (map field_view wanted) names c.requires.named in
-    let view = length-map wanted field_view in
-    let l : i < length wanted = omega arith in
-    let n = nth wanted i l in
-    let here : slice_get names i ≡ Some x = slice_get-get_or names i x c.loop-field-test.true ∙ ap (λ v. Some v) (sym c.field-item.is) in
-    let is = ranked_field r (map field_view wanted) names i (field_view n.0) x c.requires.named (view_got field_view wanted i n.0 n.1) here in
-    c.in_ok-push.ensures.items ∙ mapped_more (λ f. source_place fields (field_view f)) wanted i n.0 c.loop-field.places.items c.place_of.result n.1 c.loop-field.invariant (c.place_of.ensures (field_view n.0) is)
+pub loop-names-preserved : goal.loop-names-preserved
+loop-names-preserved c =
+    let r = names_of c.args.sides.now.reader in let ranks = c.args.wanted.ranks.now in let i = c.loop-names.names-index in let x = c.names-item.result in
+    let here : slice_get ranks i ≡ Some x = slice_get-get_or ranks i x c.loop-names-test.true ∙ ap (λ v. Some v) (sym c.names-item.is) in
+    let f = named_at r (map field_view c.args.wanted.fields.now) ranks i x c.requires.named c.loop-names-test.true here in
+    c.in_ok-push.ensures.items
+    ∙ mapped_more (source_place (map field_view c.args.fields.fields.now)) (map field_view c.args.wanted.fields.now) i f.0 c.loop-names.places.items c.place_of.result f.1 c.loop-names.invariant (c.place_of.ensures f.0 f.2)
 
 pub returns : goal.returns
 returns c =
-    let r = names_of c.args.sides.now.reader in let wanted = c.args.wanted.now in let names = c.args.names.now in
-    let long = AllZip-long (IsFieldRanked r) (map field_view wanted) names c.requires.named in
-    let view = length-map wanted field_view in
-    let l : length wanted ≤ c.loop-field.field-index = omega arith in
-    c.loop-field.invariant ∙ ap (map (λ f. source_place (map field_view c.args.fields.now) (field_view f))) (take_all c.loop-field.field-index wanted l)
+    let r = names_of c.args.sides.now.reader in let views = map field_view c.args.wanted.fields.now in
+    let long = AllZip-long (IsFieldRanked r) views c.args.wanted.ranks.now c.requires.named in
+    let l : length views ≤ c.loop-names.names-index = omega arith in
+    c.loop-names.invariant ∙ ap (map (source_place (map field_view c.args.fields.fields.now))) (take_all c.loop-names.names-index views l)

@@ -54,10 +54,10 @@ loop-at-preserved c =
     let u = c.loop-at.progress.table in let v = c.strike_unsupported.new.progress.table in let qs = c.loop-at.progress.struck.items in let rs = c.strike_unsupported.new.progress.struck.items in let none : Link = record { label = 0; asker = 0; way = OfContents } in
     let within : at < length ys = c.loop-at-test.true in
     record {
-      rest = c.in_ok-strike_unsupported.ensures.rest;
-      lists = lists_then c.args.progress.now.table u v c.args.progress.now.struck.items qs rs c.loop-at.invariant.lists c.in_ok-strike_unsupported.ensures.lists;
+      rest = c.in_ok-strike_unsupported.ensures.strikes.0;
+      lists = lists_then c.args.progress.now.table u v c.args.progress.now.struck.items qs rs c.loop-at.invariant.lists c.in_ok-strike_unsupported.ensures.strikes.1;
       settled = λ k d le l one asks. elim (cases_lt k at) [
-        | inl g ↦ settled_on w r u v qs rs i (get_or ys k d).asker c.requires.sides.writer.whole c.requires.sides.reader.whole c.in_ok-strike_unsupported.ensures.lists (c.loop-at.invariant.settled k d le g one asks)
+        | inl g ↦ settled_on w r u v qs rs i (get_or ys k d).asker c.requires.rest.0.writer.whole c.requires.rest.0.reader.whole c.in_ok-strike_unsupported.ensures.strikes.1 (c.loop-at.invariant.settled k d le g one asks)
         | inr g ↦ (let e : at ≡ k = omega arith in
             subst (λ (x : ℕ). Settled w r v rs i (get_or ys x d).asker) e (subst (λ (y : Link). Settled w r v rs i y.asker) (get_or_any ys at none d within) c.in_ok-strike_unsupported.ensures.settled))
       ];

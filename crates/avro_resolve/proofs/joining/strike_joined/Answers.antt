@@ -29,8 +29,8 @@ loop-link-preserved c =
       | inr g ↦ c.skip_smaller-from.ensures.smaller k d g l
     ] in
     record {
-      rest = c.in_ok-strike_at_label.ensures.rest;
-      lists = lists_then c.args.progress.now.table u v c.args.progress.now.struck.items qs rs inv.lists c.in_ok-strike_at_label.ensures.lists;
+      rest = c.in_ok-strike_at_label.ensures.strikes.0;
+      lists = lists_then c.args.progress.now.table u v c.args.progress.now.struck.items qs rs inv.lists c.in_ok-strike_at_label.ensures.strikes.1;
       within = c.skip_smaller-from.ensures.within;
       skipped = λ k m d e lk le lm. (
           let less = passed k d lk in let up = c.requires.above_sorted at m e (omega arith) lm in
@@ -38,7 +38,7 @@ loop-link-preserved c =
           omega (arith, less, up, same)
           );
       settled = λ m k e d lm lk one asks. elim (cases_lt m at) [
-        | inl g ↦ settled_on w r u v qs rs (get_or xs m e).asker (get_or ys k d).asker c.requires.sides.writer.whole c.requires.sides.reader.whole c.in_ok-strike_at_label.ensures.lists (inv.settled m k e d g lk one asks)
+        | inl g ↦ settled_on w r u v qs rs (get_or xs m e).asker (get_or ys k d).asker c.requires.rest.0.writer.whole c.requires.rest.0.reader.whole c.in_ok-strike_at_label.ensures.strikes.1 (inv.settled m k e d g lk one asks)
         | inr g ↦ (
             let now : at ≡ m = omega arith in
             let same : get_or xs at none ≡ get_or xs m e = row e ∙ ap (λ (n : ℕ). get_or xs n e) now in

@@ -18,10 +18,10 @@ loop-from-preserved c =
     let i = c.args.i in let p = c.args.branch in let from = c.loop-from.from in let at = c.next_apart-at.result in
     let u = c.loop-from.progress.table in let v = c.strike_unsupported.new.progress.table in let qs = c.loop-from.progress.struck.items in let rs = c.strike_unsupported.new.progress.struck.items in
     record {
-      rest = c.in_ok-strike_unsupported.ensures.rest;
-      lists = lists_then c.args.progress.now.table u v c.args.progress.now.struck.items qs rs c.loop-from.invariant.lists c.in_ok-strike_unsupported.ensures.lists;
+      rest = c.in_ok-strike_unsupported.ensures.strikes.0;
+      lists = lists_then c.args.progress.now.table u v c.args.progress.now.struck.items qs rs c.loop-from.invariant.lists c.in_ok-strike_unsupported.ensures.strikes.1;
       goes = λ b l. elim (cases_lt b at) [
-        | inl g ↦ goes_on u v qs rs i p b c.in_ok-strike_unsupported.ensures.lists (goes_before u qs i p from at c.loop-from.invariant.goes c.next_apart-at.ensures.before b g)
+        | inl g ↦ goes_on u v qs rs i p b c.in_ok-strike_unsupported.ensures.strikes.1 (goes_before u qs i p from at c.loop-from.invariant.goes c.next_apart-at.ensures.before b g)
         | inr g ↦ (let e : at ≡ b = omega arith in subst (λ (x : ℕ). GoesWith v rs i p x) e (λ h. absurd (true≢false (sym h ∙ c.in_ok-strike_unsupported.ensures.gone))))
       ];
     }

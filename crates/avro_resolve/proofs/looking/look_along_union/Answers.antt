@@ -19,10 +19,10 @@ loop-branch-preserved c =
     let u = c.loop-branch.progress.table in let v = c.look_along_branch.new.progress.table in let qs = c.loop-branch.progress.struck.items in let rs = c.look_along_branch.new.progress.struck.items in
     let within : at < length is = c.loop-branch-test.true in
     record {
-      rest = c.in_ok-look_along_branch.ensures.rest;
-      lists = lists_then c.args.progress.now.table u v c.args.progress.now.struck.items qs rs c.loop-branch.invariant.lists c.in_ok-look_along_branch.ensures.lists;
+      rest = c.in_ok-look_along_branch.ensures.strikes.0;
+      lists = lists_then c.args.progress.now.table u v c.args.progress.now.struck.items qs rs c.loop-branch.invariant.lists c.in_ok-look_along_branch.ensures.strikes.1;
       goes = λ k d b l m. elim (cases_lt k at) [
-        | inl g ↦ goes_on u v qs rs i (get_or is k d) b c.in_ok-look_along_branch.ensures.lists (c.loop-branch.invariant.goes k d b g m)
+        | inl g ↦ goes_on u v qs rs i (get_or is k d) b c.in_ok-look_along_branch.ensures.strikes.1 (c.loop-branch.invariant.goes k d b g m)
         | inr g ↦ (let e : at ≡ k = omega arith in subst (λ (x : ℕ). GoesWith v rs i (get_or is x d) b) e (subst (λ (x : ℕ). GoesWith v rs i x b) (get_or_any is at 0 d within) (c.in_ok-look_along_branch.ensures.goes b m)))
       ];
     }

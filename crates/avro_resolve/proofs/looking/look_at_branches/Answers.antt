@@ -13,7 +13,7 @@ returns-then-any_left-clause-settled c =
     let w = rows c.args.sides.now in let r = columns c.args.sides.now in let t = c.args.progress.now.table in let places = c.in-Union.branches.items in
     let here : slice_get r c.args.j ≡ Some (union places) = c.node.ensures.node ∙ ap (λ n. Some (node_view n)) c.in-Union.is in
     let told = supports_any w r (left t) c.args.i c.args.j places (rw length-map c.requires.i_in) c.requires.apart here in
-    settled_supported w r t c.args.progress.now.struck.items c.args.i c.args.j c.requires.sides.writer.whole c.requires.sides.reader.whole
+    settled_supported w r t c.args.progress.now.struck.items c.args.i c.args.j c.requires.rest.0.writer.whole c.requires.rest.0.reader.whole
     (told.1 (rw c.deref.ensures.value at (c.any_left.ensures.0 c.if-any_left.true)))
 
 pub strike_unsupported-requires-clause-unsupported : goal.strike_unsupported-requires-clause-unsupported

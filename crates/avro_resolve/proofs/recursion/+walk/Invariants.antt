@@ -8,11 +8,11 @@ use Rattle.avro_resolve.proofs.recursion.+walk.Given as goal
 abbrev pub decreases-ask : goal.decreases-ask
 decreases-ask l = 4 * (1000 - l.depth)
 
-abbrev pub decreases-fits : goal.decreases-fits
-decreases-fits l = 4 * (1000 - l.depth) + 3
+abbrev pub decreases-is_supported : goal.decreases-is_supported
+decreases-is_supported l = 4 * (1000 - l.depth) + 3
 
-abbrev pub decreases-parts_fit : goal.decreases-parts_fit
-decreases-parts_fit l = 4 * (1000 - l.depth) + 2
+abbrev pub decreases-fits : goal.decreases-fits
+decreases-fits l = 4 * (1000 - l.depth) + 2
 
 abbrev pub decreases-all_asked : goal.decreases-all_asked
 decreases-all_asked l = 4 * (1000 - l.depth) + 1

@@ -11,7 +11,7 @@ use Rattle.avro_resolve.proofs.rows.look_at_row.Goals as goal
 pub lay-requires-clause-holds : goal.lay-requires-clause-holds
 lay-requires-clause-holds c = λ name rank e.
     let sides = c.args.sides.now in
-    let below = met_below (names_of sides.writer) (names_of sides.reader) sides.met.ranks.items c.requires.sides.met name rank e in
+    let below = met_below (names_of sides.writer) (names_of sides.reader) sides.met.ranks.items c.requires.rest.0.met name rank e in
     let room = c.requires.room in
     omega arith
 
@@ -23,7 +23,7 @@ row_of-requires-clause-room c =
 
 pub row_of-requires-clause-fields_in : goal.row_of-requires-clause-fields_in
 row_of-requires-clause-fields_in c =
-    let s = c.args.sides.now.writer.schema.now in let few = c.requires.sides.writer.few in
+    let s = c.args.sides.now.writer.schema.now in let few = c.requires.rest.0.writer.few in
     All-weaker (λ (g : Field). g.place < length s) (λ (g : Field). g.place < 65535) (λ g h. omega arith) c.fields-fields.result.fields.now c.fields-fields.ensures.in_schema
 
 pub look_along_row-requires-clause-row : goal.look_along_row-requires-clause-row
@@ -43,7 +43,7 @@ look_along_row-requires-clause-row c =
 pub lift-requires-clause-holds : goal.lift-requires-clause-holds
 lift-requires-clause-holds c = λ name rank e.
     let sides = c.args.sides.now in
-    let below = met_below (names_of sides.writer) (names_of sides.reader) sides.met.ranks.items c.requires.sides.met name rank e in
+    let below = met_below (names_of sides.writer) (names_of sides.reader) sides.met.ranks.items c.requires.rest.0.met name rank e in
     let room = c.requires.room in
     let kept = c.lay.auto.boxes in
     omega arith

@@ -1,7 +1,7 @@
 use Rattle.std.proofs.Common.{ℕ, ◌<◌, get_or}
 use Rattle.avro_resolve.specs.Inside.Sides.{columns, rows}
 use Rattle.avro_resolve.specs.Inside.Left.{IsRest, Lists, Settled}
-use Rattle.avro_resolve.proofs.looking.look_along.Given as goal
+use Rattle.avro_resolve.proofs.striking.look_along_unions.Given as goal
 
 abbrev pub invariant-loop-j : goal.invariant-loop-j
 invariant-loop-j l = record {

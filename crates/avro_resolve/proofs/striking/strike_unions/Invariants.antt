@@ -1,7 +1,7 @@
 use Rattle.std.proofs.Common.{◌≡◌, ℕ, ◌<◌, false, get_or}
 use Rattle.avro_resolve.specs.Inside.Sides.{columns, rows}
 use Rattle.avro_resolve.specs.Inside.Left.{left, IsRest, Lists, Settled}
-use Rattle.avro_resolve.proofs.looking.strike_down.Given as goal
+use Rattle.avro_resolve.proofs.striking.strike_unions.Given as goal
 
 abbrev pub invariant-loop-i : goal.invariant-loop-i
 invariant-loop-i l = record {
