@@ -63,7 +63,3 @@ small_product n m a b =
 
 pub is_small : (w r : List NodeView) → IsWhole w → IsWhole r → 0 < length w → 0 < length r → length w < 65536 → length r < 65536 → IsSmall w r
 is_small w r ww wr lw lr sw sr = (pairs_below (length w) (length r), all_hold w r ww wr lw lr, subst (λ (x : ℕ). x < 2 ^ 32) (sym (length-pairs_below (length w) (length r))) (small_product (length w) (length r) sw sr))
-
-pub source_within_if : (n : ℕ) (fields : List FieldView) (f : FieldView) (o : Option ℕ) → o ≡ source_place fields f → All (λ g. g.place < n) fields → IfSome o (λ p. p < n)
-source_within_if n fields f None e h = tt
-source_within_if n fields f (Some p) e h = source_within n p fields f (sym e) h
