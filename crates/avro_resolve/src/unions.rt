@@ -1,9 +1,9 @@
 //! Which unions have a place as a branch, and with which of these the places of the other side are
 //! known not to be left.
 
-ghost use Rattle.std.specs.Prelude.{◌≡◌, ◌<◌, ◌⊎◌, ℕ, All, Contains, IfOk, IsTrue, None, OnOk, Some, get_or, length};
+ghost use Rattle.std.specs.Prelude.{◌≡◌, ◌⊎◌, ℕ, IfOk, IsTrue, None, OnOk, Some, get_or, length};
 ghost use Rattle.avro_nodes.specs.Nodes.{node_view, nodes_view};
-ghost use Rattle.avro_resolve.specs.Inside.Lists.{list_at, Adds, StandsAt};
+ghost use Rattle.avro_resolve.specs.Inside.Lists.{list_at, Adds};
 ghost use Rattle.avro_resolve.specs.Inside.Places.{IsWhole, Names};
 ghost use Rattle.avro_resolve.specs.Inside.Askers.{HasBranch, HasUnions, IsUnionListed};
 
@@ -12,33 +12,19 @@ use avro_nodes::Node;
 use avro_schema::Schema;
 use std::alloc::{AllocError, Global};
 
-/// Notes that a union has each of these places as a branch.
-fn note_branches(lists: &mut Vec<Vec<u32>>, branches: &[u32], union: u32) -> Result<(), AllocError>
-    requires { All (λ p. p < length lists.old.items) branches.now }
-    ensures adds { OnOk result (Adds (λ i p. (i ≡ union) × Contains branches.now p) lists.old.items lists.new.items) }
-    ensures there { OnOk result (All (StandsAt lists.new.items union) branches.now) }
-{
-    for branch in branches {
-        note(lists, *branch, union)?;
-    }
-    Ok(())
-}
-
 /// Notes of which places a node is a union.
 fn note_node(lists: &mut Vec<Vec<u32>>, node: &Node, place: u32) -> Result<(), AllocError>
     requires { Names (length lists.old.items) (node_view node.now) }
     ensures adds { OnOk result (Adds (λ i p. (i ≡ place) × HasBranch (node_view node.now) p) lists.old.items lists.new.items) }
     ensures there { OnOk result (IsUnionListed lists.new.items place (node_view node.now)) }
 {
-    match node {
-        Node::Union { branches } => note_branches(lists, branches, place),
-        Node::Primitive { .. }
-        | Node::Array { .. }
-        | Node::Map { .. }
-        | Node::Enum { .. }
-        | Node::Fixed { .. }
-        | Node::Rec { .. } => Ok(()),
+    let Node::Union { branches } = node else {
+        return Ok(());
+    };
+    for branch in branches {
+        note(lists, *branch, place)?;
     }
+    Ok(())
 }
 
 /// For each place of a schema the unions that have it as a branch.
@@ -74,23 +60,13 @@ pub fn note_at(noted: &mut Vec<Option<u32>>, at: u32, place: u32)
     }
 }
 
-/// The place that is noted for this one.
-fn noted_at(noted: &[Option<u32>], at: u32) -> Option<u32>
-    ensures { result ≡ get_or noted.now at None }
-{
-    match noted.get(at as usize) {
-        Some(place) => *place,
-        None => None,
-    }
-}
-
 /// Whether the place that is noted for this one has the same unions as those in the list.
 pub fn is_noted(unions: &[Vec<u32>], noted: &[Option<u32>], at: u32, list: &[u32]) -> bool
     ensures { IsTrue result → (place : ℕ) × (get_or noted.now at None ≡ Some place)
         × (list_at unions.now place ≡ list.now) }
 {
-    match noted_at(noted, at) {
-        Some(place) => list_of(unions, place as usize) == list,
-        None => false,
+    match noted.get(at as usize) {
+        Some(Some(place)) => list_of(unions, *place as usize) == list,
+        _ => false,
     }
 }
