@@ -3,7 +3,7 @@
 
 ghost use Rattle.std.specs.Prelude.{◌≡◌, ◌<◌, All, Contains, IfOk, OnOk, Some, length, slice_get};
 ghost use Rattle.avro_nodes.specs.Nodes.{NodeView};
-ghost use Rattle.avro_resolve.specs.Inside.Askers.{own_label, AreSorted, GivenBy, HasLabel, HasLinks, IsFieldLinked, IsOfNode, IsPlaceLinked, LinkedBy, Notes, SameLists};
+ghost use Rattle.avro_resolve.specs.Inside.Askers.{AreSorted, GivenBy, HasLabel, HasLinks, IsFieldLinked, IsOfNode, IsPlaceLinked, LinkedBy, Notes, SameLists};
 ghost use Rattle.avro_resolve.specs.Inside.Sides.{names_of, nodes_of, IsSide};
 
 use crate::aliased::Aliased;
@@ -50,22 +50,6 @@ pub struct Labels<'a> {
     pub aliased: bool,
 }
 
-impl<'a> Labels<'a> {
-    ghost use Rattle.std.specs.Prelude.{◌≡◌};
-    ghost use Rattle.avro_resolve.specs.Inside.Askers.{own_label};
-
-    /// The label of a field's own name, if it has one.
-    fn own(&self, rank: u32) -> Option<u32>
-        ensures { result ≡ own_label self.now.met.now.ranks.items self.now.aliased rank }
-    {
-        if self.aliased {
-            Some(rank)
-        } else {
-            self.met.rank(rank)
-        }
-    }
-}
-
 /// The label of an array's items and of a map's values. A name may have this one too, since the
 /// ways tell the two apart.
 const CONTAINED: u32 = 0;
@@ -110,7 +94,11 @@ fn note_field(
     ensures there { OnOk result (IsFieldLinked labels.now.met.now.ranks.items labels.now.aliased links.new
         field.place field.index place ranks.now) }
 {
-    let own = labels.own(ranks.name);
+    let own = if labels.aliased {
+        Some(ranks.name)
+    } else {
+        labels.met.rank(ranks.name)
+    };
     note_all(links, own.as_slice(), Way::ByName, place, field.place)?;
     if !labels.aliased || ranks.aliases.is_empty() {
         return Ok(());
