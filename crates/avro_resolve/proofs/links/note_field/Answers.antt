@@ -1,4 +1,4 @@
-use Rattle.std.proofs.Common.{◌≡◌, ◌++◌, ◌∷◌, [], zero, suc, ℕ, List, Option, Some, None, Bool, true, false, length, inl, inr, sym, ap, subst, ◌∙◌, arith}
+use Rattle.std.proofs.Common.{◌≡◌, ◌++◌, ◌∷◌, [], zero, suc, ℕ, List, Option, Some, None, Bool, true, length, inl, inr, sym, ap, subst, ◌∙◌, arith}
 use Rattle.std.specs.Prelude.{All, Contains, MatchOption, slice_get}
 use Rattle.std.proofs.lemmas.List.Elements.{Contains-push_cases}
 use Rattle.avro_resolve.specs.declared.aliased.Aliased.{Aliased}
