@@ -1,31 +1,16 @@
 //! Which unions have a place as a branch, and with which of these the places of the other side are
 //! known not to be left.
 
-ghost use Rattle.std.specs.Prelude.{◌≡◌, ◌⊎◌, ℕ, IfOk, IsTrue, None, OnOk, Some, get_or, length};
-ghost use Rattle.avro_nodes.specs.Nodes.{node_view, nodes_view};
-ghost use Rattle.avro_resolve.specs.Inside.Lists.{list_at, Adds};
-ghost use Rattle.avro_resolve.specs.Inside.Places.{IsWhole, Names};
-ghost use Rattle.avro_resolve.specs.Inside.Askers.{HasBranch, HasUnions, IsUnionListed};
+ghost use Rattle.std.specs.Prelude.{◌≡◌, ◌⊎◌, ℕ, IfOk, IsTrue, None, Some, get_or};
+ghost use Rattle.avro_nodes.specs.Nodes.{nodes_view};
+ghost use Rattle.avro_resolve.specs.Inside.Lists.{list_at};
+ghost use Rattle.avro_resolve.specs.Inside.Places.{IsWhole};
+ghost use Rattle.avro_resolve.specs.Inside.Askers.{HasUnions};
 
 use crate::lists::{empty_lists, list_of, note};
 use avro_nodes::Node;
 use avro_schema::Schema;
 use std::alloc::{AllocError, Global};
-
-/// Notes of which places a node is a union.
-fn note_node(lists: &mut Vec<Vec<u32>>, node: &Node, place: u32) -> Result<(), AllocError>
-    requires { Names (length lists.old.items) (node_view node.now) }
-    ensures adds { OnOk result (Adds (λ i p. (i ≡ place) × HasBranch (node_view node.now) p) lists.old.items lists.new.items) }
-    ensures there { OnOk result (IsUnionListed lists.new.items place (node_view node.now)) }
-{
-    let Node::Union { branches } = node else {
-        return Ok(());
-    };
-    for branch in branches {
-        note(lists, *branch, place)?;
-    }
-    Ok(())
-}
 
 /// For each place of a schema the unions that have it as a branch.
 pub fn unions_of(alloc: Global, schema: &Schema) -> Result<Vec<Vec<u32>>, AllocError>
@@ -34,7 +19,12 @@ pub fn unions_of(alloc: Global, schema: &Schema) -> Result<Vec<Vec<u32>>, AllocE
 {
     let mut lists = empty_lists(alloc, schema.places())?;
     for i in 0..schema.places() {
-        note_node(&mut lists, schema.node(i), i)?;
+        let Node::Union { branches } = schema.node(i) else {
+            continue;
+        };
+        for branch in branches {
+            note(&mut lists, *branch, i)?;
+        }
     }
     Ok(lists)
 }
