@@ -3,7 +3,7 @@
 
 ghost use Rattle.std.specs.Prelude.{◌≡◌, ◌<◌, All, Contains, IfOk, OnOk, Some, length, slice_get};
 ghost use Rattle.avro_nodes.specs.Nodes.{NodeView};
-ghost use Rattle.avro_resolve.specs.Inside.Askers.{AreSorted, GivenBy, HasLabel, HasLinks, IsFieldLinked, IsOfNode, IsPlaceLinked, LinkedBy, Notes, SameLists};
+ghost use Rattle.avro_resolve.specs.Inside.Askers.{GivenBy, HasLabel, HasLinks, IsFieldLinked, IsOfNode, IsPlaceLinked, LinkedBy, Notes};
 ghost use Rattle.avro_resolve.specs.Inside.Sides.{names_of, nodes_of, IsSide};
 
 use crate::aliased::Aliased;
@@ -142,16 +142,6 @@ fn note_node(links: &mut Links, labels: &Labels, side: &Side, asker: u32) -> Res
     Ok(())
 }
 
-/// Sorts each list by the labels.
-fn sort_lists(lists: &mut Vec<Vec<Link>>)
-    ensures same { SameLists lists.old.items lists.new.items }
-    ensures sorted { AreSorted lists.new.items }
-{
-    for place in 0..lists.len() {
-        lists[place].sort_unstable_by_key(|link| link.label);
-    }
-}
-
 /// For each place of a side the links to it, sorted by their labels.
 ///
 /// # Errors
@@ -169,6 +159,8 @@ pub fn links_of(alloc: Global, side: &Side, labels: &Labels) -> Result<Links, Al
     for i in 0..side.places() {
         note_node(&mut links, labels, side, i)?;
     }
-    sort_lists(&mut links.lists);
+    for place in 0..links.lists.len() {
+        links.lists[place].sort_unstable_by_key(|link| link.label);
+    }
     Ok(links)
 }
