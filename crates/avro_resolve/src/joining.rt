@@ -22,8 +22,7 @@ fn ask(sources: &[Vec<u16>], place: u32, link: Link, other: Link) -> bool
         return false;
     }
     match (link.way, other.way) {
-        (Way::OfContents, Way::OfContents) => true,
-        (Way::ByName, Way::ByName) => true,
+        (Way::OfContents, Way::OfContents) | (Way::ByName, Way::ByName) => true,
         (Way::ByName, Way::ByAlias(number)) => is_source(sources, link.asker, number, place),
         _ => false,
     }
