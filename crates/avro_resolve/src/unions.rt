@@ -1,45 +1,16 @@
 //! Which unions have a place as a branch, and with which of these the places of the other side are
 //! known not to be left.
 
-ghost use Rattle.std.specs.Prelude.{◌≡◌, ◌<◌, ◌⊎◌, ℕ, All, Contains, IfOk, IsTrue, None, OnOk, Some, get_or, length};
-ghost use Rattle.avro_nodes.specs.Nodes.{node_view, nodes_view};
-ghost use Rattle.avro_resolve.specs.Inside.Lists.{list_at, Adds, StandsAt};
-ghost use Rattle.avro_resolve.specs.Inside.Places.{IsWhole, Names};
-ghost use Rattle.avro_resolve.specs.Inside.Askers.{HasBranch, HasUnions, IsUnionListed};
+ghost use Rattle.std.specs.Prelude.{◌≡◌, ◌⊎◌, ℕ, IfOk, IsTrue, None, Some, get_or};
+ghost use Rattle.avro_nodes.specs.Nodes.{nodes_view};
+ghost use Rattle.avro_resolve.specs.Inside.Lists.{list_at};
+ghost use Rattle.avro_resolve.specs.Inside.Places.{IsWhole};
+ghost use Rattle.avro_resolve.specs.Inside.Askers.{HasUnions};
 
 use crate::lists::{empty_lists, list_of, note};
 use avro_nodes::Node;
 use avro_schema::Schema;
 use std::alloc::{AllocError, Global};
-
-/// Notes that a union has each of these places as a branch.
-fn note_branches(lists: &mut Vec<Vec<u32>>, branches: &[u32], union: u32) -> Result<(), AllocError>
-    requires { All (λ p. p < length lists.old.items) branches.now }
-    ensures adds { OnOk result (Adds (λ i p. (i ≡ union) × Contains branches.now p) lists.old.items lists.new.items) }
-    ensures there { OnOk result (All (StandsAt lists.new.items union) branches.now) }
-{
-    for branch in branches {
-        note(lists, *branch, union)?;
-    }
-    Ok(())
-}
-
-/// Notes of which places a node is a union.
-fn note_node(lists: &mut Vec<Vec<u32>>, node: &Node, place: u32) -> Result<(), AllocError>
-    requires { Names (length lists.old.items) (node_view node.now) }
-    ensures adds { OnOk result (Adds (λ i p. (i ≡ place) × HasBranch (node_view node.now) p) lists.old.items lists.new.items) }
-    ensures there { OnOk result (IsUnionListed lists.new.items place (node_view node.now)) }
-{
-    match node {
-        Node::Union { branches } => note_branches(lists, branches, place),
-        Node::Primitive { .. }
-        | Node::Array { .. }
-        | Node::Map { .. }
-        | Node::Enum { .. }
-        | Node::Fixed { .. }
-        | Node::Rec { .. } => Ok(()),
-    }
-}
 
 /// For each place of a schema the unions that have it as a branch.
 pub fn unions_of(alloc: Global, schema: &Schema) -> Result<Vec<Vec<u32>>, AllocError>
@@ -48,7 +19,12 @@ pub fn unions_of(alloc: Global, schema: &Schema) -> Result<Vec<Vec<u32>>, AllocE
 {
     let mut lists = empty_lists(alloc, schema.places())?;
     for i in 0..schema.places() {
-        note_node(&mut lists, schema.node(i), i)?;
+        let Node::Union { branches } = schema.node(i) else {
+            continue;
+        };
+        for branch in branches {
+            note(&mut lists, *branch, i)?;
+        }
     }
     Ok(lists)
 }
@@ -74,23 +50,13 @@ pub fn note_at(noted: &mut Vec<Option<u32>>, at: u32, place: u32)
     }
 }
 
-/// The place that is noted for this one.
-fn noted_at(noted: &[Option<u32>], at: u32) -> Option<u32>
-    ensures { result ≡ get_or noted.now at None }
-{
-    match noted.get(at as usize) {
-        Some(place) => *place,
-        None => None,
-    }
-}
-
 /// Whether the place that is noted for this one has the same unions as those in the list.
 pub fn is_noted(unions: &[Vec<u32>], noted: &[Option<u32>], at: u32, list: &[u32]) -> bool
     ensures { IsTrue result → (place : ℕ) × (get_or noted.now at None ≡ Some place)
         × (list_at unions.now place ≡ list.now) }
 {
-    match noted_at(noted, at) {
-        Some(place) => list_of(unions, place as usize) == list,
-        None => false,
+    match noted.get(at as usize) {
+        Some(Some(place)) => list_of(unions, *place as usize) == list,
+        _ => false,
     }
 }

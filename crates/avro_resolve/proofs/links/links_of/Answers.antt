@@ -1,13 +1,20 @@
-use Rattle.std.proofs.Common.{◌≡◌, ◌<◌, ◌≤◌, ℕ, Some, length, sym, subst, ◌∙◌, inl, inr, arith}
-use Rattle.std.specs.Prelude.{slice_get}
+use Rattle.std.proofs.Common.{◌≡◌, ◌<◌, ◌≤◌, ℕ, Some, length, sym, subst, ◌∙◌, inl, inr, arith, rules, List, ap}
+use Rattle.std.specs.Prelude.{slice_get, Contains, Vec}
 use Rattle.std.proofs.lemmas.Bool.{cases_lt}
-use Rattle.std.proofs.lemmas.List.{length-map}
+use Rattle.std.proofs.lemmas.List.{length-map, length-set}
 use Rattle.std.proofs.lemmas.Option.{slice_get_within}
+use Rattle.std.proofs.Math.ListN.{set}
+use Rattle.std.specs.List.Sorted.{IsNonDecreasingBy}
+use Rattle.std.specs.declared.alloc.Global.{Global}
+use Rattle.std.proofs.lemmas.List.Sorted.{Contains-permutation, IsPermutation-sym, IsNonDecreasingBy-from_sort_by_key}
 use Rattle.avro_nodes.specs.Nodes.{node_view}
-use Rattle.avro_resolve.specs.declared.links.Links.{Links}
+use Rattle.avro_resolve.specs.declared.links.Link.{Link}
+use Rattle.avro_resolve.specs.declared.aliased.Aliased.{Aliased}
 use Rattle.avro_resolve.specs.Inside.Askers.{IsPlaceLinked}
 use Rattle.avro_resolve.specs.Inside.Sides.{names_of, nodes_of}
+use Rattle.avro_resolve.specs.Inside.Lists.{list_at}
 use Rattle.avro_resolve.proofs.LinkLemmas.{of_node_on, place_on}
+use Rattle.avro_resolve.proofs.ListLemmas.{keeps, onlys, list_in, list_past, list_set, list_set_other}
 use Rattle.avro_resolve.proofs.links.links_of.Goals as goal
 
 pub loop-i-init : goal.loop-i-init
@@ -39,18 +46,43 @@ loop-i-preserved c =
       ];
     }
 
+pub loop-place-preserved : goal.loop-place-preserved
+loop-place-preserved c =
+    let inv = c.loop-place.invariant in let xs = c.loop-place.links.lists.items in let k = c.loop-place.place in let d = c.index_mut.result.now in let v = c.sort_unstable_by_key.new.self in
+    let l : k < length xs = omega (arith, inv.long, c.loop-place-test.true) in
+    let here : list_at xs k ≡ d.items = list_in xs k d l ∙ ap (λ (u : Vec Link Global). u.items) (sym c.index_mut.ensures.value) in
+    let moved = c.sort_unstable_by_key.ensures.permutation in
+    let rising : IsNonDecreasingBy (λ (x : Link). x.label) v.items = IsNonDecreasingBy-from_sort_by_key (λ (x : Link). x.label) _ c.sort_unstable_by_key.ensures.sorted (λ a r q e. search rules) in
+    record {
+      long = length-set xs k v ∙ inv.long;
+      same = record {
+        there = λ x p h. keeps xs k v l (λ y g. Contains-permutation d.items v.items y moved (subst (λ (ys : List Link). Contains ys y) here g)) x p (inv.same.there x p h);
+        back = λ x p h. inv.same.back x p (elim (onlys xs k v l (λ _ _. ⊥) (λ y g. inl (subst (λ (ys : List Link). Contains ys y) (sym here) (Contains-permutation v.items d.items y (IsPermutation-sym d.items v.items moved) g))) x p h) [ inl m ↦ m | inr n ↦ absurd n ]);
+      };
+      aliased = inv.aliased;
+      sorted = λ p below. elim (cases_lt p k) [
+        | inl g ↦ subst (λ (ys : List Link). IsNonDecreasingBy (λ (x : Link). x.label) ys) (sym (list_set_other xs k p v (λ (e : p ≡ k). absurd (omega (arith, e, g))))) (inv.sorted p g)
+        | inr g ↦ (let e : k ≡ p = omega arith in subst (λ (q : ℕ). IsNonDecreasingBy (λ (x : Link). x.label) (list_at (set xs k v) q)) e (subst (λ (ys : List Link). IsNonDecreasingBy (λ (x : Link). x.label) ys) (sym (list_set xs k v l)) rising))
+      ];
+    }
+
 pub returns : goal.returns
 returns c =
-    let inv = c.loop-i.invariant in let side = c.args.side.now in let nodes = side.schema.now in let same = c.sort_lists.ensures.same in
+    let inv = c.loop-i.invariant in let side = c.args.side.now in let nodes = side.schema.now in let same = c.loop-place.invariant.same in
+    let xs = c.loop-i.links in let ys = c.loop-place.links in
     let view : length (nodes_of side) ≡ length nodes = length-map nodes node_view in
     let past : length nodes ≤ c.loop-i.i = omega (arith, c.loop-i-test.false, c.places-i-end.ensures.places) in
-    let sorted : Links = record { lists = c.sort_lists.new.lists; aliased = c.loop-i.links.aliased } in
+    let kept : (number : ℕ) (field : Aliased) → slice_get xs.aliased.items number ≡ Some field → slice_get ys.aliased.items number ≡ Some field =
+    λ number field e. subst (λ (fs : List Aliased). slice_get fs number ≡ Some field) (sym c.loop-place.invariant.aliased) e in
     record {
       within = λ x p h. subst (λ (n : ℕ). x.asker < n) (sym view) (inv.within x p (same.back x p h));
-      sorted = c.sort_lists.ensures.sorted;
+      sorted = λ place. elim (cases_lt place (length ys.lists.items)) [
+        | inl g ↦ c.loop-place.invariant.sorted place (omega (arith, c.loop-place.invariant.long, c.loop-place-test.false))
+        | inr g ↦ subst (λ (ls : List Link). IsNonDecreasingBy (λ (x : Link). x.label) ls) (sym (list_past ys.lists.items place g)) (λ i j d le l. absurd (omega arith))
+      ];
       named = λ i a e. (
           let l : i < length (nodes_of side) = slice_get_within (nodes_of side) i a e in
-          place_on c.loop-i.links sorted same.there (λ number field g. g) (names_of side) c.args.labels.now.met.now.ranks.items c.args.labels.now.aliased i a (inv.named i a (omega arith) e)
+          place_on xs ys same.there kept (names_of side) c.args.labels.now.met.now.ranks.items c.args.labels.now.aliased i a (inv.named i a (omega arith) e)
           );
-      meant = λ x p h. inv.meant x p (same.back x p h);
+      meant = λ x p h a e. of_node_on xs.aliased.items ys.aliased.items kept c.args.labels.now.met.now.ranks.items c.args.labels.now.aliased x (names_of side) a p (inv.meant x p (same.back x p h) a e);
     }

@@ -3,7 +3,7 @@ use Rattle.std.specs.Prelude.{slice_get}
 use Rattle.avro_nodes.specs.Nodes.{FieldView, field_view}
 use Rattle.avro_schema.specs.declared.index.FieldRanks.{FieldRanks}
 use Rattle.avro_resolve.specs.Inside.Askers.{IsFieldLinked, IsOfField, Notes}
-use Rattle.avro_resolve.proofs.links.note_fields.Given as goal
+use Rattle.avro_resolve.proofs.links.note_node.Given as goal
 
 abbrev pub invariant-loop-index : goal.invariant-loop-index
 invariant-loop-index l = record {
