@@ -55,10 +55,6 @@ module _ (w r : List (List ℕ)) (i from at : ℕ) (name : List ℕ) (within : i
   met_more rise least o told met h =
       subst (λ (xs : List (List ℕ)). AreMet xs r (met ++ o ∷ [])) (sym (take_more w i [] within ∙ ap (λ (x : List ℕ). take i w ++ x ∷ []) named)) (all_zipped_more (Meets r) (take i w) met name o h (meets rise least o told))
 
-pub told_by : (r : List (List ℕ)) (name : List ℕ) (at : ℕ) (o : Option ℕ) → MatchOption o (Unit {0}) (λ rank. slice_get r rank ≡ Some name) → (o ≡ None → slice_get r at ≡ Some name → ⊥) → MatchOption o (slice_get r at ≡ Some name → ⊥) (λ rank. slice_get r rank ≡ Some name)
-told_by r name at None some none = none refl
-told_by r name at (Some rank) some none = some
-
 -- ---- what ranks tell
 
 -- a name has one rank
