@@ -4,6 +4,7 @@ ghost use Rattle.std.specs.Prelude.{◌≡◌, ◌<◌, ◌↔◌, All, IfSome, 
 ghost use Rattle.std.specs.Option.{ForSome};
 ghost use Rattle.avro_nodes.specs.Nodes.{FieldView, NodeView, field_view};
 ghost use Rattle.avro_schema.specs.Index.{IsFieldRanked};
+ghost use Rattle.avro_resolve.specs.declared.sides.Sides.{Sides};
 ghost use Rattle.avro_resolve.specs.Resolution.{Readable};
 ghost use Rattle.avro_resolve.specs.Inside.Agreeing.{fields_of};
 ghost use Rattle.avro_resolve.specs.Inside.Left.{left};
@@ -11,7 +12,7 @@ ghost use Rattle.avro_resolve.specs.Inside.Rows.{row_fields, IsFound, IsRow};
 ghost use Rattle.avro_resolve.specs.Inside.Sides.{columns, names_of, IsSides};
 ghost use Rattle.avro_resolve.specs.Inside.Sources.{field_at};
 
-use crate::aliased::{Aliased, Numbered, entry_at, first_number, place_told};
+use crate::aliased::{Aliased, Numbered, place_told};
 use crate::desk::place_of;
 use crate::sides::{Fields, Sides};
 use crate::table::Table;
@@ -43,38 +44,43 @@ struct Found {
 }
 
 /// What is told of the field of a number, if this is that field.
-fn told_at(sides: &Sides, row: &Row, number: usize, field: Aliased) -> Option<Found>
-    requires sides { IsSides sides.now }
-    requires row { IsRow sides.now row.now }
-    ensures { IfSome result (λ found. (f : FieldView) → field_at (columns sides.now) field ≡ Some f
-        → IsFound (row_fields row.now) found f) }
+fn told_at(row: &Row, number: usize, field: Aliased) -> Option<Found>
+    ensures { IfSome result (λ found. (sides : Sides) (f : FieldView) → IsRow sides row.now
+        → field_at (columns sides) field ≡ Some f → IsFound (row_fields row.now) found f) }
 {
-    let _sides = sides;
-    let Some(entry) = entry_at(row.entries, row.numbered.aliased, number, field) else {
-        return None;
-    };
-    if number >= row.numbered.wanted.len() {
+    if *row.numbered.aliased.get(number)? != field {
         return None;
     }
-    let wanted = row.numbered.wanted[number];
+    let (entry, wanted) = (row.entries.get(number)?, row.numbered.wanted.get(number)?);
     Some(Found {
-        source: place_told(entry),
+        source: place_told(*entry),
         place: wanted.place,
         has_default: wanted.has_default,
     })
 }
 
-/// What is found of a field in the boxes.
-fn look_up(sides: &Sides, row: &Row, field: &Field, names: &FieldRanks) -> Found
+/// What is found of a field of the reader's: what its number told of it, or else what the boxes tell,
+/// so that a field that is told isn't looked at.
+fn found_of(
+    sides: &Sides,
+    row: &Row,
+    told: Option<Found>,
+    field: &Field,
+    names: &FieldRanks,
+) -> Found
     requires sides { IsSides sides.now }
     requires row { IsRow sides.now row.now }
+    requires told { ForSome told (λ found. IsFound (row_fields row.now) found (field_view field.now)) }
     requires named { IsFieldRanked (names_of sides.now.reader) (field_view field.now) names.now }
     ensures { IsFound (row_fields row.now) result (field_view field.now) }
 {
-    Found {
-        source: place_of(row.boxes, sides, row.fields.fields, row.fields.ranks, names),
-        place: field.place,
-        has_default: field.value.is_some(),
+    match told {
+        Some(found) => found,
+        None => Found {
+            source: place_of(row.boxes, sides, row.fields.fields, row.fields.ranks, names),
+            place: field.place,
+            has_default: field.value.is_some(),
+        },
     }
 }
 
@@ -91,30 +97,6 @@ fn is_readable(found: Found, table: &Table) -> bool
     }
 }
 
-/// Whether a field of the reader's can be read: by what its number told of it, or else by what is found
-/// in the boxes. Each way ends by itself, so that a field that is told isn't looked at.
-fn is_field_readable(
-    sides: &Sides,
-    row: &Row,
-    told: Option<Found>,
-    field: &Field,
-    names: &FieldRanks,
-    table: &Table,
-) -> bool
-    requires sides { IsSides sides.now }
-    requires row { IsRow sides.now row.now }
-    requires told { ForSome told (λ found. IsFound (row_fields row.now) found (field_view field.now)) }
-    requires named { IsFieldRanked (names_of sides.now.reader) (field_view field.now) names.now }
-    requires writers { table.now.writers ≡ length sides.now.writer.schema.now }
-    requires place_in { field.now.place < table.now.readers }
-    ensures { IsTrue result ↔ Readable (left table.now) (row_fields row.now) (field_view field.now) }
-{
-    match told {
-        Some(found) => is_readable(found, table),
-        None => is_readable(look_up(sides, row, field, names), table),
-    }
-}
-
 /// Whether each field of the reader's record at a place can be read from the writer's place.
 pub fn all_readable(sides: &Sides, row: &Row, j: u32, table: &Table) -> bool
     requires sides { IsSides sides.now }
@@ -126,11 +108,17 @@ pub fn all_readable(sides: &Sides, row: &Row, j: u32, table: &Table) -> bool
         → IsTrue result ↔ All (Readable (left table.now) (row_fields row.now)) (fields_of b) }
 {
     let wanted = sides.reader.fields(j);
-    let mut number = first_number(row.numbered, j);
+    let mut number = row.numbered.firsts.get(j as usize).copied().unwrap_or(0);
     for index in 0..wanted.fields.len() {
-        let told = told_at(sides, row, number, Aliased { place: j, index });
-        let (field, names) = (&wanted.fields[index], &wanted.ranks[index]);
-        if !is_field_readable(sides, row, told, field, names, table) {
+        let told = told_at(row, number, Aliased { place: j, index });
+        let found = found_of(
+            sides,
+            row,
+            told,
+            &wanted.fields[index],
+            &wanted.ranks[index],
+        );
+        if !is_readable(found, table) {
             return false;
         }
         if told.is_some() {
