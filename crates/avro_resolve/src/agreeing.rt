@@ -9,7 +9,6 @@ ghost use Rattle.avro_resolve.specs.Inside.Left.{Agreed};
 ghost use Rattle.avro_resolve.specs.Inside.Sides.{columns, names_of, rows, IsSides};
 ghost use Rattle.std.specs.List.Sorted.{IsStrictlyIncreasing};
 
-use crate::met::met_ranks;
 use crate::sides::Sides;
 use avro_nodes::{Kind, Node};
 use avro_schema::{NamedRanks, Ranks};
@@ -141,7 +140,14 @@ pub fn met_symbols(alloc: Global, sides: &Sides, i: u32) -> Result<Option<Vec<u3
         → AreSymbolsMet (names_of sides.now.reader) (symbols_of a) o) }
 {
     let symbols = symbols_of(sides.writer.ranks(i));
-    Ok(met_ranks(alloc, &sides.met, symbols)?)
+    let mut found = Vec::with_capacity(alloc, symbols.len())?;
+    for symbol in symbols {
+        let Some(rank) = sides.met.rank(*symbol) else {
+            return Ok(None);
+        };
+        found.push(rank)?;
+    }
+    Ok(Some(found))
 }
 
 /// Whether each symbol of the first node is one of the second's.

@@ -1,12 +1,12 @@
 //! The names of a writer's schema met with those of a reader's, by their ranks.
 
-ghost use Rattle.std.specs.Prelude.{◌≡◌, ◌≢◌, ◌≤◌, ◌<◌, ◌^◌, ◌↔◌, ℕ, [], All, Any, IfOk, IfSome, IsTrue, MatchOption, None, Some, get_or, length, map, slice_get};
+ghost use Rattle.std.specs.Prelude.{◌≡◌, ◌≢◌, ◌≤◌, ◌<◌, ◌^◌, ◌↔◌, ℕ, [], IfOk, IsTrue, MatchOption, None, Some, get_or, length, slice_get};
 ghost use Rattle.std.specs.Cmp.Lexicographic.{slice_cmp};
 ghost use Rattle.std.specs.Ordering.{nat_cmp};
 ghost use Rattle.std.specs.declared.cmp.Ordering.TheVariants.{Less};
 ghost use Rattle.avro_nodes.specs.Nodes.{texts_view};
 ghost use Rattle.avro_schema.specs.Index.{AreNames};
-ghost use Rattle.avro_resolve.specs.Inside.Meeting.{met_at, AreMet, AreMetRanks};
+ghost use Rattle.avro_resolve.specs.Inside.Meeting.{met_at, AreMet};
 
 use std::alloc::{AllocError, Global};
 use std::cmp::Ordering;
@@ -83,20 +83,4 @@ impl Met {
     {
         self.rank(rank).is_some_and(|met| met == other)
     }
-}
-
-/// The reader's ranks of these names of the writer's, in their order, or none where the reader
-/// hasn't one of the names.
-pub fn met_ranks(alloc: Global, met: &Met, ranks: &[u32]) -> Result<Option<Vec<u32>>, AllocError>
-    ensures some { IfOk result (λ o. IfSome o (λ v. AreMetRanks met.now.ranks.items ranks.now v.items)) }
-    ensures none { IfOk result (λ o. o ≡ None → Any (λ rank. met_at met.now.ranks.items rank ≡ None) ranks.now) }
-{
-    let mut found = Vec::with_capacity(alloc, ranks.len())?;
-    for rank in ranks {
-        let Some(here) = met.rank(*rank) else {
-            return Ok(None);
-        };
-        found.push(here)?;
-    }
-    Ok(Some(found))
 }
