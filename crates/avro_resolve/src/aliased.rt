@@ -120,16 +120,6 @@ fn code_of(place: Option<u32>) -> u16
     }
 }
 
-/// The place that is told so.
-pub fn place_told(entry: u16) -> Option<u32>
-    ensures { (place : Option ℕ) → entry ≡ code place → result ≡ place }
-{
-    if entry == 0 {
-        return None;
-    }
-    Some(u32::from(entry) - 1)
-}
-
 /// The sources of these fields of the reader's among those that are laid, each told by its place and
 /// one, or by 0 for none.
 ///

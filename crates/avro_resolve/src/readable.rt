@@ -12,7 +12,7 @@ ghost use Rattle.avro_resolve.specs.Inside.Rows.{row_fields, IsFound, IsRow};
 ghost use Rattle.avro_resolve.specs.Inside.Sides.{columns, names_of, IsSides};
 ghost use Rattle.avro_resolve.specs.Inside.Sources.{field_at};
 
-use crate::aliased::{Aliased, Numbered, place_told};
+use crate::aliased::{Aliased, Numbered};
 use crate::desk::place_of;
 use crate::sides::{Fields, Sides};
 use crate::table::Table;
@@ -53,21 +53,15 @@ fn told_at(row: &Row, number: usize, field: Aliased) -> Option<Found>
     }
     let (entry, wanted) = (row.entries.get(number)?, row.numbered.wanted.get(number)?);
     Some(Found {
-        source: place_told(*entry),
+        source: entry.checked_sub(1).map(u32::from),
         place: wanted.place,
         has_default: wanted.has_default,
     })
 }
 
-/// What is found of a field of the reader's: what its number told of it, or else what the boxes tell,
+/// What reading a field of the reader's rests on: what its number told, or else what the boxes tell,
 /// so that a field that is told isn't looked at.
-fn found_of(
-    sides: &Sides,
-    row: &Row,
-    told: Option<Found>,
-    field: &Field,
-    names: &FieldRanks,
-) -> Found
+fn basis(sides: &Sides, row: &Row, told: Option<Found>, field: &Field, names: &FieldRanks) -> Found
     requires sides { IsSides sides.now }
     requires row { IsRow sides.now row.now }
     requires told { ForSome told (λ found. IsFound (row_fields row.now) found (field_view field.now)) }
@@ -111,13 +105,8 @@ pub fn all_readable(sides: &Sides, row: &Row, j: u32, table: &Table) -> bool
     let mut number = row.numbered.firsts.get(j as usize).copied().unwrap_or(0);
     for index in 0..wanted.fields.len() {
         let told = told_at(row, number, Aliased { place: j, index });
-        let found = found_of(
-            sides,
-            row,
-            told,
-            &wanted.fields[index],
-            &wanted.ranks[index],
-        );
+        let (field, names) = (&wanted.fields[index], &wanted.ranks[index]);
+        let found = basis(sides, row, told, field, names);
         if !is_readable(found, table) {
             return false;
         }

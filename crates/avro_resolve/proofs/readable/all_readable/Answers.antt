@@ -24,16 +24,16 @@ source_within sides row is found f told p e =
     let m = length sides.writer.schema.now in
     place_within m (row_fields row) f (source (row_fields row) f) p (All-map (λ (g : FieldView). g.place < m) field_view row.fields.fields.now is.places) refl (sym e ∙ told.0)
 
-pub found_of-found-requires-clause-named : goal.found_of-found-requires-clause-named
-found_of-found-requires-clause-named c =
+pub basis-found-requires-clause-named : goal.basis-found-requires-clause-named
+basis-found-requires-clause-named c =
     let sides = c.args.sides.now in let j = c.args.j in let wanted = c.fields-wanted.result in let n = c.loop-index.index in let x = c.index-wanted-index-in-loop-index.result in let y = c.index-wanted-index.result in
     let view = length-map sides.reader.schema.now node_view in
     let l : j < length (columns sides) = omega arith in let within : n < length wanted.ranks.now = omega arith in
     let b = nth (columns sides) j l in
     (field_named sides j n wanted b.0 b.1 (c.fields-wanted.ensures.are b.0 b.1) c.fields-wanted.ensures.ranked (get_or wanted.fields.now n y) (get_or wanted.ranks.now n x) (slice_get-get_or wanted.fields.now n y c.loop-index-test.true) (slice_get-get_or wanted.ranks.now n x within)).1
 
-pub found_of-found-requires-clause-told : goal.found_of-found-requires-clause-told
-found_of-found-requires-clause-told c = λ found e.
+pub basis-found-requires-clause-told : goal.basis-found-requires-clause-told
+basis-found-requires-clause-told c = λ found e.
     let sides = c.args.sides.now in let j = c.args.j in let wanted = c.fields-wanted.result in let n = c.loop-index.index in let x = c.index-wanted-index-in-loop-index.result in let y = c.index-wanted-index.result in
     let view = length-map sides.reader.schema.now node_view in
     let l : j < length (columns sides) = omega arith in let within : n < length wanted.ranks.now = omega arith in
@@ -43,12 +43,12 @@ found_of-found-requires-clause-told c = λ found e.
 
 pub is_readable-requires-clause-source_in : goal.is_readable-requires-clause-source_in
 is_readable-requires-clause-source_in c = λ p e.
-    let below = source_within c.args.sides.now c.args.row.now c.requires.row c.found_of-found.result (field_view (get_or c.fields-wanted.result.fields.now c.loop-index.index c.index-wanted-index.result)) c.found_of-found.ensures p e in
+    let below = source_within c.args.sides.now c.args.row.now c.requires.row c.basis-found.result (field_view (get_or c.fields-wanted.result.fields.now c.loop-index.index c.index-wanted-index.result)) c.basis-found.ensures p e in
     omega arith
 
 pub is_readable-requires-clause-place_in : goal.is_readable-requires-clause-place_in
 is_readable-requires-clause-place_in c =
-    let same = c.found_of-found.ensures.1 in
+    let same = c.basis-found.ensures.1 in
     let below = c.fields-wanted.ensures.in_schema c.loop-index.index c.index-wanted-index.result c.loop-index-test.true in
     omega arith
 
@@ -56,7 +56,7 @@ pub returns-then-not-is_readable : goal.returns-then-not-is_readable
 returns-then-not-is_readable c = λ b e.
     let row = c.args.row.now in let wanted = c.fields-wanted.result in let n = c.loop-index.index in
     let t = left c.args.table.now in let f = get_or wanted.fields.now n c.index-wanted-index.result in
-    let told = c.is_readable.ensures (row_fields row) (field_view f) c.found_of-found.ensures in
+    let told = c.is_readable.ensures (row_fields row) (field_view f) c.basis-found.ensures in
     readable_as t (row_fields row) _ row.fields.fields.now wanted.fields.now refl (c.fields-wanted.ensures.are b e) false (
       (λ h. absurd (true≢false (sym h))),
       (λ h. sym c.if-not-is_readable.true ∙ told.1 (h n c.index-wanted-index.result c.loop-index-test.true)),
@@ -66,7 +66,7 @@ pub loop-index-preserved : goal.loop-index-preserved
 loop-index-preserved c = λ k d l.
     let row = c.args.row.now in let wanted = c.fields-wanted.result in let n = c.loop-index.index in
     let t = left c.args.table.now in let f = get_or wanted.fields.now n c.index-wanted-index.result in
-    let told = c.is_readable.ensures (row_fields row) (field_view f) c.found_of-found.ensures in
+    let told = c.is_readable.ensures (row_fields row) (field_view f) c.basis-found.ensures in
     let readable = λ (g : Field). Readable t (row_fields row) (field_view g) in
     let here : readable f = told.0 c.if-not-is_readable.false in
     elim (cases_lt k n) [

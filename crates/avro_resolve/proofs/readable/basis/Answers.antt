@@ -4,7 +4,7 @@ use Rattle.avro_nodes.specs.Nodes.{field_view}
 use Rattle.avro_resolve.specs.Inside.Sides.{names_of}
 use Rattle.avro_resolve.proofs.Sourcing.{ranks_below}
 use Rattle.avro_resolve.proofs.SupportLemmas.{default_told}
-use Rattle.avro_resolve.proofs.readable.found_of.Goals as goal
+use Rattle.avro_resolve.proofs.readable.basis.Goals as goal
 
 pub place_of-requires-clause-aliases_in : goal.place_of-requires-clause-aliases_in
 place_of-requires-clause-aliases_in c =
