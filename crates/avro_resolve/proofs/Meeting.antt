@@ -1,7 +1,10 @@
 -- Two lists of names met, and what their ranks tell.
 use Rattle.std.proofs.Common.{◌≡◌, ℕ, zero, suc, ◌+◌, ◌<◌, ◌≤◌, List, [], ◌∷◌, ◌++◌, length, take, get_or, Some, refl, sym, ap, ◌∙◌, subst, inl, inr, arith}
-use Rattle.std.specs.Prelude.{All, Any, Contains, Option, None, MatchOption, slice_get, ◌↔◌}
+use Rattle.std.specs.Prelude.{All, Any, Contains, Option, None, MatchOption, String, slice_get, string_bytes, ◌↔◌}
 use Rattle.std.specs.Option.{IsSomeAnd}
+use Rattle.std.specs.declared.alloc.Global.{Global}
+use Rattle.avro_nodes.specs.Nodes.{texts_view}
+use Rattle.avro_resolve.proofs.ViewLemmas.{view_got}
 use Rattle.std.specs.declared.cmp.Ordering.TheVariants.{Less}
 use Rattle.std.proofs.lemmas.Bool.{cases_lt}
 use Rattle.std.proofs.lemmas.Cmp.{nat_list_cmp_total}
@@ -14,6 +17,10 @@ use Rattle.avro_schema.proofs.Rising.{order, level, less_not_equal}
 use Rattle.avro_resolve.specs.Inside.Meeting.{Meets, AreMet, AreMetRanks, Tell, met_at}
 
 -- ---- the walk over both
+
+-- the name of a rank
+pub name_at : (names : List (String Global)) (k : ℕ) (x : String Global) (text : List ℕ) → k < length names → x ≡ get_or names k x → text ≡ string_bytes x → slice_get (texts_view names) k ≡ Some text
+name_at names k x text l is e = view_got string_bytes names k x (slice_get-get_or names k x l ∙ ap (λ (y : String Global). Some y) (sym is)) ∙ ap (λ (y : List ℕ). Some y) (sym e)
 
 -- what stands before a rank is below each writer's name from an index on
 abbrev pub Passed : List (List ℕ) → List (List ℕ) → ℕ → ℕ → Type 0

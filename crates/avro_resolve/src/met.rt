@@ -1,12 +1,10 @@
 //! The names of a writer's schema met with those of a reader's, by their ranks.
 
-ghost use Rattle.std.specs.Prelude.{◌≡◌, ◌≢◌, ◌≤◌, ◌<◌, ◌^◌, ◌↔◌, ℕ, [], IfOk, IsTrue, MatchOption, None, Some, get_or, length, slice_get};
+ghost use Rattle.std.specs.Prelude.{◌≡◌, ◌≢◌, ◌≤◌, ◌<◌, ◌^◌, ℕ, [], MatchOption, Some, get_or, length, slice_get};
 ghost use Rattle.std.specs.Cmp.Lexicographic.{slice_cmp};
 ghost use Rattle.std.specs.Ordering.{nat_cmp};
 ghost use Rattle.std.specs.declared.cmp.Ordering.TheVariants.{Less};
 ghost use Rattle.avro_nodes.specs.Nodes.{texts_view};
-ghost use Rattle.avro_schema.specs.Index.{AreNames};
-ghost use Rattle.avro_resolve.specs.Inside.Meeting.{met_at, AreMet};
 
 use std::alloc::{AllocError, Global};
 use std::cmp::Ordering;
@@ -15,14 +13,6 @@ use std::cmp::Ordering;
 #[derive(Drop)]
 pub struct Met {
     pub ranks: Vec<Option<u32>>,
-}
-
-/// The name of a rank.
-fn name_of(names: &[String], rank: usize) -> &str
-    requires { rank < length names.now }
-    ensures { slice_get (texts_view names.now) rank ≡ Some result.now }
-{
-    names[rank].as_str()
 }
 
 /// The first rank from this one on whose name isn't below this one, or else the number of names; and
@@ -39,7 +29,7 @@ fn first_from(names: &[String], from: usize, name: &str) -> (usize, Option<u32>)
         (λ rank. slice_get (texts_view names.now) rank ≡ Some name.now) }
 {
     for at in from..names.len() {
-        match name_of(names, at).cmp(name) {
+        match names[at].as_str().cmp(name) {
             Ordering::Less => {}
             Ordering::Equal => return (at, Some(at as u32)),
             Ordering::Greater => return (at, None),
@@ -63,7 +53,7 @@ impl Met {
         let mut ranks = Vec::with_capacity(alloc, writer.len())?;
         let mut from = 0;
         for rank in 0..writer.len() {
-            let (at, met) = first_from(reader, from, name_of(writer, rank));
+            let (at, met) = first_from(reader, from, writer[rank].as_str());
             from = at;
             ranks.push(met)?;
         }

@@ -9,6 +9,7 @@ use Rattle.std.proofs.lemmas.Map.Lookups.{exact_bytes}
 use Rattle.std.proofs.lemmas.Option.{get_or_from_slice_get, same_Some, slice_get_within}
 use Rattle.avro_nodes.specs.Nodes.{texts_view}
 use Rattle.avro_schema.proofs.Rising.{order, level, less_not_equal}
+use Rattle.avro_resolve.proofs.Meeting.{name_at}
 use Rattle.avro_resolve.proofs.met.first_from.Goals as goal
 
 -- how the name at a rank compares
@@ -23,30 +24,33 @@ less_not_greater a e f = true≢false (sym (ap is_lt e) ∙ ap is_lt f)
 
 pub returns-in-Equal : goal.returns-in-Equal
 returns-in-Equal c =
-    let r = texts_view c.args.names.now in let at = c.loop-at.at in let here = c.name_of.result.now in let name = c.args.name.now in
-    let level = at_rank r at here name Equal c.name_of.ensures (sym c.in-Equal.is ∙ c.cmp.ensures) in
+    let r = texts_view c.args.names.now in let at = c.loop-at.at in let here = c.as_str.result.now in let name = c.args.name.now in
+    let is = name_at c.args.names.now at c.index-names-at.result here c.loop-at-test.true c.index-names-at.is c.as_str.ensures.value in
+    let level = at_rank r at here name Equal is (sym c.in-Equal.is ∙ c.cmp.ensures) in
     record {
       within = omega arith;
       below = c.loop-at.invariant;
       at = λ _ less. less_not_equal (order (get_or r at []) name) less level;
-      met = c.name_of.ensures ∙ ap (λ (x : List ℕ). Some x) (exact_bytes here name (sym c.cmp.ensures ∙ c.in-Equal.is));
+      met = is ∙ ap (λ (x : List ℕ). Some x) (exact_bytes here name (sym c.cmp.ensures ∙ c.in-Equal.is));
     }
 
 pub returns-in-Greater : goal.returns-in-Greater
 returns-in-Greater c =
-    let r = texts_view c.args.names.now in let at = c.loop-at.at in let here = c.name_of.result.now in let name = c.args.name.now in
-    let above = at_rank r at here name Greater c.name_of.ensures (sym c.in-Greater.is ∙ c.cmp.ensures) in
+    let r = texts_view c.args.names.now in let at = c.loop-at.at in let here = c.as_str.result.now in let name = c.args.name.now in
+    let is = name_at c.args.names.now at c.index-names-at.result here c.loop-at-test.true c.index-names-at.is c.as_str.ensures.value in
+    let above = at_rank r at here name Greater is (sym c.in-Greater.is ∙ c.cmp.ensures) in
     record {
       within = omega arith;
       below = c.loop-at.invariant;
       at = λ _ less. less_not_greater (order (get_or r at []) name) less above;
-      met = λ same. equal_not_greater (order here name) (level here name (same_Some here name (sym c.name_of.ensures ∙ same))) (sym c.cmp.ensures ∙ c.in-Greater.is);
+      met = λ same. equal_not_greater (order here name) (level here name (same_Some here name (sym is ∙ same))) (sym c.cmp.ensures ∙ c.in-Greater.is);
     }
 
 pub loop-at-preserved : goal.loop-at-preserved
 loop-at-preserved c = λ k l m.
     let r = texts_view c.args.names.now in let at = c.loop-at.at in let name = c.args.name.now in
-    let low = at_rank r at c.name_of.result.now name Less c.name_of.ensures (sym c.in-Less.is ∙ c.cmp.ensures) in
+    let is = name_at c.args.names.now at c.index-names-at.result c.as_str.result.now c.loop-at-test.true c.index-names-at.is c.as_str.ensures.value in
+    let low = at_rank r at c.as_str.result.now name Less is (sym c.in-Less.is ∙ c.cmp.ensures) in
     elim (cases_lt k at) [
       | inl g ↦ c.loop-at.invariant k l g
       | inr g ↦ (let same : at ≡ k = omega arith in subst (λ (n : ℕ). order (get_or r n []) name ≡ Less) same low)
