@@ -113,12 +113,8 @@ fn alike(a: &Node, b: &Node, matched: bool) -> Option<bool>
         }
         (Node::Array { .. }, Node::Array { .. }) => Some(true),
         (Node::Map { .. }, Node::Map { .. }) => Some(true),
-        (Node::Enum { .. }, Node::Enum { fallback, .. }) => {
-            if matched && fallback.is_none() {
-                return None;
-            }
-            Some(matched)
-        }
+        (Node::Enum { .. }, Node::Enum { fallback, .. }) if matched && fallback.is_none() => None,
+        (Node::Enum { .. }, Node::Enum { .. }) => Some(matched),
         (Node::Fixed { size, .. }, Node::Fixed { size: wanted, .. }) => {
             Some(matched && size == wanted)
         }

@@ -2,8 +2,8 @@ use Rattle.std.proofs.Common.{true≢false, not, string_bytes, sym, ap, ◌∙�
 use Rattle.avro_resolve.proofs.WalkLemmas.{some_mapped}
 use Rattle.avro_resolve.proofs.agreeing.alike.Goals as goal
 
-pub returns-then-is_none : goal.returns-then-is_none
-returns-then-is_none c =
+pub returns-in-Enum-Enum : goal.returns-in-Enum-Enum
+returns-in-Enum-Enum c =
     let matches = rw (c.in-Enum-Enum.is-0, c.in-Enum-Enum.is-1) at c.requires in
     rw (c.in-Enum-Enum.is-0, c.in-Enum-Enum.is-1) (
       (λ both. elim both.1 [
