@@ -1,6 +1,6 @@
 //! Whether a reader's fields can be read, where the fields of a writer's place are laid.
 
-ghost use Rattle.std.specs.Prelude.{◌≡◌, ◌<◌, ◌↔◌, All, IfSome, IsTrue, List, Some, length, map, slice_get};
+ghost use Rattle.std.specs.Prelude.{◌≡◌, ◌<◌, ◌↔◌, All, IfSome, IsTrue, Some, length, map, slice_get};
 ghost use Rattle.std.specs.Option.{ForSome};
 ghost use Rattle.avro_nodes.specs.Nodes.{FieldView, NodeView, field_view};
 ghost use Rattle.avro_schema.specs.Index.{IsFieldRanked};
@@ -29,7 +29,7 @@ pub struct Row<'a> {
     pub boxes: &'a [Option<usize>],
     /// the reader's fields that have aliases
     pub numbered: Numbered<'a>,
-    /// whence each of these is read of the writer's place
+    /// whence each of these is read of the writer's place: a place and one, or 0 for none
     pub entries: &'a [u16],
 }
 
@@ -78,20 +78,8 @@ fn basis(sides: &Sides, row: &Row, told: Option<Found>, field: &Field, names: &F
     }
 }
 
-/// Whether a reader's field can be read: from its source, or by its default.
-fn is_readable(found: Found, table: &Table) -> bool
-    requires source_in { ForSome found.source (λ p. p < table.now.writers) }
-    requires place_in { found.place < table.now.readers }
-    ensures { (fields : List FieldView) (f : FieldView) → IsFound fields found f
-        → IsTrue result ↔ Readable (left table.now) fields f }
-{
-    match found.source {
-        Some(place) => table.has(place, found.place),
-        None => found.has_default,
-    }
-}
-
-/// Whether each field of the reader's record at a place can be read from the writer's place.
+/// Whether each field of the reader's record at a place can be read from the writer's place: from its
+/// source, or by its default.
 pub fn all_readable(sides: &Sides, row: &Row, j: u32, table: &Table) -> bool
     requires sides { IsSides sides.now }
     requires row { IsRow sides.now row.now }
@@ -107,7 +95,11 @@ pub fn all_readable(sides: &Sides, row: &Row, j: u32, table: &Table) -> bool
         let told = told_at(row, number, Aliased { place: j, index });
         let (field, names) = (&wanted.fields[index], &wanted.ranks[index]);
         let found = basis(sides, row, told, field, names);
-        if !is_readable(found, table) {
+        let readable = match found.source {
+            Some(place) => table.has(place, found.place),
+            None => found.has_default,
+        };
+        if !readable {
             return false;
         }
         if told.is_some() {
