@@ -1,7 +1,6 @@
 -- What the ranks of nodes say of their names and symbols.
 use Rattle.std.proofs.Common.{◌≡◌, ◌<◌, ℕ, List, [], Bool, Some, refl, sym, ◌∙◌, subst, inl, inr, arith}
-use Rattle.std.specs.Prelude.{All, Any, Contains, IfSome, IsTrue, Option, None, MatchOption, Vec, option_map, slice_get, ◌↔◌}
-use Rattle.std.specs.declared.alloc.Global.{Global}
+use Rattle.std.specs.Prelude.{All, Contains, IsTrue, Option, None, MatchOption, option_map, slice_get, ◌↔◌}
 use Rattle.std.specs.Option.{IsSomeAnd}
 use Rattle.std.proofs.lemmas.List.Elements.{All-contains, All-nil}
 use Rattle.std.proofs.lemmas.Option.{same_Some}
@@ -12,14 +11,13 @@ use Rattle.avro_schema.specs.declared.index.Index.{Index}
 use Rattle.avro_schema.specs.declared.index.NamedRanks.{NamedRanks}
 use Rattle.avro_schema.specs.declared.index.Ranks.{Ranks}
 use Rattle.avro_schema.specs.declared.index.Ranks.TheVariants.{Unnamed, Fixed, Enum, Rec}
-use Rattle.avro_schema.specs.Index.{AreFieldsRanked, AreRisingRanks, IsIndex, IsNamedRanked, IsRank, IsRanked, IsUnnamed, Rise}
+use Rattle.avro_schema.specs.Index.{AreFieldsRanked, AreRisingRanks, IsIndex, IsNamedRanked, IsRank, IsRanked, IsUnnamed}
 use Rattle.avro_resolve.specs.declared.sides.Side.{Side}
 use Rattle.avro_resolve.specs.Resolution.{NameMatch}
-use Rattle.avro_resolve.specs.Inside.Agreeing.{field_ranks, fields_of, named_of, named_ranks, symbols_of, symbol_ranks, AreSymbolsMet, TellsMatch}
-use Rattle.avro_resolve.specs.Inside.Meeting.{AreMet, AreMetRanks, Tell, met_at}
+use Rattle.avro_resolve.specs.Inside.Agreeing.{field_ranks, fields_of, named_of, named_ranks, symbols_of, symbol_ranks, TellsMatch}
+use Rattle.avro_resolve.specs.Inside.Meeting.{Tell, met_at}
 use Rattle.avro_resolve.specs.Inside.Places.{Names}
 use Rattle.avro_resolve.specs.Inside.Sides.{IsSide, names_of, nodes_of}
-use Rattle.avro_resolve.proofs.Meeting.{met_rising, not_met}
 
 -- ---- the ranks at a place
 
@@ -132,13 +130,6 @@ fields_named n (union ps) h = All-nil (λ (f : FieldView). f.place < n)
 fields_named n (enumeration k s f x) h = All-nil (λ (f : FieldView). f.place < n)
 fields_named n (fixed k s x) h = All-nil (λ (f : FieldView). f.place < n)
 fields_named n (rec k fs x) h = h
-
--- ---- the symbols that are met
-
-pub symbols_met : (w r : List (List ℕ)) (met : List (Option ℕ)) → Rise w → Rise r → AreMet w r met → (symbols : List (List ℕ)) (ranks : List ℕ) → AreRisingRanks w symbols ranks → (found : Option (Vec ℕ Global))
-    → IfSome found (λ v. AreMetRanks met ranks v.items) → (found ≡ None → Any (λ rank. met_at met rank ≡ None) ranks) → AreSymbolsMet r symbols found
-symbols_met w r met rise_w rise_r are symbols ranks ranked None some none = not_met w r met are symbols ranks ranked (none refl)
-symbols_met w r met rise_w rise_r are symbols ranks ranked (Some v) some none = met_rising w r met are symbols ranks ranked v.items some rise_w rise_r
 
 -- ---- whether names match
 

@@ -1,7 +1,10 @@
 -- Two lists of names met, and what their ranks tell.
 use Rattle.std.proofs.Common.{◌≡◌, ℕ, zero, suc, ◌+◌, ◌<◌, ◌≤◌, List, [], ◌∷◌, ◌++◌, length, take, get_or, Some, refl, sym, ap, ◌∙◌, subst, inl, inr, arith}
-use Rattle.std.specs.Prelude.{All, Any, Contains, Option, None, MatchOption, slice_get, ◌↔◌}
+use Rattle.std.specs.Prelude.{All, Any, Contains, Option, None, MatchOption, String, slice_get, string_bytes, ◌↔◌}
 use Rattle.std.specs.Option.{IsSomeAnd}
+use Rattle.std.specs.declared.alloc.Global.{Global}
+use Rattle.avro_nodes.specs.Nodes.{texts_view}
+use Rattle.avro_resolve.proofs.ViewLemmas.{view_got}
 use Rattle.std.specs.declared.cmp.Ordering.TheVariants.{Less}
 use Rattle.std.proofs.lemmas.Bool.{cases_lt}
 use Rattle.std.proofs.lemmas.Cmp.{nat_list_cmp_total}
@@ -14,6 +17,10 @@ use Rattle.avro_schema.proofs.Rising.{order, level, less_not_equal}
 use Rattle.avro_resolve.specs.Inside.Meeting.{Meets, AreMet, AreMetRanks, Tell, met_at}
 
 -- ---- the walk over both
+
+-- the name of a rank
+pub name_at : (names : List (String Global)) (k : ℕ) (x : String Global) (text : List ℕ) → k < length names → x ≡ get_or names k x → text ≡ string_bytes x → slice_get (texts_view names) k ≡ Some text
+name_at names k x text l is e = view_got string_bytes names k x (slice_get-get_or names k x l ∙ ap (λ (y : String Global). Some y) (sym is)) ∙ ap (λ (y : List ℕ). Some y) (sym e)
 
 -- what stands before a rank is below each writer's name from an index on
 abbrev pub Passed : List (List ℕ) → List (List ℕ) → ℕ → ℕ → Type 0
@@ -54,10 +61,6 @@ module _ (w r : List (List ℕ)) (i from at : ℕ) (name : List ℕ) (within : i
       → (met : List (Option ℕ)) → AreMet (take i w) r met → AreMet (take (i + 1) w) r (met ++ o ∷ [])
   met_more rise least o told met h =
       subst (λ (xs : List (List ℕ)). AreMet xs r (met ++ o ∷ [])) (sym (take_more w i [] within ∙ ap (λ (x : List ℕ). take i w ++ x ∷ []) named)) (all_zipped_more (Meets r) (take i w) met name o h (meets rise least o told))
-
-pub told_by : (r : List (List ℕ)) (name : List ℕ) (at : ℕ) (o : Option ℕ) → MatchOption o (Unit {0}) (λ rank. slice_get r rank ≡ Some name) → (o ≡ None → slice_get r at ≡ Some name → ⊥) → MatchOption o (slice_get r at ≡ Some name → ⊥) (λ rank. slice_get r rank ≡ Some name)
-told_by r name at None some none = none refl
-told_by r name at (Some rank) some none = some
 
 -- ---- what ranks tell
 

@@ -9,7 +9,7 @@ use Rattle.std.proofs.lemmas.List.{get_or_default}
 use Rattle.std.proofs.lemmas.List.Kept.{AllPairs-from_increasing}
 use Rattle.std.proofs.lemmas.List.Sorted.{searched}
 
-rises : (xs : List ℕ) → IsStrictlyIncreasing xs → (i j : ℕ) → i ≤ j → j < length xs → get_or xs i 0 ≤ get_or xs j 0
+pub rises : (xs : List ℕ) → IsStrictlyIncreasing xs → (i j : ℕ) → i ≤ j → j < length xs → get_or xs i 0 ≤ get_or xs j 0
 rises xs rise i j l within = elim (cases_lt i j) [
   | inl g ↦ (let b = AllPairs-from_increasing xs rise i j 0 g within in omega arith)
   | inr g ↦ (let one : i ≡ j = omega arith in omega (arith, ap (λ (k : ℕ). get_or xs k 0) one))
@@ -26,37 +26,23 @@ told_by_search xs n (Err i) rise h =
           elim (cases_lt k i) [ inl g ↦ (let low = gap.1 k g in absurd (omega arith)) | inr g ↦ (let high = gap.2 k (omega arith) l in absurd (omega arith)) ]),
     )
 
-module _ (list numbers : List ℕ) (i from at : ℕ) (within : i < length numbers)
-    (before : (k m : ℕ) → k < from → i ≤ m → m < length numbers → get_or list k 0 < get_or numbers m 0)
-    (below : (k : ℕ) → from ≤ k → k < at → get_or list k 0 < get_or numbers i 0) where
-  lower : (k : ℕ) → k < at → get_or list k 0 < get_or numbers i 0
-  lower k l = elim (cases_lt k from) [ inl g ↦ before k i g (omega arith) within | inr g ↦ below k g l ]
-
-  -- what stands up to the place of the number is below each later number
-  pub below_later : IsStrictlyIncreasing numbers → get_or list at 0 ≡ get_or numbers i 0 → (k m : ℕ) → k < at + 1 → i + 1 ≤ m → m < length numbers → get_or list k 0 < get_or numbers m 0
-  below_later rise here k m l later lm =
-      let b = AllPairs-from_increasing numbers rise i m 0 (omega arith) lm in
-      elim (cases_lt k at) [
-        | inl g ↦ (let a = lower k g in omega arith)
-        | inr g ↦ (
-            let one : k ≡ at = omega arith in
-            let same : get_or list k 0 ≡ get_or numbers i 0 = ap (λ (x : ℕ). get_or list x 0) one ∙ here in
-            omega arith)
+module _ (list numbers : List ℕ) (i met : ℕ) (before : (k m : ℕ) → k < i → met ≤ m → m < length numbers → get_or list k 0 < get_or numbers m 0) where
+  -- a number that is below what stands next stands nowhere
+  pub not_there : IsStrictlyIncreasing list → met < length numbers → (i < length list → get_or numbers met 0 < get_or list i 0) → Contains list (get_or numbers met 0) → ⊥
+  not_there rise within below (k, l, e) =
+      let here : get_or list k 0 ≡ get_or numbers met 0 = get_or_default list k 0 (get_or numbers met 0) l ∙ e in
+      elim (cases_lt k i) [
+        | inl g ↦ (let a = before k met g (omega arith) within in absurd (omega arith))
+        | inr g ↦ (let a = below (omega arith) in let b = rises list rise i k (omega arith) l in absurd (omega arith))
       ]
 
-  -- a number that doesn't stand at the place stands nowhere
-  pub not_there : IsStrictlyIncreasing list → (at < length list → get_or numbers i 0 ≤ get_or list at 0) → ((at < length list) × (get_or list at 0 ≡ get_or numbers i 0) → ⊥) → Contains list (get_or numbers i 0) → ⊥
-  not_there rise least other (k, l, e) =
-      let here : get_or list k 0 ≡ get_or numbers i 0 = get_or_default list k 0 (get_or numbers i 0) l ∙ e in
-      elim (cases_lt k at) [
-        | inl g ↦ (let a = lower k g in absurd (omega arith))
-        | inr g ↦ elim (cases_lt at k) [
-          | inl f ↦ (
-              let low = least (omega arith) in
-              let high = AllPairs-from_increasing list rise at k 0 f l in
-              absurd (omega arith))
-          | inr f ↦ (
-              let one : k ≡ at = omega arith in
-              other (omega arith, ap (λ (x : ℕ). get_or list x 0) (sym one) ∙ here))
-        ]
-      ]
+  -- what is below the numbers from an index on is passed
+  pub passed : (next : ℕ) → met ≤ next → ((m : ℕ) → next ≤ m → m < length numbers → get_or list i 0 < get_or numbers m 0) → (k m : ℕ) → k < i + 1 → next ≤ m → m < length numbers → get_or list k 0 < get_or numbers m 0
+  passed next on below k m l later lm = elim (cases_lt k i) [
+    | inl g ↦ before k m g (omega arith) lm
+    | inr g ↦ (
+        let one : k ≡ i = omega arith in
+        let low = below m later lm in
+        let same : get_or list k 0 ≡ get_or list i 0 = ap (λ (x : ℕ). get_or list x 0) one in
+        omega arith)
+  ]

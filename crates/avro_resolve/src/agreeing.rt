@@ -1,16 +1,14 @@
 //! What two nodes say of a pair by themselves: their kinds, names, sizes and symbols. Names are
 //! told by their ranks.
 
-ghost use Rattle.std.specs.Prelude.{◌≡◌, ◌↔◌, ◌<◌, false, option_map, slice_get, All, Contains, IfOk, IsTrue, Some, length, ℕ, ◌≤◌, slice_index};
-ghost use Rattle.avro_nodes.specs.Nodes.{NamedView, NodeView, node_view};
-ghost use Rattle.avro_schema.specs.Index.{IsNamedRanked};
-ghost use Rattle.avro_resolve.specs.Resolution.{NameMatch, Promotes};
-ghost use Rattle.avro_resolve.specs.Inside.Agreeing.{named_ranks, symbol_ranks, symbols_of, Agree, AreSymbolsMet, IsAlike, SymbolsFit, TellsMatch};
+ghost use Rattle.std.specs.Prelude.{◌≡◌, ◌↔◌, ◌<◌, option_map, slice_get, All, Contains, IfOk, IsTrue, MatchOption, Some, length};
+ghost use Rattle.avro_nodes.specs.Nodes.{NodeView, node_view};
+ghost use Rattle.avro_resolve.specs.Resolution.{Promotes};
+ghost use Rattle.avro_resolve.specs.Inside.Agreeing.{named_ranks, symbol_ranks, symbols_of, Agree, AreSymbolsMet, TellsMatch};
 ghost use Rattle.avro_resolve.specs.Inside.Left.{Agreed};
 ghost use Rattle.avro_resolve.specs.Inside.Sides.{columns, names_of, rows, IsSides};
 ghost use Rattle.std.specs.List.Sorted.{IsStrictlyIncreasing};
 
-use crate::met::met_ranks;
 use crate::sides::Sides;
 use avro_nodes::{Kind, Node};
 use avro_schema::{NamedRanks, Ranks};
@@ -22,43 +20,12 @@ fn promotes(writer: Kind, reader: Kind) -> bool
     ensures { IsTrue result ↔ Promotes writer reader }
 {
     match writer {
-        Kind::Null => matches!(reader, Kind::Null),
-        Kind::Boolean => matches!(reader, Kind::Boolean),
         Kind::Int => matches!(reader, Kind::Int | Kind::Long | Kind::Float | Kind::Double),
         Kind::Long => matches!(reader, Kind::Long | Kind::Float | Kind::Double),
         Kind::Float => matches!(reader, Kind::Float | Kind::Double),
-        Kind::Double => matches!(reader, Kind::Double),
-        Kind::Bytes => matches!(reader, Kind::Bytes | Kind::Text),
-        Kind::Text => matches!(reader, Kind::Text | Kind::Bytes),
+        Kind::Bytes | Kind::Text => matches!(reader, Kind::Bytes | Kind::Text),
+        Kind::Null | Kind::Boolean | Kind::Double => reader == writer,
     }
-}
-
-/// The first place from this one on at which the list has no less than the number, or else its
-/// length.
-fn first_from(list: &[u32], from: usize, number: u32) -> usize
-    ensures below { (k : ℕ) → from ≤ k → k < result → slice_index list.now k < number }
-    ensures at { result < length list.now → number ≤ slice_index list.now result }
-{
-    for at in from..list.len() {
-        if list[at] >= number {
-            return at;
-        }
-    }
-    list.len()
-}
-
-/// Whether the number stands at this place of the list.
-fn is_at(list: &[u32], at: usize, number: u32) -> bool
-    ensures { IsTrue result ↔ (at < length list.now) × (slice_index list.now at ≡ number) }
-{
-    at < list.len() && list[at] == number
-}
-
-/// Whether the number is one of the list's.
-fn has_number(list: &[u32], number: u32) -> bool
-    ensures { IsStrictlyIncreasing list.now → IsTrue result ↔ Contains list.now number }
-{
-    list.binary_search(&number).is_ok()
 }
 
 /// Whether each of the numbers is one of the list's. Where the two aren't equal, both are walked once,
@@ -71,15 +38,19 @@ fn has_all(list: &[u32], numbers: &[u32]) -> bool
     if list == numbers {
         return true;
     }
-    let mut from = 0;
-    for number in numbers {
-        let at = first_from(list, from, *number);
-        if !is_at(list, at, *number) {
+    let mut met = 0;
+    for known in list {
+        if met == numbers.len() {
+            return true;
+        }
+        if numbers[met] < *known {
             return false;
         }
-        from = at + 1;
+        if numbers[met] == *known {
+            met += 1;
+        }
     }
-    true
+    met == numbers.len()
 }
 
 /// The names of a definition by their ranks, where these are a definition's.
@@ -88,8 +59,7 @@ fn named_of(ranks: &Ranks) -> Option<&NamedRanks>
 {
     match ranks {
         Ranks::Fixed { named } => Some(named),
-        Ranks::Enum { named, .. } => Some(named),
-        Ranks::Rec { named, .. } => Some(named),
+        Ranks::Enum { named, .. } | Ranks::Rec { named, .. } => Some(named),
         Ranks::Unnamed => None,
     }
 }
@@ -104,70 +74,52 @@ fn symbols_of(ranks: &Ranks) -> &[u32]
     }
 }
 
-/// Whether the names of two definitions match: without their namespaces (Avro 1.11 specification,
-/// Schema Resolution), or by an alias of the reader's (Aliases).
-fn names_match(sides: &Sides, named: &NamedRanks, wanted: &NamedRanks) -> bool
-    requires { IsSides sides.now }
-    ensures { (n m : NamedView) → IsNamedRanked (names_of sides.now.writer) n named.now
-        → IsNamedRanked (names_of sides.now.reader) m wanted.now → IsTrue result ↔ NameMatch n m }
-{
-    if sides.met.is_met(named.last, wanted.last) {
-        return true;
-    }
-    match sides.met.rank(named.full) {
-        Some(rank) => has_number(&wanted.aliases, rank),
-        None => false,
-    }
-}
-
-/// Whether the names of the nodes at these places match, where both have names.
-fn names_match_at(sides: &Sides, a: &Node, b: &Node, i: u32, j: u32) -> bool
+/// Whether the names of the nodes at these places match, where both have names: without their
+/// namespaces (Avro 1.11 specification, Schema Resolution), or by an alias of the reader's
+/// (Aliases).
+fn names_match(sides: &Sides, i: u32, j: u32) -> bool
     requires sides { IsSides sides.now }
-    requires a_at { slice_get (rows sides.now) i ≡ Some (node_view a.now) }
-    requires b_at { slice_get (columns sides.now) j ≡ Some (node_view b.now) }
-    ensures { TellsMatch result (node_view a.now) (node_view b.now) }
+    requires i_in { i < length (rows sides.now) }
+    requires j_in { j < length (columns sides.now) }
+    ensures { (a b : NodeView) → slice_get (rows sides.now) i ≡ Some a
+        → slice_get (columns sides.now) j ≡ Some b → TellsMatch result a b }
 {
-    let (_a, _b) = (a, b);
     let Some(named) = named_of(sides.writer.ranks(i)) else {
         return false;
     };
     let Some(wanted) = named_of(sides.reader.ranks(j)) else {
         return false;
     };
-    names_match(sides, named, wanted)
-}
-
-/// Whether the nodes agree as far as they say by themselves, but for their symbols. Whether their
-/// names match is told.
-fn is_alike(a: &Node, b: &Node, matched: bool) -> bool
-    requires { TellsMatch matched (node_view a.now) (node_view b.now) }
-    ensures { IsTrue result ↔ IsAlike (node_view a.now) (node_view b.now) }
-{
-    match (a, b) {
-        (Node::Union { .. }, _) => true,
-        (_, Node::Union { .. }) => true,
-        (Node::Primitive { kind, .. }, Node::Primitive { kind: wanted, .. }) => {
-            promotes(*kind, *wanted)
-        }
-        (Node::Array { .. }, Node::Array { .. }) => true,
-        (Node::Map { .. }, Node::Map { .. }) => true,
-        (Node::Enum { .. }, Node::Enum { .. }) => matched,
-        (Node::Fixed { size, .. }, Node::Fixed { size: wanted, .. }) => matched && size == wanted,
-        (Node::Rec { .. }, Node::Rec { .. }) => matched,
-        _ => false,
+    if sides.met.is_met(named.last, wanted.last) {
+        return true;
+    }
+    match sides.met.rank(named.full) {
+        Some(rank) => wanted.aliases.binary_search(&rank).is_ok(),
+        None => false,
     }
 }
 
-/// Whether the symbols of the nodes have to be compared: both are enums, and the reader's has no
-/// default.
-fn asks_symbols(a: &Node, b: &Node) -> bool
-    ensures asked { IsTrue result → SymbolsFit (node_view a.now) (node_view b.now)
-        ↔ All (Contains (symbols_of (node_view b.now))) (symbols_of (node_view a.now)) }
-    ensures not_asked { result ≡ false → SymbolsFit (node_view a.now) (node_view b.now) }
+/// Whether the nodes agree as far as they say by themselves, or none where the symbols of two enums
+/// have to be compared: the reader's has no default. Whether their names match is told.
+fn alike(a: &Node, b: &Node, matched: bool) -> Option<bool>
+    requires { TellsMatch matched (node_view a.now) (node_view b.now) }
+    ensures { let v = node_view a.now in let u = node_view b.now in MatchOption result
+        (Agree v u ↔ All (Contains (symbols_of u)) (symbols_of v)) (λ yes. IsTrue yes ↔ Agree v u) }
 {
     match (a, b) {
-        (Node::Enum { .. }, Node::Enum { fallback, .. }) => fallback.is_none(),
-        _ => false,
+        (Node::Union { .. }, _) | (_, Node::Union { .. }) => Some(true),
+        (Node::Primitive { kind, .. }, Node::Primitive { kind: wanted, .. }) => {
+            Some(promotes(*kind, *wanted))
+        }
+        (Node::Array { .. }, Node::Array { .. }) => Some(true),
+        (Node::Map { .. }, Node::Map { .. }) => Some(true),
+        (Node::Enum { .. }, Node::Enum { fallback, .. }) if matched && fallback.is_none() => None,
+        (Node::Enum { .. }, Node::Enum { .. }) => Some(matched),
+        (Node::Fixed { size, .. }, Node::Fixed { size: wanted, .. }) => {
+            Some(matched && size == wanted)
+        }
+        (Node::Rec { .. }, Node::Rec { .. }) => Some(matched),
+        _ => Some(false),
     }
 }
 
@@ -184,7 +136,14 @@ pub fn met_symbols(alloc: Global, sides: &Sides, i: u32) -> Result<Option<Vec<u3
         → AreSymbolsMet (names_of sides.now.reader) (symbols_of a) o) }
 {
     let symbols = symbols_of(sides.writer.ranks(i));
-    Ok(met_ranks(alloc, &sides.met, symbols)?)
+    let mut found = Vec::with_capacity(alloc, symbols.len())?;
+    for symbol in symbols {
+        let Some(rank) = sides.met.rank(*symbol) else {
+            return Ok(None);
+        };
+        found.push(rank)?;
+    }
+    Ok(Some(found))
 }
 
 /// Whether each symbol of the first node is one of the second's.
@@ -218,14 +177,13 @@ pub fn agree(
     requires b_at { slice_get (columns sides.now) at.1 ≡ Some (node_view b.now) }
     ensures { IfOk result (λ yes. IsTrue yes ↔ Agree (node_view a.now) (node_view b.now)) }
 {
-    if !is_alike(a, b, names_match_at(sides, a, b, at.0, at.1)) {
-        return Ok(false);
+    match alike(a, b, names_match(sides, at.0, at.1)) {
+        Some(told) => Ok(told),
+        None => {
+            let symbols = met_symbols(alloc, sides, at.0)?;
+            Ok(symbols_known(sides, &symbols, a, b, at.1))
+        }
     }
-    if !asks_symbols(a, b) {
-        return Ok(true);
-    }
-    let symbols = met_symbols(alloc, sides, at.0)?;
-    Ok(symbols_known(sides, &symbols, a, b, at.1))
 }
 
 /// The same, where the reader's ranks of the symbols at the writer's place are told.
@@ -238,11 +196,8 @@ pub fn agree_at(sides: &Sides, symbols: &Option<Vec<u32>>, i: u32, j: u32) -> bo
     ensures { IsTrue result ↔ Agreed (rows sides.now) (columns sides.now) i j }
 {
     let (a, b) = (sides.writer.node(i), sides.reader.node(j));
-    if !is_alike(a, b, names_match_at(sides, a, b, i, j)) {
-        return false;
+    match alike(a, b, names_match(sides, i, j)) {
+        Some(told) => told,
+        None => symbols_known(sides, symbols, a, b, j),
     }
-    if !asks_symbols(a, b) {
-        return true;
-    }
-    symbols_known(sides, symbols, a, b, j)
 }

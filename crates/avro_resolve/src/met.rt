@@ -1,14 +1,13 @@
 //! The names of a writer's schema met with those of a reader's, by their ranks.
 
-ghost use Rattle.std.specs.Prelude.{◌≡◌, ◌≢◌, ◌≤◌, ◌<◌, ◌^◌, ◌↔◌, ℕ, [], All, Any, IfOk, IfSome, IsTrue, None, Some, get_or, length, map, slice_get};
+ghost use Rattle.std.specs.Prelude.{◌≡◌, ◌≢◌, ◌≤◌, ◌<◌, ◌^◌, ℕ, [], MatchOption, Some, get_or, length, slice_get};
 ghost use Rattle.std.specs.Cmp.Lexicographic.{slice_cmp};
-ghost use Rattle.std.specs.Ordering.{is_lt, nat_cmp};
+ghost use Rattle.std.specs.Ordering.{nat_cmp};
 ghost use Rattle.std.specs.declared.cmp.Ordering.TheVariants.{Less};
 ghost use Rattle.avro_nodes.specs.Nodes.{texts_view};
-ghost use Rattle.avro_schema.specs.Index.{AreNames};
-ghost use Rattle.avro_resolve.specs.Inside.Meeting.{met_at, AreMet, AreMetRanks};
 
 use std::alloc::{AllocError, Global};
+use std::cmp::Ordering;
 
 /// For each of the writer's names its rank among the reader's, if the reader has it.
 #[derive(Drop)]
@@ -16,52 +15,27 @@ pub struct Met {
     pub ranks: Vec<Option<u32>>,
 }
 
-/// The name of a rank.
-fn name_of(names: &[String], rank: usize) -> &str
-    requires { rank < length names.now }
-    ensures { slice_get (texts_view names.now) rank ≡ Some result.now }
-{
-    names[rank].as_str()
-}
-
-/// Whether the name of a rank is below this one.
-fn is_below(names: &[String], rank: usize, name: &str) -> bool
-    requires { rank < length names.now }
-    ensures { result ≡ is_lt (slice_cmp nat_cmp (get_or (texts_view names.now) rank []) name.now) }
-{
-    name_of(names, rank) < name
-}
-
-/// The first rank from this one on whose name isn't below this one, or else the number of names.
-fn first_from(names: &[String], from: usize, name: &str) -> usize
-    requires { from ≤ length names.now }
-    ensures within { result ≤ length names.now }
-    ensures below { (k : ℕ) → from ≤ k → k < result
+/// The first rank from this one on whose name isn't below this one, or else the number of names; and
+/// the same again, if its name is this one.
+fn first_from(names: &[String], from: usize, name: &str) -> (usize, Option<u32>)
+    requires few { length names.now < 2 ^ 32 }
+    requires from { from ≤ length names.now }
+    ensures within { result.0 ≤ length names.now }
+    ensures below { (k : ℕ) → from ≤ k → k < result.0
         → slice_cmp nat_cmp (get_or (texts_view names.now) k []) name.now ≡ Less }
-    ensures at { result < length names.now
-        → slice_cmp nat_cmp (get_or (texts_view names.now) result []) name.now ≢ Less }
+    ensures at { result.0 < length names.now
+        → slice_cmp nat_cmp (get_or (texts_view names.now) result.0 []) name.now ≢ Less }
+    ensures met { MatchOption result.1 (slice_get (texts_view names.now) result.0 ≢ Some name.now)
+        (λ rank. slice_get (texts_view names.now) rank ≡ Some name.now) }
 {
     for at in from..names.len() {
-        if !is_below(names, at, name) {
-            return at;
+        match names[at].as_str().cmp(name) {
+            Ordering::Less => {}
+            Ordering::Equal => return (at, Some(at as u32)),
+            Ordering::Greater => return (at, None),
         }
     }
-    names.len()
-}
-
-/// This rank, if its name is this one.
-fn rank_at(names: &[String], at: usize, name: &str) -> Option<u32>
-    requires { length names.now < 2 ^ 32 }
-    ensures some { IfSome result (λ rank. slice_get (texts_view names.now) rank ≡ Some name.now) }
-    ensures none { result ≡ None → slice_get (texts_view names.now) at ≢ Some name.now }
-{
-    if at >= names.len() {
-        return None;
-    }
-    if name_of(names, at) != name {
-        return None;
-    }
-    Some(at as u32)
+    (names.len(), None)
 }
 
 impl Met {
@@ -79,9 +53,9 @@ impl Met {
         let mut ranks = Vec::with_capacity(alloc, writer.len())?;
         let mut from = 0;
         for rank in 0..writer.len() {
-            let name = name_of(writer, rank);
-            from = first_from(reader, from, name);
-            ranks.push(rank_at(reader, from, name))?;
+            let (at, met) = first_from(reader, from, writer[rank].as_str());
+            from = at;
+            ranks.push(met)?;
         }
         Ok(Met { ranks })
     }
@@ -90,35 +64,13 @@ impl Met {
     pub fn rank(&self, rank: u32) -> Option<u32>
         ensures { result ≡ met_at self.now.ranks.items rank }
     {
-        match self.ranks.get(rank as usize) {
-            Some(met) => *met,
-            None => None,
-        }
+        *self.ranks.get(rank as usize)?
     }
 
     /// Whether the two ranks are of one name.
     pub fn is_met(&self, rank: u32, other: u32) -> bool
         ensures { IsTrue result ↔ (met_at self.now.ranks.items rank ≡ Some other) }
     {
-        match self.rank(rank) {
-            Some(met) => met == other,
-            None => false,
-        }
+        self.rank(rank).is_some_and(|met| met == other)
     }
-}
-
-/// The reader's ranks of these names of the writer's, in their order, or none where the reader
-/// hasn't one of the names.
-pub fn met_ranks(alloc: Global, met: &Met, ranks: &[u32]) -> Result<Option<Vec<u32>>, AllocError>
-    ensures some { IfOk result (λ o. IfSome o (λ v. AreMetRanks met.now.ranks.items ranks.now v.items)) }
-    ensures none { IfOk result (λ o. o ≡ None → Any (λ rank. met_at met.now.ranks.items rank ≡ None) ranks.now) }
-{
-    let mut found = Vec::with_capacity(alloc, ranks.len())?;
-    for rank in ranks {
-        let Some(here) = met.rank(*rank) else {
-            return Ok(None);
-        };
-        found.push(here)?;
-    }
-    Ok(Some(found))
 }

@@ -1,13 +1,21 @@
-use Rattle.std.proofs.Common.{true≢false, refl, sym, ◌∙◌}
+use Rattle.std.proofs.lemmas.Option.{slice_get_within}
+use Rattle.avro_nodes.specs.Nodes.{node_view}
+use Rattle.avro_resolve.specs.Inside.Sides.{columns, rows}
 use Rattle.avro_resolve.proofs.agreeing.agree.Goals as goal
 
-pub returns-then-not-is_alike : goal.returns-then-not-is_alike
-returns-then-not-is_alike c = ((λ no. absurd (true≢false (sym no))), (λ both. absurd (true≢false (sym (c.is_alike.ensures.1 both.0) ∙ c.if-not-is_alike.true))))
+pub names_match-requires-clause-i_in : goal.names_match-requires-clause-i_in
+names_match-requires-clause-i_in c = slice_get_within (rows c.args.sides.now) c.args.at.0 (node_view c.args.a.now) c.requires.a_at
 
-pub returns-then-not-asks_symbols : goal.returns-then-not-asks_symbols
-returns-then-not-asks_symbols c = ((λ _. (c.is_alike.ensures.0 c.if-not-is_alike.false, c.asks_symbols.ensures.not_asked c.if-not-asks_symbols.true)), (λ _. refl))
+pub names_match-requires-clause-j_in : goal.names_match-requires-clause-j_in
+names_match-requires-clause-j_in c = slice_get_within (columns c.args.sides.now) c.args.at.1 (node_view c.args.b.now) c.requires.b_at
 
-pub returns : goal.returns
-returns c =
-    let same = c.asks_symbols.ensures.asked c.if-not-asks_symbols.false in
-    ((λ yes. (c.is_alike.ensures.0 c.if-not-is_alike.false, same.1 (c.symbols_known.ensures.0 yes))), (λ both. c.symbols_known.ensures.1 (same.0 both.1)))
+pub alike-requires : goal.alike-requires
+alike-requires c = c.names_match.ensures (node_view c.args.a.now) (node_view c.args.b.now) c.requires.a_at c.requires.b_at
+
+pub returns-in-Some : goal.returns-in-Some
+returns-in-Some c = rw c.in-Some.is at c.alike.ensures
+
+pub returns-in_ok-symbols-in-None : goal.returns-in_ok-symbols-in-None
+returns-in_ok-symbols-in-None c =
+    let same = rw c.in-None.is at c.alike.ensures in
+    ((λ yes. same.1 (c.symbols_known.ensures.0 yes)), (λ both. c.symbols_known.ensures.1 (same.0 both)))

@@ -1,21 +1,26 @@
-use Rattle.std.proofs.Common.{true≢false, refl, sym, ◌∙◌}
+use Rattle.std.proofs.lemmas.Option.{slice_get_within}
 use Rattle.avro_nodes.specs.Nodes.{node_view}
 use Rattle.avro_resolve.specs.Inside.Sides.{columns, rows}
 use Rattle.avro_resolve.proofs.Agreement.{agreed_at}
 use Rattle.avro_resolve.proofs.agreeing.agree_at.Goals as goal
 
-pub returns-then-not-is_alike : goal.returns-then-not-is_alike
-returns-then-not-is_alike c =
-    let at = agreed_at (rows c.args.sides.now) (columns c.args.sides.now) c.args.i c.args.j (node_view c.node-a.result.now) (node_view c.node-b.result.now) c.node-a.ensures.node c.node-b.ensures.node in
-    ((λ no. absurd (true≢false (sym no))), (λ h. absurd (true≢false (sym (c.is_alike.ensures.1 (at.0 h).0) ∙ c.if-not-is_alike.true))))
+pub names_match-requires-clause-i_in : goal.names_match-requires-clause-i_in
+names_match-requires-clause-i_in c = slice_get_within (rows c.args.sides.now) c.args.i (node_view c.node-a.result.now) c.node-a.ensures.node
 
-pub returns-then-not-asks_symbols : goal.returns-then-not-asks_symbols
-returns-then-not-asks_symbols c =
-    let at = agreed_at (rows c.args.sides.now) (columns c.args.sides.now) c.args.i c.args.j (node_view c.node-a.result.now) (node_view c.node-b.result.now) c.node-a.ensures.node c.node-b.ensures.node in
-    ((λ _. at.1 (c.is_alike.ensures.0 c.if-not-is_alike.false, c.asks_symbols.ensures.not_asked c.if-not-asks_symbols.true)), (λ _. refl))
+pub names_match-requires-clause-j_in : goal.names_match-requires-clause-j_in
+names_match-requires-clause-j_in c = slice_get_within (columns c.args.sides.now) c.args.j (node_view c.node-b.result.now) c.node-b.ensures.node
 
-pub returns : goal.returns
-returns c =
+pub alike-requires : goal.alike-requires
+alike-requires c = c.names_match.ensures (node_view c.node-a.result.now) (node_view c.node-b.result.now) c.node-a.ensures.node c.node-b.ensures.node
+
+pub returns-in-Some : goal.returns-in-Some
+returns-in-Some c =
     let at = agreed_at (rows c.args.sides.now) (columns c.args.sides.now) c.args.i c.args.j (node_view c.node-a.result.now) (node_view c.node-b.result.now) c.node-a.ensures.node c.node-b.ensures.node in
-    let same = c.asks_symbols.ensures.asked c.if-not-asks_symbols.false in
-    ((λ yes. at.1 (c.is_alike.ensures.0 c.if-not-is_alike.false, same.1 (c.symbols_known.ensures.0 yes))), (λ h. c.symbols_known.ensures.1 (same.0 (at.0 h).1)))
+    let told = rw c.in-Some.is at c.alike.ensures in
+    ((λ yes. at.1 (told.0 yes)), (λ h. told.1 (at.0 h)))
+
+pub returns-in-None : goal.returns-in-None
+returns-in-None c =
+    let at = agreed_at (rows c.args.sides.now) (columns c.args.sides.now) c.args.i c.args.j (node_view c.node-a.result.now) (node_view c.node-b.result.now) c.node-a.ensures.node c.node-b.ensures.node in
+    let same = rw c.in-None.is at c.alike.ensures in
+    ((λ yes. at.1 (same.1 (c.symbols_known.ensures.0 yes))), (λ h. c.symbols_known.ensures.1 (same.0 (at.0 h))))

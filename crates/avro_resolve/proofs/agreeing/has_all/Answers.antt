@@ -1,10 +1,13 @@
-use Rattle.std.proofs.Common.{◌∙◌, ℕ, ◌≤◌, List, length, take_all, subst, sym, arith, true, true≢false, refl}
-use Rattle.std.specs.Prelude.{All, Contains}
-use Rattle.std.proofs.lemmas.Bool.Decides.{Decides-eqb}
+use Rattle.std.proofs.Common.{◌≡◌, ◌+◌, ◌<◌, ◌≤◌, ℕ, List, get_or, length, take_all, subst, sym, arith, inl, inr, true, true≢false, refl}
+use Rattle.std.specs.Prelude.{◌==◌, ◌↔◌, All, Contains, IsTrue}
+use Rattle.std.proofs.lemmas.Bool.{cases_lt}
+use Rattle.std.proofs.lemmas.Bool.Decides.{Decides-eqb, nat_tests}
 use Rattle.std.proofs.lemmas.Slice.Eq.{slice_eq-Decides}
 use Rattle.std.proofs.lemmas.List.Elements.{All-contains_itself, All-more, Contains-get_or}
-use Rattle.avro_resolve.proofs.Merges.{below_later, not_there}
+use Rattle.std.proofs.lemmas.List.Kept.{AllPairs-from_increasing}
+use Rattle.avro_resolve.proofs.Merges.{not_there, passed, rises}
 use Rattle.avro_resolve.proofs.agreeing.has_all.Goals as goal
+use Rattle.avro_resolve.proofs.agreeing.has_all.Goals.{then-numbers-met-2, else-numbers-met-2}
 
 pub returns-then-eq : goal.returns-then-eq
 returns-then-eq c =
@@ -12,24 +15,45 @@ returns-then-eq c =
     let same = (slice_eq-Decides Decides-eqb list c.args.numbers.now true c.if-eq.ensures).0 refl in
     ((λ _. subst (λ (xs : List ℕ). All (Contains list) xs) same (All-contains_itself list)), (λ _. refl))
 
-pub returns-then-not-is_at : goal.returns-then-not-is_at
-returns-then-not-is_at c =
-    let list = c.args.list.now in let numbers = c.args.numbers.now in let i = c.loop-number.number-index in (
-      (λ h. absurd (true≢false (sym h))),
-      (λ h. absurd (not_there list numbers i c.loop-number.from c.first_from-at.result c.loop-number-test.true c.loop-number.invariant.below c.first_from-at.ensures.below c.requires.list c.first_from-at.ensures.at
-          (λ e. true≢false (sym (c.is_at.ensures.1 e) ∙ c.if-not-is_at.true)) (h i 0 c.loop-number-test.true))),
-    )
+pub returns-then-met-numbers : goal.returns-then-met-numbers
+returns-then-met-numbers c =
+    let l : length c.args.numbers.now ≤ c.loop-known.met = omega (arith, c.if-met-numbers.true) in
+    ((λ _. subst (λ (xs : List ℕ). All (Contains c.args.list.now) xs) (take_all c.loop-known.met c.args.numbers.now l) c.loop-known.invariant.seen), (λ _. refl))
 
-pub loop-number-preserved : goal.loop-number-preserved
-loop-number-preserved c =
-    let list = c.args.list.now in let numbers = c.args.numbers.now in let i = c.loop-number.number-index in
-    let there = c.is_at.ensures.0 c.if-not-is_at.false in
-    record {
-      seen = All-more (Contains list) numbers i 0 c.loop-number-test.true c.loop-number.invariant.seen (subst (λ (n : ℕ). Contains list n) there.1 (Contains-get_or list c.first_from-at.result 0 there.0));
-      below = below_later list numbers i c.loop-number.from c.first_from-at.result c.loop-number-test.true c.loop-number.invariant.below c.first_from-at.ensures.below c.requires.numbers there.1;
-    }
+pub returns-then-numbers-met : goal.returns-then-numbers-met
+returns-then-numbers-met c =
+    let list = c.args.list.now in let numbers = c.args.numbers.now in let met = c.loop-known.met in
+    let within : met < length numbers = omega (arith, c.loop-known.invariant.within, c.if-met-numbers.false) in
+    ((λ h. absurd (true≢false (sym h))), (λ all. absurd (not_there list numbers c.loop-known.known-index met c.loop-known.invariant.before c.requires.list within (λ _. c.if-numbers-met.true) (all met 0 within))))
+
+pub loop-known-preserved : goal.loop-known-preserved
+loop-known-preserved c =
+    let list = c.args.list.now in let numbers = c.args.numbers.now in let i = c.loop-known.known-index in let met = c.loop-known.met in
+    let within : met < length numbers = omega (arith, c.loop-known.invariant.within, c.if-met-numbers.false) in
+    elim c.if-numbers-met-2.branch [
+      | then-numbers-met-2 w ↦ (
+          let same : get_or numbers met 0 ≡ get_or list i 0 = w.if-numbers-met-2.true in
+          rw w.met-is (record {
+            within = omega (arith, within);
+            seen = All-more (Contains list) numbers met 0 within c.loop-known.invariant.seen (subst (λ (n : ℕ). Contains list n) (sym same) (Contains-get_or list i 0 c.loop-known-test.true));
+            before = passed list numbers i met c.loop-known.invariant.before (met + 1) (omega arith) (λ m later lm. let b = AllPairs-from_increasing numbers c.requires.numbers met m 0 (omega arith) lm in omega (arith, same, b));
+          }))
+      | else-numbers-met-2 w ↦ rw w.met-is (record {
+        within = c.loop-known.invariant.within;
+        seen = c.loop-known.invariant.seen;
+        before = passed list numbers i met c.loop-known.invariant.before met (omega arith) (λ m later lm. let b = rises numbers c.requires.numbers met m later lm in omega (arith, b, c.if-numbers-met.false, w.if-numbers-met-2.false));
+      })
+    ]
+
+told : (m n : ℕ) (A : Type 0) → (m ≡ n → A) → (A → m ≡ n) → IsTrue (m == n) ↔ A
+told m n A f g = ((λ h. f (let e : m ≡ n = grind (arith, nat_tests) in e)), (λ a. let e : m ≡ n = g a in let t : (m == n) ≡ true = grind (arith, nat_tests) in t))
 
 pub returns : goal.returns
 returns c =
-    let l : length c.args.numbers.now ≤ c.loop-number.number-index = omega arith in
-    ((λ _. subst (λ (xs : List ℕ). All (Contains c.args.list.now) xs) (take_all c.loop-number.number-index c.args.numbers.now l) c.loop-number.invariant.seen), (λ _. refl))
+    let list = c.args.list.now in let numbers = c.args.numbers.now in let met = c.loop-known.met in
+    told met (length numbers) (All (Contains list) numbers)
+    (λ e. let l : length numbers ≤ met = omega (arith, e) in subst (λ (xs : List ℕ). All (Contains list) xs) (take_all met numbers l) c.loop-known.invariant.seen)
+    (λ all. elim (cases_lt met (length numbers)) [
+      | inl g ↦ absurd (not_there list numbers c.loop-known.known-index met c.loop-known.invariant.before c.requires.list g (λ l. absurd (omega (arith, l, c.loop-known-test.false))) (all met 0 g))
+      | inr g ↦ omega (arith, g, c.loop-known.invariant.within)
+    ])
