@@ -40,23 +40,6 @@ fn strike_pair(sides: &Sides, symbols: &Option<Vec<u32>>, i: u32, j: u32, table:
     }
 }
 
-/// Strikes out each pair of a writer's place whose nodes don't agree.
-fn strike_row(alloc: Global, sides: &Sides, i: u32, table: &mut Table) -> Result<(), AllocError>
-    requires sides { IsSides sides.now }
-    requires rest { IsLeft (rows sides.now) (columns sides.now) table.old }
-    requires i_in { i < length sides.now.writer.schema.now }
-    ensures rest { OnOk result (IsLeft (rows sides.now) (columns sides.now) table.new) }
-    ensures fewer { OnOk result ((a b : ℕ) → IsTrue (left table.new a b) → IsTrue (left table.old a b)) }
-    ensures agreed { OnOk result ((b : ℕ) → b < length sides.now.reader.schema.now
-        → IsTrue (left table.new i b) → Agreed (rows sides.now) (columns sides.now) i b) }
-{
-    let symbols = met_symbols(alloc, sides, i)?;
-    for j in 0..sides.reader.places() {
-        strike_pair(sides, &symbols, i, j, table);
-    }
-    Ok(())
-}
-
 /// Strikes out all pairs whose nodes don't agree.
 ///
 /// # Errors
@@ -68,7 +51,10 @@ pub fn sweep(alloc: Global, sides: &Sides, table: &mut Table) -> Result<(), Allo
     ensures { OnOk result (IsRest (rows sides.now) (columns sides.now) table.new) }
 {
     for i in 0..sides.writer.places() {
-        strike_row(alloc, sides, i, table)?;
+        let symbols = met_symbols(alloc, sides, i)?;
+        for j in 0..sides.reader.places() {
+            strike_pair(sides, &symbols, i, j, table);
+        }
     }
     Ok(())
 }

@@ -8,3 +8,10 @@ invariant-loop-i l = record {
   rest : IsLeft (nodes_view l.sides.writer.schema.now) (nodes_view l.sides.reader.schema.now) l.table;
   agreed : (a b : ℕ) → a < l.i → b < length l.sides.reader.schema.now → IsTrue (left l.table a b) → Agreed (nodes_view l.sides.writer.schema.now) (nodes_view l.sides.reader.schema.now) a b;
 }
+
+abbrev pub invariant-loop-j : goal.invariant-loop-j
+invariant-loop-j l = record {
+  rest : IsLeft (nodes_view l.sides.writer.schema.now) (nodes_view l.sides.reader.schema.now) l.table;
+  fewer : (a b : ℕ) → IsTrue (left l.table a b) → IsTrue (left l.initial.table a b);
+  agreed : (b : ℕ) → b < l.j → IsTrue (left l.table l.i b) → Agreed (nodes_view l.sides.writer.schema.now) (nodes_view l.sides.reader.schema.now) l.i b;
+}
