@@ -60,6 +60,11 @@ module _ (old new : Links) (stand : (x : Link) (p : ℕ) → StandsAt old.lists.
     },
   )
 
+-- each list has what it had
+pub record SameLists (old new : List (Vec Link Global)) : Type 0 where
+  pub there : (x : Link) (place : ℕ) → StandsAt old x place → StandsAt new x place
+  pub back : (x : Link) (place : ℕ) → StandsAt new x place → StandsAt old x place
+
 -- what gives a link does so as more fields get numbers
 module _ (old new : List Aliased) (kept : (number : ℕ) (field : Aliased) → slice_get old number ≡ Some field → slice_get new number ≡ Some field) (met : List (Option ℕ)) (aliased : Bool) (x : Link) where
   pub given_on : (index : ℕ) (y : FieldRanks) (way : Way) → GivenBy met aliased old index y x way → GivenBy met aliased new index y x way

@@ -3,7 +3,7 @@
 
 ghost use Rattle.std.specs.Prelude.{◌≡◌, ◌<◌, All, Contains, IfOk, OnOk, Some, length, slice_get};
 ghost use Rattle.avro_nodes.specs.Nodes.{NodeView};
-ghost use Rattle.avro_resolve.specs.Inside.Askers.{GivenBy, HasLabel, HasLinks, IsFieldLinked, IsOfNode, IsPlaceLinked, LinkedBy, Notes};
+ghost use Rattle.avro_resolve.specs.Inside.Askers.{HasLabel, HasLinks, IsOfNode, IsPlaceLinked, LinkedBy, Notes};
 ghost use Rattle.avro_resolve.specs.Inside.Sides.{names_of, nodes_of, IsSide};
 
 use crate::aliased::Aliased;
@@ -11,7 +11,6 @@ use crate::lists::{empty_lists, note};
 use crate::met::Met;
 use crate::sides::Side;
 use avro_nodes::Node;
-use avro_schema::FieldRanks;
 use std::alloc::{AllocError, Global};
 
 /// In which way a place refers to another.
@@ -78,39 +77,8 @@ fn note_all(
     Ok(())
 }
 
-/// Notes that a place refers to the type of one of its fields, which gets a number if it has aliases
-/// that are labels.
-fn note_field(
-    links: &mut Links,
-    labels: &Labels,
-    ranks: &FieldRanks,
-    place: u32,
-    field: Aliased,
-) -> Result<(), AllocError>
-    requires { place < length links.old.lists.items }
-    ensures notes { OnOk result (Notes (λ x p. (x.asker ≡ field.place) × (p ≡ place)
-        × GivenBy labels.now.met.now.ranks.items labels.now.aliased links.new.aliased.items field.index ranks.now x x.way)
-        links.old links.new) }
-    ensures there { OnOk result (IsFieldLinked labels.now.met.now.ranks.items labels.now.aliased links.new
-        field.place field.index place ranks.now) }
-{
-    let own = if labels.aliased {
-        Some(ranks.name)
-    } else {
-        labels.met.rank(ranks.name)
-    };
-    note_all(links, own.as_slice(), Way::ByName, place, field.place)?;
-    if !labels.aliased || ranks.aliases.is_empty() {
-        return Ok(());
-    }
-    let number = links.aliased.len();
-    links.aliased.push(field)?;
-    let way = Way::ByAlias(number);
-    note_all(links, &ranks.aliases, way, place, field.place)?;
-    Ok(())
-}
-
-/// Notes what the node at a place refers to: to items or values, or to the types of fields.
+/// Notes what the node at a place refers to: to items or values, or to the types of fields. A field
+/// gets a number if it has aliases that are labels.
 fn note_node(links: &mut Links, labels: &Labels, side: &Side, asker: u32) -> Result<(), AllocError>
     requires side { IsSide side.now }
     requires asker_in { asker < length side.now.schema.now }
@@ -127,17 +95,22 @@ fn note_node(links: &mut Links, labels: &Labels, side: &Side, asker: u32) -> Res
     }
     let fields = side.fields(asker);
     for index in 0..fields.fields.len() {
-        let field = Aliased {
+        let (place, ranks) = (fields.fields[index].place, &fields.ranks[index]);
+        let own = if labels.aliased {
+            Some(ranks.name)
+        } else {
+            labels.met.rank(ranks.name)
+        };
+        note_all(links, own.as_slice(), Way::ByName, place, asker)?;
+        if !labels.aliased || ranks.aliases.is_empty() {
+            continue;
+        }
+        let way = Way::ByAlias(links.aliased.len());
+        links.aliased.push(Aliased {
             place: asker,
             index,
-        };
-        note_field(
-            links,
-            labels,
-            &fields.ranks[index],
-            fields.fields[index].place,
-            field,
-        )?;
+        })?;
+        note_all(links, &ranks.aliases, way, place, asker)?;
     }
     Ok(())
 }

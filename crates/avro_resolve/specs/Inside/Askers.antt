@@ -132,11 +132,6 @@ pub record Notes (Such : Link → ℕ → Type 0) (old new : Links) : Type 0 whe
 abbrev pub AreSorted : List (Vec Link Global) → Type 0
 AreSorted lists = (place : ℕ) → IsNonDecreasingBy (λ (x : Link). x.label) (list_at lists place)
 
--- each list has what it had
-pub record SameLists (old new : List (Vec Link Global)) : Type 0 where
-  pub there : (x : Link) (place : ℕ) → StandsAt old x place → StandsAt new x place
-  pub back : (x : Link) (place : ℕ) → StandsAt new x place → StandsAt old x place
-
 -- the lists have each asker for each place that it refers to, by each label, and nothing else
 pub record HasLinks (names : List (List ℕ)) (met : List (Option ℕ)) (aliased : Bool) (nodes : List NodeView) (links : Links) : Type 0 where
   pub within : (x : Link) (place : ℕ) → StandsAt links.lists.items x place → x.asker < length nodes

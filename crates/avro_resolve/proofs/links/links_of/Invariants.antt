@@ -3,9 +3,10 @@ use Rattle.std.specs.Prelude.{slice_get}
 use Rattle.std.specs.List.Sorted.{IsNonDecreasingBy}
 use Rattle.avro_nodes.specs.Nodes.{NodeView}
 use Rattle.avro_resolve.specs.declared.links.Link.{Link}
-use Rattle.avro_resolve.specs.Inside.Askers.{IsOfNode, IsPlaceLinked, SameLists}
+use Rattle.avro_resolve.specs.Inside.Askers.{IsOfNode, IsPlaceLinked}
 use Rattle.avro_resolve.specs.Inside.Lists.{list_at, StandsAt}
 use Rattle.avro_resolve.specs.Inside.Sides.{names_of, nodes_of}
+use Rattle.avro_resolve.proofs.LinkLemmas.{SameLists}
 use Rattle.avro_resolve.proofs.links.links_of.Given as goal
 
 abbrev pub invariant-loop-i : goal.invariant-loop-i

@@ -1,20 +1,27 @@
-use Rattle.std.proofs.Common.{◌≡◌, ◌<◌, ◌≤◌, ℕ, List, [], Bool, Option, Some, None, get_or, length, map, refl, sym, ap, subst, ◌∙◌, inl, inr, arith}
-use Rattle.std.specs.Prelude.{slice_get}
+use Rattle.std.proofs.Common.{◌≡◌, ◌<◌, ◌≤◌, ℕ, List, [], Bool, Option, Some, None, get_or, length, map, refl, sym, ap, subst, ◌∙◌, inl, inr, arith, ◌++◌, ◌∷◌, zero, suc, true, ◌+◌}
+use Rattle.std.specs.Prelude.{slice_get, All, Contains, MatchOption}
 use Rattle.std.proofs.lemmas.Bool.{cases_lt}
+use Rattle.std.proofs.lemmas.Grind.{common_steps}
 use Rattle.std.proofs.lemmas.List.{length-map}
 use Rattle.std.proofs.lemmas.Option.{none-some, same_Some, slice_get-get_or, slice_get_within}
+use Rattle.std.proofs.lemmas.List.Elements.{Contains-push_cases}
 use Rattle.avro_nodes.specs.Nodes.{FieldView, NodeView, primitive, array, mapping, union, enumeration, fixed, rec, field_view, node_view}
 use Rattle.avro_nodes.specs.declared.node.Node.{Node}
 use Rattle.avro_nodes.specs.declared.node.Node.TheVariants.{Primitive, Array, Map, Union, Enum, Fixed, Rec}
 use Rattle.avro_schema.specs.Index.{AreFieldsRanked}
 use Rattle.avro_schema.specs.declared.index.FieldRanks.{FieldRanks}
 use Rattle.avro_resolve.specs.declared.links.Links.{Links}
-use Rattle.avro_resolve.specs.declared.links.Way.TheVariants.{OfContents}
+use Rattle.avro_resolve.specs.declared.links.Way.TheVariants.{OfContents, ByName}
+use Rattle.avro_resolve.specs.declared.aliased.Aliased.{Aliased}
+use Rattle.avro_resolve.specs.declared.links.Link.{Link}
+use Rattle.avro_resolve.specs.declared.links.Way.{Way}
 use Rattle.avro_resolve.specs.Inside.Agreeing.{fields_of}
-use Rattle.avro_resolve.specs.Inside.Askers.{contained_of, AreFieldsLinked, HasLabel, IsFieldLinked, IsOfField, IsPlaceLinked, LinkedBy}
+use Rattle.avro_resolve.specs.Inside.Askers.{contained_of, AreFieldsLinked, HasLabel, IsFieldLinked, IsOfField, IsPlaceLinked, LinkedBy, alias_labels, own_label, GivenBy, IsAlias, Notes}
 use Rattle.avro_resolve.specs.Inside.Sides.{names_of}
-use Rattle.avro_resolve.proofs.LinkLemmas.{field_on, of_field_on, notes_none, notes_such, notes_then}
-use Rattle.avro_resolve.proofs.ViewLemmas.{view_got}
+use Rattle.avro_resolve.proofs.LinkLemmas.{field_on, of_field_on, notes_none, notes_such, notes_then, linked_on}
+use Rattle.avro_resolve.proofs.ViewLemmas.{view_got, got_last}
+use Rattle.avro_resolve.proofs.ListLemmas.{adds_such, nothing_stands}
+use Rattle.avro_resolve.proofs.links.note_node.Goals.{then-labels, else-labels, then-not-labels-via-then-not-labels, then-not-labels-via-else-not-labels+then-is_empty, Joined-labels, Joined-then-not-labels}
 use Rattle.avro_resolve.proofs.links.note_node.Goals as goal
 
 -- what is neither an array nor a map contains nothing
@@ -30,28 +37,116 @@ nothing_contained (Rec k fs x) f g = refl
 pub loop-index-init : goal.loop-index-init
 loop-index-init c = record { notes = notes_none _ c.args.links.now; there = λ k f x l. absurd (omega arith) }
 
+-- a label that stands in the list of the one that there is, or isn't
+some_label : (o : Option ℕ) (ls : List ℕ) → MatchOption o (ls ≡ []) (λ x. ls ≡ x ∷ []) → (l : ℕ) → Contains ls l → o ≡ Some l
+some_label None ls e l h = absurd (nothing_stands l (subst (λ (xs : List ℕ). Contains xs l) e h))
+some_label (Some x) ls e l h = elim (Contains-push_cases [] x l (subst (λ (xs : List ℕ). Contains xs l) e h)) [ inl m ↦ absurd (nothing_stands l m) | inr g ↦ ap (λ (n : ℕ). Some n) g ]
+
+all_some : (P : ℕ → Type 0) (o : Option ℕ) (ls : List ℕ) → MatchOption o (ls ≡ []) (λ x. ls ≡ x ∷ []) → All P ls → (l : ℕ) → o ≡ Some l → P l
+all_some P None ls e h l f = absurd cc
+all_some P (Some x) ls e h l f = (let g : x ≡ l = cc in subst P g (subst (λ (xs : List ℕ). All P xs) e h 0 x (omega arith)))
+
+got_still : (xs : List Aliased) (x y : Aliased) (k : ℕ) → slice_get xs k ≡ Some x → slice_get (xs ++ y ∷ []) k ≡ Some x
+got_still [] x y k e = absurd cc
+got_still (z ∷ zs) x y zero e = e
+got_still (z ∷ zs) x y (suc k) e = got_still zs x y k e
+
+got_pushed : (xs ys : List Aliased) (y : Aliased) (number : ℕ) → ys ≡ xs ++ y ∷ [] → number ≡ length xs → slice_get ys number ≡ Some y
+got_pushed xs ys y number e long = ap (λ (zs : List Aliased). slice_get zs number) e ∙ ap (λ (n : ℕ). slice_get (xs ++ y ∷ []) n) long ∙ got_last xs y
+
+-- one more field is noted
+module _ (met : List (Option ℕ)) (aliased : Bool) (views : List FieldView) (ranks : List FieldRanks) (i at : ℕ) (f : FieldView) (y : FieldRanks) (f_at : slice_get views at ≡ Some f) (y_at : slice_get ranks at ≡ Some y)
+    (old xs ys : Links) (more : Notes (λ x p. (x.asker ≡ i) × (p ≡ f.place) × GivenBy met aliased ys.aliased.items at y x x.way) xs ys) where
+  next_notes : Notes (λ x p. (x.asker ≡ i) × IsOfField met aliased xs.aliased.items views ranks x p) old xs → Notes (λ x p. (x.asker ≡ i) × IsOfField met aliased ys.aliased.items views ranks x p) old ys
+  next_notes before = notes_then _ _ _ (λ x p h. (h.0, of_field_on xs.aliased.items ys.aliased.items more.kept met aliased x views ranks p h.1)) (λ x p h. (h.0, (at, f, y, f_at, y_at, sym h.1, h.2))) old xs ys before more
+
+  next_there : ((k : ℕ) (g : FieldView) (x : FieldRanks) → k < at → slice_get views k ≡ Some g → slice_get ranks k ≡ Some x → IsFieldLinked met aliased xs i k g.place x) → IsFieldLinked met aliased ys i at f.place y
+      → (k : ℕ) (g : FieldView) (x : FieldRanks) → k < at + 1 → slice_get views k ≡ Some g → slice_get ranks k ≡ Some x → IsFieldLinked met aliased ys i k g.place x
+  next_there before here k g x below eg ex = elim (cases_lt k at) [
+    | inl l ↦ field_on xs ys more.adds.kept more.kept met aliased i k g.place x (before k g x l eg ex)
+    | inr l ↦ (let e : at ≡ k = omega arith in
+        let same : f ≡ g = same_Some f g (sym f_at ∙ ap (slice_get views) e ∙ eg) in
+        let alike : y ≡ x = same_Some y x (sym y_at ∙ ap (slice_get ranks) e ∙ ex) in
+        subst (λ (m : ℕ). IsFieldLinked met aliased ys i m g.place x) e (subst (λ (z : FieldRanks). IsFieldLinked met aliased ys i at g.place z) alike (subst (λ (v : FieldView). IsFieldLinked met aliased ys i at v.place y) same here)))
+  ]
+
+-- the label of the field's own name
+own_is : (c : Joined-labels) → c.if-labels.own ≡ own_label c.args.labels.now.met.now.ranks.items c.args.labels.now.aliased (get_or c.fields-fields.result.ranks.now c.loop-index.index c.index-fields-index-in-loop-index.result).name
+own_is c =
+    let label = λ (b : Bool). own_label c.args.labels.now.met.now.ranks.items b (get_or c.fields-fields.result.ranks.now c.loop-index.index c.index-fields-index-in-loop-index.result).name in
+    elim c.if-labels.branch [
+      | then-labels w ↦ w.own-is ∙ sym (ap label w.if-labels.true)
+      | else-labels w ↦ w.own-is ∙ w.rank-own.ensures ∙ sym (ap label w.if-labels.false)
+    ]
+
+-- no alias of the field is a label
+no_labels : (c : Joined-then-not-labels) → alias_labels c.args.labels.now.aliased (get_or c.fields-fields.result.ranks.now c.loop-index.index c.index-fields-index-in-loop-index.result).aliases.items ≡ []
+no_labels c =
+    let aliases = (get_or c.fields-fields.result.ranks.now c.loop-index.index c.index-fields-index-in-loop-index.result).aliases in
+    let of = λ (b : Bool). alias_labels b aliases.items in
+    elim c.then-not-labels.branch [
+      | then-not-labels-via-then-not-labels w ↦ ap of w.if-not-labels.true
+      | then-not-labels-via-else-not-labels+then-is_empty w ↦ (
+          let empty : aliases.items ≡ [] = grind (arith, common_steps) in
+          ap of w.if-not-labels.false ∙ empty
+          )
+    ]
+
+pub loop-index-preserved-then-not-labels : goal.loop-index-preserved-then-not-labels
+loop-index-preserved-then-not-labels c =
+    let inv = c.loop-index.invariant in let at = c.loop-index.index in let i = c.args.asker in
+    let fields = c.fields-fields.result.fields.now in let ranks = c.fields-fields.result.ranks.now in let views = map field_view fields in
+    let met = c.args.labels.now.met.now.ranks.items in let aliased = c.args.labels.now.aliased in
+    let field = get_or fields at c.index-fields-index.result in let names = get_or ranks at c.index-fields-index-in-loop-index.result in let p = field.place in
+    let within : at < length fields = c.loop-index-test.true in let l : at < length ranks = omega (arith, within, c.fields-fields.ensures.long) in
+    let field_here : slice_get views at ≡ Some (field_view field) = view_got field_view fields at field (slice_get-get_or fields at c.index-fields-index.result within) in
+    let names_here : slice_get ranks at ≡ Some names = slice_get-get_or ranks at c.index-fields-index-in-loop-index.result l in
+    let mine = own_is (goal.at.loop-index-preserved-then-not-labels c).Joined-labels in let own = c.in_ok-note_all-2.ensures in
+    let old = c.args.links.now in let xs = c.loop-index.links in let ys = c.note_all-in-loop-index.new.links in
+    let given = λ (x : Link) (way : Way). GivenBy met aliased ys.aliased.items at names x way in
+    let more : Notes (λ x q. (x.asker ≡ i) × (q ≡ p) × given x x.way) xs ys =
+    notes_such _ _ (λ x q h. (h.2, h.3, subst (given x) (sym h.1) (sym mine ∙ some_label c.if-labels.own c.as_slice.result.now c.as_slice.ensures x.label h.0))) xs ys own.notes in
+    let here : IsFieldLinked met aliased ys i at p names = record {
+      own = λ label e. all_some (λ n. LinkedBy (HasLabel n ByName) ys.lists.items i p) c.if-labels.own c.as_slice.result.now c.as_slice.ensures own.there label (mine ∙ e);
+      aliases = subst (λ (ls : List ℕ). All (λ label. LinkedBy (IsAlias ys.aliased.items i at label) ys.lists.items i p) ls) (sym (no_labels c)) (λ k d m. absurd (omega arith));
+    } in
+    record {
+      notes = next_notes met aliased views ranks i at (field_view field) names field_here names_here old xs ys more inv.notes;
+      there = next_there met aliased views ranks i at (field_view field) names field_here names_here old xs ys more inv.there here;
+    }
+
 pub loop-index-preserved : goal.loop-index-preserved
 loop-index-preserved c =
     let inv = c.loop-index.invariant in let at = c.loop-index.index in let i = c.args.asker in
-    let all = c.fields-fields.result in let fields = all.fields.now in let ranks = all.ranks.now in
-    let xs = c.loop-index.links in let ys = c.note_field.new.links in let more = c.in_ok-note_field.ensures.notes in
+    let fields = c.fields-fields.result.fields.now in let ranks = c.fields-fields.result.ranks.now in let views = map field_view fields in
     let met = c.args.labels.now.met.now.ranks.items in let aliased = c.args.labels.now.aliased in
-    let field = get_or fields at c.index-fields-index-in-loop-index.result in let names = get_or ranks at c.index-fields-index.result in
-    let within : at < length fields = c.loop-index-test.true in
-    let l : at < length ranks = omega (arith, within, c.fields-fields.ensures.long) in
-    let field_here : slice_get (map field_view fields) at ≡ Some (field_view field) = view_got field_view fields at field (slice_get-get_or fields at c.index-fields-index-in-loop-index.result within) in
-    let names_here : slice_get ranks at ≡ Some names = slice_get-get_or ranks at c.index-fields-index.result l in
+    let field = get_or fields at c.index-fields-index.result in let names = get_or ranks at c.index-fields-index-in-loop-index.result in let p = field.place in
+    let within : at < length fields = c.loop-index-test.true in let l : at < length ranks = omega (arith, within, c.fields-fields.ensures.long) in
+    let field_here : slice_get views at ≡ Some (field_view field) = view_got field_view fields at field (slice_get-get_or fields at c.index-fields-index.result within) in
+    let names_here : slice_get ranks at ≡ Some names = slice_get-get_or ranks at c.index-fields-index-in-loop-index.result l in
+    let mine = own_is (goal.at.loop-index-preserved c).Joined-labels in let own = c.in_ok-note_all-2.ensures in
+    let old = c.args.links.now in let xs = c.loop-index.links in let ms = c.note_all-in-loop-index.new.links in let ys = c.note_all-in-loop-index-2.new.links in
+    let last = c.in_ok-note_all-3.ensures in let number = c.len.result in let items = c.in_ok-push.ensures.items in let reader : aliased ≡ true = c.if-not-labels.false in
+    let this : Aliased = record { place = i; index = at } in
+    let is = last.notes.kept number this (got_pushed ms.aliased.items c.push.new.self.items this number items (omega (arith, c.len.ensures, ms.aliased.ok.0))) in
+    let kept : (k : ℕ) (x : Aliased) → slice_get ms.aliased.items k ≡ Some x → slice_get ys.aliased.items k ≡ Some x =
+    λ k x e. last.notes.kept k x (subst (λ (fs : List Aliased). slice_get fs k ≡ Some x) (sym items) (got_still ms.aliased.items x this k e)) in
+    let given = λ (x : Link) (way : Way). GivenBy met aliased ys.aliased.items at names x way in
+    let rest : Notes (λ x q. (x.asker ≡ i) × (q ≡ p) × given x x.way) ms ys = record {
+      adds = adds_such _ _ (λ x q h. (h.2, h.3, subst (given x) (sym h.1) (subst (λ (j : ℕ). slice_get ys.aliased.items number ≡ Some (record { place = j; index = at })) (sym h.2) is))) ms.lists.items ys.lists.items last.notes.adds;
+      kept = kept;
+    } in
+    let more : Notes (λ x q. (x.asker ≡ i) × (q ≡ p) × given x x.way) xs ys =
+    notes_then _ _ _ (λ x q h. (h.2, h.3, subst (given x) (sym h.1) (sym mine ∙ some_label c.if-labels.own c.as_slice.result.now c.as_slice.ensures x.label h.0))) (λ x q h. h) xs ms ys own.notes rest in
+    let here : IsFieldLinked met aliased ys i at p names = record {
+      own = λ label e. linked_on ms ys last.notes.adds.kept kept (HasLabel label ByName) i p
+          (all_some (λ n. LinkedBy (HasLabel n ByName) ms.lists.items i p) c.if-labels.own c.as_slice.result.now c.as_slice.ensures own.there label (mine ∙ e));
+      aliases = subst (λ (ls : List ℕ). All (λ label. LinkedBy (IsAlias ys.aliased.items i at label) ys.lists.items i p) ls)
+          (c.deref.ensures.value ∙ ap (λ (b : Bool). alias_labels b names.aliases.items) (sym reader)) (λ k d m. (let h = last.there k d m in (h.0, (number, h.1, is), h.2, h.3)));
+    } in
     record {
-      notes = notes_then _ _ _ (λ x p h. (h.0, of_field_on xs.aliased.items ys.aliased.items more.kept met aliased x (map field_view fields) ranks p h.1))
-          (λ x p h. (h.0, (at, field_view field, names, field_here, names_here, sym h.1, h.2))) c.args.links.now xs ys inv.notes more;
-      there = λ k f x below ef ex. elim (cases_lt k at) [
-        | inl g ↦ field_on xs ys more.adds.kept more.kept met aliased i k f.place x (inv.there k f x g ef ex)
-        | inr g ↦ (let e : at ≡ k = omega arith in
-            let same : field_view field ≡ f = same_Some (field_view field) f (sym field_here ∙ ap (slice_get (map field_view fields)) e ∙ ef) in
-            let alike : names ≡ x = same_Some names x (sym names_here ∙ ap (slice_get ranks) e ∙ ex) in
-            subst (λ (m : ℕ). IsFieldLinked met aliased ys i m f.place x) e (subst (λ (y : FieldRanks). IsFieldLinked met aliased ys i at f.place y) alike
-            (subst (λ (g : FieldView). IsFieldLinked met aliased ys i at g.place names) same c.in_ok-note_field.ensures.there)))
-      ];
+      notes = next_notes met aliased views ranks i at (field_view field) names field_here names_here old xs ys more inv.notes;
+      there = next_there met aliased views ranks i at (field_view field) names field_here names_here old xs ys more inv.there here;
     }
 
 -- what contains something refers to that, and to nothing else
