@@ -17,3 +17,7 @@ all_of P f xs h k d l = subst P (get_or-map f xs k d) (h k (f d) (rw length-map 
 pub got_last : {X : Type 0} (xs : List X) (y : X) → slice_get (xs ++ y ∷ []) (length xs) ≡ Some y
 got_last [] y = refl
 got_last (x ∷ xs) y = got_last xs y
+
+-- what holds of two lists holds of two that are the same
+pub both : {X Y : Type 0} (P : X → Y → Type 0) (w w2 : X) (r r2 : Y) → w ≡ w2 → r ≡ r2 → P w r → P w2 r2
+both P w w2 r r2 e f h = subst (λ x. P x r2) e (subst (P w) f h)

@@ -9,13 +9,10 @@ use Rattle.avro_resolve.specs.Inside.Sides.{columns, rows}
 use Rattle.avro_resolve.proofs.Denoted.{some_node, is_whole}
 use Rattle.avro_resolve.proofs.MarkLemmas.{marks_none}
 use Rattle.avro_resolve.proofs.Reaching.{is_small}
+use Rattle.avro_resolve.proofs.ViewLemmas.{both}
 use Rattle.avro_resolve.proofs.WalkLemmas.{roots_asked}
 use Rattle.avro_resolve.proofs.WalkEnds.{good_start, shown, at_most, at_least}
 use Rattle.avro_resolve.proofs.resolving.walk_roots.Goals as goal
-
--- what holds of two schemas holds of the sides that are made of them
-both : (P : List NodeView → List NodeView → Type 0) (w w2 r r2 : List NodeView) → w ≡ w2 → r ≡ r2 → P w r → P w2 r2
-both P w w2 r r2 e f h = subst (λ x. P x r2) e (subst (P w) f h)
 
 pub ask-requires-clause-ready : goal.ask-requires-clause-ready
 ask-requires-clause-ready c =
