@@ -1,4 +1,4 @@
-use Rattle.std.proofs.Common.{◌≡◌, ◌<◌, ◌≤◌, [], ◌∷◌, ℕ, zero, suc, Option, Some, None, true, get_or, length, map, refl, sym, ap, subst, ◌∙◌, List, take_all, arith}
+use Rattle.std.proofs.Common.{◌≡◌, ◌<◌, ◌≤◌, [], ◌∷◌, ℕ, zero, suc, Option, Some, true, get_or, length, map, refl, sym, ap, subst, ◌∙◌, List, take_all, arith}
 use Rattle.std.specs.Borrow.{Bor}
 use Rattle.std.specs.Prelude.{◌==◌, All, replicate, slice_get}
 use Rattle.std.specs.List.{AllZip}
