@@ -1,5 +1,5 @@
 -- How a list in order is searched, and how it is walked beside another.
-use Rattle.std.proofs.Common.{◌≡◌, ℕ, ◌+◌, ◌<◌, ◌≤◌, List, get_or, length, refl, sym, ap, inl, inr, ◌∙◌, arith}
+use Rattle.std.proofs.Common.{◌≡◌, ℕ, ◌+◌, ◌<◌, ◌≤◌, List, get_or, length, refl, ap, inl, inr, ◌∙◌, arith}
 use Rattle.std.specs.Prelude.{Contains, IsTrue, Result, Ok, Err, ◌↔◌}
 use Rattle.std.specs.List.Sorted.{IsBinarySearchResult, IsStrictlyIncreasing}
 use Rattle.std.specs.Ordering.{nat_cmp}

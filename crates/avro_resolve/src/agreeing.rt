@@ -179,10 +179,7 @@ pub fn agree(
 {
     match alike(a, b, names_match(sides, at.0, at.1)) {
         Some(told) => Ok(told),
-        None => {
-            let symbols = met_symbols(alloc, sides, at.0)?;
-            Ok(symbols_known(sides, &symbols, a, b, at.1))
-        }
+        None => Ok(symbols_known(sides, &met_symbols(alloc, sides, at.0)?, a, b, at.1)),
     }
 }
 

@@ -1,14 +1,13 @@
 //! The sources of a reader's fields that have aliases, by the writer's places: one look tells
 //! whether a field is read from a type.
 
-ghost use Rattle.std.specs.Prelude.{◌≡◌, ◌<◌, ◌≤◌, ◌+◌, ◌↔◌, ℕ, All, IfOk, IsTrue, Option, length, map};
+ghost use Rattle.std.specs.Prelude.{◌≡◌, ◌<◌, ◌≤◌, ◌+◌, ◌↔◌, All, IfOk, IsTrue, length, map};
 ghost use Rattle.std.specs.List.{AllZip};
-ghost use Rattle.std.specs.Option.{ForSome};
 ghost use Rattle.avro_nodes.specs.Nodes.{field_view};
 ghost use Rattle.avro_schema.specs.Index.{AreFieldsRanked};
 ghost use Rattle.avro_resolve.specs.Inside.Laying.{names_in, AreLaid};
 ghost use Rattle.avro_resolve.specs.Inside.Sides.{columns, names_of, IsSide, IsSides};
-ghost use Rattle.avro_resolve.specs.Inside.Sources.{code, code_at, IsEntry, IsWanted};
+ghost use Rattle.avro_resolve.specs.Inside.Sources.{code_at, IsEntry, IsWanted};
 
 use crate::desk::place_of;
 use crate::lists::list_of;
@@ -109,17 +108,6 @@ pub fn firsts_of(
     Ok(firsts)
 }
 
-/// A place and one, or 0 for none.
-fn code_of(place: Option<u32>) -> u16
-    requires { ForSome place (λ p. p < 65535) }
-    ensures { result ≡ code place }
-{
-    match place {
-        Some(place) => place as u16 + 1,
-        None => 0,
-    }
-}
-
 /// The sources of these fields of the reader's among those that are laid, each told by its place and
 /// one, or by 0 for none.
 ///
@@ -148,7 +136,10 @@ pub fn row_of(
     let mut row = Vec::with_capacity(alloc, numbered.wanted.len())?;
     for wanted in numbered.wanted {
         let code = match wanted.names {
-            Some(names) => code_of(place_of(boxes, sides, fields.fields, fields.ranks, names)),
+            Some(names) => match place_of(boxes, sides, fields.fields, fields.ranks, names) {
+                Some(place) => place as u16 + 1,
+                None => 0,
+            },
             None => 0,
         };
         row.push(code)?;

@@ -15,7 +15,7 @@ alike-requires c = c.names_match.ensures (node_view c.args.a.now) (node_view c.a
 pub returns-in-Some : goal.returns-in-Some
 returns-in-Some c = rw c.in-Some.is at c.alike.ensures
 
-pub returns-in_ok-symbols-in-None : goal.returns-in_ok-symbols-in-None
-returns-in_ok-symbols-in-None c =
+pub returns-in_ok-met_symbols-in-None : goal.returns-in_ok-met_symbols-in-None
+returns-in_ok-met_symbols-in-None c =
     let same = rw c.in-None.is at c.alike.ensures in
     ((λ yes. same.1 (c.symbols_known.ensures.0 yes)), (λ both. c.symbols_known.ensures.1 (same.0 both)))

@@ -1,6 +1,6 @@
-use Rattle.std.proofs.Common.{◌≡◌, ◌<◌, ◌≤◌, [], ◌∷◌, ℕ, zero, suc, Option, Some, None, true, get_or, length, map, refl, sym, ap, subst, ◌∙◌, List, take_all, arith}
+use Rattle.std.proofs.Common.{◌≡◌, ◌<◌, ◌≤◌, [], ◌∷◌, ℕ, zero, suc, Option, Some, true, get_or, length, map, refl, sym, ap, subst, ◌∙◌, List, take_all, arith}
 use Rattle.std.specs.Borrow.{Bor}
-use Rattle.std.specs.Prelude.{◌==◌, replicate, slice_get}
+use Rattle.std.specs.Prelude.{◌==◌, All, replicate, slice_get}
 use Rattle.std.specs.List.{AllZip}
 use Rattle.std.proofs.lemmas.Bool.Decides.{nat_tests}
 use Rattle.std.proofs.lemmas.List.Elements.{All-map, All-weaker}
@@ -21,7 +21,7 @@ use Rattle.avro_resolve.proofs.LinkLemmas.{zip_got, zip_more}
 use Rattle.avro_resolve.proofs.Sourcing.{ranks_below}
 use Rattle.avro_resolve.proofs.SupportLemmas.{place_within, unsourced}
 use Rattle.avro_resolve.proofs.aliased.row_of.Goals as goal
-use Rattle.avro_resolve.proofs.aliased.row_of.Goals.{in-Some, in-None}
+use Rattle.avro_resolve.proofs.aliased.row_of.Goals.{in-Some+in-Some-place_of, in-Some+in-None-place_of, in-None}
 
 -- what is asked of the field of a number
 asked : (side : Side) (all : List Aliased) (wanted : List Wanted) → AllZip (IsWanted side) all wanted → (n : ℕ) (x : Wanted) → n < length wanted → x ≡ get_or wanted n x → (a : Aliased) × (slice_get all n ≡ Some a) × IsWanted side a x
@@ -34,6 +34,14 @@ asked side all wanted zip n x l e =
 
 named : (names : List (List ℕ)) (o : Option (Bor FieldRanks)) (x : Bor FieldRanks) → o ≡ Some x → AreSomeRanks names o → (f : FieldView) × IsFieldRanked names f x.now
 named names o x e h = subst (AreSomeRanks names) e h
+
+-- a source that is found is a place
+fits : (side : Side) (all : List Aliased) (wanted : List Wanted) → AllZip (IsWanted side) all wanted → (n : ℕ) (x : Wanted) → n < length wanted → x ≡ get_or wanted n x → (y : Bor FieldRanks) → x.names ≡ Some y → (fields : List Field) → All (λ g. g.place < 65535) fields
+    → (o : Option ℕ) → ((f : FieldView) → IsFieldRanked (names_of side) f y.now → o ≡ source_place (map field_view fields) f) → (place : ℕ) → o ≡ Some place → place < 65535
+fits side all wanted zip n x l e y has fields within o told place is =
+    let a = asked side all wanted zip n x l e in
+    let f = named (names_of side) x.names y has a.2.ranked in
+    place_within 65535 (map field_view fields) f.0 (source (map field_view fields) f.0) place (All-map (λ (g : FieldView). g.place < 65535) field_view fields within) refl (sym is ∙ told f.0 f.1)
 
 zeros : {X : Type 0} (P : X → ℕ → Type 0) → ((x : X) → P x 0) → (xs : List X) (n : ℕ) → length xs ≡ n → AllZip P xs (replicate n 0)
 zeros P h [] zero e = tt
@@ -68,12 +76,15 @@ place_of-requires-clause-name_in c =
     let l = slice_get_within r x.name is.0.name is.1.name in
     omega (arith, l, c.requires.room)
 
-pub code_of-code-requires : goal.code_of-code-requires
-code_of-code-requires c = λ place e.
-    let fields = map field_view c.args.fields.fields.now in let w = c.wanted-item.result in
-    let a = asked c.args.sides.now.reader c.args.numbered.aliased.now c.args.numbered.wanted.now c.requires.wanted c.loop-wanted.wanted-index w c.loop-wanted-test.true c.wanted-item.is in
-    let is = named (names_of c.args.sides.now.reader) w.names c.in-Some.names c.in-Some.is a.2.ranked in
-    place_within 65535 fields is.0 (source fields is.0) place (All-map (λ (g : FieldView). g.place < 65535) field_view c.args.fields.fields.now c.requires.fields_in) refl (sym e ∙ c.place_of.ensures is.0 is.1)
+pub overflow_cast-code : goal.overflow_cast-code
+overflow_cast-code c =
+    let l = fits c.args.sides.now.reader c.args.numbered.aliased.now c.args.numbered.wanted.now c.requires.wanted c.loop-wanted.wanted-index c.wanted-item.result c.loop-wanted-test.true c.wanted-item.is c.in-Some.names c.in-Some.is c.args.fields.fields.now c.requires.fields_in c.place_of.result c.place_of.ensures c.in-Some-place_of.place c.in-Some-place_of.is in
+    omega (arith, l)
+
+pub overflow_add-code : goal.overflow_add-code
+overflow_add-code c =
+    let l = fits c.args.sides.now.reader c.args.numbered.aliased.now c.args.numbered.wanted.now c.requires.wanted c.loop-wanted.wanted-index c.wanted-item.result c.loop-wanted-test.true c.wanted-item.is c.in-Some.names c.in-Some.is c.args.fields.fields.now c.requires.fields_in c.place_of.result c.place_of.ensures c.in-Some-place_of.place c.in-Some-place_of.is in
+    omega (arith, l)
 
 pub loop-wanted-preserved : goal.loop-wanted-preserved
 loop-wanted-preserved c =
@@ -81,7 +92,8 @@ loop-wanted-preserved c =
     let x = c.wanted-item.result in let r = names_of c.args.sides.now.reader in
     let a = asked c.args.sides.now.reader all c.args.numbered.wanted.now c.requires.wanted n x c.loop-wanted-test.true c.wanted-item.is in
     let told : P a.0 c.match-wanted.code = (λ f h. elim c.match-wanted.branch [
-      | in-Some w ↦ w.code-is ∙ w.code_of-code.ensures ∙ ap code (w.place_of.ensures f (subst (λ (o : Option (Bor FieldRanks)). AreRanksOf r o f) w.in-Some.is (a.2.told f h).2))
+      | in-Some+in-Some-place_of w ↦ w.code-is ∙ ap code (sym w.in-Some-place_of.is ∙ w.place_of.ensures f (subst (λ (o : Option (Bor FieldRanks)). AreRanksOf r o f) w.in-Some.is (a.2.told f h).2))
+      | in-Some+in-None-place_of w ↦ w.code-is ∙ ap code (sym w.in-None-place_of.is ∙ w.place_of.ensures f (subst (λ (o : Option (Bor FieldRanks)). AreRanksOf r o f) w.in-Some.is (a.2.told f h).2))
       | in-None w ↦ absurd (subst (λ (o : Option (Bor FieldRanks)). AreRanksOf r o f) w.in-None.is (a.2.told f h).2)
     ]) in
     rw c.in_ok-push.ensures.items (zip_more P all n a.0 c.loop-wanted.row.items c.match-wanted.code a.1 c.loop-wanted.invariant told)
