@@ -1,6 +1,6 @@
 -- All pairs of places hold what is asked.
 use Rattle.std.proofs.Common.{◌≡◌, ℕ, ◌*◌, ◌^◌, ◌<◌, ◌≤◌, List, ◌∷◌, Option, Some, None, length, refl, sym, ap, subst, ◌∙◌, arith, mul-le-mul_left, mul-le-mul_right}
-use Rattle.std.specs.Prelude.{All, Any, Contains, IfSome, MatchOption, slice_get, option_map}
+use Rattle.std.specs.Prelude.{All, Any, Contains, MatchOption, slice_get, option_map}
 use Rattle.std.proofs.lemmas.Option.{slice_get_within}
 use Rattle.avro_nodes.specs.Nodes.{FieldView, NodeView, primitive, array, mapping, union, enumeration, fixed, rec}
 use Rattle.avro_resolve.specs.Resolution.{source}

@@ -10,7 +10,7 @@ use Rattle.avro_resolve.specs.Asking.{source_place}
 use Rattle.avro_resolve.specs.Resolution.{Readable}
 use Rattle.avro_resolve.specs.Inside.Asked.{AreAsked, Asked, IsSourceAsked}
 use Rattle.avro_resolve.specs.Inside.Laying.{AreReadOff}
-use Rattle.avro_resolve.specs.Witnesses.{Pair, member, without}
+use Rattle.avro_resolve.specs.Witnesses.{member, without}
 use Rattle.avro_resolve.proofs.ViewLemmas.{view_got}
 use Rattle.avro_resolve.proofs.Agreement.{fits_agree}
 use Rattle.avro_resolve.proofs.MarkLemmas.{marks_at}
