@@ -1,5 +1,6 @@
 """The program under test: runs of it, servers of it, and what becomes of both."""
 
+import itertools
 import os
 import shlex
 import socket
@@ -105,10 +106,21 @@ class PortTaken(Exception):
     """Another program took the port before the server did."""
 
 
+# Ports below those that the kernel gives to connections (32768 and above, unless it is told otherwise), each in turn, from
+# one on that differs from run to run.
+PORTS = itertools.islice(itertools.cycle(range(20000, 32000)), os.getpid() % 12000, None)
+
+
 def free_port():
-    with socket.socket() as it:
-        it.bind(("127.0.0.1", 0))
-        return it.getsockname()[1]
+    """A port that nobody listens on, and that no connection is given: one to a port on which the server doesn't listen
+    yet could be given that very port, and reach itself."""
+    for port in PORTS:
+        with socket.socket() as it:
+            try:
+                it.bind(("127.0.0.1", port))
+            except OSError:
+                continue
+            return port
 
 
 def connected(server, port):
