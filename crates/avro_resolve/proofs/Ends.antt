@@ -1,30 +1,16 @@
 -- What is left at the end, and what was struck out, as witnesses.
-use Rattle.std.proofs.Common.{◌≡◌, ℕ, zero, suc, ◌+◌, ◌*◌, ◌<◌, ◌≤◌, List, [], ◌∷◌, ◌++◌, Bool, true, false, not, length, refl, sym, subst, ◌∙◌, arith, true≢false, inl, inr}
+use Rattle.std.proofs.Common.{◌≡◌, ℕ, ◌≤◌, List, [], ◌∷◌, ◌++◌, Bool, true, false, not, length, refl, sym, subst, ◌∙◌, arith, true≢false, inl, inr}
 use Rattle.std.specs.Prelude.{IsTrue, ◌↔◌}
 use Rattle.avro_nodes.specs.Nodes.{NodeView}
 use Rattle.avro_resolve.specs.declared.table.Table.{Table}
 use Rattle.avro_resolve.specs.Resolution.{Pairs, Supports, Closed, Resolves}
-use Rattle.avro_resolve.specs.Inside.Places.{IsWhole}
-use Rattle.avro_resolve.specs.Witnesses.{Pair, member, without, RefutesAfter, Differ, HasClosedSet, HasRefutation}
+use Rattle.avro_resolve.specs.Witnesses.{Pair, member, without, RefutesAfter, Differ}
 use Rattle.avro_resolve.specs.Inside.Left.{left, IsLeft}
-use Rattle.avro_resolve.specs.Verdicts.{pairs_below}
 use Rattle.avro_schema.specs.Texts.{IsSchema}
-use Rattle.avro_resolve.proofs.Denoted.{some_node}
-use Rattle.avro_resolve.proofs.Monotone.{supports_below, supported_in}
+use Rattle.avro_resolve.proofs.Monotone.{supported_in}
 use Rattle.avro_resolve.proofs.PairLists.{member-nil, member_head, member_tail, member_cases, refuted}
-use Rattle.avro_resolve.proofs.PairLemmas.{those, those_hold, in_those_below, few_those}
 
 -- ---- a yes
-
-pub closed_end : (w r : List NodeView) (R : Pairs) → IsWhole w → IsWhole r → Closed w r R → R 0 0 ≡ true → HasClosedSet w r (length w * length r)
-closed_end w r R ww wr closed roots =
-    let n = length w in let m = length r in
-    let here = supported_in w r R 0 0 (closed 0 0 roots) in (
-      those R (pairs_below n m),
-      in_those_below R n m 0 0 here.0 here.1 roots,
-      (λ i j h. supports_below w r R (member (those R (pairs_below n m))) ww wr (in_those_below R n m) i j (closed i j (those_hold R (pairs_below n m) i j h))),
-      few_those R n m,
-    )
 
 pub resolves_end : (w r : List NodeView) (R : Pairs) → Closed w r R → R 0 0 ≡ true → Resolves w r
 unfolding Resolves
@@ -35,10 +21,6 @@ resolves_end w r R closed roots = (R, roots, closed)
 not_struck : (x y : Bool) → x ≡ not y → (y ≡ true → ⊥) → x ≡ true
 not_struck x true e h = absurd (h refl)
 not_struck x false e h = e
-
-is_struck : (x y : Bool) → x ≡ not y → x ≡ false → y ≡ true
-is_struck x true e f = refl
-is_struck x false e f = absurd (true≢false (sym e ∙ f))
 
 -- the roots of a schema that resolves are left
 pub kept_end : (w r : List NodeView) (t : Table) → IsLeft w r t → Resolves w r → left t 0 0 ≡ true
@@ -79,19 +61,7 @@ up_to w r before (p ∷ f) i j h d m = elim (member_cases p f i j m) [
     false_if true y h e = absurd (true≢false (sym (h refl) ∙ e))
     false_if false y h e = refl
 
-pub refutation_end : (w r : List NodeView) (t : Table) → IsLeft w r t → 0 < length w → 0 < length r → left t 0 0 ≡ false → HasRefutation w r (length w * length r)
-refutation_end w r t h lw lr lost =
-    let u = up_to w r [] h.struck 0 0 h.refutes h.differ (is_struck (left t 0 0) (member h.struck 0 0) (h.exact 0 0 lw lr) lost) in
-    let k = u.3 in let c = h.count in (u.0, u.1, u.2, omega arith)
-
 -- ---- both
 
 pub ends : (w r : List NodeView) (t : Table) → IsSchema w → IsSchema r → IsLeft w r t → Closed w r (left t) → IsTrue (left t 0 0) ↔ Resolves w r
 ends w r t sw sr h closed = ((λ m. resolves_end w r (left t) closed m), (λ s. kept_end w r t h s))
-
-one_pair : (n m : ℕ) → 0 < n → 0 < m → 1 ≤ n * m
-one_pair zero m ln lm = absurd (omega arith)
-one_pair (suc n) m ln lm = let e : suc n * m ≡ n * m + m = omega arith in omega arith
-
-pub some_pair : (w r : List NodeView) → IsSchema w → IsSchema r → 1 ≤ length w * length r
-some_pair w r sw sr = one_pair (length w) (length r) (some_node w sw) (some_node r sr)

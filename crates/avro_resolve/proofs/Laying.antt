@@ -77,9 +77,6 @@ module _ (met : List (Option ℕ)) (names : List ℕ) where
   abbrev pub AreLeft : ℕ → List (Option ℕ) → Type 0
   AreLeft n boxes = (rank j : ℕ) → box boxes rank ≡ Some j → (n ≤ j) × HasName met names j rank
 
-  pub all_there : (boxes : List (Option ℕ)) → AreLaid met names 0 boxes → AreLeft 0 boxes
-  all_there boxes h rank j e = let f = h.found rank j e in (f.0, f.1.0)
-
   module _ (k name : ℕ) (ek : slice_get names k ≡ Some name) where
     off_unmet : met_at met name ≡ None → (j rank : ℕ) → j ≡ k → HasName met names j rank → ⊥
     off_unmet em j rank e h = none_some rank (named k rank name None (subst (λ (i : ℕ). HasName met names i rank) e h) ek em)

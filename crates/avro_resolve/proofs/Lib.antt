@@ -12,7 +12,6 @@ pub mod Noting
 pub mod PairLists
 pub mod PairLemmas
 pub mod SupportLemmas
-pub mod RowLemmas
 pub mod ListLemmas
 pub mod LinkLemmas
 pub mod Strikes

@@ -1,5 +1,5 @@
 -- Links stay as more of them are noted, and tell by which names places are referred to.
-use Rattle.std.proofs.Common.{◌≡◌, ℕ, suc, ◌+◌, ◌<◌, List, [], ◌∷◌, ◌++◌, take, Option, Some, None, Bool, true, false, length, get_or, refl, sym, ap, subst, ◌∙◌, arith, inl, inr}
+use Rattle.std.proofs.Common.{◌≡◌, ℕ, suc, ◌+◌, ◌<◌, List, [], ◌∷◌, ◌++◌, take, Option, Some, None, length, get_or, refl, sym, ap, subst, ◌∙◌, arith, inl, inr}
 use Rattle.std.specs.Prelude.{All, MatchOption, option_and_then, slice_get, Vec}
 use Rattle.std.specs.declared.alloc.Global.{Global}
 use Rattle.std.specs.List.{AllZip}
@@ -11,7 +11,7 @@ use Rattle.std.proofs.lemmas.Slice.Zip.{AllZip-left, all_zipped_more}
 use Rattle.avro_nodes.specs.Nodes.{FieldView, NodeView, primitive, array, mapping, union, enumeration, fixed, rec}
 use Rattle.avro_schema.specs.declared.index.FieldRanks.{FieldRanks}
 use Rattle.avro_schema.specs.Index.{AreFieldsRanked, AreRanks, IsFieldRanked, IsRank}
-use Rattle.avro_resolve.specs.declared.aliased.Aliased.{Aliased}
+use Rattle.avro_resolve.specs.declared.readable.Aliased.{Aliased}
 use Rattle.avro_resolve.specs.declared.links.Link.{Link}
 use Rattle.avro_resolve.specs.declared.links.Links.{Links}
 use Rattle.avro_resolve.specs.declared.links.Way.{Way}
@@ -25,15 +25,16 @@ use Rattle.avro_resolve.proofs.ListLemmas.{adds_none, adds_such, adds_then}
 -- ---- more is noted
 
 pub notes_none : (Such : Link → ℕ → Type 0) (links : Links) → Notes Such links links
-notes_none Such links = record { adds = adds_none Such links.lists.items; kept = λ number field e. e }
+notes_none Such links = record { adds = adds_none Such links.lists.items; kept = λ number field e. e; unions = refl }
 
 pub notes_such : (This Such : Link → ℕ → Type 0) → ((x : Link) (p : ℕ) → This x p → Such x p) → (xs ys : Links) → Notes This xs ys → Notes Such xs ys
-notes_such This Such this xs ys h = record { adds = adds_such Such This this xs.lists.items ys.lists.items h.adds; kept = h.kept }
+notes_such This Such this xs ys h = record { adds = adds_such Such This this xs.lists.items ys.lists.items h.adds; kept = h.kept; unions = h.unions }
 
 pub notes_then : (This That Such : Link → ℕ → Type 0) → ((x : Link) (p : ℕ) → This x p → Such x p) → ((x : Link) (p : ℕ) → That x p → Such x p) → (xs ys zs : Links) → Notes This xs ys → Notes That ys zs → Notes Such xs zs
 notes_then This That Such this that xs ys zs g h = record {
   adds = adds_then Such This That this that xs.lists.items ys.lists.items zs.lists.items g.adds h.adds;
   kept = λ number field e. h.kept number field (g.kept number field e);
+  unions = h.unions ∙ g.unions;
 }
 
 module _ (old new : Links) (stand : (x : Link) (p : ℕ) → StandsAt old.lists.items x p → StandsAt new.lists.items x p)
@@ -44,19 +45,19 @@ module _ (old new : Links) (stand : (x : Link) (p : ℕ) → StandsAt old.lists.
   pub alias_on : (i index label p : ℕ) → LinkedBy (IsAlias old.aliased.items i index label) old.lists.items i p → LinkedBy (IsAlias new.aliased.items i index label) new.lists.items i p
   alias_on i index label p (x, (number, has, at), a, h) = (x, (number, has, kept number (record { place = i; index = index }) at), a, stand x p h)
 
-  pub field_on : (met : List (Option ℕ)) (aliased : Bool) (i index p : ℕ) (ranks : FieldRanks) → IsFieldLinked met aliased old i index p ranks → IsFieldLinked met aliased new i index p ranks
-  field_on met aliased i index p ranks h = record {
+  pub field_on : (met : Option (List (Option ℕ))) (i index p : ℕ) (ranks : FieldRanks) → IsFieldLinked met old i index p ranks → IsFieldLinked met new i index p ranks
+  field_on met i index p ranks h = record {
     own = λ label e. linked_on (HasLabel label ByName) i p (h.own label e);
-    aliases = λ k d l. alias_on i index (get_or (alias_labels aliased ranks.aliases.items) k d) p (h.aliases k d l);
+    aliases = λ k d l. alias_on i index (get_or (alias_labels met ranks.aliases.items) k d) p (h.aliases k d l);
   }
 
-  pub place_on : (names : List (List ℕ)) (met : List (Option ℕ)) (aliased : Bool) (i : ℕ) (a : NodeView) → IsPlaceLinked names met aliased old i a → IsPlaceLinked names met aliased new i a
-  place_on names met aliased i a (ranks, h) = (
+  pub place_on : (names : List (List ℕ)) (met : Option (List (Option ℕ))) (i : ℕ) (a : NodeView) → IsPlaceLinked names met old i a → IsPlaceLinked names met new i a
+  place_on names met i a (ranks, h) = (
     ranks,
     record {
       contained = λ p e. linked_on (HasLabel 0 OfContents) i p (h.contained p e);
       ranked = h.ranked;
-      fields = λ index f y e g. field_on met aliased i index f.place y (h.fields index f y e g);
+      fields = λ index f y e g. field_on met i index f.place y (h.fields index f y e g);
     },
   )
 
@@ -66,16 +67,16 @@ pub record SameLists (old new : List (Vec Link Global)) : Type 0 where
   pub back : (x : Link) (place : ℕ) → StandsAt new x place → StandsAt old x place
 
 -- what gives a link does so as more fields get numbers
-module _ (old new : List Aliased) (kept : (number : ℕ) (field : Aliased) → slice_get old number ≡ Some field → slice_get new number ≡ Some field) (met : List (Option ℕ)) (aliased : Bool) (x : Link) where
-  pub given_on : (index : ℕ) (y : FieldRanks) (way : Way) → GivenBy met aliased old index y x way → GivenBy met aliased new index y x way
+module _ (old new : List Aliased) (kept : (number : ℕ) (field : Aliased) → slice_get old number ≡ Some field → slice_get new number ≡ Some field) (met : Option (List (Option ℕ))) (x : Link) where
+  pub given_on : (index : ℕ) (y : FieldRanks) (way : Way) → GivenBy met old index y x way → GivenBy met new index y x way
   given_on index y OfContents h = h
   given_on index y ByName h = h
   given_on index y (ByAlias number) h = kept number (record { place = x.asker; index = index }) h
 
-  pub of_field_on : (fields : List FieldView) (ranks : List FieldRanks) (p : ℕ) → IsOfField met aliased old fields ranks x p → IsOfField met aliased new fields ranks x p
+  pub of_field_on : (fields : List FieldView) (ranks : List FieldRanks) (p : ℕ) → IsOfField met old fields ranks x p → IsOfField met new fields ranks x p
   of_field_on fields ranks p (index, f, y, ef, ey, e, h) = (index, f, y, ef, ey, e, given_on index y x.way h)
 
-  pub of_node_on : (names : List (List ℕ)) (a : NodeView) (p : ℕ) → IsOfNode names met aliased old a x p → IsOfNode names met aliased new a x p
+  pub of_node_on : (names : List (List ℕ)) (a : NodeView) (p : ℕ) → IsOfNode names met old a x p → IsOfNode names met new a x p
   of_node_on names a p (inl h) = inl h
   of_node_on names a p (inr (ranks, ranked, h)) = inr (ranks, ranked, of_field_on (fields_of a) ranks p h)
 
@@ -113,7 +114,7 @@ zip_more {X} P xs i x ys y e so_far now =
 abbrev pub IsMetBy : List (List ℕ) → Links → ℕ → FieldView → Type 0
 IsMetBy r links i g = (rank : ℕ) → IsRank r g.name rank → LinkedBy (HasLabel rank ByName) links.lists.items i g.place
 
-pub met_by : (w r : List (List ℕ)) (met : List (Option ℕ)) → Tell w r met → (links : Links) (i : ℕ) (fields : List FieldView) (ranks : List FieldRanks) → AreFieldsRanked w fields ranks → AreFieldsLinked met false links i fields ranks
+pub met_by : (w r : List (List ℕ)) (met : List (Option ℕ)) → Tell w r met → (links : Links) (i : ℕ) (fields : List FieldView) (ranks : List FieldRanks) → AreFieldsRanked w fields ranks → AreFieldsLinked (Some met) links i fields ranks
     → All (IsMetBy r links i) fields
 met_by w r met tell links i fields ranks ranked linked k d l rank er =
     let g = get_or fields k d in
@@ -149,9 +150,9 @@ module _ (r : List (List ℕ)) (links : Links) (j index place : ℕ) where
       let rest : AreRanks r ts xs = cc in
       All-cons (IsSoughtBy r links j index place) t ts (alias_sought t x here (h 0 x (omega arith))) (aliases_sought ts xs rest (λ k d l. h (suc k) d (omega arith)))
 
-pub sought_by : (r : List (List ℕ)) (met : List (Option ℕ)) (links : Links) (j : ℕ) (fields : List FieldView) (ranks : List FieldRanks) → AreFieldsRanked r fields ranks → AreFieldsLinked met true links j fields ranks
+pub sought_by : (r : List (List ℕ)) (links : Links) (j : ℕ) (fields : List FieldView) (ranks : List FieldRanks) → AreFieldsRanked r fields ranks → AreFieldsLinked None links j fields ranks
     → (index : ℕ) (f : FieldView) → slice_get fields index ≡ Some f → All (IsSoughtBy r links j index f.place) (f.name ∷ f.aliases)
-sought_by r met links j fields ranks ranked linked index f ef =
+sought_by r links j fields ranks ranked linked index f ef =
     let x = zip_got (IsFieldRanked r) fields ranks ranked index f ef in
     let is = linked index f x.0 ef x.1 in
     All-cons (IsSoughtBy r links j index f.place) f.name f.aliases (own_sought r links j index f.place f.name x.0.name x.2.name (is.own x.0.name refl)) (aliases_sought r links j index f.place f.aliases x.0.aliases.items x.2.aliases is.aliases)

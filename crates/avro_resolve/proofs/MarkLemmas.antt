@@ -82,6 +82,3 @@ marks_pop m s t ps i j h d same others = record {
   within = λ a b g. h.within a b (member_front ps ((i, j) ∷ []) a b g);
   exact = λ a b k. others a b (subst (λ (n : ℕ). b < n) (sym h.readers) k) ∙ ap (λ x. if a == i && b == j then false else x) (h.exact a b k) ∙ take_at ps i j a b d (same_pair a b i j (a == i && b == j) refl);
 }
-
-pub marks_at : (m n : ℕ) (s : PairSet) (ps : List Pair) → Marks m s ps → m ≡ n → Marks n s ps
-marks_at m n s ps h e = subst (λ (x : ℕ). Marks x s ps) e h

@@ -1,6 +1,6 @@
 -- What the ranks of nodes say of their names and symbols.
 use Rattle.std.proofs.Common.{◌≡◌, ◌<◌, ℕ, List, [], Bool, Some, refl, sym, ◌∙◌, subst, inl, inr, arith}
-use Rattle.std.specs.Prelude.{All, Contains, IsTrue, Option, None, MatchOption, option_map, slice_get, ◌↔◌}
+use Rattle.std.specs.Prelude.{All, Contains, IsTrue, Option, None, MatchOption, slice_get, ◌↔◌}
 use Rattle.std.specs.Option.{IsSomeAnd}
 use Rattle.std.proofs.lemmas.List.Elements.{All-contains, All-nil}
 use Rattle.std.proofs.lemmas.Option.{same_Some}
@@ -11,10 +11,10 @@ use Rattle.avro_schema.specs.declared.index.Index.{Index}
 use Rattle.avro_schema.specs.declared.index.NamedRanks.{NamedRanks}
 use Rattle.avro_schema.specs.declared.index.Ranks.{Ranks}
 use Rattle.avro_schema.specs.declared.index.Ranks.TheVariants.{Unnamed, Fixed, Enum, Rec}
-use Rattle.avro_schema.specs.Index.{AreFieldsRanked, AreRisingRanks, IsIndex, IsNamedRanked, IsRank, IsRanked, IsUnnamed}
+use Rattle.avro_schema.specs.Index.{AreRisingRanks, IsIndex, IsNamedRanked, IsRank, IsRanked, IsUnnamed}
 use Rattle.avro_resolve.specs.declared.sides.Side.{Side}
 use Rattle.avro_resolve.specs.Resolution.{NameMatch}
-use Rattle.avro_resolve.specs.Inside.Agreeing.{field_ranks, fields_of, named_of, named_ranks, symbols_of, symbol_ranks, TellsMatch}
+use Rattle.avro_resolve.specs.Inside.Agreeing.{fields_of, named_of, named_ranks, symbols_of, symbol_ranks, TellsMatch}
 use Rattle.avro_resolve.specs.Inside.Meeting.{Tell, met_at}
 use Rattle.avro_resolve.specs.Inside.Places.{Names}
 use Rattle.avro_resolve.specs.Inside.Sides.{IsSide, names_of, nodes_of}
@@ -67,12 +67,6 @@ module _ (names : List (List ℕ)) where
   no_ranks : AreRisingRanks names [] []
   no_ranks = record { rise = λ k l. absurd (omega arith); each = λ k d l. absurd (omega arith); only = λ k d l. absurd (omega arith) }
 
-  none_by : (v : Ranks) → IsUnnamed v → AreFieldsRanked names [] (field_ranks v)
-  none_by Unnamed h = tt
-  none_by (Fixed k) h = absurd h
-  none_by (Enum k t) h = absurd h
-  none_by (Rec k t) h = absurd h
-
   unnamed : (v : Ranks) → IsUnnamed v → AreRisingRanks names [] (symbol_ranks v)
   unnamed Unnamed h = no_ranks
   unnamed (Fixed k) h = absurd h
@@ -97,29 +91,6 @@ module _ (names : List (List ℕ)) where
   symbols_ranked (rec n fs x) (Fixed k) h = absurd h
   symbols_ranked (rec n fs x) (Enum k t) h = absurd h
   symbols_ranked (rec n fs x) (Rec k t) h = no_ranks
-
-  -- the ranks of a node's fields
-  fields_by : (a : NodeView) (v : Ranks) → IsRanked names a v → AreFieldsRanked names (fields_of a) (field_ranks v)
-  fields_by (primitive k x) v h = none_by v h
-  fields_by (array p x) v h = none_by v h
-  fields_by (mapping p x) v h = none_by v h
-  fields_by (union ps) v h = none_by v h
-  fields_by (enumeration n s f x) Unnamed h = absurd h
-  fields_by (enumeration n s f x) (Fixed k) h = absurd h
-  fields_by (enumeration n s f x) (Enum k t) h = tt
-  fields_by (enumeration n s f x) (Rec k t) h = absurd h
-  fields_by (fixed n s x) Unnamed h = absurd h
-  fields_by (fixed n s x) (Fixed k) h = tt
-  fields_by (fixed n s x) (Enum k t) h = absurd h
-  fields_by (fixed n s x) (Rec k t) h = absurd h
-  fields_by (rec n fs x) Unnamed h = absurd h
-  fields_by (rec n fs x) (Fixed k) h = absurd h
-  fields_by (rec n fs x) (Enum k t) h = absurd h
-  fields_by (rec n fs x) (Rec k t) h = h.1
-
-  pub fields_ranked : (o : Option NodeView) (fields : List FieldView) (v : Ranks) → option_map fields_of o ≡ Some fields → ((a : NodeView) → o ≡ Some a → IsRanked names a v) → AreFieldsRanked names fields (field_ranks v)
-  fields_ranked None fields v e h = absurd cc
-  fields_ranked (Some a) fields v e h = subst (λ (fs : List FieldView). AreFieldsRanked names fs (field_ranks v)) (same_Some (fields_of a) fields e) (fields_by a v (h a refl))
 
 -- the places that the fields of a node name
 pub fields_named : (n : ℕ) (a : NodeView) → Names n a → All (λ f. f.place < n) (fields_of a)

@@ -1,12 +1,12 @@
 -- Two lists of names met, and what their ranks tell.
-use Rattle.std.proofs.Common.{◌≡◌, ℕ, zero, suc, ◌+◌, ◌<◌, ◌≤◌, List, [], ◌∷◌, ◌++◌, length, take, get_or, Some, refl, sym, ap, ◌∙◌, subst, inl, inr, arith}
-use Rattle.std.specs.Prelude.{All, Any, Contains, Option, None, MatchOption, String, slice_get, string_bytes, ◌↔◌}
-use Rattle.std.specs.Option.{IsSomeAnd}
+use Rattle.std.proofs.Common.{◌≡◌, ℕ, zero, suc, ◌+◌, ◌<◌, ◌≤◌, List, [], ◌∷◌, ◌++◌, length, take, get_or, Some, true, refl, sym, ap, ◌∙◌, subst, inl, inr, true≢false, arith}
+use Rattle.std.specs.Prelude.{All, Any, Contains, Option, None, MatchOption, String, slice_get, string_bytes, nat_eq, ◌↔◌}
+use Rattle.std.specs.Option.{IsSomeAnd, option_eq}
 use Rattle.std.specs.declared.alloc.Global.{Global}
 use Rattle.avro_nodes.specs.Nodes.{texts_view}
 use Rattle.avro_resolve.proofs.ViewLemmas.{view_got}
 use Rattle.std.specs.declared.cmp.Ordering.TheVariants.{Less}
-use Rattle.std.proofs.lemmas.Bool.{cases_lt}
+use Rattle.std.proofs.lemmas.Bool.{cases_lt, eq-eqb, eqb-true}
 use Rattle.std.proofs.lemmas.Cmp.{nat_list_cmp_total}
 use Rattle.std.proofs.lemmas.List.{get_or_default, get_or-map, length-map, take_more}
 use Rattle.std.proofs.lemmas.List.Elements.{All-contains, Contains-get_or}
@@ -63,6 +63,14 @@ module _ (w r : List (List ℕ)) (i from at : ℕ) (name : List ℕ) (within : i
       subst (λ (xs : List (List ℕ)). AreMet xs r (met ++ o ∷ [])) (sym (take_more w i [] within ∙ ap (λ (x : List ℕ). take i w ++ x ∷ []) named)) (all_zipped_more (Meets r) (take i w) met name o h (meets rise least o told))
 
 -- ---- what ranks tell
+
+-- a rank that is met compares as it is
+pub met_same : (met : Option ℕ) (rank : ℕ) → option_eq nat_eq met (Some rank) ≡ true → met ≡ Some rank
+met_same None rank e = absurd (true≢false (sym e))
+met_same (Some other) rank e = ap (λ (k : ℕ). Some k) (eqb-true other rank e)
+
+pub same_met : (met : Option ℕ) (rank : ℕ) → met ≡ Some rank → option_eq nat_eq met (Some rank) ≡ true
+same_met met rank e = subst (λ (o : Option ℕ). option_eq nat_eq o (Some rank) ≡ true) (sym e) (eq-eqb rank rank refl)
 
 -- a name has one rank
 pub one_rank : (r : List (List ℕ)) (b c : ℕ) (x : List ℕ) → Rise r → slice_get r b ≡ Some x → slice_get r c ≡ Some x → c ≡ b

@@ -46,7 +46,7 @@ both_in w r i j p q None y ww wr e f h = absurd h
 both_in w r i j p q (Some a) None ww wr e f h = absurd h
 both_in w r i j p q (Some a) (Some b) ww wr e f h = asks_in (length w) (length r) i j p q a b (at_place w (Names (length w)) i a ww e) (at_place r (Names (length r)) j b wr f) (slice_get_within w i a e) (slice_get_within r j b f) h
 
-asked_within : (w r : List NodeView) (i j p q : ℕ) → IsWhole w → IsWhole r → Asks w r i j p q → (p < length w) × (q < length r)
+pub asked_within : (w r : List NodeView) (i j p q : ℕ) → IsWhole w → IsWhole r → Asks w r i j p q → (p < length w) × (q < length r)
 unfolding Asks
 asked_within w r i j p q ww wr h = both_in w r i j p q (slice_get w i) (slice_get r j) ww wr refl refl h
 

@@ -10,8 +10,8 @@ use Rattle.std.proofs.lemmas.Slice.Eq.{bytes_eq-Decides}
 use Rattle.avro_nodes.specs.Nodes.{FieldView, NodeView, primitive, array, mapping, union, enumeration, fixed, rec}
 use Rattle.avro_schema.specs.declared.index.FieldRanks.{FieldRanks}
 use Rattle.avro_schema.specs.Index.{IsFieldRanked}
-use Rattle.avro_resolve.specs.declared.aliased.Aliased.{Aliased}
-use Rattle.avro_resolve.specs.declared.striking.Askers.{Askers}
+use Rattle.avro_resolve.specs.declared.readable.Aliased.{Aliased}
+use Rattle.avro_resolve.specs.declared.links.Links.{Links}
 use Rattle.avro_resolve.specs.declared.links.Link.{Link}
 use Rattle.avro_resolve.specs.declared.links.Way.{Way}
 use Rattle.avro_resolve.specs.declared.links.Way.TheVariants.{OfContents, ByName, ByAlias}
@@ -137,10 +137,10 @@ code_some (Some z) p e = let same : z ≡ p = omega (arith, e) in ap Some same
 
 -- ---- what the links say
 
-module _ (names : List (List ℕ)) (met : List (Option ℕ)) (aliased : Bool) (numbered : List Aliased) (a : NodeView) (x : Link) (place : ℕ) where
-  of_contents : x.way ≡ OfContents → IsOfNode names met aliased numbered a x place → contained_of a ≡ Some place
+module _ (names : List (List ℕ)) (met : Option (List (Option ℕ))) (numbered : List Aliased) (a : NodeView) (x : Link) (place : ℕ) where
+  of_contents : x.way ≡ OfContents → IsOfNode names met numbered a x place → contained_of a ≡ Some place
   of_contents e (inl h) = h.1
-  of_contents e (inr (ranks, ranked, (index, f, y, ef, ey, at, given))) = absurd (subst (GivenBy met aliased numbered index y x) e given)
+  of_contents e (inr (ranks, ranked, (index, f, y, ef, ey, at, given))) = absurd (subst (GivenBy met numbered index y x) e given)
 
   -- the field that gives the link
   record Field (way : Way) : Type 0 where
@@ -150,9 +150,9 @@ module _ (names : List (List ℕ)) (met : List (Option ℕ)) (aliased : Bool) (n
     there : slice_get (fields_of a) index ≡ Some field
     ranked : IsFieldRanked names field ranks
     at : field.place ≡ place
-    given : GivenBy met aliased numbered index ranks x way
+    given : GivenBy met numbered index ranks x way
 
-  of_field : (way : Way) → (way ≡ OfContents → ⊥) → x.way ≡ way → IsOfNode names met aliased numbered a x place → Field way
+  of_field : (way : Way) → (way ≡ OfContents → ⊥) → x.way ≡ way → IsOfNode names met numbered a x place → Field way
   of_field way n e (inl h) = absurd (n (sym e ∙ h.0))
   of_field way n e (inr (ranks, ranked, (index, f, y, ef, ey, at, given))) =
       let here = zip_got (IsFieldRanked names) (fields_of a) ranks ranked index f ef in
@@ -163,16 +163,16 @@ module _ (names : List (List ℕ)) (met : List (Option ℕ)) (aliased : Bool) (n
         there = ef;
         ranked = subst (IsFieldRanked names f) (same_Some here.0 y (sym here.1 ∙ ey)) here.2;
         at = at;
-        given = subst (GivenBy met aliased numbered index y x) e given;
+        given = subst (GivenBy met numbered index y x) e given;
       }
 
-module _ (sides : Sides) (is : IsSides sides) (above beside : Askers) (sources : List (Vec ℕ Global)) (askers : AreAskers sides above beside sources) (p q : ℕ) (x y : Link) (R : Pairs) (out : R p q ≡ false)
+module _ (sides : Sides) (is : IsSides sides) (above beside : Links) (sources : List (Vec ℕ Global)) (askers : AreAskers sides above beside sources) (p q : ℕ) (x y : Link) (R : Pairs) (out : R p q ≡ false)
     (a b : NodeView) (ea : slice_get (rows sides) x.asker ≡ Some a) (eb : slice_get (columns sides) y.asker ≡ Some b) (fits : Fits R x.asker y.asker a b) (one : x.label ≡ y.label) where
   abbrev Mine : Way → Type 0
-  Mine way = Field (names_of sides.writer) sides.met.ranks.items false above.links.aliased.items a x p way
+  Mine way = Field (names_of sides.writer) (Some sides.met.ranks.items) above.aliased.items a x p way
 
   abbrev Theirs : Way → Type 0
-  Theirs way = Field (names_of sides.reader) sides.met.ranks.items true beside.links.aliased.items b y q way
+  Theirs way = Field (names_of sides.reader) None beside.aliased.items b y q way
 
   by_names : Mine ByName → Theirs ByName → ⊥
   by_names m t =
@@ -188,20 +188,20 @@ module _ (sides : Sides) (is : IsSides sides) (above beside : Askers) (sources :
   by_alias number t told =
       let field : Aliased = record { place = y.asker; index = t.index } in
       let at : field_at (columns sides) field ≡ Some t.field = ap (option_and_then (λ (c : NodeView). slice_get (fields_of c) t.index)) eb ∙ t.there in
-      let entry = entry_told (rows sides) (columns sides) beside.links.aliased.items sources askers.sources x.asker number a field ea t.given t.field at in
+      let entry = entry_told (rows sides) (columns sides) beside.aliased.items sources askers.sources x.asker number a field ea t.given t.field at in
       let from = code_some (source_place (fields_of a) t.field) p (sym entry ∙ told) in
       field_needed R x.asker y.asker p q t.index a b t.field t.there from t.at out fits
 
-  by_ways : (wx wy : Way) → x.way ≡ wx → y.way ≡ wy → GoTogether sources p x.asker wx wy → IsOfNode (names_of sides.writer) sides.met.ranks.items false above.links.aliased.items a x p
-      → IsOfNode (names_of sides.reader) sides.met.ranks.items true beside.links.aliased.items b y q → ⊥
-  by_ways OfContents OfContents ex ey asks m t = contents_needed R x.asker y.asker p q a b (of_contents (names_of sides.writer) sides.met.ranks.items false above.links.aliased.items a x p ex m)
-      (of_contents (names_of sides.reader) sides.met.ranks.items true beside.links.aliased.items b y q ey t) out fits
-  by_ways ByName ByName ex ey asks m t = by_names (of_field (names_of sides.writer) sides.met.ranks.items false above.links.aliased.items a x p ByName (λ e. absurd cc) ex m)
-      (of_field (names_of sides.reader) sides.met.ranks.items true beside.links.aliased.items b y q ByName (λ e. absurd cc) ey t)
-  by_ways ByName (ByAlias number) ex ey asks m t = by_alias number (of_field (names_of sides.reader) sides.met.ranks.items true beside.links.aliased.items b y q (ByAlias number) (λ e. absurd cc) ey t) asks
+  by_ways : (wx wy : Way) → x.way ≡ wx → y.way ≡ wy → GoTogether sources p x.asker wx wy → IsOfNode (names_of sides.writer) (Some sides.met.ranks.items) above.aliased.items a x p
+      → IsOfNode (names_of sides.reader) None beside.aliased.items b y q → ⊥
+  by_ways OfContents OfContents ex ey asks m t = contents_needed R x.asker y.asker p q a b (of_contents (names_of sides.writer) (Some sides.met.ranks.items) above.aliased.items a x p ex m)
+      (of_contents (names_of sides.reader) None beside.aliased.items b y q ey t) out fits
+  by_ways ByName ByName ex ey asks m t = by_names (of_field (names_of sides.writer) (Some sides.met.ranks.items) above.aliased.items a x p ByName (λ e. absurd cc) ex m)
+      (of_field (names_of sides.reader) None beside.aliased.items b y q ByName (λ e. absurd cc) ey t)
+  by_ways ByName (ByAlias number) ex ey asks m t = by_alias number (of_field (names_of sides.reader) None beside.aliased.items b y q (ByAlias number) (λ e. absurd cc) ey t) asks
   by_ways _ _ ex ey asks m t = absurd asks
 
-pub rests_by_links : (sides : Sides) → IsSides sides → (above beside : Askers) (sources : List (Vec ℕ Global)) → AreAskers sides above beside sources → (p q : ℕ) (x y : Link) → StandsAt above.links.lists.items x p → StandsAt beside.links.lists.items y q
+pub rests_by_links : (sides : Sides) → IsSides sides → (above beside : Links) (sources : List (Vec ℕ Global)) → AreAskers sides above beside sources → (p q : ℕ) (x y : Link) → StandsAt above.lists.items x p → StandsAt beside.lists.items y q
     → x.label ≡ y.label → MayAsk sources p x y → Rests (rows sides) (columns sides) x.asker y.asker p q
 rests_by_links sides is above beside sources askers p q x y hx hy one asks R out s =
     let h = nodes_of_pair (rows sides) (columns sides) R x.asker y.asker s in

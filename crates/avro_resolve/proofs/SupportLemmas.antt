@@ -1,6 +1,6 @@
--- The branches of a union.
-use Rattle.std.proofs.Common.{◌≡◌, ◌<◌, ◌≤◌, ℕ, length, refl, arith, List, [], ◌∷◌, Option, Some, None, Bool, false, true≢false, map, get_or, is_some, sym, subst, ◌∙◌}
-use Rattle.std.specs.Prelude.{All, Any, IfSome, IsSome, IsTrue, MatchOption, option_map, ◌↔◌}
+-- Fields that are read from their sources, or by their defaults.
+use Rattle.std.proofs.Common.{◌≡◌, ◌<◌, ℕ, refl, arith, List, [], ◌∷◌, Option, Some, None, Bool, map, is_some, sym, subst, ◌∙◌}
+use Rattle.std.specs.Prelude.{All, IsSome, IsTrue, MatchOption, option_map, ◌↔◌}
 use Rattle.std.proofs.lemmas.Option.{same_Some}
 use Rattle.avro_nodes.specs.Nodes.{FieldView, field_view}
 use Rattle.avro_resolve.specs.Asking.{source_place}
@@ -9,20 +9,6 @@ use Rattle.avro_resolve.proofs.Monotone.{named_in}
 use Rattle.avro_resolve.proofs.ViewLemmas.{all_of}
 use Rattle.std.proofs.lemmas.List.Elements.{All-map, All-nil}
 use Rattle.avro_nodes.specs.declared.node.Field.{Field}
-use Rattle.avro_resolve.proofs.ListLemmas.{get_or_any}
-
-pub found_at : (R : ℕ → Bool) (places : List ℕ) (at : ℕ) → (at < length places) × IsTrue (R (get_or places at 0)) → Any (λ p. IsTrue (R p)) places
-found_at R places at h = (at, get_or places at 0, h.0, get_or_any places at (get_or places at 0) 0 h.0, h.1)
-
-pub found_any : (R : ℕ → Bool) (places : List ℕ) (o : Option ℕ) (b : Bool) → b ≡ is_some o → IfSome o (λ at. (at < length places) × IsTrue (R (get_or places at 0)))
-    → (o ≡ None → (k d : ℕ) → 0 ≤ k → k < length places → R (get_or places k d) ≡ false) → IsTrue b ↔ Any (λ p. IsTrue (R p)) places
-found_any R places None b e found none = (
-  (λ h. absurd (true≢false (sym h ∙ e))),
-  (λ (k, x, l, same, h). absurd (true≢false (sym h ∙ subst (λ (p : ℕ). R p ≡ false) same (none refl k x (omega arith) l)))),
-)
-found_any R places (Some at) b e found none = ((λ h. found_at R places at found), (λ h. e))
-
--- ---- a field that is read from its source, or by its default
 
 pub place_within : (n : ℕ) (fields : List FieldView) (f : FieldView) (o : Option FieldView) (place : ℕ) → All (λ g. g.place < n) fields → source fields f ≡ o → Some place ≡ option_map (λ g. g.place) o → place < n
 place_within n fields f None place h e s = absurd cc

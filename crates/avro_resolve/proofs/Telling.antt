@@ -10,8 +10,8 @@ use Rattle.std.proofs.lemmas.Option.{get_or_from_slice_get, same_Some, slice_get
 use Rattle.std.proofs.lemmas.Slice.Eq.{bytes_eq-Decides}
 use Rattle.serde_json.specs.Data.{Members}
 use Rattle.avro_nodes.specs.Nodes.{FieldView, NamedView, NodeView, primitive, array, mapping, union, enumeration, fixed, rec}
-use Rattle.avro_resolve.specs.declared.aliased.Aliased.{Aliased}
-use Rattle.avro_resolve.specs.declared.striking.Askers.{Askers}
+use Rattle.avro_resolve.specs.declared.readable.Aliased.{Aliased}
+use Rattle.avro_resolve.specs.declared.links.Links.{Links}
 use Rattle.avro_resolve.specs.declared.links.Link.{Link}
 use Rattle.avro_resolve.specs.declared.links.Way.{Way}
 use Rattle.avro_resolve.specs.declared.links.Way.TheVariants.{OfContents, ByName, ByAlias}
@@ -164,17 +164,17 @@ module _ (sources : List (Vec ℕ Global)) (p : ℕ) where
   meet : (xs ys : List Link) (i j : ℕ) → Meet xs ys i j ⊎ (Meet xs ys i j → ⊥)
   meet xs ys i j = elim (search_list (Above ys i j) (λ x. both (same_place x.asker i) (is_beside ys j x)) xs) [ inl h ↦ inl h | inr n ↦ inr (λ h. n h.0 h.1 h.2) ]
 
-module _ (sides : Sides) (is : IsSides sides) (above beside : Askers) (sources : List (Vec ℕ Global)) (askers : AreAskers sides above beside sources) (i j p q : ℕ) where
+module _ (sides : Sides) (is : IsSides sides) (above beside : Links) (sources : List (Vec ℕ Global)) (askers : AreAskers sides above beside sources) (i j p q : ℕ) where
   abbrev Listed : Type 0
-  Listed = ((j ≡ q) × StandsAt above.unions.items i p) ⊎ (((i ≡ p) × StandsAt beside.unions.items j q) ⊎ Meet sources p (list_at above.links.lists.items p) (list_at beside.links.lists.items q) i j)
+  Listed = ((j ≡ q) × StandsAt above.unions.items i p) ⊎ (((i ≡ p) × StandsAt beside.unions.items j q) ⊎ Meet sources p (list_at above.lists.items p) (list_at beside.lists.items q) i j)
 
-  joined : (x y : ℕ) (P Q : Link → Type 0) → ((l m : Link) → l.asker ≡ i → P l → Q m → (l.label ≡ m.label) × MayAsk sources p l m) → LinkedBy P above.links.lists.items i x → LinkedBy Q beside.links.lists.items j y → x ≡ p → y ≡ q → Listed
-  joined x y P Q same (l, le, la, ls) (m, me, ma, ms) ep eq = inr (inr (l, subst (λ (z : ℕ). StandsAt above.links.lists.items l z) ep ls, (la, (m, subst (λ (z : ℕ). StandsAt beside.links.lists.items m z) eq ms, (ma, same l m la le me)))))
+  joined : (x y : ℕ) (P Q : Link → Type 0) → ((l m : Link) → l.asker ≡ i → P l → Q m → (l.label ≡ m.label) × MayAsk sources p l m) → LinkedBy P above.lists.items i x → LinkedBy Q beside.lists.items j y → x ≡ p → y ≡ q → Listed
+  joined x y P Q same (l, le, la, ls) (m, me, ma, ms) ep eq = inr (inr (l, subst (λ (z : ℕ). StandsAt above.lists.items l z) ep ls, (la, (m, subst (λ (z : ℕ). StandsAt beside.lists.items m z) eq ms, (ma, same l m la le me)))))
 
   together : (l m : Link) (v w : Way) → l.way ≡ v → m.way ≡ w → GoTogether sources p l.asker v w → MayAsk sources p l m
   together l m v w e f h = subst (λ (z : Way). GoTogether sources p l.asker z m.way) (sym e) (subst (λ (z : Way). GoTogether sources p l.asker v z) (sym f) h)
 
-  contained : (x y : ℕ) → LinkedBy (HasLabel 0 OfContents) above.links.lists.items i x → LinkedBy (HasLabel 0 OfContents) beside.links.lists.items j y → (p ≡ x) × (q ≡ y) → Listed
+  contained : (x y : ℕ) → LinkedBy (HasLabel 0 OfContents) above.lists.items i x → LinkedBy (HasLabel 0 OfContents) beside.lists.items j y → (p ≡ x) × (q ≡ y) → Listed
   contained x y g h e = joined x y (HasLabel 0 OfContents) (HasLabel 0 OfContents) (λ l m la a b. (a.0 ∙ sym b.0, together l m OfContents OfContents a.1 b.1 tt)) g h (sym e.0) (sym e.1)
 
   of_branch : (bs : List ℕ) → slice_get (columns sides) j ≡ Some (union bs) → (p ≡ i) × Contains bs q → Listed
@@ -182,25 +182,25 @@ module _ (sides : Sides) (is : IsSides sides) (above beside : Askers) (sources :
 
   module _ (a b : NodeView) (ea : slice_get (rows sides) i ≡ Some a) (eb : slice_get (columns sides) j ≡ Some b) where
     -- a link of one of the aliases by which the field is read
-    of_alias : (index : ℕ) (f : FieldView) → slice_get (fields_of b) index ≡ Some f → source_place (fields_of a) f ≡ Some p → (l : Link) → l.asker ≡ i → (way : Way) → IsOf beside.links.aliased.items j index way
+    of_alias : (index : ℕ) (f : FieldView) → slice_get (fields_of b) index ≡ Some f → source_place (fields_of a) f ≡ Some p → (l : Link) → l.asker ≡ i → (way : Way) → IsOf beside.aliased.items j index way
         → GoTogether sources p l.asker ByName way
     of_alias index f ef s l la OfContents of = of
     of_alias index f ef s l la ByName of = tt
     of_alias index f ef s l la (ByAlias number) of =
         let field : Aliased = record { place = j; index = index } in
         let at : field_at (columns sides) field ≡ Some f = ap (option_and_then (λ (c : NodeView). slice_get (fields_of c) index)) eb ∙ ef in
-        let told : code_at sources i number ≡ code (source_place (fields_of a) f) = entry_told (rows sides) (columns sides) beside.links.aliased.items sources askers.sources i number a field ea of f at in
+        let told : code_at sources i number ≡ code (source_place (fields_of a) f) = entry_told (rows sides) (columns sides) beside.aliased.items sources askers.sources i number a field ea of f at in
         ap (λ (x : ℕ). code_at sources x number) la ∙ told ∙ ap code s
 
     of_field : (index : ℕ) (f : FieldView) → slice_get (fields_of b) index ≡ Some f → (o : Option FieldView) → source (fields_of a) f ≡ o → option_map (λ (g : FieldView). g.place) o ≡ Some p → f.place ≡ q
-        → All (IsMetBy (names_of sides.reader) above.links i) (fields_of a) → All (IsSoughtBy (names_of sides.reader) beside.links j index f.place) (f.name ∷ f.aliases) → Listed
+        → All (IsMetBy (names_of sides.reader) above i) (fields_of a) → All (IsSoughtBy (names_of sides.reader) beside j index f.place) (f.name ∷ f.aliases) → Listed
     of_field index f ef None e s at mine theirs = absurd cc
     of_field index f ef (Some g) e s at mine theirs =
         let names = f.name ∷ f.aliases in
-        let own : IsMetBy (names_of sides.reader) above.links i g = named_in (IsMetBy (names_of sides.reader) above.links i) g names (fields_of a) mine e in
-        let sought = All-contains (IsSoughtBy (names_of sides.reader) beside.links j index f.place) names g.name theirs (name_found g names (fields_of a) e) in
+        let own : IsMetBy (names_of sides.reader) above i g = named_in (IsMetBy (names_of sides.reader) above i) g names (fields_of a) mine e in
+        let sought = All-contains (IsSoughtBy (names_of sides.reader) beside j index f.place) names g.name theirs (name_found g names (fields_of a) e) in
         let from : source_place (fields_of a) f ≡ Some p = ap (option_map (λ (x : FieldView). x.place)) e ∙ s in
-        joined g.place f.place (HasLabel sought.0 ByName) (Seeks beside.links.aliased.items j index sought.0) (λ l m la x y. (x.0 ∙ sym y.0, together l m ByName m.way x.1 refl (of_alias index f ef from l la m.way y.1)))
+        joined g.place f.place (HasLabel sought.0 ByName) (Seeks beside.aliased.items j index sought.0) (λ l m la x y. (x.0 ∙ sym y.0, together l m ByName m.way x.1 refl (of_alias index f ef from l la m.way y.1)))
         (own sought.0 sought.1) sought.2 (same_Some g.place p s) at
 
   of_fields : (k l : NamedView) (fs gs : List FieldView) (x y : Members) → slice_get (rows sides) i ≡ Some (rec k fs x) → slice_get (columns sides) j ≡ Some (rec l gs y) → Any (λ f. (source_place fs f ≡ Some p) × (f.place ≡ q)) gs → Listed
@@ -209,8 +209,8 @@ module _ (sides : Sides) (is : IsSides sides) (above beside : Askers) (sources :
       let mine = askers.writer.links.named i (rec k fs x) ea in let theirs = askers.reader.links.named j (rec l gs y) eb in
       let got : slice_get gs index ≡ Some f = slice_get-get_or gs index f within ∙ ap (λ (z : FieldView). Some z) ef in
       of_field (rec k fs x) (rec l gs y) ea eb index f got (source fs f) refl s at
-      (met_by w r met (tell w r met is.met is.reader.index.names.rise) above.links i fs mine.0 mine.1.ranked mine.1.fields)
-      (sought_by r met beside.links j gs theirs.0 theirs.1.ranked theirs.1.fields index f got)
+      (met_by w r met (tell w r met is.met is.reader.index.names.rise) above i fs mine.0 mine.1.ranked mine.1.fields)
+      (sought_by r beside j gs theirs.0 theirs.1.ranked theirs.1.fields index f got)
 
   listed : (a b : NodeView) → slice_get (rows sides) i ≡ Some a → slice_get (columns sides) j ≡ Some b → AsksFor i j a b p q → Listed
   listed (union bs) b ea eb h = inl (sym h.1, All-contains (StandsAt above.unions.items i) bs p (askers.writer.unions.named i (union bs) ea) h.0)
@@ -231,12 +231,12 @@ module _ (sides : Sides) (is : IsSides sides) (above beside : Askers) (sources :
   either (inr m) (inr n) = inr (λ h. elim h [ inl x ↦ m x | inr y ↦ n y ])
 
   is_listed : Listed ⊎ (Listed → ⊥)
-  is_listed = either (both (same_place j q) (stands (list_at above.unions.items p) i)) (either (both (same_place i p) (stands (list_at beside.unions.items q) j)) (meet sources p (list_at above.links.lists.items p) (list_at beside.links.lists.items q) i j))
+  is_listed = either (both (same_place j q) (stands (list_at above.unions.items p) i)) (either (both (same_place i p) (stands (list_at beside.unions.items q) j)) (meet sources p (list_at above.lists.items p) (list_at beside.lists.items q) i j))
 
   -- the pairs of what is listed are settled
   abbrev Seen : Table → List Pair → Type 0
   Seen v qs = All (λ x. Settled (rows sides) (columns sides) v qs x q) (list_at above.unions.items p) × All (Settled (rows sides) (columns sides) v qs p) (list_at beside.unions.items q)
-      × Joins sources p (Settled (rows sides) (columns sides) v qs) (list_at above.links.lists.items p) (list_at beside.links.lists.items q)
+      × Joins sources p (Settled (rows sides) (columns sides) v qs) (list_at above.lists.items p) (list_at beside.lists.items q)
 
   looked : (v : Table) (qs : List Pair) → Seen v qs → Listed → Settled (rows sides) (columns sides) v qs i j
   looked v qs seen (inl (e, s)) = subst (λ (y : ℕ). Settled (rows sides) (columns sides) v qs i y) (sym e) (All-contains (λ x. Settled (rows sides) (columns sides) v qs x q) (list_at above.unions.items p) i seen.0 s)
@@ -255,9 +255,9 @@ module _ (sides : Sides) (is : IsSides sides) (above beside : Askers) (sources :
   ]
 
 -- once all that is listed was looked at, all pairs are settled without the pair that was told
-pub told : (sides : Sides) → IsSides sides → (above beside : Askers) (sources : List (Vec ℕ Global)) → AreAskers sides above beside sources → (p q : ℕ) (v : Table) (qs : List Pair) → AllSettled (rows sides) (columns sides) v (qs ++ (p, q) ∷ [])
+pub told : (sides : Sides) → IsSides sides → (above beside : Links) (sources : List (Vec ℕ Global)) → AreAskers sides above beside sources → (p q : ℕ) (v : Table) (qs : List Pair) → AllSettled (rows sides) (columns sides) v (qs ++ (p, q) ∷ [])
     → All (λ x. Settled (rows sides) (columns sides) v qs x q) (list_at above.unions.items p) → All (Settled (rows sides) (columns sides) v qs p) (list_at beside.unions.items q)
-    → Joins sources p (Settled (rows sides) (columns sides) v qs) (list_at above.links.lists.items p) (list_at beside.links.lists.items q) → AllSettled (rows sides) (columns sides) v qs
+    → Joins sources p (Settled (rows sides) (columns sides) v qs) (list_at above.lists.items p) (list_at beside.lists.items q) → AllSettled (rows sides) (columns sides) v qs
 told sides is above beside sources askers p q v qs before unions others links i j li lj = told_one sides is above beside sources askers i j p q v qs li lj (before i j li lj) (unions, others, links)
 
 -- nothing asks for what is no pair of places

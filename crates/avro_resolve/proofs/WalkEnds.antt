@@ -5,9 +5,9 @@ use Rattle.avro_nodes.specs.Nodes.{NodeView}
 use Rattle.avro_resolve.specs.Resolution.{Closed, Resolves}
 use Rattle.avro_resolve.specs.Witnesses.{Pair, member, RefutesAfter, Differ, HasClosedSet, HasRefutation}
 use Rattle.avro_resolve.specs.Asking.{HoldsAsked, at_roots, asked_by, AreReached}
-use Rattle.avro_resolve.specs.declared.walk.Walk.{Walk}
-use Rattle.avro_resolve.specs.declared.walk.Answer.{Answer}
-use Rattle.avro_resolve.specs.declared.walk.Answer.TheVariants.{Yes, No, Unfinished}
+use Rattle.avro_resolve.specs.declared.recursion.Walk.{Walk}
+use Rattle.avro_resolve.specs.declared.recursion.Answer.{Answer}
+use Rattle.avro_resolve.specs.declared.recursion.Answer.TheVariants.{Yes, No, Unfinished}
 use Rattle.avro_resolve.specs.Inside.Walking.{Good, Grown, HasGrown, Tells, Shows}
 use Rattle.avro_resolve.proofs.WalkSteps.{bounded}
 use Rattle.avro_resolve.proofs.PairLists.{member-nil, refuted}
@@ -55,19 +55,22 @@ from_none w r s t e f g = subst (λ (x : List Pair). Grown w r x [] t.assumed.it
 
 module _ (w r : List NodeView) (s t : Walk) (e : s.assumed.items ≡ []) (f : s.failed.items ≡ []) where
   abbrev Told : Answer → Type 0
-  Told answer = Tells w r 0 s t (IsTrue (member t.assumed.items 0 0)) ((t.assumed.items ≡ s.assumed.items) × IsTrue (member t.failed.items 0 0)) answer
+  Told answer = Tells w r 0 s.assumed.items s.failed.items t (IsTrue (member t.assumed.items 0 0)) ((t.assumed.items ≡ s.assumed.items) × IsTrue (member t.failed.items 0 0)) answer
 
-  pub shown : (answer : Answer) → Told answer → Shows w r t.visits answer
+  shown : (answer : Answer) → Told answer → Shows w r t.visits answer
   shown Yes h = let l = h.0.good.at_least in yes_shown w r t.assumed.items t.failed.items t.visits (from_none w r s t e f h.1) h.2 (omega arith)
   shown No h = let l = h.0.good.at_least in no_shown w r t.failed.items t.visits h.0.good.refutes h.0.good.failed_differ h.2.1 (omega arith)
   shown Unfinished h = h.1
 
-  pub at_most : (answer : Answer) → Told answer → (ps : List Pair) → HoldsAsked w r ps → t.visits ≤ length ps * length ps
+  at_most : (answer : Answer) → Told answer → (ps : List Pair) → HoldsAsked w r ps → t.visits ≤ length ps * length ps
   at_most Yes h ps holds = bounded w r t.assumed.items t.failed.items t.visits h.0.good ps holds
   at_most No h ps holds = bounded w r t.assumed.items t.failed.items t.visits h.0.good ps holds
   at_most Unfinished h ps holds = bounded w r t.assumed.items t.failed.items t.visits h.0 ps holds
 
-  pub at_least : (answer : Answer) → Told answer → 1 ≤ t.visits
+  at_least : (answer : Answer) → Told answer → 1 ≤ t.visits
   at_least Yes h = let l = h.0.good.at_least in let k = one_at_least t.assumed.items 0 0 h.2 in omega arith
   at_least No h = let l = h.0.good.at_least in let k = one_at_least t.failed.items 0 0 h.2.1 in omega arith
   at_least Unfinished h = let l = h.1 in omega arith
+
+  pub ended : (answer : Answer) → Told answer → Shows w r t.visits answer × (1 ≤ t.visits) × ((ps : List Pair) → HoldsAsked w r ps → t.visits ≤ length ps * length ps)
+  ended answer h = (shown answer h, at_least answer h, at_most answer h)

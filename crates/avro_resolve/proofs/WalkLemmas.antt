@@ -1,50 +1,41 @@
 -- Steps of the recursion, over its state.
-use Rattle.std.proofs.Common.{◌≡◌, ℕ, ◌+◌, ◌*◌, ◌^◌, ◌<◌, ◌≤◌, List, [], ◌∷◌, ◌++◌, Option, Some, None, Result, Ok, Err, map, Bool, true, false, not, length, get_or, take, take-take, take_at, refl, sym, ap, subst, ◌∙◌, true≢false, mul-le-mul_left, arith}
-use Rattle.std.specs.Prelude.{IsTrue, IfOk, is_some, ◌↔◌, All, Any, Contains, IsSome, MatchOption, option_map, slice_get}
+use Rattle.std.proofs.Common.{◌≡◌, ℕ, ◌+◌, ◌<◌, ◌≤◌, List, [], ◌∷◌, ◌++◌, Option, Some, None, Result, Ok, Err, map, Bool, true, false, not, length, get_or, take, take-take, take_at, refl, sym, ap, subst, ◌∙◌, true≢false, arith}
+use Rattle.std.specs.Prelude.{IsTrue, IfOk, is_some, ◌↔◌, All, Any, IsSome, MatchOption, option_map, slice_get}
 use Rattle.std.proofs.lemmas.List.{length_push, get_or_default}
 use Rattle.std.proofs.lemmas.List.Elements.{All-more, All-weaker}
 use Rattle.avro_nodes.specs.declared.node.Field.{Field}
 use Rattle.avro_nodes.specs.Nodes.{FieldView, NodeView, field_view}
-use Rattle.avro_resolve.specs.declared.walk.Walk.{Walk}
-use Rattle.avro_resolve.specs.declared.walk.Answer.{Answer}
-use Rattle.avro_resolve.specs.declared.walk.Answer.TheVariants.{Yes, No, Unfinished}
+use Rattle.avro_resolve.specs.declared.recursion.Walk.{Walk}
+use Rattle.avro_resolve.specs.declared.recursion.Answer.{Answer}
+use Rattle.avro_resolve.specs.declared.recursion.Answer.TheVariants.{Yes, No, Unfinished}
 use Rattle.avro_resolve.specs.Resolution.{Pairs, Supports, Readable, source}
 use Rattle.avro_resolve.specs.Witnesses.{Pair, member, without}
 use Rattle.avro_resolve.specs.Asking.{source_place, Asks, AsksFor}
-use Rattle.avro_resolve.specs.Inside.Asked.{Asked, AreAsked, IsSourceAsked}
+use Rattle.avro_resolve.specs.Inside.Asked.{Asked, AreAsked, IsAsked, IsSourceAsked}
+use Rattle.avro_resolve.specs.Inside.Places.{IsWhole}
 use Rattle.avro_resolve.specs.Inside.Walking.{Marks, Good, Grown, HasGrown, Ready, Tells}
 use Rattle.avro_resolve.proofs.Monotone.{Within}
+use Rattle.avro_resolve.proofs.Reaching.{asked_within}
 use Rattle.avro_resolve.proofs.ViewLemmas.{all_of}
-use Rattle.avro_resolve.proofs.WalkSteps.{grown_same, grown_then, more, opened_yes, opened_no, grown_no, bounded}
-use Rattle.avro_resolve.proofs.PairLists.{member_last, false_unless}
-
--- what holds of each element of a list
-pub all_of_contained : (P : ℕ → Type 0) (xs : List ℕ) → ((x : ℕ) → Contains xs x → P x) → All P xs
-all_of_contained P xs h k d l = h (get_or xs k d) (k, l, get_or_default xs k (get_or xs k d) d l)
-
-pub all_of_any : (P : FieldView → Type 0) (xs : List FieldView) → ((x : FieldView) → Any (λ y. y ≡ x) xs → P x) → All P xs
-all_of_any P xs h k d l = h (get_or xs k d) (k, get_or xs k d, l, get_or_default xs k (get_or xs k d) d l, refl)
+use Rattle.avro_resolve.proofs.WalkSteps.{grown_same, grown_then, more, opened_yes, opened_no, grown_no}
+use Rattle.avro_resolve.proofs.PairLists.{member_last}
 
 asks_at : (w r : List NodeView) (i j p q : ℕ) (a b : NodeView) → slice_get w i ≡ Some a → slice_get r j ≡ Some b → AsksFor i j a b p q → Asks w r i j p q
 unfolding Asks
 asks_at w r i j p q a b e f h = rw (e, f) h
 
-pub asked_on : (w r : List NodeView) (i j : ℕ) (a b : NodeView) → slice_get w i ≡ Some a → slice_get r j ≡ Some b → Asked w r i j → AreAsked w r i j a b
+reached_on : (w r : List NodeView) (i j p q : ℕ) → Asked w r i j → Asks w r i j p q → Asked w r p q
 unfolding Asked
-asked_on w r i j a b e f asked p q h ps holds = holds.on i j p q (asked ps holds) (asks_at w r i j p q a b e f h)
+reached_on w r i j p q asked h ps holds = holds.on i j p q (asked ps holds) h
+
+pub asked_on : (w r : List NodeView) (i j : ℕ) (a b : NodeView) → IsWhole w → IsWhole r → slice_get w i ≡ Some a → slice_get r j ≡ Some b → Asked w r i j → AreAsked w r i j a b
+asked_on w r i j a b ww wr e f asked p q h =
+    let asks = asks_at w r i j p q a b e f h in let within = asked_within w r i j p q ww wr asks in
+    record { row = within.0; column = within.1; reached = reached_on w r i j p q asked asks }
 
 pub roots_asked : (w r : List NodeView) → Asked w r 0 0
 unfolding Asked
 roots_asked w r ps holds = holds.roots
-
--- a square of a number below 2 ^ 32, and one more, fit
-fits_one : (l v : ℕ) → l < 2 ^ 32 → v ≤ l * l → v + 1 < 2 ^ 64
-fits_one l v h m =
-    let a : l ≤ 4294967295 = omega arith in
-    let b = mul-le-mul_left l a in omega (arith, b)
-
-pub room : (w r : List NodeView) (d : ℕ) (s : Walk) → Ready w r d s → s.visits + 1 < 2 ^ 64
-room w r d s ready = fits_one (length ready.small.0) s.visits ready.small.2 (bounded w r s.assumed.items s.failed.items s.visits ready.good ready.small.0 ready.small.1)
 
 pub grown2 : (w r : List NodeView) (s t u : Walk) → HasGrown w r s t → HasGrown w r t u → HasGrown w r s u
 grown2 w r s t u g h = grown_then w r s.assumed.items s.failed.items t.assumed.items t.failed.items u.assumed.items u.failed.items g h
@@ -93,7 +84,7 @@ from_opened : (w r : List NodeView) (s u v : Walk) (i j : ℕ) → u.assumed.ite
 from_opened w r s u v i j e f g = subst (λ (x : List Pair). Grown w r x s.failed.items v.assumed.items v.failed.items) e (subst (λ (y : List Pair). Grown w r u.assumed.items y v.assumed.items v.failed.items) f g)
 
 -- an opened pair that is supported stays assumed
-pub ask_yes : (w r : List NodeView) (d : ℕ) (s u v : Walk) (i j : ℕ) → Ready w r d s → u.assumed.items ≡ s.assumed.items ++ (i, j) ∷ [] → u.failed.items ≡ s.failed.items → Ready w r (d + 1) v → HasGrown w r u v → Supports w r (member v.assumed.items) i j
+ask_yes : (w r : List NodeView) (d : ℕ) (s u v : Walk) (i j : ℕ) → Ready w r d s → u.assumed.items ≡ s.assumed.items ++ (i, j) ∷ [] → u.failed.items ≡ s.failed.items → Ready w r (d + 1) v → HasGrown w r u v → Supports w r (member v.assumed.items) i j
     → Ready w r d v × HasGrown w r s v × IsTrue (member v.assumed.items i j)
 ask_yes w r d s u v i j ready e f after g h =
     let grown = from_opened w r s u v i j e f g in (
@@ -101,6 +92,13 @@ ask_yes w r d s u v i j ready e f after g h =
       opened_yes w r s.assumed.items s.failed.items v.assumed.items v.failed.items i j grown h,
       more w r (s.assumed.items ++ (i, j) ∷ []) s.failed.items v.assumed.items v.failed.items grown i j (member_last s.assumed.items i j),
     )
+
+-- an answer that isn't no is that of the opened pair
+pub ask_told : (w r : List NodeView) (d : ℕ) (s u v : Walk) (i j : ℕ) (L L2 : Type 0) → Ready w r d s → u.assumed.items ≡ s.assumed.items ++ (i, j) ∷ [] → u.failed.items ≡ s.failed.items → (answer : Answer) → (answer ≡ No → ⊥)
+    → Tells w r (d + 1) u.assumed.items u.failed.items v (Supports w r (member v.assumed.items) i j) L answer → Tells w r d s.assumed.items s.failed.items v (IsTrue (member v.assumed.items i j)) L2 answer
+ask_told w r d s u v i j L L2 ready e f Yes never h = ask_yes w r d s u v i j ready e f h.0 h.1 h.2
+ask_told w r d s u v i j L L2 ready e f No never h = absurd (never refl)
+ask_told w r d s u v i j L L2 ready e f Unfinished never h = h
 
 -- one that isn't fails, and what was assumed since is taken back
 pub ask_no : (w r : List NodeView) (d : ℕ) (s u v x : Walk) (i j : ℕ) → Ready w r d s → Asked w r i j → member s.assumed.items i j ≡ false → u.assumed.items ≡ s.assumed.items ++ (i, j) ∷ [] → u.failed.items ≡ s.failed.items → Ready w r (d + 1) v → HasGrown w r u v → (Supports w r (without v.failed.items) i j → ⊥)
@@ -126,40 +124,32 @@ ask_no w r d s u v x i j ready asked out e f after g never back fails visits mar
       (same, subst (λ (y : List Pair). member y i j ≡ true) (sym fails) (member_last v.failed.items i j)),
     )
 
--- a case that asks for no pair
-pub tells_leaf : (w r : List NodeView) (d : ℕ) (s : Walk) (H L : Type 0) (b : Bool) (answer : Answer) → Ready w r d s → (b ≡ true → answer ≡ Yes) → (b ≡ false → answer ≡ No) → (b ≡ true → H) → (b ≡ false → L) → Tells w r d s s H L answer
-tells_leaf w r d s H L true answer ready to_yes to_no held lost = rw (to_yes refl) (ready, grown0 w r s, held refl)
-tells_leaf w r d s H L false answer ready to_yes to_no held lost = rw (to_no refl) (ready, grown0 w r s, lost refl)
-
--- a pair that is open hasn't failed
-pub not_failed : (w r : List NodeView) (d : ℕ) (s u v : Walk) (i j : ℕ) → u.assumed.items ≡ s.assumed.items ++ (i, j) ∷ [] → Ready w r d v → HasGrown w r u v → member v.failed.items i j ≡ false
-not_failed w r d s u v i j e after g =
-    false_unless (member v.failed.items i j) (after.good.apart i j (within2 w r u v g i j (subst (λ (ps : List Pair). member ps i j ≡ true) (sym e) (member_last s.assumed.items i j))))
-
 -- the reader's fields that were read so far, and one more
 pub held_more : (R S : Pairs) (fs : List FieldView) (gs : List Field) (k : ℕ) (f : Field) → k < length gs → f ≡ get_or gs k f → Within R S → All (λ g. Readable R fs (field_view g)) (take k gs) → Readable S fs (field_view f) → All (λ g. Readable S fs (field_view g)) (take (k + 1) gs)
 held_more R S fs gs k f l is within h here =
     All-more (λ g. Readable S fs (field_view g)) gs k f l (All-weaker (λ g. Readable R fs (field_view g)) (λ g. Readable S fs (field_view g)) (λ g. readable_more R S within fs (field_view g)) (take k gs) h) (subst (λ (g : Field). Readable S fs (field_view g)) is here)
 
 -- what holds of the source of each reader's field
-pub fields_asked : (w r : List NodeView) (fs : List FieldView) (gs : List Field) → ((p q : ℕ) → Any (λ f. (source_place fs f ≡ Some p) × (f.place ≡ q)) (map field_view gs) → Asked w r p q) → All (λ f. IsSourceAsked w r fs (field_view f)) gs
+pub fields_asked : (w r : List NodeView) (fs : List FieldView) (gs : List Field) → ((p q : ℕ) → Any (λ f. (source_place fs f ≡ Some p) × (f.place ≡ q)) (map field_view gs) → IsAsked w r p q) → All (λ f. IsSourceAsked w r fs (field_view f)) gs
 fields_asked w r fs gs h = all_of (IsSourceAsked w r fs) field_view gs (λ k d l p e.
     h p (get_or (map field_view gs) k d).place (k, get_or (map field_view gs) k d, l, get_or_default (map field_view gs) k (get_or (map field_view gs) k d) d l, (e, refl)))
 
-pub tells_on : (w r : List NodeView) (d : ℕ) (s t : Walk) (H L H2 L2 : Type 0) → (H → H2) → (L → L2) → (answer : Answer) → Tells w r d s t H L answer → Tells w r d s t H2 L2 answer
-tells_on w r d s t H L H2 L2 f g Yes h = (h.0, h.1, f h.2)
-tells_on w r d s t H L H2 L2 f g No h = (h.0, h.1, g h.2)
-tells_on w r d s t H L H2 L2 f g Unfinished h = h
+pub tells_on : (w r : List NodeView) (d : ℕ) (ps qs : List Pair) (t : Walk) (H L H2 L2 : Type 0) → (H → H2) → (L → L2) → (answer : Answer) → Tells w r d ps qs t H L answer → Tells w r d ps qs t H2 L2 answer
+tells_on w r d ps qs t H L H2 L2 f g Yes h = (h.0, h.1, f h.2)
+tells_on w r d ps qs t H L H2 L2 f g No h = (h.0, h.1, g h.2)
+tells_on w r d ps qs t H L H2 L2 f g Unfinished h = h
 
--- what has grown from a state has grown from one with the same pairs
-pub grown_from : (w r : List NodeView) (s u t : Walk) → u.assumed.items ≡ s.assumed.items → u.failed.items ≡ s.failed.items → HasGrown w r u t → HasGrown w r s t
-grown_from w r s u t e f g =
-    subst (λ (x : List Pair). Grown w r x s.failed.items t.assumed.items t.failed.items) e (subst (λ (y : List Pair). Grown w r u.assumed.items y t.assumed.items t.failed.items) f g)
+-- an answer that isn't yes, from a later state on
+pub tells_no : (w r : List NodeView) (d : ℕ) (s u v : Walk) (H H2 L L2 : Type 0) → HasGrown w r s u → (L → L2) → (answer : Answer) → (answer ≡ Yes → ⊥) → Tells w r d u.assumed.items u.failed.items v H L answer → Tells w r d s.assumed.items s.failed.items v H2 L2 answer
+tells_no w r d s u v H H2 L L2 g f Yes never h = absurd (never refl)
+tells_no w r d s u v H H2 L L2 g f No never h = (h.0, grown2 w r s u v g h.1, f h.2)
+tells_no w r d s u v H H2 L L2 g f Unfinished never h = h
 
-pub tells_from : (w r : List NodeView) (d : ℕ) (s u t : Walk) (H L : Type 0) → u.assumed.items ≡ s.assumed.items → u.failed.items ≡ s.failed.items → (answer : Answer) → Tells w r d u t H L answer → Tells w r d s t H L answer
-tells_from w r d s u t H L e f Yes h = (h.0, grown_from w r s u t e f h.1, h.2)
-tells_from w r d s u t H L e f No h = (h.0, grown_from w r s u t e f h.1, h.2)
-tells_from w r d s u t H L e f Unfinished h = h
+-- one that isn't no
+pub tells_yes : (w r : List NodeView) (d : ℕ) (s u v : Walk) (H H2 L L2 : Type 0) → HasGrown w r s u → (H → H2) → (answer : Answer) → (answer ≡ No → ⊥) → Tells w r d u.assumed.items u.failed.items v H L answer → Tells w r d s.assumed.items s.failed.items v H2 L2 answer
+tells_yes w r d s u v H H2 L L2 g f Yes never h = (h.0, grown2 w r s u v g h.1, f h.2)
+tells_yes w r d s u v H H2 L L2 g f No never h = absurd (never refl)
+tells_yes w r d s u v H H2 L L2 g f Unfinished never h = h
 
 pub told_ok : {E : Type 0} (x : Result Answer E) (P Q : Answer → Type 0) → ((answer : Answer) → P answer → Q answer) → IfOk x P → IfOk x Q
 told_ok (Ok answer) P Q f h = f answer h

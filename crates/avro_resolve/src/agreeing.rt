@@ -1,13 +1,13 @@
 //! What two nodes say of a pair by themselves: their kinds, names, sizes and symbols. Names are
 //! told by their ranks.
 
-ghost use Rattle.std.specs.Prelude.{◌≡◌, ◌↔◌, ◌<◌, option_map, slice_get, All, Contains, IfOk, IsTrue, MatchOption, Some, length};
-ghost use Rattle.avro_nodes.specs.Nodes.{NodeView, node_view};
-ghost use Rattle.avro_resolve.specs.Resolution.{Promotes};
+ghost use Rattle.std.specs.Prelude.{◌<◌, ◌↔◌, ◌≡◌, length, option_map, slice_get, All, Contains, IfOk, IsTrue, MatchOption, Some};
+ghost use Rattle.std.specs.List.Sorted.{IsStrictlyIncreasing};
+ghost use Rattle.avro_nodes.specs.Nodes.{node_view, NodeView};
 ghost use Rattle.avro_resolve.specs.Inside.Agreeing.{named_ranks, symbol_ranks, symbols_of, Agree, AreSymbolsMet, TellsMatch};
 ghost use Rattle.avro_resolve.specs.Inside.Left.{Agreed};
 ghost use Rattle.avro_resolve.specs.Inside.Sides.{columns, names_of, rows, IsSides};
-ghost use Rattle.std.specs.List.Sorted.{IsStrictlyIncreasing};
+ghost use Rattle.avro_resolve.specs.Resolution.{Promotes};
 
 use crate::sides::Sides;
 use avro_nodes::{Kind, Node};
@@ -84,13 +84,13 @@ fn names_match(sides: &Sides, i: u32, j: u32) -> bool
     ensures { (a b : NodeView) → slice_get (rows sides.now) i ≡ Some a
         → slice_get (columns sides.now) j ≡ Some b → TellsMatch result a b }
 {
-    let Some(named) = named_of(sides.writer.ranks(i)) else {
+    let (Some(named), Some(wanted)) = (
+        named_of(sides.writer.ranks(i)),
+        named_of(sides.reader.ranks(j)),
+    ) else {
         return false;
     };
-    let Some(wanted) = named_of(sides.reader.ranks(j)) else {
-        return false;
-    };
-    if sides.met.is_met(named.last, wanted.last) {
+    if sides.met.rank(named.last) == Some(wanted.last) {
         return true;
     }
     match sides.met.rank(named.full) {

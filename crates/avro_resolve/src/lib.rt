@@ -4,14 +4,10 @@
 #![tactic(auto)]
 
 mod agreeing;
-mod aliased;
 mod desk;
-mod joining;
 mod links;
 mod lists;
-mod looking;
 mod looks;
-mod met;
 mod pair_set;
 mod readable;
 mod recursion;
@@ -21,8 +17,6 @@ mod sides;
 mod striking;
 mod support;
 mod table;
-mod unions;
-mod walk;
 
 pub use avro_nodes::OutOfMemory;
 pub use resolving::{Verdict, resolution_is_decided, resolves, resolves_itself, resolves_plain};

@@ -1,15 +1,14 @@
 //! Which arrays, maps and records refer to a place, and by what: a pair of two such asks for a pair
 //! of places only where they refer to these by one label.
 
-ghost use Rattle.std.specs.Prelude.{◌≡◌, ◌<◌, All, Contains, IfOk, OnOk, Some, length, slice_get};
+ghost use Rattle.std.specs.Prelude.{◌<◌, ◌≡◌, length, slice_get, All, Contains, IfOk, OnOk, Some};
 ghost use Rattle.avro_nodes.specs.Nodes.{NodeView};
-ghost use Rattle.avro_resolve.specs.Inside.Askers.{HasLabel, HasLinks, IsOfNode, IsPlaceLinked, LinkedBy, Notes};
+ghost use Rattle.avro_resolve.specs.Inside.Askers.{ranks_of, HasAskers, HasLabel, IsOfNode, IsPlaceLinked, LinkedBy, Notes};
 ghost use Rattle.avro_resolve.specs.Inside.Sides.{names_of, nodes_of, IsSide};
 
-use crate::aliased::Aliased;
-use crate::lists::{empty_lists, note};
-use crate::met::Met;
-use crate::sides::Side;
+use crate::lists::{empty_lists, note, unions_of};
+use crate::readable::Aliased;
+use crate::sides::{Met, Side};
 use avro_nodes::Node;
 use std::alloc::{AllocError, Global};
 
@@ -34,75 +33,61 @@ pub struct Link {
     pub way: Way,
 }
 
-/// The links to each place, and the fields whose aliases they are of, by their numbers.
+/// What refers to each place of a side.
 #[derive(Drop)]
 pub struct Links {
+    /// the unions that have it as a branch
+    pub unions: Vec<Vec<u32>>,
+    /// the links to it, of arrays, maps and records
     pub lists: Vec<Vec<Link>>,
+    /// the fields whose aliases links are of, by their numbers
     pub aliased: Vec<Aliased>,
-}
-
-/// How the fields of a side are labelled: a writer's by the ranks that the reader has for their
-/// names, a reader's by its own ranks of their names and aliases.
-#[derive(Clone, Copy)]
-pub struct Labels<'a> {
-    pub met: &'a Met,
-    pub aliased: bool,
 }
 
 /// The label of an array's items and of a map's values. A name may have this one too, since the
 /// ways tell the two apart.
 const CONTAINED: u32 = 0;
 
-/// Notes that a place refers to another in a way, by each of these labels.
-fn note_all(
-    links: &mut Links,
-    labels: &[u32],
-    way: Way,
-    place: u32,
-    asker: u32,
-) -> Result<(), AllocError>
-    requires { place < length links.old.lists.items }
-    ensures notes { OnOk result (Notes (λ x p. Contains labels.now x.label × (x.way ≡ way) × (x.asker ≡ asker) × (p ≡ place))
-        links.old links.new) }
-    ensures there { OnOk result (All (λ label. LinkedBy (HasLabel label way) links.new.lists.items asker place) labels.now) }
+/// Notes that the place at hand refers to another in a way, by each of these labels.
+fn note_by(links: &mut Links, labels: &[u32], way: Way, to: u32, at: u32) -> Result<(), AllocError>
+    requires { to < length links.old.lists.items }
+    ensures notes { OnOk result (Notes (λ x p. Contains labels.now x.label × (x.way ≡ way) × (x.asker ≡ at) × (p ≡ to)) links.old links.new) }
+    ensures there { OnOk result (All (λ label. LinkedBy (HasLabel label way) links.new.lists.items at to) labels.now) }
 {
     for label in labels {
         let link = Link {
             label: *label,
-            asker,
+            asker: at,
             way,
         };
-        note(&mut links.lists, place, link)?;
+        note(&mut links.lists, to, link)?;
     }
     Ok(())
 }
 
-/// Notes what the node at a place refers to: to items or values, or to the types of fields. A field
-/// gets a number if it has aliases that are labels.
-fn note_node(links: &mut Links, labels: &Labels, side: &Side, asker: u32) -> Result<(), AllocError>
+/// Notes what the node at a place refers to: to items or values, or to the types of fields. A writer's
+/// are labelled by the ranks that the reader has for their names, a reader's by its own ranks of their
+/// names and aliases: one that has aliases gets a number.
+fn note_at(links: &mut Links, met: Option<&Met>, side: &Side, asker: u32) -> Result<(), AllocError>
     requires side { IsSide side.now }
     requires asker_in { asker < length side.now.schema.now }
     requires long { length links.old.lists.items ≡ length side.now.schema.now }
     ensures notes { OnOk result (Notes (λ x p. (x.asker ≡ asker) × ((a : NodeView)
         → slice_get (nodes_of side.now) asker ≡ Some a
-        → IsOfNode (names_of side.now) labels.now.met.now.ranks.items labels.now.aliased links.new.aliased.items a x p)) links.old links.new) }
+        → IsOfNode (names_of side.now) (ranks_of met.entry) links.new.aliased.items a x p)) links.old links.new) }
     ensures there { OnOk result ((a : NodeView) → slice_get (nodes_of side.now) asker ≡ Some a
-        → IsPlaceLinked (names_of side.now) labels.now.met.now.ranks.items labels.now.aliased links.new asker a) }
+        → IsPlaceLinked (names_of side.now) (ranks_of met.entry) links.new asker a) }
 {
     if let Node::Array { items: place, .. } | Node::Map { values: place, .. } = side.node(asker) {
-        note_all(links, &[CONTAINED], Way::OfContents, *place, asker)?;
+        note_by(links, &[CONTAINED], Way::OfContents, *place, asker)?;
         return Ok(());
     }
     let fields = side.fields(asker);
     for index in 0..fields.fields.len() {
         let (place, ranks) = (fields.fields[index].place, &fields.ranks[index]);
-        let own = if labels.aliased {
-            Some(ranks.name)
-        } else {
-            labels.met.rank(ranks.name)
-        };
-        note_all(links, own.as_slice(), Way::ByName, place, asker)?;
-        if !labels.aliased || ranks.aliases.is_empty() {
+        let own = met.map_or(Some(ranks.name), |met| met.rank(ranks.name));
+        note_by(links, own.as_slice(), Way::ByName, place, asker)?;
+        if met.is_some() || ranks.aliases.is_empty() {
             continue;
         }
         let way = Way::ByAlias(links.aliased.len());
@@ -110,27 +95,28 @@ fn note_node(links: &mut Links, labels: &Labels, side: &Side, asker: u32) -> Res
             place: asker,
             index,
         })?;
-        note_all(links, &ranks.aliases, way, place, asker)?;
+        note_by(links, &ranks.aliases, way, place, asker)?;
     }
     Ok(())
 }
 
-/// For each place of a side the links to it, sorted by their labels.
+/// For each place of a side the unions that have it as a branch, and the links to it, sorted by their
+/// labels.
 ///
 /// # Errors
 ///
 /// `AllocError` where memory for the lists is refused.
-pub fn links_of(alloc: Global, side: &Side, labels: &Labels) -> Result<Links, AllocError>
+pub fn links_of(alloc: Global, side: &Side, met: Option<&Met>) -> Result<Links, AllocError>
     requires { IsSide side.now }
-    ensures { IfOk result (λ v. HasLinks (names_of side.now) labels.now.met.now.ranks.items labels.now.aliased (nodes_of side.now) v) }
+    ensures { IfOk result (λ a. HasAskers (names_of side.now) (ranks_of met.entry) (nodes_of side.now) a) }
 {
-    let lists = empty_lists(alloc, side.places())?;
     let mut links = Links {
-        lists,
+        unions: unions_of(alloc, side.schema)?,
+        lists: empty_lists(alloc, side.places())?,
         aliased: Vec::new(alloc),
     };
     for i in 0..side.places() {
-        note_node(&mut links, labels, side, i)?;
+        note_at(&mut links, met, side, i)?;
     }
     for place in 0..links.lists.len() {
         links.lists[place].sort_unstable_by_key(|link| link.label);

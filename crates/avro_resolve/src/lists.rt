@@ -1,8 +1,13 @@
-//! Lists that stand at places.
+//! Lists that stand at places: for each place of a schema, the unions that have it as a branch.
 
-ghost use Rattle.std.specs.Prelude.{◌≡◌, ◌<◌, ℕ, IfOk, OnOk, length};
-ghost use Rattle.avro_resolve.specs.Inside.Lists.{list_at, StandsAt, Adds};
+ghost use Rattle.std.specs.Prelude.{◌<◌, ◌≡◌, length, IfOk, OnOk, ℕ};
+ghost use Rattle.avro_nodes.specs.Nodes.{nodes_view};
+ghost use Rattle.avro_resolve.specs.Inside.Askers.{HasUnions};
+ghost use Rattle.avro_resolve.specs.Inside.Lists.{list_at, Adds, StandsAt};
+ghost use Rattle.avro_resolve.specs.Inside.Places.{IsWhole};
 
+use avro_nodes::Node;
+use avro_schema::Schema;
 use std::alloc::{AllocError, Global};
 
 /// So many empty lists.
@@ -35,4 +40,21 @@ pub fn list_of<T>(lists: &[Vec<T>], place: usize) -> &[T]
         Some(list) => list.as_slice(),
         None => &[],
     }
+}
+
+/// For each place of a schema the unions that have it as a branch.
+pub fn unions_of(alloc: Global, schema: &Schema) -> Result<Vec<Vec<u32>>, AllocError>
+    requires { IsWhole (nodes_view schema.now) }
+    ensures { IfOk result (λ v. HasUnions (nodes_view schema.now) v.items) }
+{
+    let mut lists = empty_lists(alloc, schema.places())?;
+    for i in 0..schema.places() {
+        let Node::Union { branches } = schema.node(i) else {
+            continue;
+        };
+        for branch in branches {
+            note(&mut lists, *branch, i)?;
+        }
+    }
+    Ok(lists)
 }

@@ -1,62 +1,62 @@
 //! What the recursion looks at, beside the pairs that it opens.
 
-ghost use Rattle.std.specs.Prelude.{◌≡◌, ◌<◌, IfOk, Some, length, slice_get};
-ghost use Rattle.avro_nodes.specs.Nodes.{NodeView};
-ghost use Rattle.avro_resolve.specs.Inside.Agreeing.{fields_of};
-ghost use Rattle.avro_resolve.specs.Inside.Laying.{AreReadOff};
-ghost use Rattle.avro_resolve.specs.Inside.Sides.{columns, rows, IsSides};
-
-use crate::desk::Desk;
+use crate::desk::{lay, lift, read_off};
 use crate::sides::Sides;
 use avro_nodes::Node;
-use avro_schema::FieldRanks;
 use std::alloc::{AllocError, Global};
+use std::marker::Model;
 
 /// What a pair counts for that is opened.
 const PAIR: u64 = 8;
 
-/// How many symbols are compared, at most: none where the reader's default excuses them.
-fn symbols_compared(a: &Node, b: &Node) -> u64 {
-    match (a, b) {
-        (
-            Node::Enum { symbols, .. },
-            Node::Enum {
-                symbols: known,
-                fallback: None,
-                ..
-            },
-        ) => (symbols.len() as u64).saturating_add(known.len() as u64),
-        _ => 0,
-    }
-}
-
-/// How many names the fields are looked for by.
-fn names_sought(fields: &[FieldRanks]) -> u64 {
-    let mut count: u64 = 0;
-    for field in fields {
-        count = count
-            .saturating_add(field.aliases.len() as u64)
-            .saturating_add(1);
-    }
-    count
-}
-
-/// What is looked at: how much, and where fields are laid.
+/// What is looked at: how much, and the boxes of the reader's names in which a writer's fields are
+/// laid for it. Between two calls nothing lies there.
 #[derive(Drop)]
 pub struct Looks {
-    pub alloc: Global,
     /// so much for each pair that was opened, and the lengths of the lists that were walked
     pub work: u64,
-    pub desk: Desk,
+    boxes: Vec<Option<usize>>,
+}
+
+impl Model for Looks {
+    ghost use Rattle.std.specs.Prelude.{ℕ};
+    ghost use Rattle.avro_resolve.specs.Inside.Laying.{IsClear};
+
+    ghost Value = { ℕ };
+
+    ghost view = { λ looks. looks.work };
+
+    ghost invariant = { λ looks. IsClear looks.boxes.items };
 }
 
 impl Looks {
-    /// Counts what is looked at where two nodes are compared.
+    ghost use Rattle.std.specs.Prelude.{◌≡◌, ◌<◌, IfOk, Some, length, slice_get};
+    ghost use Rattle.avro_nodes.specs.Nodes.{NodeView};
+    ghost use Rattle.avro_resolve.specs.Inside.Agreeing.{fields_of};
+    ghost use Rattle.avro_resolve.specs.Inside.Laying.{AreReadOff};
+    ghost use Rattle.avro_resolve.specs.Inside.Sides.{columns, rows, IsSides};
+
+    /// Nothing was looked at; the boxes are made where they are needed first.
+    pub fn none(alloc: Global) -> Looks {
+        let boxes = Vec::new(alloc);
+        Looks { work: 0, boxes }
+    }
+
+    /// Counts what is looked at where two nodes are compared. No symbols are where the reader's
+    /// default excuses them.
     pub fn compare(&mut self, a: &Node, b: &Node) {
-        self.work = self
-            .work
-            .saturating_add(symbols_compared(a, b))
-            .saturating_add(PAIR);
+        let symbols = match (a, b) {
+            (
+                Node::Enum { symbols, .. },
+                Node::Enum {
+                    symbols: known,
+                    fallback: None,
+                    ..
+                },
+            ) => (symbols.len() as u64).saturating_add(known.len() as u64),
+            _ => 0,
+        };
+        self.work = self.work.saturating_add(symbols).saturating_add(PAIR);
     }
 
     /// For each field of a reader's record the place of the type of the writer's field that it is
@@ -64,8 +64,14 @@ impl Looks {
     ///
     /// # Errors
     ///
-    /// `AllocError` where memory for them is refused.
-    pub fn sources(&mut self, sides: &Sides, i: u32, j: u32) -> Result<Vec<Option<u32>>, AllocError>
+    /// `AllocError` where memory for the boxes or the places is refused.
+    pub fn sources(
+        &mut self,
+        alloc: Global,
+        sides: &Sides,
+        i: u32,
+        j: u32,
+    ) -> Result<Vec<Option<u32>>, AllocError>
         requires sides { IsSides sides.now }
         requires i_in { i < length sides.now.writer.schema.now }
         requires j_in { j < length sides.now.reader.schema.now }
@@ -73,10 +79,18 @@ impl Looks {
             → slice_get (columns sides.now) j ≡ Some b → AreReadOff (fields_of a) (fields_of b) v.items) }
     {
         let (fields, wanted) = (sides.writer.fields(i), sides.reader.fields(j));
-        self.work = self
-            .work
-            .saturating_add(fields.ranks.len() as u64)
-            .saturating_add(names_sought(wanted.ranks));
-        self.desk.sources(self.alloc, sides, fields, wanted)
+        self.work = self.work.saturating_add(fields.ranks.len() as u64);
+        for sought in wanted.ranks {
+            self.work = self.work.saturating_add(sought.aliases.len() as u64 + 1);
+        }
+        let names = sides.reader.index.names.len();
+        if self.boxes.len() < names {
+            self.boxes.resize(names, None)?;
+        }
+        let boxes = self.boxes.as_mut_slice();
+        lay(boxes, &sides.met, fields.ranks);
+        let places = read_off(alloc, boxes, sides, fields, wanted);
+        lift(boxes, &sides.met, fields.ranks);
+        places
     }
 }

@@ -1,8 +1,5 @@
 //! Sets of pairs of places.
 
-ghost use Rattle.std.specs.Prelude.{◌≡◌, ℕ, ◌<◌, ◌/◌, OnOk, length};
-ghost use Rattle.avro_resolve.specs.Inside.PairSets.{bit};
-
 use std::alloc::{AllocError, Global};
 
 /// A set of pairs of places, the writer's first: one bit a pair, as far as the last that was ever
@@ -11,17 +8,6 @@ use std::alloc::{AllocError, Global};
 pub struct PairSet {
     words: Vec<u64>,
     readers: u32,
-}
-
-/// Makes room for the bit at a place.
-fn make_room(words: &mut Vec<u64>, at: usize) -> Result<(), AllocError>
-    ensures room { OnOk result (at / 64 < length words.new.items) }
-    ensures bits { OnOk result ((k : ℕ) → bit words.new.items k ≡ bit words.old.items k) }
-{
-    if words.len() <= at / 64 {
-        words.resize(at / 64 + 1, 0)?;
-    }
-    Ok(())
 }
 
 impl PairSet {
@@ -58,7 +44,9 @@ impl PairSet {
             → has self.new a b ≡ (if a == i && b == j then true else has self.old a b)) }
     {
         let at = self.place(i, j);
-        make_room(&mut self.words, at)?;
+        if self.words.len() <= at / 64 {
+            self.words.resize(at / 64 + 1, 0)?;
+        }
         self.words[at / 64] |= 1 << (at % 64);
         Ok(())
     }

@@ -1,23 +1,147 @@
-//! Whether a reader's fields can be read, where the fields of a writer's place are laid.
+//! Whether a reader's fields can be read, where the fields of a writer's place are laid. The sources
+//! of those that have aliases are kept, by the writer's places: one look tells whence they are read.
 
-ghost use Rattle.std.specs.Prelude.{◌≡◌, ◌<◌, ◌↔◌, All, IfSome, IsTrue, Some, length, map, slice_get};
-ghost use Rattle.std.specs.Option.{ForSome};
-ghost use Rattle.avro_nodes.specs.Nodes.{FieldView, NodeView, field_view};
+ghost use Rattle.std.specs.Prelude.{◌<◌, ◌↔◌, ◌≡◌, map, slice_get, All, IfOk, IfSome, IsTrue, List, Some, ℕ};
+ghost use Rattle.std.specs.List.{AllZip};
+ghost use Rattle.avro_nodes.specs.Nodes.{field_view, FieldView, NodeView};
 ghost use Rattle.avro_schema.specs.Index.{IsFieldRanked};
-ghost use Rattle.avro_resolve.specs.declared.sides.Sides.{Sides};
-ghost use Rattle.avro_resolve.specs.Resolution.{Readable};
 ghost use Rattle.avro_resolve.specs.Inside.Agreeing.{fields_of};
+ghost use Rattle.avro_resolve.specs.Inside.Laying.{AreLaidFields};
 ghost use Rattle.avro_resolve.specs.Inside.Left.{left};
-ghost use Rattle.avro_resolve.specs.Inside.Rows.{row_fields, IsFound, IsRow};
-ghost use Rattle.avro_resolve.specs.Inside.Sides.{columns, names_of, IsSides};
-ghost use Rattle.avro_resolve.specs.Inside.Sources.{field_at};
+ghost use Rattle.avro_resolve.specs.Inside.Rows.{row_fields, IsBasis, IsOver, IsRow};
+ghost use Rattle.avro_resolve.specs.Inside.Sides.{columns, IsSide};
+ghost use Rattle.avro_resolve.specs.Inside.Sources.{field_at, Describes, IsEntry, IsWanted};
+ghost use Rattle.avro_resolve.specs.Resolution.{Readable};
+ghost use Rattle.avro_resolve.specs.declared.sides.Sides.{Sides};
 
-use crate::aliased::{Aliased, Numbered};
 use crate::desk::place_of;
-use crate::sides::{Fields, Sides};
+use crate::sides::{Fields, Side, Sides};
 use crate::table::Table;
 use avro_nodes::Field;
 use avro_schema::FieldRanks;
+use std::alloc::{AllocError, Global};
+
+/// A reader's field that has aliases.
+#[derive(Clone, Copy, Debug, PartialEq, Eq)]
+pub struct Aliased {
+    /// the place of its record
+    pub place: u32,
+    /// its index among the record's fields
+    pub index: usize,
+}
+
+/// The reader's fields that have aliases: a field's number is its index here.
+#[derive(Clone, Copy)]
+pub struct Numbered<'a> {
+    pub aliased: &'a [Aliased],
+    /// for each place of the reader's the number of its first such field, if it has one
+    pub firsts: &'a [usize],
+    /// what is asked of each of these fields
+    pub wanted: &'a [Option<Wanted<'a>>],
+}
+
+/// What is asked of a reader's field.
+#[derive(Clone, Copy)]
+pub struct Wanted<'a> {
+    /// the place of its type
+    pub place: u32,
+    pub has_default: bool,
+    /// its names, by their ranks
+    pub names: &'a FieldRanks,
+}
+
+/// What is asked of the field that has these names.
+fn asked<'a>(field: &Field, names: &'a FieldRanks) -> Wanted<'a>
+    ensures { (texts : List (List ℕ)) → IsFieldRanked texts (field_view field.now) names.now
+        → Describes texts result (field_view field.now) }
+{
+    Wanted {
+        place: field.place,
+        has_default: field.value.is_some(),
+        names,
+    }
+}
+
+/// What is asked of the field, which is looked up once.
+fn wanted_of<'a>(side: &'a Side, aliased: Aliased) -> Option<Wanted<'a>>
+    requires { IsSide side.now }
+    ensures { IsWanted side.now aliased result }
+{
+    if aliased.place >= side.places() {
+        return None;
+    }
+    let found = side.fields(aliased.place);
+    let field = found.fields.get(aliased.index)?;
+    Some(asked(field, found.ranks.get(aliased.index)?))
+}
+
+/// The same of each of these fields.
+///
+/// # Errors
+///
+/// `AllocError` where memory for it is refused.
+pub fn all_wanted<'a>(
+    alloc: Global,
+    side: &'a Side,
+    aliased: &[Aliased],
+) -> Result<Vec<Option<Wanted<'a>>>, AllocError>
+    requires { IsSide side.now }
+    ensures { IfOk result (λ v. AllZip (IsWanted side.now) aliased.now v.items) }
+{
+    let mut wanted = Vec::with_capacity(alloc, aliased.len())?;
+    for field in aliased {
+        wanted.push(wanted_of(side, *field))?;
+    }
+    Ok(wanted)
+}
+
+/// For each place the number of its first field, if it has one of these.
+///
+/// # Errors
+///
+/// `AllocError` where memory for the numbers is refused.
+pub fn firsts_of(alloc: Global, places: u32, fields: &[Aliased]) -> Result<Vec<usize>, AllocError> {
+    let mut firsts = vec![in alloc; 0; places as usize]?;
+    for number in (0..fields.len()).rev() {
+        if let Some(first) = firsts.get_mut(fields[number].place as usize) {
+            *first = number;
+        }
+    }
+    Ok(firsts)
+}
+
+/// The sources of these fields of the reader's among those that are laid, each told by its place and
+/// one, or by 0 for none.
+///
+/// # Errors
+///
+/// `AllocError` where memory for them is refused.
+pub fn row_of(
+    alloc: Global,
+    boxes: &[Option<usize>],
+    sides: &Sides,
+    fields: Fields,
+    numbered: Numbered,
+) -> Result<Vec<u16>, AllocError>
+    requires laid { AreLaidFields sides.now fields boxes.now }
+    requires fields_in { All (λ g. g.place < 65535) fields.fields.now }
+    requires wanted { AllZip (IsWanted sides.now.reader) numbered.aliased.now numbered.wanted.now }
+    ensures { IfOk result (λ v. AllZip (IsEntry (columns sides.now) (map field_view fields.entry.fields.now))
+        numbered.entry.aliased.now v.items) }
+{
+    if fields.fields.is_empty() {
+        return Ok(vec![in alloc; 0; numbered.wanted.len()]?);
+    }
+    let mut row = Vec::with_capacity(alloc, numbered.wanted.len())?;
+    for wanted in numbered.wanted {
+        let place = match wanted {
+            Some(wanted) => place_of(boxes, sides, fields, wanted.names),
+            None => None,
+        };
+        row.push(place.map_or(0, |place| place as u16 + 1))?;
+    }
+    Ok(row)
+}
 
 /// A place of the writer, while its fields lie in the boxes.
 #[derive(Clone, Copy)]
@@ -33,77 +157,42 @@ pub struct Row<'a> {
     pub entries: &'a [u16],
 }
 
-/// What reading a reader's field rests on.
-#[derive(Clone, Copy)]
-struct Found {
-    /// the place of the type of the writer's field that it is read from, if there is one
-    source: Option<u32>,
-    /// the place of its own type
-    place: u32,
-    has_default: bool,
-}
-
-/// What is told of the field of a number, if this is that field.
-fn told_at(row: &Row, number: usize, field: Aliased) -> Option<Found>
-    ensures { IfSome result (λ found. (sides : Sides) (f : FieldView) → IsRow sides row.now
-        → field_at (columns sides) field ≡ Some f → IsFound (row_fields row.now) found f) }
+/// What is told of the field of a number, if this is that field: the place of the type of the
+/// writer's field that it is read from, if there is one, and what is asked of it.
+fn told_at<'a>(row: &Row<'a>, number: usize, field: Aliased) -> Option<(Option<u32>, Wanted<'a>)>
+    ensures { IfSome result (λ told. (sides : Sides) (f : FieldView) → IsRow sides row.now
+        → field_at (columns sides) field ≡ Some f → IsBasis sides row.now told.0 told.1 f) }
 {
     if *row.numbered.aliased.get(number)? != field {
         return None;
     }
     let (entry, wanted) = (row.entries.get(number)?, row.numbered.wanted.get(number)?);
-    Some(Found {
-        source: entry.checked_sub(1).map(u32::from),
-        place: wanted.place,
-        has_default: wanted.has_default,
-    })
-}
-
-/// What reading a field of the reader's rests on: what its number told, or else what the boxes tell,
-/// so that a field that is told isn't looked at.
-fn basis(sides: &Sides, row: &Row, told: Option<Found>, field: &Field, names: &FieldRanks) -> Found
-    requires sides { IsSides sides.now }
-    requires row { IsRow sides.now row.now }
-    requires told { ForSome told (λ found. IsFound (row_fields row.now) found (field_view field.now)) }
-    requires named { IsFieldRanked (names_of sides.now.reader) (field_view field.now) names.now }
-    ensures { IsFound (row_fields row.now) result (field_view field.now) }
-{
-    match told {
-        Some(found) => found,
-        None => Found {
-            source: place_of(row.boxes, sides, row.fields.fields, row.fields.ranks, names),
-            place: field.place,
-            has_default: field.value.is_some(),
-        },
-    }
+    Some((entry.checked_sub(1).map(u32::from), (*wanted)?))
 }
 
 /// Whether each field of the reader's record at a place can be read from the writer's place: from its
-/// source, or by its default.
+/// source, or by its default. What a number tells of a field isn't looked up.
 pub fn all_readable(sides: &Sides, row: &Row, j: u32, table: &Table) -> bool
-    requires sides { IsSides sides.now }
-    requires row { IsRow sides.now row.now }
-    requires writers { table.now.writers ≡ length sides.now.writer.schema.now }
-    requires readers { table.now.readers ≡ length sides.now.reader.schema.now }
-    requires j_in { j < table.now.readers }
+    requires { IsOver sides.now row.now table.now j }
     ensures { (b : NodeView) → slice_get (columns sides.now) j ≡ Some b
         → IsTrue result ↔ All (Readable (left table.now) (row_fields row.now)) (fields_of b) }
 {
     let wanted = sides.reader.fields(j);
     let mut number = row.numbered.firsts.get(j as usize).copied().unwrap_or(0);
     for index in 0..wanted.fields.len() {
-        let told = told_at(row, number, Aliased { place: j, index });
-        let (field, names) = (&wanted.fields[index], &wanted.ranks[index]);
-        let found = basis(sides, row, told, field, names);
-        let readable = match found.source {
-            Some(place) => table.has(place, found.place),
-            None => found.has_default,
+        let (source, asked) = match told_at(row, number, Aliased { place: j, index }) {
+            Some(told) => {
+                number = number.saturating_add(1);
+                told
+            }
+            None => {
+                let (field, names) = (&wanted.fields[index], &wanted.ranks[index]);
+                let source = place_of(row.boxes, sides, row.fields, names);
+                (source, asked(field, names))
+            }
         };
-        if !readable {
+        if !source.map_or(asked.has_default, |place| table.has(place, asked.place)) {
             return false;
-        }
-        if told.is_some() {
-            number = number.saturating_add(1);
         }
     }
     true

@@ -1,23 +1,20 @@
 //! Whether a writer's schema resolves with a reader's.
 
-ghost use Rattle.std.specs.Prelude.{◌≡◌, ◌<◌, ◌≤◌, ◌*◌, ◌↔◌, List, length, IsTrue, IfOk, false};
-ghost use Rattle.avro_nodes.specs.Nodes.{NodeView, nodes_view};
-ghost use Rattle.avro_resolve.specs.Resolution.{Resolves};
-ghost use Rattle.avro_resolve.specs.Witnesses.{Pair, HasClosedSet, HasRefutation};
+ghost use Rattle.std.specs.Prelude.{◌*◌, ◌<◌, ◌↔◌, ◌≡◌, ◌≤◌, false, length, IfOk, IsTrue, List};
+ghost use Rattle.avro_nodes.specs.Nodes.{nodes_view, NodeView};
 ghost use Rattle.avro_resolve.specs.Asking.{AreReached, HoldsAsked};
+ghost use Rattle.avro_resolve.specs.Resolution.{Resolves};
 ghost use Rattle.avro_resolve.specs.Verdicts.{is_resolved};
-ghost use Rattle.avro_resolve.specs.Inside.Walking.{Shows};
+ghost use Rattle.avro_resolve.specs.Witnesses.{HasClosedSet, HasRefutation, Pair};
 
-use crate::desk::Desk;
 use crate::looks::Looks;
 use crate::pair_set::PairSet;
-use crate::recursion::ask;
+use crate::recursion::{Answer, Walk, ask};
 use crate::sides::Sides;
 use crate::striking::largest_closed;
-use crate::walk::{Answer, Walk};
 use avro_nodes::OutOfMemory;
 use avro_schema::Schema;
-use std::alloc::{AllocError, Global};
+use std::alloc::Global;
 
 /// What `resolves` answers.
 #[derive(Clone, Copy, Debug, PartialEq, Eq)]
@@ -26,30 +23,6 @@ pub struct Verdict {
     pub yes: bool,
     /// how many pairs of places were opened
     pub visits: u128,
-}
-
-/// Opens the pair of the roots, and says what came of it and how many pairs were opened.
-fn walk_roots(alloc: Global, writer: &Schema, reader: &Schema) -> Result<(Answer, u128), AllocError>
-    ensures shows { IfOk result (λ p. Shows (nodes_view writer.now) (nodes_view reader.now) p.1 p.0) }
-    ensures at_least { IfOk result (λ p. 1 ≤ p.1) }
-    ensures at_most { IfOk result (λ p. (ps : List Pair) → HoldsAsked (nodes_view writer.now) (nodes_view reader.now) ps → p.1 ≤ length ps * length ps) }
-{
-    let (_rows, columns) = (writer.places(), reader.places());
-    let sides = Sides::of(alloc, writer, reader)?;
-    let mut walk = Walk {
-        assumed: Vec::new(alloc),
-        failed: Vec::new(alloc),
-        assumed_set: PairSet::none(alloc, columns),
-        failed_set: PairSet::none(alloc, columns),
-        visits: 0,
-    };
-    let mut looks = Looks {
-        alloc,
-        work: 0,
-        desk: Desk::none(alloc),
-    };
-    let answer = ask(&sides, 0, 0, 0, &mut walk, &mut looks)?;
-    Ok((answer, walk.visits))
 }
 
 /// Whether the writer's schema resolves with the reader's (Avro 1.11 specification, Schema
@@ -89,15 +62,26 @@ pub fn resolves(alloc: Global, writer: &Schema, reader: &Schema) -> Result<Verdi
     ensures at_most { IfOk result (λ v. (ps : List Pair) → HoldsAsked (nodes_view writer.now) (nodes_view reader.now) ps
         → v.visits ≤ length ps * length ps) }
 {
-    let (answer, visits) = walk_roots(alloc, writer, reader)?;
-    match answer {
-        Answer::Yes => Ok(Verdict { yes: true, visits }),
-        Answer::No => Ok(Verdict { yes: false, visits }),
-        Answer::Unfinished => {
-            let yes = resolves_plain(alloc, writer, reader)?;
-            Ok(Verdict { yes, visits })
-        }
-    }
+    let (_rows, columns) = (writer.places(), reader.places());
+    let sides = Sides::of(alloc, writer, reader)?;
+    let mut walk = Walk {
+        alloc,
+        assumed: Vec::new(alloc),
+        failed: Vec::new(alloc),
+        assumed_set: PairSet::none(alloc, columns),
+        failed_set: PairSet::none(alloc, columns),
+        visits: 0,
+        looks: Looks::none(alloc),
+    };
+    let answer = ask(&sides, 0, 0, 0, &mut walk)?;
+    let visits = walk.visits;
+    drop(walk);
+    let yes = match answer {
+        Answer::Yes => true,
+        Answer::No => false,
+        Answer::Unfinished => resolves_plain(alloc, writer, reader)?,
+    };
+    Ok(Verdict { yes, visits })
 }
 
 /// Every schema resolves with itself: a law of the rules, in whose proof the pairs of a place with

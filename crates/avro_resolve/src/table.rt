@@ -1,6 +1,6 @@
 //! The pairs of places that are left.
 
-ghost use Rattle.std.specs.Prelude.{◌≡◌, ◌≤◌, ◌<◌, ◌*◌, ℕ, IsTrue, false, length, slice_index_or, vec_len};
+ghost use Rattle.std.specs.Prelude.{◌*◌, ◌<◌, ◌≡◌, ◌≤◌, false, vec_len, IsTrue, ℕ};
 
 use std::alloc::{AllocError, Global};
 use std::cell::Cell;
@@ -16,27 +16,8 @@ pub struct Table {
     ghost sized: { vec_len flags ≡ writers * readers },
 }
 
-/// The first index from this one on at which the one row has a flag that the other hasn't, or else
-/// their length.
-fn first_apart(row: &[bool], other: &[bool], from: usize) -> usize
-    requires long { length other.now ≡ length row.now }
-    requires from { from ≤ length row.now }
-    ensures on { from ≤ result }
-    ensures within { result ≤ length row.now }
-    ensures before { (k : ℕ) → from ≤ k → k < result → IsTrue (slice_index_or row.now k false)
-        → IsTrue (slice_index_or other.now k false) }
-    ensures at { result < length row.now → slice_index_or other.now result false ≡ false }
-{
-    for at in from..row.len() {
-        if row[at] && !other[at] {
-            return at;
-        }
-    }
-    row.len()
-}
-
 impl Table {
-    ghost use Rattle.std.specs.Prelude.{ℕ, ◌≡◌, length, slice_index_or, ◌+◌, ◌^◌, ◌<◌, IfOk, IsTrue, ◌==◌, ◌&&◌, if◌then◌else◌, false};
+    ghost use Rattle.std.specs.Prelude.{ℕ, ◌≡◌, ◌+◌, ◌^◌, ◌<◌, IfOk, IsTrue, ◌==◌, ◌&&◌, if◌then◌else◌, false};
     ghost use Rattle.avro_resolve.specs.Inside.Left.{left, count_left, SameShape};
 
     /// All pairs of so many places of the writer and of the reader, with hints or without.
@@ -72,16 +53,6 @@ impl Table {
         self.flags[i as usize * self.readers + j as usize]
     }
 
-    /// The flags of a writer's place.
-    fn row(&self, i: u32) -> &[bool]
-        requires i_in { i < self.now.writers }
-        ensures long { length result.now ≡ self.now.readers }
-        ensures flags { (j : ℕ) → j < self.now.readers → slice_index_or result.now j false ≡ left self.now i j }
-    {
-        let start = i as usize * self.readers;
-        &self.flags[start..start + self.readers]
-    }
-
     /// The first of the reader's places from this one on with which the writer's i is left and k
     /// isn't, or else their number.
     pub fn next_apart(&self, i: u32, k: u32, from: usize) -> usize
@@ -93,28 +64,21 @@ impl Table {
         ensures before { (j : ℕ) → from ≤ j → j < result → IsTrue (left self.now i j) → IsTrue (left self.now k j) }
         ensures at { result < self.now.readers → left self.now k result ≡ false }
     {
-        first_apart(self.row(i), self.row(k), from)
+        let (row, other) = (i as usize * self.readers, k as usize * self.readers);
+        for at in from..self.readers {
+            if self.flags[row + at] && !self.flags[other + at] {
+                return at;
+            }
+        }
+        self.readers
     }
 
-    /// At which branch of a reader's union to look first.
-    pub fn hint(&self, i: u32, j: u32) -> usize
+    /// Where it stands at which branch of a reader's union to look first, if the reader has unions.
+    pub fn hint(&self, i: u32, j: u32) -> Option<&Cell<u16>>
         requires i_in { i < self.now.writers }
         requires j_in { j < self.now.readers }
     {
-        match self.hints.get(i as usize * self.readers + j as usize) {
-            Some(hint) => hint.get() as usize,
-            None => 0,
-        }
-    }
-
-    /// Notes at which branch of a reader's union to look first from now on.
-    pub fn set_hint(&self, i: u32, j: u32, at: usize)
-        requires i_in { i < self.now.writers }
-        requires j_in { j < self.now.readers }
-    {
-        if let Some(hint) = self.hints.get(i as usize * self.readers + j as usize) {
-            hint.set(u16::try_from(at).unwrap_or(0));
-        }
+        self.hints.get(i as usize * self.readers + j as usize)
     }
 
     /// Strikes the pair out.

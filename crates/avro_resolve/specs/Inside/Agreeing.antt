@@ -2,7 +2,6 @@
 use Rattle.std.specs.Prelude.{◌≡◌, ◌⊎◌, ◌↔◌, ℕ, List, [], Bool, Option, Some, None, IsSome, IsTrue, MatchOption, All, Contains, Vec}
 use Rattle.std.specs.declared.alloc.Global.{Global}
 use Rattle.avro_nodes.specs.Nodes.{FieldView, NamedView, NodeView, primitive, array, mapping, union, enumeration, fixed, rec}
-use Rattle.avro_schema.specs.declared.index.FieldRanks.{FieldRanks}
 use Rattle.avro_schema.specs.declared.index.NamedRanks.{NamedRanks}
 use Rattle.avro_schema.specs.declared.index.Ranks.{Ranks}
 use Rattle.avro_schema.specs.declared.index.Ranks.TheVariants.{Unnamed, Fixed, Enum, Rec}
@@ -97,10 +96,3 @@ fields_of (mapping place extra) = []
 fields_of (union places) = []
 fields_of (enumeration named symbols fallback extra) = []
 fields_of (fixed named size extra) = []
-
--- the same by the ranks of their names
-abbrev pub field_ranks : Ranks → List FieldRanks
-field_ranks Unnamed = []
-field_ranks (Fixed named) = []
-field_ranks (Enum named symbols) = []
-field_ranks (Rec named fields) = fields.items

@@ -8,14 +8,20 @@ use Rattle.avro_resolve.specs.Asking.{AsksFor, HoldsAsked, source_place}
 unfoldable pub Asked : List NodeView → List NodeView → ℕ → ℕ → Type 0
 Asked w r i j = (ps : List Pair) → HoldsAsked w r ps → IsTrue (member ps i j)
 
+-- the pair is one of places, and is reached
+pub record IsAsked (w r : List NodeView) (i j : ℕ) : Type 0 where
+  pub row : i < length w
+  pub column : j < length r
+  pub reached : Asked w r i j
+
 -- some list of less than 2^32 pairs holds what is asked
 abbrev pub IsSmall : List NodeView → List NodeView → Type 0
 IsSmall w r = (ps : List Pair) × HoldsAsked w r ps × (length ps < 2 ^ 32)
 
--- the pair of a reader's field and its source is reached
+-- the pair of a reader's field and its source is such
 abbrev pub IsSourceAsked : List NodeView → List NodeView → List FieldView → FieldView → Type 0
-IsSourceAsked w r fields f = (p : ℕ) → source_place fields f ≡ Some p → Asked w r p f.place
+IsSourceAsked w r fields f = (p : ℕ) → source_place fields f ≡ Some p → IsAsked w r p f.place
 
--- what the nodes at (i, j) ask for is reached
+-- what the nodes at (i, j) ask for is such
 abbrev pub AreAsked : List NodeView → List NodeView → ℕ → ℕ → NodeView → NodeView → Type 0
-AreAsked w r i j a b = (p q : ℕ) → AsksFor i j a b p q → Asked w r p q
+AreAsked w r i j a b = (p q : ℕ) → AsksFor i j a b p q → IsAsked w r p q

@@ -1,10 +1,14 @@
 -- The fields of a writer's record, laid in the boxes of the reader's ranks of their names, and the source of a reader's field among them (this
 -- project's choice).
 use Rattle.std.specs.Prelude.{◌≡◌, ◌⊎◌, ℕ, ◌<◌, ◌≤◌, ◌∷◌, [], List, Option, None, Some, IfSome, get_or, length, map, slice_get}
-use Rattle.avro_nodes.specs.Nodes.{FieldView}
+use Rattle.avro_nodes.specs.Nodes.{FieldView, field_view}
 use Rattle.avro_schema.specs.declared.index.FieldRanks.{FieldRanks}
+use Rattle.avro_schema.specs.Index.{AreFieldsRanked}
+use Rattle.avro_resolve.specs.declared.sides.Fields.{Fields}
+use Rattle.avro_resolve.specs.declared.sides.Sides.{Sides}
 use Rattle.avro_resolve.specs.Asking.{source_place}
 use Rattle.avro_resolve.specs.Inside.Meeting.{met_at}
+use Rattle.avro_resolve.specs.Inside.Sides.{names_of, IsSides}
 
 -- the ranks of the names of fields
 abbrev pub names_in : List FieldRanks → List ℕ
@@ -30,6 +34,13 @@ box boxes rank = get_or boxes rank None
 pub record AreLaid (met : List (Option ℕ)) (names : List ℕ) (n : ℕ) (boxes : List (Option ℕ)) : Type 0 where
   pub found : (rank k : ℕ) → box boxes rank ≡ Some k → (n ≤ k) × IsFirst met names n k rank
   pub none : (rank k : ℕ) → rank < length boxes → box boxes rank ≡ None → n ≤ k → HasName met names k rank → ⊥
+
+-- of two sides: the fields of a writer's place lie in the boxes of all the reader's names
+pub record AreLaidFields (sides : Sides) (fields : Fields) (boxes : List (Option ℕ)) : Type 0 where
+  pub both : IsSides sides
+  pub ranked : AreFieldsRanked (names_of sides.writer) (map field_view fields.fields.now) fields.ranks.now
+  pub laid : AreLaid sides.met.ranks.items (names_in fields.ranks.now) 0 boxes
+  pub room : length (names_of sides.reader) ≤ length boxes
 
 -- nothing lies there
 abbrev pub IsClear : List (Option ℕ) → Type 0

@@ -1,7 +1,7 @@
 -- The pairs that a table has left.
 use Rattle.std.specs.Prelude.{◌≡◌, ◌⊎◌, ℕ, ◌+◌, ◌*◌, List, [], ◌∷◌, ◌++◌, Bool, true, false, All, ◌&&◌, ◌||◌, length, ◌<◌, nat_lt, slice_get, slice_index_or, sum_by, IsTrue, MatchOption}
 use Rattle.avro_nodes.specs.Nodes.{NodeView}
-use Rattle.avro_resolve.specs.declared.looking.Progress.{Progress}
+use Rattle.avro_resolve.specs.declared.rows.Progress.{Progress}
 use Rattle.avro_resolve.specs.declared.sides.Sides.{Sides}
 use Rattle.avro_resolve.specs.declared.table.Table.{Table}
 use Rattle.avro_resolve.specs.Resolution.{Pairs, Supports}
@@ -92,6 +92,10 @@ Rests w r i j p q = (R : Pairs) → R p q ≡ false → Supports w r R i j → �
 -- the sides, and what is left of their pairs after those were struck out whose nodes don't agree
 abbrev pub IsRestOf : Sides → Progress → Type 0
 IsRestOf sides p = IsSides sides × IsRest (rows sides) (columns sides) p.table
+
+-- the same, and the pair that is told isn't left
+abbrev pub IsTold : Sides → Progress → Pair → Type 0
+IsTold sides p told = IsRestOf sides p × (left p.table told.0 told.1 ≡ false)
 
 -- some pairs were struck out, which nothing left supports, and each is listed
 abbrev pub Strikes : Sides → Progress → Progress → Type 0

@@ -1,13 +1,12 @@
 -- The sources of a reader's fields that have aliases, by the writer's places (this project's choice).
-use Rattle.std.specs.Prelude.{◌≡◌, ◌↔◌, ℕ, ◌+◌, List, Option, None, Some, IsSome, IsTrue, get_or, option_and_then, slice_get, IfSome, MatchOption, Vec}
-use Rattle.std.specs.Borrow.{Bor}
+use Rattle.std.specs.Prelude.{◌≡◌, ◌↔◌, ℕ, ◌+◌, List, Option, None, Some, IsSome, IsTrue, get_or, option_and_then, slice_get, IfSome, Vec}
 use Rattle.std.specs.List.{AllZip}
+use Rattle.std.specs.Option.{IsSomeAnd}
 use Rattle.std.specs.declared.alloc.Global.{Global}
 use Rattle.avro_nodes.specs.Nodes.{FieldView, NodeView}
-use Rattle.avro_schema.specs.declared.index.FieldRanks.{FieldRanks}
 use Rattle.avro_schema.specs.Index.{IsFieldRanked}
-use Rattle.avro_resolve.specs.declared.aliased.Aliased.{Aliased}
-use Rattle.avro_resolve.specs.declared.aliased.Wanted.{Wanted}
+use Rattle.avro_resolve.specs.declared.readable.Aliased.{Aliased}
+use Rattle.avro_resolve.specs.declared.readable.Wanted.{Wanted}
 use Rattle.avro_resolve.specs.declared.sides.Side.{Side}
 use Rattle.avro_resolve.specs.Asking.{source_place}
 use Rattle.avro_resolve.specs.Inside.Agreeing.{fields_of}
@@ -27,18 +26,14 @@ field_at nodes aliased = option_and_then (λ a. slice_get (fields_of a) aliased.
 abbrev pub IsEntry : List NodeView → List FieldView → Aliased → ℕ → Type 0
 IsEntry nodes fields aliased entry = (f : FieldView) → field_at nodes aliased ≡ Some f → entry ≡ code (source_place fields f)
 
--- these are the ranks of the field's names
-abbrev pub AreRanksOf : List (List ℕ) → Option (Bor FieldRanks) → FieldView → Type 0
-AreRanksOf names ranks f = MatchOption ranks ⊥ (λ x. IsFieldRanked names f x.now)
+-- it tells the place of the field's type, whether the field has a default, and the ranks of its names
+abbrev pub Describes : List (List ℕ) → Wanted → FieldView → Type 0
+Describes names wanted f = (wanted.place ≡ f.place) × (IsTrue wanted.has_default ↔ IsSome f.value) × IsFieldRanked names f wanted.names.now
 
--- if there are any, they are the ranks of some field's names
-abbrev pub AreSomeRanks : List (List ℕ) → Option (Bor FieldRanks) → Type 0
-AreSomeRanks names ranks = IfSome ranks (λ x. (f : FieldView) × IsFieldRanked names f x.now)
-
--- It tells the place of the field's type, whether the field has a default, and the ranks of its names, if there is such a field.
-pub record IsWanted (side : Side) (aliased : Aliased) (wanted : Wanted) : Type 0 where
-  pub ranked : AreSomeRanks (names_of side) wanted.names
-  pub told : (f : FieldView) → field_at (nodes_of side) aliased ≡ Some f → (wanted.place ≡ f.place) × (IsTrue wanted.has_default ↔ IsSome f.value) × AreRanksOf (names_of side) wanted.names f
+-- it tells that of some field, if it tells anything, and of the field that is meant, if there is such a field
+pub record IsWanted (side : Side) (aliased : Aliased) (wanted : Option Wanted) : Type 0 where
+  pub some : IfSome wanted (λ w. (f : FieldView) × Describes (names_of side) w f)
+  pub told : (f : FieldView) → field_at (nodes_of side) aliased ≡ Some f → IsSomeAnd wanted (λ w. Describes (names_of side) w f)
 
 -- those of all listed fields, for each of the writer's nodes
 abbrev pub AreSources : List NodeView → List NodeView → List Aliased → List (Vec ℕ Global) → Type 0

@@ -2,11 +2,13 @@
 use Rattle.std.specs.Prelude.{◌≡◌, ℕ, ◌+◌, ◌*◌, ◌<◌, ◌≤◌, ◌⊎◌, [], List, take, length, IsTrue}
 use Rattle.avro_nodes.specs.Nodes.{NodeView}
 use Rattle.avro_resolve.specs.declared.pair_set.PairSet.{PairSet}
-use Rattle.avro_resolve.specs.declared.walk.Walk.{Walk}
-use Rattle.avro_resolve.specs.declared.walk.Answer.{Answer}
-use Rattle.avro_resolve.specs.declared.walk.Answer.TheVariants.{Yes, No, Unfinished}
+use Rattle.avro_resolve.specs.declared.sides.Sides.{Sides}
+use Rattle.avro_resolve.specs.declared.recursion.Walk.{Walk}
+use Rattle.avro_resolve.specs.declared.recursion.Answer.{Answer}
+use Rattle.avro_resolve.specs.declared.recursion.Answer.TheVariants.{Yes, No, Unfinished}
 use Rattle.avro_resolve.specs.Resolution.{Supports, Resolves}
 use Rattle.avro_resolve.specs.Inside.Places.{IsWhole}
+use Rattle.avro_resolve.specs.Inside.Sides.{columns, rows, IsSides}
 use Rattle.avro_resolve.specs.Witnesses.{Pair, member, RefutesAfter, Differ, HasClosedSet, HasRefutation}
 use Rattle.avro_resolve.specs.Inside.PairSets.{has}
 use Rattle.avro_resolve.specs.Asking.{HoldsAsked}
@@ -41,22 +43,32 @@ IsGood w r s = Good w r s.assumed.items s.failed.items s.visits
 abbrev pub HasGrown : List NodeView → List NodeView → Walk → Walk → Type 0
 HasGrown w r s t = Grown w r s.assumed.items s.failed.items t.assumed.items t.failed.items
 
--- the recursion may go on, with so many pairs open
-pub record Ready (w r : List NodeView) (depth : ℕ) (s : Walk) : Type 0 where
+-- the recursion may go on from these assumed and failed pairs, their sets and so many visits, with so many pairs open
+pub record Going (w r : List NodeView) (depth : ℕ) (ps qs : List Pair) (s t : PairSet) (visits : ℕ) : Type 0 where
   pub writer : IsWhole w
   pub reader : IsWhole r
   pub small : IsSmall w r
   pub low : depth ≤ 1000
-  pub opened : depth ≤ length s.assumed.items
-  pub good : IsGood w r s
-  pub assumed : Marks (length r) s.assumed_set s.assumed.items
-  pub failed : Marks (length r) s.failed_set s.failed.items
+  pub opened : depth ≤ length ps
+  pub good : Good w r ps qs visits
+  pub assumed : Marks (length r) s ps
+  pub failed : Marks (length r) t qs
 
--- Yes and no hold at their answers. The third comes only after a thousand visits.
-abbrev pub Tells : List NodeView → List NodeView → ℕ → Walk → Walk → Type 0 → Type 0 → Answer → Type 0
-Tells w r depth s t held lost Yes = Ready w r depth t × HasGrown w r s t × held
-Tells w r depth s t held lost No = Ready w r depth t × HasGrown w r s t × lost
-Tells w r depth s t held lost Unfinished = IsGood w r t × (1000 ≤ t.visits)
+abbrev pub Ready : List NodeView → List NodeView → ℕ → Walk → Type 0
+Ready w r depth s = Going w r depth s.assumed.items s.failed.items s.assumed_set s.failed_set s.visits
+
+-- the same for the nodes of two sides, whose names are met
+abbrev pub MayGoOn : Sides → ℕ → Walk → Type 0
+MayGoOn sides depth s = IsSides sides × Ready (rows sides) (columns sides) depth s
+
+-- Yes and no hold at their answers, from a state with these assumed and failed pairs. The third comes only after a thousand visits.
+abbrev pub Tells : List NodeView → List NodeView → ℕ → List Pair → List Pair → Walk → Type 0 → Type 0 → Answer → Type 0
+Tells w r depth ps qs t held lost Yes = Ready w r depth t × Grown w r ps qs t.assumed.items t.failed.items × held
+Tells w r depth ps qs t held lost No = Ready w r depth t × Grown w r ps qs t.assumed.items t.failed.items × lost
+Tells w r depth ps qs t held lost Unfinished = IsGood w r t × (1000 ≤ t.visits)
+
+abbrev pub TellsOf : Sides → ℕ → Walk → Walk → Type 0 → Type 0 → Answer → Type 0
+TellsOf sides depth s t held lost answer = Tells (rows sides) (columns sides) depth s.assumed.items s.failed.items t held lost answer
 
 -- what the recursion's answer for the roots shows
 abbrev pub Shows : List NodeView → List NodeView → ℕ → Answer → Type 0

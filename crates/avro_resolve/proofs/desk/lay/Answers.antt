@@ -1,6 +1,6 @@
-use Rattle.std.proofs.Common.{◌≡◌, ◌+◌, ◌-◌, ◌<◌, length, sym, ◌∙◌, arith}
-use Rattle.std.specs.Prelude.{slice_get, Some}
-use Rattle.std.proofs.lemmas.List.{length-map}
+use Rattle.std.proofs.Common.{◌≡◌, ◌+◌, ◌-◌, ◌<◌, length, get_or-set_other, get_or-set_same, sym, ◌∙◌, arith}
+use Rattle.std.specs.Prelude.{set, slice_get, None, Some}
+use Rattle.std.proofs.lemmas.List.{length-map, length-set}
 use Rattle.avro_resolve.specs.Inside.Laying.{names_in}
 use Rattle.avro_resolve.proofs.Laying.{laid_more, laid_past, none_laid}
 use Rattle.avro_resolve.proofs.Sourcing.{names_at}
@@ -17,7 +17,9 @@ loop-k-preserved-in-Some c =
     let l : n - 1 < length fields = omega arith in
     let next : n ≡ (n - 1) + 1 = omega arith in
     let ek : slice_get (names_in fields) (n - 1) ≡ Some f.name = names_at fields (n - 1) f l c.index-fields-k.is in
-    laid_more met (names_in fields) n (n - 1) f.name next ek c.in-Some.rank (sym c.rank.ensures ∙ c.in-Some.is) c.loop-k.boxes c.put.new.boxes c.put.auto.boxes c.put.ensures.others c.put.ensures.there c.loop-k.invariant
+    let here = sym c.rank.ensures ∙ c.in-Some.is in let boxes = c.loop-k.boxes in let rank = c.in-Some.rank in
+    let held = c.requires.holds f.name rank here in let kept = c.loop-k.auto.boxes in
+    laid_more met (names_in fields) n (n - 1) f.name next ek rank here boxes (set boxes rank (Some (n - 1))) (length-set boxes rank (Some (n - 1))) (λ other ne. get_or-set_other boxes rank other (Some (n - 1)) None ne) (get_or-set_same boxes rank (Some (n - 1)) None (omega arith)) c.loop-k.invariant
 
 pub loop-k-preserved : goal.loop-k-preserved
 loop-k-preserved c =

@@ -1,5 +1,5 @@
-use Rattle.std.proofs.Common.{◌≡◌, ◌<◌, length, sym, ◌∙◌, arith}
-use Rattle.std.specs.Prelude.{slice_get, Some}
+use Rattle.std.proofs.Common.{◌≡◌, ◌<◌, length, get_or-set_other, get_or-set_same, sym, ◌∙◌, arith}
+use Rattle.std.specs.Prelude.{set, slice_get, None, Some}
 use Rattle.std.proofs.lemmas.List.{length-map}
 use Rattle.avro_resolve.specs.Inside.Laying.{names_in}
 use Rattle.avro_resolve.proofs.Laying.{left_less, left_past, none_left}
@@ -13,7 +13,10 @@ loop-k-preserved c =
     let l : k < length fields = omega arith in
     let ek : slice_get (names_in fields) k ≡ Some f.name = names_at fields k f l c.index-fields-k.is in
     elim c.match-rank.branch [
-      | in-Some w ↦ rw w.boxes-is (left_less met (names_in fields) k f.name ek w.in-Some.rank (sym c.rank.ensures ∙ w.in-Some.is) c.loop-k.boxes w.put.new.boxes w.put.ensures.others w.put.ensures.there c.loop-k.invariant)
+      | in-Some w ↦ (
+          let here = sym c.rank.ensures ∙ w.in-Some.is in let boxes = c.loop-k.boxes in let rank = w.in-Some.rank in
+          let held = c.requires.holds f.name rank here in let kept = c.loop-k.auto.boxes in
+          rw w.boxes-is (left_less met (names_in fields) k f.name ek rank here boxes (set boxes rank None) (λ other ne. get_or-set_other boxes rank other None None ne) (get_or-set_same boxes rank None None (omega arith)) c.loop-k.invariant))
       | in_default w ↦ rw w.boxes-is (left_past met (names_in fields) k f.name ek c.loop-k.boxes (sym c.rank.ensures ∙ w.in_default.is) c.loop-k.invariant)
     ]
 

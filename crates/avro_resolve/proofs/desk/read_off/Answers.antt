@@ -1,14 +1,13 @@
 use Rattle.std.proofs.Common.{◌≡◌, ℕ, ◌<◌, ◌≤◌, List, length, map, sym, ap, ◌∙◌, take_all, arith}
 use Rattle.std.specs.Prelude.{Some, slice_get}
-use Rattle.std.proofs.lemmas.List.Elements.{All-weaker}
-use Rattle.std.proofs.lemmas.Option.{slice_get-get_or, slice_get_within}
+use Rattle.std.proofs.lemmas.Option.{slice_get-get_or}
 use Rattle.std.proofs.lemmas.Slice.Zip.{AllZip-long}
 use Rattle.avro_nodes.specs.Nodes.{FieldView, field_view}
 use Rattle.avro_schema.specs.declared.index.FieldRanks.{FieldRanks}
 use Rattle.avro_schema.specs.Index.{AreFieldsRanked, IsFieldRanked}
 use Rattle.avro_resolve.specs.Asking.{source_place}
 use Rattle.avro_resolve.specs.Inside.Sides.{names_of}
-use Rattle.avro_resolve.proofs.Sourcing.{mapped_more, nth, ranked_field, ranks_below}
+use Rattle.avro_resolve.proofs.Sourcing.{mapped_more, nth, ranked_field}
 use Rattle.avro_resolve.proofs.desk.read_off.Goals as goal
 
 -- the field whose names these are
@@ -19,22 +18,12 @@ named_at r fields ranks i x ranked l here =
     let n = nth fields i (omega arith) in
     (n.0, n.1, ranked_field r fields ranks i n.0 x ranked n.1 here)
 
-pub place_of-requires-clause-name_in : goal.place_of-requires-clause-name_in
-place_of-requires-clause-name_in c =
+pub place_of-requires-clause-named : goal.place_of-requires-clause-named
+place_of-requires-clause-named c =
     let r = names_of c.args.sides.now.reader in let ranks = c.args.wanted.ranks.now in let i = c.loop-names.names-index in let x = c.names-item.result in
     let here : slice_get ranks i ≡ Some x = slice_get-get_or ranks i x c.loop-names-test.true ∙ ap (λ v. Some v) (sym c.names-item.is) in
     let f = named_at r (map field_view c.args.wanted.fields.now) ranks i x c.requires.named c.loop-names-test.true here in
-    let below = slice_get_within r x.name f.0.name f.2.name in
-    let room = c.requires.room in
-    omega arith
-
-pub place_of-requires-clause-aliases_in : goal.place_of-requires-clause-aliases_in
-place_of-requires-clause-aliases_in c =
-    let r = names_of c.args.sides.now.reader in let ranks = c.args.wanted.ranks.now in let i = c.loop-names.names-index in let x = c.names-item.result in
-    let here : slice_get ranks i ≡ Some x = slice_get-get_or ranks i x c.loop-names-test.true ∙ ap (λ v. Some v) (sym c.names-item.is) in
-    let f = named_at r (map field_view c.args.wanted.fields.now) ranks i x c.requires.named c.loop-names-test.true here in
-    let room = c.requires.room in
-    All-weaker (λ rank. rank < length r) (λ rank. rank < length c.args.boxes.now) (λ rank h. omega arith) x.aliases.items (ranks_below r f.0.aliases x.aliases.items f.2.aliases)
+    (f.0, f.2)
 
 pub loop-names-preserved : goal.loop-names-preserved
 loop-names-preserved c =

@@ -9,8 +9,8 @@ use Rattle.std.specs.declared.alloc.Global.{Global}
 use Rattle.std.proofs.lemmas.List.Sorted.{Contains-permutation, IsPermutation-sym, IsNonDecreasingBy-from_sort_by_key}
 use Rattle.avro_nodes.specs.Nodes.{node_view}
 use Rattle.avro_resolve.specs.declared.links.Link.{Link}
-use Rattle.avro_resolve.specs.declared.aliased.Aliased.{Aliased}
-use Rattle.avro_resolve.specs.Inside.Askers.{IsPlaceLinked}
+use Rattle.avro_resolve.specs.declared.readable.Aliased.{Aliased}
+use Rattle.avro_resolve.specs.Inside.Askers.{HasUnions, IsPlaceLinked, ranks_of}
 use Rattle.avro_resolve.specs.Inside.Sides.{names_of, nodes_of}
 use Rattle.avro_resolve.specs.Inside.Lists.{list_at}
 use Rattle.avro_resolve.proofs.LinkLemmas.{of_node_on, place_on}
@@ -19,29 +19,31 @@ use Rattle.avro_resolve.proofs.links.links_of.Goals as goal
 
 pub loop-i-init : goal.loop-i-init
 loop-i-init c = record {
-  long = c.in_ok-lists.ensures.long ∙ c.places.ensures.places;
-  within = λ x p h. absurd (c.in_ok-lists.ensures.empty x p h);
+  unions = c.in_ok-unions_of.ensures;
+  long = c.in_ok-empty_lists.ensures.long ∙ c.places.ensures.places;
+  within = λ x p h. absurd (c.in_ok-empty_lists.ensures.empty x p h);
   named = λ i a l e. absurd (omega arith);
-  meant = λ x p h. absurd (c.in_ok-lists.ensures.empty x p h);
+  meant = λ x p h. absurd (c.in_ok-empty_lists.ensures.empty x p h);
 }
 
 pub loop-i-preserved : goal.loop-i-preserved
 loop-i-preserved c =
     let inv = c.loop-i.invariant in let at = c.loop-i.i in let side = c.args.side.now in let nodes = side.schema.now in
-    let xs = c.loop-i.links in let ys = c.note_node.new.links in let more = c.in_ok-note_node.ensures.notes in
-    let names = names_of side in let met = c.args.labels.now.met.now.ranks.items in let aliased = c.args.labels.now.aliased in
+    let xs = c.loop-i.links in let ys = c.note_at.new.links in let more = c.in_ok-note_at.ensures.notes in
+    let names = names_of side in let met = ranks_of c.args.met in
     let view : length (nodes_of side) ≡ length nodes = length-map nodes node_view in
     let below : at < length nodes = omega (arith, c.loop-i-test.true, c.places-i-end.ensures.places) in
     record {
+      unions = subst (λ (v : Vec (Vec ℕ Global) Global). HasUnions (nodes_of side) v.items) (sym more.unions) inv.unions;
       long = more.adds.long ∙ inv.long;
       within = λ x p l. elim (more.adds.only x p l) [ inl m ↦ inv.within x p m | inr h ↦ subst (λ (i : ℕ). i < length nodes) (sym h.0) below ];
       named = λ i a l e. elim (cases_lt i at) [
-        | inl g ↦ place_on xs ys more.adds.kept more.kept names met aliased i a (inv.named i a g e)
+        | inl g ↦ place_on xs ys more.adds.kept more.kept names met i a (inv.named i a g e)
         | inr g ↦ (let s : i ≡ at = omega arith in
-            subst (λ (x : ℕ). IsPlaceLinked names met aliased ys x a) (sym s) (c.in_ok-note_node.ensures.there a (subst (λ (x : ℕ). slice_get (nodes_of side) x ≡ Some a) s e)))
+            subst (λ (x : ℕ). IsPlaceLinked names met ys x a) (sym s) (c.in_ok-note_at.ensures.there a (subst (λ (x : ℕ). slice_get (nodes_of side) x ≡ Some a) s e)))
       ];
       meant = λ x p l a e. elim (more.adds.only x p l) [
-        | inl m ↦ of_node_on xs.aliased.items ys.aliased.items more.kept met aliased x names a p (inv.meant x p m a e)
+        | inl m ↦ of_node_on xs.aliased.items ys.aliased.items more.kept met x names a p (inv.meant x p m a e)
         | inr h ↦ h.1 a (subst (λ (i : ℕ). slice_get (nodes_of side) i ≡ Some a) h.0 e)
       ];
     }
@@ -60,6 +62,7 @@ loop-place-preserved c =
         back = λ x p h. inv.same.back x p (elim (onlys xs k v l (λ _ _. ⊥) (λ y g. inl (subst (λ (ys : List Link). Contains ys y) (sym here) (Contains-permutation v.items d.items y (IsPermutation-sym d.items v.items moved) g))) x p h) [ inl m ↦ m | inr n ↦ absurd n ]);
       };
       aliased = inv.aliased;
+      unions = inv.unions;
       sorted = λ p below. elim (cases_lt p k) [
         | inl g ↦ subst (λ (ys : List Link). IsNonDecreasingBy (λ (x : Link). x.label) ys) (sym (list_set_other xs k p v (λ (e : p ≡ k). absurd (omega (arith, e, g))))) (inv.sorted p g)
         | inr g ↦ (let e : k ≡ p = omega arith in subst (λ (q : ℕ). IsNonDecreasingBy (λ (x : Link). x.label) (list_at (set xs k v) q)) e (subst (λ (ys : List Link). IsNonDecreasingBy (λ (x : Link). x.label) ys) (sym (list_set xs k v l)) rising))
@@ -75,14 +78,17 @@ returns c =
     let kept : (number : ℕ) (field : Aliased) → slice_get xs.aliased.items number ≡ Some field → slice_get ys.aliased.items number ≡ Some field =
     λ number field e. subst (λ (fs : List Aliased). slice_get fs number ≡ Some field) (sym c.loop-place.invariant.aliased) e in
     record {
-      within = λ x p h. subst (λ (n : ℕ). x.asker < n) (sym view) (inv.within x p (same.back x p h));
-      sorted = λ place. elim (cases_lt place (length ys.lists.items)) [
-        | inl g ↦ c.loop-place.invariant.sorted place (omega (arith, c.loop-place.invariant.long, c.loop-place-test.false))
-        | inr g ↦ subst (λ (ls : List Link). IsNonDecreasingBy (λ (x : Link). x.label) ls) (sym (list_past ys.lists.items place g)) (λ i j d le l. absurd (omega arith))
-      ];
-      named = λ i a e. (
-          let l : i < length (nodes_of side) = slice_get_within (nodes_of side) i a e in
-          place_on xs ys same.there kept (names_of side) c.args.labels.now.met.now.ranks.items c.args.labels.now.aliased i a (inv.named i a (omega arith) e)
-          );
-      meant = λ x p h a e. of_node_on xs.aliased.items ys.aliased.items kept c.args.labels.now.met.now.ranks.items c.args.labels.now.aliased x (names_of side) a p (inv.meant x p (same.back x p h) a e);
+      unions = subst (λ (v : Vec (Vec ℕ Global) Global). HasUnions (nodes_of side) v.items) (sym c.loop-place.invariant.unions) inv.unions;
+      links = record {
+        within = λ x p h. subst (λ (n : ℕ). x.asker < n) (sym view) (inv.within x p (same.back x p h));
+        sorted = λ place. elim (cases_lt place (length ys.lists.items)) [
+          | inl g ↦ c.loop-place.invariant.sorted place (omega (arith, c.loop-place.invariant.long, c.loop-place-test.false))
+          | inr g ↦ subst (λ (ls : List Link). IsNonDecreasingBy (λ (x : Link). x.label) ls) (sym (list_past ys.lists.items place g)) (λ i j d le l. absurd (omega arith))
+        ];
+        named = λ i a e. (
+            let l : i < length (nodes_of side) = slice_get_within (nodes_of side) i a e in
+            place_on xs ys same.there kept (names_of side) (ranks_of c.args.met) i a (inv.named i a (omega arith) e)
+            );
+        meant = λ x p h a e. of_node_on xs.aliased.items ys.aliased.items kept (ranks_of c.args.met) x (names_of side) a p (inv.meant x p (same.back x p h) a e);
+      };
     }

@@ -1,92 +1,118 @@
-use Rattle.std.proofs.Common.{◌≡◌, ◌<◌, ℕ, Option, get_or, length, refl, sym, subst, ◌∙◌, inl, inr, true≢false, Some, false, true, arith, ap, None, List, Bool}
-use Rattle.std.specs.Prelude.{◌↔◌, IfSome, IsTrue}
+use Rattle.std.proofs.Common.{rules, ◌≡◌, ◌<◌, ℕ, get_or, length, refl, sym, subst, ◌∙◌, inl, inr, true≢false, Some, false, true, arith, ap, None, List, Bool}
+use Rattle.std.specs.Prelude.{◌↔◌, IsSome, MatchOption, IsTrue, Option, map, slice_get}
 use Rattle.std.proofs.lemmas.Bool.{cases_lt}
 use Rattle.std.proofs.lemmas.List.{length-map}
 use Rattle.std.proofs.lemmas.List.Elements.{All-map}
 use Rattle.std.proofs.lemmas.Option.{slice_get-get_or}
 use Rattle.avro_nodes.specs.declared.node.Field.{Field}
-use Rattle.avro_nodes.specs.Nodes.{FieldView, field_view, node_view}
+use Rattle.avro_nodes.specs.Nodes.{FieldView, NodeView, field_view, node_view}
+use Rattle.avro_schema.specs.declared.index.FieldRanks.{FieldRanks}
+use Rattle.avro_schema.specs.Index.{AreFieldsRanked, IsFieldRanked}
+use Rattle.avro_resolve.specs.Asking.{source_place}
 use Rattle.avro_resolve.specs.Resolution.{Pairs, Readable, source}
+use Rattle.avro_resolve.specs.Inside.Agreeing.{fields_of}
 use Rattle.avro_resolve.specs.Inside.Left.{left}
-use Rattle.avro_resolve.specs.Inside.Rows.{row_fields, IsFound, IsRow}
-use Rattle.avro_resolve.specs.Inside.Sides.{columns}
+use Rattle.avro_resolve.specs.Inside.Rows.{row_fields, IsBasis, IsRow}
+use Rattle.avro_resolve.specs.Inside.Sides.{columns, names_of}
 use Rattle.avro_resolve.specs.Inside.Sources.{field_at}
-use Rattle.avro_resolve.specs.declared.readable.Found.{Found}
+use Rattle.avro_resolve.specs.declared.readable.Wanted.{Wanted}
 use Rattle.avro_resolve.specs.declared.readable.Row.{Row}
+use Rattle.avro_resolve.specs.declared.sides.Fields.{Fields}
 use Rattle.avro_resolve.specs.declared.sides.Sides.{Sides}
 use Rattle.avro_resolve.proofs.ListLemmas.{get_or_any}
 use Rattle.avro_resolve.proofs.Sourcing.{field_named, nth}
 use Rattle.avro_resolve.proofs.SupportLemmas.{place_within, read_default, read_from, readable_as}
 use Rattle.avro_resolve.proofs.readable.all_readable.Goals as goal
-use Rattle.avro_resolve.proofs.readable.all_readable.Goals.{in-Some, in-None}
+use Rattle.avro_resolve.proofs.readable.all_readable.Goals.{in-None, in-Some}
 
-by_source : (t : Pairs) (fields : List FieldView) (found : Found) (f : FieldView) → IsFound fields found f → (place : ℕ) (b : Bool) → found.source ≡ Some place → b ≡ t place found.place → IsTrue b ↔ Readable t fields f
-by_source t fields found f is place b e here =
-    let told = read_from t fields f place (sym is.0 ∙ e) in let same = here ∙ ap (t place) is.1 in
+by_source : (t : Pairs) (fields : List FieldView) (asked : Wanted) (f : FieldView) (place : ℕ) (b : Bool) → source_place fields f ≡ Some place → asked.place ≡ f.place → b ≡ t place asked.place → IsTrue b ↔ Readable t fields f
+by_source t fields asked f place b e is here =
+    let told = read_from t fields f place e in let same = here ∙ ap (t place) is in
     ((λ h. told.0 (sym same ∙ h)), (λ h. same ∙ told.1 h))
 
-by_default : (t : Pairs) (fields : List FieldView) (found : Found) (f : FieldView) → IsFound fields found f → (b : Bool) → found.source ≡ None → b ≡ found.has_default → IsTrue b ↔ Readable t fields f
-by_default t fields found f is b e here = let told = read_default t fields f (sym is.0 ∙ e) in ((λ h. told.0 (is.2.0 (sym here ∙ h))), (λ h. here ∙ is.2.1 (told.1 h)))
+by_default : (t : Pairs) (fields : List FieldView) (asked : Wanted) (f : FieldView) (b : Bool) → source_place fields f ≡ None → IsTrue asked.has_default ↔ IsSome f.value → b ≡ asked.has_default → IsTrue b ↔ Readable t fields f
+by_default t fields asked f b e is here = let told = read_default t fields f e in ((λ h. told.0 (is.0 (sym here ∙ h))), (λ h. here ∙ is.1 (told.1 h)))
 
-source_within : (sides : Sides) (row : Row) → IsRow sides row → (found : Found) (f : FieldView) → IsFound (row_fields row) found f → (p : ℕ) → found.source ≡ Some p → p < length sides.writer.schema.now
-source_within sides row is found f told p e =
+by_either : (t : Pairs) (fields : List FieldView) (asked : Wanted) (f : FieldView) (o : Option ℕ) (b : Bool) → o ≡ source_place fields f → asked.place ≡ f.place → IsTrue asked.has_default ↔ IsSome f.value
+    → MatchOption o (b ≡ asked.has_default) (λ p. b ≡ t p asked.place) → IsTrue b ↔ Readable t fields f
+by_either t fields asked f None b e is default h = by_default t fields asked f b (sym e) default h
+by_either t fields asked f (Some p) b e is default h = by_source t fields asked f p b (sym e) is h
+
+source_within : (sides : Sides) (row : Row) → IsRow sides row → (f : FieldView) (p : ℕ) → source_place (row_fields row) f ≡ Some p → p < length sides.writer.schema.now
+source_within sides row is f p e =
     let m = length sides.writer.schema.now in
-    place_within m (row_fields row) f (source (row_fields row) f) p (All-map (λ (g : FieldView). g.place < m) field_view row.fields.fields.now is.places) refl (sym e ∙ told.0)
+    place_within m (row_fields row) f (source (row_fields row) f) p (All-map (λ (g : FieldView). g.place < m) field_view row.fields.fields.now is.places) refl (sym e)
 
-pub basis-found-requires-clause-named : goal.basis-found-requires-clause-named
-basis-found-requires-clause-named c =
-    let sides = c.args.sides.now in let j = c.args.j in let wanted = c.fields-wanted.result in let n = c.loop-index.index in let x = c.index-wanted-index-in-loop-index.result in let y = c.index-wanted-index.result in
-    let view = length-map sides.reader.schema.now node_view in
-    let l : j < length (columns sides) = omega arith in let within : n < length wanted.ranks.now = omega arith in
-    let b = nth (columns sides) j l in
-    (field_named sides j n wanted b.0 b.1 (c.fields-wanted.ensures.are b.0 b.1) c.fields-wanted.ensures.ranked (get_or wanted.fields.now n y) (get_or wanted.ranks.now n x) (slice_get-get_or wanted.fields.now n y c.loop-index-test.true) (slice_get-get_or wanted.ranks.now n x within)).1
+named_at : (sides : Sides) (j n : ℕ) (wanted : Fields) → j < length sides.reader.schema.now → ((a : NodeView) → slice_get (columns sides) j ≡ Some a → map field_view wanted.fields.now ≡ fields_of a) → AreFieldsRanked (names_of sides.reader) (map field_view wanted.fields.now) wanted.ranks.now
+    → length wanted.ranks.now ≡ length wanted.fields.now → n < length wanted.fields.now → (d : Field) (e : FieldRanks)
+    → (field_at (columns sides) (record { place = j; index = n }) ≡ Some (field_view (get_or wanted.fields.now n d))) × IsFieldRanked (names_of sides.reader) (field_view (get_or wanted.fields.now n d)) (get_or wanted.ranks.now n e)
+named_at sides j n wanted l are ranked long within d e =
+    let view = length-map sides.reader.schema.now node_view in let beside : n < length wanted.ranks.now = omega arith in
+    let b = nth (columns sides) j (omega arith) in
+    field_named sides j n wanted b.0 b.1 (are b.0 b.1) ranked (get_or wanted.fields.now n d) (get_or wanted.ranks.now n e) (slice_get-get_or wanted.fields.now n d within) (slice_get-get_or wanted.ranks.now n e beside)
 
-pub basis-found-requires-clause-told : goal.basis-found-requires-clause-told
-basis-found-requires-clause-told c = λ found e.
-    let sides = c.args.sides.now in let j = c.args.j in let wanted = c.fields-wanted.result in let n = c.loop-index.index in let x = c.index-wanted-index-in-loop-index.result in let y = c.index-wanted-index.result in
-    let view = length-map sides.reader.schema.now node_view in
-    let l : j < length (columns sides) = omega arith in let within : n < length wanted.ranks.now = omega arith in
-    let b = nth (columns sides) j l in
-    let at = (field_named sides j n wanted b.0 b.1 (c.fields-wanted.ensures.are b.0 b.1) c.fields-wanted.ensures.ranked (get_or wanted.fields.now n y) (get_or wanted.ranks.now n x) (slice_get-get_or wanted.fields.now n y c.loop-index-test.true) (slice_get-get_or wanted.ranks.now n x within)).0 in
-    subst (λ (o : Option Found). IfSome o (λ x. (s : Sides) (g : FieldView) → IsRow s c.args.row.now → field_at (columns s) (record { place = j; index = n }) ≡ Some g → IsFound (row_fields c.args.row.now) x g)) e c.told_at-told.ensures sides (field_view (get_or wanted.fields.now n y)) c.requires.row at
+same_field : (fields : List Field) (n : ℕ) (d e : Field) → n < length fields → (sides : Sides) (row : Row) (source : Option ℕ) (asked : Wanted) → IsBasis sides row source asked (field_view (get_or fields n d)) → IsBasis sides row source asked (field_view (get_or fields n e))
+same_field fields n d e l sides row source asked h = subst (λ (f : Field). IsBasis sides row source asked (field_view f)) (get_or_any fields n d e l) h
 
-pub has-readable-requires-clause-i_in : goal.has-readable-requires-clause-i_in
-has-readable-requires-clause-i_in c =
-    let below = source_within c.args.sides.now c.args.row.now c.requires.row c.basis-found.result (field_view (get_or c.fields-wanted.result.fields.now c.loop-index.index c.index-wanted-index.result)) c.basis-found.ensures c.in-Some.place c.in-Some.is in
-    omega arith
+pub place_of-source-requires-clause-named : goal.place_of-source-requires-clause-named
+place_of-source-requires-clause-named c =
+    let sides = c.args.sides.now in let wanted = c.fields-wanted.result in let f = get_or wanted.fields.now c.loop-index.index c.index-wanted-index.result in
+    let here = named_at sides c.args.j c.loop-index.index wanted (omega arith) c.fields-wanted.ensures.are c.fields-wanted.ensures.ranked c.fields-wanted.ensures.long c.loop-index-test.true c.index-wanted-index.result c.index-wanted-index-in-None.result in
+    (field_view f, here.1)
 
-pub has-readable-requires-clause-j_in : goal.has-readable-requires-clause-j_in
-has-readable-requires-clause-j_in c =
-    let same = c.basis-found.ensures.1 in
-    let below = c.fields-wanted.ensures.in_schema c.loop-index.index c.index-wanted-index.result c.loop-index-test.true in
-    omega arith
+pub map_or-requires : goal.map_or-requires
+map_or-requires c =
+    let sides = c.args.sides.now in let row = c.args.row.now in let wanted = c.fields-wanted.result in let n = c.loop-index.index in
+    let here = named_at sides c.args.j n wanted (omega arith) c.fields-wanted.ensures.are c.fields-wanted.ensures.ranked c.fields-wanted.ensures.long c.loop-index-test.true in
+    let f = (nth wanted.fields.now n c.loop-index-test.true).0 in let x = (nth wanted.ranks.now n (omega arith)).0 in
+    let is : IsBasis sides row c.match-told_at.source.0 c.match-told_at.source.1 (field_view (get_or wanted.fields.now n f)) = elim c.match-told_at.branch [
+      | in-Some w ↦ rw w.source-is (w.in-Some.ensures sides (field_view (get_or wanted.fields.now n f)) c.requires.is (here f x).0)
+      | in-None w ↦ rw w.source-is (same_field wanted.fields.now n w.index-wanted-index.result f c.loop-index-test.true sides row w.place_of-source.result w.asked.result (
+          let own = (here w.index-wanted-index.result w.index-wanted-index-in-None.result).1 in
+          (w.place_of-source.ensures (field_view (get_or wanted.fields.now n w.index-wanted-index.result)) own, w.asked.ensures (names_of sides.reader) own)))
+    ] in
+    let below : (p : ℕ) → c.match-told_at.source.0 ≡ Some p → p < c.args.table.now.writers = (λ p e. let l = source_within sides row c.requires.is (field_view (get_or wanted.fields.now n f)) p (sym is.0 ∙ e) in omega arith) in
+    let same = is.1.0 in let in_schema = c.fields-wanted.ensures.in_schema n f c.loop-index-test.true in
+    let j_in : c.match-told_at.source.1.place < c.args.table.now.readers = omega arith in
+    search (rules, below)
 
-pub returns-then-not-readable : goal.returns-then-not-readable
-returns-then-not-readable c = λ b e.
-    let row = c.args.row.now in let wanted = c.fields-wanted.result in let n = c.loop-index.index in
-    let t = left c.args.table.now in let f = get_or wanted.fields.now n c.index-wanted-index.result in
-    let told : IsTrue c.match-found.readable ↔ Readable t (row_fields row) (field_view f) = (elim c.match-found.branch [
-      | in-Some w ↦ by_source t (row_fields row) c.basis-found.result (field_view f) c.basis-found.ensures w.in-Some.place c.match-found.readable w.in-Some.is (w.readable-is ∙ w.has-readable.ensures)
-      | in-None w ↦ by_default t (row_fields row) c.basis-found.result (field_view f) c.basis-found.ensures c.match-found.readable w.in-None.is w.readable-is
-    ]) in
+pub returns-then-not-map_or : goal.returns-then-not-map_or
+returns-then-not-map_or c = λ b e.
+    let sides = c.args.sides.now in let row = c.args.row.now in let wanted = c.fields-wanted.result in let n = c.loop-index.index in
+    let here = named_at sides c.args.j n wanted (omega arith) c.fields-wanted.ensures.are c.fields-wanted.ensures.ranked c.fields-wanted.ensures.long c.loop-index-test.true in
+    let f = (nth wanted.fields.now n c.loop-index-test.true).0 in let x = (nth wanted.ranks.now n (omega arith)).0 in
+    let is : IsBasis sides row c.match-told_at.source.0 c.match-told_at.source.1 (field_view (get_or wanted.fields.now n f)) = elim c.match-told_at.branch [
+      | in-Some w ↦ rw w.source-is (w.in-Some.ensures sides (field_view (get_or wanted.fields.now n f)) c.requires.is (here f x).0)
+      | in-None w ↦ rw w.source-is (same_field wanted.fields.now n w.index-wanted-index.result f c.loop-index-test.true sides row w.place_of-source.result w.asked.result (
+          let own = (here w.index-wanted-index.result w.index-wanted-index-in-None.result).1 in
+          (w.place_of-source.ensures (field_view (get_or wanted.fields.now n w.index-wanted-index.result)) own, w.asked.ensures (names_of sides.reader) own)))
+    ] in
+    let t = left c.args.table.now in
+    let read : MatchOption c.match-told_at.source.0 (c.map_or.result ≡ c.match-told_at.source.1.has_default) (λ p. c.map_or.result ≡ t p c.match-told_at.source.1.place) = search rules in
+    let told = by_either t (row_fields row) c.match-told_at.source.1 (field_view (get_or wanted.fields.now n f)) c.match-told_at.source.0 c.map_or.result is.0 is.1.0 is.1.1 read in
     readable_as t (row_fields row) _ row.fields.fields.now wanted.fields.now refl (c.fields-wanted.ensures.are b e) false (
       (λ h. absurd (true≢false (sym h))),
-      (λ h. sym c.if-not-readable.true ∙ told.1 (h n c.index-wanted-index.result c.loop-index-test.true)),
+      (λ h. sym c.if-not-map_or.true ∙ told.1 (h n f c.loop-index-test.true)),
     )
 
 pub loop-index-preserved : goal.loop-index-preserved
 loop-index-preserved c = λ k d l.
-    let row = c.args.row.now in let wanted = c.fields-wanted.result in let n = c.loop-index.index in
-    let t = left c.args.table.now in let f = get_or wanted.fields.now n c.index-wanted-index.result in
-    let told : IsTrue c.match-found.readable ↔ Readable t (row_fields row) (field_view f) = (elim c.match-found.branch [
-      | in-Some w ↦ by_source t (row_fields row) c.basis-found.result (field_view f) c.basis-found.ensures w.in-Some.place c.match-found.readable w.in-Some.is (w.readable-is ∙ w.has-readable.ensures)
-      | in-None w ↦ by_default t (row_fields row) c.basis-found.result (field_view f) c.basis-found.ensures c.match-found.readable w.in-None.is w.readable-is
-    ]) in
+    let sides = c.args.sides.now in let row = c.args.row.now in let wanted = c.fields-wanted.result in let n = c.loop-index.index in
+    let here = named_at sides c.args.j n wanted (omega arith) c.fields-wanted.ensures.are c.fields-wanted.ensures.ranked c.fields-wanted.ensures.long c.loop-index-test.true in
+    let f = (nth wanted.fields.now n c.loop-index-test.true).0 in let x = (nth wanted.ranks.now n (omega arith)).0 in
+    let is : IsBasis sides row c.match-told_at.source.0 c.match-told_at.source.1 (field_view (get_or wanted.fields.now n f)) = elim c.match-told_at.branch [
+      | in-Some w ↦ rw w.source-is (w.in-Some.ensures sides (field_view (get_or wanted.fields.now n f)) c.requires.is (here f x).0)
+      | in-None w ↦ rw w.source-is (same_field wanted.fields.now n w.index-wanted-index.result f c.loop-index-test.true sides row w.place_of-source.result w.asked.result (
+          let own = (here w.index-wanted-index.result w.index-wanted-index-in-None.result).1 in
+          (w.place_of-source.ensures (field_view (get_or wanted.fields.now n w.index-wanted-index.result)) own, w.asked.ensures (names_of sides.reader) own)))
+    ] in
+    let t = left c.args.table.now in
+    let read : MatchOption c.match-told_at.source.0 (c.map_or.result ≡ c.match-told_at.source.1.has_default) (λ p. c.map_or.result ≡ t p c.match-told_at.source.1.place) = search rules in
+    let told = by_either t (row_fields row) c.match-told_at.source.1 (field_view (get_or wanted.fields.now n f)) c.match-told_at.source.0 c.map_or.result is.0 is.1.0 is.1.1 read in
     let readable = λ (g : Field). Readable t (row_fields row) (field_view g) in
-    let here : readable f = told.0 c.if-not-readable.false in
     elim (cases_lt k n) [
       | inl g ↦ c.loop-index.invariant k d g
-      | inr g ↦ (let same : n ≡ k = omega arith in subst (λ (i : ℕ). readable (get_or wanted.fields.now i d)) same (subst readable (get_or_any wanted.fields.now n c.index-wanted-index.result d c.loop-index-test.true) here))
+      | inr g ↦ (let same : n ≡ k = omega arith in subst (λ (i : ℕ). readable (get_or wanted.fields.now i d)) same (subst readable (get_or_any wanted.fields.now n f d c.loop-index-test.true) (told.0 c.if-not-map_or.false)))
     ]
 
 pub returns : goal.returns

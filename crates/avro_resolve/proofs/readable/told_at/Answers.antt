@@ -2,11 +2,12 @@ use Rattle.std.proofs.Common.{rules, ◌≡◌, ◌<◌, ◌≤◌, ◌-◌, ◌
 use Rattle.std.specs.Prelude.{MatchOption, slice_get}
 use Rattle.std.specs.Option.{IsSomeAnd, SomeIff}
 use Rattle.std.proofs.lemmas.Option.{same_Some, slice_get-get_or}
-use Rattle.avro_resolve.specs.declared.aliased.Aliased.{Aliased}
+use Rattle.avro_resolve.specs.declared.readable.Aliased.{Aliased}
+use Rattle.avro_resolve.specs.declared.readable.Wanted.{Wanted}
 use Rattle.avro_resolve.specs.Asking.{source_place}
 use Rattle.avro_resolve.specs.Inside.Rows.{row_fields}
-use Rattle.avro_resolve.specs.Inside.Sides.{columns}
-use Rattle.avro_resolve.specs.Inside.Sources.{code, IsEntry, IsWanted}
+use Rattle.avro_resolve.specs.Inside.Sides.{columns, names_of}
+use Rattle.avro_resolve.specs.Inside.Sources.{code, Describes, IsEntry, IsWanted}
 use Rattle.avro_resolve.proofs.LinkLemmas.{zip_got}
 use Rattle.avro_resolve.proofs.readable.told_at.Goals as goal
 
@@ -21,6 +22,9 @@ place_told e (Some x) None o has h eq = absurd h
 place_told e (Some x) (Some y) None has h eq = absurd (omega (arith, has.0, eq))
 place_told e (Some x) (Some y) (Some p) has h eq = ap (λ (z : ℕ). Some z) (omega (arith, has.1, eq, h))
 
+asked_by : {X : Type 0} (P : X → Type 0) (o : Option X) (x : X) → o ≡ Some x → IsSomeAnd o P → P x
+asked_by P o x e h = subst (λ q. IsSomeAnd q P) e h
+
 pub returns : goal.returns
 returns c = λ sides f is at.
     let row = c.args.row.now in let P = IsEntry (columns sides) (row_fields row) in let Q = IsWanted sides.reader in let n = c.args.number in
@@ -30,6 +34,8 @@ returns c = λ sides f is at.
     let two = got row.numbered.wanted.now n c.in_ok-wanted.wanted.now c.in_ok-wanted.ensures.lookup.3 in
     let entry = zip_got P row.numbered.aliased.now row.entries.now is.entries n c.args.field field in
     let wanted = zip_got Q row.numbered.aliased.now row.numbered.wanted.now is.wanted n c.args.field field in
-    let rest = (subst (Q c.args.field) (same_Some wanted.0 c.in_ok-wanted.wanted.now (sym wanted.1 ∙ two)) wanted.2).told f at in
-    let code = subst (P c.args.field) (same_Some entry.0 c.in_ok-entry.entry.now (sym entry.1 ∙ one)) entry.2 f at in
-    (place_told c.in_ok-entry.entry.now c.checked_sub.result c.map.result (source_place (row_fields row) f) c.checked_sub.ensures c.map.ensures.cases code, rest.0, rest.1)
+    let told = (subst (Q c.args.field) (same_Some wanted.0 c.in_ok-wanted.wanted.now (sym wanted.1 ∙ two)) wanted.2).told f at in
+    let code = subst (P c.args.field) (same_Some entry.0 c.in_ok-entry.entry.now (sym entry.1 ∙ one)) entry.2 f at in (
+      place_told c.in_ok-entry.entry.now c.checked_sub.result c.map.result (source_place (row_fields row) f) c.checked_sub.ensures c.map.ensures.cases code,
+      asked_by (λ (w : Wanted). Describes (names_of sides.reader) w f) c.in_ok-wanted.wanted.now c.in_ok-wanted-2.field-0 c.in_ok-wanted-2.was told,
+    )

@@ -1,58 +1,107 @@
-use Rattle.std.proofs.Common.{◌≡◌, ℕ, ap, length, subst, inl, inr, ◌∙◌, sym, arith}
-use Rattle.std.specs.Prelude.{Some, slice_get, string_bytes, Vec}
+use Rattle.std.proofs.Common.{rules, ◌∙◌, ◌≡◌, ◌<◌, ◌≤◌, ℕ, zero, suc, List, Option, None, Some, ap, length, map, refl, replicate, subst, inl, inr, sym, arith, take_all}
+use Rattle.std.specs.Prelude.{string_bytes, Vec}
 use Rattle.std.specs.List.{AllZip}
 use Rattle.std.specs.declared.alloc.Global.{Global}
 use Rattle.std.proofs.lemmas.Bool.{cases_lt}
-use Rattle.std.proofs.lemmas.List.{length-map, length-set}
-use Rattle.std.proofs.lemmas.Option.{slice_get_within}
-use Rattle.avro_nodes.specs.Nodes.{NodeView, node_view}
+use Rattle.std.proofs.lemmas.List.{length-map, length-replicate}
+use Rattle.std.proofs.lemmas.List.Elements.{All-weaker}
+use Rattle.avro_nodes.specs.declared.node.Field.{Field}
+use Rattle.avro_nodes.specs.Nodes.{FieldView, NodeView, field_view, node_view}
 use Rattle.avro_resolve.specs.Inside.Agreeing.{fields_of}
 use Rattle.avro_resolve.specs.Inside.Laying.{IsClear}
 use Rattle.avro_resolve.specs.Inside.Left.{Settled}
-use Rattle.avro_resolve.specs.Inside.Sides.{columns, rows}
-use Rattle.avro_resolve.specs.Inside.Sources.{IsEntry}
-use Rattle.avro_resolve.proofs.RowLemmas.{set_cases, zip_each}
+use Rattle.avro_resolve.specs.Inside.Sides.{columns, names_of, rows}
+use Rattle.avro_resolve.specs.Inside.Sources.{IsEntry, IsWanted}
+use Rattle.avro_resolve.proofs.LinkLemmas.{zip_more}
+use Rattle.avro_resolve.proofs.Meeting.{met_below}
 use Rattle.avro_resolve.proofs.Settling.{lists_none, lists_then, settled_on}
+use Rattle.avro_resolve.proofs.Sourcing.{nth}
 use Rattle.avro_resolve.proofs.rows.look_everywhere.Goals as goal
+
+none_alone : (P : Option ℕ → Type 0) → ((x : ℕ) → P (Some x) → ⊥) → (y : Option ℕ) → P y → y ≡ None
+none_alone P never None h = refl
+none_alone P never (Some x) h = absurd (never x h)
+
+clear_boxes : (n : ℕ) → IsClear (replicate n None)
+clear_boxes zero rank k e = absurd cc
+clear_boxes (suc n) zero k e = absurd cc
+clear_boxes (suc n) (suc rank) k e = clear_boxes n rank k e
 
 pub loop-place-init : goal.loop-place-init
 loop-place-init c =
-    let view = length-map c.args.sides.now.writer.schema.now node_view in
     let same = c.as_mut_slice-boxes.ensures.value in
     let names = length-map c.args.sides.now.reader.index.now.names.items string_bytes in
-    let room = c.in_ok-make_room.ensures.room in
+    let n = c.len.result in let none : Option ℕ = None in
+    let made : c.as_mut_slice-boxes.result.now ≡ replicate n none = same ∙ c.in_ok-made.ensures.items_if_clones_equal (none_alone _ (λ x g. g)) in
+    let long : length (replicate n none) ≡ n = length-replicate n none in
     record {
-      clear = subst IsClear (sym same) c.make_room.ensures.clear;
-      room = omega (arith, names, room, ap length same);
-      long = c.in_ok-sources.ensures.long ∙ c.places-2.ensures.places ∙ sym view;
-      sources = λ i a row lo e f. absurd (omega (arith, lo));
+      clear = subst IsClear (sym made) (clear_boxes n);
+      room = omega (arith, names, long, ap length made, c.len.ensures);
+      sources = search rules;
       rest = c.requires.rest.1;
       lists = lists_none c.args.progress.now.table c.args.progress.now.struck.items;
       settled = λ a b lo l. absurd (omega (arith, lo));
     }
 
+pub lay-requires-clause-holds : goal.lay-requires-clause-holds
+lay-requires-clause-holds c = λ name rank e.
+    let sides = c.args.sides.now in let room = c.loop-place.invariant.room in
+    let below = met_below (names_of sides.writer) (names_of sides.reader) sides.met.ranks.items c.requires.rest.0.met name rank e in
+    omega arith
+
+pub row_of-requires-clause-laid : goal.row_of-requires-clause-laid
+row_of-requires-clause-laid c =
+    let room = c.loop-place.invariant.room in let kept = c.lay.auto.boxes in
+    record { both = c.requires.rest.0; ranked = c.fields-fields.ensures.ranked; laid = c.lay.ensures; room = omega arith }
+
+pub row_of-requires-clause-fields_in : goal.row_of-requires-clause-fields_in
+row_of-requires-clause-fields_in c =
+    let s = c.args.sides.now.writer.schema.now in let few = c.requires.rest.0.writer.few in
+    All-weaker (λ (g : Field). g.place < length s) (λ (g : Field). g.place < 65535) (λ g h. omega arith) c.fields-fields.result.fields.now c.fields-fields.ensures.in_schema
+
+pub row_of-requires-clause-wanted : goal.row_of-requires-clause-wanted
+row_of-requires-clause-wanted c = subst (AllZip (IsWanted c.args.sides.now.reader) c.args.aliased.now) (sym c.deref-2.ensures.value) c.in_ok-wanted.ensures
+
+pub look_along_row-requires-clause-row : goal.look_along_row-requires-clause-row
+look_along_row-requires-clause-row c =
+    let sides = c.args.sides.now in let room = c.loop-place.invariant.room in let kept = c.lay.auto.boxes in let at = c.loop-place-test.true in let end = c.places-place-end.ensures.places in
+    record {
+      within = omega arith;
+      are = c.fields-fields.ensures.are;
+      places = c.fields-fields.ensures.in_schema;
+      laid = record { both = c.requires.rest.0; ranked = c.fields-fields.ensures.ranked; laid = c.lay.ensures; room = omega arith };
+      entries = subst (λ (xs : List ℕ). AllZip (IsEntry (columns sides) (map field_view c.fields-fields.result.fields.now)) c.args.aliased.now xs) (sym c.deref-in-loop-place.ensures.value) c.in_ok-entries.ensures;
+      wanted = subst (AllZip (IsWanted sides.reader) c.args.aliased.now) (sym c.deref-2.ensures.value) c.in_ok-wanted.ensures;
+    }
+
+pub lift-requires-clause-holds : goal.lift-requires-clause-holds
+lift-requires-clause-holds c = λ name rank e.
+    let sides = c.args.sides.now in let room = c.loop-place.invariant.room in let kept = c.lay.auto.boxes in
+    let below = met_below (names_of sides.writer) (names_of sides.reader) sides.met.ranks.items c.requires.rest.0.met name rank e in
+    omega arith
+
 pub loop-place-preserved : goal.loop-place-preserved
 loop-place-preserved c =
-    let w = rows c.args.sides.now in let r = columns c.args.sides.now in let p = c.loop-place.place in
-    let u = c.loop-place.progress.table in let v = c.look_at_row.new.progress.table in let qs = c.loop-place.progress.struck.items in let rs = c.look_at_row.new.progress.struck.items in
-    let old = c.loop-place.sources.items in let more = c.in_ok-entries.entries in let is = c.in_ok-entries.ensures in let all = c.args.aliased.now in
+    let w = rows c.args.sides.now in let r = columns c.args.sides.now in let p = c.loop-place.place in let inv = c.loop-place.invariant in let all = c.args.aliased.now in
+    let u = c.loop-place.progress.table in let v = c.look_along_row.new.progress.table in let qs = c.loop-place.progress.struck.items in let rs = c.look_along_row.new.progress.struck.items in
+    let is = c.in_ok-look_along_row.ensures in let entries = c.in_ok-entries.entries in let room = inv.room in let laid = c.lay.auto.boxes in let lifted = c.lift.auto.boxes in
+    let view = length-map c.args.sides.now.writer.schema.now node_view in
+    let a = nth w p (omega (arith, view, c.loop-place-test.true, c.places-place-end.ensures.places)) in
+    let P = λ (x : NodeView) (row : Vec ℕ Global). AllZip (IsEntry r (fields_of x)) all row.items in
     record {
-      clear = is.clear;
+      clear = c.lift.ensures;
       room = omega arith;
-      long = length-set old p more ∙ c.loop-place.invariant.long;
-      sources = λ i a row lo e f. elim (set_cases old p i more row f) [
-        | inl h ↦ subst (λ (v : Vec ℕ Global). AllZip (IsEntry r (fields_of a)) all v.items) h.1 (is.entries a (subst (λ (x : ℕ). slice_get w x ≡ Some a) h.0 e))
-        | inr h ↦ c.loop-place.invariant.sources i a row (omega (arith, lo, h.0)) e h.1
-      ];
+      sources = rw c.in_ok-push.ensures.items (zip_more P w p a.0 c.loop-place.sources.items entries a.1 inv.sources (subst (λ (fs : List FieldView). AllZip (IsEntry r fs) all entries.items) (c.fields-fields.ensures.are a.0 a.1) c.in_ok-entries.ensures));
       rest = is.strikes.0;
-      lists = lists_then c.args.progress.now.table u v c.args.progress.now.struck.items qs rs c.loop-place.invariant.lists is.strikes.1;
+      lists = lists_then c.args.progress.now.table u v c.args.progress.now.struck.items qs rs inv.lists is.strikes.1;
       settled = λ a b lo l. elim (cases_lt a p) [
-        | inl g ↦ settled_on w r u v qs rs a b c.requires.rest.0.writer.whole c.requires.rest.0.reader.whole is.strikes.1 (c.loop-place.invariant.settled a b g l)
+        | inl g ↦ settled_on w r u v qs rs a b c.requires.rest.0.writer.whole c.requires.rest.0.reader.whole is.strikes.1 (inv.settled a b g l)
         | inr g ↦ (let e : p ≡ a = omega arith in subst (λ (x : ℕ). Settled w r v rs x b) e (is.settled b l))
       ];
     }
 
 pub returns-clause-sources : goal.returns-clause-sources
 returns-clause-sources c =
-    let r = columns c.args.sides.now in let all = c.args.aliased.now in
-    zip_each (λ (a : NodeView) (row : Vec ℕ Global). AllZip (IsEntry r (fields_of a)) all row.items) (rows c.args.sides.now) c.loop-place.sources.items c.loop-place.invariant.long (λ k a row e f. c.loop-place.invariant.sources k a row (let l = slice_get_within (rows c.args.sides.now) k a e in let view = length-map c.args.sides.now.writer.schema.now node_view in let all = c.places-place-end.ensures.places in omega arith) e f)
+    let w = rows c.args.sides.now in let r = columns c.args.sides.now in let view = length-map c.args.sides.now.writer.schema.now node_view in
+    let past : length w ≤ c.loop-place.place = omega (arith, view, c.loop-place-test.false, c.places-place-end.ensures.places) in
+    subst (λ (xs : List NodeView). AllZip (λ a (row : Vec ℕ Global). AllZip (IsEntry r (fields_of a)) c.args.aliased.now row.items) xs c.loop-place.sources.items) (take_all c.loop-place.place w past) c.loop-place.invariant.sources

@@ -1,28 +1,18 @@
-use Rattle.std.proofs.Common.{true≢false, sym, ◌∙◌}
+use Rattle.std.proofs.Common.{List, sym, subst, ◌∙◌}
 use Rattle.std.proofs.lemmas.List.{length-map}
-use Rattle.avro_nodes.specs.Nodes.{nodes_view}
-use Rattle.avro_resolve.specs.Inside.Left.{left}
-use Rattle.avro_resolve.proofs.Agreement.{supports_agreed}
-use Rattle.avro_resolve.proofs.Settling.{fewer_struck, gone_struck}
 use Rattle.avro_resolve.proofs.Strikes.{struck_pair}
-use Rattle.avro_resolve.proofs.rows.strike_pair.Goals.{else-has-via-then-has+else-not-agree_at, else-has-via-else-has}
+use Rattle.avro_resolve.proofs.Settling.{fewer_struck, lists_struck}
+use Rattle.avro_resolve.specs.Witnesses.{Pair}
+use Rattle.avro_resolve.specs.Inside.Left.{Lists}
+use Rattle.avro_resolve.specs.Inside.Sides.{columns, rows}
 use Rattle.avro_resolve.proofs.rows.strike_pair.Goals as goal
 
-pub returns-then-not-agree_at-clause-rest : goal.returns-then-not-agree_at-clause-rest
-returns-then-not-agree_at-clause-rest c =
-    let w = nodes_view c.args.sides.now.writer.schema.now in let r = nodes_view c.args.sides.now.reader.schema.now in let t = c.args.table.now in
-    struck_pair w r t c.strike.new.self c.args.i c.args.j c.requires.sides.writer.whole c.requires.sides.reader.whole c.requires.rest
-    (rw length-map c.requires.i_in) (rw length-map c.requires.j_in) (sym c.has.ensures ∙ c.if-has.true)
-    (λ s. true≢false (sym (c.agree_at.ensures.1 (supports_agreed w r (left t) c.args.i c.args.j s)) ∙ c.if-not-agree_at.true)) c.strike.ensures.shape c.strike.ensures.others c.strike.ensures.fewer
-
-pub returns-then-not-agree_at-clause-fewer : goal.returns-then-not-agree_at-clause-fewer
-returns-then-not-agree_at-clause-fewer c = fewer_struck c.args.table.now c.strike.new.self c.args.i c.args.j c.strike.ensures.others
-
-pub returns-then-not-agree_at-clause-agreed : goal.returns-then-not-agree_at-clause-agreed
-returns-then-not-agree_at-clause-agreed c h = absurd (true≢false (sym h ∙ gone_struck c.args.table.now c.strike.new.self c.args.i c.args.j c.strike.ensures.others))
-
-pub returns-else-has-clause-agreed : goal.returns-else-has-clause-agreed
-returns-else-has-clause-agreed c h = elim c.else-has.branch [
-  | else-has-via-then-has+else-not-agree_at b ↦ b.agree_at.ensures.0 b.if-not-agree_at.false
-  | else-has-via-else-has b ↦ absurd (true≢false (sym h ∙ sym c.has.ensures ∙ b.if-has.false))
-]
+pub returns-clause-strikes : goal.returns-clause-strikes
+returns-clause-strikes c =
+    let w = rows c.args.sides.now in let r = columns c.args.sides.now in let t = c.args.progress.now.table in let v = c.strike.new.self in let ps = c.args.progress.now.struck.items in
+    let rest = struck_pair w r t v c.args.i c.args.j c.requires.rest.0.writer.whole c.requires.rest.0.reader.whole c.requires.rest.1.rest
+    (rw length-map c.requires.i_in) (rw length-map c.requires.j_in) (sym c.has.ensures ∙ c.if-not-has.false) c.requires.unsupported c.strike.ensures.shape c.strike.ensures.others c.strike.ensures.fewer in
+    let lists = lists_struck t v ps c.args.i c.args.j c.strike.ensures.others c.strike.ensures.fewer in (
+      record { rest = rest; agreed = λ a b l k h. c.requires.rest.1.agreed a b l k (fewer_struck t v c.args.i c.args.j c.strike.ensures.others a b h) },
+      subst (λ (qs : List Pair). Lists t ps v qs) (sym c.in_ok-push.ensures.items) lists,
+    )

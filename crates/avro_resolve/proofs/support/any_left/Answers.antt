@@ -1,21 +1,15 @@
-use Rattle.std.proofs.Common.{◌≡◌, ℕ, Option, None, Some, refl, inl, inr}
+use Rattle.std.proofs.Common.{◌≡◌, ◌<◌, ℕ, false, get_or, length, subst, sym, ◌∙◌, inl, inr, arith}
 use Rattle.std.proofs.lemmas.Bool.{cases_lt}
 use Rattle.avro_resolve.specs.Inside.Left.{left}
-use Rattle.avro_resolve.proofs.SupportLemmas.{found_at, found_any}
+use Rattle.avro_resolve.proofs.ListLemmas.{get_or_any}
 use Rattle.avro_resolve.proofs.support.any_left.Goals as goal
 
-pub returns-in-Some : goal.returns-in-Some
-returns-in-Some c = (
-  (λ h. found_at (left c.args.table.now c.args.i) c.args.places.now c.in-Some.at c.in-Some.ensures.found),
-  (λ h. refl),
-)
-
-not_some : (o : Option ℕ) → ((n : ℕ) → o ≡ Some n → ⊥) → o ≡ None
-not_some None h = refl
-not_some (Some n) h = absurd (h n refl)
-
-pub returns : goal.returns
-returns c = found_any (left c.args.table.now c.args.i) c.args.places.now _ _ c.is_some.ensures c.next_left-2.ensures.found (λ e k d lo l. elim (cases_lt k c.min-from.result) [
-  | inl g ↦ c.next_left-2.ensures.none e k d lo g
-  | inr g ↦ c.next_left.ensures.none (not_some c.next_left.result c.in_default.not-Some) k d g l
-])
+pub loop-at-preserved : goal.loop-at-preserved
+loop-at-preserved c = λ k d lo hi le.
+    let ps = c.args.places.now in let at = c.loop-at.at in
+    let within : at < length ps = c.loop-at-test.true in
+    let none = λ (p : ℕ). left c.args.table.now c.args.i p ≡ false in
+    elim (cases_lt k at) [
+      | inl g ↦ c.loop-at.invariant k d lo g le
+      | inr g ↦ (let e : at ≡ k = omega arith in subst (λ (x : ℕ). none (get_or ps x d)) e (subst none (get_or_any ps at 0 d within) (sym c.has.ensures ∙ c.if-has.false)))
+    ]

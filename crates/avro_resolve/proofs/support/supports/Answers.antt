@@ -1,29 +1,72 @@
-use Rattle.std.proofs.Common.{◌≡◌, ℕ, length, sym, subst, ◌∙◌}
+use Rattle.std.proofs.Common.{rules, ◌≡◌, ◌<◌, ℕ, List, Bool, length, refl, sym, subst, ◌∙◌}
+use Rattle.std.specs.Prelude.{◌↔◌, All, IsTrue, Some, slice_get}
+use Rattle.std.proofs.iter.Serving.{serving}
 use Rattle.std.proofs.lemmas.List.{length-map}
-use Rattle.avro_nodes.specs.Nodes.{node_view}
-use Rattle.avro_resolve.specs.Inside.Places.{Names}
+use Rattle.avro_nodes.specs.Nodes.{NodeView, node_view}
+use Rattle.avro_resolve.specs.Resolution.{Fits, Pairs, Supports}
+use Rattle.avro_resolve.specs.declared.sides.Side.{Side}
+use Rattle.avro_resolve.specs.Inside.Agreeing.{Agree}
 use Rattle.avro_resolve.specs.Inside.Left.{left}
-use Rattle.avro_resolve.specs.Inside.Sides.{columns, rows}
+use Rattle.avro_resolve.specs.Inside.Places.{Names}
+use Rattle.avro_resolve.specs.Inside.Sides.{columns, nodes_of, rows, IsSide}
 use Rattle.avro_resolve.proofs.Agreement.{agreed_at}
 use Rattle.avro_resolve.proofs.Monotone.{at_place, supports_at}
 use Rattle.avro_resolve.proofs.support.supports.Goals as goal
 
-pub asked_left-requires-clause-agree : goal.asked_left-requires-clause-agree
-asked_left-requires-clause-agree c = (agreed_at (rows c.args.sides.now) (columns c.args.sides.now) c.args.row.now.place c.args.j (node_view c.node-a.result.now) (node_view c.node-b.result.now) c.node-a.ensures.node c.node-b.ensures.node).0 c.requires.agreed
+-- the places that a node names are below the number of the places
+names_below : (side : Side) → IsSide side → (n : ℕ) → n ≡ length side.schema.now → (i : ℕ) (a : NodeView) → slice_get (nodes_of side) i ≡ Some a → Names n a
+names_below side is n e i a at = subst (λ (m : ℕ). Names m a) (length-map side.schema.now node_view ∙ sym e) (at_place (nodes_of side) (Names (length (nodes_of side))) i a is.whole at)
 
-pub asked_left-requires-clause-a_in : goal.asked_left-requires-clause-a_in
-asked_left-requires-clause-a_in c =
-    let s = c.args.sides.now.writer.schema.now in let w = rows c.args.sides.now in let a = node_view c.node-a.result.now in
-    let same : length w ≡ c.args.table.now.writers = length-map s node_view ∙ sym c.requires.writers in
-    subst (λ (n : ℕ). Names n a) same (at_place w (Names (length w)) c.args.row.now.place a c.requires.sides.writer.whole c.node-a.ensures.node)
+fits_supports : (w r : List NodeView) (R : Pairs) (i j : ℕ) (a b : NodeView) → slice_get w i ≡ Some a → slice_get r j ≡ Some b → (t : Bool) → IsTrue t ↔ Fits R i j a b → IsTrue t ↔ Supports w r R i j
+fits_supports w r R i j a b ea eb t told = let s = supports_at w r R i j a b ea eb in ((λ h. s.1 (told.0 h)), (λ h. told.1 (s.0 h)))
 
-pub asked_left-requires-clause-b_in : goal.asked_left-requires-clause-b_in
-asked_left-requires-clause-b_in c =
-    let s = c.args.sides.now.reader.schema.now in let r = columns c.args.sides.now in let b = node_view c.node-b.result.now in
-    let same : length r ≡ c.args.table.now.readers = length-map s node_view ∙ sym c.requires.readers in
-    subst (λ (n : ℕ). Names n b) same (at_place r (Names (length r)) c.args.j b c.requires.sides.reader.whole c.node-b.ensures.node)
+pub all-requires-clause-callable : goal.all-requires-clause-callable
+all-requires-clause-callable c =
+    let names : Names c.args.table.now.writers (node_view c.node.result.now) = names_below c.args.sides.now.writer c.requires.over.both.writer c.args.table.now.writers c.requires.over.writers c.args.row.now.place (node_view c.node.result.now) c.node.ensures.node in
+    let within : All (λ p. p < c.args.table.now.writers) c.in-Union-default.branches.items = rw c.in-Union-default.is-0 at names in
+    grind serving
 
-pub returns : goal.returns
-returns c =
-    let s = supports_at (rows c.args.sides.now) (columns c.args.sides.now) (left c.args.table.now) c.args.row.now.place c.args.j (node_view c.node-a.result.now) (node_view c.node-b.result.now) c.node-a.ensures.node c.node-b.ensures.node in
-    ((λ h. s.1 (c.asked_left.ensures.0 h)), (λ h. c.asked_left.ensures.1 (s.0 h)))
+pub has-requires-clause-i_in : goal.has-requires-clause-i_in
+has-requires-clause-i_in c = rw c.in-Array-Array.is-0 at (names_below c.args.sides.now.writer c.requires.over.both.writer c.args.table.now.writers c.requires.over.writers c.args.row.now.place (node_view c.node.result.now) c.node.ensures.node)
+
+pub has-requires-clause-j_in : goal.has-requires-clause-j_in
+has-requires-clause-j_in c = rw c.in-Array-Array.is-1 at (names_below c.args.sides.now.reader c.requires.over.both.reader c.args.table.now.readers c.requires.over.readers c.args.j (node_view c.node-2.result.now) c.node-2.ensures.node)
+
+pub has-requires-in-Map-Map-clause-i_in : goal.has-requires-in-Map-Map-clause-i_in
+has-requires-in-Map-Map-clause-i_in c = rw c.in-Map-Map.is-0 at (names_below c.args.sides.now.writer c.requires.over.both.writer c.args.table.now.writers c.requires.over.writers c.args.row.now.place (node_view c.node.result.now) c.node.ensures.node)
+
+pub has-requires-in-Map-Map-clause-j_in : goal.has-requires-in-Map-Map-clause-j_in
+has-requires-in-Map-Map-clause-j_in c = rw c.in-Map-Map.is-1 at (names_below c.args.sides.now.reader c.requires.over.both.reader c.args.table.now.readers c.requires.over.readers c.args.j (node_view c.node-2.result.now) c.node-2.ensures.node)
+
+pub any_left-requires-clause-within : goal.any_left-requires-clause-within
+any_left-requires-clause-within c =
+    let names : Names c.args.table.now.readers (node_view c.node-2.result.now) = names_below c.args.sides.now.reader c.requires.over.both.reader c.args.table.now.readers c.requires.over.readers c.args.j (node_view c.node-2.result.now) c.node-2.ensures.node in
+    search rules
+
+pub returns-in-Union-default : goal.returns-in-Union-default
+returns-in-Union-default c = fits_supports (rows c.args.sides.now) (columns c.args.sides.now) (left c.args.table.now) c.args.row.now.place c.args.j (node_view c.node.result.now) (node_view c.node-2.result.now) c.node.ensures.node c.node-2.ensures.node c.all.result (search rules)
+
+pub returns-in-Array-Array : goal.returns-in-Array-Array
+returns-in-Array-Array c = fits_supports (rows c.args.sides.now) (columns c.args.sides.now) (left c.args.table.now) c.args.row.now.place c.args.j (node_view c.node.result.now) (node_view c.node-2.result.now) c.node.ensures.node c.node-2.ensures.node c.has.result (search rules)
+
+pub returns-in-Map-Map : goal.returns-in-Map-Map
+returns-in-Map-Map c = fits_supports (rows c.args.sides.now) (columns c.args.sides.now) (left c.args.table.now) c.args.row.now.place c.args.j (node_view c.node.result.now) (node_view c.node-2.result.now) c.node.ensures.node c.node-2.ensures.node c.has-in-Map-Map.result (search rules)
+
+pub returns-in-Rec-Rec : goal.returns-in-Rec-Rec
+returns-in-Rec-Rec c =
+    let a = node_view c.node.result.now in let b = node_view c.node-2.result.now in
+    let mine = rw c.in-Rec-Rec.is-0 at (c.requires.over.is.are a c.node.ensures.node) in
+    let told = rw c.in-Rec-Rec.is-1 at (c.all_readable.ensures b c.node-2.ensures.node) in
+    let names = (rw (c.in-Rec-Rec.is-0, c.in-Rec-Rec.is-1) at ((agreed_at (rows c.args.sides.now) (columns c.args.sides.now) c.args.row.now.place c.args.j a b c.node.ensures.node c.node-2.ensures.node).0 c.requires.agreed)).0 in
+    fits_supports (rows c.args.sides.now) (columns c.args.sides.now) (left c.args.table.now) c.args.row.now.place c.args.j a b c.node.ensures.node c.node-2.ensures.node c.all_readable.result
+    (rw (c.in-Rec-Rec.is-0, c.in-Rec-Rec.is-1, ← mine) ((λ h. (names, told.0 h)), (λ h. told.1 h.1)))
+
+pub returns-in_default-Union : goal.returns-in_default-Union
+returns-in_default-Union c = fits_supports (rows c.args.sides.now) (columns c.args.sides.now) (left c.args.table.now) c.args.row.now.place c.args.j (node_view c.node.result.now) (node_view c.node-2.result.now) c.node.ensures.node c.node-2.ensures.node c.any_left.result (search rules)
+
+pub returns-in_default-4 : goal.returns-in_default-4
+returns-in_default-4 c =
+    let a = node_view c.node.result.now in let b = node_view c.node-2.result.now in
+    let agree : Agree a b = (agreed_at (rows c.args.sides.now) (columns c.args.sides.now) c.args.row.now.place c.args.j a b c.node.ensures.node c.node-2.ensures.node).0 c.requires.agreed in
+    let fits : Fits (left c.args.table.now) c.args.row.now.place c.args.j a b = search rules in
+    ((λ h. (supports_at (rows c.args.sides.now) (columns c.args.sides.now) (left c.args.table.now) c.args.row.now.place c.args.j a b c.node.ensures.node c.node-2.ensures.node).1 fits), (λ h. refl))

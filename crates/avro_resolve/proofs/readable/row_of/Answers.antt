@@ -1,0 +1,102 @@
+use Rattle.std.proofs.Common.{rules, ◌≡◌, ◌<◌, ◌≤◌, [], ◌∷◌, ℕ, zero, suc, Option, Some, true, get_or, length, map, refl, sym, ap, subst, ◌∙◌, List, take_all, arith}
+use Rattle.std.specs.Prelude.{◌==◌, All, IfSome, None, replicate, slice_get}
+use Rattle.std.specs.List.{AllZip}
+use Rattle.std.specs.Option.{IsSomeAnd}
+use Rattle.std.proofs.lemmas.Bool.Decides.{nat_tests}
+use Rattle.std.proofs.lemmas.List.Elements.{All-map}
+use Rattle.std.proofs.lemmas.Option.{get_or_from_slice_get, slice_get-get_or}
+use Rattle.std.proofs.lemmas.Slice.Zip.{AllZip-long}
+use Rattle.avro_nodes.specs.declared.node.Field.{Field}
+use Rattle.avro_nodes.specs.Nodes.{FieldView, field_view}
+use Rattle.avro_resolve.specs.declared.readable.Aliased.{Aliased}
+use Rattle.avro_resolve.specs.declared.readable.Wanted.{Wanted}
+use Rattle.avro_resolve.specs.declared.sides.Side.{Side}
+use Rattle.avro_resolve.specs.Asking.{source_place}
+use Rattle.avro_resolve.specs.Resolution.{source}
+use Rattle.avro_resolve.specs.Inside.Sides.{columns, names_of}
+use Rattle.avro_resolve.specs.Inside.Sources.{code, Describes, IsEntry, IsWanted}
+use Rattle.avro_resolve.proofs.LinkLemmas.{zip_got, zip_more}
+use Rattle.avro_resolve.proofs.SupportLemmas.{place_within, unsourced}
+use Rattle.avro_resolve.proofs.readable.row_of.Goals as goal
+use Rattle.avro_resolve.proofs.readable.row_of.Goals.{in-None, in-Some}
+
+-- what is asked of the field of a number
+asked : (side : Side) (all : List Aliased) (wanted : List (Option Wanted)) → AllZip (IsWanted side) all wanted → (n : ℕ) (x : Option Wanted) → n < length wanted → x ≡ get_or wanted n x → (a : Aliased) × (slice_get all n ≡ Some a) × IsWanted side a x
+asked side all wanted zip n x l e =
+    let none : Aliased = record { place = 0; index = 0 } in
+    let within : n < length all = omega (arith, AllZip-long (IsWanted side) all wanted zip, l) in
+    let at = slice_get-get_or all n none within in
+    let w = zip_got (IsWanted side) all wanted zip n (get_or all n none) at in
+    (get_or all n none, at, subst (IsWanted side (get_or all n none)) (sym (e ∙ get_or_from_slice_get wanted n w.0 x w.1)) w.2)
+
+-- a source that is found is a place
+fits : (fields : List Field) → All (λ g. g.place < 65535) fields → (f : FieldView) (o : Option ℕ) → o ≡ source_place (map field_view fields) f → (place : ℕ) → o ≡ Some place → place < 65535
+fits fields within f o told place is = place_within 65535 (map field_view fields) f (source (map field_view fields) f) place (All-map (λ (g : FieldView). g.place < 65535) field_view fields within) refl (sym is ∙ told)
+
+-- what holds of what is asked
+asked_by : {X : Type 0} (P : X → Type 0) (o : Option X) (x : X) → o ≡ Some x → IsSomeAnd o P → P x
+asked_by P o x e h = subst (λ q. IsSomeAnd q P) e h
+
+some_by : {X : Type 0} (P : X → Type 0) (o : Option X) (x : X) → o ≡ Some x → IfSome o P → P x
+some_by P o x e h = subst (λ q. IfSome q P) e h
+
+none_by : {X : Type 0} (P : X → Type 0) (o : Option X) → o ≡ None → IsSomeAnd o P → ⊥
+none_by P o e h = subst (λ q. IsSomeAnd q P) e h
+
+zeros : {X : Type 0} (P : X → ℕ → Type 0) → ((x : X) → P x 0) → (xs : List X) (n : ℕ) → length xs ≡ n → AllZip P xs (replicate n 0)
+zeros P h [] zero e = tt
+zeros P h [] (suc n) e = absurd (omega arith)
+zeros P h (x ∷ xs) zero e = absurd (omega arith)
+zeros P h (x ∷ xs) (suc n) e = (h x, zeros P h xs n (omega arith))
+
+empty_source : (xs : List Field) (f : FieldView) → (length xs == 0) ≡ true → 0 ≡ code (source_place (map field_view xs) f)
+empty_source [] f e = sym (ap code (unsourced f))
+empty_source (x ∷ xs) f e = absurd (let l : length (x ∷ xs) ≡ 0 = grind (arith, nat_tests) in omega (arith, l))
+
+pub returns-then-is_empty : goal.returns-then-is_empty
+returns-then-is_empty c =
+    let all = c.args.numbered.aliased.now in let wanted = c.args.numbered.wanted.now in
+    let P = IsEntry (columns c.args.sides.now) (map field_view c.args.fields.fields.now) in
+    let long : length all ≡ length wanted = sym (AllZip-long (IsWanted c.args.sides.now.reader) all wanted c.requires.wanted) in
+    let made : c.in_ok-vec.field-0.items ≡ replicate (length wanted) 0 = c.in_ok-vec.ensures.items_if_clones_equal (λ y h. h) in
+    subst (λ (xs : List ℕ). AllZip P all xs) (sym made) (zeros P (λ a f h. empty_source c.args.fields.fields.now f (sym c.is_empty.ensures ∙ c.if-is_empty.true)) all (length wanted) long)
+
+pub place_of-place-requires-clause-named : goal.place_of-place-requires-clause-named
+place_of-place-requires-clause-named c =
+    let side = c.args.sides.now.reader in let x = c.wanted-item.result in
+    let a = asked side c.args.numbered.aliased.now c.args.numbered.wanted.now c.requires.wanted c.loop-wanted.wanted-index x c.loop-wanted-test.true c.wanted-item.is in
+    let f = some_by (λ (w : Wanted). (f : FieldView) × Describes (names_of side) w f) x c.in-Some.wanted c.in-Some.is a.2.some in
+    (f.0, f.1.2)
+
+pub map_or-requires : goal.map_or-requires
+map_or-requires c =
+    let side = c.args.sides.now.reader in let x = c.wanted-item.result in
+    let a = asked side c.args.numbered.aliased.now c.args.numbered.wanted.now c.requires.wanted c.loop-wanted.wanted-index x c.loop-wanted-test.true c.wanted-item.is in
+    let below : (place : ℕ) → c.match-wanted.place ≡ Some place → place < 65535 = (λ place is. elim c.match-wanted.branch [
+      | in-Some w ↦ (
+          let f = some_by (λ (v : Wanted). (f : FieldView) × Describes (names_of side) v f) x w.in-Some.wanted w.in-Some.is a.2.some in
+          fits c.args.fields.fields.now c.requires.fields_in f.0 w.place_of-place.result (w.place_of-place.ensures f.0 f.1.2) place (sym w.place-is ∙ is))
+      | in-None w ↦ (absurd (cc (sym is ∙ w.place-is)))
+    ]) in
+    search rules
+
+pub loop-wanted-preserved : goal.loop-wanted-preserved
+loop-wanted-preserved c =
+    let P = IsEntry (columns c.args.sides.now) (map field_view c.args.fields.fields.now) in let all = c.args.numbered.aliased.now in let n = c.loop-wanted.wanted-index in
+    let side = c.args.sides.now.reader in let x = c.wanted-item.result in
+    let a = asked side all c.args.numbered.wanted.now c.requires.wanted n x c.loop-wanted-test.true c.wanted-item.is in
+    let entry : c.map_or.result ≡ code c.match-wanted.place = search rules in
+    let told : P a.0 c.map_or.result = (λ f h. elim c.match-wanted.branch [
+      | in-Some w ↦ (
+          let own = asked_by (λ (v : Wanted). Describes (names_of side) v f) x w.in-Some.wanted w.in-Some.is (a.2.told f h) in
+          entry ∙ ap code (w.place-is ∙ w.place_of-place.ensures f own.2))
+      | in-None w ↦ absurd (none_by (λ (v : Wanted). Describes (names_of side) v f) x w.in-None.is (a.2.told f h))
+    ]) in
+    rw c.in_ok-push.ensures.items (zip_more P all n a.0 c.loop-wanted.row.items c.map_or.result a.1 c.loop-wanted.invariant told)
+
+pub returns : goal.returns
+returns c =
+    let P = IsEntry (columns c.args.sides.now) (map field_view c.args.fields.fields.now) in let all = c.args.numbered.aliased.now in let n = c.loop-wanted.wanted-index in
+    let long = AllZip-long (IsWanted c.args.sides.now.reader) all c.args.numbered.wanted.now c.requires.wanted in
+    let past : length all ≤ n = omega (arith, long, c.loop-wanted-test.false) in
+    subst (λ (xs : List Aliased). AllZip P xs c.loop-wanted.row.items) (take_all n all past) c.loop-wanted.invariant

@@ -1,0 +1,176 @@
+use Rattle.std.proofs.Common.{rules, ◌≡◌, ◌+◌, ◌<◌, ◌≤◌, ℕ, List, refl, get_or, length, sym, ap, subst, ◌∙◌, inl, inr, arith, true≢false}
+use Rattle.std.proofs.lemmas.List.Elements.{Contains-get_or}
+use Rattle.std.proofs.lemmas.Bool.{cases_lt}
+use Rattle.std.proofs.lemmas.Bool.Decides.{nat_tests}
+use Rattle.std.specs.Prelude.{Vec}
+use Rattle.std.specs.declared.alloc.Global.{Global}
+use Rattle.avro_resolve.specs.Inside.Sides.{columns, rows}
+use Rattle.avro_resolve.specs.declared.links.Link.{Link}
+use Rattle.avro_resolve.specs.declared.links.Way.{Way}
+use Rattle.avro_resolve.specs.declared.links.Way.TheVariants.{OfContents, ByName, ByAlias}
+use Rattle.avro_resolve.specs.Inside.Askers.{GoTogether, MayAsk}
+use Rattle.avro_resolve.specs.Inside.Left.{left, Settled}
+use Rattle.avro_resolve.specs.Inside.Sources.{code_at}
+use Rattle.avro_resolve.proofs.ListLemmas.{get_or_any}
+use Rattle.avro_resolve.proofs.Settling.{lists_none, lists_then, settled_on, stays_out}
+use Rattle.avro_resolve.proofs.striking.strike_joined.Goals.{then-loop-at-test+else-beside-at, else-loop-at-test, then-loop-from-test+else-beside-from, else-loop-from-test, in-ByName-ByAlias, in_default, in_default-2, in_default-3, in-OfContents-OfContents, in-OfContents-OfContents-2}
+use Rattle.avro_resolve.proofs.striking.strike_joined.Goals as goal
+
+abbrev none : Link
+none = record { label = 0; asker = 0; way = OfContents }
+
+pub returns-clause-settled : goal.returns-clause-settled
+returns-clause-settled c = λ x y hx hy one asks.
+    let w = rows c.args.sides.now in let r = columns c.args.sides.now in let xs = c.args.above.now in let ys = c.args.beside.now in
+    let t = c.loop-link.progress.table in let ps = c.loop-link.progress.struck.items in
+    let past : length xs ≤ c.loop-link.link-index = c.loop-link-test.false in
+    let lx = hx.1 in let below : hx.0 < c.loop-link.link-index = omega (arith, past, lx) in
+    let same : (get_or xs hx.0 x).label ≡ (get_or ys hy.0 y).label = ap (λ (z : Link). z.label) hx.2 ∙ one ∙ sym (ap (λ (z : Link). z.label) hy.2) in
+    subst (λ (z : Link). Settled w r t ps z.asker y.asker) hx.2 (subst (λ (z : Link). Settled w r t ps (get_or xs hx.0 x).asker z.asker) hy.2 (c.loop-link.invariant.settled hx.0 hy.0 x y below hy.1 same
+    (subst (λ (z : Link). MayAsk c.args.sources.now c.args.told.0 z (get_or ys hy.0 y)) (sym hx.2) (subst (λ (z : Link). MayAsk c.args.sources.now c.args.told.0 x z) (sym hy.2) asks))))
+
+pub loop-from-init : goal.loop-from-init
+loop-from-init c = record {
+  within = c.loop-link.invariant.within;
+  passed = λ k d l. c.loop-link.invariant.skipped k c.loop-link.link-index d none l (omega arith) c.loop-link-test.true;
+}
+
+pub loop-at-init : goal.loop-at-init
+loop-at-init c = record {
+  on = omega arith;
+  within = c.loop-from.invariant.within;
+  rest = c.loop-link.invariant.rest;
+  lists = lists_none c.loop-link.progress.table c.loop-link.progress.struck.items;
+  settled = λ k d le l. absurd (omega arith);
+}
+
+-- the ways of two links, looked at one by one
+by_ways : (sources : List (Vec ℕ Global)) (p : ℕ) (x y : Link) (v w : Way) → x.way ≡ v → y.way ≡ w → (GoTogether sources p x.asker v w → MayAsk sources p x y) × (MayAsk sources p x y → GoTogether sources p x.asker v w)
+by_ways s p x y v w e f = (
+  (λ h. subst (λ (z : Way). GoTogether s p x.asker z y.way) (sym e) (subst (λ (z : Way). GoTogether s p x.asker v z) (sym f) h)),
+  (λ h. subst (λ (z : Way). GoTogether s p x.asker v z) f (subst (λ (z : Way). GoTogether s p x.asker z y.way) e h)),
+)
+
+no_contents : (sources : List (Vec ℕ Global)) (p asker : ℕ) (w : Way) → (w ≡ OfContents → ⊥) → GoTogether sources p asker OfContents w → ⊥
+no_contents s p asker OfContents n h = n refl
+no_contents s p asker ByName n h = h
+no_contents s p asker (ByAlias number) n h = h
+
+no_alias : (sources : List (Vec ℕ Global)) (p asker number : ℕ) (w : Way) → GoTogether sources p asker (ByAlias number) w → ⊥
+no_alias s p asker number OfContents h = h
+no_alias s p asker number ByName h = h
+no_alias s p asker number (ByAlias other) h = h
+
+pub strike_pair-requires-clause-unsupported : goal.strike_pair-requires-clause-unsupported
+strike_pair-requires-clause-unsupported c =
+    let xs = c.args.above.now in let ys = c.args.beside.now in let m = c.loop-link.link-index in let at = c.loop-at.at in let t = c.loop-at.progress.table in
+    let on = c.loop-at.invariant.on in let link = get_or xs m none in let other = get_or ys at none in let s = c.args.sources.now in let p = c.args.told.0 in
+    let label : link.label ≡ other.label = elim c.loop-from-test.branch [
+      | then-loop-from-test+else-beside-from b ↦ (let up = c.requires.beside_sorted c.loop-from.from at none on c.loop-at-test.true in let least = b.if-beside-from.false in let most = c.if-beside-at.true in omega arith)
+      | else-loop-from-test b ↦ (let done = b.loop-from-test.false in let within = c.loop-at-test.true in absurd (omega arith))
+    ] in
+    let asks : MayAsk c.args.sources.now c.args.told.0 link other = elim c.match-link.branch [
+      | in-ByName-ByAlias w ↦ (
+          let told : w.from.result ≡ code_at s link.asker w.in-ByName-ByAlias.number = search rules in
+          let same : w.from.result ≡ p + 1 = grind (arith, nat_tests) in
+          (by_ways s p link other ByName (ByAlias w.in-ByName-ByAlias.number) w.in-ByName-ByAlias.is-0 w.in-ByName-ByAlias.is-1).0 (sym told ∙ same)
+          )
+      | in_default w ↦ absurd (true≢false (sym c.if-not-asks.false ∙ w.asks-is))
+      | in_default-2 w ↦ absurd (true≢false (sym c.if-not-asks.false ∙ w.asks-is))
+      | in_default-3 w ↦ absurd (true≢false (sym c.if-not-asks.false ∙ w.asks-is))
+      | in-OfContents-OfContents w ↦ (by_ways s p link other OfContents OfContents w.in-OfContents-OfContents.is-0 w.in-OfContents-OfContents.is-1).0 tt
+      | in-OfContents-OfContents-2 w ↦ (by_ways s p link other ByName ByName w.in-OfContents-OfContents.is-0 w.in-OfContents-OfContents.is-1).0 tt
+    ] in
+    c.requires.rests (get_or xs m none) (get_or ys at none) (Contains-get_or xs m none c.loop-link-test.true) (Contains-get_or ys at none c.loop-at-test.true) label asks (left t)
+    (stays_out c.args.progress.now.table t c.args.progress.now.struck.items c.loop-at.progress.struck.items c.args.told.0 c.args.told.1
+    (lists_then c.args.progress.now.table c.loop-link.progress.table t c.args.progress.now.struck.items c.loop-link.progress.struck.items c.loop-at.progress.struck.items c.loop-link.invariant.lists c.loop-at.invariant.lists) c.requires.told.1)
+
+pub loop-at-preserved-then-not-asks : goal.loop-at-preserved-then-not-asks
+loop-at-preserved-then-not-asks c =
+    let link = get_or c.args.above.now c.loop-link.link-index none in let ys = c.args.beside.now in let at = c.loop-at.at in let inv = c.loop-at.invariant in
+    let within : at < length ys = c.loop-at-test.true in
+    let other = get_or ys at none in let s = c.args.sources.now in let p = c.args.told.0 in
+    let never : MayAsk c.args.sources.now c.args.told.0 link (get_or ys at none) → ⊥ = elim c.match-link.branch [
+      | in-ByName-ByAlias w ↦ λ h. (
+          let told : w.from.result ≡ code_at s link.asker w.in-ByName-ByAlias.number = search rules in
+          let code : code_at s link.asker w.in-ByName-ByAlias.number ≡ p + 1 = (by_ways s p link other ByName (ByAlias w.in-ByName-ByAlias.number) w.in-ByName-ByAlias.is-0 w.in-ByName-ByAlias.is-1).1 h in
+          let same : w.from.result ≡ p + 1 = told ∙ code in
+          grind (arith, nat_tests)
+          )
+      | in_default w ↦ λ h. no_contents s p link.asker other.way w.in_default.not-OfContents-1 (subst (λ (v : Way). GoTogether s p link.asker v other.way) w.in_default.is-0 h)
+      | in_default-2 w ↦ λ h. (by_ways s p link other ByName OfContents w.in_default.is-0 w.in_default.is-1).1 h
+      | in_default-3 w ↦ λ h. no_alias s p link.asker w.in_default.field-0-0 other.way (subst (λ (v : Way). GoTogether s p link.asker v other.way) w.in_default.is-0 h)
+      | in-OfContents-OfContents w ↦ absurd (true≢false (sym w.asks-is ∙ c.if-not-asks.true))
+      | in-OfContents-OfContents-2 w ↦ absurd (true≢false (sym w.asks-is ∙ c.if-not-asks.true))
+    ] in
+    record {
+      on = omega arith;
+      within = omega arith;
+      rest = inv.rest;
+      lists = inv.lists;
+      settled = λ k d le l one asks. elim (cases_lt k at) [
+        | inl g ↦ inv.settled k d le g one asks
+        | inr g ↦ (let e : at ≡ k = omega arith in
+            let row : get_or ys at none ≡ get_or ys k d = get_or_any ys at none d within ∙ ap (λ (n : ℕ). get_or ys n d) e in
+            absurd (never (subst (λ (y : Link). MayAsk c.args.sources.now c.args.told.0 link y) (sym row) asks)))
+      ];
+    }
+
+pub loop-at-preserved : goal.loop-at-preserved
+loop-at-preserved c =
+    let w = rows c.args.sides.now in let r = columns c.args.sides.now in let i = (get_or c.args.above.now c.loop-link.link-index none).asker in let ys = c.args.beside.now in let at = c.loop-at.at in
+    let t = c.loop-link.progress.table in let u = c.loop-at.progress.table in let v = c.strike_pair.new.progress.table in
+    let ps = c.loop-link.progress.struck.items in let qs = c.loop-at.progress.struck.items in let rs = c.strike_pair.new.progress.struck.items in
+    let within : at < length ys = c.loop-at-test.true in
+    record {
+      on = omega arith;
+      within = omega arith;
+      rest = c.in_ok-strike_pair.ensures.strikes.0;
+      lists = lists_then t u v ps qs rs c.loop-at.invariant.lists c.in_ok-strike_pair.ensures.strikes.1;
+      settled = λ k d le l one asks. elim (cases_lt k at) [
+        | inl g ↦ settled_on w r u v qs rs i (get_or ys k d).asker c.requires.told.0.0.writer.whole c.requires.told.0.0.reader.whole c.in_ok-strike_pair.ensures.strikes.1 (c.loop-at.invariant.settled k d le g one asks)
+        | inr g ↦ (let e : at ≡ k = omega arith in
+            subst (λ (x : ℕ). Settled w r v rs i (get_or ys x d).asker) e (subst (λ (y : Link). Settled w r v rs i y.asker) (get_or_any ys at none d within) c.in_ok-strike_pair.ensures.settled))
+      ];
+    }
+
+pub loop-link-preserved : goal.loop-link-preserved
+loop-link-preserved c =
+    let w = rows c.args.sides.now in let r = columns c.args.sides.now in let xs = c.args.above.now in let ys = c.args.beside.now in
+    let at = c.loop-link.link-index in let inv = c.loop-link.invariant in let inner = c.loop-at.invariant in
+    let u = c.loop-link.progress.table in let v = c.loop-at.progress.table in let qs = c.loop-link.progress.struck.items in let rs = c.loop-at.progress.struck.items in
+    let within : at < length xs = c.loop-link-test.true in
+    let row : (e : Link) → get_or xs at none ≡ get_or xs at e = λ e. get_or_any xs at none e within in
+    let past : (k : ℕ) (d : Link) → c.loop-at.at ≤ k → k < length ys → (get_or xs at none).label < (get_or ys k d).label = λ k d le l. elim c.loop-at-test.branch [
+      | then-loop-at-test+else-beside-at b ↦ (
+          let more = b.if-beside-at.false in let up = c.requires.beside_sorted c.loop-at.at k d le l in
+          let same : (get_or ys c.loop-at.at none).label ≡ (get_or ys c.loop-at.at d).label = ap (λ (y : Link). y.label) (get_or_any ys c.loop-at.at none d b.loop-at-test.true) in
+          omega (arith, more, up, same)
+          )
+      | else-loop-at-test b ↦ (let done = b.loop-at-test.false in absurd (omega (arith, done, le, l)))
+    ] in
+    record {
+      rest = inner.rest;
+      lists = lists_then c.args.progress.now.table u v c.args.progress.now.struck.items qs rs inv.lists inner.lists;
+      within = c.loop-from.invariant.within;
+      skipped = λ k m d e lk le lm. (
+          let less = c.loop-from.invariant.passed k d lk in let up = c.requires.above_sorted at m e (omega arith) lm in
+          let same : (get_or xs at none).label ≡ (get_or xs at e).label = ap (λ (x : Link). x.label) (row e) in
+          omega (arith, less, up, same)
+          );
+      settled = λ m k e d lm lk one asks. elim (cases_lt m at) [
+        | inl g ↦ settled_on w r u v qs rs (get_or xs m e).asker (get_or ys k d).asker c.requires.told.0.0.writer.whole c.requires.told.0.0.reader.whole inner.lists (inv.settled m k e d g lk one asks)
+        | inr g ↦ (
+            let now : at ≡ m = omega arith in
+            let same : get_or xs at none ≡ get_or xs m e = row e ∙ ap (λ (n : ℕ). get_or xs n e) now in
+            let label : (get_or xs at none).label ≡ (get_or ys k d).label = ap (λ (x : Link). x.label) same ∙ one in
+            elim (cases_lt k c.loop-from.from) [
+              | inl h ↦ (let less = c.loop-from.invariant.passed k d h in absurd (omega (arith, less, label)))
+              | inr h ↦ elim (cases_lt k c.loop-at.at) [
+                | inl j ↦ subst (λ (x : Link). Settled w r v rs x.asker (get_or ys k d).asker) same (inner.settled k d h j label (subst (λ (x : Link). MayAsk c.args.sources.now c.args.told.0 x (get_or ys k d)) (sym same) asks))
+                | inr j ↦ (let more = past k d j lk in absurd (omega (arith, more, label)))
+              ]
+            ]
+            )
+      ];
+    }
