@@ -129,7 +129,7 @@ object_ended ms old opened new e w o = (
 
 -- ---- a put keeps the order
 
-behind_further : (k l : List ℕ) (ms : Members) → order k l ≡ Less → AllBehind l ms → AllBehind k ms
+pub behind_further : (k l : List ℕ) (ms : Members) → order k l ≡ Less → AllBehind l ms → AllBehind k ms
 behind_further k l no_members below h = tt
 behind_further k l (member m e ms) below h = (nat_list_cmp_total.trans k l m below h.0, behind_further k l ms below h.1)
 

@@ -4,6 +4,8 @@ pub mod AttributeLemmas
 pub mod DistinctLemmas
 pub mod NestingLemmas
 pub mod ReaderErrors
+pub mod Conversions
+pub mod BorrowedLemmas
 pub mod Sequence
 pub mod ReaderCases
 pub mod KindLemmas
@@ -15,6 +17,10 @@ pub mod FittingLemmas
 pub mod Covering
 pub mod TextLemmas
 pub mod RoundMembers
+pub mod ReservedLemmas
+pub mod PutLemmas
+pub mod BorrowedMembers
+pub mod BorrowedReads
 pub mod RoundNames
 pub mod FullNames
 pub mod PlaceLemmas

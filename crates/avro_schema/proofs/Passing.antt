@@ -125,7 +125,7 @@ behind_at true j l d rest below h = h
 behind_at false j l d rest below h = (below, h)
 
 -- and where those of a name are
-behind_without : (j k : List ℕ) (ms : Members) → AllBehind j ms → AllBehind j (without k ms)
+pub behind_without : (j k : List ℕ) (ms : Members) → AllBehind j ms → AllBehind j (without k ms)
 behind_without j k no_members h = tt
 behind_without j k (member l d ms) h = behind_at (bytes_eq k l) j l d (without k ms) h.0 (behind_without j k ms h.1)
 

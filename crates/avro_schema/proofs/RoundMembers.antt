@@ -69,7 +69,7 @@ without_twice ks ms = ap (without_all ks) (without_is_kept ks ms) ∙ without_is
 
 -- ---- one of the keys is not found among what is kept
 
-not_found_at : (o : Ordering) (a : Option Data) (e : Data) → is_eq o ≡ false → a ≡ None → match_ordering o a (Some e) a ≡ None
+pub not_found_at : (o : Ordering) (a : Option Data) (e : Data) → is_eq o ≡ false → a ≡ None → match_ordering o a (Some e) a ≡ None
 not_found_at Less a e other none = none
 not_found_at Equal a e other none = absurd (true≢false other)
 not_found_at Greater a e other none = none

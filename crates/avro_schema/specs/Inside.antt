@@ -3,6 +3,8 @@ pub mod KindNumbers
 pub mod Types
 pub mod Declarations
 pub mod ValueReaders
+pub mod Reserved
+pub mod Borrowed
 pub mod Distinct
 pub mod Fitting
 pub mod FieldTables

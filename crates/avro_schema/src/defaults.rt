@@ -1,6 +1,6 @@
 //! Which JSON values fit a type as a default.
 
-ghost use Rattle.std.specs.Prelude.{◌≡◌, map, Some, IfOk, IfSome, slice_get, string_bytes};
+ghost use Rattle.std.specs.Prelude.{◌≡◌, map, option_map, Some, IfOk, IfSome, slice_get, string_bytes};
 ghost use Rattle.std.specs.List.{list_all};
 ghost use Rattle.serde_json.specs.Find.{get_member};
 ghost use Rattle.serde_json.specs.View.{view, items_view, members_view};
@@ -8,7 +8,6 @@ ghost use Rattle.avro_nodes.specs.Nodes.{field_view, node_view, nodes_view};
 ghost use Rattle.avro_schema.specs.Inside.Fitting.{items_fit, members_fit, field_fits_by, fields_fit, node_fits, fits, node_defaults_fit};
 ghost use Rattle.avro_schema.specs.Inside.FieldTables.{IsTable, IsTableOf, AreTables, fits_if_any, index_fits, named_fit, named_in};
 
-use crate::attributes::find;
 use crate::defaults::fields::node_default_fits;
 use crate::defaults::lookups::{entered, table_at};
 use crate::defaults::primitives::{is_bytes_of, primitive_fits};
@@ -20,6 +19,14 @@ use std::alloc::{AllocError, Global};
 mod fields;
 mod lookups;
 mod primitives;
+
+/// The member of this name.
+fn member_of<'a>(members: &'a Extra, key: &str) -> Option<&'a Value>
+    ensures { option_map (λ v. view v.now) result
+        ≡ get_member key.now (members_view members.now.entries) }
+{
+    members.get(key)
+}
 
 /// Whether the value, which nests less deep than the number, fits the type at the place.
 #[cycle(fit)]
@@ -251,7 +258,7 @@ fn field_fits(
     requires tables { AreTables (nodes_view nodes.now) tables.now }
     ensures { result ≡ field_fits_by (fits depth (nodes_view nodes.now)) (field_view field.now) (get_member (string_bytes field.now.name) (members_view members.now.entries)) }
 {
-    match find(members, field.name.as_str()) {
+    match member_of(members, field.name.as_str()) {
         Some(value) => fits(value, field.place, nodes, tables, depth),
         None => field.value.is_some(),
     }

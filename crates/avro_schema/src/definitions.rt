@@ -3,22 +3,23 @@
 ghost use Rattle.std.specs.Prelude.{◌≡◌, length, Some, None, IfOk, OnOk, option_map, string_bytes, codes, ◌∷◌, []};
 ghost use Rattle.std.specs.Str.{bytes_eq};
 ghost use Rattle.std.specs.List.{list_any};
-ghost use Rattle.serde_json.specs.Find.{get_member};
+ghost use Rattle.serde_json.specs.Find.{get_member, as_str};
 ghost use Rattle.serde_json.specs.View.{view, members_view};
 ghost use Rattle.avro_nodes.specs.Nodes.{texts_view, named_view, nodes_view};
 ghost use Rattle.avro_schema.specs.Attributes.{without_all, fallback_in};
+ghost use Rattle.avro_schema.specs.Inside.Borrowed.{members_data};
 ghost use Rattle.avro_schema.specs.Inside.Declarations.{naming, if_new, new_name, named_in, symbols_in, enum_at, fixed_at, bounded};
 ghost use Rattle.avro_schema.specs.Inside.ValueReaders.{room_at};
 ghost use Rattle.avro_schema.specs.Inside.ReaderAnswers.{Gives, Reads};
 ghost use Rattle.avro_schema.specs.Inside.NameTables.{known_in, KeepsNumbers};
 
-use crate::attributes::{
-    names_if_any, names_of, size_of, take, take_items, take_text, take_text_if_any, text_of,
-};
+use crate::attributes::{names_if_any, names_of, size_of, take_items, take_text, take_text_if_any};
+use crate::borrowed::{Attributes, take};
 use crate::distinct::texts_differ;
 use crate::error::SchemaError;
 use crate::names::full_name;
 use crate::nesting::members_within;
+use crate::owning::{owned_members, take_default};
 use crate::places::Places;
 use crate::words::kind_of;
 use avro_nodes::{Extra, MAX_NESTING, MAX_PLACES, Named, Node, last_part, namespace_of};
@@ -42,38 +43,21 @@ pub fn next_place(nodes: &Vec<Node>) -> Result<u32, SchemaError>
     }
 }
 
-/// Whether the other attributes nest within the limit.
+/// The other attributes, which nest within the limit.
 ///
 /// # Errors
 ///
-/// `TooLarge` where one of them nests deeper.
+/// `TooLarge` where one of them nests deeper, and `OutOfMemory` where memory is refused.
 #[tactic(auto, unfolding(crate::specs::Inside::Declarations::bounded))]
-pub fn nest_within_limit(attributes: &Extra) -> Result<(), SchemaError>
-    ensures { Gives (λ _. members_view attributes.now.entries) result
-        (bounded (members_view attributes.now.entries)) }
+pub fn other_attributes(alloc: Global, attributes: Attributes<'_>) -> Result<Extra, SchemaError>
+    ensures { Gives (λ m. members_view m.entries) result
+        (bounded (members_data attributes.entry)) }
 {
-    if members_within(attributes, MAX_NESTING) {
-        Ok(())
+    let extra = owned_members(alloc, attributes)?;
+    if members_within(&extra, MAX_NESTING) {
+        Ok(extra)
     } else {
         Err(SchemaError::TooLarge)
-    }
-}
-
-/// The other attributes, which nest within the limit. Where none is left, the map that held what
-/// was taken out is given back, so that a node keeps no room for it.
-///
-/// # Errors
-///
-/// `TooLarge` where one of them nests deeper.
-pub fn other_attributes(alloc: Global, attributes: Extra) -> Result<Extra, SchemaError>
-    ensures { Gives (λ m. members_view m.entries) result
-        (bounded (members_view attributes.entries)) }
-{
-    nest_within_limit(&attributes)?;
-    if attributes.is_empty() {
-        Ok(Extra::new(alloc))
-    } else {
-        Ok(attributes)
     }
 }
 
@@ -94,14 +78,14 @@ fn if_free(full: String, known: &Places) -> Result<String, SchemaError>
 #[tactic(auto, unfolding(crate::specs::Inside::Declarations::new_name))]
 fn new_name(
     alloc: Global,
-    attributes: &mut Extra,
+    attributes: &mut Attributes<'_>,
     space: &str,
     known: &Places,
 ) -> Result<String, SchemaError>
     ensures name { Gives string_bytes result
-        (new_name space.now (members_view attributes.old.entries) (known_in known.now)) }
-    ensures rest { OnOk result (members_view attributes.new.entries
-        ≡ without_all (codes "name" ∷ codes "namespace" ∷ []) (members_view attributes.old.entries)) }
+        (new_name space.now (members_data attributes.old) (known_in known.now)) }
+    ensures rest { OnOk result (members_data attributes.new
+        ≡ without_all (codes "name" ∷ codes "namespace" ∷ []) (members_data attributes.old)) }
 {
     let Some(name) = take_text(attributes, "name") else {
         return Err(SchemaError::BadShape);
@@ -123,14 +107,14 @@ fn new_name(
 #[tactic(auto, unfolding(crate::specs::Inside::Declarations::named_in))]
 pub fn named_of(
     alloc: Global,
-    attributes: &mut Extra,
+    attributes: &mut Attributes<'_>,
     space: &str,
     known: &Places,
 ) -> Result<Named, SchemaError>
     ensures named { Gives named_view result
-        (named_in space.now (members_view attributes.old.entries) (known_in known.now)) }
-    ensures rest { OnOk result (members_view attributes.new.entries
-        ≡ without_all naming (members_view attributes.old.entries)) }
+        (named_in space.now (members_data attributes.old) (known_in known.now)) }
+    ensures rest { OnOk result (members_data attributes.new
+        ≡ without_all naming (members_data attributes.old)) }
 {
     let name = new_name(alloc, attributes, space, known)?;
     let listed = take(attributes, "aliases");
@@ -140,11 +124,11 @@ pub fn named_of(
 
 /// An enum's symbols.
 #[tactic(auto, unfolding(crate::specs::Inside::Declarations::symbols_in))]
-fn symbols_of(alloc: Global, attributes: &mut Extra) -> Result<Vec<String>, SchemaError>
+fn symbols_of(alloc: Global, attributes: &mut Attributes<'_>) -> Result<Vec<String>, SchemaError>
     ensures symbols { Gives (λ v. texts_view v.items) result
-        (symbols_in (members_view attributes.old.entries)) }
-    ensures rest { members_view attributes.new.entries
-        ≡ without_all (codes "symbols" ∷ []) (members_view attributes.old.entries) }
+        (symbols_in (members_data attributes.old)) }
+    ensures rest { members_data attributes.new
+        ≡ without_all (codes "symbols" ∷ []) (members_data attributes.old) }
 {
     let Some(items) = take_items(attributes, "symbols") else {
         return Err(SchemaError::BadShape);
@@ -161,6 +145,17 @@ fn has_symbol(symbols: &[String], name: &str) -> bool
     ensures { result ≡ list_any (λ t. bytes_eq (string_bytes t) name.now) symbols.now }
 {
     symbols.iter().any(|symbol| symbol.as_str() == name)
+}
+
+/// The text that the value is.
+fn text_of(value: Value) -> Option<String>
+    ensures { option_map string_bytes result ≡ as_str (view value) }
+{
+    match value {
+        Value::String(text) => Some(text),
+        Value::Null | Value::Bool(_) | Value::Number(_) | Value::Array(_) | Value::Object(_) =>
+            None,
+    }
 }
 
 /// An enum's default, which may be missing.
@@ -192,13 +187,13 @@ fn fallback_of(attribute: Option<Value>, symbols: &[String]) -> Result<Option<St
 #[tactic(auto, unfolding(crate::specs::Inside::Declarations::enum_at))]
 pub fn enum_at(
     alloc: Global,
-    attributes: Extra,
+    attributes: Attributes<'_>,
     space: &str,
     nodes: &mut Vec<Node>,
     known: &mut Places,
 ) -> Result<u32, SchemaError>
     ensures read { Reads (λ p. p) result
-        (enum_at space.now (members_view attributes.entries) (known_in known.old) (length nodes.old.items))
+        (enum_at space.now (members_data attributes.entry) (known_in known.old) (length nodes.old.items))
         (nodes_view nodes.old.items) (nodes_view nodes.new.items) (known_in known.new) }
     ensures kept { OnOk result (KeepsNumbers known.old known.new) }
 {
@@ -206,7 +201,7 @@ pub fn enum_at(
     let place = next_place(nodes)?;
     let named = named_of(alloc, &mut rest, space, known)?;
     let symbols = symbols_of(alloc, &mut rest)?;
-    let fallback = fallback_of(take(&mut rest, "default"), &symbols)?;
+    let fallback = fallback_of(take_default(&mut rest), &symbols)?;
     let extra = other_attributes(alloc, rest)?;
     known.define(alloc, named.name.as_str(), place)?;
     nodes.push(Node::Enum {
@@ -228,13 +223,13 @@ pub fn enum_at(
 #[tactic(auto, unfolding(crate::specs::Inside::Declarations::fixed_at))]
 pub fn fixed_at(
     alloc: Global,
-    attributes: Extra,
+    attributes: Attributes<'_>,
     space: &str,
     nodes: &mut Vec<Node>,
     known: &mut Places,
 ) -> Result<u32, SchemaError>
     ensures read { Reads (λ p. p) result
-        (fixed_at space.now (members_view attributes.entries) (known_in known.old) (length nodes.old.items))
+        (fixed_at space.now (members_data attributes.entry) (known_in known.old) (length nodes.old.items))
         (nodes_view nodes.old.items) (nodes_view nodes.new.items) (known_in known.new) }
     ensures kept { OnOk result (KeepsNumbers known.old known.new) }
 {

@@ -1,7 +1,8 @@
 //! Why a text denotes no schema.
 
 ghost use Rattle.std.specs.Prelude.{◌≡◌};
-ghost use Rattle.avro_schema.specs.declared.error.SchemaError.TheVariants.{OutOfMemory};
+ghost use Rattle.avro_schema.specs.declared.error.Unread.TheVariants.{OutOfMemory as no_memory, Invalid as invalid};
+ghost use Rattle.avro_schema.specs.declared.error.SchemaError.TheVariants.{OutOfMemory, NotJson};
 
 use avro_nodes::OutOfMemory as NoMemory;
 use std::alloc::{AllocError, AllocFailed};
@@ -64,5 +65,49 @@ impl<T: Drop> From<AllocFailed<T>> for SchemaError {
 
     fn from(_e: AllocFailed<T>) -> SchemaError {
         SchemaError::OutOfMemory
+    }
+}
+
+/// Why a text was not read as JSON.
+#[derive(Clone, Copy, Debug, Drop)]
+pub enum Unread {
+    /// it is none
+    Invalid,
+    /// there was no memory
+    OutOfMemory,
+}
+
+impl From<AllocError> for Unread {
+    ghost from_gives = { λ _ e. e ≡ no_memory };
+
+    fn from(_e: AllocError) -> Unread {
+        Unread::OutOfMemory
+    }
+}
+
+impl<T: Drop> From<AllocFailed<T>> for Unread {
+    ghost from_gives = { λ _ e. e ≡ no_memory };
+
+    fn from(_e: AllocFailed<T>) -> Unread {
+        Unread::OutOfMemory
+    }
+}
+
+impl From<json::Invalid> for Unread {
+    ghost from_gives = { λ _ e. e ≡ invalid };
+
+    fn from(_e: json::Invalid) -> Unread {
+        Unread::Invalid
+    }
+}
+
+impl From<Unread> for SchemaError {
+    ghost from_gives = { λ e x. (e ≡ no_memory → x ≡ OutOfMemory) × (e ≡ invalid → x ≡ NotJson) };
+
+    fn from(e: Unread) -> SchemaError {
+        match e {
+            Unread::Invalid => SchemaError::NotJson,
+            Unread::OutOfMemory => SchemaError::OutOfMemory,
+        }
     }
 }

@@ -1,31 +1,34 @@
 //! What a field says beside its type: its name, aliases, order and default.
 
 ghost use Rattle.std.specs.Prelude.{◌≡◌, OnOk, option_map};
-ghost use Rattle.serde_json.specs.View.{view, members_view};
+ghost use Rattle.serde_json.specs.View.{view};
 ghost use Rattle.avro_schema.specs.Attributes.{without_all, order_in};
+ghost use Rattle.avro_schema.specs.Inside.Borrowed.{value_data, members_data};
 ghost use Rattle.avro_schema.specs.Inside.Declarations.{labelling, label_in, label_view, bounded_value};
 ghost use Rattle.avro_schema.specs.Inside.ReaderAnswers.{Gives};
 
-use crate::attributes::{names_if_any, take, take_text, text_of};
+use crate::attributes::{names_if_any, take_text};
+use crate::borrowed::{Attributes, Json, take, text_of};
 use crate::error::SchemaError;
 use crate::names::is_simple;
 use crate::nesting::nests_within;
+use crate::owning::take_default;
 use crate::words::order_of;
-use avro_nodes::{Extra, MAX_NESTING, Order};
+use avro_nodes::{MAX_NESTING, Order};
 use serde_json::Value;
 use std::alloc::Global;
 
 /// A field's order, ascending where it is missing.
-fn order_if_any(attribute: Option<Value>) -> Result<Order, SchemaError>
-    ensures { Gives (λ o. o) result (order_in (option_map view attribute)) }
+fn order_if_any(attribute: Option<Json<'_>>) -> Result<Order, SchemaError>
+    ensures { Gives (λ o. o) result (order_in (option_map value_data attribute.entry)) }
 {
     let Some(value) = attribute else {
         return Ok(Order::Ascending);
     };
-    let Some(name) = text_of(value) else {
+    let Some(name) = text_of(&value) else {
         return Err(SchemaError::BadShape);
     };
-    match order_of(name.as_str()) {
+    match order_of(name) {
         Some(order) => Ok(order),
         None => Err(SchemaError::BadShape),
     }
@@ -62,20 +65,21 @@ pub struct Label {
 /// JSON type, `BadName` where a name isn't well formed, `TooLarge` where the default nests too
 /// deep, and `OutOfMemory` where memory is refused. Some of the attributes may be taken out then.
 #[tactic(auto, unfolding(crate::specs::Inside::Declarations::label_in))]
-pub fn label_of(alloc: Global, attributes: &mut Extra) -> Result<Label, SchemaError>
-    ensures label { Gives label_view result (label_in (members_view attributes.old.entries)) }
-    ensures rest { OnOk result (members_view attributes.new.entries
-        ≡ without_all labelling (members_view attributes.old.entries)) }
+pub fn label_of(alloc: Global, attributes: &mut Attributes<'_>) -> Result<Label, SchemaError>
+    ensures label { Gives label_view result (label_in (members_data attributes.old)) }
+    ensures rest { OnOk result (members_data attributes.new
+        ≡ without_all labelling (members_data attributes.old)) }
 {
     let Some(name) = take_text(attributes, "name") else {
         return Err(SchemaError::BadShape);
     };
-    if !is_simple(name.as_str()) {
+    if !is_simple(name) {
         return Err(SchemaError::BadName);
     }
+    let name = String::from_str(alloc, name)?;
     let aliases = names_if_any(alloc, take(attributes, "aliases"), None)?;
     let order = order_if_any(take(attributes, "order"))?;
-    let value = value_if_any(take(attributes, "default"))?;
+    let value = value_if_any(take_default(attributes))?;
     Ok(Label {
         name,
         aliases,

@@ -3,20 +3,25 @@
 #![tactic(auto)]
 
 mod attributes;
+mod borrowed;
 mod defaults;
 mod definitions;
 mod distinct;
 mod error;
 mod index;
 mod indexing;
+mod kept;
 mod labels;
 mod mentions;
 mod names;
 mod nesting;
+mod others;
+mod owning;
 mod places;
 mod ranking;
 mod reading;
 mod schema;
+mod source;
 mod tables;
 mod weight;
 mod words;

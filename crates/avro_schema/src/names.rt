@@ -69,13 +69,13 @@ fn dotted(alloc: Global, space: &str, name: &str) -> Result<String, AllocError>
 
 /// The full name that the simple name has in the namespace.
 #[tactic(auto, unfolding(crate::specs::Names::joined))]
-fn joined(alloc: Global, space: &str, name: String) -> Result<String, AllocError>
-    ensures { IfOk result (λ s. string_bytes s ≡ joined space.now (string_bytes name)) }
+fn joined(alloc: Global, space: &str, name: &str) -> Result<String, AllocError>
+    ensures { IfOk result (λ s. string_bytes s ≡ joined space.now name.now) }
 {
     if space.is_empty() {
-        return Ok(name);
+        return String::from_str(alloc, name);
     }
-    dotted(alloc, space, name.as_str())
+    dotted(alloc, space, name)
 }
 
 /// A full name without its namespace, which is given.
@@ -97,23 +97,23 @@ pub fn without_space<'a>(space: &str, full: &'a str) -> &'a str
 #[tactic(auto, unfolding(crate::specs::Names::full_name))]
 pub fn full_name(
     alloc: Global,
-    name: String,
-    attribute: Option<String>,
+    name: &str,
+    attribute: Option<&str>,
     enclosing: &str,
 ) -> Result<Option<String>, AllocError>
     ensures { IfOk result (λ o. option_map string_bytes o
-        ≡ full_name (string_bytes name) (option_map string_bytes attribute) enclosing.now) }
+        ≡ full_name name.now (option_map (λ s. s.now) attribute.entry) enclosing.now) }
 {
-    if !is_dotted(name.as_str()) {
+    if !is_dotted(name) {
         return Ok(None);
     }
-    if has_dot(name.as_str()) {
-        return Ok(Some(name));
+    if has_dot(name) {
+        return Ok(Some(String::from_str(alloc, name)?));
     }
     match attribute {
         Some(space) => {
-            if is_space(space.as_str()) {
-                Ok(Some(joined(alloc, space.as_str(), name)?))
+            if is_space(space) {
+                Ok(Some(joined(alloc, space, name)?))
             } else {
                 Ok(None)
             }
@@ -128,14 +128,14 @@ pub fn full_name(
 ///
 /// `AllocError` where memory for it is refused.
 #[tactic(auto, unfolding(crate::specs::Names::alias_in))]
-pub fn alias_in(alloc: Global, space: &str, name: String) -> Result<Option<String>, AllocError>
-    ensures { IfOk result (λ o. option_map string_bytes o ≡ alias_in space.now (string_bytes name)) }
+pub fn alias_in(alloc: Global, space: &str, name: &str) -> Result<Option<String>, AllocError>
+    ensures { IfOk result (λ o. option_map string_bytes o ≡ alias_in space.now name.now) }
 {
-    if !is_dotted(name.as_str()) {
+    if !is_dotted(name) {
         return Ok(None);
     }
-    if has_dot(name.as_str()) {
-        return Ok(Some(name));
+    if has_dot(name) {
+        return Ok(Some(String::from_str(alloc, name)?));
     }
     Ok(Some(joined(alloc, space, name)?))
 }

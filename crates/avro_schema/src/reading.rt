@@ -1,17 +1,16 @@
 //! From a JSON value to the nodes of a type.
 
 ghost use Rattle.std.specs.Prelude.{length, map, OnOk};
-ghost use Rattle.serde_json.specs.View.{view, items_view, members_view};
 ghost use Rattle.avro_nodes.specs.Nodes.{field_view, nodes_view};
+ghost use Rattle.avro_schema.specs.Inside.Borrowed.{value_data, items_data, members_data};
 ghost use Rattle.avro_schema.specs.Inside.ValueReaders.{parts_of};
 ghost use Rattle.avro_schema.specs.Inside.Types.{container_at, branch_of, union_at, field_of, record_at, object_at, type_at};
 ghost use Rattle.avro_schema.specs.Inside.ReaderAnswers.{Reads};
 ghost use Rattle.avro_schema.specs.Inside.NameTables.{known_in, HasNumber, KeepsNumbers};
 
-use crate::attributes::{members_of, take, take_items, take_text};
-use crate::definitions::{
-    enum_at, fixed_at, named_of, nest_within_limit, next_place, other_attributes,
-};
+use crate::attributes::{take_items, take_text};
+use crate::borrowed::{Attributes, Json, members_of, take};
+use crate::definitions::{enum_at, fixed_at, named_of, next_place, other_attributes};
 use crate::distinct::{kinds_differ, texts_differ};
 use crate::error::SchemaError;
 use crate::labels::label_of;
@@ -20,8 +19,7 @@ use crate::reading::kinds::{branch_number, key_of};
 use crate::reading::names::{name_at, primitive_at, reference_to};
 use crate::reading::nodes::{blank, container_node, field_from, fill_blank};
 use crate::words::{Container, Word, word_of};
-use avro_nodes::{Extra, Field, Node, namespace_of};
-use serde_json::Value;
+use avro_nodes::{Field, Node, namespace_of};
 use std::alloc::Global;
 
 mod kinds;
@@ -37,7 +35,7 @@ mod nodes;
 #[cycle(read)]
 pub fn type_at(
     alloc: Global,
-    value: Value,
+    value: Json<'_>,
     space: &Space,
     depth: u32,
     nodes: &mut Vec<Node>,
@@ -45,7 +43,7 @@ pub fn type_at(
 ) -> Result<u32, SchemaError>
     requires { HasNumber known.old space.now }
     ensures read { Reads (λ p. p) result
-        (type_at depth space.now.text.now (view value) (known_in known.old) (length nodes.old.items))
+        (type_at depth space.now.text.now (value_data value.entry) (known_in known.old) (length nodes.old.items))
         (nodes_view nodes.old.items) (nodes_view nodes.new.items) (known_in known.new) }
     ensures kept { OnOk result (KeepsNumbers known.old known.new) }
 {
@@ -53,19 +51,19 @@ pub fn type_at(
         return Err(SchemaError::TooLarge);
     }
     match value {
-        Value::String(name) => name_at(alloc, name.as_str(), space, nodes, known),
-        Value::Array(items) => union_at(alloc, items, space, depth - 1, nodes, known),
-        Value::Object(attributes) => object_at(alloc, attributes, space, depth - 1, nodes, known),
-        Value::Null => Err(SchemaError::BadShape),
-        Value::Bool(_) => Err(SchemaError::BadShape),
-        Value::Number(_) => Err(SchemaError::BadShape),
+        Json::Text(name) => name_at(alloc, name, space, nodes, known),
+        Json::Array(items) => union_at(alloc, items, space, depth - 1, nodes, known),
+        Json::Object(attributes) => object_at(alloc, attributes, space, depth - 1, nodes, known),
+        Json::Null => Err(SchemaError::BadShape),
+        Json::Bool(_) => Err(SchemaError::BadShape),
+        Json::Number(_) => Err(SchemaError::BadShape),
     }
 }
 
 #[cycle(read)]
 fn object_at(
     alloc: Global,
-    object: Extra,
+    object: Attributes<'_>,
     space: &Space,
     depth: u32,
     nodes: &mut Vec<Node>,
@@ -73,7 +71,7 @@ fn object_at(
 ) -> Result<u32, SchemaError>
     requires { HasNumber known.old space.now }
     ensures read { Reads (λ p. p) result
-        (object_at (type_at depth) space.now.text.now (members_view object.entries) (known_in known.old) (length nodes.old.items))
+        (object_at (type_at depth) space.now.text.now (members_data object.entry) (known_in known.old) (length nodes.old.items))
         (nodes_view nodes.old.items) (nodes_view nodes.new.items) (known_in known.new) }
     ensures kept { OnOk result (KeepsNumbers known.old known.new) }
 {
@@ -81,7 +79,7 @@ fn object_at(
     let Some(name) = take_text(&mut attributes, "type") else {
         return Err(SchemaError::BadShape);
     };
-    match word_of(name.as_str()) {
+    match word_of(name) {
         Word::Primitive(kind) => primitive_at(alloc, kind, attributes, nodes, known),
         Word::Array => container_at(
             alloc,
@@ -105,8 +103,8 @@ fn object_at(
         Word::Enum => enum_at(alloc, attributes, space.text, nodes, known),
         Word::Record => record_at(alloc, attributes, space, depth, nodes, known),
         Word::Reference => {
-            nest_within_limit(&attributes)?;
-            reference_to(name.as_str(), space, nodes, known)
+            drop(other_attributes(alloc, attributes)?);
+            reference_to(name, space, nodes, known)
         }
     }
 }
@@ -115,7 +113,7 @@ fn object_at(
 fn container_at(
     alloc: Global,
     container: Container,
-    attributes: Extra,
+    attributes: Attributes<'_>,
     space: &Space,
     depth: u32,
     nodes: &mut Vec<Node>,
@@ -123,7 +121,7 @@ fn container_at(
 ) -> Result<u32, SchemaError>
     requires { HasNumber known.old space.now }
     ensures read { Reads (λ p. p) result
-        (container_at container (type_at depth space.now.text.now) (members_view attributes.entries) (known_in known.old) (length nodes.old.items))
+        (container_at container (type_at depth space.now.text.now) (members_data attributes.entry) (known_in known.old) (length nodes.old.items))
         (nodes_view nodes.old.items) (nodes_view nodes.new.items) (known_in known.new) }
     ensures kept { OnOk result (KeepsNumbers known.old known.new) }
 {
@@ -142,7 +140,7 @@ fn container_at(
 #[cycle(read)]
 fn union_at(
     alloc: Global,
-    items: Vec<Value>,
+    items: Vec<Json<'_>>,
     space: &Space,
     depth: u32,
     nodes: &mut Vec<Node>,
@@ -150,7 +148,7 @@ fn union_at(
 ) -> Result<u32, SchemaError>
     requires { HasNumber known.old space.now }
     ensures read { Reads (λ p. p) result
-        (union_at (type_at depth space.now.text.now) (items_view items.items) (known_in known.old) (length nodes.old.items))
+        (union_at (type_at depth space.now.text.now) (items_data items.entry.items) (known_in known.old) (length nodes.old.items))
         (nodes_view nodes.old.items) (nodes_view nodes.new.items) (known_in known.new) }
     ensures kept { OnOk result (KeepsNumbers known.old known.new) }
 {
@@ -168,7 +166,7 @@ fn union_at(
 #[cycle(read)]
 fn branches_at(
     alloc: Global,
-    items: Vec<Value>,
+    items: Vec<Json<'_>>,
     space: &Space,
     depth: u32,
     nodes: &mut Vec<Node>,
@@ -176,7 +174,7 @@ fn branches_at(
 ) -> Result<Vec<(u32, u64)>, SchemaError>
     requires { HasNumber known.old space.now }
     ensures read { Reads (λ v. v.items) result
-        (parts_of (branch_of (type_at depth space.now.text.now)) (items_view items.items) (known_in known.old) (length nodes.old.items))
+        (parts_of (branch_of (type_at depth space.now.text.now)) (items_data items.entry.items) (known_in known.old) (length nodes.old.items))
         (nodes_view nodes.old.items) (nodes_view nodes.new.items) (known_in known.new) }
     ensures kept { OnOk result (KeepsNumbers known.old known.new) }
 {
@@ -190,7 +188,7 @@ fn branches_at(
 #[cycle(read)]
 fn branch_at(
     alloc: Global,
-    value: Value,
+    value: Json<'_>,
     space: &Space,
     depth: u32,
     nodes: &mut Vec<Node>,
@@ -198,7 +196,7 @@ fn branch_at(
 ) -> Result<(u32, u64), SchemaError>
     requires { HasNumber known.old space.now }
     ensures read { Reads (λ b. b) result
-        (branch_of (type_at depth space.now.text.now) (view value) (known_in known.old) (length nodes.old.items))
+        (branch_of (type_at depth space.now.text.now) (value_data value.entry) (known_in known.old) (length nodes.old.items))
         (nodes_view nodes.old.items) (nodes_view nodes.new.items) (known_in known.new) }
     ensures kept { OnOk result (KeepsNumbers known.old known.new) }
 {
@@ -213,7 +211,7 @@ fn branch_at(
 #[cycle(read)]
 fn record_at(
     alloc: Global,
-    attributes: Extra,
+    attributes: Attributes<'_>,
     space: &Space,
     depth: u32,
     nodes: &mut Vec<Node>,
@@ -221,7 +219,7 @@ fn record_at(
 ) -> Result<u32, SchemaError>
     requires { HasNumber known.old space.now }
     ensures read { Reads (λ p. p) result
-        (record_at (type_at depth) space.now.text.now (members_view attributes.entries) (known_in known.old) (length nodes.old.items))
+        (record_at (type_at depth) space.now.text.now (members_data attributes.entry) (known_in known.old) (length nodes.old.items))
         (nodes_view nodes.old.items) (nodes_view nodes.new.items) (known_in known.new) }
     ensures kept { OnOk result (KeepsNumbers known.old known.new) }
 {
@@ -257,7 +255,7 @@ fn record_at(
 #[cycle(read)]
 fn fields_at(
     alloc: Global,
-    items: Vec<Value>,
+    items: Vec<Json<'_>>,
     space: &Space,
     depth: u32,
     nodes: &mut Vec<Node>,
@@ -265,7 +263,7 @@ fn fields_at(
 ) -> Result<Vec<Field>, SchemaError>
     requires { HasNumber known.old space.now }
     ensures read { Reads (λ v. map field_view v.items) result
-        (parts_of (field_of (type_at depth space.now.text.now)) (items_view items.items) (known_in known.old) (length nodes.old.items))
+        (parts_of (field_of (type_at depth space.now.text.now)) (items_data items.entry.items) (known_in known.old) (length nodes.old.items))
         (nodes_view nodes.old.items) (nodes_view nodes.new.items) (known_in known.new) }
     ensures kept { OnOk result (KeepsNumbers known.old known.new) }
 {
@@ -279,7 +277,7 @@ fn fields_at(
 #[cycle(read)]
 fn field_at(
     alloc: Global,
-    value: Value,
+    value: Json<'_>,
     space: &Space,
     depth: u32,
     nodes: &mut Vec<Node>,
@@ -287,7 +285,7 @@ fn field_at(
 ) -> Result<Field, SchemaError>
     requires { HasNumber known.old space.now }
     ensures read { Reads field_view result
-        (field_of (type_at depth space.now.text.now) (view value) (known_in known.old) (length nodes.old.items))
+        (field_of (type_at depth space.now.text.now) (value_data value.entry) (known_in known.old) (length nodes.old.items))
         (nodes_view nodes.old.items) (nodes_view nodes.new.items) (known_in known.new) }
     ensures kept { OnOk result (KeepsNumbers known.old known.new) }
 {

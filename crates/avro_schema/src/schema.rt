@@ -1,16 +1,18 @@
 //! A schema, and how it is read.
 
-ghost use Rattle.std.specs.Prelude.{◌≡◌, ◌≢◌, ◌<◌, ◌≤◌, ◌↔◌, ℕ, List, Some, length, IsTrue, slice_get, string_bytes, IfOk, IfErr};
-ghost use Rattle.serde_json.specs.View.{view};
+ghost use Rattle.std.specs.Prelude.{◌≡◌, ◌≢◌, ◌<◌, ◌≤◌, ◌↔◌, ℕ, List, Some, length, option_and_then, IsTrue, slice_get, string_bytes, IfOk, IfErr};
+ghost use Rattle.avro_nodes.specs.Plain.{plain};
 ghost use Rattle.avro_nodes.specs.Identity.{identity};
 ghost use Rattle.avro_nodes.specs.Limits.{max_places};
 ghost use Rattle.avro_nodes.specs.Nodes.{NodeView, nodes_view};
 ghost use Rattle.avro_schema.specs.Index.{IsIndex};
 ghost use Rattle.avro_schema.specs.Texts.{TextDenotes, IsSchema};
 ghost use Rattle.avro_schema.specs.DenotedNodes.{denoted_nodes};
-ghost use Rattle.avro_schema.specs.Inside.DeclaredNodes.{value_in, declared_nodes};
+ghost use Rattle.avro_schema.specs.Inside.Borrowed.{value_data};
+ghost use Rattle.avro_schema.specs.Inside.DeclaredNodes.{value_in, root_in, declared_nodes};
 ghost use Rattle.avro_schema.specs.Inside.ReaderAnswers.{Gives};
 
+use crate::borrowed::Json;
 use crate::defaults::defaults_fit;
 use crate::error::SchemaError;
 use crate::index::Index;
@@ -18,11 +20,15 @@ use crate::indexing::index_of;
 use crate::mentions::mentions_fit;
 use crate::places::{Places, Space};
 use crate::reading::type_at;
+use crate::source::value_at;
 use crate::weight::names_fit;
 use avro_nodes::{MAX_NESTING, MAX_TEXT, Node, OutOfMemory, identity_of, plain_of};
-use serde_json::Value;
+use json::{Reader, Scratch};
 use std::alloc::Global;
 use std::marker::Model;
+
+/// How deep JSON may nest.
+const MAX_DEPTH: usize = 127;
 
 /// An Avro schema: the nodes that its text denotes, numbered from the root, which is node 0
 /// (Avro 1.11 specification, Schema Declaration).
@@ -53,35 +59,28 @@ impl Model for Schema {
         × IsIndex (nodes_view s.nodes.items) s.index };
 }
 
-/// The JSON value of a text whose numbers are whole.
-#[tactic(auto, unfolding(crate::specs::Inside::DeclaredNodes::value_in))]
-fn value_of(alloc: Global, text: &str) -> Result<Value, SchemaError>
-    ensures { Gives view result (value_in text.now) }
+/// The JSON value of a text whose numbers are respelt.
+fn value_of<'a>(
+    alloc: Global,
+    respelt: &'a str,
+    scratch: &'a mut Scratch,
+) -> Result<Json<'a>, SchemaError>
+    ensures { (text : List ℕ) → plain text ≡ Some respelt.now
+        → Gives value_data result (value_in text) }
 {
-    let Some(respelt) = plain_of(alloc, text)? else {
-        return Err(SchemaError::BadNumber);
-    };
-    match Value::from_str(alloc, respelt.as_str()) {
-        Ok(value) => Ok(value),
-        Err(e) => {
-            if e.is_memory() {
-                Err(SchemaError::OutOfMemory)
-            } else {
-                Err(SchemaError::NotJson)
-            }
-        }
+    let mut reader = Reader::new(respelt, scratch)?;
+    let value = value_at(alloc, &mut reader, MAX_DEPTH)?;
+    if reader.next().is_some() {
+        return Err(SchemaError::NotJson);
     }
+    Ok(value)
 }
 
-/// The nodes of a text, before their defaults and their identity text are looked at.
-#[tactic(auto, unfolding(crate::specs::Inside::DeclaredNodes::declared_nodes, crate::specs::Inside::DeclaredNodes::root_in))]
-fn nodes_of(alloc: Global, text: &str) -> Result<Vec<Node>, SchemaError>
-    ensures { Gives (λ v. nodes_view v.items) result (declared_nodes text.now) }
+/// The nodes of a value, before their defaults and their identity text are looked at.
+fn typed(alloc: Global, value: Json<'_>) -> Result<Vec<Node>, SchemaError>
+    ensures { Gives (λ v. nodes_view v.items) result
+        (option_and_then (λ p. Some p.nodes) (root_in (value_data value.entry))) }
 {
-    if text.len() > MAX_TEXT {
-        return Err(SchemaError::TooLarge);
-    }
-    let value = value_of(alloc, text)?;
     if !names_fit(&value) {
         return Err(SchemaError::TooLarge);
     }
@@ -93,6 +92,22 @@ fn nodes_of(alloc: Global, text: &str) -> Result<Vec<Node>, SchemaError>
     };
     type_at(alloc, value, &outside, MAX_NESTING, &mut nodes, &mut known)?;
     Ok(nodes)
+}
+
+/// The nodes of a text, before their defaults and their identity text are looked at.
+#[tactic(auto, unfolding(crate::specs::Inside::DeclaredNodes::declared_nodes, crate::specs::Inside::DeclaredNodes::root_in))]
+fn nodes_of(alloc: Global, text: &str) -> Result<Vec<Node>, SchemaError>
+    ensures { Gives (λ v. nodes_view v.items) result (declared_nodes text.now) }
+{
+    if text.len() > MAX_TEXT {
+        return Err(SchemaError::TooLarge);
+    }
+    let Some(respelt) = plain_of(alloc, text)? else {
+        return Err(SchemaError::BadNumber);
+    };
+    let mut scratch = Scratch::new(alloc);
+    let value = value_of(alloc, respelt.as_str(), &mut scratch)?;
+    typed(alloc, value)
 }
 
 impl Schema {

@@ -1,37 +1,39 @@
 //! How many bytes the names of a value's definitions will take. A short name or alias takes its
 //! namespace on, so nodes may hold far more bytes than the text that they are read from.
 
-ghost use Rattle.std.specs.Prelude.{◌≡◌, ◌-◌, length, option_map, nat_le, codes, []};
+ghost use Rattle.std.specs.Prelude.{IsTrue, ◌≡◌, ◌-◌, length, option_map, nat_le, codes, []};
 ghost use Rattle.serde_json.specs.Find.{get_member};
-ghost use Rattle.serde_json.specs.View.{view, items_view, members_view};
 ghost use Rattle.avro_nodes.specs.Limits.{max_nesting, max_text};
 ghost use Rattle.avro_schema.specs.Attributes.{text_in, array_in};
+ghost use Rattle.avro_schema.specs.Inside.Reserved.{is_reserved_name};
+ghost use Rattle.avro_schema.specs.Inside.Borrowed.{value_data, items_data, members_data};
 ghost use Rattle.avro_schema.specs.Inside.Weight.{if_any, items_weight, full_in, alias_weight, space_in, names_weight, definition_weight, field_weight, record_weight, object_weight, weight};
 
-use crate::attributes::find;
+use crate::borrowed::{Attributes, Json, array_of, find, object_of, text_of};
 use crate::words::{Word, word_of};
-use avro_nodes::{Extra, MAX_NESTING, MAX_TEXT, has_dot, namespace_of};
-use serde_json::Value;
+use avro_nodes::{MAX_NESTING, MAX_TEXT, has_dot, namespace_of};
 
 /// The attribute of this name, if it is a string.
 #[tactic(auto, unfolding(crate::specs::Attributes::text_in))]
-fn text_at<'a>(members: &'a Extra, key: &str) -> Option<&'a str>
-    ensures { option_map (λ s. s.now) result ≡ text_in key.now (members_view members.now.entries) }
+fn text_at<'a>(members: &'a Attributes<'_>, key: &str) -> Option<&'a str>
+    requires { IsTrue (is_reserved_name key.now) }
+    ensures { option_map (λ s. s.now) result ≡ text_in key.now (members_data members.now) }
 {
     match find(members, key) {
-        Some(value) => value.as_str(),
+        Some(value) => text_of(value),
         None => None,
     }
 }
 
 /// The attribute of this name, if it is an array.
 #[tactic(auto, unfolding(crate::specs::Attributes::array_in))]
-fn items_at<'a>(members: &'a Extra, key: &str) -> Option<&'a Vec<Value>>
-    ensures { option_map (λ v. items_view v.now.items) result
-        ≡ array_in key.now (members_view members.now.entries) }
+fn items_at<'t, 'a>(members: &'t Attributes<'a>, key: &str) -> Option<&'t Vec<Json<'a>>>
+    requires { IsTrue (is_reserved_name key.now) }
+    ensures { option_map (λ v. items_data v.now.items) result
+        ≡ array_in key.now (members_data members.now) }
 {
     match find(members, key) {
-        Some(value) => value.as_array(),
+        Some(value) => array_of(value),
         None => None,
     }
 }
@@ -51,17 +53,17 @@ fn after_name(left: usize, name: &str, space: &str) -> usize
 }
 
 /// What is left after an alias of a type in the namespace.
-fn after_alias(left: usize, alias: &Value, space: &str) -> usize
-    ensures { result ≡ left - alias_weight space.now (view alias.now) }
+fn after_alias(left: usize, alias: &Json<'_>, space: &str) -> usize
+    ensures { result ≡ left - alias_weight space.now (value_data alias.now) }
 {
-    match alias.as_str() {
+    match text_of(alias) {
         Some(name) => after_name(left, name, space),
         None => left,
     }
 }
 
-fn after_aliases(left: usize, aliases: &Vec<Value>, space: &str) -> usize
-    ensures { result ≡ left - items_weight (alias_weight space.now) (items_view aliases.now.items) }
+fn after_aliases(left: usize, aliases: &Vec<Json<'_>>, space: &str) -> usize
+    ensures { result ≡ left - items_weight (alias_weight space.now) (items_data aliases.now.items) }
 {
     let mut rest = left;
     for alias in aliases {
@@ -72,8 +74,8 @@ fn after_aliases(left: usize, aliases: &Vec<Value>, space: &str) -> usize
 
 /// The namespace of a definition of this name, inside an enclosing one.
 #[tactic(auto, unfolding(crate::specs::Inside::Weight::space_in))]
-fn space_of<'a>(members: &'a Extra, name: &'a str, enclosing: &'a str) -> &'a str
-    ensures { result.now ≡ space_in enclosing.now name.now (members_view members.now.entries) }
+fn space_of<'a>(members: &'a Attributes<'_>, name: &'a str, enclosing: &'a str) -> &'a str
+    ensures { result.now ≡ space_in enclosing.now name.now (members_data members.now) }
 {
     if has_dot(name) {
         return namespace_of(name);
@@ -86,8 +88,8 @@ fn space_of<'a>(members: &'a Extra, name: &'a str, enclosing: &'a str) -> &'a st
 
 /// What is left after the name and the aliases of a definition in the namespace.
 #[tactic(auto, unfolding(crate::specs::Inside::Weight::names_weight))]
-fn after_names(left: usize, members: &Extra, name: &str, space: &str) -> usize
-    ensures { result ≡ left - names_weight space.now name.now (members_view members.now.entries) }
+fn after_names(left: usize, members: &Attributes<'_>, name: &str, space: &str) -> usize
+    ensures { result ≡ left - names_weight space.now name.now (members_data members.now) }
 {
     let rest = after_name(left, name, space);
     match items_at(members, "aliases") {
@@ -98,11 +100,11 @@ fn after_names(left: usize, members: &Extra, name: &str, space: &str) -> usize
 
 /// What is left after a definition that has no types inside.
 #[tactic(auto, unfolding(crate::specs::Inside::Weight::definition_weight))]
-fn after_definition(left: usize, members: &Extra, enclosing: &str) -> usize
-    ensures { result ≡ left - definition_weight enclosing.now (members_view members.now.entries) }
+fn after_definition(left: usize, members: &Attributes<'_>, enclosing: &str) -> usize
+    ensures { result ≡ left - definition_weight enclosing.now (members_data members.now) }
 {
     match text_at(members, "name") {
-        Some(name) => after_names(left, members, name, space_of(members, name, enclosing)),
+        Some(name) => after_names(left, members, name, space_of(&*members, name, enclosing)),
         None => left,
     }
 }
@@ -110,22 +112,22 @@ fn after_definition(left: usize, members: &Extra, enclosing: &str) -> usize
 /// What is left after the definitions of a type, nested no deeper than the number.
 #[cycle(weigh)]
 #[tactic(auto, unfolding(crate::specs::Inside::Weight::weight))]
-fn after_type(left: usize, value: &Value, space: &str, depth: u32) -> usize
-    ensures { result ≡ left - weight depth space.now (view value.now) }
+fn after_type(left: usize, value: &Json<'_>, space: &str, depth: u32) -> usize
+    ensures { result ≡ left - weight depth space.now (value_data value.now) }
 {
     if depth == 0 {
         return left;
     }
     match value {
-        Value::Array(items) => after_branches(left, items, space, depth - 1),
-        Value::Object(members) => after_object(left, members, space, depth - 1),
-        Value::Null | Value::Bool(_) | Value::Number(_) | Value::String(_) => left,
+        Json::Array(items) => after_branches(left, items, space, depth - 1),
+        Json::Object(members) => after_object(left, members, space, depth - 1),
+        Json::Null | Json::Bool(_) | Json::Number(_) | Json::Text(_) => left,
     }
 }
 
 #[cycle(weigh)]
-fn after_type_if_any(left: usize, value: Option<&Value>, space: &str, depth: u32) -> usize
-    ensures { result ≡ left - if_any (weight depth space.now) (option_map (λ v. view v.now) value.entry) }
+fn after_type_if_any(left: usize, value: Option<&Json<'_>>, space: &str, depth: u32) -> usize
+    ensures { result ≡ left - if_any (weight depth space.now) (option_map (λ v. value_data v.now) value.entry) }
 {
     match value {
         Some(value) => after_type(left, value, space, depth),
@@ -134,8 +136,8 @@ fn after_type_if_any(left: usize, value: Option<&Value>, space: &str, depth: u32
 }
 
 #[cycle(weigh)]
-fn after_branches(left: usize, items: &Vec<Value>, space: &str, depth: u32) -> usize
-    ensures { result ≡ left - items_weight (weight depth space.now) (items_view items.now.items) }
+fn after_branches(left: usize, items: &Vec<Json<'_>>, space: &str, depth: u32) -> usize
+    ensures { result ≡ left - items_weight (weight depth space.now) (items_data items.now.items) }
 {
     let mut rest = left;
     for item in items {
@@ -146,8 +148,8 @@ fn after_branches(left: usize, items: &Vec<Value>, space: &str, depth: u32) -> u
 
 #[cycle(weigh)]
 #[tactic(auto, unfolding(crate::specs::Inside::Weight::object_weight))]
-fn after_object(left: usize, members: &Extra, space: &str, depth: u32) -> usize
-    ensures { result ≡ left - object_weight (weight depth) space.now (members_view members.now.entries) }
+fn after_object(left: usize, members: &Attributes<'_>, space: &str, depth: u32) -> usize
+    ensures { result ≡ left - object_weight (weight depth) space.now (members_data members.now) }
 {
     let Some(name) = text_at(members, "type") else {
         return left;
@@ -163,13 +165,13 @@ fn after_object(left: usize, members: &Extra, space: &str, depth: u32) -> usize
 
 #[cycle(weigh)]
 #[tactic(auto, unfolding(crate::specs::Inside::Weight::record_weight))]
-fn after_record(left: usize, members: &Extra, enclosing: &str, depth: u32) -> usize
-    ensures { result ≡ left - record_weight (weight depth) enclosing.now (members_view members.now.entries) }
+fn after_record(left: usize, members: &Attributes<'_>, enclosing: &str, depth: u32) -> usize
+    ensures { result ≡ left - record_weight (weight depth) enclosing.now (members_data members.now) }
 {
     let Some(name) = text_at(members, "name") else {
         return left;
     };
-    let space = space_of(members, name, enclosing);
+    let space = space_of(&*members, name, enclosing);
     let rest = after_names(left, members, name, space);
     match items_at(members, "fields") {
         Some(fields) => after_fields(rest, fields, space, depth),
@@ -178,8 +180,8 @@ fn after_record(left: usize, members: &Extra, enclosing: &str, depth: u32) -> us
 }
 
 #[cycle(weigh)]
-fn after_fields(left: usize, fields: &Vec<Value>, space: &str, depth: u32) -> usize
-    ensures { result ≡ left - items_weight (field_weight (weight depth space.now)) (items_view fields.now.items) }
+fn after_fields(left: usize, fields: &Vec<Json<'_>>, space: &str, depth: u32) -> usize
+    ensures { result ≡ left - items_weight (field_weight (weight depth space.now)) (items_data fields.now.items) }
 {
     let mut rest = left;
     for field in fields {
@@ -189,10 +191,10 @@ fn after_fields(left: usize, fields: &Vec<Value>, space: &str, depth: u32) -> us
 }
 
 #[cycle(weigh)]
-fn after_field(left: usize, field: &Value, space: &str, depth: u32) -> usize
-    ensures { result ≡ left - field_weight (weight depth space.now) (view field.now) }
+fn after_field(left: usize, field: &Json<'_>, space: &str, depth: u32) -> usize
+    ensures { result ≡ left - field_weight (weight depth space.now) (value_data field.now) }
 {
-    match field.as_object() {
+    match object_of(field) {
         Some(members) => after_type_if_any(left, find(members, "type"), space, depth),
         None => left,
     }
@@ -200,8 +202,8 @@ fn after_field(left: usize, field: &Value, space: &str, depth: u32) -> usize
 
 /// Whether the names of the value's definitions, as full names, keep to their limit: they stand in
 /// the identity text, which may not be longer.
-pub fn names_fit(value: &Value) -> bool
-    ensures { result ≡ nat_le (weight max_nesting [] (view value.now)) max_text }
+pub fn names_fit(value: &Json<'_>) -> bool
+    ensures { result ≡ nat_le (weight max_nesting [] (value_data value.now)) max_text }
 {
     after_type(MAX_TEXT + 1, value, "", MAX_NESTING) > 0
 }

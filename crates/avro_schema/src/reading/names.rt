@@ -1,17 +1,18 @@
 //! Types that are said by a name.
 
 ghost use Rattle.std.specs.Prelude.{length};
-ghost use Rattle.serde_json.specs.View.{members_view};
 ghost use Rattle.avro_nodes.specs.Nodes.{nodes_view};
+ghost use Rattle.avro_schema.specs.Inside.Borrowed.{members_data};
 ghost use Rattle.avro_schema.specs.Inside.Types.{reference_to, primitive_at, name_at};
 ghost use Rattle.avro_schema.specs.Inside.ReaderAnswers.{Reads};
 ghost use Rattle.avro_schema.specs.Inside.NameTables.{known_in, HasNumber};
 
+use crate::borrowed::{Attributes, no_attributes};
 use crate::definitions::{next_place, other_attributes};
 use crate::error::SchemaError;
 use crate::places::{Places, Space};
 use crate::words::kind_of;
-use avro_nodes::{Extra, Kind, Node};
+use avro_nodes::{Kind, Node};
 use std::alloc::Global;
 
 /// Reads a primitive type, whose other attributes are left.
@@ -24,12 +25,12 @@ use std::alloc::Global;
 pub fn primitive_at(
     alloc: Global,
     kind: Kind,
-    attributes: Extra,
+    attributes: Attributes<'_>,
     nodes: &mut Vec<Node>,
     known: &Places,
 ) -> Result<u32, SchemaError>
     ensures { Reads (λ p. p) result
-        (primitive_at kind (members_view attributes.entries) (known_in known.now) (length nodes.old.items))
+        (primitive_at kind (members_data attributes.entry) (known_in known.now) (length nodes.old.items))
         (nodes_view nodes.old.items) (nodes_view nodes.new.items) (known_in known.now) }
 {
     let place = next_place(nodes)?;
@@ -79,7 +80,7 @@ pub fn name_at(
         (nodes_view nodes.old.items) (nodes_view nodes.new.items) (known_in known.now) }
 {
     match kind_of(name) {
-        Some(kind) => primitive_at(alloc, kind, Extra::new(alloc), nodes, known),
+        Some(kind) => primitive_at(alloc, kind, no_attributes(alloc), nodes, known),
         None => reference_to(name, space, nodes, known),
     }
 }

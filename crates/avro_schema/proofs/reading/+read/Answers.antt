@@ -1,13 +1,15 @@
 use Rattle.std.proofs.Common.{◌≡◌, length, map, string_bytes, bytes_eq, sym, ap, ◌∙◌, arith, rules}
 use Rattle.std.proofs.lemmas.List.{map_push}
 use Rattle.serde_json.specs.Data.{null, boolean, number, string, array, object}
-use Rattle.serde_json.specs.View.{view, number_view, items_view, members_view}
-use Rattle.serde_json.specs.declared.value.Value.{the_lemmas}
+use Rattle.serde_json.specs.View.{number_view}
+use Rattle.avro_schema.specs.Inside.Borrowed.{value_data, items_data, members_data}
+use Rattle.avro_schema.proofs.BorrowedLemmas.{of_Null, of_Bool, of_Text, of_Array, of_Object, of_Number}
 use Rattle.avro_nodes.specs.Nodes.{field_view}
 use Rattle.avro_nodes.specs.Names.{namespace_of}
 use Rattle.avro_schema.specs.Inside.KindNumbers.{branch_number}
 use Rattle.avro_schema.specs.Inside.Distinct.{all_differ}
 use Rattle.avro_schema.proofs.AttributeLemmas.{nothing_left}
+use Rattle.avro_schema.proofs.BorrowedMembers.{key_reserved}
 use Rattle.avro_schema.proofs.DistinctLemmas.{field_names}
 use Rattle.avro_schema.proofs.ReaderErrors.{fails_from, reads_exit, same_reads}
 use Rattle.avro_schema.proofs.PlaceLemmas.{all_kept, keeps_same, keeps_then, still_numbered}
@@ -22,38 +24,38 @@ use Rattle.avro_schema.proofs.reading.+read.Goals as goal
 pub type_at-returns-then-depth-eq0-clause-read : goal.type_at-returns-then-depth-eq0-clause-read
 type_at-returns-then-depth-eq0-clause-read t c = too_deep _ _ _ _ _ c.if-depth-eq0.true
 
-pub type_at-returns-in-String-clause-read : goal.type_at-returns-in-String-clause-read
-type_at-returns-in-String-clause-read t c =
-    let seen : string c.as_str.result.now ≡ view c.args.value = rw c.in-String.is (search (rules, the_lemmas)) in
+pub type_at-returns-in-Text-clause-read : goal.type_at-returns-in-Text-clause-read
+type_at-returns-in-Text-clause-read t c =
+    let seen : string c.in-Text.name.now ≡ value_data c.args.value = rw c.in-Text.is (sym (of_Text c.in-Text.name)) in
     same_reads _ _ _ _ _ _ _ (type_string _ _ _ _ _ (omega arith) _ seen) c.name_at.ensures
 
 pub type_at-returns-in-Array-clause-read : goal.type_at-returns-in-Array-clause-read
 type_at-returns-in-Array-clause-read t c =
-    let seen : array (items_view c.in-Array.items.items) ≡ view c.args.value = rw c.in-Array.is (search (rules, the_lemmas)) in
+    let seen : array (items_data c.in-Array.items.items) ≡ value_data c.args.value = rw c.in-Array.is (sym (of_Array c.in-Array.items)) in
     same_reads _ _ _ _ _ _ _ (type_array _ _ _ _ _ (omega arith) _ seen) c.union_at.ensures.read
 
 pub type_at-returns-in-Object-clause-read : goal.type_at-returns-in-Object-clause-read
 type_at-returns-in-Object-clause-read t c =
-    let seen : object (members_view c.in-Object.attributes.entries) ≡ view c.args.value = rw c.in-Object.is (search (rules, the_lemmas)) in
+    let seen : object (members_data c.in-Object.attributes) ≡ value_data c.args.value = rw c.in-Object.is (sym (of_Object c.in-Object.attributes)) in
     same_reads _ _ _ _ _ _ _ (type_object _ _ _ _ _ (omega arith) _ seen) c.object_at.ensures.read
 
 pub type_at-returns-in-Null-clause-read : goal.type_at-returns-in-Null-clause-read
 type_at-returns-in-Null-clause-read t c =
-    let seen : null ≡ view c.args.value = rw c.in-Null.is (search (rules, the_lemmas)) in
+    let seen : null ≡ value_data c.args.value = rw c.in-Null.is (sym of_Null) in
     type_null _ _ _ _ _ (omega arith) seen
 
 pub type_at-returns-in-Bool-clause-read : goal.type_at-returns-in-Bool-clause-read
 type_at-returns-in-Bool-clause-read t c =
-    let seen : boolean c.in-Bool.field-0 ≡ view c.args.value = rw c.in-Bool.is (search (rules, the_lemmas)) in
+    let seen : boolean c.in-Bool.field-0 ≡ value_data c.args.value = rw c.in-Bool.is (sym (of_Bool c.in-Bool.field-0)) in
     type_boolean _ _ _ _ _ (omega arith) _ seen
 
 pub type_at-returns-in-Number-clause-read : goal.type_at-returns-in-Number-clause-read
 type_at-returns-in-Number-clause-read t c =
-    let seen : number (number_view c.in-Number.field-0) ≡ view c.args.value = rw c.in-Number.is (search (rules, the_lemmas)) in
+    let seen : number (number_view c.in-Number.field-0) ≡ value_data c.args.value = rw c.in-Number.is (sym (of_Number c.in-Number.field-0)) in
     type_number _ _ _ _ _ (omega arith) _ seen
 
-pub type_at-returns-in-String-clause-kept : goal.type_at-returns-in-String-clause-kept
-type_at-returns-in-String-clause-kept t c = all_kept c.name_at.result c.args.known.now
+pub type_at-returns-in-Text-clause-kept : goal.type_at-returns-in-Text-clause-kept
+type_at-returns-in-Text-clause-kept t c = all_kept c.name_at.result c.args.known.now
 
 -- ---- an object
 
@@ -62,43 +64,43 @@ object_at-returns-in_default-clause-read t c = no_word _ _ _ _ _ (sym c.in_defau
 
 pub object_at-returns-in-Primitive-clause-read : goal.object_at-returns-in-Primitive-clause-read
 object_at-returns-in-Primitive-clause-read t c =
-    same_reads _ _ _ _ _ _ _ (object_is _ _ _ _ _ _ _ (sym c.in-Some.ensures.text) c.in-Some.ensures.rest _ (rw c.as_str.ensures.value at c.in-Primitive.ensures)) c.primitive_at.ensures
+    same_reads _ _ _ _ _ _ _ (object_is _ _ _ _ _ _ _ (sym c.in-Some.ensures.text) c.in-Some.ensures.rest _ c.in-Primitive.ensures) c.primitive_at.ensures
 
 pub object_at-returns-in-Array-clause-read : goal.object_at-returns-in-Array-clause-read
 object_at-returns-in-Array-clause-read t c =
-    same_reads _ _ _ _ _ _ _ (object_is _ _ _ _ _ _ _ (sym c.in-Some.ensures.text) c.in-Some.ensures.rest _ (rw c.as_str.ensures.value at c.in-Array.ensures)) c.container_at.ensures.read
+    same_reads _ _ _ _ _ _ _ (object_is _ _ _ _ _ _ _ (sym c.in-Some.ensures.text) c.in-Some.ensures.rest _ c.in-Array.ensures) c.container_at.ensures.read
 
 pub object_at-returns-in-Map-clause-read : goal.object_at-returns-in-Map-clause-read
 object_at-returns-in-Map-clause-read t c =
-    same_reads _ _ _ _ _ _ _ (object_is _ _ _ _ _ _ _ (sym c.in-Some.ensures.text) c.in-Some.ensures.rest _ (rw c.as_str.ensures.value at c.in-Map.ensures)) c.container_at-in-Map.ensures.read
+    same_reads _ _ _ _ _ _ _ (object_is _ _ _ _ _ _ _ (sym c.in-Some.ensures.text) c.in-Some.ensures.rest _ c.in-Map.ensures) c.container_at-in-Map.ensures.read
 
 pub object_at-returns-in-Fixed-clause-read : goal.object_at-returns-in-Fixed-clause-read
 object_at-returns-in-Fixed-clause-read t c =
-    same_reads _ _ _ _ _ _ _ (object_is _ _ _ _ _ _ _ (sym c.in-Some.ensures.text) c.in-Some.ensures.rest _ (rw c.as_str.ensures.value at c.in-Fixed.ensures)) c.fixed_at.ensures.read
+    same_reads _ _ _ _ _ _ _ (object_is _ _ _ _ _ _ _ (sym c.in-Some.ensures.text) c.in-Some.ensures.rest _ c.in-Fixed.ensures) c.fixed_at.ensures.read
 
 pub object_at-returns-in-Enum-clause-read : goal.object_at-returns-in-Enum-clause-read
 object_at-returns-in-Enum-clause-read t c =
-    same_reads _ _ _ _ _ _ _ (object_is _ _ _ _ _ _ _ (sym c.in-Some.ensures.text) c.in-Some.ensures.rest _ (rw c.as_str.ensures.value at c.in-Enum.ensures)) c.enum_at.ensures.read
+    same_reads _ _ _ _ _ _ _ (object_is _ _ _ _ _ _ _ (sym c.in-Some.ensures.text) c.in-Some.ensures.rest _ c.in-Enum.ensures) c.enum_at.ensures.read
 
 pub object_at-returns-in-Record-clause-read : goal.object_at-returns-in-Record-clause-read
 object_at-returns-in-Record-clause-read t c =
-    same_reads _ _ _ _ _ _ _ (object_is _ _ _ _ _ _ _ (sym c.in-Some.ensures.text) c.in-Some.ensures.rest _ (rw c.as_str.ensures.value at c.in-Record.ensures)) c.record_at.ensures.read
+    same_reads _ _ _ _ _ _ _ (object_is _ _ _ _ _ _ _ (sym c.in-Some.ensures.text) c.in-Some.ensures.rest _ c.in-Record.ensures) c.record_at.ensures.read
 
-pub object_at-returns-in_err-nest_within_limit-in-Reference-clause-read : goal.object_at-returns-in_err-nest_within_limit-in-Reference-clause-read
-object_at-returns-in_err-nest_within_limit-in-Reference-clause-read t c =
+pub object_at-returns-in_err-other_attributes-in-Reference-clause-read : goal.object_at-returns-in_err-other_attributes-in-Reference-clause-read
+object_at-returns-in_err-other_attributes-in-Reference-clause-read t c =
     reads_exit _ _ _ _ _ _ _ c.from_residual.ensures.1
-    (fails_from _ _ _ (reference_unbound _ _ _ _ _ _ _ (sym c.in-Some.ensures.text) c.in-Some.ensures.rest (rw c.as_str.ensures.value at c.in-Reference.ensures)) c.in_err-nest_within_limit-in-Reference.ensures)
+    (fails_from _ _ _ (reference_unbound _ _ _ _ _ _ _ (sym c.in-Some.ensures.text) c.in-Some.ensures.rest c.in-Reference.ensures) c.in_err-other_attributes-in-Reference.ensures)
 
-pub object_at-returns-in_ok-nest_within_limit-in-Reference-clause-read : goal.object_at-returns-in_ok-nest_within_limit-in-Reference-clause-read
-object_at-returns-in_ok-nest_within_limit-in-Reference-clause-read t c =
-    same_reads _ _ _ _ _ _ _ (reference_is _ _ _ _ _ _ _ (sym c.in-Some.ensures.text) c.in-Some.ensures.rest _ (rw c.as_str.ensures.value at c.in-Reference.ensures) c.in_ok-nest_within_limit-in-Reference.ensures)
-    (rw c.as_str-in-Reference.ensures.value at c.reference_to.ensures)
+pub object_at-returns-in_ok-other_attributes-in-Reference-clause-read : goal.object_at-returns-in_ok-other_attributes-in-Reference-clause-read
+object_at-returns-in_ok-other_attributes-in-Reference-clause-read t c =
+    same_reads _ _ _ _ _ _ _ (reference_is _ _ _ _ _ _ _ (sym c.in-Some.ensures.text) c.in-Some.ensures.rest _ c.in-Reference.ensures c.in_ok-other_attributes-in-Reference.ensures)
+    c.reference_to.ensures
 
 pub object_at-returns-in-Primitive-clause-kept : goal.object_at-returns-in-Primitive-clause-kept
 object_at-returns-in-Primitive-clause-kept t c = all_kept c.primitive_at.result c.args.known.now
 
-pub object_at-returns-in_ok-nest_within_limit-in-Reference-clause-kept : goal.object_at-returns-in_ok-nest_within_limit-in-Reference-clause-kept
-object_at-returns-in_ok-nest_within_limit-in-Reference-clause-kept t c = all_kept c.reference_to.result c.args.known.now
+pub object_at-returns-in_ok-other_attributes-in-Reference-clause-kept : goal.object_at-returns-in_ok-other_attributes-in-Reference-clause-kept
+object_at-returns-in_ok-other_attributes-in-Reference-clause-kept t c = all_kept c.reference_to.result c.args.known.now
 
 -- ---- an array or a map
 
@@ -122,6 +124,14 @@ container_at-returns-in_err-within-clause-read t c =
     let next = one_more _ _ _ c.in_ok-push.ensures.items in
     reads_exit _ _ _ _ _ _ _ c.from_residual-in_err-within.ensures.1
     (fails_from _ _ _ (held_fails _ _ _ _ _ _ c.in_ok-place.ensures.room _ holds _ (rw rest at c.in_ok-extra.ensures)) (rw next at c.in_err-within.ensures.read))
+
+pub container_at-take-requires : goal.container_at-take-requires
+container_at-take-requires t c = rw c.key_of.ensures (key_reserved c.args.container)
+
+pub container_at-fill_blank-requires : goal.container_at-fill_blank-requires
+container_at-fill_blank-requires t c =
+    let next = one_more _ _ _ c.in_ok-push.ensures.items in
+    still_there _ _ _ _ _ c.in_ok-within.ensures.read.after_is next c.in_ok-place.ensures.place
 
 pub container_at-returns-clause-read : goal.container_at-returns-clause-read
 container_at-returns-clause-read t c =

@@ -1,6 +1,6 @@
 use Rattle.std.proofs.Common.{◌≡◌, ◌+◌, ◌*◌, length, map}
 use Rattle.std.specs.Vec.Iter.{into_iter_items, into_iter_len}
-use Rattle.serde_json.specs.View.{items_view}
+use Rattle.avro_schema.specs.Inside.Borrowed.{items_data}
 use Rattle.avro_nodes.specs.Nodes.{field_view, nodes_view}
 use Rattle.avro_schema.specs.Inside.Types.{branch_of, field_of, type_at}
 use Rattle.avro_schema.specs.Inside.NameTables.{known_in, KeepsNumbers}
@@ -36,14 +36,14 @@ decreases-field_at l = 5 * l.depth + 1
 
 abbrev pub invariant-branches_at-loop-item : goal.invariant-branches_at-loop-item
 invariant-branches_at-loop-item l =
-    Going (branch_of (type_at l.depth l.space.text.now)) (items_view (into_iter_items l.initial.item-iterator)) (known_in l.initial.known) (length l.initial.nodes.items) (nodes_view l.initial.nodes.items)
-    l.branches.items (nodes_view l.nodes.items) (known_in l.known) (length l.nodes.items) (items_view (into_iter_items l.item-iterator))
+    Going (branch_of (type_at l.depth l.space.text.now)) (items_data (into_iter_items l.initial.item-iterator)) (known_in l.initial.known) (length l.initial.nodes.items) (nodes_view l.initial.nodes.items)
+    l.branches.items (nodes_view l.nodes.items) (known_in l.known) (length l.nodes.items) (items_data (into_iter_items l.item-iterator))
     × (into_iter_len l.item-iterator ≡ length (into_iter_items l.item-iterator))
     × KeepsNumbers l.initial.known l.known
 
 abbrev pub invariant-fields_at-loop-item : goal.invariant-fields_at-loop-item
 invariant-fields_at-loop-item l =
-    Going (field_of (type_at l.depth l.space.text.now)) (items_view (into_iter_items l.initial.item-iterator)) (known_in l.initial.known) (length l.initial.nodes.items) (nodes_view l.initial.nodes.items)
-    (map field_view l.fields.items) (nodes_view l.nodes.items) (known_in l.known) (length l.nodes.items) (items_view (into_iter_items l.item-iterator))
+    Going (field_of (type_at l.depth l.space.text.now)) (items_data (into_iter_items l.initial.item-iterator)) (known_in l.initial.known) (length l.initial.nodes.items) (nodes_view l.initial.nodes.items)
+    (map field_view l.fields.items) (nodes_view l.nodes.items) (known_in l.known) (length l.nodes.items) (items_data (into_iter_items l.item-iterator))
     × (into_iter_len l.item-iterator ≡ length (into_iter_items l.item-iterator))
     × KeepsNumbers l.initial.known l.known

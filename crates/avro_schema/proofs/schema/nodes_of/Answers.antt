@@ -1,19 +1,8 @@
-use Rattle.std.proofs.Common.{◌≡◌, sym, ◌∙◌, arith}
-use Rattle.std.proofs.Math.Path.{fun_ext}
-use Rattle.avro_nodes.specs.Names.{namespace_of}
-use Rattle.avro_schema.specs.Names.{none_known}
-use Rattle.avro_schema.specs.Inside.NameTables.{without_space, known_in}
-use Rattle.avro_schema.proofs.ReaderErrors.{fails_from, gives_exit}
-use Rattle.avro_schema.proofs.TextLemmas.{typed_is, not_typed}
+use Rattle.std.proofs.Common.{option_map, string_bytes, sym, ap, ◌∙◌, arith}
+use Rattle.avro_schema.proofs.BorrowedReads.{no_value, no_plain}
 use Rattle.avro_schema.proofs.schema.nodes_of.Goals as goal
 
-pub returns : goal.returns
-returns c =
-    let known : known_in c.number.new.self ≡ none_known = fun_ext (λ x. c.in_ok-number.ensures.same (namespace_of x) (without_space (namespace_of x) x)) ∙ c.none-known.ensures in
-    typed_is _ _ _ _ _ (omega arith) c.in_ok-value.ensures (sym c.names_fit.ensures ∙ c.if-not-names_fit.false) (rw (c.new-nodes.ensures.items, known) at c.in_ok-type_at.ensures.read)
-
-pub returns-in_err-type_at : goal.returns-in_err-type_at
-returns-in_err-type_at c =
-    let known : known_in c.number.new.self ≡ none_known = fun_ext (λ x. c.in_ok-number.ensures.same (namespace_of x) (without_space (namespace_of x) x)) ∙ c.none-known.ensures in
-    gives_exit _ _ _ _ c.from_residual-in_err-type_at.ensures.1
-    (fails_from _ _ _ (not_typed _ _ (omega arith) c.in_ok-value.ensures (sym c.names_fit.ensures ∙ c.if-not-names_fit.false)) (rw (c.new-nodes.ensures.items, known) at c.in_err-type_at.ensures.read))
+pub returns-in_default : goal.returns-in_default
+returns-in_default c =
+    let none = sym c.in_ok-respelt.ensures ∙ ap (option_map string_bytes) c.in_default.is in
+    no_value c.args.text.now (omega arith) (no_plain c.args.text.now none)

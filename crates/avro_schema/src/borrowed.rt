@@ -1,0 +1,192 @@
+//! JSON as a schema text has it. Reserved members are borrowed from the text, other members are
+//! owned.
+
+ghost use Rattle.std.specs.Prelude.{◌≡◌, ◌<◌, None, Some, IsTrue, MatchOption, length, option_map, option_and_then, slice_get, OnOk, not};
+ghost use Rattle.std.specs.Str.{bytes_eq};
+ghost use Rattle.serde_json.specs.Data.{put, no_members};
+ghost use Rattle.serde_json.specs.Find.{get_member, as_str, as_array, as_object, as_number, as_u64};
+ghost use Rattle.avro_schema.specs.Attributes.{without};
+ghost use Rattle.avro_schema.specs.Inside.Reserved.{is_reserved, is_reserved_name};
+ghost use Rattle.avro_schema.specs.Inside.Borrowed.{value_data, items_data, members_data};
+
+use crate::others::Others;
+use serde_json::Number;
+use std::alloc::{AllocError, Global};
+
+/// A value.
+#[derive(Debug, Drop)]
+pub enum Json<'a> {
+    Null,
+    Bool(bool),
+    Number(Number),
+    Text(&'a str),
+    Array(Vec<Json<'a>>),
+    Object(Object<(&'a str, Json<'a>)>),
+}
+
+/// An object whose reserved members are of the type `M`.
+#[derive(Debug, Drop)]
+pub struct Object<M> {
+    /// at most one of each name
+    pub reserved: Vec<M>,
+    pub others: Others,
+}
+
+/// The attributes of a declaration.
+pub type Attributes<'a> = Object<(&'a str, Json<'a>)>;
+
+/// Whether an attribute of this name has a meaning in some declaration. A default, which has one
+/// too, isn't reserved: it is owned, as the attributes without a meaning are.
+#[tactic(auto, unfolding(crate::specs::Inside::Reserved::is_reserved))]
+pub fn is_reserved(key: &str) -> bool
+    ensures { result ≡ is_reserved key.now }
+{
+    match key.len() {
+        4 => key == "name" || key == "type" || key == "size",
+        5 => key == "order" || key == "items",
+        6 => key == "fields" || key == "values",
+        7 => key == "aliases" || key == "symbols",
+        9 => key == "namespace",
+        _ => false,
+    }
+}
+
+/// The text that the value is.
+pub fn text_of<'a>(value: &Json<'a>) -> Option<&'a str>
+    ensures { option_map (λ s. s.now) result ≡ as_str (value_data value.now) }
+{
+    match value {
+        Json::Text(text) => Some(text),
+        Json::Null | Json::Bool(_) | Json::Number(_) | Json::Array(_) | Json::Object(_) => None,
+    }
+}
+
+/// The items of the array that the value is.
+pub fn items_of(value: Json<'_>) -> Option<Vec<Json<'_>>>
+    ensures { option_map (λ v. items_data v.items) result ≡ as_array (value_data value.entry) }
+{
+    match value {
+        Json::Array(items) => Some(items),
+        Json::Null | Json::Bool(_) | Json::Number(_) | Json::Text(_) | Json::Object(_) => None,
+    }
+}
+
+/// The items of the array that the value is, where it stands.
+pub fn array_of<'t, 'a>(value: &'t Json<'a>) -> Option<&'t Vec<Json<'a>>>
+    ensures { option_map (λ v. items_data v.now.items) result ≡ as_array (value_data value.now) }
+{
+    match value {
+        Json::Array(items) => Some(items),
+        Json::Null | Json::Bool(_) | Json::Number(_) | Json::Text(_) | Json::Object(_) => None,
+    }
+}
+
+/// The members of the object that the value is, where it stands.
+pub fn object_of<'t, 'a>(value: &'t Json<'a>) -> Option<&'t Attributes<'a>>
+    ensures { option_map (λ m. members_data m.now) result ≡ as_object (value_data value.now) }
+{
+    match value {
+        Json::Object(members) => Some(members),
+        Json::Null | Json::Bool(_) | Json::Number(_) | Json::Text(_) | Json::Array(_) => None,
+    }
+}
+
+/// The members of the object that the value is.
+pub fn members_of(value: Json<'_>) -> Option<Attributes<'_>>
+    ensures { option_map (λ m. members_data m) result ≡ as_object (value_data value.entry) }
+{
+    match value {
+        Json::Object(members) => Some(members),
+        Json::Null | Json::Bool(_) | Json::Number(_) | Json::Text(_) | Json::Array(_) => None,
+    }
+}
+
+/// The whole number that the value is, if it isn't negative.
+pub fn unsigned_of(value: &Json<'_>) -> Option<u64>
+    ensures { result ≡ option_and_then as_u64 (as_number (value_data value.now)) }
+{
+    match value {
+        Json::Number(number) => number.as_u64(),
+        Json::Null | Json::Bool(_) | Json::Text(_) | Json::Array(_) | Json::Object(_) => None,
+    }
+}
+
+/// The place of the last member of this name.
+fn last_at(attributes: &Attributes<'_>, key: &str) -> Option<usize>
+    requires { IsTrue (is_reserved_name key.now) }
+    ensures { MatchOption result (get_member key.now (members_data attributes.now) ≡ None)
+        (λ i. (i < length attributes.now.reserved.items)
+        × (option_map (λ m. m.0.now) (slice_get attributes.now.reserved.items i) ≡ Some key.now)
+        × (get_member key.now (members_data attributes.now)
+        ≡ option_map (λ m. value_data m.1) (slice_get attributes.now.reserved.items i))) }
+{
+    let mut left = attributes.reserved.len();
+    while left > 0 {
+        left -= 1;
+        if attributes.reserved[left].0 == key {
+            return Some(left);
+        }
+    }
+    None
+}
+
+/// The attribute of this reserved name.
+pub fn find<'t, 'a>(attributes: &'t Attributes<'a>, key: &str) -> Option<&'t Json<'a>>
+    requires { IsTrue (is_reserved_name key.now) }
+    ensures { option_map (λ v. value_data v.now) result
+        ≡ get_member key.now (members_data attributes.now) }
+{
+    match last_at(attributes, key) {
+        Some(at) => Some(&attributes.reserved[at].1),
+        None => None,
+    }
+}
+
+/// Takes out the attribute of this reserved name.
+pub fn take<'a>(attributes: &mut Attributes<'a>, key: &str) -> Option<Json<'a>>
+    requires { IsTrue (is_reserved_name key.now) }
+    ensures value { option_map value_data result
+        ≡ get_member key.now (members_data attributes.old) }
+    ensures rest { members_data attributes.new
+        ≡ without key.now (members_data attributes.old) }
+{
+    let Some(at) = last_at(attributes, key) else {
+        return None;
+    };
+    let (_key, value) = attributes.reserved.remove(at);
+    attributes.reserved.retain(
+        |member: &(&str, Json<'_>)| -> bool
+            ensures { result ≡ not (bytes_eq member.now.0.now key.entry.now) }
+        { member.0 != key },
+    );
+    Some(value)
+}
+
+/// No attributes.
+pub fn no_attributes<'a>(alloc: Global) -> Attributes<'a>
+    ensures { members_data result ≡ no_members }
+{
+    Object {
+        reserved: Vec::new(alloc),
+        others: Others::none(alloc),
+    }
+}
+
+/// Adds an attribute of a reserved name, or replaces the one of this name.
+///
+/// # Errors
+///
+/// `AllocError` if allocation fails.
+pub fn put_reserved<'a>(
+    attributes: &mut Attributes<'a>,
+    key: &'a str,
+    value: Json<'a>,
+) -> Result<(), AllocError>
+    requires { IsTrue (is_reserved_name key.now) }
+    ensures { OnOk result (members_data attributes.new
+        ≡ put key.now (value_data value.entry) (members_data attributes.old)) }
+{
+    drop(take(attributes, key));
+    attributes.reserved.push((key, value))?;
+    Ok(())
+}

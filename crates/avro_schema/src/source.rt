@@ -1,0 +1,128 @@
+//! A schema text as JSON.
+
+ghost use Rattle.std.specs.Prelude.{◌≡◌, ◌<◌, Some, None, Err, IfOk, OnOk, length};
+ghost use Rattle.json.specs.Json.{value, items, members};
+ghost use Rattle.serde_json.specs.Data.{Data, no_members, put};
+ghost use Rattle.serde_json.specs.Read.{of_json, of_items, of_members, converted};
+ghost use Rattle.avro_schema.specs.Inside.Borrowed.{value_data, items_data, members_data};
+
+use crate::borrowed::{Attributes, Json, is_reserved, no_attributes, put_reserved};
+use crate::error::Unread;
+use crate::kept::{kept_value, number_of};
+use crate::owning::put_other;
+use json::{Reader, Token};
+use std::alloc::Global;
+
+/// Reads a value, nested no deeper than the number.
+///
+/// # Errors
+///
+/// `Invalid` where none begins here that may be read, and `OutOfMemory` where memory is refused.
+#[cycle(source)]
+#[inline(always)]
+pub fn value_at<'a>(
+    alloc: Global,
+    reader: &mut Reader<'a>,
+    depth: usize,
+) -> Result<Json<'a>, Unread>
+    ensures ok { IfOk result
+        (λ v. converted of_json (value depth reader.old) ≡ Some (value_data v, reader.new)) }
+    ensures shorter { OnOk result (length reader.new < length reader.old) }
+    ensures invalid { result ≡ Err Unread.Invalid
+        → converted of_json (value depth reader.old) ≡ None }
+{
+    let token = reader.next().ok_or(Unread::Invalid)?;
+    match token {
+        Token::String(text) => Ok(Json::Text(text)),
+        Token::Number(text) => match number_of(text) {
+            Some(number) => Ok(Json::Number(number)),
+            None => Err(Unread::Invalid),
+        },
+        Token::Bool(b) => Ok(Json::Bool(b)),
+        Token::Null => Ok(Json::Null),
+        Token::EndObject | Token::EndArray | Token::Key(_) | Token::Bad => Err(Unread::Invalid),
+        Token::BeginArray => {
+            if depth == 0 {
+                return Err(Unread::Invalid);
+            }
+            Ok(Json::Array(items_at(alloc, reader, depth - 1)?))
+        }
+        Token::BeginObject => {
+            if depth == 0 {
+                return Err(Unread::Invalid);
+            }
+            Ok(Json::Object(members_at(alloc, reader, depth - 1)?))
+        }
+    }
+}
+
+#[cycle(source)]
+#[inline(never)]
+fn items_at<'a>(
+    alloc: Global,
+    reader: &mut Reader<'a>,
+    depth: usize,
+) -> Result<Vec<Json<'a>>, Unread>
+    ensures ok { IfOk result
+        (λ v. converted of_items (items (value depth) (length reader.old) reader.old)
+        ≡ Some (items_data v.items, reader.new)) }
+    ensures shorter { OnOk result (length reader.new < length reader.old) }
+    ensures invalid { result ≡ Err Unread.Invalid
+        → converted of_items (items (value depth) (length reader.old) reader.old) ≡ None }
+{
+    let mut found = Vec::new(alloc);
+    'items: while !reader.take_end_array() {
+        let item = value_at(alloc, reader, depth)?;
+        found.push(item)?;
+    }
+    Ok(found)
+}
+
+/// Reads the value of a member, and puts it among the attributes.
+#[cycle(source)]
+#[inline(always)]
+fn member_at<'a>(
+    alloc: Global,
+    key: &'a str,
+    found: &mut Attributes<'a>,
+    reader: &mut Reader<'a>,
+    depth: usize,
+) -> Result<(), Unread>
+    ensures ok { OnOk result ((d : Data) × (converted of_json (value depth reader.old) ≡ Some (d, reader.new))
+        × (members_data found.new ≡ put key.now d (members_data found.old))) }
+    ensures shorter { OnOk result (length reader.new < length reader.old) }
+    ensures invalid { result ≡ Err Unread.Invalid
+        → converted of_json (value depth reader.old) ≡ None }
+{
+    if is_reserved(key) {
+        let member = value_at(alloc, reader, depth)?;
+        put_reserved(found, key, member)?;
+        return Ok(());
+    }
+    let member = kept_value(alloc, reader, depth)?;
+    put_other(alloc, found, key, member)?;
+    Ok(())
+}
+
+#[cycle(source)]
+#[inline(never)]
+fn members_at<'a>(
+    alloc: Global,
+    reader: &mut Reader<'a>,
+    depth: usize,
+) -> Result<Attributes<'a>, Unread>
+    ensures ok { IfOk result
+        (λ m. converted (λ ms. of_members ms no_members)
+        (members (value depth) (length reader.old) reader.old)
+        ≡ Some (members_data m, reader.new)) }
+    ensures shorter { OnOk result (length reader.new < length reader.old) }
+    ensures invalid { result ≡ Err Unread.Invalid
+        → converted (λ ms. of_members ms no_members)
+        (members (value depth) (length reader.old) reader.old) ≡ None }
+{
+    let mut found = no_attributes(alloc);
+    'members: while let Some(name) = reader.next_key()? {
+        member_at(alloc, name, &mut found, reader, depth)?;
+    }
+    Ok(found)
+}
