@@ -8,11 +8,20 @@ use Rattle.std.proofs.lemmas.List.{get_or-replicate, get_or_past}
 use Rattle.std.proofs.lemmas.Nat.{same_from_place, mul-add-lt}
 use Rattle.std.proofs.lemmas.Bool.{cases_lt}
 use Rattle.std.proofs.lemmas.Bool.Decides.{nat_tests}
-use Rattle.avro_resolve.specs.Inside.Left.{flag, up, ups}
+use Rattle.avro_resolve.specs.declared.table.Table.{Table}
+use Rattle.avro_resolve.specs.Inside.Left.{flag, left, up, ups}
+use Rattle.avro_resolve.proofs.ListLemmas.{get_or_any}
 
 pub flag_at : (fs : List Bool) (m i j : ℕ) → j < m → flag fs m i j ≡ get_or fs (i * m + j) false
 unfolding flag
 flag_at fs m i j l = grind (arith, nat_tests)
+
+-- what stands at the index of a pair is its flag
+pub flag_is : (t : Table) (i at : ℕ) (b : Bool) → i < t.writers → at < t.readers → b ≡ get_or t.flags.items (i * t.readers + at) b → left t i at ≡ b
+flag_is t i at b li la e =
+    let m = mul-add-lt i t.readers at t.writers li la in
+    let l : i * t.readers + at < length t.flags.items = omega (arith, t.sized, t.flags.ok.0) in
+    flag_at t.flags.items t.readers i at la ∙ get_or_any t.flags.items (i * t.readers + at) false b l ∙ sym e
 
 pub flag_past : (fs : List Bool) (m i j : ℕ) → m ≤ j → flag fs m i j ≡ false
 unfolding flag

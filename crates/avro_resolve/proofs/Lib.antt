@@ -8,7 +8,7 @@ pub mod Flags
 pub mod BitLemmas
 pub mod Agreement
 pub mod Monotone
-pub mod Noting
+pub mod Numbering
 pub mod PairLists
 pub mod PairLemmas
 pub mod SupportLemmas

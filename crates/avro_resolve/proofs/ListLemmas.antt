@@ -1,7 +1,8 @@
 -- Lists that stand at places.
-use Rattle.std.proofs.Common.{◌≡◌, ℕ, zero, suc, ◌<◌, ◌≤◌, List, [], ◌∷◌, ◌++◌, Bool, true, false, length, get_or, refl, sym, ap, subst, ◌∙◌, arith, inl, inr}
+use Rattle.std.proofs.Common.{◌≡◌, ℕ, zero, suc, ◌+◌, ◌<◌, ◌≤◌, List, [], ◌∷◌, ◌++◌, Bool, true, false, length, get_or, refl, sym, ap, subst, ◌∙◌, arith, inl, inr}
 use Rattle.std.proofs.Math.ListN.{set}
 use Rattle.std.specs.Prelude.{◌==◌, ◌⊎◌, Contains, Vec}
+use Rattle.std.proofs.lemmas.Bool.{cases_lt}
 use Rattle.std.specs.declared.alloc.Global.{Global}
 use Rattle.std.proofs.lemmas.List.{length-set}
 use Rattle.std.proofs.lemmas.Bool.Decides.{nat_tests}
@@ -93,3 +94,10 @@ pub get_or_any : {X : Type 0} (xs : List X) (k : ℕ) (d e : X) → k < length x
 get_or_any [] k d e l = absurd (omega arith)
 get_or_any (x ∷ xs) zero d e l = refl
 get_or_any (x ∷ xs) (suc k) d e l = get_or_any xs k d e (omega arith)
+
+-- what holds of each element before one and of this one
+pub each_more : {X : Type 0} (P : X → Type 0) (xs : List X) (n : ℕ) (e : X) → n < length xs → ((k : ℕ) (d : X) → k < n → P (get_or xs k d)) → P (get_or xs n e) → (k : ℕ) (d : X) → k < n + 1 → P (get_or xs k d)
+each_more P xs n e within before here k d l = elim (cases_lt k n) [
+  | inl g ↦ before k d g
+  | inr g ↦ (let same : n ≡ k = omega arith in subst (λ (x : ℕ). P (get_or xs x d)) same (subst P (get_or_any xs n e d within) here))
+]

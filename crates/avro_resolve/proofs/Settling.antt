@@ -1,7 +1,7 @@
 -- Pairs that were struck out, told to those that ask for them.
-use Rattle.std.proofs.Common.{◌≡◌, ℕ, ◌+◌, List, [], ◌∷◌, ◌++◌, Bool, true, false, ◌&&◌, ◌<◌, ◌≤◌, length, get_or, refl, sym, subst, ◌∙◌, arith, true≢false, inl, inr, length-append}
-use Rattle.std.specs.Prelude.{◌==◌, ◌⊎◌, if◌then◌else◌}
-use Rattle.std.proofs.lemmas.Bool.{cases_lt, or_cases, or_left, or_right}
+use Rattle.std.proofs.Common.{◌≡◌, ℕ, ◌+◌, List, [], ◌∷◌, ◌++◌, Bool, true, false, ◌&&◌, length, get_or, refl, sym, subst, ◌∙◌, arith, true≢false, inl, inr, length-append}
+use Rattle.std.specs.Prelude.{◌==◌, ◌⊎◌, if◌then◌else◌, IsTrue}
+use Rattle.std.proofs.lemmas.Bool.{or_cases, or_left, or_right}
 use Rattle.std.proofs.lemmas.List.Elements.{All-append, All-cons, All-nil, All-contains, Contains-append_left, Contains-append_right, Contains-get_or}
 use Rattle.std.proofs.lemmas.Bool.Decides.{nat_tests}
 use Rattle.avro_nodes.specs.Nodes.{NodeView}
@@ -27,7 +27,7 @@ lists_then t u v ps qs rs g h = record {
   out = λ o. h.out (g.out o);
 }
 
-not_back : (x y : Bool) → (x ≡ true → y ≡ true) → y ≡ false → x ≡ false
+pub not_back : (x y : Bool) → (x ≡ true → y ≡ true) → y ≡ false → x ≡ false
 not_back true y h e = absurd (true≢false (sym (h refl) ∙ e))
 not_back false y h e = refl
 
@@ -97,13 +97,13 @@ settled_on w r t v ps qs i j ww wr h s l = supports_within (held t ps) (held v q
 pub goes_on : (t v : Table) (ps qs : List Pair) (i branch j : ℕ) → Lists t ps v qs → GoesWith t ps i branch j → GoesWith v qs i branch j
 goes_on t v ps qs i branch j h g l = h.held branch j (g (h.fewer i j l))
 
--- what goes with the branch before a place, where the pairs of the row are left with it up to another
-pub goes_before : (t : Table) (ps : List Pair) (i branch from at : ℕ) → ((b : ℕ) → b < from → GoesWith t ps i branch b)
-    → ((b : ℕ) → from ≤ b → b < at → left t i b ≡ true → left t branch b ≡ true) → (b : ℕ) → b < at → GoesWith t ps i branch b
-goes_before t ps i branch from at goes rest b l = elim (cases_lt b from) [
-  | inl g ↦ goes b g
-  | inr g ↦ λ h. or_left (left t branch b) (member ps branch b) (rest b g l h)
-]
+-- what was eliminated with a branch goes with it
+pub goes_gone : (t v : Table) (ps qs : List Pair) (i branch b : ℕ) → Lists t ps v qs → (left t branch b ≡ false → left v i b ≡ false) → GoesWith v qs i branch b
+goes_gone t v ps qs i branch b lists gone h = by (left t branch b) refl
+  where
+    by : (x : Bool) → left t branch b ≡ x → IsTrue (held v qs branch b)
+    by true e = lists.held branch b (or_left (left t branch b) (member ps branch b) e)
+    by false e = absurd (true≢false (sym h ∙ gone e))
 
 onto : (v : Table) (qs more : List Pair) (a b : ℕ) → held v qs a b ≡ true → held v (qs ++ more) a b ≡ true
 onto v qs more a b h = elim (or_cases (left v a b) (member qs a b) h) [
@@ -135,6 +135,10 @@ lists_beside t v ps qs more h = record {
 -- what was settled before a pair is told stays so while others are told of it
 pub all_settled_on : (w r : List NodeView) (t v : Table) (ps qs more : List Pair) → IsWhole w → IsWhole r → Lists t ps v qs → AllSettled w r t (ps ++ more) → AllSettled w r v (qs ++ more)
 all_settled_on w r t v ps qs more ww wr h s i j li lj = settled_on w r t v (ps ++ more) (qs ++ more) i j ww wr (lists_beside t v ps qs more h) (s i j li lj)
+
+-- what is settled is so with a further list
+pub settled_onto : (w r : List NodeView) (t : Table) (ps more : List Pair) (i j : ℕ) → IsWhole w → IsWhole r → Settled w r t ps i j → Settled w r t (ps ++ more) i j
+settled_onto w r t ps more i j ww wr s l = supports_within (held t ps) (held t (ps ++ more)) (λ a b h. onto t ps more a b h) w r i j (s l)
 
 -- a pair that does not ask for the one that is told needs no look
 pub settled_ignoring : (w r : List NodeView) (t : Table) (ps : List Pair) (i j p q : ℕ) → Ignores w r i j p q → Settled w r t (ps ++ (p, q) ∷ []) i j → Settled w r t ps i j

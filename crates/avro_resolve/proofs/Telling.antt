@@ -1,5 +1,5 @@
 -- A pair that was struck out is told to each pair that asks for it.
-use Rattle.std.proofs.Common.{◌≡◌, ℕ, zero, suc, ◌+◌, ◌<◌, List, [], ◌∷◌, ◌++◌, Option, Some, None, Bool, true, false, cond, length, get_or, refl, sym, ap, subst, ◌∙◌, arith, inl, inr}
+use Rattle.std.proofs.Common.{◌≡◌, ℕ, zero, suc, ◌+◌, ◌<◌, List, [], ◌∷◌, ◌++◌, Option, Some, None, Bool, true, false, cond, length, get_or, refl, sym, ap, append-nil, append_assoc, subst, ◌∙◌, arith, inl, inr}
 use Rattle.std.specs.Prelude.{◌⊎◌, All, Any, Contains, IsSome, IsTrue, MatchOption, find, option_and_then, option_map, slice_get, Vec}
 use Rattle.std.specs.List.{AllZip}
 use Rattle.std.specs.declared.alloc.Global.{Global}
@@ -21,18 +21,16 @@ use Rattle.avro_resolve.specs.Asking.{source_place, AsksFor}
 use Rattle.avro_resolve.specs.Resolution.{Pairs, first_named, source, Fits}
 use Rattle.avro_resolve.specs.Witnesses.{Pair}
 use Rattle.avro_resolve.specs.Inside.Agreeing.{fields_of}
-use Rattle.avro_resolve.specs.Inside.Askers.{LinkedBy, HasLabel, AreAskers, GoTogether, Joins, MayAsk}
-use Rattle.avro_resolve.specs.Inside.Left.{Settled, AllSettled, Ignores, WithinBut}
+use Rattle.avro_resolve.specs.Inside.Askers.{LinkedBy, HasLabel, AreAskers, GoTogether, IsNoUnion, Joins, MayAsk}
+use Rattle.avro_resolve.specs.Inside.Left.{left, AreRun, Settled, AllSettled, Ignores, WithinBut}
 use Rattle.avro_resolve.specs.Inside.Lists.{list_at, StandsAt}
-use Rattle.avro_resolve.specs.Inside.Places.{IsWhole, Names}
 use Rattle.avro_resolve.proofs.ListLemmas.{get_or_any, list_in, nothing_stands, same_place}
-use Rattle.avro_resolve.proofs.Monotone.{at_place, named_in, supports_at}
-use Rattle.avro_resolve.proofs.Reaching.{asks_in}
+use Rattle.avro_resolve.proofs.Monotone.{named_in, supports_at}
 use Rattle.avro_resolve.specs.Inside.Sides.{columns, names_of, rows, IsSides}
 use Rattle.avro_resolve.specs.Inside.Sources.{code, code_at, field_at, AreSources, IsEntry}
 use Rattle.avro_resolve.proofs.LinkLemmas.{met_by, sought_by, zip_got, IsMetBy, IsOf, IsSoughtBy, Seeks}
 use Rattle.avro_resolve.proofs.Meeting.{tell}
-use Rattle.avro_resolve.proofs.Settling.{settled_ignoring}
+use Rattle.avro_resolve.proofs.Settling.{settled_gone, settled_ignoring, settled_onto}
 
 -- ---- a search through a list
 
@@ -164,6 +162,21 @@ module _ (sources : List (Vec ℕ Global)) (p : ℕ) where
   meet : (xs ys : List Link) (i j : ℕ) → Meet xs ys i j ⊎ (Meet xs ys i j → ⊥)
   meet xs ys i j = elim (search_list (Above ys i j) (λ x. both (same_place x.asker i) (is_beside ys j x)) xs) [ inl h ↦ inl h | inr n ↦ inr (λ h. n h.0 h.1 h.2) ]
 
+-- the pairs that may ask for this one are settled without it
+pub record IsSeen (sides : Sides) (above beside : Links) (sources : List (Vec ℕ Global)) (p q : ℕ) (v : Table) (qs : List Pair) : Type 0 where
+  pub down : All (λ x. Settled (rows sides) (columns sides) v qs x q) (list_at above.unions.items p)
+  pub along : IsNoUnion (rows sides) p → All (Settled (rows sides) (columns sides) v qs p) (list_at beside.unions.items q)
+  pub joined : Joins sources p (Settled (rows sides) (columns sides) v qs) (list_at above.lists.items p) (list_at beside.lists.items q)
+
+union_or : (a : NodeView) → ((branches : List ℕ) × (a ≡ union branches)) ⊎ ((branches : List ℕ) → a ≡ union branches → ⊥)
+union_or (union bs) = inl (bs, refl)
+union_or (primitive k x) = inr (λ bs e. absurd cc)
+union_or (array p x) = inr (λ bs e. absurd cc)
+union_or (mapping p x) = inr (λ bs e. absurd cc)
+union_or (enumeration n s f x) = inr (λ bs e. absurd cc)
+union_or (fixed n s x) = inr (λ bs e. absurd cc)
+union_or (rec n fs x) = inr (λ bs e. absurd cc)
+
 module _ (sides : Sides) (is : IsSides sides) (above beside : Links) (sources : List (Vec ℕ Global)) (askers : AreAskers sides above beside sources) (i j p q : ℕ) where
   abbrev Listed : Type 0
   Listed = ((j ≡ q) × StandsAt above.unions.items i p) ⊎ (((i ≡ p) × StandsAt beside.unions.items j q) ⊎ Meet sources p (list_at above.lists.items p) (list_at beside.lists.items q) i j)
@@ -235,36 +248,49 @@ module _ (sides : Sides) (is : IsSides sides) (above beside : Links) (sources : 
 
   -- the pairs of what is listed are settled
   abbrev Seen : Table → List Pair → Type 0
-  Seen v qs = All (λ x. Settled (rows sides) (columns sides) v qs x q) (list_at above.unions.items p) × All (Settled (rows sides) (columns sides) v qs p) (list_at beside.unions.items q)
-      × Joins sources p (Settled (rows sides) (columns sides) v qs) (list_at above.lists.items p) (list_at beside.lists.items q)
+  Seen v qs = IsSeen sides above beside sources p q v qs
 
-  looked : (v : Table) (qs : List Pair) → Seen v qs → Listed → Settled (rows sides) (columns sides) v qs i j
-  looked v qs seen (inl (e, s)) = subst (λ (y : ℕ). Settled (rows sides) (columns sides) v qs i y) (sym e) (All-contains (λ x. Settled (rows sides) (columns sides) v qs x q) (list_at above.unions.items p) i seen.0 s)
-  looked v qs seen (inr (inl (e, s))) = subst (λ (x : ℕ). Settled (rows sides) (columns sides) v qs x j) (sym e) (All-contains (Settled (rows sides) (columns sides) v qs p) (list_at beside.unions.items q) j seen.1 s)
-  looked v qs seen (inr (inr (x, hx, (ex, (y, hy, (ey, both)))))) = subst (λ (a : ℕ). Settled (rows sides) (columns sides) v qs a j) ex (subst (λ (b : ℕ). Settled (rows sides) (columns sides) v qs x.asker b) ey (seen.2 x y hx hy both.0 both.1))
+  looked : (v : Table) (qs : List Pair) (a b : NodeView) → slice_get (rows sides) i ≡ Some a → slice_get (columns sides) j ≡ Some b → left v p q ≡ false → Settled (rows sides) (columns sides) v (qs ++ (p, q) ∷ []) i j → Seen v qs → Listed
+      → Settled (rows sides) (columns sides) v qs i j
+  looked v qs a b ea eb out before seen (inl (e, s)) = subst (λ (y : ℕ). Settled (rows sides) (columns sides) v qs i y) (sym e) (All-contains (λ x. Settled (rows sides) (columns sides) v qs x q) (list_at above.unions.items p) i seen.down s)
+  looked v qs a b ea eb out before seen (inr (inl (e, s))) =
+      let w = rows sides in let r = columns sides in
+      elim (union_or a) [
+        | inl u ↦ elim (same_place j q) [
+          | inl f ↦ settled_gone w r v qs i j (ap (λ (x : ℕ). left v x j) e ∙ ap (left v p) f ∙ out)
+          | inr n ↦ settled_ignoring w r v qs i j p q (unasked w r i j p q (union u.0) b (ea ∙ ap (λ (x : NodeView). Some x) u.1) eb (λ h. n (sym h.1))) before
+        ]
+        | inr n ↦ subst (λ (x : ℕ). Settled w r v qs x j) (sym e)
+            (All-contains (Settled w r v qs p) (list_at beside.unions.items q) j (seen.along (λ bs f. n bs (same_Some a (union bs) (sym ea ∙ ap (slice_get w) e ∙ f)))) s)
+      ]
+  looked v qs a b ea eb out before seen (inr (inr (x, hx, (ex, (y, hy, (ey, both)))))) = subst (λ (a : ℕ). Settled (rows sides) (columns sides) v qs a j) ex (subst (λ (b : ℕ). Settled (rows sides) (columns sides) v qs x.asker b) ey (seen.joined x y hx hy both.0 both.1))
 
-  told_one : (v : Table) (qs : List Pair) → i < length (rows sides) → j < length (columns sides) → Settled (rows sides) (columns sides) v (qs ++ (p, q) ∷ []) i j → Seen v qs → Settled (rows sides) (columns sides) v qs i j
-  told_one v qs li lj before seen = elim is_listed [
-    | inl h ↦ looked v qs seen h
-    | inr n ↦ (
-        let w = rows sides in let r = columns sides in
-        let d : NodeView = union [] in let a = get_or w i d in let b = get_or r j d in
-        let ea : slice_get w i ≡ Some a = slice_get-get_or w i d li in let eb : slice_get r j ≡ Some b = slice_get-get_or r j d lj in
-        settled_ignoring w r v qs i j p q (unasked w r i j p q a b ea eb (λ h. n (listed a b ea eb h))) before
-        )
-  ]
+  told_one : (v : Table) (qs : List Pair) → i < length (rows sides) → j < length (columns sides) → left v p q ≡ false → Settled (rows sides) (columns sides) v (qs ++ (p, q) ∷ []) i j → Seen v qs → Settled (rows sides) (columns sides) v qs i j
+  told_one v qs li lj out before seen =
+      let w = rows sides in let r = columns sides in
+      let d : NodeView = union [] in let a = get_or w i d in let b = get_or r j d in
+      let ea : slice_get w i ≡ Some a = slice_get-get_or w i d li in let eb : slice_get r j ≡ Some b = slice_get-get_or r j d lj in
+      elim is_listed [
+        | inl h ↦ looked v qs a b ea eb out before seen h
+        | inr n ↦ settled_ignoring w r v qs i j p q (unasked w r i j p q a b ea eb (λ h. n (listed a b ea eb h))) before
+      ]
 
--- once all that is listed was looked at, all pairs are settled without the pair that was told
-pub told : (sides : Sides) → IsSides sides → (above beside : Links) (sources : List (Vec ℕ Global)) → AreAskers sides above beside sources → (p q : ℕ) (v : Table) (qs : List Pair) → AllSettled (rows sides) (columns sides) v (qs ++ (p, q) ∷ [])
-    → All (λ x. Settled (rows sides) (columns sides) v qs x q) (list_at above.unions.items p) → All (Settled (rows sides) (columns sides) v qs p) (list_at beside.unions.items q)
-    → Joins sources p (Settled (rows sides) (columns sides) v qs) (list_at above.lists.items p) (list_at beside.lists.items q) → AllSettled (rows sides) (columns sides) v qs
-told sides is above beside sources askers p q v qs before unions others links i j li lj = told_one sides is above beside sources askers i j p q v qs li lj (before i j li lj) (unions, others, links)
+-- once all that asks for the pairs of a run was looked at, all pairs are settled without them
+module _ (sides : Sides) (is : IsSides sides) (above beside : Links) (sources : List (Vec ℕ Global)) (askers : AreAskers sides above beside sources) (v : Table) where
+  seen_onto : (p q : ℕ) (qs more : List Pair) → IsSeen sides above beside sources p q v qs → IsSeen sides above beside sources p q v (qs ++ more)
+  seen_onto p q qs more h =
+      let w = rows sides in let r = columns sides in
+      let on = λ (i j : ℕ). settled_onto w r v qs more i j is.writer.whole is.reader.whole in
+      record {
+        down = λ k d l. on (get_or (list_at above.unions.items p) k d) q (h.down k d l);
+        along = λ n k d l. on p (get_or (list_at beside.unions.items q) k d) (h.along n k d l);
+        joined = λ x y hx hy e m. on x.asker y.asker (h.joined x y hx hy e m);
+      }
 
--- nothing asks for what is no pair of places
-pub none_told : (w r : List NodeView) → IsWhole w → IsWhole r → (p q : ℕ) → ((p < length w) × (q < length r) → ⊥) → (v : Table) (qs : List Pair) → AllSettled w r v (qs ++ (p, q) ∷ []) → AllSettled w r v qs
-none_told w r ww wr p q out v qs before i j li lj =
-    let d : NodeView = union [] in let a = get_or w i d in let b = get_or r j d in
-    let ea : slice_get w i ≡ Some a = slice_get-get_or w i d li in let eb : slice_get r j ≡ Some b = slice_get-get_or r j d lj in
-    settled_ignoring w r v qs i j p q
-    (unasked w r i j p q a b ea eb (λ h. out (asks_in (length w) (length r) i j p q a b (at_place w (Names (length w)) i a ww ea) (at_place r (Names (length r)) j b wr eb) li lj h)))
-    (before i j li lj)
+  pub told : (p : ℕ) (qs run : List Pair) → AreRun v p run → AllSettled (rows sides) (columns sides) v (qs ++ run) → All (λ (x : Pair). IsSeen sides above beside sources p x.1 v qs) run → AllSettled (rows sides) (columns sides) v qs
+  told p qs [] are before seen = subst (AllSettled (rows sides) (columns sides) v) (append-nil qs) before
+  told p qs (x ∷ run) are before seen = λ i j li lj.
+      let w = rows sides in let r = columns sides in let first = are 0 x (omega arith) in
+      let rest : AllSettled w r v (qs ++ x ∷ []) = told p (qs ++ x ∷ []) run (λ k d l. are (suc k) d (omega arith)) (subst (AllSettled w r v) (sym (append_assoc qs (x ∷ []) run)) before)
+      (λ k d l. seen_onto p (get_or run k d).1 qs (x ∷ []) (seen (suc k) d (omega arith))) in
+      told_one sides is above beside sources askers i j p x.1 v qs li lj (subst (λ (z : ℕ). left v z x.1 ≡ false) first.0 first.1) (subst (λ (z : ℕ). Settled w r v (qs ++ (z, x.1) ∷ []) i j) first.0 (rest i j li lj)) (seen 0 x (omega arith))

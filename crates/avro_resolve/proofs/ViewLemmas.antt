@@ -3,6 +3,9 @@ use Rattle.std.proofs.Common.{◌≡◌, ℕ, zero, suc, List, [], ◌∷◌, �
 use Rattle.std.specs.Prelude.{All, option_map, slice_get}
 use Rattle.std.proofs.Math.ListN.{get_or-map}
 use Rattle.std.proofs.lemmas.List.{length-map}
+use Rattle.avro_nodes.specs.Nodes.{node_view, union}
+use Rattle.avro_nodes.specs.declared.node.Node.{Node}
+use Rattle.avro_nodes.specs.declared.node.Node.TheVariants.{Primitive, Array, Map, Union, Enum, Fixed, Rec}
 
 pub view_got : {X Y : Type 0} (f : X → Y) (xs : List X) (k : ℕ) (x : X) → slice_get xs k ≡ Some x → slice_get (map f xs) k ≡ Some (f x)
 view_got f [] k x e = absurd cc
@@ -21,3 +24,13 @@ got_last (x ∷ xs) y = got_last xs y
 -- what holds of two lists holds of two that are the same
 pub both : {X Y : Type 0} (P : X → Y → Type 0) (w w2 : X) (r r2 : Y) → w ≡ w2 → r ≡ r2 → P w r → P w2 r2
 both P w w2 r r2 e f h = subst (λ x. P x r2) e (subst (P w) f h)
+
+-- what is seen as a union is one
+pub no_union : (n : Node) (ps : List ℕ) → ((x : _) → n ≡ Union x → ⊥) → node_view n ≡ union ps → ⊥
+no_union (Union x) ps f e = f x refl
+no_union (Primitive k x) ps f e = absurd cc
+no_union (Array p x) ps f e = absurd cc
+no_union (Map p x) ps f e = absurd cc
+no_union (Enum k s o x) ps f e = absurd cc
+no_union (Fixed k s x) ps f e = absurd cc
+no_union (Rec k fs x) ps f e = absurd cc

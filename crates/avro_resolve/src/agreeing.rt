@@ -1,21 +1,20 @@
-//! What two nodes say of a pair by themselves: their kinds, names, sizes and symbols. Names are
-//! told by their ranks.
+//! What two nodes say of a pair by themselves: kinds, names (by rank), sizes and symbols.
 
-ghost use Rattle.std.specs.Prelude.{◌<◌, ◌↔◌, ◌≡◌, length, option_map, slice_get, All, Contains, IfOk, IsTrue, MatchOption, Some};
+ghost use Rattle.std.specs.Prelude.{◌<◌, ◌↔◌, ◌≡◌, ◌≤◌, [], length, option_map, slice_get, All, Contains, IfOk, IsTrue, MatchOption, Some};
 ghost use Rattle.std.specs.List.Sorted.{IsStrictlyIncreasing};
 ghost use Rattle.avro_nodes.specs.Nodes.{node_view, NodeView};
-ghost use Rattle.avro_resolve.specs.Inside.Agreeing.{named_ranks, symbol_ranks, symbols_of, Agree, AreSymbolsMet, TellsMatch};
+ghost use Rattle.avro_resolve.specs.Inside.Agreeing.{named_ranks, symbol_ranks, symbols_of, Agree, AreBlank, AreNumbered, AreSymbolsMet, TellsMatch};
 ghost use Rattle.avro_resolve.specs.Inside.Left.{Agreed};
 ghost use Rattle.avro_resolve.specs.Inside.Sides.{columns, names_of, rows, IsSides};
 ghost use Rattle.avro_resolve.specs.Resolution.{Promotes};
 
+use crate::Made;
 use crate::sides::Sides;
 use avro_nodes::{Kind, Node};
 use avro_schema::{NamedRanks, Ranks};
-use std::alloc::{AllocError, Global};
+use std::alloc::Global;
 
-/// Whether a writer's primitive is read as the reader's: as itself, or by a promotion (Avro 1.11
-/// specification, Schema Resolution).
+/// Whether a reader's primitive reads a writer's: as itself, or by promotion (Schema Resolution).
 fn promotes(writer: Kind, reader: Kind) -> bool
     ensures { IsTrue result ↔ Promotes writer reader }
 {
@@ -28,8 +27,7 @@ fn promotes(writer: Kind, reader: Kind) -> bool
     }
 }
 
-/// Whether each of the numbers is one of the list's. Where the two aren't equal, both are walked once,
-/// side by side.
+/// Whether the list has each of the numbers. If the two differ, one pass compares them.
 fn has_all(list: &[u32], numbers: &[u32]) -> bool
     requires list { IsStrictlyIncreasing list.now }
     requires numbers { IsStrictlyIncreasing numbers.now }
@@ -74,9 +72,8 @@ fn symbols_of(ranks: &Ranks) -> &[u32]
     }
 }
 
-/// Whether the names of the nodes at these places match, where both have names: without their
-/// namespaces (Avro 1.11 specification, Schema Resolution), or by an alias of the reader's
-/// (Aliases).
+/// Whether the names of two nodes match, if both have names: by their last parts (Avro 1.11
+/// specification, Schema Resolution), or by an alias of the reader's (Aliases).
 fn names_match(sides: &Sides, i: u32, j: u32) -> bool
     requires sides { IsSides sides.now }
     requires i_in { i < length (rows sides.now) }
@@ -99,8 +96,8 @@ fn names_match(sides: &Sides, i: u32, j: u32) -> bool
     }
 }
 
-/// Whether the nodes agree as far as they say by themselves, or none where the symbols of two enums
-/// have to be compared: the reader's has no default. Whether their names match is told.
+/// Whether the nodes agree by themselves, given whether their names match. None: the symbols of two
+/// enums have to be compared, since the reader's has no default.
 fn alike(a: &Node, b: &Node, matched: bool) -> Option<bool>
     requires { TellsMatch matched (node_view a.now) (node_view b.now) }
     ensures { let v = node_view a.now in let u = node_view b.now in MatchOption result
@@ -123,13 +120,8 @@ fn alike(a: &Node, b: &Node, matched: bool) -> Option<bool>
     }
 }
 
-/// The reader's ranks of the symbols at a writer's place, or none where the reader hasn't one of
-/// them.
-///
-/// # Errors
-///
-/// `AllocError` where memory for them is refused.
-pub fn met_symbols(alloc: Global, sides: &Sides, i: u32) -> Result<Option<Vec<u32>>, AllocError>
+/// The reader's ranks of the symbols at a writer's place. None: the reader lacks a symbol.
+pub fn met_symbols(alloc: Global, sides: &Sides, i: u32) -> Made<Option<Vec<u32>>>
     requires sides { IsSides sides.now }
     requires i_in { i < length (rows sides.now) }
     ensures { IfOk result (λ o. (a : NodeView) → slice_get (rows sides.now) i ≡ Some a
@@ -146,46 +138,81 @@ pub fn met_symbols(alloc: Global, sides: &Sides, i: u32) -> Result<Option<Vec<u3
     Ok(Some(found))
 }
 
-/// Whether each symbol of the first node is one of the second's.
-fn symbols_known(sides: &Sides, symbols: &Option<Vec<u32>>, a: &Node, b: &Node, j: u32) -> bool
-    requires sides { IsSides sides.now }
-    requires symbols { AreSymbolsMet (names_of sides.now.reader) (symbols_of (node_view a.now)) symbols.now }
-    requires b_at { slice_get (columns sides.now) j ≡ Some (node_view b.now) }
-    ensures { IsTrue result ↔ All (Contains (symbols_of (node_view b.now))) (symbols_of (node_view a.now)) }
+/// The ranks, and none where one of the symbols has none.
+pub fn listed(symbols: &Option<Vec<u32>>) -> &[u32]
+    ensures { MatchOption symbols.now (result.now ≡ []) (λ v. result.now ≡ v.items) }
 {
-    let (_a, _b) = (a, b);
     match symbols {
-        Some(symbols) => has_all(symbols_of(sides.reader.ranks(j)), symbols),
-        None => false,
+        Some(symbols) => symbols.as_slice(),
+        None => &[],
     }
 }
 
+/// Numbers the symbols of these ranks in their boxes, from 1 on.
+pub fn number(boxes: &mut [usize], symbols: &[u32])
+    requires blank { AreBlank boxes.old }
+    requires rise { IsStrictlyIncreasing symbols.now }
+    requires within { All (λ rank. rank < length boxes.old) symbols.now }
+    ensures { AreNumbered boxes.new symbols.now 0 (length symbols.now) }
+{
+    for k in 0..symbols.len() {
+        boxes[symbols[k] as usize] = k + 1;
+    }
+}
+
+/// Takes the numbers out again.
+pub fn blank(boxes: &mut [usize], symbols: &[u32])
+    requires rise { IsStrictlyIncreasing symbols.now }
+    requires numbered { AreNumbered boxes.old symbols.now 0 (length symbols.now) }
+    requires within { All (λ rank. rank < length boxes.old) symbols.now }
+    ensures { AreBlank boxes.new }
+{
+    for k in 0..symbols.len() {
+        boxes[symbols[k] as usize] = 0;
+    }
+}
+
+/// Whether the list has each numbered symbol. No lookup waits for the one before it.
+fn has_numbered(list: &[u32], symbols: &[u32], boxes: &[usize]) -> bool
+    requires list { IsStrictlyIncreasing list.now }
+    requires rise { IsStrictlyIncreasing symbols.now }
+    requires numbered { AreNumbered boxes.now symbols.now 0 (length symbols.now) }
+    requires within { All (λ rank. rank < length boxes.now) list.now }
+    ensures { IsTrue result ↔ All (Contains list.now) symbols.now }
+{
+    if list == symbols {
+        return true;
+    }
+    let mut next = 1;
+    for known in list {
+        if boxes[*known as usize] == next {
+            next += 1;
+        }
+    }
+    next > symbols.len()
+}
+
 /// Whether the nodes at these places agree as far as they say by themselves.
-///
-/// # Errors
-///
-/// `AllocError` where memory for the ranks of their symbols is refused.
-pub fn agree(
-    alloc: Global,
-    sides: &Sides,
-    a: &Node,
-    b: &Node,
-    at: (u32, u32),
-) -> Result<bool, AllocError>
+pub fn agree(alloc: Global, sides: &Sides, a: &Node, b: &Node, at: (u32, u32)) -> Made<bool>
     requires sides { IsSides sides.now }
     requires a_at { slice_get (rows sides.now) at.0 ≡ Some (node_view a.now) }
     requires b_at { slice_get (columns sides.now) at.1 ≡ Some (node_view b.now) }
     ensures { IfOk result (λ yes. IsTrue yes ↔ Agree (node_view a.now) (node_view b.now)) }
 {
-    match alike(a, b, names_match(sides, at.0, at.1)) {
-        Some(told) => Ok(told),
-        None => Ok(symbols_known(sides, &met_symbols(alloc, sides, at.0)?, a, b, at.1)),
+    if let Some(told) = alike(a, b, names_match(sides, at.0, at.1)) {
+        return Ok(told);
+    }
+    match met_symbols(alloc, sides, at.0)? {
+        Some(symbols) => Ok(has_all(symbols_of(sides.reader.ranks(at.1)), &symbols)),
+        None => Ok(false),
     }
 }
 
-/// The same, where the reader's ranks of the symbols at the writer's place are told.
-pub fn agree_at(sides: &Sides, symbols: &Option<Vec<u32>>, i: u32, j: u32) -> bool
+/// The same, if the symbols at the writer's place are ranked and numbered in the boxes.
+pub fn agree_at(sides: &Sides, symbols: &Option<Vec<u32>>, boxes: &[usize], i: u32, j: u32) -> bool
     requires sides { IsSides sides.now }
+    requires numbered { MatchOption symbols.now (Unit {0}) (λ v. AreNumbered boxes.now v.items 0 (length v.items)) }
+    requires room { length (names_of sides.now.reader) ≤ length boxes.now }
     requires symbols { (a : NodeView) → slice_get (rows sides.now) i ≡ Some a
         → AreSymbolsMet (names_of sides.now.reader) (symbols_of a) symbols.now }
     requires i_in { i < length sides.now.writer.schema.now }
@@ -193,8 +220,11 @@ pub fn agree_at(sides: &Sides, symbols: &Option<Vec<u32>>, i: u32, j: u32) -> bo
     ensures { IsTrue result ↔ Agreed (rows sides.now) (columns sides.now) i j }
 {
     let (a, b) = (sides.writer.node(i), sides.reader.node(j));
-    match alike(a, b, names_match(sides, i, j)) {
-        Some(told) => told,
-        None => symbols_known(sides, symbols, a, b, j),
+    if let Some(told) = alike(a, b, names_match(sides, i, j)) {
+        return told;
+    }
+    match symbols {
+        Some(symbols) => has_numbered(symbols_of(sides.reader.ranks(j)), symbols, boxes),
+        None => false,
     }
 }

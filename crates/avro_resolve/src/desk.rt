@@ -1,19 +1,18 @@
-//! The fields of a writer's record by the reader's ranks of their names, and the sources of a
-//! reader's fields among them.
+//! The fields of a writer's record, indexed by name rank, and the sources of a reader's fields.
 
-ghost use Rattle.std.specs.Prelude.{◌≡◌, map, IfOk};
+ghost use Rattle.std.specs.Prelude.{◌<◌, ◌≡◌, map, All, IfOk};
 ghost use Rattle.avro_nodes.specs.Nodes.{field_view, FieldView};
 ghost use Rattle.avro_schema.specs.Index.{AreFieldsRanked, IsFieldRanked};
 ghost use Rattle.avro_resolve.specs.Asking.{source_place};
 ghost use Rattle.avro_resolve.specs.Inside.Laying.{names_in, AreLaid, AreLaidFields, AreReadOff, Holds, IsClear};
 ghost use Rattle.avro_resolve.specs.Inside.Sides.{names_of};
 
+use crate::Made;
 use crate::sides::{Fields, Met, Sides};
 use avro_schema::FieldRanks;
-use std::alloc::{AllocError, Global};
+use std::alloc::Global;
 
-/// Lays the fields of a record, by the ranks of their names. They are laid from the last one on, so
-/// that the first of a name stays.
+/// Indexes fields by name rank, from the last one on, so that the first of a name remains.
 pub fn lay(boxes: &mut [Option<usize>], met: &Met, fields: &[FieldRanks])
     requires clear { IsClear boxes.old }
     requires holds { Holds boxes.old met.now.ranks.items }
@@ -41,8 +40,8 @@ pub fn lift(boxes: &mut [Option<usize>], met: &Met, fields: &[FieldRanks])
     }
 }
 
-/// The place of the type of the writer's field that a reader's field is read from, if there is one:
-/// that of its own name, else that of the first of its aliases that a field has.
+/// The place of the type of a reader's field's source, if it has one: the writer's field of its own
+/// name, else of its first alias that names one. An alias that the writer lacks needs no lookup.
 pub fn place_of(
     boxes: &[Option<usize>],
     sides: &Sides,
@@ -58,6 +57,9 @@ pub fn place_of(
         return Some(fields.fields[own].place);
     }
     for alias in &names.aliases {
+        if !sides.met.knows(*alias) {
+            continue;
+        }
         if let Some(field) = boxes[*alias as usize] {
             return Some(fields.fields[field].place);
         }
@@ -66,24 +68,22 @@ pub fn place_of(
 }
 
 /// Those of all fields of the reader's record, in their order.
-///
-/// # Errors
-///
-/// `AllocError` where memory for them is refused.
 pub fn read_off(
     alloc: Global,
     boxes: &[Option<usize>],
     sides: &Sides,
     fields: Fields,
     wanted: Fields,
-) -> Result<Vec<Option<u32>>, AllocError>
+) -> Made<Vec<Option<u16>>>
     requires laid { AreLaidFields sides.now fields boxes.now }
+    requires fields_in { All (λ g. g.place < 65535) fields.fields.now }
     requires named { AreFieldsRanked (names_of sides.now.reader) (map field_view wanted.fields.now) wanted.ranks.now }
     ensures { IfOk result (λ v. AreReadOff (map field_view fields.entry.fields.now) (map field_view wanted.entry.fields.now) v.items) }
 {
     let mut places = Vec::with_capacity(alloc, wanted.ranks.len())?;
     for names in wanted.ranks {
-        places.push(place_of(boxes, sides, fields, names))?;
+        let place = place_of(boxes, sides, fields, names);
+        places.push(place.map(|place| place as u16))?;
     }
     Ok(places)
 }

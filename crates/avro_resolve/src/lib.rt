@@ -1,5 +1,4 @@
-//! Whether a reader's schema can read what a writer's schema wrote (Avro 1.11 specification,
-//! Schema Resolution).
+//! Whether a reader's schema can read what a writer's schema wrote (Avro 1.11, Schema Resolution).
 
 #![tactic(auto)]
 
@@ -20,3 +19,7 @@ mod table;
 
 pub use avro_nodes::OutOfMemory;
 pub use resolving::{Verdict, resolution_is_decided, resolves, resolves_itself, resolves_plain};
+use std::alloc::AllocError;
+
+/// What was made, unless allocation fails.
+type Made<T> = Result<T, AllocError>;

@@ -1,16 +1,17 @@
-//! Which arrays, maps and records refer to a place, and by what: a pair of two such asks for a pair
-//! of places only where they refer to these by one label.
+//! Which arrays, maps and records refer to a place, and by which label. A pair of two of them asks
+//! for a pair of places only if they refer to these by one label.
 
 ghost use Rattle.std.specs.Prelude.{◌<◌, ◌≡◌, length, slice_get, All, Contains, IfOk, OnOk, Some};
 ghost use Rattle.avro_nodes.specs.Nodes.{NodeView};
 ghost use Rattle.avro_resolve.specs.Inside.Askers.{ranks_of, HasAskers, HasLabel, IsOfNode, IsPlaceLinked, LinkedBy, Notes};
 ghost use Rattle.avro_resolve.specs.Inside.Sides.{names_of, nodes_of, IsSide};
 
+use crate::Made;
 use crate::lists::{empty_lists, note, unions_of};
 use crate::readable::Aliased;
 use crate::sides::{Met, Side};
 use avro_nodes::Node;
-use std::alloc::{AllocError, Global};
+use std::alloc::Global;
 
 /// In which way a place refers to another.
 #[derive(Clone, Copy, Debug, PartialEq, Eq)]
@@ -44,19 +45,21 @@ pub struct Links {
     pub aliased: Vec<Aliased>,
 }
 
-/// The label of an array's items and of a map's values. A name may have this one too, since the
-/// ways tell the two apart.
+/// The label of items and values. A name may have this rank too: the ways tell the two apart.
 const CONTAINED: u32 = 0;
 
-/// Notes that the place at hand refers to another in a way, by each of these labels.
-fn note_by(links: &mut Links, labels: &[u32], way: Way, to: u32, at: u32) -> Result<(), AllocError>
+/// Notes that one place refers to another in a way, by each label. It skips adjacent duplicates.
+fn note_by(links: &mut Links, labels: &[u32], way: Way, to: u32, at: u32) -> Made<()>
     requires { to < length links.old.lists.items }
     ensures notes { OnOk result (Notes (λ x p. Contains labels.now x.label × (x.way ≡ way) × (x.asker ≡ at) × (p ≡ to)) links.old links.new) }
     ensures there { OnOk result (All (λ label. LinkedBy (HasLabel label way) links.new.lists.items at to) labels.now) }
 {
-    for label in labels {
+    for index in 0..labels.len() {
+        if index > 0 && labels[index] == labels[index - 1] {
+            continue;
+        }
         let link = Link {
-            label: *label,
+            label: labels[index],
             asker: at,
             way,
         };
@@ -65,10 +68,9 @@ fn note_by(links: &mut Links, labels: &[u32], way: Way, to: u32, at: u32) -> Res
     Ok(())
 }
 
-/// Notes what the node at a place refers to: to items or values, or to the types of fields. A writer's
-/// are labelled by the ranks that the reader has for their names, a reader's by its own ranks of their
-/// names and aliases: one that has aliases gets a number.
-fn note_at(links: &mut Links, met: Option<&Met>, side: &Side, asker: u32) -> Result<(), AllocError>
+/// Notes what the node at a place refers to: items, values, or the types of fields. Labels are the
+/// reader's ranks of names. A reader's field with aliases gets a number, and a link for each alias.
+fn note_at(links: &mut Links, met: Option<&Met>, side: &Side, asker: u32) -> Made<()>
     requires side { IsSide side.now }
     requires asker_in { asker < length side.now.schema.now }
     requires long { length links.old.lists.items ≡ length side.now.schema.now }
@@ -95,18 +97,15 @@ fn note_at(links: &mut Links, met: Option<&Met>, side: &Side, asker: u32) -> Res
             place: asker,
             index,
         })?;
-        note_by(links, &ranks.aliases, way, place, asker)?;
+        let mut labels = ranks.aliases.clone()?;
+        labels.sort_unstable();
+        note_by(links, &labels, way, place, asker)?;
     }
     Ok(())
 }
 
-/// For each place of a side the unions that have it as a branch, and the links to it, sorted by their
-/// labels.
-///
-/// # Errors
-///
-/// `AllocError` where memory for the lists is refused.
-pub fn links_of(alloc: Global, side: &Side, met: Option<&Met>) -> Result<Links, AllocError>
+/// For each place of a side the unions that have it as a branch, and its links, sorted by label.
+pub fn links_of(alloc: Global, side: &Side, met: Option<&Met>) -> Made<Links>
     requires { IsSide side.now }
     ensures { IfOk result (λ a. HasAskers (names_of side.now) (ranks_of met.entry) (nodes_of side.now) a) }
 {

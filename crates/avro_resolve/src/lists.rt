@@ -2,16 +2,17 @@
 
 ghost use Rattle.std.specs.Prelude.{◌<◌, ◌≡◌, length, IfOk, OnOk, ℕ};
 ghost use Rattle.avro_nodes.specs.Nodes.{nodes_view};
-ghost use Rattle.avro_resolve.specs.Inside.Askers.{HasUnions};
+ghost use Rattle.avro_resolve.specs.Inside.Askers.{AreUnions, HasUnions};
 ghost use Rattle.avro_resolve.specs.Inside.Lists.{list_at, Adds, StandsAt};
 ghost use Rattle.avro_resolve.specs.Inside.Places.{IsWhole};
 
+use crate::Made;
 use avro_nodes::Node;
 use avro_schema::Schema;
-use std::alloc::{AllocError, Global};
+use std::alloc::Global;
 
 /// So many empty lists.
-pub fn empty_lists<T: Drop>(alloc: Global, count: u32) -> Result<Vec<Vec<T>>, AllocError>
+pub fn empty_lists<T: Drop>(alloc: Global, count: u32) -> Made<Vec<Vec<T>>>
     ensures long { IfOk result (λ v. length v.items ≡ count) }
     ensures empty { IfOk result (λ v. (x : T) (place : ℕ) → StandsAt v.items x place → ⊥) }
 {
@@ -23,7 +24,7 @@ pub fn empty_lists<T: Drop>(alloc: Global, count: u32) -> Result<Vec<Vec<T>>, Al
 }
 
 /// Adds one to the list of a place.
-pub fn note<T: Drop>(lists: &mut Vec<Vec<T>>, place: u32, item: T) -> Result<(), AllocError>
+pub fn note<T: Drop>(lists: &mut Vec<Vec<T>>, place: u32, item: T) -> Made<()>
     requires { place < length lists.old.items }
     ensures adds { OnOk result (Adds (λ x p. (x ≡ item) × (p ≡ place)) lists.old.items lists.new.items) }
     ensures there { OnOk result (StandsAt lists.new.items item place) }
@@ -43,7 +44,7 @@ pub fn list_of<T>(lists: &[Vec<T>], place: usize) -> &[T]
 }
 
 /// For each place of a schema the unions that have it as a branch.
-pub fn unions_of(alloc: Global, schema: &Schema) -> Result<Vec<Vec<u32>>, AllocError>
+pub fn unions_of(alloc: Global, schema: &Schema) -> Made<Vec<Vec<u32>>>
     requires { IsWhole (nodes_view schema.now) }
     ensures { IfOk result (λ v. HasUnions (nodes_view schema.now) v.items) }
 {
@@ -57,4 +58,17 @@ pub fn unions_of(alloc: Global, schema: &Schema) -> Result<Vec<Vec<u32>>, AllocE
         }
     }
     Ok(lists)
+}
+
+/// The unions of a schema, by their places.
+pub fn unions_in(alloc: Global, schema: &Schema) -> Made<Vec<u32>>
+    ensures { IfOk result (λ v. AreUnions (nodes_view schema.now) v.items) }
+{
+    let mut unions = Vec::new(alloc);
+    for i in 0..schema.places() {
+        if let Node::Union { .. } = schema.node(i) {
+            unions.push(i)?;
+        }
+    }
+    Ok(unions)
 }

@@ -1,16 +1,16 @@
 //! What the recursion looks at, beside the pairs that it opens.
 
+use crate::Made;
 use crate::desk::{lay, lift, read_off};
 use crate::sides::Sides;
 use avro_nodes::Node;
-use std::alloc::{AllocError, Global};
+use std::alloc::Global;
 use std::marker::Model;
 
 /// What a pair counts for that is opened.
 const PAIR: u64 = 8;
 
-/// What is looked at: how much, and the boxes of the reader's names in which a writer's fields are
-/// laid for it. Between two calls nothing lies there.
+/// How much work was done, and boxes that index a writer's fields, empty between calls.
 #[derive(Drop)]
 pub struct Looks {
     /// so much for each pair that was opened, and the lengths of the lists that were walked
@@ -42,8 +42,12 @@ impl Looks {
         Looks { work: 0, boxes }
     }
 
-    /// Counts what is looked at where two nodes are compared. No symbols are where the reader's
-    /// default excuses them.
+    /// Counts that it is asked for a pair, which may be known.
+    pub fn count_one(&mut self) {
+        self.work = self.work.saturating_add(1);
+    }
+
+    /// Counts a comparison of two nodes. A reader's default makes comparing symbols needless.
     pub fn compare(&mut self, a: &Node, b: &Node) {
         let symbols = match (a, b) {
             (
@@ -59,19 +63,14 @@ impl Looks {
         self.work = self.work.saturating_add(symbols).saturating_add(PAIR);
     }
 
-    /// For each field of a reader's record the place of the type of the writer's field that it is
-    /// read from, if there is one. What is looked at is counted.
-    ///
-    /// # Errors
-    ///
-    /// `AllocError` where memory for the boxes or the places is refused.
+    /// For each field of a reader's record the place of its source's type, if it has a source.
     pub fn sources(
         &mut self,
         alloc: Global,
         sides: &Sides,
         i: u32,
         j: u32,
-    ) -> Result<Vec<Option<u32>>, AllocError>
+    ) -> Made<Vec<Option<u16>>>
         requires sides { IsSides sides.now }
         requires i_in { i < length sides.now.writer.schema.now }
         requires j_in { j < length sides.now.reader.schema.now }

@@ -1,9 +1,9 @@
 //! Sets of pairs of places.
 
-use std::alloc::{AllocError, Global};
+use crate::Made;
+use std::alloc::Global;
 
-/// A set of pairs of places, the writer's first: one bit a pair, as far as the last that was ever
-/// put in.
+/// A set of pairs of places, the writer's first: one bit a pair, up to the last one inserted.
 #[derive(Drop)]
 pub struct PairSet {
     words: Vec<u64>,
@@ -37,7 +37,7 @@ impl PairSet {
     }
 
     /// Puts the pair in.
-    pub fn insert(&mut self, i: u32, j: u32) -> Result<(), AllocError>
+    pub fn insert(&mut self, i: u32, j: u32) -> Made<()>
         requires { j < self.old.readers }
         ensures readers { OnOk result (self.new.readers ≡ self.old.readers) }
         ensures others { OnOk result ((a b : ℕ) → b < self.old.readers

@@ -1,5 +1,5 @@
-//! Whether a reader's fields can be read, where the fields of a writer's place are laid. The sources
-//! of those that have aliases are kept, by the writer's places: one look tells whence they are read.
+//! Whether a reader's fields can be read from a writer's place whose fields are indexed. Sources of
+//! fields that have aliases are kept by the writer's places, so that one lookup finds them.
 
 ghost use Rattle.std.specs.Prelude.{◌<◌, ◌↔◌, ◌≡◌, map, slice_get, All, IfOk, IfSome, IsTrue, List, Some, ℕ};
 ghost use Rattle.std.specs.List.{AllZip};
@@ -14,12 +14,13 @@ ghost use Rattle.avro_resolve.specs.Inside.Sources.{field_at, Describes, IsEntry
 ghost use Rattle.avro_resolve.specs.Resolution.{Readable};
 ghost use Rattle.avro_resolve.specs.declared.sides.Sides.{Sides};
 
+use crate::Made;
 use crate::desk::place_of;
 use crate::sides::{Fields, Side, Sides};
 use crate::table::Table;
 use avro_nodes::Field;
 use avro_schema::FieldRanks;
-use std::alloc::{AllocError, Global};
+use std::alloc::Global;
 
 /// A reader's field that has aliases.
 #[derive(Clone, Copy, Debug, PartialEq, Eq)]
@@ -76,15 +77,11 @@ fn wanted_of<'a>(side: &'a Side, aliased: Aliased) -> Option<Wanted<'a>>
 }
 
 /// The same of each of these fields.
-///
-/// # Errors
-///
-/// `AllocError` where memory for it is refused.
 pub fn all_wanted<'a>(
     alloc: Global,
     side: &'a Side,
     aliased: &[Aliased],
-) -> Result<Vec<Option<Wanted<'a>>>, AllocError>
+) -> Made<Vec<Option<Wanted<'a>>>>
     requires { IsSide side.now }
     ensures { IfOk result (λ v. AllZip (IsWanted side.now) aliased.now v.items) }
 {
@@ -96,11 +93,7 @@ pub fn all_wanted<'a>(
 }
 
 /// For each place the number of its first field, if it has one of these.
-///
-/// # Errors
-///
-/// `AllocError` where memory for the numbers is refused.
-pub fn firsts_of(alloc: Global, places: u32, fields: &[Aliased]) -> Result<Vec<usize>, AllocError> {
+pub fn firsts_of(alloc: Global, places: u32, fields: &[Aliased]) -> Made<Vec<usize>> {
     let mut firsts = vec![in alloc; 0; places as usize]?;
     for number in (0..fields.len()).rev() {
         if let Some(first) = firsts.get_mut(fields[number].place as usize) {
@@ -110,19 +103,14 @@ pub fn firsts_of(alloc: Global, places: u32, fields: &[Aliased]) -> Result<Vec<u
     Ok(firsts)
 }
 
-/// The sources of these fields of the reader's among those that are laid, each told by its place and
-/// one, or by 0 for none.
-///
-/// # Errors
-///
-/// `AllocError` where memory for them is refused.
+/// The sources of these reader's fields among the indexed ones: a place and one, or 0 for none.
 pub fn row_of(
     alloc: Global,
     boxes: &[Option<usize>],
     sides: &Sides,
     fields: Fields,
     numbered: Numbered,
-) -> Result<Vec<u16>, AllocError>
+) -> Made<Vec<u16>>
     requires laid { AreLaidFields sides.now fields boxes.now }
     requires fields_in { All (λ g. g.place < 65535) fields.fields.now }
     requires wanted { AllZip (IsWanted sides.now.reader) numbered.aliased.now numbered.wanted.now }
@@ -157,8 +145,7 @@ pub struct Row<'a> {
     pub entries: &'a [u16],
 }
 
-/// What is told of the field of a number, if this is that field: the place of the type of the
-/// writer's field that it is read from, if there is one, and what is asked of it.
+/// If the number is this field's: the place of its source's type, if any, and what is asked of it.
 fn told_at<'a>(row: &Row<'a>, number: usize, field: Aliased) -> Option<(Option<u32>, Wanted<'a>)>
     ensures { IfSome result (λ told. (sides : Sides) (f : FieldView) → IsRow sides row.now
         → field_at (columns sides) field ≡ Some f → IsBasis sides row.now told.0 told.1 f) }
@@ -170,8 +157,7 @@ fn told_at<'a>(row: &Row<'a>, number: usize, field: Aliased) -> Option<(Option<u
     Some((entry.checked_sub(1).map(u32::from), (*wanted)?))
 }
 
-/// Whether each field of the reader's record at a place can be read from the writer's place: from its
-/// source, or by its default. What a number tells of a field isn't looked up.
+/// Whether each field of a reader's record can be read from the writer's place.
 pub fn all_readable(sides: &Sides, row: &Row, j: u32, table: &Table) -> bool
     requires { IsOver sides.now row.now table.now j }
     ensures { (b : NodeView) → slice_get (columns sides.now) j ≡ Some b

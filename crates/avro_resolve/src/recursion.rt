@@ -1,5 +1,4 @@
-//! Resolution by recursion: a pair that is opened is assumed, until it turns out not to be
-//! supported.
+//! Resolution by recursion: an opened pair is assumed, until it turns out unsupported.
 
 ghost use Rattle.std.specs.Prelude.{◌≡◌, map, slice_get, All, Any, IfOk, IsTrue, Some};
 ghost use Rattle.avro_nodes.specs.Nodes.{field_view, node_view};
@@ -11,12 +10,13 @@ ghost use Rattle.avro_resolve.specs.Inside.Walking.{MayGoOn, TellsOf};
 ghost use Rattle.avro_resolve.specs.Resolution.{Fits, Readable, Supports};
 ghost use Rattle.avro_resolve.specs.Witnesses.{member, without};
 
+use crate::Made;
 use crate::agreeing::agree;
 use crate::looks::Looks;
 use crate::pair_set::PairSet;
 use crate::sides::Sides;
 use avro_nodes::{Field, Node};
-use std::alloc::{AllocError, Global};
+use std::alloc::Global;
 
 /// Whether a pair is supported, as far as the recursion goes.
 #[derive(Clone, Copy, Debug, PartialEq, Eq)]
@@ -30,7 +30,7 @@ pub enum Answer {
 }
 
 /// An answer, unless memory for it is refused.
-pub type Told = Result<Answer, AllocError>;
+pub type Told = Made<Answer>;
 
 /// The pairs that were opened.
 #[derive(Drop)]
@@ -50,8 +50,8 @@ pub struct Walk {
     pub looks: Looks,
 }
 
-/// The most that is looked at, once a thousand pairs were opened: beyond it striking out takes less,
-/// as each pair is looked at once there, and here as often as it is taken back.
+/// The most work once a thousand pairs were opened. Beyond it elimination takes less, since it
+/// examines each pair once, and the recursion as often as it takes the pair back.
 const MAX_WORK: u64 = 4_000_000;
 
 /// The most pairs that are open at once.
@@ -66,6 +66,7 @@ pub fn ask(sides: &Sides, i: u32, j: u32, depth: usize, walk: &mut Walk) -> Told
         (IsTrue (member walk.new.assumed.items i j))
         ((walk.new.assumed.items ≡ walk.old.assumed.items) × IsTrue (member walk.new.failed.items i j)) answer) }
 {
+    walk.looks.count_one();
     if walk.assumed_set.has(i, j) {
         return Ok(Answer::Yes);
     }
@@ -111,8 +112,7 @@ fn is_supported(sides: &Sides, at: (u32, u32), depth: usize, walk: &mut Walk) ->
     fits(sides, a, b, at, depth, walk)
 }
 
-/// Whether the pair of these nodes, which agree, is supported, by the first case that fits (Avro 1.11
-/// specification, Schema Resolution).
+/// Whether a pair of nodes that agree is supported, by the first case that fits.
 #[cycle(walk)]
 fn fits(sides: &Sides, a: &Node, b: &Node, at: (u32, u32), depth: usize, walk: &mut Walk) -> Told
     requires ready { MayGoOn sides.now depth walk.old }
@@ -162,7 +162,7 @@ fn fits(sides: &Sides, a: &Node, b: &Node, at: (u32, u32), depth: usize, walk: &
 fn all_readable(
     sides: &Sides,
     fields: &[Field],
-    sources: &[Option<u32>],
+    sources: &[Option<u16>],
     wanted: &[Field],
     depth: usize,
     walk: &mut Walk,
@@ -178,7 +178,7 @@ fn all_readable(
     for index in 0..wanted.len() {
         let f = &wanted[index];
         match sources[index] {
-            Some(p) => match ask(sides, p, f.place, depth, walk)? {
+            Some(p) => match ask(sides, u32::from(p), f.place, depth, walk)? {
                 Answer::Yes => {}
                 told => return Ok(told),
             },

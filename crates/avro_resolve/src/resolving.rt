@@ -26,11 +26,11 @@ pub struct Verdict {
 }
 
 /// Whether the writer's schema resolves with the reader's (Avro 1.11 specification, Schema
-/// Resolution), by striking out pairs of places from the set of all pairs.
+/// Resolution), by elimination of pairs of places from the set of all pairs.
 ///
 /// # Errors
 ///
-/// `OutOfMemory` where memory for the pairs or for the tables of a schema is refused.
+/// `OutOfMemory` if allocation fails.
 pub fn resolves_plain(alloc: Global, writer: &Schema, reader: &Schema) -> Result<bool, OutOfMemory>
     ensures { IfOk result (λ yes. IsTrue yes ↔ Resolves (nodes_view writer.now) (nodes_view reader.now)) }
 {
@@ -39,16 +39,15 @@ pub fn resolves_plain(alloc: Global, writer: &Schema, reader: &Schema) -> Result
 }
 
 /// Whether the writer's schema resolves with the reader's (Avro 1.11 specification, Schema
-/// Resolution), by opening the pair of the roots, and how many pairs were opened: at most the square
-/// of the number of those that the roots reach. A small number comes with a small witness: a closed
-/// set, or a list of pairs that refutes the roots. Where more than a thousand pairs would be open at
-/// once, the answer comes by striking out; so it does once a thousand were opened and the work adds up
-/// to four million, where each opened pair counts for eight, and the fields, aliases and symbols that
-/// are looked at for one each.
+/// Resolution), and how many pairs were opened: at most the square of the number of pairs that the
+/// roots reach. A small number comes with a small witness: a closed set, or a list that refutes the
+/// roots. Elimination answers if more than a thousand pairs would be open at once, or if the work
+/// exceeds four million after a thousand opened pairs. An opened pair counts for eight; asking for
+/// a pair, and each field, alias and symbol examined, counts for one.
 ///
 /// # Errors
 ///
-/// `OutOfMemory` where memory for the pairs or for the tables of a schema is refused.
+/// `OutOfMemory` if allocation fails.
 pub fn resolves(alloc: Global, writer: &Schema, reader: &Schema) -> Result<Verdict, OutOfMemory>
     ensures yes { IfOk result (λ v. IsTrue v.yes ↔ Resolves (nodes_view writer.now) (nodes_view reader.now)) }
     ensures at_least { IfOk result (λ v. 1 ≤ v.visits) }
@@ -84,16 +83,15 @@ pub fn resolves(alloc: Global, writer: &Schema, reader: &Schema) -> Result<Verdi
     Ok(Verdict { yes, visits })
 }
 
-/// Every schema resolves with itself: a law of the rules, in whose proof the pairs of a place with
-/// itself, and of a branch with its union, are a closed set.
+/// Every schema resolves with itself: a law of the rules. The closed set has the pairs of each place
+/// with itself, and of each branch with its union.
 pub fn resolves_itself(schema: &Schema)
     ensures { Resolves (nodes_view schema.now) (nodes_view schema.now) }
 {
     let _places = schema.places();
 }
 
-/// Whether one schema resolves with another can be computed: a law of the rules, for any two lists
-/// of nodes.
+/// Resolution can be computed, for any two lists of nodes: a law of the rules.
 pub fn resolution_is_decided()
     ensures { (w r : List NodeView) → IsTrue (is_resolved w r) ↔ Resolves w r }
 {}

@@ -1,21 +1,24 @@
-//! Passes over all pairs of places, a writer's place after the other: what two nodes say by
-//! themselves first, and then with the other pairs, while the fields of the place are laid.
+//! Passes over all pairs of places, row by row: first what two nodes say by themselves, then what
+//! they ask of other pairs, while the fields of the row are indexed.
 
-ghost use Rattle.std.specs.Prelude.{◌<◌, ◌≡◌, false, length, IfOk, OnOk};
+ghost use Rattle.std.specs.Prelude.{◌<◌, ◌≡◌, false, length, slice_get, IfOk, OnOk, Some, ℕ};
+ghost use Rattle.avro_nodes.specs.Nodes.{NodeView};
+ghost use Rattle.avro_resolve.specs.Inside.Askers.{HasBranch};
 ghost use Rattle.avro_resolve.specs.Inside.Left.{left, AreSettled, IsLeft, IsRest, IsRestOf, IsRowSettled, IsSettled, Strikes};
 ghost use Rattle.avro_resolve.specs.Inside.Rows.{IsRow};
 ghost use Rattle.avro_resolve.specs.Inside.Sides.{columns, rows, IsSides};
 ghost use Rattle.avro_resolve.specs.Inside.Sources.{AreSources};
 ghost use Rattle.avro_resolve.specs.Resolution.{Supports};
 
-use crate::agreeing::{agree_at, met_symbols};
+use crate::Made;
+use crate::agreeing::{agree_at, blank, listed, met_symbols, number};
 use crate::desk::{lay, lift};
 use crate::readable::{Aliased, Numbered, Row, all_wanted, firsts_of, row_of};
 use crate::sides::Sides;
 use crate::support::supports;
 use crate::table::Table;
 use avro_nodes::Node;
-use std::alloc::{AllocError, Global};
+use std::alloc::Global;
 
 /// How far the striking out has come.
 #[derive(Drop)]
@@ -27,7 +30,7 @@ pub struct Progress {
 }
 
 /// Strikes the pair out and lists it, if it is left. What is left doesn't support it.
-pub fn strike_pair(sides: &Sides, i: u32, j: u32, progress: &mut Progress) -> Result<(), AllocError>
+pub fn strike_pair(sides: &Sides, i: u32, j: u32, progress: &mut Progress) -> Made<()>
     requires rest { IsRestOf sides.now progress.old }
     requires i_in { i < length sides.now.writer.schema.now }
     requires j_in { j < length sides.now.reader.schema.now }
@@ -45,47 +48,60 @@ pub fn strike_pair(sides: &Sides, i: u32, j: u32, progress: &mut Progress) -> Re
 }
 
 /// Strikes out all pairs whose nodes don't agree.
-///
-/// # Errors
-///
-/// `AllocError` where memory for the ranks of symbols is refused.
-pub fn sweep(alloc: Global, sides: &Sides, table: &mut Table) -> Result<(), AllocError>
+pub fn sweep(alloc: Global, sides: &Sides, table: &mut Table) -> Made<()>
     requires sides { IsSides sides.now }
     requires rest { IsLeft (rows sides.now) (columns sides.now) table.old }
     ensures { OnOk result (IsRest (rows sides.now) (columns sides.now) table.new) }
 {
+    let mut made = vec![in alloc; 0usize; sides.reader.index.names.len()]?;
+    let boxes = made.as_mut_slice();
     for i in 0..sides.writer.places() {
         let symbols = met_symbols(alloc, sides, i)?;
+        let ranks = listed(&symbols);
+        number(boxes, ranks);
         for j in 0..sides.reader.places() {
-            if !table.has(i, j) || agree_at(sides, &symbols, i, j) {
+            if !table.has(i, j) || agree_at(sides, &symbols, boxes, i, j) {
                 continue;
             }
             table.strike(i, j);
         }
+        blank(boxes, ranks);
     }
     Ok(())
 }
 
-/// Looks at all pairs of the writer's place, and strikes out and lists those that the rest doesn't
-/// support: those of a union a branch after the other, so that the table is passed row by row.
-fn look_along_row(sides: &Sides, row: &Row, progress: &mut Progress) -> Result<(), AllocError>
+/// Eliminates the pairs of a writer's union with each place with which this branch of it isn't left.
+pub fn strike_apart(sides: &Sides, union: u32, branch: u32, progress: &mut Progress) -> Made<()>
+    requires rest { IsRestOf sides.now progress.old }
+    requires union_in { union < length sides.now.writer.schema.now }
+    requires branch_in { branch < length sides.now.writer.schema.now }
+    requires meant { (a : NodeView) → slice_get (rows sides.now) union ≡ Some a → HasBranch a branch }
+    ensures strikes { OnOk result (Strikes sides.now progress.old progress.new) }
+    ensures gone { OnOk result ((j : ℕ) → left progress.old.table branch j ≡ false → left progress.new.table union j ≡ false) }
+{
+    let places = sides.reader.places() as usize;
+    let mut at = progress.table.next_apart(union, branch, 0);
+    while at < places {
+        strike_pair(sides, union, at as u32, progress)?;
+        at = progress.table.next_apart(union, branch, at + 1);
+    }
+    Ok(())
+}
+
+/// Examines all pairs of a row, and eliminates those that the rest doesn't support.
+fn look_along_row(sides: &Sides, row: &Row, progress: &mut Progress) -> Made<()>
     requires row { IsRow sides.now row.now }
     requires rest { IsRestOf sides.now progress.old }
     ensures strikes { OnOk result (Strikes sides.now progress.old progress.new) }
     ensures settled { OnOk result (IsRowSettled sides.now progress.new row.now.place) }
 {
-    let places = sides.reader.places();
     if let Node::Union { branches } = sides.writer.node(row.place) {
         for branch in branches {
-            let mut at = progress.table.next_apart(row.place, *branch, 0);
-            while at < places as usize {
-                strike_pair(sides, row.place, at as u32, progress)?;
-                at = progress.table.next_apart(row.place, *branch, at + 1);
-            }
+            strike_apart(sides, row.place, *branch, progress)?;
         }
         return Ok(());
     }
-    for j in 0..places {
+    for j in 0..sides.reader.places() {
         if !progress.table.has(row.place, j) || supports(sides, row, j, &progress.table) {
             continue;
         }
@@ -94,20 +110,14 @@ fn look_along_row(sides: &Sides, row: &Row, progress: &mut Progress) -> Result<(
     Ok(())
 }
 
-/// Looks at all pairs, from the writer's first place to its last, since most references are to what
-/// was defined before, while the fields of each are laid, and answers the sources of these fields of
-/// the reader's by the writer's places.
-///
-/// # Errors
-///
-/// `AllocError` where memory for the boxes, the sources or the list of what was struck out is
-/// refused.
+/// Examines all rows, from the first, since most references are to earlier definitions. Returns the
+/// sources of these reader's fields by the writer's places.
 pub fn look_everywhere(
     alloc: Global,
     sides: &Sides,
     aliased: &[Aliased],
     progress: &mut Progress,
-) -> Result<Vec<Vec<u16>>, AllocError>
+) -> Made<Vec<Vec<u16>>>
     requires rest { IsRestOf sides.now progress.old }
     ensures sources { IfOk result (λ v. AreSources (rows sides.now) (columns sides.now) aliased.now v.items) }
     ensures strikes { OnOk result (Strikes sides.now progress.old progress.new) }

@@ -1,5 +1,4 @@
-//! The two sides of a resolution: a writer's schema and a reader's, with their names met, by their
-//! ranks.
+//! The two schemas of a resolution, with the ranks of their names matched.
 
 ghost use Rattle.std.specs.Prelude.{◌<◌, ◌^◌, ◌≡◌, ◌≢◌, ◌≤◌, [], get_or, length, map, slice_get, All, IfOk, MatchOption, Some, ℕ};
 ghost use Rattle.std.specs.Cmp.Lexicographic.{slice_cmp};
@@ -8,21 +7,39 @@ ghost use Rattle.std.specs.declared.cmp.Ordering.TheVariants.{Less};
 ghost use Rattle.avro_nodes.specs.Nodes.{field_view, node_view, texts_view, NodeView};
 ghost use Rattle.avro_schema.specs.Index.{AreFieldsRanked, IsRanked};
 ghost use Rattle.avro_resolve.specs.Inside.Agreeing.{fields_of};
+ghost use Rattle.avro_resolve.specs.Inside.Meeting.{met_at, IsKnown};
 ghost use Rattle.avro_resolve.specs.Inside.Sides.{names_of, nodes_of, IsSide, IsSides};
 
+use crate::Made;
 use avro_nodes::{Field, Node};
 use avro_schema::{FieldRanks, Index, Ranks, Schema};
-use std::alloc::{AllocError, Global};
+use std::alloc::Global;
 use std::cmp::Ordering;
 
 /// For each of the writer's names its rank among the reader's, if the reader has it.
 #[derive(Drop)]
 pub struct Met {
     pub ranks: Vec<Option<u32>>,
+    /// for each of the reader's names whether the writer has it
+    pub known: Vec<bool>,
 }
 
-/// The first rank from this one on whose name isn't below this one, or else the number of names; and
-/// the same again, if its name is this one.
+/// For each of so many ranks whether it is one of these.
+fn known_of(alloc: Global, ranks: &[Option<u32>], count: usize) -> Made<Vec<bool>>
+    requires { (k rank : ℕ) → met_at ranks.now k ≡ Some rank → rank < count }
+    ensures { IfOk result (λ v. IsKnown ranks.now v.items) }
+{
+    let mut known = vec![in alloc; false; count]?;
+    for met in ranks {
+        if let Some(rank) = met {
+            known[*rank as usize] = true;
+        }
+    }
+    Ok(known)
+}
+
+/// The first rank from one on whose name isn't below this one, or the number of names; and that
+/// rank again if it is of this name.
 fn first_from(names: &[String], from: usize, name: &str) -> (usize, Option<u32>)
     requires few { length names.now < 2 ^ 32 }
     requires from { from ≤ length names.now }
@@ -45,16 +62,17 @@ fn first_from(names: &[String], from: usize, name: &str) -> (usize, Option<u32>)
 }
 
 impl Met {
-    ghost use Rattle.std.specs.Prelude.{◌≡◌, IfOk, Some};
+    ghost use Rattle.std.specs.Prelude.{◌≡◌, false, get_or, IfOk, Some};
     ghost use Rattle.avro_nodes.specs.Nodes.{texts_view};
     ghost use Rattle.avro_schema.specs.Index.{AreNames};
-    ghost use Rattle.avro_resolve.specs.Inside.Meeting.{met_at, AreMet};
+    ghost use Rattle.avro_resolve.specs.Inside.Meeting.{met_at, AreMet, IsKnown};
 
     /// Meets the names: both lists are walked once, side by side.
-    pub fn of(alloc: Global, writer: &[String], reader: &[String]) -> Result<Met, AllocError>
+    pub fn of(alloc: Global, writer: &[String], reader: &[String]) -> Made<Met>
         requires writer { AreNames (texts_view writer.now) }
         requires reader { AreNames (texts_view reader.now) }
-        ensures { IfOk result (λ m. AreMet (texts_view writer.now) (texts_view reader.now) m.ranks.items) }
+        ensures met { IfOk result (λ m. AreMet (texts_view writer.now) (texts_view reader.now) m.ranks.items) }
+        ensures known { IfOk result (λ m. IsKnown m.ranks.items m.known.items) }
     {
         let mut ranks = Vec::with_capacity(alloc, writer.len())?;
         let mut from = 0;
@@ -63,7 +81,8 @@ impl Met {
             from = at;
             ranks.push(met)?;
         }
-        Ok(Met { ranks })
+        let known = known_of(alloc, &ranks, reader.len())?;
+        Ok(Met { ranks, known })
     }
 
     /// The reader's rank of a writer's name, if the reader has the name.
@@ -71,6 +90,16 @@ impl Met {
         ensures { result ≡ met_at self.now.ranks.items rank }
     {
         *self.ranks.get(rank as usize)?
+    }
+
+    /// Whether the writer has the reader's name of this rank.
+    pub fn knows(&self, rank: u32) -> bool
+        ensures { result ≡ get_or self.now.known.items rank false }
+    {
+        match self.known.get(rank as usize) {
+            Some(known) => *known,
+            None => false,
+        }
     }
 }
 
@@ -157,15 +186,7 @@ impl<'a> Side<'a> {
 
 impl<'a> Sides<'a> {
     /// The sides of two schemas, with their names met.
-    ///
-    /// # Errors
-    ///
-    /// `AllocError` where memory for the ranks is refused.
-    pub fn of(
-        alloc: Global,
-        writer: &'a Schema,
-        reader: &'a Schema,
-    ) -> Result<Sides<'a>, AllocError>
+    pub fn of(alloc: Global, writer: &'a Schema, reader: &'a Schema) -> Made<Sides<'a>>
         ensures sides { IfOk result (λ s. IsSides s) }
         ensures writer { IfOk result (λ s. s.writer.schema.now ≡ writer.now) }
         ensures reader { IfOk result (λ s. s.reader.schema.now ≡ reader.now) }

@@ -11,8 +11,8 @@ use crate::sides::Sides;
 use crate::table::Table;
 use avro_nodes::Node;
 
-/// Whether the writer's place is left with some branch of the reader's union at j. It looks first
-/// where one was left last, and goes on there: each branch is passed once.
+/// Whether the writer's place is left with some branch of the reader's union at j. Branches before
+/// the hint were eliminated earlier and never come back, so the scan resumes at the hint.
 pub fn any_left(i: u32, j: u32, places: &[u32], table: &Table) -> bool
     requires within { All (λ p. p < table.now.readers) places.now }
     requires i_in { i < table.now.writers }
@@ -32,8 +32,7 @@ pub fn any_left(i: u32, j: u32, places: &[u32], table: &Table) -> bool
     (0..from).any(|at| table.has(i, places[at]))
 }
 
-/// Whether what is left supports the pair of the writer's place and this one of the reader, whose
-/// nodes agree: it has the pairs that the pair asks for, by the first case that fits (Avro 1.11
+/// Whether what is left supports a pair whose nodes agree, by the first case that fits (Avro 1.11
 /// specification, Schema Resolution).
 pub fn supports(sides: &Sides, row: &Row, j: u32, table: &Table) -> bool
     requires over { IsOver sides.now row.now table.now j }

@@ -2,11 +2,15 @@
 
 ghost use Rattle.std.specs.Prelude.{◌*◌, ◌<◌, ◌≡◌, ◌≤◌, false, vec_len, IsTrue, ℕ};
 
-use std::alloc::{AllocError, Global};
+use crate::Made;
+use std::alloc::Global;
 use std::cell::Cell;
 
-/// A set of pairs of places, the writer's first: one flag a pair. Where the reader has unions, a
-/// pair has a hint too: at which branch of a union to look first.
+/// How many of the reader's places are looked at in one step.
+const BLOCK: usize = 64;
+
+/// A set of pairs of places, the writer's first: one flag a pair. If the reader has unions, a pair
+/// also has a hint: the branch to check first.
 #[derive(Drop)]
 pub struct Table {
     flags: Vec<bool>,
@@ -21,12 +25,7 @@ impl Table {
     ghost use Rattle.avro_resolve.specs.Inside.Left.{left, count_left, SameShape};
 
     /// All pairs of so many places of the writer and of the reader, with hints or without.
-    pub fn all(
-        alloc: Global,
-        writers: usize,
-        readers: usize,
-        hinted: bool,
-    ) -> Result<Table, AllocError>
+    pub fn all(alloc: Global, writers: usize, readers: usize, hinted: bool) -> Made<Table>
         requires { writers * readers < 2 ^ 64 }
         ensures writers { IfOk result (λ t. t.writers ≡ writers) }
         ensures readers { IfOk result (λ t. t.readers ≡ readers) }
@@ -53,8 +52,22 @@ impl Table {
         self.flags[i as usize * self.readers + j as usize]
     }
 
-    /// The first of the reader's places from this one on with which the writer's i is left and k
-    /// isn't, or else their number.
+    /// Whether a pair of row i and one of these columns is left, and that of row k isn't.
+    fn is_apart(&self, i: u32, k: u32, from: usize, to: usize) -> bool
+        requires i_in { i < self.now.writers }
+        requires k_in { k < self.now.writers }
+        requires to_in { to ≤ self.now.readers }
+        ensures { result ≡ false → (j : ℕ) → from ≤ j → j < to → IsTrue (left self.now i j) → IsTrue (left self.now k j) }
+    {
+        let (row, other) = (i as usize * self.readers, k as usize * self.readers);
+        let mut apart = false;
+        for at in from..to {
+            apart |= self.flags[row + at] & !self.flags[other + at];
+        }
+        apart
+    }
+
+    /// The first column from one on whose pair is left in row i and not in row k, or their number.
     pub fn next_apart(&self, i: u32, k: u32, from: usize) -> usize
         requires i_in { i < self.now.writers }
         requires k_in { k < self.now.writers }
@@ -65,10 +78,17 @@ impl Table {
         ensures at { result < self.now.readers → left self.now k result ≡ false }
     {
         let (row, other) = (i as usize * self.readers, k as usize * self.readers);
-        for at in from..self.readers {
-            if self.flags[row + at] && !self.flags[other + at] {
-                return at;
+        let mut start = from;
+        while start < self.readers {
+            let end = start + BLOCK.min(self.readers - start);
+            if self.is_apart(i, k, start, end) {
+                for at in start..end {
+                    if self.flags[row + at] && !self.flags[other + at] {
+                        return at;
+                    }
+                }
             }
+            start = end;
         }
         self.readers
     }

@@ -1,15 +1,41 @@
 //! Pairs of schemas made at random: both draw the same words, and each differs here and there.
-//! Records stand in one another and refer to one another, alone and in arrays, maps and unions.
+//! All kinds of types occur, alone and in arrays, maps and unions, and refer to records around them.
 
 use crate::text::{Marks, push_template};
 use rand_pcg::Pcg32;
 use rand_pcg::rand_core::Rng;
 use std::alloc::{AllocError, Global};
 
-/// The primitives that stand alone.
-static PRIMITIVES: [&str; 7] = [
-    "boolean", "int", "long", "float", "double", "bytes", "string",
+/// The primitives, each with a default.
+static PRIMITIVES: [(&str, &str); 8] = [
+    ("null", "null"),
+    ("boolean", "true"),
+    ("int", "1"),
+    ("long", "2"),
+    ("float", "3"),
+    ("double", "4"),
+    ("bytes", r#""a""#),
+    ("string", r#""b""#),
 ];
+
+/// Types around another one, with defaults: `@` is that one, and `$` a record. The default `@` is that
+/// one's, and an empty text is none.
+static TYPES: [(&str, &str); 8] = [
+    (r#"{"type":"array","items":@}"#, "[]"),
+    (r#"{"type":"map","values":@}"#, "{}"),
+    (r#"["null",{"type":"array","items":@}]"#, "null"),
+    (r#"[{"type":"map","values":@},"null"]"#, "{}"),
+    (r#"["$","string","int"]"#, ""),
+    ("@", "@"),
+    ("@", "@"),
+    ("@", "@"),
+];
+
+/// The symbols of enums.
+static SYMBOLS: [&str; 4] = [r#""A""#, r#""A","B""#, r#""A","B","C""#, r#""C","A","D""#];
+
+/// Defaults of the fixed types of 1 to 4 bytes.
+static BYTES: [&str; 4] = [r#""a""#, r#""ab""#, r#""abc""#, r#""abcd""#];
 
 /// A schema's text on its way.
 #[derive(Drop)]
@@ -23,17 +49,14 @@ struct Draft {
     own: Pcg32,
 }
 
-/// The types: `@` is a primitive or a record, and `$` a record.
-static TYPES: [&str; 8] = [
-    r#"{"type":"array","items":"@"}"#,
-    r#"{"type":"map","values":"@"}"#,
-    r#"["null","@"]"#,
-    r#"["null","@"]"#,
-    r#"["$","string","int"]"#,
-    r#""@""#,
-    r#""@""#,
-    r#""@""#,
-];
+/// A field by its record's level and its number there, and the words drawn for its type.
+#[derive(Clone, Copy)]
+struct Drawn {
+    level: u32,
+    index: u32,
+    shared: u32,
+    own: u32,
+}
 
 /// One of the records so far.
 fn name_of(names: &[String], word: u32) -> &str {
@@ -44,55 +67,125 @@ fn name_of(names: &[String], word: u32) -> &str {
     }
 }
 
-/// A type.
-fn push_type(text: &mut String, names: &[String], word: u32) -> Result<(), AllocError> {
-    let rest = word / 8;
-    let inner = if rest % 2 == 0 {
-        name_of(names, rest / 2)
-    } else {
-        PRIMITIVES[(rest / 2 % 7) as usize]
+/// The name of a field's enum or fixed type: now and then it is another one, which has aliases.
+fn push_name(text: &mut String, letter: &str, drawn: Drawn) -> Result<(), AllocError> {
+    let (level, index) = (drawn.level, drawn.index);
+    if drawn.own % 32 == 2 {
+        return write!(
+            text,
+            r#""name":"Other{letter}{level}x{index}","aliases":["m.{letter}{level}x{index}","n.{letter}{level}x{index}"],"#
+        );
+    }
+    write!(text, r#""name":"{letter}{level}x{index}","#)
+}
+
+/// An enum: now and then it has other symbols, or a default.
+fn push_enum(text: &mut String, drawn: Drawn) -> Result<(), AllocError> {
+    let other = u32::from(drawn.own % 16 == 0);
+    let symbols = SYMBOLS[((drawn.shared % 4 + other) % 4) as usize];
+    text.push_str(r#"{"type":"enum","#)?;
+    push_name(text, "E", drawn)?;
+    write!(text, r#""symbols":[{symbols}]"#)?;
+    if drawn.own % 4 == 1 {
+        text.push_str(r#","default":"A""#)?;
+    }
+    text.push_str("}")
+}
+
+/// A fixed type, whose default is returned: now and then it has another size.
+fn push_fixed(text: &mut String, drawn: Drawn) -> Result<&'static str, AllocError> {
+    let other = u32::from(drawn.own % 32 == 0);
+    let size = (drawn.shared % 4 + other) % 4;
+    text.push_str(r#"{"type":"fixed","#)?;
+    push_name(text, "F", drawn)?;
+    write!(text, r#""size":{}}}"#, size + 1)?;
+    Ok(BYTES[size as usize])
+}
+
+/// A type that stands in no other one. Its default is returned.
+fn push_inner(
+    text: &mut String,
+    names: &[String],
+    drawn: Drawn,
+) -> Result<&'static str, AllocError> {
+    let rest = Drawn {
+        shared: drawn.shared / 4,
+        ..drawn
     };
+    match drawn.shared % 4 {
+        0 => {
+            write!(text, r#""{}""#, name_of(names, rest.shared))?;
+            Ok("")
+        }
+        1 => {
+            let (primitive, default) = PRIMITIVES[(rest.shared % 8) as usize];
+            write!(text, r#""{primitive}""#)?;
+            Ok(default)
+        }
+        2 => {
+            push_enum(text, rest)?;
+            Ok(r#""A""#)
+        }
+        _ => push_fixed(text, rest),
+    }
+}
+
+/// A type, whose default is returned.
+fn push_type(alloc: Global, draft: &mut Draft, drawn: Drawn) -> Result<&'static str, AllocError> {
+    let (around, own_default) = TYPES[(drawn.shared % 8) as usize];
+    let rest = Drawn {
+        shared: drawn.shared / 8,
+        ..drawn
+    };
+    let mut inner = String::new(alloc);
+    let default = push_inner(&mut inner, draft.names.as_slice(), rest)?;
     let marks = Marks {
         number: 0,
         is_first: false,
-        inner,
-        word: name_of(names, rest),
+        inner: inner.as_str(),
+        word: name_of(draft.names.as_slice(), rest.shared),
     };
-    push_template(text, TYPES[(word % 8) as usize], &marks)
+    push_template(&mut draft.text, around, &marks)?;
+    Ok(if own_default == "@" {
+        default
+    } else {
+        own_default
+    })
 }
 
-/// A field after others: now and then it is left out, has another type or stands by an alias.
-fn push_field(draft: &mut Draft, level: u32, index: u32) -> Result<(), AllocError> {
-    let shared = draft.shared.next_u32();
-    let own = draft.own.next_u32();
-    if own % 32 == 0 {
-        return Ok(());
-    }
-    if own % 32 == 1 {
-        write!(
+/// A field after others: now and then it is left out, has another type or stands by aliases.
+fn push_field(alloc: Global, draft: &mut Draft, level: u32, index: u32) -> Result<(), AllocError> {
+    let (shared, own) = (draft.shared.next_u32(), draft.own.next_u32());
+    match own % 64 {
+        0 => return Ok(()),
+        1 => write!(
             draft.text,
-            r#",{{"name":"g{level}x{index}","aliases":["f{level}x{index}"],"type":"#
-        )?;
-    } else {
-        write!(draft.text, r#",{{"name":"f{level}x{index}","type":"#)?;
+            r#",{{"name":"g{level}x{index}","aliases":["h{level}x{index}","f{level}x{index}","f"],"type":"#
+        )?,
+        _ => write!(draft.text, r#",{{"name":"f{level}x{index}","type":"#)?,
     }
-    let word = if own % 32 == 2 { own / 32 } else { shared };
-    push_type(&mut draft.text, draft.names.as_slice(), word)?;
-    if (word % 8 == 2 || word % 8 == 3) && own % 3 > 0 {
-        draft.text.push_str(r#","default":null"#)?;
+    let drawn = Drawn {
+        level,
+        index,
+        shared: if own % 64 == 2 { own / 64 } else { shared },
+        own: own / 64,
+    };
+    let default = push_type(alloc, draft, drawn)?;
+    if own % 3 > 0 && !default.is_empty() {
+        write!(draft.text, r#","default":{default}"#)?;
     }
     draft.text.push_str("}")
 }
 
 /// Fields after others.
-fn push_fields(draft: &mut Draft, level: u32, from: u32) -> Result<(), AllocError> {
+fn push_fields(alloc: Global, draft: &mut Draft, level: u32, from: u32) -> Result<(), AllocError> {
     for index in from..from.saturating_add(3) {
-        push_field(draft, level, index)?;
+        push_field(alloc, draft, level, index)?;
     }
     Ok(())
 }
 
-/// The head of a record: now and then its name has another namespace, or an alias.
+/// The head of a record: now and then its name has another namespace, or aliases.
 fn open_record(alloc: Global, draft: &mut Draft, level: u32) -> Result<(), AllocError> {
     let (space, letter) = match draft.own.next_u32() % 16 {
         0 => ("m", "R"),
@@ -102,7 +195,7 @@ fn open_record(alloc: Global, draft: &mut Draft, level: u32) -> Result<(), Alloc
     let name = format!(in alloc; "{space}.{letter}{level}")?;
     write!(draft.text, r#"{{"type":"record","name":"{name}","#)?;
     if letter == "S" {
-        write!(draft.text, r#""aliases":["n.R{level}"],"#)?;
+        write!(draft.text, r#""aliases":["m.R{level}","n.R{level}"],"#)?;
     }
     draft.names.push(name)?;
     draft
@@ -114,7 +207,7 @@ fn open_record(alloc: Global, draft: &mut Draft, level: u32) -> Result<(), Alloc
 ///
 /// # Errors
 ///
-/// `AllocError` where memory for it is refused.
+/// `AllocError` if memory for it runs out.
 pub fn random_text(alloc: Global, pair: u64, stream: u64) -> Result<String, AllocError> {
     let mut draft = Draft {
         text: String::new(alloc),
@@ -125,14 +218,19 @@ pub fn random_text(alloc: Global, pair: u64, stream: u64) -> Result<String, Allo
     let levels = 1 + draft.shared.next_u32() % 4;
     for level in 0..levels {
         open_record(alloc, &mut draft, level)?;
-        push_fields(&mut draft, level, 0)?;
+        push_fields(alloc, &mut draft, level, 0)?;
         write!(draft.text, r#",{{"name":"next","type":"#)?;
     }
-    let last = draft.shared.next_u32();
-    push_type(&mut draft.text, draft.names.as_slice(), last)?;
+    let last = Drawn {
+        level: levels,
+        index: 0,
+        shared: draft.shared.next_u32(),
+        own: draft.own.next_u32(),
+    };
+    push_type(alloc, &mut draft, last)?;
     for level in (0..levels).rev() {
         draft.text.push_str("}")?;
-        push_fields(&mut draft, level, 3)?;
+        push_fields(alloc, &mut draft, level, 3)?;
         draft.text.push_str("]}")?;
     }
     Ok(draft.text)

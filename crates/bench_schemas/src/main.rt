@@ -1,19 +1,20 @@
-//! Measures how long schemas take to be read and resolved.
+//! Measures how long schemas take to read and to resolve.
 //!
-//! Its words are `read`, `resolve` or `behind`, the name of a shape or `all`, and a count of the
-//! shape's parts, where only that one is wanted. `read` has a text of the shape read by
-//! `Schema::read`, which makes its identity text, and by `serde_json` into a `Value`, and prints
-//! its bytes, the times, and their ratio. `resolve` has a writer's and a reader's text of the shape
-//! resolved by `resolves` and by `resolves_plain`, and prints the numbers of their places, the
-//! verdicts and the times. `behind` does the same where each text stands behind a cycle of records
-//! that makes `resolves` give up and strike out. The shortest of many calls counts. Behind them it
-//! prints the most memory that the process held so far.
+//! The arguments are `read`, `resolve` or `behind`; the name of a shape, or `all`; and optionally a
+//! count of the shape's parts. `read` reads a text by `Schema::read`, which makes its identity text,
+//! and by `serde_json` into a `Value`. It prints the bytes, the times and their ratio. `resolve`
+//! resolves a writer's and a reader's text by `resolves` and by `resolves_plain`. It prints the
+//! numbers of their places, the verdicts and the times. `behind` does the same with each text behind
+//! a cycle of records, for which `resolves` stops and eliminates pairs. `files W R` resolves the
+//! texts of two files. Times are those of the shortest of many calls. Each measurement ends with the
+//! most memory that the process has held so far.
 //!
-//! The word `random` has 2,000 pairs made at random, always the same ones, and tells whether both
-//! ways to resolve answer each of them alike. Without words it does nothing.
+//! `random` resolves 2,000 random pairs, always the same ones, and fails if the two ways disagree.
+//! Without arguments the program does nothing.
 
 #![tactic(auto)]
 
+mod hostile;
 mod reading;
 mod resolution;
 mod shape;
@@ -23,6 +24,7 @@ use anyhow::{Context, Result, bail, ensure};
 use avro_resolve::{resolves, resolves_plain};
 use avro_schema::Schema;
 use avro_testing::random_text;
+use hostile::hostile;
 use reading::reading;
 use resolution::resolution;
 use shape::{Shape, behind_cycle, shape_text};
@@ -38,6 +40,9 @@ enum Measured {
     /// of texts behind a cycle
     Behind,
 }
+
+/// No shapes.
+static NONE: &[Shape] = &[];
 
 /// How many pairs are made at random.
 const RANDOM_PAIRS: u64 = 2000;
@@ -94,19 +99,17 @@ fn pair_of(
     Ok((writer, reader))
 }
 
-/// Measures how long the pair of a shape takes to resolve.
-fn resolve(rt: &HostRuntime, shape: &Shape, count: u32, is_behind: bool) -> Result<()> {
-    let alloc = rt.alloc();
-    let (writer, reader) = pair_of(alloc, shape, count, is_behind)?;
-    let writer = Schema::read(alloc, writer.as_str())?;
-    let reader = Schema::read(alloc, reader.as_str())?;
+/// Measures how long a writer's and a reader's text take to resolve.
+fn compare(rt: &HostRuntime, title: &str, writer: &str, reader: &str) -> Result<()> {
+    let writer = Schema::read(rt.alloc(), writer)?;
+    let reader = Schema::read(rt.alloc(), reader)?;
     let (opening, striking) = times(
         rt,
         Work::Opening(&writer, &reader),
         Work::Striking(&writer, &reader),
     )?;
-    let (name, rows, columns) = (shape.name, writer.places(), reader.places());
-    println!(rt; "{name} {count}: {rows} and {columns} places")?;
+    let (rows, columns) = (writer.places(), reader.places());
+    println!(rt; "{title}: {rows} and {columns} places")?;
     println!(rt;
         "  resolves: {} with {} visits",
         opening.told.yes, opening.told.visits
@@ -115,6 +118,23 @@ fn resolve(rt: &HostRuntime, shape: &Shape, count: u32, is_behind: bool) -> Resu
     println!(rt; "  resolves_plain: {}", striking.told.yes)?;
     print_time(rt, "resolves_plain", striking)?;
     print_memory(rt)
+}
+
+/// Measures how long the pair of a shape takes to resolve.
+fn resolve(rt: &HostRuntime, shape: &Shape, count: u32, is_behind: bool) -> Result<()> {
+    let (writer, reader) = pair_of(rt.alloc(), shape, count, is_behind)?;
+    let title = format!(in rt.alloc(); "{} {count}", shape.name)?;
+    compare(rt, title.as_str(), writer.as_str(), reader.as_str())
+}
+
+/// Measures how long the texts of two files take to resolve.
+fn compare_files(rt: &HostRuntime, words: &[String]) -> Result<()> {
+    let (writer, reader) = (words.get(1), words.get(2));
+    let writer = writer.context("the writer's file is wanted")?;
+    let reader = reader.context("the reader's file is wanted")?;
+    let written = fs::read_to_string(rt, writer.as_str())?;
+    let read = fs::read_to_string(rt, reader.as_str())?;
+    compare(rt, writer.as_str(), written.as_str(), read.as_str())
 }
 
 /// Whether both ways say yes to a random pair; they answer alike, or it is an error.
@@ -162,7 +182,10 @@ fn measure_shape(
         return measure(rt, measured, shape, count);
     }
     if let Measured::Behind = measured {
-        return measure(rt, measured, shape, shape.behind);
+        if shape.behind > 0 {
+            measure(rt, measured, shape, shape.behind)?;
+        }
+        return Ok(());
     }
     for count in shape.counts {
         measure(rt, measured, shape, *count)?;
@@ -172,12 +195,12 @@ fn measure_shape(
 
 /// Measures the shapes of this name.
 fn measure_all(rt: &HostRuntime, measured: Measured, name: &str, count: Option<u32>) -> Result<()> {
-    let shapes = match measured {
-        Measured::Reading => reading(),
-        Measured::Resolution | Measured::Behind => resolution(),
+    let (shapes, more) = match measured {
+        Measured::Reading => (reading(), NONE),
+        Measured::Resolution | Measured::Behind => (resolution(), hostile()),
     };
     let mut found = false;
-    for shape in shapes {
+    for shape in shapes.iter().chain(more) {
         if name == "all" || name == shape.name {
             found = true;
             measure_shape(rt, measured, shape, count)?;
@@ -203,6 +226,9 @@ fn measure_by(rt: &HostRuntime, words: &[String]) -> Result<()> {
     let word = word.as_str();
     if word == "random" {
         return answer_random(rt);
+    }
+    if word == "files" {
+        return compare_files(rt, words);
     }
     let measured = match word {
         "read" => Measured::Reading,

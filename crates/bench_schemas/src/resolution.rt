@@ -19,12 +19,13 @@ later ,{"type":"record","name":"n.A#","fields":[{"name":"f","type":"n.A<"}]}
 once ]"##;
 
 /// The same, of one last name.
-const ONE_NAME: &str = r##"once [{"type":"record","name":"n0.A","fields":[{"name":"f","type":$}]}
+pub const ONE_NAME: &str =
+    r##"once [{"type":"record","name":"n0.A","fields":[{"name":"f","type":$}]}
 later ,{"type":"record","name":"n#.A","fields":[{"name":"f","type":"n<.A"}]}
 once ]"##;
 
 /// A record from which records of one last name go, each with a field of the next one.
-const CYCLE: &str = r##"once {"type":"record","name":"c.A","fields":[{"name":"d","type":["null"
+pub const CYCLE: &str = r##"once {"type":"record","name":"c.A","fields":[{"name":"d","type":["null"
 last ,{"type":"record","name":"n#.A","fields":[{"name":"f","type":$}]}
 down ,{"type":"record","name":"n#.A","fields":[{"name":"f","type":"n>.A"}]}
 once ],"default":null},{"name":"f","type":"n1.A"}]}"##;
@@ -45,7 +46,7 @@ later "~",
 once "a"]}"##;
 
 /// Enums of one last name.
-const ENUMS: &str = r##"once [
+pub const ENUMS: &str = r##"once [
 each ;{"type":"enum","name":"n#.A","symbols":[@"$"]}
 once ]"##;
 

@@ -8,9 +8,9 @@ use std::alloc::{AllocError, Global};
 pub struct Shape {
     pub name: &'static str,
     pub counts: &'static [u32],
-    /// a large count that has room behind a cycle
+    /// a large count that has room behind a cycle, or 0 if none has
     pub behind: u32,
-    /// the parts that the mark of an inner text stands for
+    /// the parts that the mark of an inner text stands for, or `HOLES` or `TWO_HOLES`
     pub inner: &'static str,
     /// the text that is read, or the writer's
     pub writer: Text,
@@ -30,6 +30,33 @@ const LINKS: &str =
 1048..0 ,{"type":"record","name":"Link#","fields":[{"name":"next","type":"Link>"}]}
 once ]},{"name":"next","type":"Link1"},{"name":"behind","type":@}]}"##;
 
+/// The inner text is fields of unions of the records n0.A, n1.A and so on. Each union leaves out one
+/// record of each 24, and ends with the word.
+pub const HOLES: &str = "holes";
+
+/// The same, but each union leaves out two records of each 24.
+pub const TWO_HOLES: &str = "two holes";
+
+/// How many unions with holes a text has, and each of which records one of them leaves out.
+const UNIONS: u32 = 24;
+
+/// The unions with holes.
+fn unions(alloc: Global, count: u32, has_two: bool, word: &str) -> Result<String, AllocError> {
+    let mut text = String::new(alloc);
+    for union in 0..UNIONS {
+        write!(text, r#",{{"name":"u{union}","type":["null""#)?;
+        for record in 0..count {
+            let first = record % UNIONS;
+            let second = (first + 1 + record / UNIONS % (UNIONS - 1)) % UNIONS;
+            if first != union && (!has_two || second != union) {
+                write!(text, r#","n{record}.A""#)?;
+            }
+        }
+        write!(text, "{word}]}}")?;
+    }
+    Ok(text)
+}
+
 /// The text of a shape, with this count.
 pub fn shape_text(
     alloc: Global,
@@ -37,11 +64,15 @@ pub fn shape_text(
     made: Text,
     count: u32,
 ) -> Result<String, AllocError> {
-    let repeated = Text {
-        word: "",
-        parts: shape.inner,
+    let inner = if shape.inner == HOLES || shape.inner == TWO_HOLES {
+        unions(alloc, count, shape.inner == TWO_HOLES, made.word)?
+    } else {
+        let repeated = Text {
+            word: "",
+            parts: shape.inner,
+        };
+        text_of(alloc, repeated, "", count)?
     };
-    let inner = text_of(alloc, repeated, "", count)?;
     text_of(alloc, made, inner.as_str(), count)
 }
 

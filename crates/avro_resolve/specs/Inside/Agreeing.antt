@@ -1,5 +1,5 @@
 -- What two nodes say of a pair by themselves.
-use Rattle.std.specs.Prelude.{◌≡◌, ◌⊎◌, ◌↔◌, ℕ, List, [], Bool, Option, Some, None, IsSome, IsTrue, MatchOption, All, Contains, Vec}
+use Rattle.std.specs.Prelude.{◌≡◌, ◌⊎◌, ◌↔◌, ℕ, ◌+◌, ◌<◌, ◌≤◌, get_or, List, [], Bool, Option, Some, None, IsSome, IsTrue, MatchOption, All, Contains, Vec}
 use Rattle.std.specs.declared.alloc.Global.{Global}
 use Rattle.avro_nodes.specs.Nodes.{FieldView, NamedView, NodeView, primitive, array, mapping, union, enumeration, fixed, rec}
 use Rattle.avro_schema.specs.declared.index.NamedRanks.{NamedRanks}
@@ -86,6 +86,15 @@ symbol_ranks (Rec named fields) = []
 -- the ranks of the symbols among a reader's names, or none where these haven't one of them
 abbrev pub AreSymbolsMet : List (List ℕ) → List (List ℕ) → Option (Vec ℕ Global) → Type 0
 AreSymbolsMet names symbols found = MatchOption found (All (Contains names) symbols → ⊥) (λ v. AreRisingRanks names symbols v.items)
+
+-- the symbols of these indexes, and no others, have a number in the boxes of their ranks: their index and one
+pub record AreNumbered (boxes symbols : List ℕ) (low high : ℕ) : Type 0 where
+  pub only : (rank k : ℕ) → get_or boxes rank 0 ≡ k + 1 → (low ≤ k) × (k < high) × (get_or symbols k 0 ≡ rank)
+  pub each : (k : ℕ) → low ≤ k → k < high → get_or boxes (get_or symbols k 0) 0 ≡ k + 1
+
+-- no number stands in the boxes
+abbrev pub AreBlank : List ℕ → Type 0
+AreBlank boxes = (rank k : ℕ) → get_or boxes rank 0 ≡ k + 1 → ⊥
 
 -- the fields of a node, where it has such
 abbrev pub fields_of : NodeView → List FieldView

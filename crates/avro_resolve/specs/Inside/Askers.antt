@@ -1,5 +1,5 @@
 -- What asks for a place: unions for their branches, and what refers to it by a label.
-use Rattle.std.specs.Prelude.{◌≡◌, ◌⊎◌, ℕ, ◌+◌, ◌<◌, List, [], false, All, Contains, Option, None, Some, get_or, length, option_map, slice_get, Vec}
+use Rattle.std.specs.Prelude.{◌≡◌, ◌⊎◌, ℕ, ◌+◌, ◌<◌, List, [], All, Contains, Option, None, Some, length, option_map, slice_get, Vec}
 use Rattle.std.specs.Borrow.{Bor}
 use Rattle.std.specs.List.Sorted.{IsNonDecreasingBy}
 use Rattle.std.specs.declared.alloc.Global.{Global}
@@ -7,17 +7,13 @@ use Rattle.avro_nodes.specs.Nodes.{FieldView, NodeView, primitive, array, mappin
 use Rattle.avro_schema.specs.declared.index.FieldRanks.{FieldRanks}
 use Rattle.avro_schema.specs.Index.{AreFieldsRanked}
 use Rattle.avro_resolve.specs.declared.readable.Aliased.{Aliased}
-use Rattle.avro_resolve.specs.declared.striking.Noted.{Noted}
 use Rattle.avro_resolve.specs.declared.links.Link.{Link}
 use Rattle.avro_resolve.specs.declared.links.Way.{Way}
 use Rattle.avro_resolve.specs.declared.links.Way.TheVariants.{OfContents, ByName, ByAlias}
 use Rattle.avro_resolve.specs.declared.links.Links.{Links}
 use Rattle.avro_resolve.specs.declared.sides.Met.{Met}
 use Rattle.avro_resolve.specs.declared.sides.Sides.{Sides}
-use Rattle.avro_resolve.specs.declared.table.Table.{Table}
-use Rattle.avro_resolve.specs.Resolution.{Pairs}
 use Rattle.avro_resolve.specs.Inside.Agreeing.{fields_of}
-use Rattle.avro_resolve.specs.Inside.Left.{left}
 use Rattle.avro_resolve.specs.Inside.Lists.{list_at, Adds, StandsAt}
 use Rattle.avro_resolve.specs.Inside.Meeting.{met_at}
 use Rattle.avro_resolve.specs.Inside.Sides.{columns, names_of, rows}
@@ -45,19 +41,19 @@ HasBranch (rec named fields _) place = ⊥
 
 -- the lists have each union for each of its branches, and nothing else
 pub record HasUnions (nodes : List NodeView) (lists : List (Vec ℕ Global)) : Type 0 where
+  pub long : length lists ≡ length nodes
   pub within : (i place : ℕ) → StandsAt lists i place → i < length nodes
   pub named : (i : ℕ) (a : NodeView) → slice_get nodes i ≡ Some a → IsUnionListed lists i a
   pub meant : (i place : ℕ) → StandsAt lists i place → (a : NodeView) → slice_get nodes i ≡ Some a → HasBranch a place
 
--- for each of so many places there is a list of unions, with none of which it is left
-pub record AreNoted (R : Pairs) (places : ℕ) (noted : List (Bor (List ℕ))) : Type 0 where
-  pub long : length noted ≡ places
-  pub gone : (k : ℕ) (d : Bor (List ℕ)) → k < places → All (λ u. R u k ≡ false) (get_or noted k d).now
+-- the list has the places of all unions
+pub record AreUnions (nodes : List NodeView) (unions : List ℕ) : Type 0 where
+  pub within : All (λ i. i < length nodes) unions
+  pub all : (i : ℕ) (branches : List ℕ) → slice_get nodes i ≡ Some (union branches) → Contains unions i
 
--- the same both ways: with unions of the writer for the reader's places, and of the reader for the writer's
-pub record IsNoted (sides : Sides) (t : Table) (noted : Noted) : Type 0 where
-  pub down : AreNoted (left t) (length sides.reader.schema.now) noted.down.items
-  pub along : AreNoted (λ u i. left t i u) (length sides.writer.schema.now) noted.along.items
+-- the node at the place is no union
+abbrev pub IsNoUnion : List NodeView → ℕ → Type 0
+IsNoUnion nodes i = (branches : List ℕ) → slice_get nodes i ≡ Some (union branches) → ⊥
 
 -- the link has the label, and refers in this way
 abbrev pub HasLabel : ℕ → Way → Link → Type 0

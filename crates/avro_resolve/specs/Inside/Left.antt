@@ -1,5 +1,5 @@
 -- The pairs that a table has left.
-use Rattle.std.specs.Prelude.{◌≡◌, ◌⊎◌, ℕ, ◌+◌, ◌*◌, List, [], ◌∷◌, ◌++◌, Bool, true, false, All, ◌&&◌, ◌||◌, length, ◌<◌, nat_lt, slice_get, slice_index_or, sum_by, IsTrue, MatchOption}
+use Rattle.std.specs.Prelude.{◌≡◌, ◌⊎◌, ℕ, ◌+◌, ◌*◌, List, [], ◌++◌, Bool, true, false, All, ◌&&◌, ◌||◌, length, ◌<◌, nat_lt, slice_get, slice_index_or, sum_by, IsTrue, MatchOption}
 use Rattle.avro_nodes.specs.Nodes.{NodeView}
 use Rattle.avro_resolve.specs.declared.rows.Progress.{Progress}
 use Rattle.avro_resolve.specs.declared.sides.Sides.{Sides}
@@ -113,6 +113,10 @@ IsRowSettled sides p i = (j : ℕ) → j < length sides.reader.schema.now → Is
 abbrev pub AreSettled : Sides → Progress → Type 0
 AreSettled sides p = AllSettled (rows sides) (columns sides) p.table p.struck.items
 
--- each pair, if the one that is told counts as listed
-abbrev pub AreSettledBut : Sides → Progress → Pair → Type 0
-AreSettledBut sides p told = AllSettled (rows sides) (columns sides) p.table (p.struck.items ++ told ∷ [])
+-- each pair, if those of a run count as listed
+abbrev pub AreSettledBut : Sides → Progress → List Pair → Type 0
+AreSettledBut sides p run = AllSettled (rows sides) (columns sides) p.table (p.struck.items ++ run)
+
+-- the pairs are of one place of the writer, and none of them is left
+abbrev pub AreRun : Table → ℕ → List Pair → Type 0
+AreRun t row run = All (λ (p : Pair). (p.0 ≡ row) × (left t p.0 p.1 ≡ false)) run

@@ -1,5 +1,5 @@
 -- The names of a writer's schema met with those of a reader's, by their ranks (this project's choice).
-use Rattle.std.specs.Prelude.{◌≡◌, ◌↔◌, ℕ, List, Option, None, Some, MatchOption, Contains, get_or, map, slice_get}
+use Rattle.std.specs.Prelude.{◌≡◌, ◌↔◌, ℕ, Bool, true, false, List, Option, None, Some, MatchOption, Contains, get_or, map, slice_get}
 use Rattle.std.specs.List.{AllZip}
 
 -- what a name meets among the names: its rank there, or none, if it isn't there
@@ -21,3 +21,7 @@ Tell w r met = (a b : ℕ) (x y : List ℕ) → slice_get w a ≡ Some x → sli
 -- what the ranks meet, in their order
 abbrev pub AreMetRanks : List (Option ℕ) → List ℕ → List ℕ → Type 0
 AreMetRanks met ranks found = map (λ rank. Some rank) found ≡ map (λ rank. met_at met rank) ranks
+
+-- each rank that is met is marked as known
+abbrev pub IsKnown : List (Option ℕ) → List Bool → Type 0
+IsKnown met known = (name rank : ℕ) → met_at met name ≡ Some rank → get_or known rank false ≡ true

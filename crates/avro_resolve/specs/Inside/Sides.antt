@@ -7,7 +7,7 @@ use Rattle.avro_resolve.specs.declared.sides.Sides.{Sides}
 use Rattle.avro_resolve.specs.Resolution.{source}
 use Rattle.avro_resolve.specs.Inside.Agreeing.{fields_of}
 use Rattle.avro_resolve.specs.Inside.Places.{IsWhole}
-use Rattle.avro_resolve.specs.Inside.Meeting.{AreMet}
+use Rattle.avro_resolve.specs.Inside.Meeting.{AreMet, IsKnown}
 
 -- the nodes of the schema
 abbrev pub nodes_of : Side → List NodeView
@@ -36,3 +36,4 @@ pub record IsSides (sides : Sides) : Type 0 where
   pub writer : IsSide sides.writer
   pub reader : IsSide sides.reader
   pub met : AreMet (names_of sides.writer) (names_of sides.reader) sides.met.ranks.items
+  pub known : IsKnown sides.met.ranks.items sides.met.known.items

@@ -241,8 +241,40 @@ once ]}]}},{"name":"z","type":"string"}]}
 1..1000 ,{"type":"record","name":"c#.A","fields":[{"name":"u","type":"r.U"},{"name":"z","type":"string"}]}
 once ,{"type":"record","name":"d.A","fields":[{"name":"u","type":"r.U"},{"name":"z","type":"int"}]}]"##;
 
+/// A hundred records with a field of one record, which has an int, and two unions of them.
+const IN_UNIONS: &str =
+    r##"once {"type":"record","name":"T","fields":[{"name":"wd","default":null,"type":["null",{"type":"record","name":"n.Z","fields":[{"name":"f","type":"int"}]}
+0..100 ,{"type":"record","name":"n#.A","fields":[{"name":"f","type":"n.Z"}]}
+once ]},{"name":"u","type":[
+0..100 ;"n#.A"
+once ]},{"name":"v","type":[
+1..100 ;"n#.A"
+once ]}]}"##;
+
+/// The same with a string. A further branch of the first union reads each record, and none of the second does.
+const STRINGS_IN_UNIONS: &str =
+    r##"once {"type":"record","name":"T","fields":[{"name":"rd","default":null,"type":["null",{"type":"record","name":"n.Z","fields":[{"name":"f","type":"string"}]},{"type":"record","name":"e.A","fields":[]}
+0..100 ,{"type":"record","name":"n#.A","fields":[{"name":"f","type":"n.Z"}]}
+once ]},{"name":"u","type":[
+0..100 ;"n#.A"
+once ,"e.A"]},{"name":"v","type":[
+1..100 ;"n#.A"
+once ]}]}"##;
+
+/// The same with that branch in both unions, and with a union for each record.
+const STRINGS_IN_MANY_UNIONS: &str =
+    r##"once {"type":"record","name":"T","fields":[{"name":"rd","default":null,"type":["null",{"type":"record","name":"n.Z","fields":[{"name":"f","type":"string"}]},{"type":"record","name":"e.A","fields":[]}
+0..100 ,{"type":"record","name":"n#.A","fields":[{"name":"f","type":"n.Z"}]}
+once ]},{"name":"u","type":[
+0..100 ;"n#.A"
+once ,"e.A"]},{"name":"v","type":[
+1..100 ;"n#.A"
+once ,"e.A"]}
+0..110 ,{"name":"w#","default":null,"type":["null","n9.A"]}
+once ]}"##;
+
 /// Writers, readers, the verdicts and how many pairs the recursion opens.
-const VISITS: [(&str, &str, bool, u128); 9] = [
+const VISITS: [(&str, &str, bool, u128); 11] = [
     (INT, INT, true, 1),
     (TWO_FIELDS, INT, false, 1),
     // eleven pairs are reached
@@ -255,10 +287,13 @@ const VISITS: [(&str, &str, bool, u128); 9] = [
     // the roots, and for each of 321 records the pair with it, with its two fields and with the 320 branches: four pairs are
     // open at most, and under a thousand are reached
     (MANY_BRANCHES, MANY_READERS, true, 103_684),
-    // each record counts for 4,029: twelve for the pair with it, whose two fields are looked for by two names, 4,009 for that
-    // with its first field's type, and eight for that with its second one's; so, with the eight of the roots, four millions
-    // are passed by 992 of them and two pairs of the next, and all pairs are struck out
+    // each record counts for 4,032: 13 for its own pair, whose two fields are looked up by two names, 4,010 for the pair of
+    // its first field's type, and nine for that of its second; with the nine of the roots, 992 records and two pairs of the
+    // next exceed four million, and elimination answers
     (NO_FIELDS, ALIASED_READERS, true, 2979),
+    // elimination reports runs of a hundred pairs, to fewer and to more unions than that
+    (IN_UNIONS, STRINGS_IN_UNIONS, false, 10_206),
+    (IN_UNIONS, STRINGS_IN_MANY_UNIONS, true, 10_304),
 ];
 
 fn text(alloc: Global, parts: &'static str) -> Result<String, Fail> {

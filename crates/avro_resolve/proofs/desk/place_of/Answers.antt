@@ -1,4 +1,4 @@
-use Rattle.std.proofs.Common.{rules, ◌≡◌, ℕ, ◌<◌, ◌≤◌, List, ◌∷◌, get_or, length, map, sym, ap, subst, ◌∙◌, inl, inr, arith}
+use Rattle.std.proofs.Common.{rules, ◌≡◌, ℕ, ◌<◌, ◌≤◌, List, ◌∷◌, false, get_or, length, map, true≢false, sym, ap, subst, ◌∙◌, inl, inr, arith}
 use Rattle.std.specs.Prelude.{All, None, Some, Option, option_map, slice_get}
 use Rattle.std.proofs.lemmas.Bool.{cases_lt}
 use Rattle.std.proofs.lemmas.List.{length-map}
@@ -93,6 +93,18 @@ pub loop-alias-preserved : goal.loop-alias-preserved
 loop-alias-preserved c k l m =
     let met = c.args.sides.now.met.ranks.items in let fields = names_in c.args.fields.ranks.now in let aliases = c.args.names.now.aliases.items in let i = c.loop-alias.alias-index in
     let here = nobody met fields c.args.boxes.now c.requires.laid.laid (get_or aliases i 0) (aliases_in c.args.sides.now c.args.fields c.args.boxes.now c.requires.laid c.args.names.now c.requires.named i 0 (subst (λ (xs : List ℕ). c.loop-alias.alias-index < length xs) c.deref-alias-items.ensures.value c.loop-alias-test.true)) (subst (λ (xs : List ℕ). box c.args.boxes.now (get_or xs i 0) ≡ None) c.deref-alias-items.ensures.value c.in_default-boxes.is) in
+    elim (cases_lt k i) [
+      | inl g ↦ c.loop-alias.invariant k g m
+      | inr g ↦ (let e : i ≡ k = omega arith in subst (λ (n : ℕ). NoField met fields (get_or aliases n 0)) e here)
+    ]
+
+pub loop-alias-preserved-then-not-knows : goal.loop-alias-preserved-then-not-knows
+loop-alias-preserved-then-not-knows c k l m =
+    let met = c.args.sides.now.met.ranks.items in let fields = names_in c.args.fields.ranks.now in let aliases = c.args.names.now.aliases.items in let i = c.loop-alias.alias-index in
+    let here : NoField met fields (get_or aliases i 0) = λ j own.
+    (let known = c.args.sides.now.met.known.items in
+    let told : c.knows.result ≡ get_or known (get_or aliases i 0) false = subst (λ (xs : List ℕ). c.knows.result ≡ get_or known (get_or xs i 0) false) c.deref-alias-items.ensures.value c.knows.ensures in
+    true≢false (sym (c.requires.laid.both.known own.0 (get_or aliases i 0) own.2) ∙ sym told ∙ c.if-not-knows.true)) in
     elim (cases_lt k i) [
       | inl g ↦ c.loop-alias.invariant k g m
       | inr g ↦ (let e : i ≡ k = omega arith in subst (λ (n : ℕ). NoField met fields (get_or aliases n 0)) e here)

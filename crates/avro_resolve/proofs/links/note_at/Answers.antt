@@ -4,14 +4,17 @@ use Rattle.std.proofs.lemmas.Bool.{cases_lt}
 use Rattle.std.proofs.lemmas.Grind.{common_steps}
 use Rattle.std.proofs.lemmas.List.{length-map}
 use Rattle.std.proofs.lemmas.Option.{none-some, same_Some, slice_get-get_or, slice_get_within}
-use Rattle.std.proofs.lemmas.List.Elements.{Contains-push_cases}
+use Rattle.std.proofs.lemmas.List.Elements.{All-contains, Contains-get_or, Contains-push_cases}
+use Rattle.std.proofs.lemmas.List.Sorted.{Contains-permutation}
+use Rattle.std.specs.List.{each_same}
+use Rattle.std.specs.List.Sorted.{IsPermutation}
 use Rattle.avro_nodes.specs.Nodes.{FieldView, NodeView, primitive, array, mapping, union, enumeration, fixed, rec, field_view, node_view}
 use Rattle.avro_nodes.specs.declared.node.Node.{Node}
 use Rattle.avro_nodes.specs.declared.node.Node.TheVariants.{Primitive, Array, Map, Union, Enum, Fixed, Rec}
 use Rattle.avro_schema.specs.Index.{AreFieldsRanked}
 use Rattle.avro_schema.specs.declared.index.FieldRanks.{FieldRanks}
 use Rattle.avro_resolve.specs.declared.links.Links.{Links}
-use Rattle.avro_resolve.specs.declared.links.Way.TheVariants.{OfContents, ByName}
+use Rattle.avro_resolve.specs.declared.links.Way.TheVariants.{OfContents, ByAlias, ByName}
 use Rattle.avro_resolve.specs.declared.readable.Aliased.{Aliased}
 use Rattle.avro_resolve.specs.declared.links.Link.{Link}
 use Rattle.avro_resolve.specs.declared.links.Way.{Way}
@@ -131,6 +134,12 @@ loop-index-preserved c =
     let kept : (k : ℕ) (x : Aliased) → slice_get ms.aliased.items k ≡ Some x → slice_get ys.aliased.items k ≡ Some x =
     λ k x e. last.notes.kept k x (subst (λ (fs : List Aliased). slice_get fs k ≡ Some x) (sym items) (got_still ms.aliased.items x this k e)) in
     let given = λ (x : Link) (way : Way). GivenBy met ys.aliased.items at names x way in
+    let copied : c.in_ok-labels.labels.items ≡ names.aliases.items = each_same names.aliases.items c.in_ok-labels.labels.items c.in_ok-labels.ensures.cases.0 in
+    let Linked = λ (label : ℕ). LinkedBy (HasLabel label (ByAlias number)) ys.lists.items i p in
+    let sorted = c.sort_unstable.new.self.items in
+    let each : All Linked sorted = subst (All Linked) c.deref.ensures.value last.there in
+    let all : All Linked names.aliases.items = λ k d m. All-contains Linked sorted (get_or names.aliases.items k d) each
+    (Contains-permutation names.aliases.items sorted (get_or names.aliases.items k d) (subst (λ (ls : List ℕ). IsPermutation ls sorted) copied c.sort_unstable.ensures.permutation) (Contains-get_or names.aliases.items k d m)) in
     let rest : Notes (λ x q. (x.asker ≡ i) × (q ≡ p) × given x x.way) ms ys = record {
       adds = adds_such _ _ (λ x q h. (h.2, h.3, subst (given x) (sym h.1) (subst (λ (j : ℕ). slice_get ys.aliased.items number ≡ Some (record { place = j; index = at })) (sym h.2) is))) ms.lists.items ys.lists.items last.notes.adds;
       kept = kept;
@@ -142,7 +151,8 @@ loop-index-preserved c =
       own = λ label e. linked_on ms ys last.notes.adds.kept kept (HasLabel label ByName) i p
           (all_some (λ n. LinkedBy (HasLabel n ByName) ms.lists.items i p) c.map_or-own.result c.as_slice.result.now c.as_slice.ensures own.there label (mine ∙ e));
       aliases = subst (λ (ls : List ℕ). All (λ label. LinkedBy (IsAlias ys.aliased.items i at label) ys.lists.items i p) ls)
-          (c.deref.ensures.value ∙ all_labels c.args.met names.aliases.items (sym c.is_some.ensures ∙ c.if-is_some.false)) (λ k d m. (let h = last.there k d m in (h.0, (number, h.1, is), h.2, h.3)));
+          (all_labels c.args.met names.aliases.items (sym c.is_some.ensures ∙ c.if-is_some.false))
+          (λ k d m. (let h = all k d m in (h.0, (number, h.1, is), h.2, h.3)));
     } in
     record {
       notes = next_notes met views ranks i at (field_view field) names field_here names_here old xs ys more inv.notes;

@@ -106,6 +106,7 @@ returns c =
     let long : length (nodes_view nodes) ≡ length nodes = length-map nodes node_view in
     let past : length nodes ≤ c.loop-i.i = omega (arith, c.loop-i-test.false, c.places-i-end.ensures.places) in
     record {
+      long = inv.long ∙ sym long;
       within = λ i p h. subst (λ (n : ℕ). i < n) (sym long) (inv.within i p h);
       meant = inv.meant;
       named = λ i a e. (let l : i < length (nodes_view nodes) = slice_get_within (nodes_view nodes) i a e in inv.named i a (omega (arith, long)) e);

@@ -1,9 +1,8 @@
-use Rattle.std.proofs.Common.{rules, ◌≡◌, ◌<◌, ◌≤◌, [], ◌∷◌, ℕ, zero, suc, Option, Some, true, get_or, length, map, refl, sym, ap, subst, ◌∙◌, List, take_all, arith}
-use Rattle.std.specs.Prelude.{◌==◌, All, IfSome, None, replicate, slice_get}
+use Rattle.std.proofs.Common.{rules, ◌≡◌, ◌<◌, ◌≤◌, [], ◌∷◌, ℕ, zero, suc, Option, Some, true, get_or, length, map, sym, ap, subst, ◌∙◌, List, take_all, arith}
+use Rattle.std.specs.Prelude.{◌==◌, IfSome, None, replicate, slice_get}
 use Rattle.std.specs.List.{AllZip}
 use Rattle.std.specs.Option.{IsSomeAnd}
 use Rattle.std.proofs.lemmas.Bool.Decides.{nat_tests}
-use Rattle.std.proofs.lemmas.List.Elements.{All-map}
 use Rattle.std.proofs.lemmas.Option.{get_or_from_slice_get, slice_get-get_or}
 use Rattle.std.proofs.lemmas.Slice.Zip.{AllZip-long}
 use Rattle.avro_nodes.specs.declared.node.Field.{Field}
@@ -12,11 +11,10 @@ use Rattle.avro_resolve.specs.declared.readable.Aliased.{Aliased}
 use Rattle.avro_resolve.specs.declared.readable.Wanted.{Wanted}
 use Rattle.avro_resolve.specs.declared.sides.Side.{Side}
 use Rattle.avro_resolve.specs.Asking.{source_place}
-use Rattle.avro_resolve.specs.Resolution.{source}
 use Rattle.avro_resolve.specs.Inside.Sides.{columns, names_of}
 use Rattle.avro_resolve.specs.Inside.Sources.{code, Describes, IsEntry, IsWanted}
 use Rattle.avro_resolve.proofs.LinkLemmas.{zip_got, zip_more}
-use Rattle.avro_resolve.proofs.SupportLemmas.{place_within, unsourced}
+use Rattle.avro_resolve.proofs.SupportLemmas.{source_fits, unsourced}
 use Rattle.avro_resolve.proofs.readable.row_of.Goals as goal
 use Rattle.avro_resolve.proofs.readable.row_of.Goals.{in-None, in-Some}
 
@@ -28,10 +26,6 @@ asked side all wanted zip n x l e =
     let at = slice_get-get_or all n none within in
     let w = zip_got (IsWanted side) all wanted zip n (get_or all n none) at in
     (get_or all n none, at, subst (IsWanted side (get_or all n none)) (sym (e ∙ get_or_from_slice_get wanted n w.0 x w.1)) w.2)
-
--- a source that is found is a place
-fits : (fields : List Field) → All (λ g. g.place < 65535) fields → (f : FieldView) (o : Option ℕ) → o ≡ source_place (map field_view fields) f → (place : ℕ) → o ≡ Some place → place < 65535
-fits fields within f o told place is = place_within 65535 (map field_view fields) f (source (map field_view fields) f) place (All-map (λ (g : FieldView). g.place < 65535) field_view fields within) refl (sym is ∙ told)
 
 -- what holds of what is asked
 asked_by : {X : Type 0} (P : X → Type 0) (o : Option X) (x : X) → o ≡ Some x → IsSomeAnd o P → P x
@@ -75,7 +69,7 @@ map_or-requires c =
     let below : (place : ℕ) → c.match-wanted.place ≡ Some place → place < 65535 = (λ place is. elim c.match-wanted.branch [
       | in-Some w ↦ (
           let f = some_by (λ (v : Wanted). (f : FieldView) × Describes (names_of side) v f) x w.in-Some.wanted w.in-Some.is a.2.some in
-          fits c.args.fields.fields.now c.requires.fields_in f.0 w.place_of-place.result (w.place_of-place.ensures f.0 f.1.2) place (sym w.place-is ∙ is))
+          source_fits c.args.fields.fields.now c.requires.fields_in f.0 w.place_of-place.result (w.place_of-place.ensures f.0 f.1.2) place (sym w.place-is ∙ is))
       | in-None w ↦ (absurd (cc (sym is ∙ w.place-is)))
     ]) in
     search rules

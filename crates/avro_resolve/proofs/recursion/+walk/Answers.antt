@@ -306,7 +306,7 @@ all_readable-ask-requires t c =
     let fs = map field_view c.args.fields.now in let gs = c.args.wanted.now in let k = c.loop-index.index in let f = c.index-wanted-index.result in let is = sym c.index-wanted-index.is in
     let told : source_place fs (field_view f) ≡ Some c.in-Some.p = sym (read_at fs gs c.args.sources.now k f c.requires.told c.loop-index-test.true c.index-wanted-index.is) ∙ c.in-Some.is in
     let asks : IsSourceAsked w r fs (field_view f) = subst (λ (g : Field). IsSourceAsked w r fs (field_view g)) is (c.requires.asked k f c.loop-index-test.true) in
-    let asked : IsAsked w r c.in-Some.p f.place = asks c.in-Some.p told in
+    let asked : IsAsked w r c.from.result f.place = subst (λ (p : ℕ). IsAsked w r p f.place) (sym c.from.ensures) (asks c.in-Some.p told) in
     search rules
 
 pub all_readable-returns-in_default : goal.all_readable-returns-in_default
@@ -314,8 +314,8 @@ all_readable-returns-in_default t c =
     let w = rows c.args.sides.now in let r = columns c.args.sides.now in let s = c.args.walk.now in let u = c.loop-index.walk in let v = c.ask.new.walk in
     let f = c.index-wanted-index.result in let fs = map field_view c.args.fields.now in
     let read = sym (read_at fs c.args.wanted.now c.args.sources.now c.loop-index.index f c.requires.told c.loop-index-test.true c.index-wanted-index.is) ∙ c.in-Some.is in
-    tells_no w r c.args.depth s u v _ _ ((v.assumed.items ≡ u.assumed.items) × IsTrue (member v.failed.items c.in-Some.p f.place)) _ c.loop-index.invariant.grown
-    (λ l. (c.loop-index.index, f, c.loop-index-test.true, sym c.index-wanted-index.is, (λ h. not_without v.failed.items c.in-Some.p f.place l.1 ((readable_source (without v.failed.items) fs (field_view f) c.in-Some.p read).0 h))))
+    tells_no w r c.args.depth s u v _ _ ((v.assumed.items ≡ u.assumed.items) × IsTrue (member v.failed.items c.from.result f.place)) _ c.loop-index.invariant.grown
+    (λ l. (c.loop-index.index, f, c.loop-index-test.true, sym c.index-wanted-index.is, (λ h. not_without v.failed.items c.from.result f.place l.1 ((readable_source (without v.failed.items) fs (field_view f) c.from.result (read ∙ ap Some (sym c.from.ensures))).0 h))))
     _ c.in_default.not-Yes c.in_ok-told-in-Some.ensures
 
 pub all_readable-returns-then-is_none : goal.all_readable-returns-then-is_none
@@ -345,7 +345,7 @@ all_readable-loop-index-preserved t c =
           rw w.walk-is (record {
             ready = told.0;
             grown = grown2 w' r' s u v c.loop-index.invariant.grown told.1;
-            held = held_more (member u.assumed.items) (member v.assumed.items) fs gs c.loop-index.index f c.loop-index-test.true c.index-wanted-index.is (within2 w' r' u v told.1) c.loop-index.invariant.held ((readable_source (member v.assumed.items) fs (field_view f) w.in-Some.p (read ∙ w.in-Some.is)).1 told.2);
+            held = held_more (member u.assumed.items) (member v.assumed.items) fs gs c.loop-index.index f c.loop-index-test.true c.index-wanted-index.is (within2 w' r' u v told.1) c.loop-index.invariant.held ((readable_source (member v.assumed.items) fs (field_view f) w.from.result (read ∙ w.in-Some.is ∙ ap Some (sym w.from.ensures))).1 told.2);
           }))
       | all_readable-in-None+else-is_none w ↦ (
           rw w.walk-is (record {

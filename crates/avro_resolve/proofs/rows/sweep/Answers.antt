@@ -1,8 +1,13 @@
-use Rattle.std.proofs.Common.{◌≡◌, ℕ, IsTrue, false, subst, inl, inr, arith, sym, ◌∙◌, true≢false}
+use Rattle.std.proofs.Common.{◌≡◌, ℕ, List, IsTrue, false, ap, length, replicate, subst, inl, inr, arith, sym, ◌∙◌, true≢false}
+use Rattle.std.specs.Prelude.{string_bytes}
 use Rattle.std.proofs.lemmas.Bool.{cases_lt}
-use Rattle.std.proofs.lemmas.List.{length-map}
+use Rattle.std.proofs.lemmas.List.{length-map, length-replicate}
 use Rattle.avro_nodes.specs.Nodes.{node_view, nodes_view}
+use Rattle.avro_resolve.specs.Inside.Agreeing.{symbols_of, AreBlank}
 use Rattle.avro_resolve.specs.Inside.Left.{left, Agreed}
+use Rattle.avro_resolve.specs.Inside.Sides.{names_of, rows}
+use Rattle.avro_resolve.proofs.Numbering.{blank_boxes, listed_numbered, listed_ranked}
+use Rattle.avro_resolve.proofs.Sourcing.{nth}
 use Rattle.avro_resolve.proofs.Agreement.{supports_agreed}
 use Rattle.avro_resolve.proofs.Settling.{fewer_struck, gone_struck}
 use Rattle.avro_resolve.proofs.Strikes.{struck_pair}
@@ -48,6 +53,8 @@ pub loop-i-preserved : goal.loop-i-preserved
 loop-i-preserved c =
     let w = nodes_view c.args.sides.now.writer.schema.now in let r = nodes_view c.args.sides.now.reader.schema.now in let i = c.loop-i.i in let v = c.loop-j.table in
     record {
+      blank = c.blank.ensures;
+      room = (let numbered = c.number.auto.boxes in let blanked = c.blank.auto.boxes in omega (arith, c.loop-i.invariant.room, numbered, blanked));
       rest = c.loop-j.invariant.rest;
       agreed = λ a b l k h. elim (cases_lt a i) [
         | inl g ↦ c.loop-i.invariant.agreed a b g k (c.loop-j.invariant.fewer a b h)
@@ -62,3 +69,47 @@ returns c = record {
       let lw = length-map c.args.sides.now.writer.schema.now node_view in let lr = length-map c.args.sides.now.reader.schema.now node_view in
       c.loop-i.invariant.agreed a b (omega (arith, l, lw)) (omega (arith, k, lr)) h;
 }
+
+pub loop-i-init : goal.loop-i-init
+loop-i-init c =
+    let same = c.as_mut_slice-boxes.ensures.value in let n = c.len.result in
+    let made : c.as_mut_slice-boxes.result.now ≡ replicate n 0 = same ∙ c.in_ok-made.ensures.items_if_clones_equal (λ y h. h) in
+    let names = length-map c.args.sides.now.reader.index.now.names.items string_bytes in let zeros : List ℕ = replicate n 0 in let long : length zeros ≡ n = length-replicate n 0 in
+    record {
+      blank = subst AreBlank (sym made) (blank_boxes n);
+      room = omega (arith, names, long, ap length made, c.len.ensures);
+      rest = c.requires.rest;
+      agreed = λ a b l k h. absurd (omega (arith, l));
+    }
+
+pub number-requires-clause-rise : goal.number-requires-clause-rise
+number-requires-clause-rise c =
+    let sides = c.args.sides.now in let view = length-map sides.writer.schema.now node_view in
+    let a = nth (rows sides) c.loop-i.i (omega (arith, view, c.loop-i-test.true, c.places-i-end.ensures.places)) in
+    (listed_ranked (names_of sides.reader) (symbols_of a.0) c.in_ok-symbols.symbols c.listed-ranks.result.now c.listed-ranks.ensures (c.in_ok-symbols.ensures a.0 a.1)).0
+
+pub number-requires-clause-within : goal.number-requires-clause-within
+number-requires-clause-within c = λ k d l.
+    let sides = c.args.sides.now in let view = length-map sides.writer.schema.now node_view in
+    let a = nth (rows sides) c.loop-i.i (omega (arith, view, c.loop-i-test.true, c.places-i-end.ensures.places)) in
+    let below = (listed_ranked (names_of sides.reader) (symbols_of a.0) c.in_ok-symbols.symbols c.listed-ranks.result.now c.listed-ranks.ensures (c.in_ok-symbols.ensures a.0 a.1)).1 k d l in
+    omega (arith, below, c.loop-i.invariant.room)
+
+pub blank-requires-clause-rise : goal.blank-requires-clause-rise
+blank-requires-clause-rise c =
+    let sides = c.args.sides.now in let view = length-map sides.writer.schema.now node_view in
+    let a = nth (rows sides) c.loop-i.i (omega (arith, view, c.loop-i-test.true, c.places-i-end.ensures.places)) in
+    (listed_ranked (names_of sides.reader) (symbols_of a.0) c.in_ok-symbols.symbols c.listed-ranks.result.now c.listed-ranks.ensures (c.in_ok-symbols.ensures a.0 a.1)).0
+
+pub blank-requires-clause-within : goal.blank-requires-clause-within
+blank-requires-clause-within c = λ k d l.
+    let sides = c.args.sides.now in let view = length-map sides.writer.schema.now node_view in
+    let a = nth (rows sides) c.loop-i.i (omega (arith, view, c.loop-i-test.true, c.places-i-end.ensures.places)) in
+    let below = (listed_ranked (names_of sides.reader) (symbols_of a.0) c.in_ok-symbols.symbols c.listed-ranks.result.now c.listed-ranks.ensures (c.in_ok-symbols.ensures a.0 a.1)).1 k d l in
+    let kept = c.number.auto.boxes in omega (arith, below, c.loop-i.invariant.room, kept)
+
+pub agree_at-requires-clause-numbered : goal.agree_at-requires-clause-numbered
+agree_at-requires-clause-numbered c = listed_numbered c.in_ok-symbols.symbols c.listed-ranks.result.now c.number.new.boxes c.listed-ranks.ensures c.number.ensures
+
+pub agree_at-requires-clause-room : goal.agree_at-requires-clause-room
+agree_at-requires-clause-room c = let kept = c.number.auto.boxes in omega (arith, c.loop-i.invariant.room, kept)

@@ -1,10 +1,14 @@
-use Rattle.std.proofs.Common.{ℕ, ◌<◌, IsTrue, length}
+use Rattle.std.proofs.Common.{ℕ, ◌<◌, ◌≤◌, IsTrue, length}
 use Rattle.avro_nodes.specs.Nodes.{nodes_view}
+use Rattle.avro_resolve.specs.Inside.Agreeing.{AreBlank}
 use Rattle.avro_resolve.specs.Inside.Left.{left, Agreed, IsLeft}
+use Rattle.avro_resolve.specs.Inside.Sides.{names_of}
 use Rattle.avro_resolve.proofs.rows.sweep.Given as goal
 
 abbrev pub invariant-loop-i : goal.invariant-loop-i
 invariant-loop-i l = record {
+  blank : AreBlank l.boxes;
+  room : length (names_of l.sides.reader) ≤ length l.boxes;
   rest : IsLeft (nodes_view l.sides.writer.schema.now) (nodes_view l.sides.reader.schema.now) l.table;
   agreed : (a b : ℕ) → a < l.i → b < length l.sides.reader.schema.now → IsTrue (left l.table a b) → Agreed (nodes_view l.sides.writer.schema.now) (nodes_view l.sides.reader.schema.now) a b;
 }

@@ -1,12 +1,11 @@
-use Rattle.std.proofs.Common.{rules, ◌≡◌, ◌<◌, ◌*◌, [], ◌∷◌, ap, length, refl, subst, sym, ◌∙◌, arith}
+use Rattle.std.proofs.Common.{rules, ◌≡◌, ◌<◌, ◌*◌, ◌+◌, ◌++◌, List, [], ◌∷◌, ap, length-append, length, subst, sym, ◌∙◌, arith}
 use Rattle.std.proofs.lemmas.List.{length-map}
 use Rattle.avro_nodes.specs.Nodes.{node_view, nodes_view}
 use Rattle.avro_resolve.specs.Resolution.{Closed}
 use Rattle.avro_resolve.specs.Witnesses.{Pair}
-use Rattle.avro_resolve.specs.Inside.Left.{left, AllSettled, AreOut, IsLeft}
+use Rattle.avro_resolve.specs.Inside.Left.{left, AllSettled, AreOut, AreRun, IsLeft}
 use Rattle.avro_resolve.specs.Inside.Sides.{columns, rows}
 use Rattle.avro_resolve.proofs.Flags.{flag_row, flag_column}
-use Rattle.avro_resolve.proofs.Noting.{none_noted}
 use Rattle.avro_resolve.proofs.Settling.{back_out, front_out, none_held}
 use Rattle.avro_resolve.proofs.Strikes.{all_left}
 use Rattle.avro_resolve.proofs.ViewLemmas.{both}
@@ -21,41 +20,15 @@ sweep-requires-clause-rest c =
     all_left (nodes_view w) (nodes_view r) c.in_ok-table.table (c.in_ok-table.ensures.writers ∙ c.places.ensures.places ∙ sym lw) (c.in_ok-table.ensures.readers ∙ c.places-2.ensures.places ∙ sym lr)
     (λ i j li lj. c.in_ok-table.ensures.whole i j (subst (λ n. i < n) (lw ∙ sym c.places.ensures.places) li) (subst (λ n. j < n) (lr ∙ sym c.places-2.ensures.places) lj)) (rw (lw, lr, ← c.places.ensures.places, ← c.places-2.ensures.places) c.in_ok-table.ensures.count))
 
-pub loop-i-init : goal.loop-i-init
-loop-i-init c = record {
-  rest = c.in_ok-sources.ensures.strikes.0;
-  noted = record {
-    down = none_noted _ _ _ _ _ refl (c.places-2.ensures.places ∙ sym (ap length c.in_ok-sides.ensures.reader)) (c.in_ok-vec.ensures.items_if_clones_equal (λ y h. h));
-    along = none_noted _ _ _ _ _ refl (c.places.ensures.places ∙ sym (ap length c.in_ok-sides.ensures.writer)) (c.in_ok-vec-2.ensures.items_if_clones_equal (λ y h. h));
-  };
-  out = c.in_ok-sources.ensures.strikes.1.out (λ k d l. absurd (omega (arith, ap length c.new.ensures.items)));
-  settled = c.in_ok-sources.ensures.settled;
-}
-
-pub tell-requires-clause-told : goal.tell-requires-clause-told
-tell-requires-clause-told c =
-    let u = c.loop-i.progress.table in let ps = c.pop.new.self.items in let p : Pair = (c.in-Some.i, c.in-Some.j) in
-    ((c.in_ok-sides.ensures.sides, c.loop-i.invariant.rest), back_out u ps (p ∷ []) (subst (AreOut u) c.in-Some.ensures.items c.loop-i.invariant.out) 0 p (omega arith))
-
-pub loop-i-preserved : goal.loop-i-preserved
-loop-i-preserved c =
-    let u = c.loop-i.progress.table in let ps = c.pop.new.self.items in let p : Pair = (c.in-Some.i, c.in-Some.j) in let told = c.in_ok-tell.ensures in
-    record {
-      rest = told.strikes.0;
-      noted = told.noted;
-      out = told.strikes.1.out (front_out u ps (p ∷ []) (subst (AreOut u) c.in-Some.ensures.items c.loop-i.invariant.out));
-      settled = told.settled;
-    }
-
 pub returns-clause-rest : goal.returns-clause-rest
 returns-clause-rest c =
     let sides = c.in_ok-sides.sides in
-    both (λ x y. IsLeft x y c.loop-i.progress.table) (rows sides) (nodes_view c.args.writer.now) (columns sides) (nodes_view c.args.reader.now) (ap nodes_view c.in_ok-sides.ensures.writer) (ap nodes_view c.in_ok-sides.ensures.reader) c.loop-i.invariant.rest.rest
+    both (λ x y. IsLeft x y c.loop-last.progress.table) (rows sides) (nodes_view c.args.writer.now) (columns sides) (nodes_view c.args.reader.now) (ap nodes_view c.in_ok-sides.ensures.writer) (ap nodes_view c.in_ok-sides.ensures.reader) c.loop-last.invariant.rest.rest
 
 pub returns-clause-closed : goal.returns-clause-closed
 returns-clause-closed c =
     let sides = c.in_ok-sides.sides in let is = c.in_ok-sides.ensures.sides in let w = rows sides in let r = columns sides in
-    let u = c.loop-i.progress.table in let rest = c.loop-i.invariant.rest.rest in
+    let u = c.loop-last.progress.table in let rest = c.loop-last.invariant.rest.rest in
     let size : length u.flags.items ≡ u.writers * u.readers = omega (arith, u.sized, u.flags.ok.0) in
     let settled : AllSettled w r u [] = search rules in
     let closed : Closed w r (left u) = λ i j h. (
@@ -66,3 +39,38 @@ returns-clause-closed c =
     none_held w r u i j is.writer.whole is.reader.whole (settled i j row column) h
     ) in
     both (λ x y. Closed x y (left u)) w (nodes_view c.args.writer.now) r (nodes_view c.args.reader.now) (ap nodes_view c.in_ok-sides.ensures.writer) (ap nodes_view c.in_ok-sides.ensures.reader) closed
+
+pub loop-last-init : goal.loop-last-init
+loop-last-init c = record {
+  rest = c.in_ok-sources.ensures.strikes.0;
+  out = c.in_ok-sources.ensures.strikes.1.out (λ k d l. absurd (omega (arith, ap length c.new.ensures.items)));
+  settled = c.in_ok-sources.ensures.settled;
+}
+
+pub tell-requires-clause-run : goal.tell-requires-clause-run
+tell-requires-clause-run c =
+    let u = c.loop-last.progress.table in let ps = c.take_run.new.struck.items in let run = c.take_run.new.run.items in
+    let all = c.in-Some.ensures.items ∙ c.in_ok-take_run.ensures.all in
+    let out = back_out u ps run (subst (AreOut u) all c.loop-last.invariant.out) in
+    let is : AreRun u c.from.result run = λ k d l. (c.in_ok-take_run.ensures.one k d l ∙ sym c.from.ensures, out k d l) in
+    subst (AreRun u c.from.result) (sym c.deref-in-Some.ensures.value) is
+
+pub tell-requires-clause-before : goal.tell-requires-clause-before
+tell-requires-clause-before c =
+    let all = c.in-Some.ensures.items ∙ c.in_ok-take_run.ensures.all ∙ ap (λ (xs : List Pair). c.take_run.new.struck.items ++ xs) (sym c.deref-in-Some.ensures.value) in
+    subst (AllSettled (rows c.in_ok-sides.sides) (columns c.in_ok-sides.sides) c.loop-last.progress.table) all c.loop-last.invariant.settled
+
+pub loop-last-preserved : goal.loop-last-preserved
+loop-last-preserved c =
+    let u = c.loop-last.progress.table in let ps = c.take_run.new.struck.items in let run = c.take_run.new.run.items in let told = c.in_ok-tell.ensures in
+    record {
+      rest = told.strikes.0;
+      out = told.strikes.1.out (front_out u ps run (subst (AreOut u) (c.in-Some.ensures.items ∙ c.in_ok-take_run.ensures.all) c.loop-last.invariant.out));
+      settled = told.settled;
+    }
+
+pub loop-last-smaller : goal.loop-last-smaller
+loop-last-smaller c =
+    let count = c.in_ok-tell.ensures.strikes.1.count in let fewer = c.in_ok-take_run.ensures.fewer in let items = ap length c.in-Some.ensures.items in
+    let long : length (c.pop.new.self.items ++ c.in-Some.last ∷ []) ≡ length c.pop.new.self.items + 1 = length-append c.pop.new.self.items (c.in-Some.last ∷ []) in
+    omega (arith, count, fewer, items, long)

@@ -1,5 +1,7 @@
-use Rattle.std.proofs.Common.{rules, ◌≡◌, ◌+◌, ◌<◌, ◌≤◌, ℕ, List, refl, get_or, length, sym, ap, subst, ◌∙◌, inl, inr, arith, true≢false}
+use Rattle.std.proofs.Common.{rules, ◌≡◌, ◌+◌, ◌<◌, ◌≤◌, ℕ, List, false, refl, get_or, length, sym, ap, subst, ◌∙◌, inl, inr, arith, true≢false}
+use Rattle.std.proofs.lemmas.List.{length-map}
 use Rattle.std.proofs.lemmas.List.Elements.{Contains-get_or}
+use Rattle.avro_nodes.specs.Nodes.{node_view}
 use Rattle.std.proofs.lemmas.Bool.{cases_lt}
 use Rattle.std.proofs.lemmas.Bool.Decides.{nat_tests}
 use Rattle.std.specs.Prelude.{Vec}
@@ -12,8 +14,8 @@ use Rattle.avro_resolve.specs.Inside.Askers.{GoTogether, MayAsk}
 use Rattle.avro_resolve.specs.Inside.Left.{left, Settled}
 use Rattle.avro_resolve.specs.Inside.Sources.{code_at}
 use Rattle.avro_resolve.proofs.ListLemmas.{get_or_any}
-use Rattle.avro_resolve.proofs.Settling.{lists_none, lists_then, settled_on, stays_out}
-use Rattle.avro_resolve.proofs.striking.strike_joined.Goals.{then-loop-at-test+else-beside-at, else-loop-at-test, then-loop-from-test+else-beside-from, else-loop-from-test, in-ByName-ByAlias, in_default, in_default-2, in_default-3, in-OfContents-OfContents, in-OfContents-OfContents-2}
+use Rattle.avro_resolve.proofs.Settling.{lists_none, lists_then, settled_gone, settled_on, stays_out}
+use Rattle.avro_resolve.proofs.striking.strike_joined.Goals.{then-loop-at-test+else-beside-at, else-loop-at-test, in-ByName-ByAlias, in_default, in_default-2, in_default-3, in-OfContents-OfContents, in-OfContents-OfContents-2}
 use Rattle.avro_resolve.proofs.striking.strike_joined.Goals as goal
 
 abbrev none : Link
@@ -29,16 +31,13 @@ returns-clause-settled c = λ x y hx hy one asks.
     subst (λ (z : Link). Settled w r t ps z.asker y.asker) hx.2 (subst (λ (z : Link). Settled w r t ps (get_or xs hx.0 x).asker z.asker) hy.2 (c.loop-link.invariant.settled hx.0 hy.0 x y below hy.1 same
     (subst (λ (z : Link). MayAsk c.args.sources.now c.args.told.0 z (get_or ys hy.0 y)) (sym hx.2) (subst (λ (z : Link). MayAsk c.args.sources.now c.args.told.0 x z) (sym hy.2) asks))))
 
-pub loop-from-init : goal.loop-from-init
-loop-from-init c = record {
-  within = c.loop-link.invariant.within;
-  passed = λ k d l. c.loop-link.invariant.skipped k c.loop-link.link-index d none l (omega arith) c.loop-link-test.true;
-}
+pub first_at_label-from-requires-clause-passed : goal.first_at_label-from-requires-clause-passed
+first_at_label-from-requires-clause-passed c = λ k d l. c.loop-link.invariant.skipped k c.loop-link.link-index d none l (omega arith) c.loop-link-test.true
 
 pub loop-at-init : goal.loop-at-init
 loop-at-init c = record {
   on = omega arith;
-  within = c.loop-from.invariant.within;
+  within = c.first_at_label-from.ensures.within;
   rest = c.loop-link.invariant.rest;
   lists = lists_none c.loop-link.progress.table c.loop-link.progress.struck.items;
   settled = λ k d le l. absurd (omega arith);
@@ -65,10 +64,9 @@ pub strike_pair-requires-clause-unsupported : goal.strike_pair-requires-clause-u
 strike_pair-requires-clause-unsupported c =
     let xs = c.args.above.now in let ys = c.args.beside.now in let m = c.loop-link.link-index in let at = c.loop-at.at in let t = c.loop-at.progress.table in
     let on = c.loop-at.invariant.on in let link = get_or xs m none in let other = get_or ys at none in let s = c.args.sources.now in let p = c.args.told.0 in
-    let label : link.label ≡ other.label = elim c.loop-from-test.branch [
-      | then-loop-from-test+else-beside-from b ↦ (let up = c.requires.beside_sorted c.loop-from.from at none on c.loop-at-test.true in let least = b.if-beside-from.false in let most = c.if-beside-at.true in omega arith)
-      | else-loop-from-test b ↦ (let done = b.loop-from-test.false in let within = c.loop-at-test.true in absurd (omega arith))
-    ] in
+    let label : link.label ≡ other.label =
+    (let within = c.loop-at-test.true in let first = c.first_at_label-from.result in
+    let up = c.requires.beside_sorted first at none on within in let least = c.first_at_label-from.ensures.at none (omega arith) in let most = c.if-beside-at.true in omega arith) in
     let asks : MayAsk c.args.sources.now c.args.told.0 link other = elim c.match-link.branch [
       | in-ByName-ByAlias w ↦ (
           let told : w.from.result ≡ code_at s link.asker w.in-ByName-ByAlias.number = search rules in
@@ -84,6 +82,32 @@ strike_pair-requires-clause-unsupported c =
     c.requires.rests (get_or xs m none) (get_or ys at none) (Contains-get_or xs m none c.loop-link-test.true) (Contains-get_or ys at none c.loop-at-test.true) label asks (left t)
     (stays_out c.args.progress.now.table t c.args.progress.now.struck.items c.loop-at.progress.struck.items c.args.told.0 c.args.told.1
     (lists_then c.args.progress.now.table c.loop-link.progress.table t c.args.progress.now.struck.items c.loop-link.progress.struck.items c.loop-at.progress.struck.items c.loop-link.invariant.lists c.loop-at.invariant.lists) c.requires.told.1)
+
+pub has-requires-clause-i_in : goal.has-requires-clause-i_in
+has-requires-clause-i_in c =
+    let l = c.requires.above_in c.loop-link.link-index none c.loop-link-test.true in let n = c.loop-at.invariant.rest.rest.writers in let view = length-map c.args.sides.now.writer.schema.now node_view in omega (arith, l, n, view)
+
+pub has-requires-clause-j_in : goal.has-requires-clause-j_in
+has-requires-clause-j_in c =
+    let l = c.requires.beside_in c.loop-at.at none c.loop-at-test.true in let n = c.loop-at.invariant.rest.rest.readers in let view = length-map c.args.sides.now.reader.schema.now node_view in omega (arith, l, n, view)
+
+pub loop-at-preserved-then-not-has : goal.loop-at-preserved-then-not-has
+loop-at-preserved-then-not-has c =
+    let w = rows c.args.sides.now in let r = columns c.args.sides.now in let link = get_or c.args.above.now c.loop-link.link-index none in let ys = c.args.beside.now in let at = c.loop-at.at in let inv = c.loop-at.invariant in
+    let u = c.loop-at.progress.table in let qs = c.loop-at.progress.struck.items in let within : at < length ys = c.loop-at-test.true in
+    let out : left u link.asker (get_or ys at none).asker ≡ false = sym c.has.ensures ∙ c.if-not-has.true in
+    record {
+      on = omega arith;
+      within = omega arith;
+      rest = inv.rest;
+      lists = inv.lists;
+      settled = λ k d le l one asks. elim (cases_lt k at) [
+        | inl g ↦ inv.settled k d le g one asks
+        | inr g ↦ (let e : at ≡ k = omega arith in
+            let row : get_or ys at none ≡ get_or ys k d = get_or_any ys at none d within ∙ ap (λ (n : ℕ). get_or ys n d) e in
+            settled_gone w r u qs link.asker (get_or ys k d).asker (sym (ap (λ (y : Link). left u link.asker y.asker) row) ∙ out))
+      ];
+    }
 
 pub loop-at-preserved-then-not-asks : goal.loop-at-preserved-then-not-asks
 loop-at-preserved-then-not-asks c =
@@ -152,9 +176,9 @@ loop-link-preserved c =
     record {
       rest = inner.rest;
       lists = lists_then c.args.progress.now.table u v c.args.progress.now.struck.items qs rs inv.lists inner.lists;
-      within = c.loop-from.invariant.within;
+      within = c.first_at_label-from.ensures.within;
       skipped = λ k m d e lk le lm. (
-          let less = c.loop-from.invariant.passed k d lk in let up = c.requires.above_sorted at m e (omega arith) lm in
+          let less = c.first_at_label-from.ensures.below k d lk in let up = c.requires.above_sorted at m e (omega arith) lm in
           let same : (get_or xs at none).label ≡ (get_or xs at e).label = ap (λ (x : Link). x.label) (row e) in
           omega (arith, less, up, same)
           );
@@ -164,8 +188,8 @@ loop-link-preserved c =
             let now : at ≡ m = omega arith in
             let same : get_or xs at none ≡ get_or xs m e = row e ∙ ap (λ (n : ℕ). get_or xs n e) now in
             let label : (get_or xs at none).label ≡ (get_or ys k d).label = ap (λ (x : Link). x.label) same ∙ one in
-            elim (cases_lt k c.loop-from.from) [
-              | inl h ↦ (let less = c.loop-from.invariant.passed k d h in absurd (omega (arith, less, label)))
+            elim (cases_lt k c.first_at_label-from.result) [
+              | inl h ↦ (let less = c.first_at_label-from.ensures.below k d h in absurd (omega (arith, less, label)))
               | inr h ↦ elim (cases_lt k c.loop-at.at) [
                 | inl j ↦ subst (λ (x : Link). Settled w r v rs x.asker (get_or ys k d).asker) same (inner.settled k d h j label (subst (λ (x : Link). MayAsk c.args.sources.now c.args.told.0 x (get_or ys k d)) (sym same) asks))
                 | inr j ↦ (let more = past k d j lk in absurd (omega (arith, more, label)))

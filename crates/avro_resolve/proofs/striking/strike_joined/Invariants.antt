@@ -15,15 +15,6 @@ invariant-loop-link l = record {
       → Settled (rows l.sides) (columns l.sides) l.progress.table l.progress.struck.items (get_or l.above m e).asker (get_or l.beside k d).asker;
 }
 
-abbrev pub invariant-loop-from : goal.invariant-loop-from
-invariant-loop-from l = record {
-  within : l.from ≤ length l.beside;
-  passed : (k : ℕ) (d : Link) → k < l.from → (get_or l.beside k d).label < l.link.label;
-}
-
-abbrev pub decreases-loop-from : goal.decreases-loop-from
-decreases-loop-from l = length l.beside - l.from
-
 abbrev pub invariant-loop-at : goal.invariant-loop-at
 invariant-loop-at l = record {
   on : l.from ≤ l.at;

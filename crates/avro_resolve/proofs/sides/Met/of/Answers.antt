@@ -1,8 +1,9 @@
-use Rattle.std.proofs.Common.{◌≡◌, ◌<◌, length, arith}
+use Rattle.std.proofs.Common.{◌≡◌, ◌<◌, ℕ, List, Option, Some, length, take, subst, arith}
 use Rattle.std.proofs.lemmas.List.{length-map}
 use Rattle.std.proofs.lemmas.Option.{slice_get_within}
 use Rattle.avro_nodes.specs.Nodes.{texts_view}
-use Rattle.avro_resolve.proofs.Meeting.{name_at, passed, met_more}
+use Rattle.avro_resolve.specs.Inside.Meeting.{met_at}
+use Rattle.avro_resolve.proofs.Meeting.{name_at, passed, met_below, met_more}
 use Rattle.avro_resolve.proofs.sides.Met.of.Goals as goal
 
 pub first_from-at-requires-clause-few : goal.first_from-at-requires-clause-few
@@ -24,3 +25,10 @@ loop-rank-preserved c =
       passed = passed w r i from at name l is c.loop-rank.invariant.passed c.first_from-at.ensures.below c.requires.writer.rise;
       met = rw c.in_ok-push.ensures.items (met_more w r i from at name l is c.loop-rank.invariant.passed c.first_from-at.ensures.below c.requires.reader.rise least c.first_from-at.result.1 c.first_from-at.ensures.met c.loop-rank.ranks.items c.loop-rank.invariant.met);
     }
+
+pub known_of-requires : goal.known_of-requires
+known_of-requires c k rank e =
+    let w = texts_view c.args.writer.now in let r = texts_view c.args.reader.now in
+    let long : length r ≡ length c.args.reader.now = length-map _ _ in
+    let below = met_below (take c.loop-rank.rank w) r c.loop-rank.ranks.items c.loop-rank.invariant.met k rank (subst (λ (os : List (Option ℕ)). met_at os k ≡ Some rank) c.deref.ensures.value e) in
+    omega (arith, below, long)

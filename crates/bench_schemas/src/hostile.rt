@@ -1,0 +1,187 @@
+//! The pairs of texts that were made to take long.
+
+use crate::resolution::{CYCLE, ENUMS, ONE_NAME};
+use crate::shape::{HOLES, Shape, TWO_HOLES};
+use avro_testing::Text;
+
+/// Records with a field of one record, which has an int, and unions of these records.
+const WRITTEN: &str =
+    r##"once {"type":"record","name":"T","fields":[{"name":"written","default":null,"type":["null",{"type":"record","name":"n.Z","fields":[{"name":"f","type":"int"}]}
+each ,{"type":"record","name":"n#.A","fields":[{"name":"f","type":"n.Z"}]}
+once ]}@]}"##;
+
+/// The same with a string, and a record that reads each of these records.
+const READ: &str =
+    r##"once {"type":"record","name":"T","fields":[{"name":"read","default":null,"type":["null",{"type":"record","name":"n.Z","fields":[{"name":"f","type":"string"}]},{"type":"record","name":"e.A","fields":[]}
+each ,{"type":"record","name":"n#.A","fields":[{"name":"f","type":"n.Z"}]}
+once ]}@]}"##;
+
+/// What is measured by resolving hostile pairs.
+static HOSTILE: [Shape; 9] = [
+    // one record of the reader's is asked for again and again by records that fail after it: each
+    // time forty unions of 3,000 branches that failed before
+    Shape {
+        name: "rescans",
+        counts: &[70, 700],
+        behind: 0,
+        inner: r##"52..3052 ;"~""##,
+        writer: Text {
+            word: "",
+            parts: r##"once {"type":"record","name":"T","fields":[{"name":"written","default":null,"type":["null",{"type":"fixed","name":"z.I","size":1}
+0..14 ,{"type":"fixed","name":"y#.Y","size":1},{"type":"record","name":"y#.V","fields":[{"name":"u","type":"y#.Y"}]},{"type":"record","name":"w#.W","fields":[{"name":"x","type":"y#.V"},{"name":"z","type":"z.I"}]}
+once ]},{"name":"f","type":[
+0..14 ;"w#.W"
+once ]}]}"##,
+        },
+        reader: Text {
+            word: "",
+            parts: r##"once {"type":"record","name":"T","fields":[{"name":"read","default":null,"type":["null",{"type":"fixed","name":"z.Y","size":1},{"type":"fixed","name":"z.S","size":1},{"type":"fixed","name":"z.I","size":1}
+52..3052 ,{"type":"fixed","name":"~","size":1}
+once ,{"type":"record","name":"v.V","fields":[
+0..40 ;{"name":"u#","aliases":["u"],"type":[@,"z.Y"]}
+once ]}
+each ,{"type":"record","name":"c#.W","fields":[{"name":"x","type":"v.V"},{"name":"z","type":"z.S"}]}
+once ,{"type":"record","name":"d.W","fields":[{"name":"x","type":"v.V"},{"name":"z","type":"z.I"}]}]},{"name":"f","type":[
+each ;"c#.W"
+once ,"d.W"]}]}"##,
+        },
+    },
+    // a chain of records of one last name, with one whose field has one alias again and again
+    Shape {
+        name: "repeated-alias",
+        counts: &[400, 4000],
+        behind: 2900,
+        inner: "",
+        writer: Text {
+            word: r#""int""#,
+            parts: ONE_NAME,
+        },
+        reader: Text {
+            word: "",
+            parts: r##"once {"type":"record","name":"r.A","fields":[{"name":"g","type":"A","aliases":[
+0..230000 ;"f"
+once ]}]}"##,
+        },
+    },
+    // the same with 140,000 different aliases
+    Shape {
+        name: "distinct-aliases",
+        counts: &[400, 4000],
+        behind: 2900,
+        inner: "",
+        writer: Text {
+            word: r#""int""#,
+            parts: ONE_NAME,
+        },
+        reader: Text {
+            word: "",
+            parts: r##"once {"type":"record","name":"r.A","fields":[{"name":"f","type":"A","default":{}},{"name":"g","type":"A","default":{},"aliases":[
+52..140000 ;"~"
+once ]}]}"##,
+        },
+    },
+    // unions that leave out every 24th record
+    Shape {
+        name: "holes",
+        counts: &[330, 3300],
+        behind: 2900,
+        inner: HOLES,
+        writer: Text {
+            word: "",
+            parts: WRITTEN,
+        },
+        reader: Text {
+            word: "",
+            parts: READ,
+        },
+    },
+    // the same, where each of the reader's unions has a branch that reads each record
+    Shape {
+        name: "shared",
+        counts: &[330, 3300],
+        behind: 2900,
+        inner: HOLES,
+        writer: Text {
+            word: "",
+            parts: WRITTEN,
+        },
+        reader: Text {
+            word: r#","e.A""#,
+            parts: READ,
+        },
+    },
+    // unions that leave out two records of each 24, such that few records are in the same unions
+    Shape {
+        name: "subsets",
+        counts: &[330, 3300],
+        behind: 2900,
+        inner: TWO_HOLES,
+        writer: Text {
+            word: "",
+            parts: WRITTEN,
+        },
+        reader: Text {
+            word: "",
+            parts: READ,
+        },
+    },
+    // enums of 46 symbols and one last name, with as many that have one more
+    Shape {
+        name: "more-symbols",
+        counts: &[400, 3900],
+        behind: 2900,
+        inner: r##"1..46 "~","##,
+        writer: Text {
+            word: "a",
+            parts: ENUMS,
+        },
+        reader: Text {
+            word: "a",
+            parts: r##"once [
+each ;{"type":"enum","name":"n#.A","symbols":["Z",@"$"]}
+once ]"##,
+        },
+    },
+    // records of ten fields, with a thousand records of nine fields that have the ten names as aliases
+    Shape {
+        name: "ten-aliases",
+        counts: &[300, 3200],
+        behind: 2900,
+        inner: r##"0..9 ;{"name":"A#","type":"n.Z","aliases":["a","b","c","d","e","f","g","h","i","j"]}"##,
+        writer: Text {
+            word: "",
+            parts: r##"once [{"type":"record","name":"n.Z","fields":[{"name":"f","type":"int"}]}
+each ,{"type":"record","name":"n#.A","fields":[{"name":"a","type":"n.Z"},{"name":"b","type":"n.Z"},{"name":"c","type":"n.Z"},{"name":"d","type":"n.Z"},{"name":"e","type":"n.Z"},{"name":"f","type":"n.Z"},{"name":"g","type":"n.Z"},{"name":"h","type":"n.Z"},{"name":"i","type":"n.Z"},{"name":"j","type":"n.Z"}]}
+once ]"##,
+        },
+        reader: Text {
+            word: "",
+            parts: r##"once [{"type":"record","name":"n.Z","fields":[{"name":"f","type":"string"}]}
+0..1000 ,{"type":"record","name":"n#.A","fields":[@]}
+once ]"##,
+        },
+    },
+    // a chain of records, with one recursive record of 26,000 fields, whose sources are held for each
+    // open pair
+    Shape {
+        name: "deep",
+        counts: &[100, 998],
+        behind: 0,
+        inner: "",
+        writer: Text {
+            word: r#""int""#,
+            parts: CYCLE,
+        },
+        reader: Text {
+            word: "",
+            parts: r##"once {"type":"record","name":"A","fields":[{"name":"f","type":"A"},{"name":"Z","type":{"type":"record","name":"Z","fields":[]}}
+52..26000 ,{"name":"~","type":"Z","default":{}}
+once ]}"##,
+        },
+    },
+];
+
+/// The hostile shapes that are resolved.
+pub fn hostile() -> &'static [Shape] {
+    &HOSTILE
+}
