@@ -1,4 +1,4 @@
--- A move over tables that were tested.
+-- A migration of tables that passed the test.
 use Rattle.std.proofs.Common.{◌≡◌, ◌⊎◌, ◌∙◌, ◌≤◌, ℕ, None, Ok, Err, Result, inl, inr, sym, ap, subst, arith, IsTrue}
 use Rattle.std.specs.Prelude.{IfOk, OnOk}
 use Rattle.sqlite_disk.specs.Disk.{MoreFaults}
@@ -12,21 +12,21 @@ use Rattle.reg_tables.proofs.Transactions.{keeps_then}
 use Rattle.reg_store.specs.Opening.{FindsFirst}
 use Rattle.reg_store.specs.Spells.{SpellsFirst}
 use Rattle.reg_store.specs.Stores.{LeavesNoMore}
-use Rattle.reg_migrate.specs.Migrations.{LeavesMoved, LosesNothing, Moves}
+use Rattle.reg_migrate.specs.Migrations.{LeavesMoved, LosesNothing, Moves, SpellsSome}
 use Rattle.reg_migrate.specs.Inside.{CanMove, HasFirst, HoldsMoved, IsMovedOver, TakesMoved}
 use Rattle.reg_migrate.proofs.Layouts.{taken_if_held}
 use Rattle.reg_migrate.proofs.NoEvidence.{no_evidence_left}
 use Rattle.reg_migrate.proofs.Spelled.{leaves_moved, spells_moved}
 
--- the test sets no limit on steps, and nothing is said of that here
+-- the test removes the limit on steps, which these facts don't depend on
 pub unlimited_reads : {S : Type 0} (g : Ghosts S) (conn : Held S) (mid : State) → OnlyReads (state g (record conn { step_limit = None })) mid → OnlyReads (state g conn) mid
 unlimited_reads g conn mid reads = record { commit_stays = record { was_open = reads.commit_stays.was_open; committed = reads.commit_stays.committed }; settled = reads.settled }
 
--- where nothing was committed, a crash leaves nothing new
+-- if nothing was committed, a crash leaves nothing new
 pub no_more : (old new : State) → ((db : Trees) → new.may_leave db → old.may_leave db ⊎ ⊥) → LeavesNoMore old new
 no_more old new crash db it = elim (crash db it) as (λ _. old.may_leave db) [ inl was ↦ was | inr none ↦ absurd none ]
 
--- a fault alone shuts a connection in two calls
+-- over two calls, only a disk fault closes the connection
 pub closes_both : (old mid new : State) → old.faults ≤ mid.faults → mid.faults ≤ new.faults → (IsTrue old.is_open → IsTrue mid.is_open ⊎ MoreFaults old.faults mid.faults)
     → (IsTrue mid.is_open → IsTrue new.is_open ⊎ MoreFaults mid.faults new.faults) → IsTrue old.is_open → IsTrue new.is_open ⊎ MoreFaults old.faults new.faults
 closes_both old mid new up later first second is_open = elim (first is_open) [
@@ -34,10 +34,14 @@ closes_both old mid new up later first second is_open = elim (first is_open) [
   | inr more ↦ inr (omega (arith, more, later))
 ]
 
--- a report has the number that was counted
+-- a report has the number that the test counted
 pub reported : {X E : Type 0} (P : ℕ → Type 0) (number : X → ℕ) (count : ℕ) (r : Result X E) → IfOk r (λ x. number x ≡ count) → OnOk r (P count) → IfOk r (λ x. P (number x))
 reported P number count (Ok x) is h = subst P (sym is) h
 reported P number count (Err e) is h = tt
+
+-- tables that passed spell a registry
+pub spells_some : (db : Database) (count : ℕ) → FindsFirst db count → SpellsSome db
+spells_some db count found = record { stored = found.stored; spelled = found.spells }
 
 module _ (old mid : State) (reads : OnlyReads old mid) (settled : IsTrue old.is_open → old.now ≡ old.committed) where
   -- while the connection is open, the test changed nothing
@@ -55,8 +59,11 @@ module _ (old mid : State) (reads : OnlyReads old mid) (settled : IsTrue old.is_
   reads_both new later = record { commit_stays = keeps_then old mid new reads.commit_stays later.commit_stays; settled = later.settled }
 
   -- what is left of the tables that were tested
-  pub takes_on : (db : Trees) → IsTrue mid.is_open → TakesMoved mid.now db → LeavesMoved old.now db
-  takes_on db is_open takes was spelled = leaves_moved old.now db was (subst (λ (d : Database). TakesMoved d db) (same_now is_open) takes) spelled
+  pub takes_on : (count : ℕ) → FindsFirst old.now count → (db : Trees) → IsTrue mid.is_open → TakesMoved mid.now db → LeavesMoved old.now db
+  takes_on count found db is_open takes = record {
+    found = spells_some old.now count found;
+    spells = λ was spelled. leaves_moved old.now db was (subst (λ (d : Database). TakesMoved d db) (same_now is_open) takes) spelled;
+  }
 
   module _ (new : State) (count : ℕ) (found : FindsFirst old.now count) (over : IsMovedOver mid new) where
     held : HoldsMoved old.now new.now
@@ -65,17 +72,20 @@ module _ (old mid : State) (reads : OnlyReads old mid) (settled : IsTrue old.is_
     -- the registry that the tables spelled
     pub moves : Moves old new count
     moves = record {
-      found = record { stored = found.stored; spelled = found.spells };
+      found = spells_some old.now count found;
       counted = found.counted;
-      spells = λ was spelled is_open. record { is_open = over.is_open; settled = over.settled; spells = spells_moved old.now new.now was held spelled };
+      spells = λ was spelled. record { is_open = over.is_open; settled = over.settled; spells = spells_moved old.now new.now was held spelled };
       evidence = no_evidence_left old.now new.now found.stored found.spells held;
     }
 
     -- a crash leaves it in layout 2 alone
     pub crashes_moved : ((db : Trees) → IsTrue new.is_open → new.may_leave db → db ≡ new.committed.trees) → (db : Trees) → new.may_leave db → LeavesMoved old.now db
-    crashes_moved only db it was spelled = leaves_moved old.now db was (taken_if_held old.now new.now db (only db over.is_open it ∙ ap (λ (d : Database). d.trees) over.settled) held) spelled
+    crashes_moved only db it = record {
+      found = spells_some old.now count found;
+      spells = λ was spelled. leaves_moved old.now db was (taken_if_held old.now new.now db (only db over.is_open it ∙ ap (λ (d : Database). d.trees) over.settled) held) spelled;
+    }
 
--- whatever a crash leaves, nothing is lost
+-- a crash never loses the registry
 pub loses_nothing : (old new : State) → (IsTrue old.is_open → old.now ≡ old.committed) → ((db : Trees) → IsTrue old.is_open → old.may_leave db → db ≡ old.committed.trees)
     → ((db : Trees) → new.may_leave db → old.may_leave db ⊎ LeavesMoved old.now db) → LosesNothing old new
 loses_nothing old new settled only crash is_open was spelled db it = elim (crash db it) [
@@ -84,5 +94,5 @@ loses_nothing old new settled only crash is_open was spelled db it = elim (crash
     spells = subst (λ t. SpellsFirst (record { schema = spelled.schema; trees = t }) was) (sym (only db is_open before ∙ sym (ap (λ (d : Database). d.trees) (settled is_open))))
         (subst (λ x. SpellsFirst (record { schema = x; trees = old.now.trees }) was) spelled.holds.declared spelled);
   })
-  | inr made ↦ inr (made was spelled)
+  | inr made ↦ inr (made.spells was spelled)
 ]

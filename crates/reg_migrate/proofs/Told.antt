@@ -1,4 +1,4 @@
--- What the store answers, as it is told.
+-- Facts about a store's error carry over to the error of `migrate`.
 use Rattle.std.proofs.Common.{◌≡◌, ◌≤◌, ◌∙◌, ℕ, Bool, true, false, ◌==◌, inl, inr, refl, sym, ap, subst, arith, IsTrue}
 use Rattle.std.specs.Prelude.{if◌then◌else◌}
 use Rattle.std.proofs.lemmas.Bool.{both_ways, cases_lt, eqb-true, le-ltb}
@@ -9,17 +9,17 @@ use Rattle.sqlite.specs.State.{State}
 use Rattle.reg_store.specs.declared.error.StoreError.{StoreError}
 use Rattle.reg_store.specs.declared.error.StoreError.TheVariants as store
 use Rattle.reg_store.specs.Failures as failures
-use Rattle.reg_store.specs.Opening.{IsRefusedAs, NamesLayout, TellsOther}
+use Rattle.reg_store.specs.Opening.{IsRefusedAs, NamesLayout, ShowsLayout, TellsOther}
 use Rattle.reg_store.specs.UnopenedFaults.{IsFaultFirst}
 use Rattle.reg_store.specs.Stores as stores
 use Rattle.reg_store.specs.Stores.{LeavesNoMore}
 use Rattle.reg_migrate.specs.declared.error.MigrateError.{MigrateError}
 use Rattle.reg_migrate.specs.declared.error.MigrateError.TheVariants.{Memory, Disk, NotARegistry, AlreadyNew, NewerLayout}
-use Rattle.reg_migrate.specs.Errors.{told_as, is_fault, IsRefusedBy, IsToldAs, TellsNewer, LeavesBefore}
-use Rattle.reg_migrate.specs.Migrations.{IsFaultOver, IsReasonOver}
+use Rattle.reg_migrate.specs.Errors.{told_as, is_fault, IsRefusedBy, IsTold, IsToldAs, TellsNewer, LeavesBefore}
+use Rattle.reg_migrate.specs.Migrations.{IsFaultOver, IsReasonOver, SpellsSome}
 use Rattle.reg_store.proofs.Failing.{fault_if_by}
 
--- what tells a newer layout is one of two
+-- a newer layout is reported as `AlreadyNew` or `NewerLayout`
 newer_case : (P : MigrateError → Type 0) (number : ℕ) → (number ≡ 2 → P AlreadyNew) → ((number ≡ 2 → ⊥) → P (NewerLayout number)) → P (told_as (store.NewerLayout number))
 newer_case P number new other = go (number == 2) refl
   where
@@ -27,7 +27,7 @@ newer_case P number new other = go (number == 2) refl
     go true is = new (eqb-true number 2 is)
     go false is = other (λ same. let both : (2 == 2) ≡ false = ap (λ n. n == 2) (sym same) ∙ is in cc)
 
--- a fault is told as one
+-- a fault stays a fault
 pub told_fault : (e : StoreError) → IsTrue (failures.is_fault e) → IsTrue (is_fault (told_as e))
 told_fault store.Memory h = refl
 told_fault store.Disk h = refl
@@ -43,16 +43,24 @@ told_before old new store.NotARegistry h = h
 told_before old new (store.OldLayout number) h = h
 told_before old new (store.NewerLayout number) h = newer_case (LeavesBefore old new) number (λ _. h) (λ _. h)
 
--- a refusal of layout 1 has its number from the rows of `meta`
+-- a number comes from the rows of `meta`
 pub told_refused : (db : Database) (e : StoreError) → IsRefusedAs 1 db e → IsRefusedBy db (told_as e)
 told_refused db store.Memory h = tt
 told_refused db store.Disk h = tt
 told_refused db store.NotARegistry h = tt
 told_refused db (store.OldLayout number) h = tt
 told_refused db (store.NewerLayout number) h =
-    newer_case (IsRefusedBy db) number (λ is. λ first. subst (NamesLayout db) is (h.1 first)) (λ other. (elim (cases_lt 2 number) [ inl up ↦ up | inr le ↦ absurd (other (omega (arith, h.0, le))) ], h.1))
+    newer_case (IsRefusedBy db) number (λ is. (subst (ShowsLayout db) is h.1, λ first. subst (NamesLayout db) is (h.2 first))) (λ other. (elim (cases_lt 2 number) [ inl up ↦ up | inr le ↦ absurd (other (omega (arith, h.0, le))) ], h.1, h.2))
 
--- a newer layout is told
+-- `Disk` keeps its cause
+pub told_cause : (old new : State) (e : StoreError) → failures.IsTold old new e → IsTold old new (told_as e)
+told_cause old new store.Memory h = tt
+told_cause old new store.Disk h = h
+told_cause old new store.NotARegistry h = tt
+told_cause old new (store.OldLayout number) h = tt
+told_cause old new (store.NewerLayout number) h = newer_case (IsTold old new) number (λ _. tt) (λ _. tt)
+
+-- the number of a newer layout is reported
 pub told_newer : (s : State) (e : StoreError) → TellsOther 1 s e → TellsNewer s (told_as e)
 told_newer s e tells number is_open up holds names = elim (tells number is_open (record { holds = holds; names = names; other = λ is. absurd (omega (arith, up, is)) })) [
   | inl is ↦ inl (subst (λ e. IsToldAs number (told_as e)) (sym is) (subst (λ b. IsToldAs number (told_as (if b then store.OldLayout number else store.NewerLayout number))) (sym (le-ltb number 1 (omega (arith, up))))
@@ -60,7 +68,7 @@ told_newer s e tells number is_open up holds names = elim (tells number is_open 
   | inr fault ↦ inr (told_fault e fault)
 ]
 
--- a fault is no refusal
+-- a fault has no number
 refused_if_fault : (db : Database) (e : MigrateError) → IsTrue (is_fault e) → IsRefusedBy db e
 refused_if_fault db Memory h = tt
 refused_if_fault db Disk h = tt
@@ -68,11 +76,11 @@ refused_if_fault db NotARegistry h = tt
 refused_if_fault db AlreadyNew h = absurd (cc)
 refused_if_fault db (NewerLayout number) h = absurd (cc)
 
--- it may come over any tables
-pub reason_if_fault : (old : State) (e : MigrateError) → IsTrue (is_fault e) → IsReasonOver old e
-reason_if_fault old e is = record { fault = λ spells. is; refused = refused_if_fault old.now e is; newer = λ number is_open up holds names. inr is }
+-- tables of layout 1 may fail with a fault
+pub reason_if_fault : (old new : State) (e : MigrateError) → SpellsSome old.now → IsTrue (is_fault e) → IsReasonOver old new e
+reason_if_fault old new e found is = record { fault = λ spells. is; told = inr found; refused = refused_if_fault old.now e is; newer = λ number is_open up holds names. inr is }
 
--- where a crash leaves no more than before, no error says otherwise
+-- if a crash leaves no more than before, each error may come
 pub leaves_before : (old new : State) (e : MigrateError) → LeavesNoMore old new → LeavesBefore old new e
 leaves_before old new Memory h = inl h
 leaves_before old new Disk h = tt
@@ -80,7 +88,7 @@ leaves_before old new NotARegistry h = h
 leaves_before old new AlreadyNew h = h
 leaves_before old new (NewerLayout number) h = h
 
--- what a later call leaves, an earlier state left, where none was committed between
+-- if nothing was committed in between, a crash leaves only what the earlier state left
 pub before_then : (a b c : State) (e : MigrateError) → LeavesNoMore a b → a.faults ≤ b.faults → LeavesBefore b c e → LeavesBefore a c e
 before_then a b c Memory same up (inl later) = inl (λ db it. same db (later db it))
 before_then a b c Memory same up (inr more) = inr (omega (arith, up, more))
@@ -89,7 +97,7 @@ before_then a b c NotARegistry same up h = λ db it. same db (h db it)
 before_then a b c AlreadyNew same up h = λ db it. same db (h db it)
 before_then a b c (NewerLayout number) same up h = λ db it. same db (h db it)
 
--- a fault that shut the connection came before
+-- the fault that closed the connection came before the migration
 pub before_if_faulted : (old mid new : State) (e : MigrateError) → MoreFaults old.faults mid.faults → mid.faults ≤ new.faults → IsTrue (is_fault e) → LeavesBefore old new e
 before_if_faulted old mid new Memory more up h = inr (omega (arith, more, up))
 before_if_faulted old mid new Disk more up h = tt
@@ -97,7 +105,7 @@ before_if_faulted old mid new NotARegistry more up h = absurd (cc)
 before_if_faulted old mid new AlreadyNew more up h = absurd (cc)
 before_if_faulted old mid new (NewerLayout number) more up h = absurd (cc)
 
--- over tables that spell a registry, memory and the disk alone fail
+-- tables that spell a registry fail only because of memory or the disk
 pub fault_over : (old new : State) (e : StoreError) → IsFaultFirst old new e → IsFaultOver old (told_as e)
 fault_over old new e fault spells = told_fault e (fault_if_by old new e (go old.is_open refl))
   where

@@ -1,4 +1,4 @@
--- What the statements make of the contents of layout 1.
+-- What the statements of a migration make of the contents of layout 1.
 use Rattle.std.specs.Prelude.{◌≡◌, IsTrue}
 use Rattle.sqlite.specs.Tree.{Trees}
 use Rattle.sqlite.specs.Schema.{Schema}
@@ -14,30 +14,30 @@ use Rattle.reg_tables.specs.SecondContents.{HoldsAllIn, with_no_more, SecondCont
 abbrev pub moved : Contents → SecondContents
 moved contents = with_no_more (numbered_second contents)
 
--- whatever the tables held in this schema, those of layout 2 hold in the database
+-- the tables of layout 2 hold what the tables held in this schema
 abbrev pub MovesBy : Schema → Database → Database → Type 0
 MovesBy schema before db = (contents : Contents) → HoldsIn schema before contents → HoldsAllIn second db (moved contents)
 
--- so it is of both schemas of layout 1
+-- the same for both schemas of layout 1
 abbrev pub HoldsMoved : Database → Database → Type 0
 HoldsMoved before db = (schema : Schema) → IsLayout schema → MovesBy schema before db
 
--- the same of trees under the schema of layout 2
+-- the same for trees under the schema of layout 2
 abbrev pub TakesMoved : Database → Trees → Type 0
 TakesMoved before db = HoldsMoved before (record { schema = second; trees = db })
 
--- the tables are those of layout 1, and hold some contents
+-- the tables are those of layout 1 and hold some contents
 pub record HasFirst (db : Database) : Type 0 where
   pub schema : Schema
   pub known : IsLayout schema
   pub contents : Contents
   pub holds : HoldsIn schema db contents
 
--- so it is while the connection is open
+-- the same while the connection is open
 abbrev pub CanMove : State → Type 0
 CanMove s = IsTrue s.is_open → HasFirst s.now
 
--- the connection was open and is, and its last commit is layout 2
+-- the connection was open and still is, and its last commit is layout 2
 pub record IsMovedOver (old new : State) : Type 0 where
   pub was_open : IsTrue old.is_open
   pub is_open : IsTrue new.is_open

@@ -1,4 +1,4 @@
--- What is moved from layout 1 to layout 2.
+-- What `migrate` makes of layout 1, and what a crash leaves.
 use Rattle.std.specs.Prelude.{◌≡◌, ◌⊎◌, ℕ, length, IsTrue}
 use Rattle.std.specs.FinMap.{empty}
 use Rattle.sqlite.specs.Tree.{Trees}
@@ -6,37 +6,42 @@ use Rattle.sqlite.specs.Effect.{Database}
 use Rattle.sqlite.specs.State.{State}
 use Rattle.reg_core.specs.Stored.{Stored}
 use Rattle.reg_tables.specs.Layout.{versions}
-use Rattle.reg_store.specs.Spells.{Spells, SpellsFirst, SpellsWhileOpen, Leaves, LeavesFirst}
+use Rattle.reg_store.specs.Spells.{Spells, SpellsFirst, IsOpenOver, Leaves, LeavesFirst}
 use Rattle.reg_migrate.specs.declared.error.MigrateError.{MigrateError}
-use Rattle.reg_migrate.specs.Errors.{IsRefusedBy, TellsNewer, is_fault}
+use Rattle.reg_migrate.specs.Errors.{IsRefusedBy, IsTold, TellsNewer, is_fault}
 
--- the tables are those of layout 1, and spell what is stored
+-- the tables are those of layout 1 and spell a registry
 pub record SpellsSome (db : Database) : Type 0 where
   pub stored : Stored
   pub spelled : SpellsFirst db stored
 
--- The tables of layout 1 spelled a registry, with so many rows of versions, soft-deleted ones too; whatever they spelled, those of layout 2 spell now; and
--- whatever these spell has no evidence.
+-- The tables of layout 1 spelled a registry, and `versions` had this number of rows, soft-deleted ones too. The connection is open over the same registry in
+-- layout 2, and no version has evidence.
 pub record Moves (old new : State) (count : ℕ) : Type 0 where
   pub found : SpellsSome old.now
   pub counted : count ≡ length (old.now.trees versions.tree)
-  pub spells : (was : Stored) → SpellsFirst old.now was → SpellsWhileOpen new was
+  pub spells : (was : Stored) → SpellsFirst old.now was → IsOpenOver new was
   pub evidence : (now : Stored) → Spells new.now now → now.evidence ≡ empty
 
--- where the tables of an open connection spelled a registry in layout 1, memory and the disk alone fail
+-- if the tables of an open connection spelled a registry in layout 1, the error is `Memory` or `Disk`
 abbrev pub IsFaultOver : State → MigrateError → Type 0
 IsFaultOver old e = (IsTrue old.is_open → SpellsSome old.now) → IsTrue (is_fault e)
 
--- over tables that spell a registry in layout 1 memory and the disk alone fail, a number is the one that `meta` names, and a newer layout is told
-pub record IsReasonOver (old : State) (e : MigrateError) : Type 0 where
+-- why `migrate` fails
+pub record IsReasonOver (old new : State) (e : MigrateError) : Type 0 where
+  -- a registry in layout 1 fails to migrate only because of memory, the disk, or a limit of the file
   pub fault : IsFaultOver old e
+  -- in any other database `Disk` has a disk fault as its cause
+  pub told : IsTold old new e ⊎ SpellsSome old.now
+  -- a number comes from the rows of `meta`
   pub refused : IsRefusedBy old.now e
   pub newer : TellsNewer old e
 
--- whatever the tables of layout 1 spelled, the trees spell in layout 2
-abbrev pub LeavesMoved : Database → Trees → Type 0
-LeavesMoved before db = (was : Stored) → SpellsFirst before was → Leaves db was
+-- the tables of layout 1 spelled a registry, and the trees spell the same registry in layout 2
+pub record LeavesMoved (before : Database) (db : Trees) : Type 0 where
+  pub found : SpellsSome before
+  pub spells : (was : Stored) → SpellsFirst before was → Leaves db was
 
--- whatever they spelled, the trees spell in the one layout or in the other
+-- a crash leaves what the tables of layout 1 spelled, in layout 1 or in layout 2
 abbrev pub LosesNothing : State → State → Type 0
 LosesNothing old new = IsTrue old.is_open → (was : Stored) → SpellsFirst old.now was → (db : Trees) → new.may_leave db → LeavesFirst db was ⊎ Leaves db was

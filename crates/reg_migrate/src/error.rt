@@ -1,4 +1,4 @@
-//! Why a registry isn't moved.
+//! Why a migration fails.
 
 ghost use Rattle.std.specs.Prelude.{◌≡◌};
 ghost use Rattle.reg_migrate.specs.Errors.{told_as};
@@ -6,22 +6,22 @@ ghost use Rattle.reg_migrate.specs.Errors.{told_as};
 use reg_store::StoreError;
 use thiserror::Error;
 
-/// Why a registry isn't moved. The database is as before then.
+/// Why a migration fails. The database stays as it was.
 #[derive(Clone, Copy, Debug, PartialEq, Eq, Error)]
 pub enum MigrateError {
-    /// Memory was refused.
+    /// Allocation failed.
     #[error("out of memory")]
     Memory,
-    /// The disk failed, or what was to be written is past a limit of the file.
+    /// The disk failed, or a limit of the file was reached.
     #[error("the disk failed")]
     Disk,
-    /// A table or a column is missing, there is another, or the rows don't spell a registry.
+    /// A table or a column is missing or unknown, or the rows don't spell a registry.
     #[error("not a registry")]
     NotARegistry,
     /// The database has layout 2.
     #[error("the layout is this program's")]
     AlreadyNew,
-    /// The database has a newer layout than 2, of this number.
+    /// The database has a layout above 2, with this number.
     #[error("layout {0} is newer than this program's")]
     NewerLayout(u32),
 }

@@ -1,7 +1,6 @@
-//! A registry of layout 1, moved to layout 2 in one transaction.
+//! The migration of a registry from layout 1 to layout 2, in one transaction.
 //!
-//! What a call says of the tables holds where the disk has returned what was written to it
-//! (`HasCleanDisk`).
+//! Clauses about the tables hold if the disk has returned what was written to it (`HasCleanDisk`).
 
 #![tactic(auto)]
 

@@ -1,4 +1,4 @@
-//! A registry of layout 1, moved to layout 2.
+//! The migration of a registry from layout 1 to layout 2.
 
 ghost use Rattle.std.specs.Prelude.{◌≡◌, ◌⊎◌, IfErr, IfOk, OnErr, OnOk, IsTrue, None, false};
 ghost use Rattle.sqlite.specs.Tree.{Trees};
@@ -16,14 +16,14 @@ use reg_tables::Idle;
 use sqlite::{Alter, Connection};
 use std::alloc::Global;
 
-/// What was moved.
+/// What was migrated.
 #[derive(Clone, Copy, Debug, PartialEq, Eq)]
 pub struct Report {
-    /// How many versions the registry has, soft-deleted ones too.
+    /// The number of versions, soft-deleted ones too.
     pub versions: u64,
 }
 
-/// Moves the tables of layout 1 to layout 2, and reports so many versions.
+/// Migrates the tables of layout 1, and reports this number of versions.
 fn move_connection<S: Alter>(
     connection: Connection<S>,
     versions: u64,
@@ -54,15 +54,15 @@ fn move_connection<S: Alter>(
     }
 }
 
-/// Moves the registry and the kept replies of layout 1 to layout 2, in one transaction. The
-/// connection is outside a transaction, and is given back.
+/// Migrates the registry and its kept replies from layout 1 to layout 2, in one transaction. The
+/// connection is outside a transaction, and the call returns it.
 ///
 /// # Errors
 ///
-/// `AlreadyNew` where `meta` names layout 2, and `NewerLayout` where it names a newer one; nothing
-/// else is looked at then. `NotARegistry` where the tables aren't those of layout 1, or spell no
-/// registry; `Memory` and `Disk`. The database is as before then; but after `Disk` a crash may leave
-/// layout 2.
+/// `AlreadyNew` if `meta` names layout 2, `NewerLayout` if it names a layout above 2, whatever the
+/// other tables hold. `NotARegistry` if the tables spell no registry in layout 1; `Memory` and
+/// `Disk`. The database stays as it was. Only after `Disk`, and only if layout 1 spelled a registry,
+/// may a crash leave layout 2.
 pub fn migrate<S: Alter>(
     alloc: Global,
     connection: Connection<S>,
@@ -71,11 +71,12 @@ pub fn migrate<S: Alter>(
     ensures done { HasCleanDisk (state S.Store result.1) → IfOk result.0 (λ report.
         Moves (state S.Store connection) (state S.Store result.1) report.versions) }
     ensures reason { HasCleanDisk (state S.Store result.1)
-        → IfErr result.0 (IsReasonOver (state S.Store connection)) }
+        → IfErr result.0 (IsReasonOver (state S.Store connection) (state S.Store result.1)) }
     ensures idle { result.1.in_transaction ≡ false }
     ensures leaves { LeavesConnection (state S.Store connection) (state S.Store result.1) result.0 }
 
-    // A crash leaves layout 2 after an `Ok`, and else that or what it left before; whatever is answered, nothing is lost.
+    // After `Ok` a crash leaves layout 2. After an error it leaves that or what it left before; if
+    // layout 1 spelled no registry, only the latter. No result loses anything.
     ensures crash_after { HasCleanDisk (state S.Store result.1) → OnOk result.0 ((db : Trees)
         → (state S.Store result.1).may_leave db → LeavesMoved (state S.Store connection).now db) }
     ensures crash { HasCleanDisk (state S.Store result.1) → (db : Trees)

@@ -1,4 +1,4 @@
-//! The statements that make layout 2 of layout 1.
+//! The statements that turn layout 1 into layout 2.
 
 ghost use Rattle.std.specs.Prelude.{◌≡◌, ◌↔◌, IfErr, OnOk, OnErr, IsTrue, None};
 ghost use Rattle.sqlite.specs.State.{HasCleanDisk, Survives, KeepsCommit};
@@ -13,7 +13,7 @@ ghost use Rattle.reg_migrate.specs.Inside.{CanMove, HoldsMoved, IsMovedOver, Mov
 use reg_tables::{Idle, add_tables, index_versions, is_unindexed, number_second};
 use sqlite::{Alter, Error, Transaction};
 
-/// Makes layout 2 of layout 1 with its index.
+/// Turns layout 1 with its index into layout 2.
 fn extend<S: Alter>(tx: &mut Transaction<'_, S>) -> Result<(), Error>
     ensures frame { StaysInside S.Store tx.old tx.new result }
     ensures extended { HasCleanDisk (state_in S.Store tx.new)
@@ -26,7 +26,7 @@ fn extend<S: Alter>(tx: &mut Transaction<'_, S>) -> Result<(), Error>
     add_tables(tx)
 }
 
-/// Makes layout 2 of layout 1 without its index.
+/// Turns layout 1 without its index into layout 2.
 fn move_unindexed<S: Alter>(tx: &mut Transaction<'_, S>) -> Result<(), Error>
     ensures frame { StaysInside S.Store tx.old tx.new result }
     ensures moved { HasCleanDisk (state_in S.Store tx.new)
@@ -39,7 +39,7 @@ fn move_unindexed<S: Alter>(tx: &mut Transaction<'_, S>) -> Result<(), Error>
     extend(tx)
 }
 
-/// Makes layout 2 of layout 1, which has its index or lacks it.
+/// Turns layout 1 with or without its index into layout 2.
 fn move_tables<S: Alter>(tx: &mut Transaction<'_, S>, lacks_index: bool) -> Result<(), Error>
     requires known { IsTrue lacks_index ↔ ((state_in S.Store tx.now).now.schema ≡ unindexed) }
     ensures frame { StaysInside S.Store tx.old tx.new result }
@@ -56,7 +56,7 @@ fn move_tables<S: Alter>(tx: &mut Transaction<'_, S>, lacks_index: bool) -> Resu
     }
 }
 
-/// Makes layout 2 of layout 1, in one transaction.
+/// Turns layout 1 into layout 2, in one transaction.
 pub fn move_all<S: Alter>(db: &mut Idle<S>) -> Result<(), Error>
     requires unlimited { db.now.conn.step_limit ≡ None }
     ensures done { HasCleanDisk (shown db.new) → OnOk result (IsMovedOver (shown db.old) (shown db.new)) }

@@ -1,22 +1,24 @@
 -- Why a read of tables that spell a registry fails.
-use Rattle.std.proofs.Common.{◌≡◌, ◌≤◌, ◌⊎◌, inl, inr, None, Ok, Err, Result, IsTrue, refl, sym, subst}
+use Rattle.std.proofs.Common.{◌≡◌, ◌≤◌, ◌⊎◌, ℕ, inl, inr, None, Ok, Err, Result, IsTrue, refl, sym, subst}
 use Rattle.std.specs.Prelude.{IfErr, IsErrAnd, IsSome}
 use Rattle.sqlite.specs.declared.error.Error.{Error}
 use Rattle.sqlite.specs.declared.error.Error.TheVariants.{SqliteFailure, SqlInputError, InvalidParameterCount, ExecuteReturnedResults, InvalidQuery, MultipleStatement, QueryReturnedNoRows, InvalidColumnIndex, InvalidColumnType, IntegralValueOutOfRange, Utf8Error}
 use Rattle.sqlite.specs.declared.error.ErrorCode.{ErrorCode}
 use Rattle.sqlite.specs.declared.error.ErrorCode.TheVariants.{ConstraintViolation, TypeMismatch, IntegerOverflow, NoRowid, ForeignKeyMismatch, TooDeep, NoClock, NameTaken, BadName, BadKey, BadText, SchemaTooBig, TransactionState, NoSuchSavepoint, OperationInterrupted, NotADatabase, DatabaseCorrupt, CannotOpen, DatabaseBusy, TooBig, OutOfMemory, SystemIoFailure, DiskFull, Closed}
 use Rattle.sqlite_schema.specs.declared.schema.Constraint.TheVariants.{Datatype, NotNull, Check, PrimaryKey, Unique, ForeignKey}
+use Rattle.sqlite.specs.Effect.{Database}
 use Rattle.sqlite.specs.State.{State, store_error}
 use Rattle.sqlite_trees.specs.declared.error.StoreError as trees
 use Rattle.sqlite_trees.specs.declared.error.StoreError.TheVariants as stored
 use Rattle.sqlite_disk.specs.Disk.{MoreFaults}
 use Rattle.reg_tables.specs.Reads.{CanBeRead}
-use Rattle.reg_tables.specs.FailedCalls.{HasDiskFault, HasReason, IsFault, IsUnreadable}
+use Rattle.reg_tables.specs.FailedCalls.{HasDiskFault, HasReason, IsFault, IsRefused, IsUnreadable}
 use Rattle.reg_tables.proofs.Reasons.{fault_until, fault_since}
 use Rattle.reg_store.specs.declared.error.StoreError.{StoreError}
 use Rattle.reg_store.specs.declared.error.StoreError.TheVariants.{Memory, Disk, NotARegistry, OldLayout, NewerLayout}
 use Rattle.reg_store.specs.Failures.{failure_of, is_fault, IsFaultBy, IsTold, IsNumberless}
 use Rattle.reg_core.specs.Stored.{Stored}
+use Rattle.reg_store.specs.Opening.{IsRefusedAs}
 use Rattle.reg_store.specs.Spells.{SpellsWhileOpen}
 use Rattle.reg_store.proofs.Bases.{base_of}
 
@@ -65,6 +67,14 @@ told_if_by old new NotARegistry h = tt
 told_if_by old new (OldLayout number) h = tt
 told_if_by old new (NewerLayout number) h = tt
 
+-- and names no layout
+pub plain_if_by : (old new : State) (e : StoreError) → IsFaultBy old new e → IsNumberless e
+plain_if_by old new Memory h = tt
+plain_if_by old new Disk h = tt
+plain_if_by old new NotARegistry h = absurd h
+plain_if_by old new (OldLayout number) h = absurd h
+plain_if_by old new (NewerLayout number) h = absurd h
+
 -- a row that can't be read is no fault of the disk
 pub told_by : (old new : State) (e : Error) → old.step_limit ≡ None → IsFault old new e ⊎ IsUnreadable e → IsTold old new (failure_of e)
 told_by old new e unlimited (inl fault) = told_if_by old new (failure_of e) (fault_by old new e unlimited fault)
@@ -82,6 +92,56 @@ told_by old new e unlimited (inr unread) = go e unread
     go InvalidQuery h = absurd h
     go MultipleStatement h = absurd h
     go QueryReturnedNoRows h = absurd h
+
+-- nor is a statement that is refused
+pub told_anywhere : (old new : State) (e : Error) → old.step_limit ≡ None → IsFault old new e ⊎ (IsRefused e ⊎ IsUnreadable e) → IsTold old new (failure_of e)
+told_anywhere old new e unlimited (inl fault) = told_by old new e unlimited (inl fault)
+told_anywhere old new e unlimited (inr (inr unread)) = told_by old new e unlimited (inr unread)
+told_anywhere old new e unlimited (inr (inl refused)) = go e refused
+  where
+    by_code : (kind : ErrorCode) → IsRefused (SqliteFailure kind) → IsTold old new (failure_of (SqliteFailure kind))
+    by_code (ConstraintViolation Datatype) h = absurd h
+    by_code (ConstraintViolation NotNull) h = absurd h
+    by_code (ConstraintViolation Check) h = absurd h
+    by_code (ConstraintViolation PrimaryKey) h = absurd h
+    by_code (ConstraintViolation Unique) h = absurd h
+    by_code (ConstraintViolation ForeignKey) h = absurd h
+    by_code TypeMismatch h = tt
+    by_code IntegerOverflow h = tt
+    by_code NoRowid h = absurd h
+    by_code ForeignKeyMismatch h = absurd h
+    by_code TooDeep h = absurd h
+    by_code NoClock h = tt
+    by_code NameTaken h = absurd h
+    by_code BadName h = absurd h
+    by_code BadKey h = absurd h
+    by_code BadText h = absurd h
+    by_code SchemaTooBig h = absurd h
+    by_code TransactionState h = absurd h
+    by_code NoSuchSavepoint h = absurd h
+    by_code OperationInterrupted h = absurd h
+    by_code NotADatabase h = absurd h
+    by_code DatabaseCorrupt h = absurd h
+    by_code CannotOpen h = absurd h
+    by_code DatabaseBusy h = absurd h
+    by_code TooBig h = absurd h
+    by_code OutOfMemory h = absurd h
+    by_code SystemIoFailure h = absurd h
+    by_code DiskFull h = absurd h
+    by_code Closed h = absurd h
+
+    go : (e : Error) → IsRefused e → IsTold old new (failure_of e)
+    go (SqliteFailure kind) h = by_code kind h
+    go (SqlInputError fault) h = tt
+    go MultipleStatement h = tt
+    go (InvalidParameterCount a b) h = tt
+    go InvalidQuery h = tt
+    go ExecuteReturnedResults h = absurd h
+    go QueryReturnedNoRows h = absurd h
+    go (InvalidColumnIndex at) h = absurd h
+    go (InvalidColumnType at type) h = absurd h
+    go (IntegralValueOutOfRange at) h = absurd h
+    go (Utf8Error at) h = absurd h
 
 pub told_since : (a b c : State) → (IsTrue a.is_open → IsTrue b.is_open ⊎ MoreFaults a.faults b.faults) → a.faults ≤ b.faults → b.faults ≤ c.faults → (e : StoreError) → IsTold b c e → IsTold a c e
 told_since a b c closes up on Memory h = tt
@@ -149,3 +209,11 @@ numberless (InvalidColumnIndex at) = tt
 numberless (InvalidColumnType at type) = tt
 numberless (IntegralValueOutOfRange at) = tt
 numberless (Utf8Error at) = tt
+
+-- an error that names no layout names no wrong one
+pub refused_if_plain : (own : ℕ) (db : Database) (e : StoreError) → IsNumberless e → IsRefusedAs own db e
+refused_if_plain own db Memory plain = tt
+refused_if_plain own db Disk plain = tt
+refused_if_plain own db NotARegistry plain = tt
+refused_if_plain own db (OldLayout number) plain = absurd plain
+refused_if_plain own db (NewerLayout number) plain = absurd plain

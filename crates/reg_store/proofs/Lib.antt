@@ -9,6 +9,7 @@ pub mod ReadBack
 pub mod Committing
 pub mod Texts
 pub mod Failing
+pub mod Prepared
 pub mod Schemas
 pub mod Bridge
 pub mod MetaRows

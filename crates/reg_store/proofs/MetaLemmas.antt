@@ -4,6 +4,9 @@ use Rattle.std.specs.Prelude.{IfErr, IsErrAnd, ◌&&◌, nat_lt, option_and_then
 use Rattle.std.specs.FinMap.{get, get-from_entries}
 use Rattle.std.proofs.lemmas.Bool.{and_parts, both_ways}
 use Rattle.std.proofs.lemmas.Bool.Decides.{nat_tests}
+use Rattle.std.specs.List.Sorted.{IsPermutation}
+use Rattle.std.proofs.lemmas.List.Sorted.{IsPermutation-refl}
+use Rattle.sqlite.specs.Order.{Row}
 use Rattle.sqlite.specs.Effect.{Database}
 use Rattle.sqlite.specs.Held.{Held, state}
 use Rattle.sqlite.specs.State.{State, HasCleanDisk}
@@ -13,7 +16,8 @@ use Rattle.reg_tables.specs.declared.lines.MetaLine.{MetaLine}
 use Rattle.reg_tables.specs.Layout.{HasTablesFirst, meta}
 use Rattle.reg_tables.specs.Contents.{pair_form, text_cmp}
 use Rattle.reg_tables.specs.Frames.{StaysIdle}
-use Rattle.reg_tables.specs.Listings.{RowParts, without_rowid, meta_entry, ListsMeta}
+use Rattle.reg_tables.specs.Listings.{RowParts, Lists, entry_parts, without_rowid, meta_entry, ListsMeta}
+use Rattle.reg_tables.specs.Selects.{ReadsMeta}
 use Rattle.reg_tables.specs.Reads.{CanBeRead, HoldsMeta, CanTellMeta}
 use Rattle.reg_tables.specs.FailedCalls.{IsFault}
 use Rattle.reg_tables.proofs.KeyedTables.{text_order, distinct_texts}
@@ -25,8 +29,8 @@ use Rattle.reg_store.specs.declared.error.StoreError.{StoreError}
 use Rattle.reg_store.specs.declared.error.StoreError.TheVariants.{Memory, Disk, NotARegistry, OldLayout, NewerLayout}
 use Rattle.reg_store.specs.declared.layout.Layout.{Layout}
 use Rattle.reg_store.specs.declared.layout.Layout.TheVariants.{First, Second}
-use Rattle.reg_store.specs.Failures.{failure_of}
-use Rattle.reg_store.specs.Opening.{Says, NamesLayout, HasOther, refusal_of, IsRefusedAs, TellsOther}
+use Rattle.reg_store.specs.Failures.{failure_of, IsTold}
+use Rattle.reg_store.specs.Opening.{Says, RowsNameLayout, NamesLayout, ShowsLayout, HasOther, refusal_of, IsRefusedAs, TellsOther}
 use Rattle.reg_store.specs.Inside.Testing.{AreApart, pairs_of, number_of, is_meta_of, PassesMeta, Allows, JudgesMeta, MetaPass, SpellsAs, Tests}
 use Rattle.reg_store.proofs.Bases.{some_first, some_unopened}
 use Rattle.reg_store.proofs.MetaRows.{value_is, layout_is, meta_found, meta_fit, second_meta_fit}
@@ -74,24 +78,25 @@ text_of : (o : Option (List ℕ)) (number : ℕ) → option_and_then number_in o
 text_of None number h = absurd (cc)
 text_of (Some text) number h = (text, refl, h)
 
-module _ (lines : List MetaLine) (db : Database) (lists : ListsMeta db lines) where
+module _ (lines : List MetaLine) (rows : List Row) (lists : Lists pair_form rows (map meta_entry lines)) where
   -- what the lines say, a row says
-  said : (q v : List ℕ) → value_at q (pairs_of lines) ≡ Some v → Says db q v
+  said : (q v : List ℕ) → value_at q (pairs_of lines) ≡ Some v → Says rows q v
   said q v there =
       let entries = map meta_entry lines in
       let e = find_had text_cmp text_order entries q v (sym (get-from_entries text_order.total (map without_rowid entries) q) ∙ sym (meta_found lines q) ∙ there) in
-      let r = stored pair_form text_cmp text_order distinct_texts (db.trees meta.tree) entries lists e.0 e.1 in
+      let r = stored pair_form text_cmp text_order distinct_texts rows entries lists e.0 e.1 in
       (r.0, r.1, (sym (ap (λ (p : RowParts). p.1) r.2) ∙ ap pair_form.key_cells e.2, sym (ap (λ (p : RowParts). p.2) r.2) ∙ ap pair_form.value_cells e.3))
 
-  pub names_if_in : (number : ℕ) → layout_in (pairs_of lines) ≡ Some number → NamesLayout db number
+  pub names_if_in : (number : ℕ) → layout_in (pairs_of lines) ≡ Some number → RowsNameLayout rows number
   names_if_in number h =
       let both = named_in (has_value (codes "avroreg") (value_at (codes "format") (pairs_of lines))) (option_and_then number_in (value_at (codes "layout") (pairs_of lines))) number h in
       let it = text_of (value_at (codes "layout") (pairs_of lines)) number both.1 in
       record { format = said (codes "format") (codes "avroreg") (value_is (codes "avroreg") _ both.0); text = it.0; layout = said (codes "layout") it.0 it.1; is = it.2 }
 
+module _ (lines : List MetaLine) (db : Database) (lists : ListsMeta db lines) where
   -- and the lines say what a row says, where no name comes twice
   module _ (holds : HoldsMeta db) where
-    found : (q v : List ℕ) → Says db q v → value_at q (pairs_of lines) ≡ Some v
+    found : (q v : List ℕ) → Says (db.trees meta.tree) q v → value_at q (pairs_of lines) ≡ Some v
     found q v says =
         let shown = listed_if_shown pair_form text_cmp text_order distinct_texts (db.trees meta.tree) (map meta_entry lines) lists holds.names distinct_texts holds.shows in
         let entry = holds.shows.sound says.0 says.1 in
@@ -104,6 +109,13 @@ module _ (lines : List MetaLine) (db : Database) (lists : ListsMeta db lines) wh
         ap (λ o. if has_value (codes "avroreg") o then option_and_then number_in (value_at (codes "layout") (pairs_of lines)) else None) (found (codes "format") (codes "avroreg") n.format)
         ∙ ap (λ b. if b then option_and_then number_in (value_at (codes "layout") (pairs_of lines)) else None) (same_bytes (codes "avroreg"))
         ∙ ap (option_and_then number_in) (found (codes "layout") n.text n.layout) ∙ n.is
+
+-- in any database, the lines name the layout that the rows of `meta` name
+shows_layout : (lines : List MetaLine) (db : Database) → ReadsMeta db lines → (number : ℕ) → layout_in (pairs_of lines) ≡ Some number → ShowsLayout db number
+shows_layout lines db reads number is =
+    let entries = map (entry_parts pair_form) (map meta_entry lines) in
+    let lists : Lists pair_form reads.rows (map meta_entry lines) = subst (λ (parts : List RowParts). IsPermutation parts entries) (sym reads.read) (IsPermutation-refl entries) in
+    record { rows = reads.rows; shows = reads.shows; names = names_if_in lines reads.rows lists number is }
 
 -- what is allowed of the rows is what is judged of the lines
 pub judged : (layout : Layout) (lines : List MetaLine) (named : Option ℕ) (passes : Bool) (r : Result (Unit {0}) StoreError) → named ≡ layout_in (pairs_of lines) → (IsTrue passes → PassesMeta layout lines) → (PassesMeta layout lines → IsTrue passes)
@@ -174,13 +186,25 @@ module _ {S : Type 0} (g : Ghosts S) (old new : Held S) (layout : Layout) where
       told = λ clean known. tt;
     }
 
-    pub meta_refused : (r : Result (Unit {0}) StoreError) → JudgesMeta layout lines r → HasCleanDisk (state g new) → IfErr r (IsRefusedAs (number_of layout) db)
-    meta_refused (Ok y) j clean = tt
-    meta_refused (Err Memory) j clean = tt
-    meta_refused (Err Disk) j clean = tt
-    meta_refused (Err NotARegistry) j clean = tt
-    meta_refused (Err (OldLayout number)) j clean = (above_zero (pairs_of lines) number j.0, j.1, λ first. names_if_in lines db (listed clean first) number j.0)
-    meta_refused (Err (NewerLayout number)) j clean = (j.1, λ first. names_if_in lines db (listed clean first) number j.0)
+    names_first : HasCleanDisk (state g new) → (number : ℕ) → layout_in (pairs_of lines) ≡ Some number → HasTablesFirst db.schema → NamesLayout db number
+    names_first clean number is first = names_if_in lines (db.trees meta.tree) (listed clean first) number is
+
+    pub meta_refused : (HasCleanDisk (state g new) → ReadsMeta db lines) → (r : Result (Unit {0}) StoreError) → JudgesMeta layout lines r → HasCleanDisk (state g new) → IfErr r (IsRefusedAs (number_of layout) db)
+    meta_refused reads (Ok y) j clean = tt
+    meta_refused reads (Err Memory) j clean = tt
+    meta_refused reads (Err Disk) j clean = tt
+    meta_refused reads (Err NotARegistry) j clean = tt
+    meta_refused reads (Err (OldLayout number)) j clean = (above_zero (pairs_of lines) number j.0, j.1, shows_layout lines db (reads clean) number j.0, names_first clean number j.0)
+    meta_refused reads (Err (NewerLayout number)) j clean = (j.1, shows_layout lines db (reads clean) number j.0, names_first clean number j.0)
+
+    -- no fault of the disk is told of what was read
+    pub meta_told : (r : Result (Unit {0}) StoreError) → JudgesMeta layout lines r → IfErr r (IsTold (state g old) (state g new))
+    meta_told (Ok y) j = tt
+    meta_told (Err Memory) j = tt
+    meta_told (Err Disk) j = absurd j
+    meta_told (Err NotARegistry) j = tt
+    meta_told (Err (OldLayout number)) j = tt
+    meta_told (Err (NewerLayout number)) j = tt
 
     named : HasCleanDisk (state g new) → (number : ℕ) → HasOther (number_of layout) db number → layout_in (pairs_of lines) ≡ Some number
     named clean number out = in_if_names lines db (listed clean out.holds.first) out.holds number out.names

@@ -1,4 +1,4 @@
--- What opening a store over tables that passed leaves.
+-- What `open` leaves of tables that passed the test.
 use Rattle.std.proofs.Common.{◌≡◌, ◌≢◌, inl, inr, ℕ, None, IsTrue, Ok, Err, Result, refl, sym, ap, subst, ◌∙◌, arith}
 use Rattle.std.specs.Prelude.{IfOk, IfErr, OnOk}
 use Rattle.sqlite.specs.Effect.{Database, IsDatabase}
@@ -16,9 +16,9 @@ use Rattle.reg_tables.specs.Reads.{OnlyReads}
 use Rattle.reg_store.specs.declared.error.StoreError.{StoreError}
 use Rattle.reg_store.specs.declared.error.StoreError.TheVariants.{Memory, Disk, NotARegistry, OldLayout, NewerLayout}
 use Rattle.reg_store.specs.declared.layout.Layout.TheVariants.{First}
-use Rattle.reg_store.specs.Failures.{IsNumberless, IsFaultBy}
-use Rattle.reg_store.specs.UnopenedFaults.{IsFaultFirst, IsToldFirst, IsUnread}
-use Rattle.reg_store.specs.Opening.{IsRefusedAs, TellsOther, OpensOver, IsIndexed, LosesNothing, HasVersionRows, FindsFirst}
+use Rattle.reg_store.specs.Failures.{IsFaultBy, IsTold}
+use Rattle.reg_store.specs.UnopenedFaults.{IsFaultFirst, IsUnread}
+use Rattle.reg_store.specs.Opening.{IsRefusedAs, TellsOther, OpensOver, LacksIndex, IsIndexed, LosesNothing, HasVersionRows, FindsFirst}
 use Rattle.reg_store.specs.Spells.{IsSpelledSecond, Spells, SpellsFirst, SpellsUnopened}
 use Rattle.reg_store.specs.Stores.{LeavesCommit, LeavesConnection, IsUnmade}
 use Rattle.reg_store.specs.Inside.Testing.{SpellsSome, TablesPass, SecondPasses}
@@ -27,7 +27,7 @@ use Rattle.reg_store.proofs.Committing.{left_if_spelled, leaves_before}
 use Rattle.reg_store.proofs.Rereading.{same_now}
 use Rattle.reg_store.proofs.SecondTests.{spelled_if_first_passed, spelled_if_all_passed}
 
--- what is spelled without the index
+-- the tables lack the index and spell what is stored
 pub record SpellsBare (db : Database) (was : Stored) : Type 0 where
   pub contents : SecondContents
   pub holds : HoldsAllIn second_unindexed db contents
@@ -37,23 +37,22 @@ pub spells_bare : (db : Database) (was : Stored) → db.schema ≡ second_uninde
 spells_bare db was is s = record { contents = s.contents; holds = subst (λ x. HoldsAllIn x db s.contents) (sym s.holds.base.declared ∙ is) s.holds; spelled = s.spelled }
 
 module _ (old mid : State) (reads : OnlyReads old mid) (settled : IsTrue old.is_open → old.now ≡ old.committed) (known : IsSecondLayout old.now.schema) (sound : IsDatabase old.now) (passed : SecondPasses old.now) where
-  -- the index is there, and nothing is done
-  pub opens_as_it_is : mid.now.schema ≢ second_unindexed → OpensOver old mid
-  opens_as_it_is other =
+  -- the index is there, and nothing is changed
+  pub opens_as_it_is : IsTrue mid.is_open → mid.now.schema ≢ second_unindexed → OpensOver old mid
+  opens_as_it_is is_open other =
       let it = spelled_if_all_passed old.now known sound passed in
+      let same = same_now old mid reads settled is_open in
+      let here : Spells old.now it.stored = elim it.spells.known [
+        | inl is ↦ record { schema = it.spells.schema; known = is; contents = it.spells.contents; holds = it.spells.holds; spelled = it.spells.spelled }
+        | inr bare ↦ absurd (other (ap (λ (d : Database). d.schema) same ∙ it.spells.holds.base.declared ∙ bare))
+      ] in
       record {
         stored = it.stored;
         spelled = it.spells;
-        spells = λ is_open.
-            (let same = same_now old mid reads settled is_open in
-            let here : Spells old.now it.stored = elim it.spells.known [
-              | inl is ↦ record { schema = it.spells.schema; known = is; contents = it.spells.contents; holds = it.spells.holds; spelled = it.spells.spelled }
-              | inr bare ↦ absurd (other (ap (λ (d : Database). d.schema) same ∙ it.spells.holds.base.declared ∙ bare))
-            ] in
-            record { is_open = is_open; settled = sym (reads.settled is_open); spells = subst (λ (d : Database). Spells d it.stored) (sym same) here });
+        spells = record { is_open = is_open; settled = sym (reads.settled is_open); spells = subst (λ (d : Database). Spells d it.stored) (sym same) here };
       }
 
-  -- the index is made
+  -- the index is added
   pub opens_with_index : (new : State) → mid.now.schema ≡ second_unindexed → IsTrue mid.is_open → IsTrue new.is_open → new.committed ≡ new.now
       → ((contents : SecondContents) → HoldsAllIn second_unindexed mid.now contents → HoldsAllIn second_indexed_last new.now contents) → OpensOver old new
   opens_with_index new bare mid_open is_open committed made =
@@ -63,7 +62,7 @@ module _ (old mid : State) (reads : OnlyReads old mid) (settled : IsTrue old.is_
       record {
         stored = it.stored;
         spelled = it.spells;
-        spells = λ _. record {
+        spells = record {
           is_open = is_open;
           settled = committed;
           spells = record {
@@ -76,15 +75,18 @@ module _ (old mid : State) (reads : OnlyReads old mid) (settled : IsTrue old.is_
         };
       }
 
-  -- tables that lack the index hold contents
-  pub bare_contents : mid.now.schema ≡ second_unindexed → IsTrue mid.is_open → (contents : SecondContents) × HoldsAllIn second_unindexed old.now contents
-  bare_contents bare mid_open =
+  -- tables that lack the index spell a registry
+  pub bare_tables : mid.now.schema ≡ second_unindexed → IsTrue mid.is_open → LacksIndex old.now
+  bare_tables bare mid_open =
       let it = spelled_if_all_passed old.now known sound passed in
-      let spells = spells_bare old.now it.stored (sym (ap (λ (d : Database). d.schema) (same_now old mid reads settled mid_open)) ∙ bare) it.spells in
-      (spells.contents, spells.holds)
+      record { stored = it.stored; spelled = it.spells; bare = sym (ap (λ (d : Database). d.schema) (same_now old mid reads settled mid_open)) ∙ bare }
 
-module _ (old mid new : State) (reads : HasCleanDisk mid → OnlyReads old mid) (settled : IsTrue old.is_open → old.now ≡ old.committed) (bare : HasCleanDisk new → IsTrue mid.is_open → (contents : SecondContents) × HoldsAllIn second_unindexed old.now contents) where
-  -- a crash leaves what it left before, or the same tables with the index
+-- such tables hold contents
+pub bare_contents : (db : Database) → LacksIndex db → (contents : SecondContents) × HoldsAllIn second_unindexed db contents
+bare_contents db it = let spells = spells_bare db it.stored it.bare it.spelled in (spells.contents, spells.holds)
+
+module _ (old mid new : State) (reads : HasCleanDisk mid → OnlyReads old mid) (settled : IsTrue old.is_open → old.now ≡ old.committed) (bare : HasCleanDisk new → IsTrue mid.is_open → LacksIndex old.now) where
+  -- a crash leaves what it left before, or the tables with the index
   pub index_survives : Survives old mid (λ _. ⊥) → Survives mid new (λ db. IsTrue mid.is_open × TakesIndex mid.now db) → Survives old new (IsIndexed old.now)
   index_survives p q = survives_then old mid new (λ _. ⊥) (λ db. IsTrue mid.is_open × TakesIndex mid.now db) (IsIndexed old.now) (λ _ db none. absurd none) made p q
     where
@@ -92,15 +94,15 @@ module _ (old mid new : State) (reads : HasCleanDisk mid → OnlyReads old mid) 
       made clean db it =
           let early : HasCleanDisk mid = omega (arith, q.clean) in
           let there = bare clean it.0 in
-          record { contents = there.0; bare = there.1; indexed = λ held holds. it.1 held (subst (λ (d : Database). HoldsAllIn second_unindexed d held) (sym (same_now old mid (reads early) settled it.0)) holds) }
+          record { found = there; indexed = λ held holds. it.1 held (subst (λ (d : Database). HoldsAllIn second_unindexed d held) (sym (same_now old mid (reads early) settled it.0)) holds) }
 
--- what the tables spelled stays, whichever of the schemas they have then
+-- a crash leaves what the tables spelled, with or without the index
 module _ (old new : State) (settled : IsTrue old.is_open → old.now ≡ old.committed) (only : (db : Trees) → IsTrue old.is_open → old.may_leave db → db ≡ old.committed.trees) (survives : Survives old new (IsIndexed old.now)) where
   pub loses_nothing : HasCleanDisk new → LosesNothing old new
   loses_nothing clean is_open was spelled db it = elim (survives.crash clean db it) [
     | inl left ↦ left_if_spelled db old.now was (only db is_open left ∙ sym (ap (λ (d : Database). d.trees) (settled is_open))) spelled
     | inr made ↦
-        let bare = spells_bare old.now was made.bare.base.declared spelled in
+        let bare = spells_bare old.now was made.found.bare spelled in
         record { schema = second_indexed_last; spells = record { schema = second_indexed_last; known = inl (inr refl); contents = bare.contents; holds = made.indexed bare.contents bare.holds; spelled = bare.spelled } }
   ]
 
@@ -113,15 +115,7 @@ finds_first old new (Ok count) known is_open sound passes =
     record { stored = it.stored; spells = it.spells; counted = both.1 }
 finds_first old new (Err e) known is_open sound passes = tt
 
--- an error that names no layout names no wrong one
-pub refused_if_plain : (own : ℕ) (db : Database) (e : StoreError) → IsNumberless e → IsRefusedAs own db e
-refused_if_plain own db Memory plain = tt
-refused_if_plain own db Disk plain = tt
-refused_if_plain own db NotARegistry plain = tt
-refused_if_plain own db (OldLayout number) plain = absurd plain
-refused_if_plain own db (NewerLayout number) plain = absurd plain
-
--- ---- what a call leaves that fails
+-- ---- what a failed call leaves
 
 pub only_reads : (old new : State) → KeepsCommit old new → (IsTrue new.is_open → new.now ≡ new.committed) → OnlyReads old new
 only_reads old new stays settled = record { commit_stays = stays; settled = settled }
@@ -135,7 +129,7 @@ leaves_all s e settled commit = record {
   settled = commit;
 }
 
--- the limit on steps is no matter of it
+-- the limit on steps makes no difference
 pub leaves_unlimited : {S : Type 0} (g : Ghosts S) (conn begun : Held S) → begun ≡ record conn { step_limit = None } → (new : State) (e : StoreError) → LeavesConnection (state g begun) new e → LeavesConnection (state g conn) new e
 leaves_unlimited g conn begun is new e leaves =
     let it = subst (λ h. LeavesConnection (state g h) new e) is leaves in
@@ -148,7 +142,7 @@ leaves_unlimited g conn begun is new e leaves =
       settled = it.settled;
     }
 
--- nothing is made beside other tables
+-- no registry is made next to other tables
 pub unmade_beside : {S : Type 0} (g : Ghosts S) (conn begun : Held S) → begun ≡ record conn { step_limit = None } → {LeavesNew : Trees → Type 0} → (state g begun).now.schema ≢ no_schema
     → (IsTrue (state g begun).is_open → (state g begun).now ≡ (state g begun).committed) → LeavesCommit (state g begun) → IsUnmade LeavesNew (state g conn) (state g begun) NotARegistry
 unmade_beside g conn begun is others settled commit = record {
@@ -157,10 +151,10 @@ unmade_beside g conn begun is others settled commit = record {
   crash = λ clean db it. inl (subst (λ h. (state g h).may_leave db) is it);
 }
 
--- nor is it what a look at layout 1 tells
+-- nor for the errors of `check_first`
 pub unread_unlimited : {S X : Type 0} (g : Ghosts S) (conn begun : Held S) → begun ≡ record conn { step_limit = None } → (new : State) (r : Result X StoreError)
     → IfErr r (λ e. (IsTrue (state g begun).is_open → SpellsSome SpellsFirst (state g begun).now) → IsFaultBy (state g begun) new e)
-    → IfErr r (IsToldFirst (state g begun) new) → IfErr r (IsRefusedAs 1 (state g begun).now) → IfErr r (TellsOther 1 (state g begun)) → IfErr r (IsUnread (state g conn) new)
+    → IfErr r (IsTold (state g begun) new) → IfErr r (IsRefusedAs 1 (state g begun).now) → IfErr r (TellsOther 1 (state g begun)) → IfErr r (IsUnread (state g conn) new)
 unread_unlimited g conn begun is new (Ok x) fault told refused other = tt
 unread_unlimited g conn begun is new (Err e) fault told refused other =
     let first : IsFaultFirst (state g begun) new e = λ was over. fault (λ is_open. record { stored = was; spells = over is_open }) in

@@ -11,7 +11,7 @@ use Rattle.reg_store.specs.declared.error.StoreError.TheVariants.{Memory, Disk, 
 use Rattle.reg_core.specs.Stored.{Stored}
 use Rattle.reg_store.specs.Spells.{SpellsWhileOpen}
 
--- SQLite, result codes: memory was refused; the disk failed, or what was to be written is past a limit of the file; or the statement doesn't fit the tables
+-- SQLite, result codes: allocation failed; the disk failed or a limit of the file was reached; or the statement doesn't fit the tables
 abbrev pub failure_of : Error → StoreError
 failure_of (SqliteFailure code.OutOfMemory) = Memory
 failure_of (SqliteFailure code.SystemIoFailure) = Disk
@@ -20,7 +20,7 @@ failure_of (SqliteFailure code.DiskFull) = Disk
 failure_of (SqliteFailure code.TooBig) = Disk
 failure_of (SqliteFailure code.NoRowid) = Disk
 failure_of (SqliteFailure code.Closed) = Disk
--- SQLite would put the row at a rowid that is taken, which it never finds above the last of rows in the order of their rowids: the file is damaged
+-- SQLite chose a rowid that a row already has. In a file whose rows are in the order of their rowids this can't happen: the file is damaged
 failure_of (SqliteFailure (code.ConstraintViolation PrimaryKey)) = Disk
 failure_of _ = NotARegistry
 
@@ -30,23 +30,23 @@ is_fault Memory = true
 is_fault Disk = true
 is_fault _ = false
 
--- this project's choice: memory, or the disk, and then for a fault of the disk between the two or before
+-- this project's choice: the error is `Memory`, or it is `Disk` and a disk fault is the cause
 abbrev pub IsFaultBy : State → State → StoreError → Type 0
 IsFaultBy old new Memory = Unit {0}
 IsFaultBy old new Disk = HasDiskFault old new
 IsFaultBy old new _ = ⊥
 
--- this project's choice: `Disk` is told of a fault of the disk alone
+-- this project's choice: if the error is `Disk`, a disk fault is the cause
 abbrev pub IsTold : State → State → StoreError → Type 0
 IsTold old new Disk = HasDiskFault old new
 IsTold old new _ = Unit {0}
 
--- this project's choice: no layout is named
+-- this project's choice: the error has no layout number
 abbrev pub IsNumberless : StoreError → Type 0
 IsNumberless (OldLayout number) = ⊥
 IsNumberless (NewerLayout number) = ⊥
 IsNumberless _ = Unit {0}
 
--- this project's choice: where the tables spell a registry, memory and the disk alone fail
+-- this project's choice: if the tables spell a registry, only memory or the disk fails
 abbrev pub IsFaultOver : State → State → StoreError → Type 0
 IsFaultOver old new e = (was : Stored) → SpellsWhileOpen old was → IsFaultBy old new e

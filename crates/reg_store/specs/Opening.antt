@@ -1,4 +1,4 @@
--- The rows of the tables as their lines have them, and what is said of a database before it is opened.
+-- The rows of the tables as lines, and the databases that `Store::open` accepts and rejects.
 use Rattle.std.specs.Prelude.{◌≡◌, ◌≢◌, ◌⊎◌, ◌<◌, ℕ, List, Bool, IsTrue, length, nat_lt, codes, Some, if◌then◌else◌}
 use Rattle.sqlite.specs.Order.{Row}
 use Rattle.sqlite.specs.Tree.{Trees}
@@ -16,13 +16,14 @@ use Rattle.reg_tables.specs.TableMaps.{IsEntry}
 use Rattle.reg_tables.specs.Contents.{pair_form}
 use Rattle.reg_tables.specs.SecondContents.{SecondContents, HoldsAllIn}
 use Rattle.reg_tables.specs.Reads.{HoldsMeta}
+use Rattle.reg_tables.specs.Selects.{ShowsMeta}
 use Rattle.reg_rows.specs.Spelling.{Text}
 use Rattle.reg_rows.specs.Meta.{number_in}
 use Rattle.reg_core.specs.Stored.{Stored}
 use Rattle.reg_store.specs.declared.error.StoreError.{StoreError}
 use Rattle.reg_store.specs.declared.error.StoreError.TheVariants.{OldLayout, NewerLayout}
 use Rattle.reg_store.specs.Failures.{is_fault}
-use Rattle.reg_store.specs.Spells.{SpellsFirst, SpellsUnopened, LeavesIn, SpellsWhileOpen}
+use Rattle.reg_store.specs.Spells.{SpellsFirst, SpellsUnopened, LeavesIn, IsOpenOver}
 
 -- ---- rows
 
@@ -43,69 +44,84 @@ meta_shown line = (line.name, line.value)
 
 -- ---- databases
 
--- a row of `meta` has this name and this value
-abbrev pub Says : Database → List ℕ → List ℕ → Type 0
-Says db name value = (row : Row) × Has (db.trees meta.tree) row × IsEntry pair_form row name value
+-- one of the rows has this name and this value
+abbrev pub Says : List Row → List ℕ → List ℕ → Type 0
+Says rows name value = (row : Row) × Has rows row × IsEntry pair_form row name value
 
--- this project's choice: the rows of `meta` name this format, and a layout of this number
-pub record NamesLayout (db : Database) (number : ℕ) : Type 0 where
-  pub format : Says db (codes "format") (codes "avroreg")
+-- this project's choice: the rows name the format `avroreg` and a layout of this number
+pub record RowsNameLayout (rows : List Row) (number : ℕ) : Type 0 where
+  pub format : Says rows (codes "format") (codes "avroreg")
   pub text : List ℕ
-  pub layout : Says db (codes "layout") text
+  pub layout : Says rows (codes "layout") text
   pub is : number_in text ≡ Some number
 
--- the five tables come first, whatever follows, and the rows of `meta`, which can be read, name a layout of another number than this one
+-- in a database that begins with the five tables, the rows of `meta` do
+abbrev pub NamesLayout : Database → ℕ → Type 0
+NamesLayout db number = RowsNameLayout (db.trees meta.tree) number
+
+-- in any database, the rows that SQLite returns for `meta` do, be `meta` a table or a view
+pub record ShowsLayout (db : Database) (number : ℕ) : Type 0 where
+  pub rows : List Row
+  pub shows : ShowsMeta db rows
+  pub names : RowsNameLayout rows number
+
+-- the database begins with the five tables, and the rows of `meta` can be read and name a layout with another number
 pub record HasOther (own : ℕ) (db : Database) (number : ℕ) : Type 0 where
   pub holds : HoldsMeta db
   pub names : NamesLayout db number
   pub other : number ≢ own
 
--- this project's choice: how a layout of another number is refused
+-- this project's choice: the error for a layout with another number
 abbrev pub refusal_of : ℕ → ℕ → StoreError
 refusal_of own number = if nat_lt number own then OldLayout number else NewerLayout number
 
--- a refusal that has a number has it from the rows of `meta`, where the five tables come first, and it is older or newer than this one
+-- an error with a number has the number from the rows of `meta`, and the layout is older or newer than this one
 abbrev pub IsRefusedAs : ℕ → Database → StoreError → Type 0
-IsRefusedAs own db (OldLayout number) = (0 < number) × (number < own) × (HasTablesFirst db.schema → NamesLayout db number)
-IsRefusedAs own db (NewerLayout number) = (own < number) × (HasTablesFirst db.schema → NamesLayout db number)
+IsRefusedAs own db (OldLayout number) = (0 < number) × (number < own) × ShowsLayout db number × (HasTablesFirst db.schema → NamesLayout db number)
+IsRefusedAs own db (NewerLayout number) = (own < number) × ShowsLayout db number × (HasTablesFirst db.schema → NamesLayout db number)
 IsRefusedAs own db _ = Unit {0}
 
--- tables that name another layout than this one are told so, but for a fault
+-- if `meta` names another layout, the error has its number, or memory or the disk failed
 abbrev pub TellsOther : ℕ → State → StoreError → Type 0
 TellsOther own s e = (number : ℕ) → IsTrue s.is_open → HasOther own s.now number → (e ≡ refusal_of own number) ⊎ IsTrue (is_fault e)
 
--- this project's choice: stores are opened over layout 2
+-- this project's choice: stores open layout 2
 abbrev pub IsRefusedBy : Database → StoreError → Type 0
 IsRefusedBy = IsRefusedAs 2
 
 abbrev pub TellsLayout : State → StoreError → Type 0
 TellsLayout = TellsOther 2
 
--- the tables lacked the index, and the trees are those of the same tables with it
+-- the tables of layout 2 spell a registry and lack the index
+pub record LacksIndex (db : Database) : Type 0 where
+  pub stored : Stored
+  pub spelled : SpellsUnopened db stored
+  pub bare : db.schema ≡ second_unindexed
+
+-- the tables lacked the index, and the trees are the same tables with the index
 pub record IsIndexed (before : Database) (db : Trees) : Type 0 where
-  pub contents : SecondContents
-  pub bare : HoldsAllIn second_unindexed before contents
+  pub found : LacksIndex before
   pub indexed : (held : SecondContents) → HoldsAllIn second_unindexed before held → HoldsAllIn second_indexed_last (record { schema = second_indexed_last; trees = db }) held
 
--- the trees spell what is stored, with the index or without it
+-- the trees spell what is stored, with or without the index
 abbrev pub LeavesUnopened : Trees → Stored → Type 0
 LeavesUnopened = LeavesIn IsSecondLayout
 
--- this project's choice: whatever the tables of an open connection spelled, a crash leaves it
+-- this project's choice: a crash leaves what the tables of the open connection spelled
 abbrev pub LosesNothing : State → State → Type 0
 LosesNothing old new = IsTrue old.is_open → (was : Stored) → SpellsUnopened old.now was → (db : Trees) → new.may_leave db → LeavesUnopened db was
 
--- the tables spelled what is stored, and the connection shows it
+-- the tables spelled what is stored, and the connection is open and its last commit spells the same
 pub record OpensOver (old new : State) : Type 0 where
   pub stored : Stored
   pub spelled : SpellsUnopened old.now stored
-  pub spells : SpellsWhileOpen new stored
+  pub spells : IsOpenOver new stored
 
--- `versions` has so many rows
+-- `versions` has this number of rows
 abbrev pub HasVersionRows : Database → ℕ → Type 0
 HasVersionRows db count = count ≡ length (db.trees versions.tree)
 
--- the tables of layout 1 spell what is stored, and `versions` has so many rows
+-- the tables of layout 1 spell what is stored, and `versions` has this number of rows
 pub record FindsFirst (db : Database) (count : ℕ) : Type 0 where
   pub stored : Stored
   pub spells : SpellsFirst db stored

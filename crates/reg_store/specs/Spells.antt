@@ -1,4 +1,4 @@
--- What the tables say of a registry and of the replies that it keeps.
+-- The registry and the kept replies that tables spell.
 use Rattle.std.specs.Prelude.{◌≡◌, ◌<◌, ◌^◌, ℕ, zero, suc, List, length, slice_get, Option, None, Some, IsTrue, IsUtf8, codes, option_map, option_and_then}
 use Rattle.std.specs.FinMap.{get, insert, empty}
 use Rattle.sqlite.specs.Tree.{Trees}
@@ -40,8 +40,8 @@ pub record CanBeKept (key : List ℕ) (entry : Entry) : Type 0 where
   pub text : IsUtf8 entry.command
   pub body : IsUtf8 entry.reply.body
 
--- this project's choice: what the tables of both layouts hold spells these schemas, versions and levels, and these kept replies. (Of modes, and of
--- the rows of `meta`, it says nothing.)
+-- This project's choice: the contents of the five tables of both layouts spell these schemas, versions, levels and kept replies. Modes and the rows of `meta`
+-- are left to the two layouts.
 pub record IsSpelled (contents : Contents) (g : Registry) (k : Kept) : Type 0 where
   pub registry : IsRegistry g
   -- the text of an id is the identity text of its schema
@@ -56,12 +56,12 @@ pub record IsSpelled (contents : Contents) (g : Registry) (k : Kept) : Type 0 wh
 
 -- ---- layout 1
 
--- this project's choice: the registry's mode is READWRITE, and no subject has one of its own
+-- this project's choice: the registry's mode is READWRITE, and no subject has its own mode
 pub record HasNoModes (g : Registry) : Type 0 where
   pub global : g.global_mode ≡ Readwrite
   pub own : (subject : List ℕ) → g.own_modes subject ≡ None
 
--- this project's choice: what the tables of layout 1 hold spells what is stored
+-- this project's choice: the contents of layout 1 spell what is stored
 pub record IsSpelledFirst (contents : Contents) (was : Stored) : Type 0 where
   pub base : IsSpelled contents was.registry was.replies
   -- the format, the layout and the global level, and no more
@@ -70,7 +70,7 @@ pub record IsSpelledFirst (contents : Contents) (was : Stored) : Type 0 where
   pub modes : HasNoModes was.registry
   pub evidence : was.evidence ≡ empty
 
--- this project's choice: the tables of the database are those of layout 1, the index there or missing, and they spell what is stored
+-- this project's choice: the tables are those of layout 1, with or without the index, and spell what is stored
 pub record SpellsFirst (db : Database) (was : Stored) : Type 0 where
   pub schema : Schema
   pub known : IsLayout schema
@@ -78,7 +78,7 @@ pub record SpellsFirst (db : Database) (was : Stored) : Type 0 where
   pub holds : HoldsIn schema db contents
   pub spelled : IsSpelledFirst contents was
 
--- this project's choice: the database that a crash leaves spells it, and lists the tables of layout 1
+-- this project's choice: a crash leaves the tables of layout 1, and they spell what is stored
 pub record LeavesFirst (db : Trees) (was : Stored) : Type 0 where
   pub schema : Schema
   pub spells : SpellsFirst (record { schema = schema; trees = db }) was
@@ -94,13 +94,13 @@ abbrev pub id_at : ℕ → Evidence → Option ℕ
 id_at zero one = None
 id_at (suc n) one = slice_get one.against n
 
--- this project's choice: the evidence of a version is spelled by the level's text, and by the ids at the positions from 1 to their count
+-- this project's choice: the level's text, and the ids at the positions from 1 to their count, spell the evidence of a version
 pub record IsSpelledEvidence (contents : SecondContents) (evidence : EvidenceOf) : Type 0 where
   pub levels : (key : RowKey) → get contents.evidence key ≡ option_map (λ one. level_text one.level) (get evidence key)
   pub ids : (place : PlaceKey) → get contents.against place ≡ option_and_then (id_at place.1) (get evidence place.0)
   pub few : (key : RowKey) (one : Evidence) → get evidence key ≡ Some one → length one.against < 2 ^ 32
 
--- this project's choice: what the tables of layout 2 hold spells what is stored
+-- this project's choice: the contents of layout 2 spell what is stored
 pub record IsSpelledSecond (contents : SecondContents) (was : Stored) : Type 0 where
   pub base : IsSpelled contents.base was.registry was.replies
   pub meta : contents.base.meta ≡ second_meta (level_text was.registry.global) (mode_text was.registry.global_mode)
@@ -116,20 +116,20 @@ pub record SpellsIn (Known : Schema → Type 0) (db : Database) (was : Stored) :
   pub holds : HoldsAllIn schema db contents
   pub spelled : IsSpelledSecond contents was
 
--- this project's choice: the tables of the database are those of layout 2, and they spell it
+-- this project's choice: the tables are those of layout 2 and spell what is stored
 abbrev pub Spells : Database → Stored → Type 0
 Spells = SpellsIn IsSecond
 
--- this project's choice: so they do before a store is opened over them, when the index of versions may be missing
+-- this project's choice: the same before `open`, when the index may be missing
 abbrev pub SpellsUnopened : Database → Stored → Type 0
 SpellsUnopened = SpellsIn IsSecondLayout
 
--- this project's choice: the database that a crash leaves spells it, and lists the tables of one of these schemas
+-- this project's choice: a crash leaves the tables of one of these schemas, and they spell what is stored
 pub record LeavesIn (Known : Schema → Type 0) (db : Trees) (was : Stored) : Type 0 where
   pub schema : Schema
   pub spells : SpellsIn Known (record { schema = schema; trees = db }) was
 
--- this project's choice: it lists those of layout 2, so that an open finds them
+-- this project's choice: a crash leaves the tables of layout 2, and they spell what is stored
 abbrev pub Leaves : Trees → Stored → Type 0
 Leaves = LeavesIn IsSecond
 
@@ -141,14 +141,14 @@ pub record IsOpenIn (Spelled : Database → Stored → Type 0) (s : State) (was 
   pub settled : s.committed ≡ s.now
   pub spells : Spelled s.now was
 
--- SQLite, transactions: so it is in layout 2
+-- SQLite, transactions: the same for layout 2
 abbrev pub IsOpenOver : State → Stored → Type 0
 IsOpenOver = IsOpenIn Spells
 
--- SQLite, transactions: and in layout 1
+-- SQLite, transactions: the same for layout 1
 abbrev pub IsOpenOverFirst : State → Stored → Type 0
 IsOpenOverFirst = IsOpenIn SpellsFirst
 
--- SQLite, transactions: as long as the connection is open, it is open over what is stored; a fault may shut it
+-- SQLite, transactions: if the connection is still open, its last commit spells what is stored; a fault may have closed it
 abbrev pub SpellsWhileOpen : State → Stored → Type 0
 SpellsWhileOpen s was = IsTrue s.is_open → IsOpenOver s was

@@ -1,4 +1,4 @@
--- What a store is seen as.
+-- A store's connection, and what each call keeps of it.
 use Rattle.std.specs.Prelude.{◌≡◌, ◌⊎◌, ◌↔◌, ◌≤◌, Bool, false, IsTrue, Result, Err, OnOk, MatchResult}
 use Rattle.reg_tables.specs.Layout.{no_schema}
 use Rattle.reg_tables.specs.Reads.{OnlyReads}
@@ -14,83 +14,85 @@ use Rattle.reg_store.specs.Failures.{IsFaultBy}
 use Rattle.reg_core.specs.Stored.{Stored}
 use Rattle.reg_store.specs.Spells.{SpellsWhileOpen}
 
--- SQLite, connections: the store's one
+-- SQLite, connections: the store's connection
 abbrev pub connection_of : {S : Type 0} {g : Ghosts S} → Store S g → Held S
 connection_of store = store.db.idle.conn
 
--- SQLite, transactions: what its connection shows
+-- SQLite, transactions: the state of the store's connection
 abbrev pub state_of : {S : Type 0} {g : Ghosts S} → Store S g → State
 state_of {S} {g} store = state g (connection_of store)
 
--- this project's choice: it has answered a fault of the disk
+-- this project's choice: the store has returned `Disk`
 abbrev pub has_failed : {S : Type 0} {g : Ghosts S} → Store S g → Bool
 has_failed store = store.failed
 
--- SQLite, transactions: while the connection is open, a crash leaves its last commit alone
+-- SQLite, transactions: while the connection is open, a crash leaves only its last commit
 abbrev pub LeavesCommit : State → Type 0
 LeavesCommit s = IsTrue s.is_open → (db : Trees) → s.may_leave db → db ≡ s.committed.trees
 
--- SQLite, transactions: a crash leaves nothing that it didn't leave before
+-- SQLite, transactions: a crash leaves only what it left before
 abbrev pub LeavesNoMore : State → State → Type 0
 LeavesNoMore old new = (db : Trees) → new.may_leave db → old.may_leave db
 
--- this project's choice: where the error isn't `Disk`, a crash leaves what it left before and no more; but the disk may fail while memory is refused
+-- This project's choice: after an error other than `Disk`, a crash leaves only what it left before. If allocation fails, the disk may fail too.
 abbrev pub LeavesBefore : State → State → StoreError → Type 0
 LeavesBefore old new Disk = Unit {0}
 LeavesBefore old new Memory = LeavesNoMore old new ⊎ MoreFaults old.faults new.faults
 LeavesBefore old new _ = LeavesNoMore old new
 
--- SQLite, connections: no fault is forgotten, no connection is opened, and only a fault of the disk shuts one
+-- SQLite, connections: the count of faults never falls, a closed connection stays closed, and only a disk fault closes one
 pub record KeepsOpen (old new : State) : Type 0 where
   pub counts : old.faults ≤ new.faults
   pub stays_shut : HasCleanDisk new → IsTrue new.is_open → IsTrue old.is_open
   pub closes : HasCleanDisk new → IsTrue old.is_open → IsTrue new.is_open ⊎ MoreFaults old.faults new.faults
 
--- this project's choice: what a call that fails leaves of a connection that it gives back: nothing has changed, and an error that isn't `Disk` leaves the database as it was, also after a crash
+-- This project's choice: what a failed call leaves of the connection that it returns. Nothing has changed; after an error other than `Disk`, nothing has
+-- changed after a crash either.
 pub record LeavesConnection (old new : State) (e : StoreError) : Type 0 where
   pub nothing : HasCleanDisk new → OnlyReads old new
   pub before : HasCleanDisk new → IsTrue old.is_open → LeavesBefore old new e
   pub closes : HasCleanDisk new → IsTrue old.is_open → IsTrue new.is_open ⊎ MoreFaults old.faults new.faults
   pub settled : LeavesCommit new
 
--- this project's choice: why no registry is made in a database, and what is left of it: over an empty one memory or a fault of the disk is why, and a crash may leave the new registry
+-- This project's choice: why `create` fails, and what it leaves. In an empty database memory or a disk fault is the cause. A crash may leave the new registry.
 pub record IsUnmade (LeavesNew : Trees → Type 0) (old new : State) (e : StoreError) : Type 0 where
   pub fault : HasCleanDisk new → old.now.schema ≡ no_schema → IsFaultBy old new e
   pub leaves : LeavesConnection old new e
   pub crash : HasCleanDisk new → (db : Trees) → new.may_leave db → old.may_leave db ⊎ LeavesNew db
 
--- this project's choice: what each call of a store keeps, whatever it answers
+-- this project's choice: what each call of a store keeps, for every result
 pub record KeepsStore {S T : Type 0} {g : Ghosts S} (old new : Store S g) (result : Result T StoreError) : Type 0 where
-  -- after a fault of the disk a call does nothing
+  -- once the store has failed, a call does nothing
   pub failed_before : IsTrue (has_failed old) → (result ≡ Err Disk) × (new ≡ old)
   pub failed_now : (result ≡ Err Disk) ↔ IsTrue (has_failed new)
   pub clean : HasCleanDisk (state_of new) → HasCleanDisk (state_of old)
-  -- it succeeds over an open connection alone
+  -- a call succeeds only over an open connection
   pub was_open : HasCleanDisk (state_of new) → OnOk result (IsTrue (state_of old).is_open)
   pub connection : KeepsOpen (state_of old) (state_of new)
   pub settled : LeavesCommit (state_of new)
 
--- this project's choice: what each call of its lines keeps of a store that lends them, whatever it answers
+-- this project's choice: what each call of borrowed lines keeps of their store, for every result
 pub record KeepsLent {S T : Type 0} {g : Ghosts S} (old new : Store S g) (result : Result T StoreError) : Type 0 where
-  -- a fault of the disk is remembered by the lines alone
+  -- only the lines remember a disk fault
   pub failed : has_failed new ≡ has_failed old
   pub clean : HasCleanDisk (state_of new) → HasCleanDisk (state_of old)
-  -- it succeeds over an open connection alone
+  -- a call succeeds only over an open connection
   pub was_open : HasCleanDisk (state_of new) → OnOk result (IsTrue (state_of old).is_open)
   pub connection : KeepsOpen (state_of old) (state_of new)
   pub settled : LeavesCommit (state_of new)
 
--- this project's choice: the tables spell what they spelled
+-- this project's choice: the tables still spell what they spelled
 abbrev pub SpellsOn : State → State → Type 0
 SpellsOn old new = (was : Stored) → SpellsWhileOpen old was → SpellsWhileOpen new was
 
--- this project's choice: what a call that only reads says of what the tables spell, and leaves of it. An Ok tells of what is stored; an Err is a fault, unless the call stopped before (`Goes`)
+-- This project's choice: what a call that only reads returns and leaves. `Ok` has facts about what is stored. `Err` is a fault, unless the store had failed
+-- before (`Goes`).
 pub record TellsStored {T : Type 0} (old new : State) (Goes : Type 0) (result : Result T StoreError) (Tells : Stored → T → Type 0) : Type 0 where
   pub answers : (was : Stored) → SpellsWhileOpen old was → MatchResult result (Tells was) (λ e. Goes → IsFaultBy old new e)
   pub same : SpellsOn old new
   pub crash : LeavesNoMore old new
 
--- this project's choice: what each call of a store that only reads keeps, and tells
+-- this project's choice: what each call that only reads keeps and returns
 pub record ReadsStore {S T : Type 0} {g : Ghosts S} (old new : Store S g) (result : Result T StoreError) (Tells : Stored → T → Type 0) : Type 0 where
   pub frame : KeepsStore old new result
   pub tells : HasCleanDisk (state_of new) → TellsStored (state_of old) (state_of new) (has_failed old ≡ false) result Tells

@@ -9,14 +9,14 @@ use sqlite::{Constraint, ErrorCode};
 use std::alloc::AllocError;
 use thiserror::Error;
 
-/// Why a call of the store fails. It changed nothing then.
+/// Why a call of the store fails. A failed call changes nothing.
 #[derive(Clone, Copy, Debug, PartialEq, Eq, Error)]
 pub enum StoreError {
-    /// Memory was refused. The store goes on.
+    /// Allocation failed. The store stays usable.
     #[error("out of memory")]
     Memory,
-    /// The disk failed, or what was to be written is past a limit of the file. The store answers
-    /// this to every later call.
+    /// The disk failed, or a limit of the file was reached. Every later call of the store returns
+    /// this error too.
     #[error("the disk failed")]
     Disk,
     /// A table or a column is missing, or the rows don't spell a registry.
@@ -78,8 +78,8 @@ fn failure_with(code: ErrorCode) -> StoreError
         | ErrorCode::TooBig
         | ErrorCode::NoRowid
         | ErrorCode::Closed => StoreError::Disk,
-        // SQLite would put the row at a rowid that is taken, which it never finds above the last
-        // of rows in the order of their rowids: the file is damaged.
+        // SQLite chose a rowid that a row already has. In a file whose rows are in the order of
+        // their rowids this can't happen: the file is damaged.
         ErrorCode::ConstraintViolation(Constraint::PrimaryKey) => StoreError::Disk,
         _ => StoreError::NotARegistry,
     }

@@ -11,6 +11,7 @@ mod idle;
 mod keep;
 mod layout;
 mod listing;
+mod open_connection;
 mod rowids;
 mod store;
 mod testing;

@@ -6,7 +6,7 @@ ghost use Rattle.std.specs.List.{AllByRecursion};
 ghost use Rattle.sqlite.specs.State.{HasCleanDisk};
 ghost use Rattle.reg_tables.specs.Layout.{HasTablesFirst};
 ghost use Rattle.reg_tables.specs.SecondLayout.{IsSecondLayout};
-ghost use Rattle.reg_store.specs.Failures.{IsNumberless};
+ghost use Rattle.reg_store.specs.Failures.{IsNumberless, IsTold};
 ghost use Rattle.reg_store.specs.Opening.{HasVersionRows, FindsFirst, IsRefusedAs, TellsOther, IsRefusedBy, TellsLayout};
 ghost use Rattle.reg_store.specs.Inside.Testing.{AreApart, version_fits, level_fits, kept_fits, SpellsAs, Tests, TestsBase, TestsSecond, VersionsPass, LevelsPass, KeptPass, RestPasses, TablesPass, AddedPass, SecondPasses};
 ghost use Rattle.reg_store.specs.Inside.Reads.{shown};
@@ -175,12 +175,13 @@ fn test_rest<S: Alter>(alloc: Global, db: &mut Idle<S>) -> Result<u64, StoreErro
     Ok(count)
 }
 
-/// Tests the tables of layout 1, and answers how many rows `versions` has.
+/// Tests the tables of layout 1, and returns the number of rows of `versions`.
 pub(crate) fn test_first<S: Alter>(alloc: Global, db: &mut Idle<S>) -> Result<u64, StoreError>
     ensures tests { Tests HasTablesFirst (SpellsAs Layout.First)
         S.Store db.old.idle.conn db.new.idle.conn result
         (λ count db. TablesPass Layout.First db × HasVersionRows db count) }
     ensures found { HasCleanDisk (shown db.new) → IfOk result (FindsFirst (shown db.old).now) }
+    ensures told { HasCleanDisk (shown db.new) → IfErr result (IsTold (shown db.old) (shown db.new)) }
     ensures refused { HasCleanDisk (shown db.new)
         → IfErr result (IsRefusedAs 1 (shown db.old).now) }
     ensures other { HasCleanDisk (shown db.new)
@@ -198,6 +199,7 @@ pub(crate) fn test_first<S: Alter>(alloc: Global, db: &mut Idle<S>) -> Result<u6
 pub(crate) fn test_second<S: Alter>(alloc: Global, db: &mut Idle<S>) -> Result<(), StoreError>
     ensures tests { TestsSecond S.Store db.old.idle.conn db.new.idle.conn result (λ _. SecondPasses) }
     ensures known { OnOk result (IsSecondLayout (shown db.old).now.schema) }
+    ensures told { HasCleanDisk (shown db.new) → IfErr result (IsTold (shown db.old) (shown db.new)) }
     ensures refused { HasCleanDisk (shown db.new)
         → IfErr result (IsRefusedBy (shown db.old).now) }
     ensures other { HasCleanDisk (shown db.new)

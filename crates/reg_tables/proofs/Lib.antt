@@ -20,6 +20,7 @@ pub mod TableReads
 pub mod Transactions
 pub mod ReadableRows
 pub mod TableLines
+pub mod AnyDatabase
 pub mod TextLines
 pub mod ListingLemmas
 pub mod MetaLines

@@ -15,4 +15,5 @@ pub mod SecondContents
 pub mod Writing
 pub mod SecondListings
 pub mod SecondLookups
+pub mod Selects
 pub mod Inside

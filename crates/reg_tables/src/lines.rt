@@ -1,6 +1,6 @@
 //! All rows of each table, with their rowids, as the test of a database needs them.
 
-ghost use Rattle.std.specs.Prelude.{◌≡◌, ◌<◌, Bool, length, IfOk, IfErr, false};
+ghost use Rattle.std.specs.Prelude.{◌≡◌, ◌⊎◌, ◌<◌, Bool, length, IfOk, IfErr, false};
 ghost use Rattle.sqlite.specs.Order.{column};
 ghost use Rattle.reg_tables.specs.Layout.{HasTablesFirst};
 ghost use Rattle.reg_tables.specs.Lookups.{Lists};
@@ -9,6 +9,10 @@ ghost use Rattle.reg_tables.specs.Listings.{RowParts, parts_of, entry_parts, tex
 ghost use Rattle.reg_tables.specs.Inside.ReadableRows.{IsReadableText, IsReadableVersion, IsReadablePair, IsReadableKept};
 ghost use Rattle.reg_tables.specs.Reads.{CanBeRead, CanTellMeta};
 ghost use Rattle.reg_tables.specs.Inside.FailedLists.{IsReadingError};
+ghost use Rattle.sqlite.specs.State.{HasCleanDisk};
+ghost use Rattle.reg_tables.specs.Frames.{shown};
+ghost use Rattle.reg_tables.specs.FailedCalls.{IsFault, IsRefused, IsUnreadable};
+ghost use Rattle.reg_tables.specs.Selects.{ReadsMeta};
 
 use crate::idle::Idle;
 use crate::kept::KeptReply;
@@ -214,14 +218,19 @@ pub fn kept_lines<S: Alter>(alloc: Global, db: &mut Idle<S>) -> Result<Vec<KeptL
     )
 }
 
-/// All rows of `meta`, in any order, whatever tables follow the five.
+/// All rows of `meta`, in any order, whatever tables follow the five. In a database that doesn't
+/// begin with the five tables, `meta` may be any table or view.
 ///
 /// # Errors
 ///
-/// `OutOfMemory`, a fault of the disk, or `OperationInterrupted` at the limit on steps; another
-/// where a row holds what the line can't. Nothing is changed.
+/// `OutOfMemory`, a disk fault, or `OperationInterrupted` at the limit on steps; another error if
+/// SQLite rejects the statement or a row doesn't fit the line. Nothing is changed.
 pub fn meta_lines<S: Alter>(alloc: Global, db: &mut Idle<S>) -> Result<Vec<MetaLine>, Error>
-    ensures { Lists db.old db.new result HasTablesFirst CanTellMeta ListsMeta }
+    ensures lists { Lists db.old db.new result HasTablesFirst CanTellMeta ListsMeta }
+    ensures reads { HasCleanDisk (shown db.new)
+        → IfOk result (λ lines. ReadsMeta (shown db.old).now lines.items) }
+    ensures fails { HasCleanDisk (shown db.new) → IfErr result (λ e.
+        IsFault (shown db.old) (shown db.new) e ⊎ (IsRefused e ⊎ IsUnreadable e)) }
 {
     list(alloc, db, "SELECT rowid, name, value FROM meta", &[])
 }

@@ -1,4 +1,4 @@
-//! What no clause says of stores: what failing disks leave, and how many steps look-ups take.
+//! What no clause says of stores: what failing disks leave, and how many steps lookups take.
 
 mod faults;
 mod moving;

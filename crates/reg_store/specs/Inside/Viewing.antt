@@ -10,7 +10,7 @@ use Rattle.reg_core.specs.declared.decision.View.{View}
 use Rattle.reg_core.specs.Subjects.{is_subject}
 use Rattle.reg_core.specs.Registry.{Registry, Row, Version, Schemas}
 use Rattle.reg_core.specs.Rows.{known_id, text_at}
-use Rattle.reg_core.specs.Machine.{subject_of, schema_sent}
+use Rattle.reg_core.specs.Machine.{subject_of, sends_schema, schema_sent}
 use Rattle.reg_core.specs.Needs.{AnswerAs, rows_asked, rows_needed, needs_levels, needs_modes, needs_count}
 use Rattle.reg_core.specs.Views.{level_of_view}
 use Rattle.reg_tables.specs.declared.lines.MetaLine.{MetaLine}
@@ -93,5 +93,5 @@ pub record IsViewButTexts (view : View) (g : Registry) (command : Command) : Typ
   pub rows : AnswerAs (level_of_view view) view.known (rows_asked command) view.rows.items (rows_needed g (subject_of command) (rows_asked command))
   pub levels : IsTrue (needs_levels command) → (view.own ≡ option_and_then g.own (subject_of command)) × (view.global ≡ g.global)
   pub modes : IsTrue (needs_modes command) → (view.own_mode ≡ option_and_then g.own_modes (subject_of command)) × (view.global_mode ≡ g.global_mode)
-  pub known : view.known ≡ known_id g.schemas (schema_sent command)
+  pub known : IsTrue (sends_schema command) → view.known ≡ known_id g.schemas (schema_sent command)
   pub count : IsTrue (needs_count command) → view.count ≡ length g.schemas

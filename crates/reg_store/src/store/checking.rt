@@ -13,14 +13,14 @@ use crate::testing::test_first;
 use sqlite::{Alter, Connection};
 use std::alloc::Global;
 
-/// How many rows `versions` has, soft-deleted ones too, where the tables of layout 1 spell a
-/// registry, with the index of versions or without it. The connection is outside a transaction, and
-/// is given back. Nothing is written.
+/// The number of rows of `versions`, soft-deleted ones too, if the tables spell a registry in
+/// layout 1, with or without the index. The connection is outside a transaction, and the call
+/// returns it. Nothing is written.
 ///
 /// # Errors
 ///
-/// `NotARegistry` where the tables spell none in layout 1, `NewerLayout` where they name a newer
-/// layout; `Memory` and `Disk`.
+/// `NotARegistry` if the tables spell no registry in layout 1, `NewerLayout` if `meta` names a
+/// newer layout; `Memory` and `Disk`.
 pub fn check_first<S: Alter>(
     alloc: Global,
     mut connection: Connection<S>,

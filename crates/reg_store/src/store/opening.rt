@@ -15,6 +15,7 @@ ghost use Rattle.reg_store.specs.Inside.Reads.{shown};
 
 use crate::error::StoreError;
 use crate::idle::Idle;
+use crate::open_connection::require_open;
 use crate::store::Store;
 use crate::testing::test_second;
 use reg_tables::{index_versions, is_second_unindexed};
@@ -23,14 +24,14 @@ use std::alloc::Global;
 
 impl<S: Alter> Store<S> {
     /// Opens the registry that the tables of a database spell. The connection is outside a
-    /// transaction, and is given back where that fails. Tables that lack the index of versions get
-    /// it, in a transaction of its own.
+    /// transaction; a failed call returns it. If the tables lack the index of versions, `open` adds
+    /// it in a transaction of its own.
     ///
     /// # Errors
     ///
-    /// `NotARegistry` where the tables spell none, `OldLayout` and `NewerLayout` where they name an
-    /// older or a newer layout than 2; `Memory` and `Disk`. The database is as before then; but after `Disk` a crash may leave it
-    /// with the index too.
+    /// `NotARegistry` if the tables spell no registry, `OldLayout` or `NewerLayout` if `meta` names
+    /// a layout below or above 2; `Memory` and `Disk`. The database stays as it was. Only after
+    /// `Disk` may a crash leave the index too.
     pub fn open(
         alloc: Global,
         mut connection: Connection<S>,
@@ -45,7 +46,7 @@ impl<S: Alter> Store<S> {
         ensures leaves { IfErr result (λ e.
             LeavesConnection (state S.Store connection) (state S.Store e.1) e.0) }
 
-        // A crash leaves what it left before, or the tables with the index; so nothing is lost.
+        // A crash leaves what it left before, or the same tables with the index: nothing is lost.
         ensures found_after { IfOk result (λ store. HasCleanDisk (state_of store)
             → LosesNothing (state S.Store connection) (state_of store)) }
         ensures found { IfErr result (λ e. HasCleanDisk (state S.Store e.1)
@@ -77,7 +78,7 @@ impl<S: Alter> Store<S> {
     }
 }
 
-/// Tests the tables, and makes the index where it is missing.
+/// Tests the tables, then adds the index if it is missing. On `Ok` the connection is open.
 fn make_ready<S: Alter>(alloc: Global, db: &mut Idle<S>) -> Result<(), StoreError>
     ensures done { HasCleanDisk (shown db.new)
         → OnOk result (OpensOver (shown db.old) (shown db.new)) }
@@ -91,14 +92,14 @@ fn make_ready<S: Alter>(alloc: Global, db: &mut Idle<S>) -> Result<(), StoreErro
     let _idle = db.idle.conn.is_autocommit();
     test_second(alloc, db)?;
     if !is_second_unindexed(&db.idle.conn) {
-        return Ok(());
+        return require_open(db);
     }
     let made = make_index(db);
     let _settled = db.idle.conn.is_autocommit();
     Ok(made?)
 }
 
-/// Makes the index of versions, in one transaction.
+/// Adds the index of versions in one transaction.
 fn make_index<S: Alter>(db: &mut Idle<S>) -> Result<(), Error>
     ensures done { HasCleanDisk (shown db.new) → OnOk result (
         IsTrue (shown db.old).is_open × IsTrue (shown db.new).is_open

@@ -1,10 +1,8 @@
 //! What a command needs to know of the registry.
 
-ghost use Rattle.std.specs.Prelude.{◌≡◌, IsTrue, length, option_map, option_and_then, option_copied};
-ghost use Rattle.avro_nodes.specs.Identity.{identity as identity_text};
+ghost use Rattle.std.specs.Prelude.{◌≡◌, IsTrue, length, option_and_then, option_copied};
 ghost use Rattle.reg_core.specs.Rows.{id_of};
-ghost use Rattle.reg_core.specs.Machine.{schema_sent};
-ghost use Rattle.reg_core.specs.Views.{IsViewOf};
+ghost use Rattle.reg_core.specs.Views.{IsTextSent, IsViewOf};
 ghost use Rattle.reg_store.specs.Stores.{ReadsStore};
 ghost use Rattle.reg_store.specs.Inside.Viewing.{IsViewButTexts};
 ghost use Rattle.reg_store.specs.Inside.Reads.{MayRead, Reads};
@@ -21,16 +19,16 @@ use std::alloc::Global;
 use std::collections::BTreeMap;
 
 impl<S: Alter> Store<S> {
-    /// The view of the registry that the command needs. The identity text is that of the schema
-    /// that the command sends, if it sends one.
+    /// The view of the registry that the command needs. If the command sends a schema, the caller
+    /// passes its identity text; for other commands any text will do.
     ///
     /// # Errors
     ///
-    /// `Memory`, `Disk`, and `NotARegistry` where the tables no longer spell one. Whatever is
-    /// answered, nothing is changed.
+    /// `Memory`, `Disk`, or `NotARegistry` if the tables no longer spell a registry. In each case
+    /// nothing is changed.
     pub fn view(&mut self, command: &Command, identity: Option<&str>) -> Result<View, StoreError>
         ensures { ReadsStore self.old self.new result (λ was view.
-            option_copied identity.entry ≡ option_map identity_text (schema_sent command.now)
+            IsTextSent command.now (option_copied identity.entry)
             → IsViewOf view was.registry command.now) }
     {
         if self.failed {
@@ -50,7 +48,7 @@ fn view_for<S: Alter>(
     identity: Option<&str>,
 ) -> Result<View, StoreError>
     ensures { Reads db.old db.new result (λ was view.
-        option_copied identity.entry ≡ option_map identity_text (schema_sent command.now)
+        IsTextSent command.now (option_copied identity.entry)
         → IsViewOf view was.registry command.now) }
 {
     let mut view = view_but_texts(alloc, db, command, identity)?;
@@ -68,7 +66,7 @@ fn view_but_texts<S: Alter>(
     identity: Option<&str>,
 ) -> Result<View, StoreError>
     ensures { Reads db.old db.new result (λ was view.
-        option_copied identity.entry ≡ option_map identity_text (schema_sent command.now)
+        IsTextSent command.now (option_copied identity.entry)
         → IsViewButTexts view was.registry command.now) }
 {
     let needs = command.needs();

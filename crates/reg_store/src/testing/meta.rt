@@ -3,6 +3,7 @@
 ghost use Rattle.std.specs.Prelude.{◌≡◌, ◌↔◌, map, IfOk, IfErr, OnOk, IsTrue};
 ghost use Rattle.sqlite.specs.State.{HasCleanDisk};
 ghost use Rattle.reg_tables.specs.Layout.{HasTablesFirst};
+ghost use Rattle.reg_store.specs.Failures.{IsTold};
 ghost use Rattle.reg_store.specs.Opening.{meta_shown, IsRefusedAs, TellsOther};
 ghost use Rattle.reg_rows.specs.Spelling.{pair_of};
 ghost use Rattle.reg_store.specs.Inside.Testing.{Allows, AreApart, number_of, is_meta_of, JudgesMeta, SpellsAs, Tests, MetaPass};
@@ -21,7 +22,7 @@ use std::alloc::{AllocError, Global};
 impl Tested for MetaLine {
     ghost rowid_of = { λ line. line.rowid };
 
-    // What the rows of `meta` may be is said of them together.
+    // `is_meta_of` tests the rows of `meta` together.
     ghost fits_table = { λ _. Unit {0} };
 
     fn rowid(&self) -> i64 {
@@ -33,7 +34,7 @@ impl Tested for MetaLine {
     }
 }
 
-/// The layout's number.
+/// The number of the layout.
 fn number_of(layout: Layout) -> u32
     ensures { result ≡ number_of layout }
 {
@@ -63,14 +64,14 @@ fn meta_rows(alloc: Global, lines: Vec<MetaLine>) -> Result<Vec<(String, String)
     Ok(rows)
 }
 
-/// Whether these are the rows of a registry, and no rowid comes twice.
+/// Whether these are the rows of a registry and no rowid occurs twice.
 fn pass_meta(rows: &[(String, String)], rowids: &mut [i64], layout: Layout) -> bool
     ensures { IsTrue result ↔ (AreApart rowids.old × IsTrue (is_meta_of layout (map pair_of rows.now))) }
 {
     is_meta_of(rows, layout) && are_apart(rowids)
 }
 
-/// An error for a layout of another number than this one, and else for what doesn't pass.
+/// An error if `meta` names a layout with another number, or if the rows don't pass.
 fn allow_layout(own: u32, named: Option<u32>, passes: bool) -> Result<(), StoreError>
     ensures { Allows own named passes result }
 {
@@ -91,7 +92,7 @@ fn judge_meta(alloc: Global, lines: Vec<MetaLine>, layout: Layout) -> Result<(),
     allow_layout(number_of(layout), layout_of(&rows), passes)
 }
 
-/// Reads `meta`, and tests it: the format, then the layout, then the rest.
+/// Reads `meta` and tests it: first the format, then the layout, then the other rows.
 pub(crate) fn test_meta<S: Alter>(
     alloc: Global,
     db: &mut Idle<S>,
@@ -99,6 +100,7 @@ pub(crate) fn test_meta<S: Alter>(
 ) -> Result<(), StoreError>
     ensures tests { Tests HasTablesFirst (SpellsAs layout)
         S.Store db.old.idle.conn db.new.idle.conn result (λ _. MetaPass layout) }
+    ensures told { HasCleanDisk (shown db.new) → IfErr result (IsTold (shown db.old) (shown db.new)) }
     ensures refused { HasCleanDisk (shown db.new)
         → IfErr result (IsRefusedAs (number_of layout) (shown db.old).now) }
     ensures other { HasCleanDisk (shown db.new)

@@ -1,4 +1,4 @@
-//! Where a disk fails, and what is left of it.
+//! The call at which a disk fails, and what is left of the files.
 
 use reg_testing::copy;
 use sqlite::Files;
@@ -6,8 +6,8 @@ use sqlite_disk::{Crash, Fuse, Memory};
 use std::alloc::Global;
 use std::test::Fail;
 
-/// Where the disk fails, and what is left of it: what was written, as where a process dies, or what was
-/// synced, as where the machine stops.
+/// The file that fails, and what is left: what was written, as after a process death, or only what
+/// was synced, as after a machine stop.
 #[derive(Clone, Copy)]
 pub struct Fault {
     pub is_log: bool,
@@ -15,7 +15,7 @@ pub struct Fault {
 }
 
 impl Fault {
-    /// A copy of the disk that fails after so many calls.
+    /// A copy of the disk that fails after this number of calls.
     pub fn disk(
         self,
         alloc: Global,
@@ -30,7 +30,7 @@ impl Fault {
         copy(alloc, files, log, db)
     }
 
-    /// What is left of it, on a disk that doesn't fail.
+    /// What is left of the files, on a disk that doesn't fail.
     pub fn left(
         self,
         alloc: Global,

@@ -1,5 +1,6 @@
-//! A registry of layout 1 that is moved over a disk that stops at one of its calls, at each in turn: it
-//! has the one layout afterwards or the other, with the same rows, and moving it again ends well.
+//! The migration of a registry from layout 1 over a disk that stops at each of its calls in turn.
+//! Afterwards the registry has one layout or the other, with the same rows, and a second migration
+//! succeeds.
 
 use super::faults::Fault;
 use reg_migrate::{MigrateError, Report, migrate};
@@ -11,16 +12,16 @@ use std::alloc::Global;
 use std::process::Abort;
 use std::test::Fail;
 
-/// What a registry of layout 1 has: a text in two subjects, versions of which one is deleted, levels, a kept reply and a
-/// kept refusal.
+/// The rows of a registry of layout 1: a text in two subjects, a soft-deleted version, levels, a kept
+/// reply and a kept error reply.
 const FILLED: &str =
     "UPDATE meta SET value = 'FULL' WHERE name = 'global'; INSERT INTO texts VALUES (1, '\"int\"'), (2, '\"string\"'); INSERT INTO versions VALUES ('s', 1, 1, 1), ('s', 2, 2, 0), ('t', 1, 1, 0); INSERT INTO levels VALUES ('s', 'NONE'), ('u', 'FORWARD'); INSERT INTO kept VALUES ('k1', '[\"set-global\",\"FULL\"]', 200, '{\"compatibility\":\"FULL\"}'), ('k2', '[\"delete-subject\",\"z\",false]', 404, '{\"error_code\":40401,\"message\":\"Subject not found\"}')";
 
-/// What is reported of it.
+/// The report of its migration.
 const COUNTED: Report = Report { versions: 3 };
 
-/// What its database shows in each layout behind the kind of its first row: the rows before those of `meta`, these, and those
-/// behind them.
+/// The contents of its database after the kind of the first row: the rows before those of `meta`,
+/// the rows of `meta` in each layout, and the rows after them.
 const BEFORE: &str =
     "k1 200 [\"set-global\",\"FULL\"]|{\"compatibility\":\"FULL\"}|\nkept|k2 404 [\"delete-subject\",\"z\",false]|{\"error_code\":40401,\"message\":\"Subject not found\"}|\nlevel|s|NONE|\nlevel|u|FORWARD|\n";
 
@@ -32,7 +33,7 @@ const SECOND: &str =
 const BEHIND: &str =
     "text|1|\"int\"|\ntext|2|\"string\"|\nversion|s 1|1 1|\nversion|s 2|2 0|\nversion|t 1|1 0|\n";
 
-/// What moving a database answers.
+/// The result of migrating a database.
 fn moved<S: Alter + Drop>(
     alloc: Global,
     connection: Connection<S>,
@@ -43,7 +44,7 @@ fn moved<S: Alter + Drop>(
     Ok(migrate(alloc, connection))
 }
 
-/// Moves a database whose disk may fail.
+/// Migrates a database whose disk may fail.
 #[derive(Drop)]
 struct Stop {
     is_moved: bool,
@@ -60,16 +61,16 @@ impl OnDatabase for Stop {
         if self.is_moved || answer == Err(MigrateError::Disk) {
             return Ok(connection);
         }
-        Err("neither all versions nor a fault of the disk is told".into())
+        Err("the result is neither a full report nor a disk fault".into())
     }
 }
 
-/// Opens a database, moves it, and opens it again.
+/// Opens a database, migrates it, and opens it again.
 #[derive(Drop)]
 struct Again {
     /// What the database held before.
     found: String,
-    /// What it holds then.
+    /// What it holds afterwards.
     left: String,
 }
 
@@ -91,13 +92,13 @@ impl OnDatabase for Again {
             (None, Err(MigrateError::AlreadyNew))
         };
         if (before, answer) != due || after.is_some() {
-            return Err("another answer is due".into());
+            return Err("the result is wrong".into());
         }
         Ok(connection)
     }
 }
 
-/// Opens what files hold, moves it, and opens it again.
+/// Opens the database in the files, migrates it, and opens it again.
 fn moved_again(alloc: Global, files: Files<Fuse<Memory>>) -> Result<Again, Fail> {
     let mut task = Again {
         found: String::new(alloc),
@@ -110,7 +111,7 @@ fn moved_again(alloc: Global, files: Files<Fuse<Memory>>) -> Result<Again, Fail>
     Ok(task)
 }
 
-/// What a database shows behind the kind of its first row, a kept reply.
+/// The contents of a database after the kind of its first row, a kept reply.
 fn rows(text: &str) -> &str {
     match text.split_once("\nkept|") {
         Some((_, rows)) => rows,
@@ -119,7 +120,7 @@ fn rows(text: &str) -> &str {
 }
 
 impl Again {
-    /// The rows stay, none comes, and those of `meta` are those of layout 2.
+    /// The rows stay, no other row is added, and `meta` has the rows of layout 2.
     fn keeps_rows(&self, rt: &impl Abort, alloc: Global) -> Result<(), Fail> {
         let found = joined(alloc, &[BEFORE, FIRST, BEHIND])?;
         let left = joined(alloc, &[BEFORE, SECOND, BEHIND])?;
@@ -129,7 +130,7 @@ impl Again {
     }
 }
 
-/// A registry of layout 1, and what it holds before it is moved and then.
+/// A registry of layout 1, and its contents before and after a migration.
 #[derive(Drop)]
 struct OldRegistry {
     files: Files<Fuse<Memory>>,
@@ -145,7 +146,7 @@ fn old_registry(rt: &impl Abort, alloc: Global) -> Result<OldRegistry, Fail> {
 }
 
 impl OldRegistry {
-    /// Stops after so many calls, and moves what is left again. Tells whether nothing failed.
+    /// Stops after this number of calls, and migrates what is left. True if nothing failed.
     fn is_whole(
         &self,
         rt: &impl Abort,
@@ -170,6 +171,7 @@ impl OldRegistry {
         );
         Ok(closed && stop.is_moved)
     }
+
     /// Stops at each call in turn, until nothing stops.
     fn stops(&self, rt: &impl Abort, alloc: Global, fault: Fault) -> Result<(), Fail> {
         for calls in 0..1000 {
@@ -192,11 +194,11 @@ fn moving_stops(rt: &impl Abort, alloc: Global, is_log: bool) -> Result<(), Fail
 }
 
 #[test]
-fn the_log_fails_while_a_registry_is_moved(rt: HostRuntime) -> Result<(), Fail> {
+fn the_log_fails_during_a_migration(rt: HostRuntime) -> Result<(), Fail> {
     moving_stops(&rt, rt.alloc(), true)
 }
 
 #[test]
-fn the_database_fails_while_a_registry_is_moved(rt: HostRuntime) -> Result<(), Fail> {
+fn the_database_fails_during_a_migration(rt: HostRuntime) -> Result<(), Fail> {
     moving_stops(&rt, rt.alloc(), false)
 }

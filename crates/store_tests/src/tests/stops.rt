@@ -1,5 +1,5 @@
-//! A list of writes over a disk that stops at one of its calls, at each in turn: what is found
-//! afterwards is what was answered, with or without the write under way, and the whole list can be
+//! A list of writes over a disk that stops at each of its calls in turn. Afterwards the database
+//! holds the acknowledged writes, with or without the write in progress, and the whole list can be
 //! sent again.
 
 use super::faults::Fault;
@@ -22,7 +22,7 @@ enum Way {
     InOneRun,
 }
 
-/// What a service answers to writes.
+/// The replies of a service to writes.
 fn replies<S: Alter + Drop>(
     alloc: Global,
     service: &mut Service<S>,
@@ -36,16 +36,16 @@ fn replies<S: Alter + Drop>(
     }
 }
 
-/// Makes a registry in an empty database, and delivers the writes to it until the disk fails.
+/// Creates a registry in an empty database, and delivers the writes until the disk fails.
 #[derive(Drop)]
 struct Stop {
     way: Way,
-    /// One for the registry, and one for each write that was answered.
+    /// One for the registry, and one for each acknowledged write.
     done: usize,
 }
 
 impl Stop {
-    /// Delivers the writes. Those behind a fault are answered 50001, and the service has failed.
+    /// Delivers the writes. After a fault each reply is 50001, and the service has failed.
     fn deliver<S: Alter + Drop>(
         &mut self,
         alloc: Global,
@@ -54,7 +54,7 @@ impl Stop {
         let replies = replies(alloc, service, self.way, &WRITES)?;
         let count = answered(&replies, &WRITES)?;
         if service.failed() != (count < WRITES.len()) {
-            return Err("another reply than the failed ones is 50001".into());
+            return Err("a reply is 50001 without a disk fault".into());
         }
         self.done = count.saturating_add(1);
         Ok(())
@@ -77,20 +77,20 @@ impl OnDatabase for Stop {
     }
 }
 
-/// Delivers so many of the writes to the registry that a database has, or to a new one where it is
-/// empty.
+/// Delivers this number of the writes to the registry of a database, or to a new registry if the
+/// database is empty.
 #[derive(Drop)]
 struct Again {
     way: Way,
     count: usize,
     /// What the database held before.
     found: String,
-    /// What it holds then.
+    /// What it holds afterwards.
     left: String,
 }
 
 impl Again {
-    /// Each is answered.
+    /// Each write is acknowledged.
     fn deliver<S: Alter + Drop>(
         &mut self,
         alloc: Global,
@@ -127,7 +127,7 @@ impl OnDatabase for Again {
     }
 }
 
-/// Delivers so many of the writes to what files hold.
+/// Delivers this number of the writes to the database in the files.
 fn deliver(
     alloc: Global,
     files: Files<Fuse<Memory>>,
@@ -147,12 +147,12 @@ fn deliver(
     Ok(task)
 }
 
-/// How many lines begin so.
+/// The number of lines that begin with this text.
 fn lines_with(text: &str, start: &str) -> usize {
     text.lines().filter(|line| line.starts_with(start)).count()
 }
 
-/// What a database holds at first, once it has a registry, and after each of the writes.
+/// The contents of a database: empty, with a new registry, and after each of the writes.
 fn stages(rt: &impl Abort, alloc: Global) -> Result<Vec<String>, Fail> {
     let mut stages = Vec::new(alloc);
     stages.push(String::new(alloc))?;
@@ -177,8 +177,8 @@ fn stages(rt: &impl Abort, alloc: Global) -> Result<Vec<String>, Fail> {
 }
 
 impl Fault {
-    /// Stops after so many calls, holds what is found to the stages, and delivers all writes again. Tells whether
-    /// nothing failed.
+    /// Stops after this number of calls, compares what is found with the stages, and delivers all
+    /// writes again. True if nothing failed.
     fn is_whole(
         self,
         rt: &impl Abort,

@@ -8,8 +8,8 @@ use Rattle.reg_migrate.specs.declared.migrating.Report.{Report}
 use Rattle.reg_migrate.specs.Migrations.{IsReasonOver, LeavesMoved, Moves}
 use Rattle.reg_store.proofs.Committing.{on_err_same}
 use Rattle.reg_store.proofs.Writing.{if_err_both}
-use Rattle.reg_migrate.proofs.Moves.{can_move, closes_both, crashes_moved, loses_nothing, moves, no_more, reads_both, reported, takes_on, unlimited_reads}
-use Rattle.reg_migrate.proofs.Told.{before_if_faulted, before_then, fault_over, leaves_before, reason_if_fault, told_newer, told_refused}
+use Rattle.reg_migrate.proofs.Moves.{can_move, closes_both, crashes_moved, loses_nothing, moves, no_more, reads_both, reported, spells_some, takes_on, unlimited_reads}
+use Rattle.reg_migrate.proofs.Told.{before_if_faulted, before_then, fault_over, leaves_before, reason_if_fault, told_cause, told_newer, told_refused}
 use Rattle.reg_migrate.proofs.migrating.migrate.Goals as goal
 
 pub returns-in-Ok-clause-done : goal.returns-in-Ok-clause-done
@@ -33,7 +33,7 @@ returns-in-Ok-clause-reason g c clean =
     let reads = unlimited_reads g.S.Store c.args.connection mid (c.check_first-counted.ensures.frame.only_reads early) in
     let found = rw c.in-Ok.is at c.check_first-counted.ensures.found early in
     let can = can_move old mid reads (c.is_autocommit-idle.ensures.settled idle) c.in-Ok.versions found in
-    if_err c.move_connection.result.0 (λ e fails. reason_if_fault old e (fails can)) (c.move_connection.ensures.fault clean)
+    if_err c.move_connection.result.0 (λ e fails. reason_if_fault old (state g.S.Store c.move_connection.result.1) e (spells_some old.now c.in-Ok.versions found) (fails can)) (c.move_connection.ensures.fault clean)
 
 pub returns-in-Ok-clause-leaves : goal.returns-in-Ok-clause-leaves
 returns-in-Ok-clause-leaves g c =
@@ -82,9 +82,10 @@ returns-in-Ok-clause-crash g c clean db it =
     let early : HasCleanDisk mid = omega (arith, c.move_connection.ensures.survives.clean) in
     let frame = c.check_first-counted.ensures.frame in
     let reads = unlimited_reads g.S.Store c.args.connection mid (frame.only_reads early) in
+    let found = rw c.in-Ok.is at c.check_first-counted.ensures.found early in
     elim (c.move_connection.ensures.survives.crash clean db it) [
       | inl later ↦ elim (frame.survives.crash early db later) [ inl was ↦ inl was | inr none ↦ absurd none ]
-      | inr made ↦ inr (takes_on old mid reads (c.is_autocommit-idle.ensures.settled idle) db made.0 made.1)
+      | inr made ↦ inr (takes_on old mid reads (c.is_autocommit-idle.ensures.settled idle) c.in-Ok.versions found db made.0 made.1)
     ]
 
 pub returns-in-Ok-clause-found : goal.returns-in-Ok-clause-found
@@ -98,8 +99,9 @@ returns-in-Err-clause-reason g c clean =
     let old = state g.S.Store c.args.connection in
     let new = state g.S.Store c.check_first-counted.result.1 in
     let unread : IsUnread old new c.in-Err.error = rw c.in-Err.is at c.check_first-counted.ensures.fails clean in
-    subst (IsReasonOver old) (sym c.from.ensures) (record {
+    subst (IsReasonOver old new) (sym c.from.ensures) (record {
       fault = fault_over old new c.in-Err.error unread.fault;
+      told = inl (told_cause old new c.in-Err.error unread.told);
       refused = told_refused old.now c.in-Err.error unread.refused;
       newer = told_newer old c.in-Err.error unread.other;
     })

@@ -1,8 +1,12 @@
-use Rattle.std.proofs.Common.{IsTrue, arith, rules}
+use Rattle.std.proofs.Common.{IsTrue, arith, rules, subst, sym}
 use Rattle.sqlite.specs.Held.{state}
 use Rattle.sqlite.specs.State.{HasCleanDisk}
+use Rattle.reg_tables.specs.Layout.{IsLayout}
+use Rattle.reg_tables.proofs.Statements.{has_tables_first}
+use Rattle.reg_tables.proofs.Transactions.{if_err}
 use Rattle.reg_store.specs.declared.layout.Layout.TheVariants.{First}
-use Rattle.reg_store.proofs.Failing.{if_err_each}
+use Rattle.reg_store.specs.Failures.{IsTold}
+use Rattle.reg_store.proofs.Failing.{if_err_each, passed}
 use Rattle.reg_store.proofs.MetaLemmas.{not_other}
 use Rattle.reg_store.proofs.Bases.{some_first}
 use Rattle.reg_store.proofs.OpenLemmas.{finds_first}
@@ -21,6 +25,17 @@ returns-clause-found g c clean =
     let old = state g.S.Store c.args.db.now.idle.conn in
     let tests = returns-clause-tests g c in
     finds_first old (state g.S.Store c.test_rest.new.db.idle.conn) c.test_rest.result (search rules) (tests.frame.was_open clean) (λ is_open. (c.schema-live.ensures.live is_open).0) (tests.tells clean)
+
+pub returns-clause-told : goal.returns-clause-told
+returns-clause-told g c clean =
+    let known : IsLayout (state g.S.Store c.args.db.now.idle.conn).now.schema = search rules in
+    if_err c.test_rest.result (λ e told. told (λ _. has_tables_first (state g.S.Store c.args.db.now.idle.conn).now.schema known)) ((returns-clause-tests g c).told clean)
+
+pub returns-in_err-allow-clause-told : goal.returns-in_err-allow-clause-told
+returns-in_err-allow-clause-told g c clean =
+    let old = state g.S.Store c.args.db.now.idle.conn in
+    let new = state g.S.Store c.test_meta.new.db.idle.conn in
+    passed (IsTold old new) c.from_residual-in_err-allow.result c.in_err-allow.field-0.0 c.from_residual-in_err-allow.ensures.1 (subst (IsTold old new) (sym c.in_err-allow.ensures.err.0) tt)
 
 pub returns-clause-other : goal.returns-clause-other
 returns-clause-other g c clean =

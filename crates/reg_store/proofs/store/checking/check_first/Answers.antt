@@ -11,4 +11,4 @@ pub returns-clause-fails : goal.returns-clause-fails
 returns-clause-fails g c clean =
     let it = c.test_first-found.ensures in
     unread_unlimited g.S.Store c.args.connection c.set_step_limit.new.self c.set_step_limit.ensures (state g.S.Store c.test_first-found.new.db.idle.conn) c.test_first-found.result
-    (it.tests.fault clean) (it.tests.told clean) (it.refused clean) (it.other clean)
+    (it.tests.fault clean) (it.told clean) (it.refused clean) (it.other clean)

@@ -13,14 +13,14 @@ use Rattle.reg_store.proofs.TestLemmas.{is_known}
 use Rattle.reg_store.proofs.store.settings.globals.Goals as goal
 
 pub returns-in_err-lines : goal.returns-in_err-lines
-returns-in_err-lines g c = not_read c.in_err-lines.ensures.frame (λ clean can. c.in_err-lines.ensures.fault clean (tells_meta (state g.S.Store c.args.db.now.idle.conn) can)) c.from_residual.ensures.1
+returns-in_err-lines g c = not_read c.in_err-lines.ensures.lists.frame (λ clean can. c.in_err-lines.ensures.lists.fault clean (tells_meta (state g.S.Store c.args.db.now.idle.conn) can)) c.from_residual.ensures.1
 
 pub returns : goal.returns
 returns g c =
-    read c.in_ok-lines.ensures.frame (λ clean was over.
+    read c.in_ok-lines.ensures.lists.frame (λ clean was over.
     let it = over.spells in
     let db = (state g.S.Store c.args.db.now.idle.conn).now in
-    let lists = c.in_ok-lines.ensures.listed clean (is_known db was (base_of it)) in
+    let lists = c.in_ok-lines.ensures.lists.listed clean (is_known db was (base_of it)) in
     let level : value_in (codes "global") c.as_slice.result.now ≡ Some (level_text was.registry.global) =
     ap (value_in (codes "global")) c.as_slice.ensures.value ∙ value_read it.schema db it.contents.base it.holds.base c.in_ok-lines.lines.items lists (codes "global") ∙ global_is it.contents was it.spelled in
     let mode : value_in (codes "mode") c.as_slice.result.now ≡ Some (mode_text was.registry.global_mode) =

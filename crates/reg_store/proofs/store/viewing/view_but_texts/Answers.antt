@@ -28,6 +28,6 @@ returns g c =
           c.unwrap_or-level.ensures (rw (c.needs-needs.ensures.rows, c.subject-2.ensures) at rows);
       levels = λ needed. (rw c.subject.ensures at (read.0.0 (rw c.needs-needs.ensures.levels needed)));
       modes = λ needed. (rw c.subject.ensures at (read.0.1 (rw c.needs-needs.ensures.modes needed)));
-      known = read.1.0 ∙ ap (option_and_then (id_of was.registry.schemas)) sent ∙ and_then_map identity (id_of was.registry.schemas) (schema_sent c.args.command.now);
+      known = λ sends. read.1.0 ∙ ap (option_and_then (id_of was.registry.schemas)) (sent sends) ∙ and_then_map identity (id_of was.registry.schemas) (schema_sent c.args.command.now);
       count = λ needed. read.1.1 (rw c.needs-needs.ensures.count needed);
     })

@@ -1,0 +1,39 @@
+//! A check that a connection is open.
+
+ghost use Rattle.std.specs.Prelude.{◌≡◌, IfErr, OnOk, IsTrue, not};
+ghost use Rattle.sqlite.specs.State.{HasCleanDisk};
+ghost use Rattle.reg_tables.specs.Frames.{StaysIdle};
+ghost use Rattle.reg_store.specs.Failures.{IsFaultBy, is_fault};
+ghost use Rattle.reg_store.specs.Inside.Reads.{shown};
+
+use crate::error::StoreError;
+use crate::idle::Idle;
+use sqlite::Alter;
+
+/// Fails if the connection is closed. It prepares a statement that reads no table, which SQLite
+/// does only over an open connection.
+pub(crate) fn require_open<S: Alter>(db: &mut Idle<S>) -> Result<(), StoreError>
+    ensures frame { StaysIdle S.Store db.old.idle.conn db.new.idle.conn result }
+    ensures is_open { HasCleanDisk (shown db.new) → OnOk result (IsTrue (shown db.new).is_open) }
+    ensures fault { HasCleanDisk (shown db.new)
+        → IfErr result (IsFaultBy (shown db.old) (shown db.new)) }
+{
+    let prepared = db.idle.conn.prepare("SELECT 1");
+    let _idle = db.idle.conn.is_autocommit();
+    match prepared {
+        Ok(_) => Ok(()),
+        Err(error) => only_fault(StoreError::from(error)),
+    }
+}
+
+/// Passes on `Memory` and `Disk`. With any other error SQLite rejects the statement, and does so
+/// only over an open connection.
+fn only_fault(error: StoreError) -> Result<(), StoreError>
+    ensures ok { OnOk result (IsTrue (not (is_fault error))) }
+    ensures err { IfErr result (λ e. (e ≡ error) × IsTrue (is_fault error)) }
+{
+    match error {
+        StoreError::Memory | StoreError::Disk => Err(error),
+        _ => Ok(()),
+    }
+}
