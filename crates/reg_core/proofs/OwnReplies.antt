@@ -13,7 +13,7 @@ use Rattle.reg_core.specs.declared.number.Choice.{Choice}
 use Rattle.reg_core.specs.declared.code.Code.{Code}
 use Rattle.reg_core.specs.declared.code.Code.TheVariants.{KeyReused, SubjectNotFound, SubjectSoftDeleted, SubjectNotSoftDeleted, VersionSoftDeleted, VersionNotSoftDeleted, VersionNotFound, SchemaNotFound, InvalidSchema, InvalidVersion, InvalidLevel, InvalidMode, NotPermitted, NoNumberLeft}
 use Rattle.reg_core.specs.Codes.{fault_body}
-use Rattle.reg_core.specs.Replies.{Told, IsStatus, IsKeptStatus, answer, fault, IsOwnReply}
+use Rattle.reg_core.specs.Replies.{Told, IsKeptStatus, answer, fault, IsOwnReply}
 use Rattle.reg_core.specs.Registry.{Registry, Row}
 use Rattle.reg_core.specs.Rows.{live_rows, chosen_row}
 use Rattle.reg_core.specs.Settings.{Setting, level_setting, mode_setting, set}
@@ -28,27 +28,21 @@ other_status m n ne e = ne (ap (λ (t : Told). t.status) e)
 -- a reply with a body that isn't refused
 pub answer-IsOwnReply : (body : List ℕ) → IsOwnReply (answer body)
 answer-IsOwnReply body = record {
-  status = refl;
   kept = refl;
-  no_backend_fault = eqb-false 200 500 refl;
   no_reused_key = other_status _ _ (eqb-false 200 422 refl);
 }
 
 -- something wasn't found
 not_found : (code : Code) → (fault code).status ≡ 404 → IsOwnReply (fault code)
 not_found code e = record {
-  status = subst IsStatus (sym e) refl;
   kept = subst IsKeptStatus (sym e) refl;
-  no_backend_fault = λ h. eqb-false 404 500 refl (sym e ∙ h);
   no_reused_key = other_status _ _ (λ h. eqb-false 404 422 refl (sym e ∙ h));
 }
 
 -- something of the command can't be, and the number differs from that of a reused key in this digit
 unprocessable : (code : Code) (position : ℕ) → (fault code).status ≡ 422 → get_or (fault code).body position 0 ≢ get_or (fault KeyReused).body position 0 → IsOwnReply (fault code)
 unprocessable code position e ne = record {
-  status = subst IsStatus (sym e) refl;
   kept = subst IsKeptStatus (sym e) refl;
-  no_backend_fault = λ h. eqb-false 422 500 refl (sym e ∙ h);
   no_reused_key = λ h. ne (ap (λ (t : Told). get_or t.body position 0) h);
 }
 

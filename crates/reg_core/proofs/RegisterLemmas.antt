@@ -1,5 +1,5 @@
 -- What a view shows of the registry, for commands that compare and register schemas.
-use Rattle.std.proofs.Common.{◌≡◌, ℕ, ◌+◌, ◌≤◌, List, [], ◌∷◌, ◌++◌, Bool, true, false, Option, Some, None, refl, sym, ◌∙◌, ap, subst, map, length, length-append, arith}
+use Rattle.std.proofs.Common.{◌≡◌, ℕ, ◌+◌, ◌≤◌, List, [], ◌∷◌, ◌++◌, Bool, true, false, IsTrue, Option, Some, None, refl, sym, ◌∙◌, ap, subst, map, length, length-append, arith}
 use Rattle.std.specs.Prelude.{All, unwrap_or, option_to_list, is_some, if◌then◌else◌, nat_le}
 use Rattle.std.proofs.lemmas.Bool.{and_parts, leb-true}
 use Rattle.std.proofs.lemmas.Option.{none-some, same_Some}
@@ -18,7 +18,7 @@ use Rattle.reg_core.specs.Machine.{carried_out}
 use Rattle.reg_core.specs.Evidence.{Evidence, IsTrueOf, evidence_in}
 use Rattle.reg_core.specs.Inside.Evidence.{TellEvidence}
 use Rattle.reg_core.specs.Inside.Registering.{id_among, id_shown, has_numbers_shown, row_shown, evidence_shown, version_added}
-use Rattle.reg_core.specs.RegisterCommands.{register, registered, is_among, is_admitted_after, id_for, has_numbers, schemas_with, level_in, with_version}
+use Rattle.reg_core.specs.RegisterCommands.{schema_in, register, registered, is_among, is_admitted_after, id_for, has_numbers, schemas_with, level_in, with_version}
 use Rattle.reg_core.specs.Registry.{Registry, Row, Schemas, max_number}
 use Rattle.reg_core.specs.Replies.{answer, fault}
 use Rattle.reg_core.specs.Rows.{rows_of, live_rows, next_number, id_of, known_id, schemas_of}
@@ -102,6 +102,12 @@ changes_fit g subject new s (Some id) e number within evidence fits =
       tt,
     )
 
+-- a schema that is sent is of a type that is supported
+is_supported : (text : List ℕ) (supported : Bool) (new : List NodeView) → schema_in text supported ≡ Some new → IsTrue supported
+unfolding schema_in
+is_supported text true new e = refl
+is_supported text false new e = absurd (cc)
+
 module _ (g : Registry) (subject text : List ℕ) (supported : Bool) (view : View) (schema : Option (List NodeView)) (ground : IsGround g (Register subject text supported) schema view) where
   pub register_none : schema ≡ None → carried_out g (Register subject text supported) ≡ (g, fault InvalidSchema)
   unfolding carried_out
@@ -109,7 +115,7 @@ module _ (g : Registry) (subject text : List ℕ) (supported : Bool) (view : Vie
 
   module _ (new : List NodeView) (e : schema ≡ Some new) where
     known_shown : view.known ≡ id_of g.schemas (identity new)
-    known_shown = ground.shows.known ∙ ap (known_id g.schemas) (sym ground.sent ∙ e)
+    known_shown = let sent = sym ground.sent ∙ e in ground.shows.known (is_supported text supported new sent) ∙ ap (known_id g.schemas) sent
 
     abbrev live : List Row
     live = live_rows view.rows.items

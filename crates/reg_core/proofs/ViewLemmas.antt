@@ -1,5 +1,5 @@
 -- What is answered from a view is what the registry answers.
-use Rattle.std.proofs.Common.{◌≡◌, ◌≢◌, ◌∙◌, ℕ, ◌==◌, Bool, true, false, List, [], ◌∷◌, map, refl, ap, sym, subst, arith, eqb-true}
+use Rattle.std.proofs.Common.{◌≡◌, ◌≢◌, ◌∙◌, ℕ, ◌==◌, Bool, true, false, List, [], ◌∷◌, map, IsTrue, refl, ap, sym, subst, arith, eqb-true}
 use Rattle.std.specs.Prelude.{All, Option, None, Some, Result, Ok, Err, if◌then◌else◌}
 use Rattle.std.specs.FinMap.{entries}
 use Rattle.std.proofs.lemmas.List.Elements.{All-map}
@@ -12,7 +12,7 @@ use Rattle.reg_core.specs.Bodies.{version_body, schema_body}
 use Rattle.reg_core.specs.Compatibility.{latest}
 use Rattle.reg_core.specs.Numbers.{id_in, choice_in}
 use Rattle.reg_core.specs.Registry.{Registry, Row}
-use Rattle.reg_core.specs.Rows.{rows_of, rows_with, shown_rows, text_at}
+use Rattle.reg_core.specs.Rows.{rows_of, rows_with, shown_rows, text_at, known_id}
 use Rattle.reg_core.specs.ReadCommands.{Texts, found_row, looked_up, rows_with_id, text_reply, version_reply, version_text_reply, id_reply, lookup_reply}
 use Rattle.reg_core.specs.Replies.{Told}
 use Rattle.reg_core.specs.RegisterCommands.{schema_in}
@@ -117,6 +117,13 @@ lookup_as : (texts : Texts) (schema : Option (List NodeView)) (known : Option �
 lookup_as texts None known seen rows same = refl
 lookup_as texts (Some nodes) known seen rows same = ap (version_reply texts) same
 
+-- the id of the schema is looked at only where one is sent
+known_as : (texts : Texts) (text : List ℕ) (supported : Bool) (known own : Option ℕ) (rows : List Row) → (IsTrue supported → known ≡ own)
+    → lookup_reply texts (schema_in text supported) known rows ≡ lookup_reply texts (schema_in text supported) own rows
+unfolding schema_in
+known_as texts text true known own rows same = ap (λ id. lookup_reply texts (schema_in text true) id rows) (same refl)
+known_as texts text false known own rows same = refl
+
 pub told_lookup : (g : Registry) (view : View) (schema : Option (List NodeView)) (subject text : List ℕ) (supported deleted : Bool) → schema ≡ schema_in text supported → IsViewOf view g (Lookup subject text supported deleted)
     → lookup_reply (text_in view) schema view.known (shown_rows deleted view.rows.items) ≡ (carried_out g (Lookup subject text supported deleted)).1
 unfolding carried_out
@@ -124,7 +131,7 @@ told_lookup g view schema subject text supported deleted sent shows =
     same_lookup (text_in view) (text_at g.schemas) schema view.known (shown_rows deleted view.rows.items) shows.texts
     ∙ (ap (λ s. lookup_reply (text_at g.schemas) s view.known (shown_rows deleted view.rows.items)) sent
     ∙ (lookup_as (text_at g.schemas) (schema_in text supported) view.known (shown_rows deleted view.rows.items) (shown_rows deleted (rows_of g subject)) shows.rows
-    ∙ ap (λ known. lookup_reply (text_at g.schemas) (schema_in text supported) known (shown_rows deleted (rows_of g subject))) shows.known))
+    ∙ known_as (text_at g.schemas) text supported view.known (known_id g.schemas (schema_in text supported)) (shown_rows deleted (rows_of g subject)) shows.known))
 
 -- a command takes the schema that it sends
 pub taken-sent : (c : Command) → schema_taken c (schema_sent c) ≡ schema_sent c

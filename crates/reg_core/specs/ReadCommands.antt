@@ -1,4 +1,5 @@
--- Commands that show subjects, versions and schemas. Each refusal stands in its order.
+-- Commands that show subjects, versions and schemas. Each definition lists its refusals in order.
+-- (This project's choice: that order.)
 use Rattle.std.specs.Prelude.{ℕ, Bool, List, [], ◌∷◌, codes, map, bytes_eq, Option, None, Some, Result, Ok, Err}
 use Rattle.std.specs.List.{dedup, last_or}
 use Rattle.std.specs.Option.{ok_or}
@@ -19,12 +20,13 @@ types_reply = answer (texts_body (codes "AVRO" ∷ []))
 abbrev pub subjects_reply : List Row → Told
 subjects_reply rows = answer (texts_body (dedup bytes_eq (map (λ (row : Row). row.0.0) rows)))
 
--- Schema Registry API reference, GET /subjects/{subject}/versions: the numbers of these versions
+-- Schema Registry API reference, GET /subjects/{subject}/versions: the numbers of these versions. (This project's choice: no list is empty. A subject
+-- of which no version is shown is refused with 40401.)
 abbrev pub versions_reply : List Row → Told
 versions_reply [] = fault SubjectNotFound
 versions_reply (row ∷ rows) = answer (numbers_body (map (λ (r : Row). r.0.1) (row ∷ rows)))
 
--- Schema Registry API reference, Subjects: the version that is chosen among these, or why there is none
+-- Schema Registry API reference, Subjects: the version that is chosen among these, or the code of the refusal
 abbrev pub found_row : Option Choice → List Row → Result Row Code
 found_row None rows = Err InvalidVersion
 found_row (Some choice) [] = Err SubjectNotFound
@@ -49,13 +51,14 @@ abbrev pub version_text_reply : Texts → Result Row Code → Told
 version_text_reply texts (Err code) = fault code
 version_text_reply texts (Ok row) = text_reply (λ text. text) (texts row.1.id)
 
--- Schema Registry API reference, GET /schemas/ids/{id}: the schema of an id that some version has, a deleted one too
+-- Schema Registry API reference, GET /schemas/ids/{id}: the schema of an id that some version has. (This project's choice: a soft-deleted one counts.)
 abbrev pub id_reply : Texts → Option ℕ → List Row → Told
 id_reply texts None rows = fault SchemaNotFound
 id_reply texts (Some id) [] = fault SchemaNotFound
 id_reply texts (Some id) (row ∷ rows) = text_reply schema_body (texts id)
 
--- Schema Registry API reference, GET /schemas/ids/{id}/versions: the versions of an id that are shown, where it has some version, a deleted one too
+-- Schema Registry API reference, GET /schemas/ids/{id}/versions: those of the id's versions that are shown. (This project's choice: the list is empty if
+-- all of them are soft-deleted and `deleted` isn't asked for; only an id that no version has is refused.)
 abbrev pub id_versions_reply : Option ℕ → Bool → List Row → Told
 id_versions_reply None deleted rows = fault SchemaNotFound
 id_versions_reply (Some id) deleted [] = fault SchemaNotFound

@@ -1,4 +1,5 @@
--- Commands that register schemas, and that tell whether a schema could be registered. Each refusal stands in its order.
+-- Commands that register schemas, and that check whether a schema could be registered. Each definition lists its refusals in order.
+-- (This project's choice: that order.)
 use Rattle.std.specs.Prelude.{ℕ, ◌+◌, ◌++◌, nat_lt, nat_le, ◌&&◌, Bool, true, false, is_some, List, [], ◌∷◌, length, unwrap_or, if◌then◌else◌, Option, None, Some, Result, Ok, Err}
 use Rattle.std.specs.FinMap.{insert}
 use Rattle.avro_nodes.specs.Nodes.{NodeView}

@@ -34,10 +34,8 @@ answer body = record { status = 200; body = body }
 abbrev pub fault : Code → Told
 fault code = record { status = status_of code; body = fault_body code }
 
--- This project's choice: a reply that the registry's own rules give has one of the four statuses, and is neither of the
--- two faults that come from outside them: want of memory or disk, and a retry key that came with another command.
+-- This project's choice: a reply of the registry's own rules has one of the four statuses, so it reports no fault of memory or disk. It also isn't the
+-- reply for a retry key that came with another command.
 pub record IsOwnReply (reply : Told) : Type 0 where
-  pub status : IsStatus reply.status
   pub kept : IsKeptStatus reply.status
-  pub no_backend_fault : reply.status ≢ 500
   pub no_reused_key : reply ≢ fault KeyReused

@@ -60,12 +60,16 @@ rows_read _ view = []
 abbrev pub text_in : View → ℕ → Option (List ℕ)
 text_in view id = option_map string_bytes (tree.get nat_cmp view.texts id)
 
+-- this project's choice: if the command sends a text of a supported type, this is the identity text of its schema
+abbrev pub IsTextSent : Command → Option (List ℕ) → Type 0
+IsTextSent command text = IsTrue (sends_schema command) → text ≡ option_map identity (schema_sent command)
+
 -- This project's choice: the view shows what the command needs of the registry. More may be there, but no text that isn't the id's.
 pub record IsViewOf (view : View) (g : Registry) (command : Command) : Type 0 where
   pub rows : AnswerAs (level_of_view view) view.known (rows_asked command) view.rows.items (rows_needed g (subject_of command) (rows_asked command))
   pub levels : IsTrue (needs_levels command) → (view.own ≡ option_and_then g.own (subject_of command)) × (view.global ≡ g.global)
   pub modes : IsTrue (needs_modes command) → (view.own_mode ≡ option_and_then g.own_modes (subject_of command)) × (view.global_mode ≡ g.global_mode)
-  pub known : view.known ≡ known_id g.schemas (schema_sent command)
+  pub known : IsTrue (sends_schema command) → view.known ≡ known_id g.schemas (schema_sent command)
   pub count : IsTrue (needs_count command) → view.count ≡ length g.schemas
   pub texts : All (λ (row : Row). text_in view row.1.id ≡ text_at g.schemas row.1.id) (rows_read command view)
   pub true_texts : (id : ℕ) (text : List ℕ) → text_in view id ≡ Some text → text_at g.schemas id ≡ Some text

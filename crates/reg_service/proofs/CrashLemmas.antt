@@ -1,8 +1,7 @@
--- What a crash leaves of exchanges, one after the other.
-use Rattle.std.proofs.Common.{◌≡◌, ◌≢◌, ◌⊎◌, inl, inr, ℕ, ◌+◌, ◌<◌, ◌∙◌, true, false, List, [], ◌∷◌, ◌++◌, length, take, zip, get_or, append_assoc, append-nil, refl, sym, ap, subst, arith}
+-- What a crash leaves of one exchange.
+use Rattle.std.proofs.Common.{◌≡◌, ◌≢◌, ◌⊎◌, inl, inr, ℕ, ◌∙◌, true, List, [], ◌∷◌, ◌++◌, refl, sym, ap, subst}
 use Rattle.std.specs.Prelude.{IsTrue, Some, None, is_none, Result, Ok, Err, OnOk}
-use Rattle.std.proofs.lemmas.Bool.{cases_Bool, both_ways}
-use Rattle.std.proofs.lemmas.List.{take_more, length-take}
+use Rattle.std.proofs.lemmas.Bool.{cases_Bool}
 use Rattle.sqlite.specs.Tree.{Trees}
 use Rattle.sqlite.specs.State.{State}
 use Rattle.reg_core.specs.declared.code.Code.TheVariants.{KeyReused, BackendFault}
@@ -10,20 +9,18 @@ use Rattle.reg_core.specs.declared.command.Command.{Command}
 use Rattle.reg_core.specs.declared.delivery.Delivery.{Delivery}
 use Rattle.reg_core.specs.CommandTexts.{command_text}
 use Rattle.reg_core.specs.Machine.{is_write, step}
-use Rattle.reg_core.specs.Registry.{Registry}
 use Rattle.reg_core.specs.Replies.{Told, fault}
 use Rattle.reg_core.specs.KeptReplies.{Kept, Entry, kept_with, entry_told}
 use Rattle.reg_core.specs.Stored.{Stored, HasTrueEvidence}
 use Rattle.reg_store.specs.Spells.{Leaves, IsOpenOver, SpellsWhileOpen}
-use Rattle.reg_store.specs.Stores.{LeavesNoMore, SpellsOn}
+use Rattle.reg_store.specs.Stores.{SpellsOn}
 use Rattle.reg_store.proofs.Committing.{leaves_if_open}
-use Rattle.reg_service.specs.Deliveries.{Exchange, key_of, is_first, kept_after, reply_after, served, LeadsTo}
-use Rattle.reg_service.specs.Services.{ServesOver}
+use Rattle.reg_service.specs.Deliveries.{Exchange, key_of, is_first, kept_after, served, LeadsTo}
 use Rattle.reg_service.specs.Inside.Steps.{HoldsAfter, Under, IsFree, kept_under, CarriesOut}
-use Rattle.reg_service.specs.Crashes.{LeavesAfter, LeavesUnderWay, IsFoundAfter, LeavesSpelled, reply_or_fault}
-use Rattle.reg_service.proofs.JoinedExchanges.{is_led, is_first-append, registry-append, leads-append, leads_none}
-use Rattle.reg_service.proofs.ExchangeLists.{served-append, zip-push}
-use Rattle.reg_service.proofs.SingleDeliveries.{is_first-keyless, is_first-keyed, kept_after-known, kept_first, leads_first, steps_nowhere, served_fault, serves_keyless, serves_first, serves_again}
+use Rattle.reg_service.specs.Crashes.{LeavesAfter, LeavesSpelled, reply_or_fault}
+use Rattle.reg_service.specs.Inside.Crashing.{IsFoundOne, LeavesOneUnderWay}
+use Rattle.reg_service.proofs.JoinedExchanges.{leads-append, leads_none}
+use Rattle.reg_service.proofs.SingleDeliveries.{is_first-keyless, is_first-keyed, kept_after-known, kept_first, leads_first, no_backend_fault, steps_nowhere, served_fault, serves_keyless, serves_first, serves_again}
 
 -- ---- lists
 
@@ -31,78 +28,21 @@ use Rattle.reg_service.proofs.SingleDeliveries.{is_first-keyless, is_first-keyed
 leaves_still : (was : Stored) (xs : List Exchange) (db : Trees) → LeadsTo was xs was → Leaves db was → LeavesAfter was xs db
 leaves_still was xs db leads leaves = record { now = was; leads = leads; stays_true = λ holds. holds; leaves = leaves }
 
+pub leaves_none : (was : Stored) (db : Trees) → Leaves db was → LeavesAfter was [] db
+leaves_none was db leaves = leaves_still was [] db (leads_none was) leaves
+
 -- what one command makes is what its exchange leaves
 leaves_made : (was : Stored) (d : Delivery) (kept : Kept) (xs : List Exchange) (db : Trees) (after : HoldsAfter was d.command kept (Leaves db)) → LeadsTo was xs after.now → LeavesAfter was xs db
 leaves_made was d kept xs db after leads = record { now = after.now; leads = leads; stays_true = after.stays_true; leaves = after.holds }
 
 -- what exchanges leave that follow others is what both leave
-leaves_later : (was mid : Stored) (xs ys : List Exchange) (db : Trees) → LeadsTo was xs mid → (HasTrueEvidence was → HasTrueEvidence mid) → LeavesAfter mid ys db → LeavesAfter was (xs ++ ys) db
+pub leaves_later : (was mid : Stored) (xs ys : List Exchange) (db : Trees) → LeadsTo was xs mid → (HasTrueEvidence was → HasTrueEvidence mid) → LeavesAfter mid ys db → LeavesAfter was (xs ++ ys) db
 leaves_later was mid xs ys db leads stays later = record {
   now = later.now;
   leads = leads-append was mid later.now xs ys leads later.leads;
   stays_true = λ holds. later.stays_true (stays holds);
   leaves = later.leaves;
 }
-
--- what is found after exchanges that follow others is found after both
-found_later : (was mid : Stored) (xs ys : List Exchange) (may_leave : Trees → Type 0) → LeadsTo was (served xs) mid → (HasTrueEvidence was → HasTrueEvidence mid)
-    → IsFoundAfter mid ys may_leave → IsFoundAfter was (xs ++ ys) may_leave
-found_later was mid xs ys may_leave leads stays found = by found
-  where
-    both : (db : Trees) → LeavesAfter mid (served ys) db → LeavesAfter was (served (xs ++ ys)) db
-    both db leaves =
-        let P : List Exchange → Type 0 = λ zs. LeavesAfter was zs db in
-        subst P (sym (served-append xs ys)) (leaves_later was mid (served xs) (served ys) db leads stays leaves)
-
-    with_one : (before : List Exchange) (d : Delivery) (db : Trees) → LeavesAfter mid (served before ++ (d, reply_after mid (served before) d.command) ∷ []) db
-        → LeavesAfter was (served (xs ++ before) ++ (d, reply_after was (served (xs ++ before)) d.command) ∷ []) db
-    with_one before d db leaves =
-        let front = served xs ++ served before in
-        let old = reply_after mid (served before) d.command in
-        let all : LeavesAfter was (served xs ++ (served before ++ (d, old) ∷ [])) db = leaves_later was mid (served xs) (served before ++ (d, old) ∷ []) db leads stays leaves in
-        let same : old ≡ reply_after was front d.command =
-        ap (λ (s : Stored). reply_after s (served before) d.command) (is_led was mid (served xs) leads)
-        ∙ ap (λ (s : Registry). (step s d.command).1) (sym (registry-append was.registry was.replies (served xs) (served before))) in
-        let P : List Exchange → Type 0 = λ zs. LeavesAfter was zs db in
-        let joined : LeavesAfter was (front ++ (d, old) ∷ []) db = subst P (sym (append_assoc (served xs) (served before) ((d, old) ∷ []))) all in
-        let replied : LeavesAfter was (front ++ (d, reply_after was front d.command) ∷ []) db = subst P (ap (λ (t : Told). front ++ (d, t) ∷ []) same) joined in
-        let Q : List Exchange → Type 0 = λ zs. LeavesAfter was (zs ++ (d, reply_after was zs d.command) ∷ []) db in
-        subst Q (sym (served-append xs before)) replied
-
-    by : IsFoundAfter mid ys may_leave → IsFoundAfter was (xs ++ ys) may_leave
-    by (inl leaves) = inl (λ db it. both db (leaves db it))
-    by (inr u) = inr (record {
-      before = xs ++ u.before;
-      delivery = u.delivery;
-      after = u.after;
-      split = ap (λ (zs : List Exchange). xs ++ zs) u.split ∙ sym (append_assoc xs u.before ((u.delivery, fault BackendFault) ∷ u.after));
-      unanswered = u.unanswered;
-      first = ap (λ (zs : List Exchange). is_first was.replies zs u.delivery) (served-append xs u.before) ∙ is_first-append was.replies (served xs) (served u.before) u.delivery
-          ∙ ap (λ (k : Kept). is_first k (served u.before) u.delivery) (sym leads.kept) ∙ u.first;
-      leaves = λ db it. elim (u.leaves db it) [ inl leaves ↦ inl (both db leaves) | inr leaves ↦ inr (with_one u.before u.delivery db leaves) ];
-    })
-
--- an exchange that was answered 50001 and left no more changes nothing of what is found
-found_still : (was : Stored) (xs : List Exchange) (d : Delivery) (reply : Told) (old new : Trees → Type 0) → reply ≡ fault BackendFault → ((db : Trees) → new db → old db) → IsFoundAfter was xs old → IsFoundAfter was (xs ++ (d, reply) ∷ []) new
-found_still was xs d reply old new is no_more found = by found
-  where
-    still : (db : Trees) → LeavesAfter was (served xs) db → LeavesAfter was (served (xs ++ (d, reply) ∷ [])) db
-    still db leaves =
-        let P : List Exchange → Type 0 = λ zs. LeavesAfter was zs db in
-        let same : served (xs ++ (d, reply) ∷ []) ≡ served xs = served-append xs ((d, reply) ∷ []) ∙ ap (λ zs. served xs ++ zs) (served_fault d reply is) ∙ append-nil (served xs) in
-        subst P (sym same) leaves
-
-    by : IsFoundAfter was xs old → IsFoundAfter was (xs ++ (d, reply) ∷ []) new
-    by (inl leaves) = inl (λ db it. still db (leaves db (no_more db it)))
-    by (inr u) = inr (record {
-      before = u.before;
-      delivery = u.delivery;
-      after = u.after ++ (d, reply) ∷ [];
-      split = ap (λ (zs : List Exchange). zs ++ (d, reply) ∷ []) u.split ∙ append_assoc u.before ((u.delivery, fault BackendFault) ∷ u.after) ((d, reply) ∷ []);
-      unanswered = served-append u.after ((d, reply) ∷ []) ∙ (λ i. u.unanswered i ++ served_fault d reply is i);
-      first = u.first;
-      leaves = λ db it. elim (u.leaves db (no_more db it)) [ inl leaves ↦ inl (still db leaves) | inr leaves ↦ inr leaves ];
-    })
 
 -- ---- one exchange
 
@@ -121,16 +61,12 @@ module _ (was : Stored) (d : Delivery) (may_leave : Trees → Type 0) where
   unanswered : (db : Trees) → Leaves db was → LeavesAfter was (served ((d, fault BackendFault) ∷ [])) db
   unanswered db leaves =
       let P : List Exchange → Type 0 = λ xs. LeavesAfter was xs db in
-      subst P (sym (served_fault d (fault BackendFault) refl)) (leaves_still was [] db (leads_none was) leaves)
+      subst P (sym (served_fault d (fault BackendFault) refl)) (leaves_none was db leaves)
 
   -- a first delivery that wasn't answered, and may stand
   under_way : (kept : Kept) → is_first was.replies [] d ≡ true → kept ≡ kept_after was.replies ((d, (step was.registry d.command).1) ∷ [])
-      → ((db : Trees) → may_leave db → Leaves db was ⊎ HoldsAfter was d.command kept (Leaves db)) → LeavesUnderWay was ((d, fault BackendFault) ∷ []) may_leave
+      → ((db : Trees) → may_leave db → Leaves db was ⊎ HoldsAfter was d.command kept (Leaves db)) → LeavesOneUnderWay was d (fault BackendFault) may_leave
   under_way kept first same leaves = record {
-    before = [];
-    delivery = d;
-    after = [];
-    split = refl;
     unanswered = refl;
     first = first;
     leaves = λ db it.
@@ -142,23 +78,23 @@ module _ (was : Stored) (d : Delivery) (may_leave : Trees → Type 0) where
   }
 
   -- one that wasn't answered, and did nothing
-  pub found_failed : {E : Type 0} (r : Result Told E) → OnOk r ⊥ → ((db : Trees) → may_leave db → Leaves db was) → IsFoundAfter was ((d, reply_or_fault r) ∷ []) may_leave
+  pub found_failed : {E : Type 0} (r : Result Told E) → OnOk r ⊥ → ((db : Trees) → may_leave db → Leaves db was) → IsFoundOne was d (reply_or_fault r) may_leave
   found_failed (Ok reply) none leaves = absurd none
   found_failed (Err e) none leaves = inl (λ db it. unanswered db (leaves db it))
 
   -- a later delivery of a key
   pub found_again : (key text : List ℕ) (entry : Entry) (reply : Told) → key_of d ≡ Some key → text ≡ command_text d.command → was.replies key ≡ Some entry
-      → (text ≡ entry.command → reply ≡ entry.reply) → (text ≢ entry.command → reply ≡ fault KeyReused) → ((db : Trees) → may_leave db → Leaves db was) → IsFoundAfter was ((d, reply) ∷ []) may_leave
+      → (text ≡ entry.command → reply ≡ entry.reply) → (text ≢ entry.command → reply ≡ fault KeyReused) → ((db : Trees) → may_leave db → Leaves db was) → IsFoundOne was d reply may_leave
   found_again key text entry reply some is has same other leaves =
       inl (λ db it. leaves_still was (served ((d, reply) ∷ [])) db (serves_again was d key entry reply some has (rw is at same) (rw is at other)).leads (leaves db it))
 
 -- a read, or a write without a key
 pub found_keyless : {E : Type 0} (was : Stored) (d : Delivery) (old new : State) (r : Result Told E) → key_of d ≡ None → ((db : Trees) → old.may_leave db → Leaves db was) → SpellsWhileOpen old was
-    → CarriesOut old new d.command None r → IsFoundAfter was ((d, reply_or_fault r) ∷ []) new.may_leave
+    → CarriesOut old new d.command None r → IsFoundOne was d (reply_or_fault r) new.may_leave
 found_keyless was d old new (Ok reply) keyless before over carries =
     inl (λ db it.
     let after = carries.crash was over tt db it in
-    leaves_made was d was.replies (served ((d, reply) ∷ [])) db after (serves_keyless was after.now d reply keyless (carries.done was over tt).0 carries.own.no_backend_fault after.steps after.replies).leads)
+    leaves_made was d was.replies (served ((d, reply) ∷ [])) db after (serves_keyless was after.now d reply keyless (carries.done was over tt).0 (no_backend_fault reply carries.own) after.steps after.replies).leads)
 found_keyless was d old new (Err e) keyless before over carries =
     elim (cases_Bool (is_write d.command)) [
       | inl write ↦ inr (under_way was d new.may_leave was.replies (is_first-keyless was.replies [] d keyless ∙ write) (sym (kept_after-known was.replies d (step was.registry d.command).1 (λ key some. absurd (let none : None ≡ Some key = sym keyless ∙ some in cc))))
@@ -171,45 +107,17 @@ found_keyless was d old new (Err e) keyless before over carries =
 
 -- the first delivery of a key
 pub found_first : {E : Type 0} (was : Stored) (d : Delivery) (mid new : State) (r : Result Told E) (key text : List ℕ) → key_of d ≡ Some key → text ≡ command_text d.command → was.replies key ≡ None
-    → ((db : Trees) → mid.may_leave db → Leaves db was) → SpellsWhileOpen mid was → CarriesOut mid new d.command (Some (key, text)) r → IsFoundAfter was ((d, reply_or_fault r) ∷ []) new.may_leave
+    → ((db : Trees) → mid.may_leave db → Leaves db was) → SpellsWhileOpen mid was → CarriesOut mid new d.command (Some (key, text)) r → IsFoundOne was d (reply_or_fault r) new.may_leave
 found_first was d mid new (Ok reply) key text some is fresh before over carries =
     let e = (carries.done was over fresh).0 in
     let same : kept_with was.replies key (entry_told text (step was.registry d.command).1) ≡ kept_with was.replies key (entry_told (command_text d.command) reply) =
     λ i. kept_with was.replies key (entry_told (is i) (sym e i)) in
     inl (λ db it.
     let after = carries.crash was over fresh db it in
-    leaves_made was d _ (served ((d, reply) ∷ [])) db after (serves_first was after.now d key reply some fresh e carries.own.no_backend_fault after.steps (after.replies ∙ same)).leads)
+    leaves_made was d _ (served ((d, reply) ∷ [])) db after (serves_first was after.now d key reply some fresh e (no_backend_fault reply carries.own) after.steps (after.replies ∙ same)).leads)
 found_first was d mid new (Err e) key text some is fresh before over carries =
     let reply = (step was.registry d.command).1 in
     let same = ap (λ (t : List ℕ). kept_with was.replies key (entry_told t reply)) is in
     inr (under_way was d new.may_leave (kept_with was.replies key (entry_told text reply)) (is_first-keyed was.replies d key some ∙ ap is_none fresh)
     (same ∙ kept_first was.replies d key reply some fresh)
     (λ db it. elim (carries.crash was over fresh db it) [ inl left ↦ inl (before db left) | inr after ↦ inr after ]))
-
--- ---- the next of a list
-
--- before the first, what was there is found
-pub found_none : (was : Stored) (may_leave : Trees → Type 0) → ((db : Trees) → may_leave db → Leaves db was) → IsFoundAfter was [] may_leave
-found_none was may_leave leaves = inl (λ db it. leaves_still was [] db (leads_none was) (leaves db it))
-
--- over an open connection the next exchange is answered from where the others led; over one that is shut it leaves no more
-pub found_next : (old mid new : State) (list : List Delivery) (i : ℕ) (d : Delivery) (replies more : List Told) (reply : Told) → i < length list → d ≡ get_or list i d → length replies ≡ i → more ≡ replies ++ reply ∷ []
-    → (was : Stored) → IsOpenOver old was → ServesOver old mid (served (zip (take i list) replies))
-    → IsFoundAfter was (zip (take i list) replies) mid.may_leave
-    → ((was : Stored) → IsOpenOver mid was → IsFoundAfter was ((d, reply) ∷ []) new.may_leave)
-    → ((IsTrue mid.is_open → ⊥) → (reply ≡ fault BackendFault) × LeavesNoMore mid new)
-    → IsFoundAfter was (zip (take (i + 1) list) more) new.may_leave
-found_next old mid new list i d replies more reply lt item count longer was over before found once shut =
-    let front : take (i + 1) list ≡ take i list ++ d ∷ [] = take_more list i d lt ∙ ap (λ (x : Delivery). take i list ++ x ∷ []) (sym item) in
-    let same : length (take i list) ≡ length replies = omega (arith, length-take i list) in
-    let P : List Delivery × List Told → Type 0 = λ both. IsFoundAfter was (zip both.0 both.1) new.may_leave in
-    let Q : List Exchange → Type 0 = λ zs. IsFoundAfter was zs new.may_leave in
-    subst P (λ j. (sym front j, sym longer j)) (subst Q (sym (zip-push (take i list) replies d reply same)) (by (cases_Bool mid.is_open)))
-  where
-    by : (mid.is_open ≡ true) ⊎ (mid.is_open ≡ false) → IsFoundAfter was (zip (take i list) replies ++ (d, reply) ∷ []) new.may_leave
-    by (inl is_open) =
-        let it = before was (λ _. over) in
-        found_later was it.now (zip (take i list) replies) ((d, reply) ∷ []) new.may_leave it.serves.leads it.stays_true (once it.now (it.spells is_open))
-    by (inr is_shut) =
-        let it = shut (λ is_open. both_ways _ is_shut is_open) in
-        found_still was (zip (take i list) replies) d reply mid.may_leave new.may_leave it.0 it.1 found

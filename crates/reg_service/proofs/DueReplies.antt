@@ -10,7 +10,7 @@ use Rattle.reg_core.specs.Replies.{Told}
 use Rattle.reg_core.specs.declared.delivery.Delivery.{Delivery}
 use Rattle.reg_core.specs.KeptReplies.{Kept, Entry}
 use Rattle.reg_core.specs.Stored.{Stored}
-use Rattle.reg_service.specs.Deliveries.{Exchange, key_of, has_key, entry_of, kept_after, is_first, is_new, IsDue, Answers, Serves, RepeatsAgree, NoOtherAnswers, KeepsAll}
+use Rattle.reg_service.specs.Deliveries.{Exchange, key_of, has_key, entry_of, kept_after, is_first, is_new, IsDue, Answers, RepeatsAgree, NoOtherAnswers}
 use Rattle.reg_service.proofs.JoinedExchanges.{kept_after-append, is_none-kept_after}
 
 -- two texts are the same, or they aren't
@@ -22,12 +22,8 @@ same_or_other a b = by (bytes_eq a b) (bytes_eq-Decides a b)
     by false d = inr (λ e. true≢false (sym (d.1 e)))
 
 -- what is kept stays
-pub kept_stays : (k : Kept) (xs : List Exchange) → KeepsAll k (kept_after k xs)
+kept_stays : (k : Kept) (xs : List Exchange) (key : List ℕ) (entry : Entry) → k key ≡ Some entry → kept_after k xs key ≡ Some entry
 kept_stays k xs key entry e = ap (λ o. option_or o (option_map entry_of (find (λ x. has_key key x.0) xs))) e
-
--- so whatever is served keeps it
-pub serves-KeepsAll : (was now : Stored) (xs : List Exchange) → Serves was xs now → KeepsAll was.replies now.replies
-serves-KeepsAll was now xs h key entry e = (λ i. h.leads.kept i key) ∙ kept_stays was.replies xs key entry e
 
 -- a write whose key is free leaves its own entry
 kept_here : (k : Kept) (x : Exchange) (xs : List Exchange) (key : List ℕ) → key_of x.0 ≡ Some key → k key ≡ None

@@ -4,6 +4,7 @@ use Rattle.std.proofs.lemmas.Bool.{eqb-false}
 use Rattle.std.specs.Prelude.{Some, None, unwrap_or, codes}
 use Rattle.std.specs.FinMap.{get}
 use Rattle.sqlite.specs.Tree.{Trees}
+use Rattle.sqlite_trees.specs.declared.store.Store.{Ghosts}
 use Rattle.reg_core.specs.declared.code.Code.TheVariants.{InvalidLevel, KeyReused, BackendFault}
 use Rattle.reg_core.specs.declared.command.Command.{Command}
 use Rattle.reg_core.specs.declared.command.Command.TheVariants.{SetGlobal, SetLevel, Global}
@@ -16,7 +17,9 @@ use Rattle.reg_core.specs.declared.delivery.Delivery.{Delivery}
 use Rattle.reg_core.specs.KeptReplies.{nothing_kept}
 use Rattle.reg_core.specs.Evidence.{EvidenceOf, evidence_in, kept_or_new}
 use Rattle.reg_core.specs.Stored.{Stored}
-use Rattle.reg_service.specs.Deliveries.{Exchange, firsts, entry_of, kept_after, AreAdmittedBy, IsDue}
+use Rattle.reg_service.specs.declared.service.Service.{Service}
+use Rattle.reg_service.specs.Deliveries.{Exchange, firsts, entry_of, kept_after, served, AreAdmittedBy, IsDue}
+use Rattle.reg_service.specs.Services.{state_in}
 use Rattle.reg_service.specs.Crashes.{LeavesAfter, IsFoundAfter}
 
 abbrev full : Command
@@ -104,19 +107,16 @@ old_one_is_admitted_by : (g : Registry) (c : Command) (old new : EvidenceOf) (ke
 old_one_is_admitted_by g c old new key before after (mid, becomes, same) was there =
     ap (λ (e : EvidenceOf). get e key) same ∙ becomes key ∙ (λ i. kept_or_new (was i) (there i) (get old key) (evidence_in g key.0))
 
-abbrev status_at : List Exchange → ℕ
-status_at [] = 0
-status_at (x ∷ xs) = x.1.status
-
 -- what was answered stays: no delivery was under way then
-answered_stays : (was : Stored) (d : Delivery) (body : List ℕ) (may_leave : Trees → Type 0) → IsFoundAfter was ((d, answer body) ∷ []) may_leave → (db : Trees) → may_leave db → LeavesAfter was ((d, answer body) ∷ []) db
-answered_stays was d body may_leave (inl leaves) db it = leaves db it
-answered_stays was d body may_leave (inr u) db it = absurd (none u.before u.split)
+answered_stays : {S : Type 0} {g : Ghosts S} (old new : Service S g) (was : Stored) (d : Delivery) (body : List ℕ) → IsFoundAfter old new was ((d, answer body) ∷ [])
+    → (db : Trees) → (state_in new).may_leave db → LeavesAfter was ((d, answer body) ∷ []) db
+answered_stays old new was d body (inl leaves) db it = leaves db it
+answered_stays old new was d body (inr u) db it = absurd (none u.at.before u.at.split)
   where
     no_more : (before : List Exchange) (x : Exchange) (after : List Exchange) → [] ≡ before ++ x ∷ after → ⊥
     no_more [] x after e = absurd (cc)
     no_more (b ∷ before) x after e = absurd (cc)
 
-    none : (before : List Exchange) → (d, answer body) ∷ [] ≡ before ++ (u.delivery, fault BackendFault) ∷ u.after → ⊥
-    none [] e = let other : 200 ≡ 500 = ap status_at e in absurd (omega (arith, other))
-    none (b ∷ before) e = let rest : [] ≡ before ++ (u.delivery, fault BackendFault) ∷ u.after = cc in no_more before (u.delivery, fault BackendFault) u.after rest
+    none : (before : List Exchange) → (d, answer body) ∷ [] ≡ before ++ u.at.exchange ∷ u.at.after → ⊥
+    none [] e = let nothing : (d, answer body) ∷ [] ≡ [] = ap served e ∙ u.at.unanswered in absurd (cc)
+    none (b ∷ before) e = let rest : [] ≡ before ++ u.at.exchange ∷ u.at.after = cc in no_more before u.at.exchange u.at.after rest

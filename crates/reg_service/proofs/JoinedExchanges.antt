@@ -196,10 +196,6 @@ serves-append was mid now xs ys p q =
 pub leads_none : (was : Stored) → LeadsTo was [] was
 leads_none was = record { registry = refl; kept = sym (kept_after-nil was.replies); evidence = refl }
 
--- and to nothing else
-pub leads_nowhere : (was now : Stored) → LeadsTo was [] now → now ≡ was
-leads_nowhere was now h = λ i. record { registry = h.registry i; replies = (h.kept ∙ kept_after-nil was.replies) i; evidence = h.evidence i }
-
 pub serves_none : (was : Stored) → Serves was [] was
 serves_none was = record { leads = leads_none was; replies = none }
   where

@@ -6,5 +6,6 @@ pub mod StoreCalls
 pub mod OverTables
 pub mod CrashLemmas
 pub mod OpenConnections
+pub mod FoundLists
 pub mod Examples
 pub mod AdmissionLemmas

@@ -10,9 +10,9 @@ use Rattle.reg_core.specs.Replies.{Told, fault}
 use Rattle.reg_store.specs.declared.error.StoreError.{StoreError}
 use Rattle.reg_store.specs.declared.store.Store.{Store}
 use Rattle.reg_core.specs.Stored.{Stored}
-use Rattle.reg_store.specs.Stores.{has_failed, KeepsOpen, ReadsStore}
+use Rattle.reg_store.specs.Stores.{has_failed, state_of, KeepsOpen, KeepsStore, ReadsStore}
 use Rattle.reg_service.specs.declared.service.Service.{Service}
-use Rattle.reg_service.specs.Services.{store_in, state_in, KeepsService, AreUnanswered}
+use Rattle.reg_service.specs.Services.{store_in, state_in, KeepsOver, KeepsService, AreUnanswered}
 
 -- more faults stay more
 still_more : (top a b c : ℕ) → min (a + 1) top ≤ b → b ≤ c → min (a + 1) top ≤ c
@@ -51,25 +51,42 @@ module _ {S : Type 0} {g : Ghosts S} where
   pub was_open : (old new : Service S g) → KeepsService old new ⊥ → HasCleanDisk (state_in new) → IsTrue (state_in old).is_open
   was_open old new keeps clean = elim (cases_Bool (state_in old).is_open) [ inl is_open ↦ is_open | inr is_shut ↦ absurd (keeps.shut clean (λ is_open. both_ways _ is_shut is_open)).0 ]
 
-  -- one delivery more
-  pub keeps_next : (old mid new : Service S g) (replies more : List Told) (reply : Told) → more ≡ replies ++ reply ∷ []
-      → KeepsService old mid (AreUnanswered replies) → KeepsService mid new (reply ≡ fault BackendFault) → KeepsService old new (AreUnanswered more)
-  keeps_next old mid new replies more reply longer before one = record {
-    failed = λ failed. let was = before.failed failed in let is = one.failed was.1 in (all was.0 is.0, is.1);
+  -- one call after the other
+  pub keeps_both : {P Q R : Type 0} (old mid new : Service S g) → (P → Q → R) → KeepsService old mid P → KeepsService mid new Q → KeepsService old new R
+  keeps_both old mid new none before one = record {
+    failed = λ failed. let was = before.failed failed in let is = one.failed was.1 in (none was.0 is.0, is.1);
     shut = λ clean is_shut.
         let was = before.shut (one.clean clean) is_shut in
         let is = one.shut clean (λ is_open. is_shut (before.connection.stays_shut (one.clean clean) is_open)) in
-        (all was.0 is.0, λ db it. was.1 db (is.1 db it));
+        (none was.0 is.0, λ db it. was.1 db (is.1 db it));
     clean = λ clean. before.clean (one.clean clean);
     connection = keeps_then (state_in old) (state_in mid) (state_in new) one.clean before.connection one.connection;
   }
+
+  -- what follows from giving no answer
+  pub keeps_as : {P Q : Type 0} (old new : Service S g) → (P → Q) → KeepsService old new P → KeepsService old new Q
+  keeps_as old new f keeps = record {
+    failed = λ failed. let is = keeps.failed failed in (f is.0, is.1);
+    shut = λ clean is_shut. let is = keeps.shut clean is_shut in (f is.0, is.1);
+    clean = keeps.clean;
+    connection = keeps.connection;
+  }
+
+  -- one delivery more
+  pub keeps_next : (old mid new : Service S g) (replies more : List Told) (reply : Told) → more ≡ replies ++ reply ∷ []
+      → KeepsService old mid (AreUnanswered replies) → KeepsService mid new (reply ≡ fault BackendFault) → KeepsService old new (AreUnanswered more)
+  keeps_next old mid new replies more reply longer before one = keeps_both old mid new all before one
     where
       all : AreUnanswered replies → reply ≡ fault BackendFault → AreUnanswered more
       all them it = All-same (λ told. told ≡ fault BackendFault) more (replies ++ reply ∷ []) longer (All-push (λ told. told ≡ fault BackendFault) replies reply them it)
 
+-- a call of the store that succeeds leaves one that hasn't failed
+pub goes_on : {S T : Type 0} {g : Ghosts S} {old new : Store S g} {x : T} → KeepsStore old new (Ok x) → IsTrue (has_failed new) → ⊥
+goes_on keeps failed = let is = keeps.failed_now.1 failed in absurd (cc)
+
 -- a call that only reads the store, and fails where that fails
-module _ {S T : Type 0} {g : Ghosts S} {Tells : Stored → T → Type 0} {GivesNone : Type 0} {old new : Service S g} where
-  pub keeps_reading : {r : Result T StoreError} → ReadsStore (store_in old) (store_in new) r Tells → (OnOk r ⊥ → GivesNone) → KeepsService old new GivesNone
+module _ {S T : Type 0} {g : Ghosts S} {Tells : Stored → T → Type 0} {GivesNone : Type 0} {old new : Store S g} where
+  pub keeps_reading : {r : Result T StoreError} → ReadsStore old new r Tells → (OnOk r ⊥ → GivesNone) → KeepsOver old new GivesNone
   keeps_reading {r} reads none = record {
     failed = λ failed. let was = reads.frame.failed_before failed in (none (subst (λ (q : Result T StoreError). OnOk q ⊥) (sym was.0) tt), subst (λ (s : Store S g). IsTrue (has_failed s)) (sym was.1) failed);
     shut = λ clean is_shut. (none (fails r (reads.frame.was_open clean) is_shut), (reads.tells clean).crash);
@@ -77,15 +94,15 @@ module _ {S T : Type 0} {g : Ghosts S} {Tells : Stored → T → Type 0} {GivesN
     connection = reads.frame.connection;
   }
     where
-      fails : (r : Result T StoreError) → OnOk r (IsTrue (state_in old).is_open) → (IsTrue (state_in old).is_open → ⊥) → OnOk r ⊥
+      fails : (r : Result T StoreError) → OnOk r (IsTrue (state_of old).is_open) → (IsTrue (state_of old).is_open → ⊥) → OnOk r ⊥
       fails (Ok x) is_open is_shut = is_shut is_open
       fails (Err e) is_open is_shut = tt
 
   -- one that succeeds, and then a call of a service
-  pub keeps_read_then : {x : T} {mid : Service S g} → ReadsStore (store_in old) (store_in mid) (Ok x) Tells → KeepsService mid new GivesNone → KeepsService old new GivesNone
+  pub keeps_read_then : {x : T} {mid : Store S g} → ReadsStore old mid (Ok x) Tells → KeepsOver mid new GivesNone → KeepsOver old new GivesNone
   keeps_read_then {x} {mid} reads one = record {
     failed = λ failed. absurd (let was = (reads.frame.failed_before failed).0 in cc);
     shut = λ clean is_shut. absurd (is_shut (reads.frame.was_open (one.clean clean)));
     clean = λ clean. reads.frame.clean (one.clean clean);
-    connection = keeps_then (state_in old) (state_in mid) (state_in new) one.clean reads.frame.connection one.connection;
+    connection = keeps_then (state_of old) (state_of mid) (state_of new) one.clean reads.frame.connection one.connection;
   }

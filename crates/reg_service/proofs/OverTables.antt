@@ -13,13 +13,12 @@ use Rattle.reg_store.specs.Stores.{SpellsOn}
 use Rattle.reg_service.specs.Deliveries.{Exchange, Serves, key_of, served}
 use Rattle.reg_service.specs.Services.{ServesTo, ServesOver}
 use Rattle.reg_service.specs.Inside.Steps.{CarriesOut}
-use Rattle.reg_service.proofs.SingleDeliveries.{serves_keyless, serves_first, serves_again, serves_refused, served_nowhere}
+use Rattle.reg_service.proofs.SingleDeliveries.{no_backend_fault, serves_keyless, serves_first, serves_again, serves_refused}
 use Rattle.reg_service.proofs.JoinedExchanges.{serves_none}
 use Rattle.reg_service.proofs.ExchangeLists.{serves_next}
-use Rattle.reg_service.proofs.DueReplies.{serves-KeepsAll}
 
 served_to : {xs : List Exchange} {new : State} (was now : Stored) → Serves was xs now → (HasTrueEvidence was → HasTrueEvidence now) → SpellsWhileOpen new now → ServesTo was xs new
-served_to was now s stays spells = record { now = now; serves = s; keeps = serves-KeepsAll _ _ _ s; stays_true = stays; spells = spells }
+served_to was now s stays spells = record { now = now; serves = s; stays_true = stays; spells = spells }
 
 -- what serves nothing
 stands : {xs : List Exchange} {new : State} (was : Stored) → Serves was xs was → SpellsWhileOpen new was → ServesTo was xs new
@@ -32,7 +31,7 @@ module _ {E : Type 0} (old new : State) (d : Delivery) where
   keyless_over (Ok reply) keyless carries = λ was over.
       let it = carries.done was over tt in
       let after = it.1 in
-      served_to was after.now (serves_keyless was after.now d reply keyless it.0 carries.own.no_backend_fault after.steps after.replies) after.stays_true after.holds
+      served_to was after.now (serves_keyless was after.now d reply keyless it.0 (no_backend_fault reply carries.own) after.steps after.replies) after.stays_true after.holds
 
   -- the first delivery of a key
   pub first_over : (r : Result Told E) (mid : State) (key text : List ℕ) → key_of d ≡ Some key → text ≡ command_text d.command → CarriesOut mid new d.command (Some (key, text)) r
@@ -43,7 +42,7 @@ module _ {E : Type 0} (old new : State) (d : Delivery) where
       let it = carries.done was before.0 before.1 in
       let after = it.1 in
       let kept = after.replies ∙ ap (λ (t : List ℕ). kept_with was.replies key (entry_told t reply)) is in
-      served_to was after.now (serves_first was after.now d key reply some before.1 it.0 carries.own.no_backend_fault after.steps kept) after.stays_true after.holds
+      served_to was after.now (serves_first was after.now d key reply some before.1 it.0 (no_backend_fault reply carries.own) after.steps kept) after.stays_true after.holds
 
 -- a later delivery of a key
 pub again_over : (new : State) (d : Delivery) (reply : Told) (key text : List ℕ) (was : Stored) (entry : Entry) → key_of d ≡ Some key → text ≡ command_text d.command → was.replies key ≡ Some entry
@@ -66,7 +65,3 @@ next_over old mid new list i d replies more reply lt item count longer before on
     let first = before was over in
     let second = one first.now first.spells in
     served_to was second.now (serves_next list i d replies more reply was first.now second.now lt item count longer first.serves second.serves) (λ holds. second.stays_true (first.stays_true holds)) second.spells
-
--- the reply 50001 leaves what the tables spelled
-pub fault_over : (new : State) (d : Delivery) (reply : Told) (was : Stored) → reply ≡ fault BackendFault → ServesTo was (served ((d, reply) ∷ [])) new → SpellsWhileOpen new was
-fault_over new d reply was is given = subst (λ (s : Stored). SpellsWhileOpen new s) (served_nowhere was given.now d reply is given.serves) given.spells

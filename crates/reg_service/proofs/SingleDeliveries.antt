@@ -3,6 +3,7 @@ use Rattle.std.proofs.Common.{◌≡◌, ◌≢◌, ℕ, true, false, Bool, not,
 use Rattle.std.specs.Prelude.{Option, Some, None, option_map, is_none, cond, bytes_eq, ◌==◌, if◌then◌else◌}
 use Rattle.std.specs.Option.{option_or, option_map_or}
 use Rattle.std.specs.Bool.{Decides}
+use Rattle.std.proofs.lemmas.Bool.{both_ways}
 use Rattle.std.specs.Cmp.Lexicographic.{nat_list_eq_equiv}
 use Rattle.std.proofs.lemmas.Bool.Decides.{Decides-eqb}
 use Rattle.std.proofs.lemmas.Slice.Eq.{bytes_eq-Decides}
@@ -10,14 +11,14 @@ use Rattle.reg_core.specs.declared.code.Code.TheVariants.{KeyReused, BackendFaul
 use Rattle.reg_core.specs.CommandTexts.{command_text}
 use Rattle.reg_core.specs.declared.command.Command.{Command}
 use Rattle.reg_core.specs.Machine.{is_write, step, run_commands}
-use Rattle.reg_core.specs.Replies.{Told, fault}
+use Rattle.reg_core.specs.Replies.{Told, IsKeptStatus, IsOwnReply, fault}
 use Rattle.reg_core.specs.declared.delivery.Delivery.{Delivery}
 use Rattle.reg_core.specs.KeptReplies.{Kept, Entry, kept_with}
 use Rattle.reg_core.specs.Stored.{Stored}
 use Rattle.reg_core.proofs.UnchangedRegistries.{step-read}
 use Rattle.reg_service.specs.Deliveries.{Exchange, key_of, has_key, is_new, is_first, firsts, entry_of, kept_after, IsDue, Answers, AreAdmittedBy, LeadsTo, Serves, served, is_backend_fault}
 use Rattle.reg_service.specs.Inside.Steps.{StepsTo}
-use Rattle.reg_service.proofs.JoinedExchanges.{option_or-none, kept_after-nil, leads_nowhere, serves_none}
+use Rattle.reg_service.proofs.JoinedExchanges.{option_or-none, kept_after-nil, serves_none}
 
 off : {A : Type 0} (b : Bool) → b ≡ true → b ≡ false → A
 off b t f = absurd (true≢false (sym t ∙ f))
@@ -180,6 +181,10 @@ not_backend_fault reply differs = by (reply.status == 500) (Decides-eqb reply.st
     by true same = absurd (differs (same.0 refl))
     by false same = refl
 
+-- so a reply of the registry's own isn't
+pub no_backend_fault : (reply : Told) → IsOwnReply reply → reply.status ≢ 500
+no_backend_fault reply own is = both_ways _ refl (subst IsKeptStatus is own.kept)
+
 -- A read, or a write without a key, is carried out.
 pub serves_keyless : (was now : Stored) (d : Delivery) (reply : Told) → key_of d ≡ None → reply ≡ (step was.registry d.command).1 → reply.status ≢ 500
     → StepsTo was d.command now → now.replies ≡ was.replies → Serves was (served ((d, reply) ∷ [])) now
@@ -232,12 +237,6 @@ pub served_fault : (d : Delivery) (reply : Told) → reply ≡ fault BackendFaul
 served_fault d reply e =
     let is : is_backend_fault reply ≡ true = ap is_backend_fault e ∙ (bytes_eq-Decides (fault BackendFault).body (fault BackendFault).body).1 refl in
     ap (λ (b : Bool). cond (not b) ((d, reply) ∷ []) []) is
-
--- A delivery that is answered 50001 changes nothing.
-pub served_nowhere : (was now : Stored) (d : Delivery) (reply : Told) → reply ≡ fault BackendFault → Serves was (served ((d, reply) ∷ [])) now → now ≡ was
-served_nowhere was now d reply e h =
-    let P : List Exchange → Type 0 = λ xs. Serves was xs now in
-    leads_nowhere was now (subst P (served_fault d reply e) h).leads
 
 -- A delivery for which memory was refused.
 pub serves_refused : (was : Stored) (d : Delivery) (reply : Told) → reply ≡ fault BackendFault → Serves was (served ((d, reply) ∷ [])) was

@@ -1,12 +1,14 @@
--- What a crash may leave of the exchanges: all that was acknowledged, with or without the one delivery under way.
+-- What a crash may leave of the exchanges: all that were acknowledged, with or without the one delivery in progress.
 use Rattle.std.specs.Prelude.{◌≡◌, ◌⊎◌, IsTrue, List, [], ◌∷◌, ◌++◌, Result, Ok, Err}
 use Rattle.sqlite.specs.Tree.{Trees}
 use Rattle.sqlite.specs.State.{State}
 use Rattle.reg_core.specs.declared.code.Code.TheVariants.{BackendFault}
-use Rattle.reg_core.specs.declared.delivery.Delivery.{Delivery}
 use Rattle.reg_core.specs.Replies.{Told, fault}
 use Rattle.reg_core.specs.Stored.{Stored, HasTrueEvidence}
+use Rattle.sqlite_trees.specs.declared.store.Store.{Ghosts}
 use Rattle.reg_store.specs.Spells.{Leaves, IsOpenOver}
+use Rattle.reg_service.specs.declared.service.Service.{Service}
+use Rattle.reg_service.specs.Services.{SplitAt, state_in}
 use Rattle.reg_service.specs.Deliveries.{Exchange, LeadsTo, is_first, reply_after, served}
 
 -- SQLite, transactions: the database that a crash leaves spells what these exchanges lead to: the registry, the kept replies and the evidence of versions,
@@ -14,24 +16,25 @@ use Rattle.reg_service.specs.Deliveries.{Exchange, LeadsTo, is_first, reply_afte
 pub record LeavesAfter (was : Stored) (xs : List Exchange) (db : Trees) : Type 0 where
   pub now : Stored
   pub leads : LeadsTo was xs now
-  -- where the evidence of versions was true, it is
+  -- if all evidence of versions was true, it still is
   pub stays_true : HasTrueEvidence was → HasTrueEvidence now
   pub leaves : Leaves db now
 
--- this project's choice: a delivery that was answered 50001, after which no other answer came, was under way: a first one. Each database that may be left has all that was acknowledged, or that and this delivery with the plain machine's reply
-pub record LeavesUnderWay (was : Stored) (xs : List Exchange) (may_leave : Trees → Type 0) : Type 0 where
-  pub before : List Exchange
-  pub delivery : Delivery
-  pub after : List Exchange
-  pub split : xs ≡ before ++ (delivery, fault BackendFault) ∷ after
-  pub unanswered : served after ≡ []
-  pub first : IsTrue (is_first was.replies (served before) delivery)
-  pub leaves : (db : Trees) → may_leave db
-      → LeavesAfter was (served xs) db ⊎ LeavesAfter was (served before ++ (delivery, reply_after was (served before) delivery.command) ∷ []) db
+-- This project's choice: a first delivery was in progress. The disk failed at it, and each reply from it on is 50001. Each database that may be left
+-- has all that was acknowledged, or that and this delivery with the plain machine's reply.
+pub record LeavesUnderWay {S : Type 0} {g : Ghosts S} (old new : Service S g) (was : Stored) (xs : List Exchange) : Type 0 where
+  pub at : SplitAt old new xs
+  -- only a fault of the disk closes a connection
+  pub was_open : IsTrue (state_in at.reached).is_open
+  pub shut : IsTrue (state_in at.left).is_open → ⊥
+  pub first : IsTrue (is_first was.replies (served at.before) at.exchange.0)
+  pub leaves : (db : Trees) → (state_in new).may_leave db
+      → LeavesAfter was (served xs) db ⊎ LeavesAfter was (served at.before ++ (at.exchange.0, reply_after was (served at.before) at.exchange.0.command) ∷ []) db
 
--- this project's choice: a crash leaves all that was acknowledged, with or without one delivery under way, which is the same one for all databases that may be left
-abbrev pub IsFoundAfter : Stored → List Exchange → (Trees → Type 0) → Type 0
-IsFoundAfter was xs may_leave = ((db : Trees) → may_leave db → LeavesAfter was (served xs) db) ⊎ LeavesUnderWay was xs may_leave
+-- This project's choice: a crash leaves all that was acknowledged, with or without one delivery in progress. It is the same delivery for all databases
+-- that may be left.
+abbrev pub IsFoundAfter : {S : Type 0} {g : Ghosts S} → Service S g → Service S g → Stored → List Exchange → Type 0
+IsFoundAfter old new was xs = ((db : Trees) → (state_in new).may_leave db → LeavesAfter was (served xs) db) ⊎ LeavesUnderWay old new was xs
 
 -- this project's choice: an error is answered 50001
 abbrev pub reply_or_fault : {E : Type 0} → Result Told E → Told

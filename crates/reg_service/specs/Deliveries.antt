@@ -112,7 +112,3 @@ RepeatsAgree xs =
 -- No other replies to these deliveries would be due.
 abbrev pub NoOtherAnswers : Stored → List Exchange → Type 0
 NoOtherAnswers was xs = (ys : List Exchange) → map (λ y. y.0) ys ≡ map (λ x. x.0) xs → Answers was ys → ys ≡ xs
-
--- What was kept is kept still.
-abbrev pub KeepsAll : Kept → Kept → Type 0
-KeepsAll k k' = (key : List ℕ) (entry : Entry) → k key ≡ Some entry → k' key ≡ Some entry

@@ -1,5 +1,5 @@
 -- What a service is seen as, and what its calls leave in the tables.
-use Rattle.std.specs.Prelude.{◌≡◌, List, IsTrue}
+use Rattle.std.specs.Prelude.{◌≡◌, false, List, [], ◌∷◌, ◌++◌, IsTrue}
 use Rattle.std.specs.List.{All}
 use Rattle.sqlite.specs.State.{State, HasCleanDisk}
 use Rattle.sqlite_trees.specs.declared.store.Store.{Ghosts}
@@ -10,7 +10,7 @@ use Rattle.reg_store.specs.Spells.{SpellsWhileOpen}
 use Rattle.reg_store.specs.Stores.{state_of, has_failed, KeepsOpen, LeavesNoMore}
 use Rattle.reg_store.specs.declared.store.Store.{Store}
 use Rattle.reg_service.specs.declared.service.Service.{Service}
-use Rattle.reg_service.specs.Deliveries.{Exchange, Serves, KeepsAll}
+use Rattle.reg_service.specs.Deliveries.{Exchange, Serves, served}
 
 -- this project's choice: the tables that the service stands on
 abbrev pub store_in : {S : Type 0} {g : Ghosts S} → Service S g → Store S g
@@ -24,9 +24,7 @@ state_in service = state_of (store_in service)
 pub record ServesTo (was : Stored) (xs : List Exchange) (new : State) : Type 0 where
   pub now : Stored
   pub serves : Serves was xs now
-  -- what was kept is kept still
-  pub keeps : KeepsAll was.replies now.replies
-  -- where the evidence of versions was true, it is
+  -- if all evidence of versions was true, it still is
   pub stays_true : HasTrueEvidence was → HasTrueEvidence now
   pub spells : SpellsWhileOpen new now
 
@@ -38,11 +36,36 @@ ServesOver old new xs = (was : Stored) → SpellsWhileOpen old was → ServesTo 
 abbrev pub AreUnanswered : List Told → Type 0
 AreUnanswered replies = All (λ reply. reply ≡ fault BackendFault) replies
 
--- this project's choice: what each call of a service keeps, whatever it answers. Where it can do nothing, it gives no answer of the registry's own
-pub record KeepsService {S : Type 0} {g : Ghosts S} (old new : Service S g) (GivesNone : Type 0) : Type 0 where
+-- This project's choice: what each call over a store preserves, for every reply. A call that can do nothing gives no reply of the registry's own.
+pub record KeepsOver {S : Type 0} {g : Ghosts S} (old new : Store S g) (GivesNone : Type 0) : Type 0 where
   -- after a fault of the disk
-  pub failed : IsTrue (has_failed (store_in old)) → GivesNone × IsTrue (has_failed (store_in new))
-  -- over a connection that is shut
-  pub shut : HasCleanDisk (state_in new) → (IsTrue (state_in old).is_open → ⊥) → GivesNone × LeavesNoMore (state_in old) (state_in new)
-  pub clean : HasCleanDisk (state_in new) → HasCleanDisk (state_in old)
-  pub connection : KeepsOpen (state_in old) (state_in new)
+  pub failed : IsTrue (has_failed old) → GivesNone × IsTrue (has_failed new)
+  -- over a closed connection
+  pub shut : HasCleanDisk (state_of new) → (IsTrue (state_of old).is_open → ⊥) → GivesNone × LeavesNoMore (state_of old) (state_of new)
+  pub clean : HasCleanDisk (state_of new) → HasCleanDisk (state_of old)
+  pub connection : KeepsOpen (state_of old) (state_of new)
+
+-- this project's choice: so does each call of a service
+abbrev pub KeepsService : {S : Type 0} {g : Ghosts S} → Service S g → Service S g → Type 0 → Type 0
+KeepsService old new GivesNone = KeepsOver (store_in old) (store_in new) GivesNone
+
+-- This project's choice: one exchange splits the list. `old` and `new` are the service before and after the list, `reached` and `left` before and after
+-- that exchange.
+pub record SplitAt {S : Type 0} {g : Ghosts S} (old new : Service S g) (xs : List Exchange) : Type 0 where
+  pub before : List Exchange
+  pub exchange : Exchange
+  pub after : List Exchange
+  pub split : xs ≡ before ++ exchange ∷ after
+  -- each reply from that one on is 50001
+  pub unanswered : served (exchange ∷ after) ≡ []
+  pub reached : Service S g
+  pub left : Service S g
+  pub earlier : KeepsService old reached (served before ≡ [])
+  pub here : KeepsService reached left (served (exchange ∷ []) ≡ [])
+  pub later : KeepsService left new (served after ≡ [])
+
+-- this project's choice: the store failed at the exchange that splits the list
+pub record FailsAt {S : Type 0} {g : Ghosts S} (old new : Service S g) (xs : List Exchange) : Type 0 where
+  pub at : SplitAt old new xs
+  pub goes : has_failed (store_in at.reached) ≡ false
+  pub fails : IsTrue (has_failed (store_in at.left))

@@ -1,11 +1,11 @@
-//! Retry keys: a delivery that comes again is carried out once, and gets its first reply.
+//! Retries: a write that is sent again with its retry key is applied once, and gets its first reply.
 
 #![tactic(auto)]
 
 mod delivery;
 mod error;
 mod kept;
-mod schema;
+mod schemas;
 mod service;
 
 pub use reg_core::{Delivery, OutOfMemory};

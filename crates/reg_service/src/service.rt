@@ -1,6 +1,6 @@
-//! A registry that carries out deliveries, each first one once.
+//! A registry that carries out each first delivery once.
 
-ghost use Rattle.std.specs.Prelude.{◌≡◌, Some, None, [], ◌∷◌, zip, length, vec_len, IfOk, OnOk, OnErr};
+ghost use Rattle.std.specs.Prelude.{◌≡◌, ◌⊎◌, Some, None, [], ◌∷◌, zip, length, vec_len, IfOk, OnOk, OnErr, IsTrue};
 ghost use Rattle.sqlite.specs.State.{HasCleanDisk};
 ghost use Rattle.reg_core.specs.Replies.{IsOwnReply, fault};
 ghost use Rattle.reg_core.specs.Stored.{Stored};
@@ -9,16 +9,16 @@ ghost use Rattle.reg_store.specs.Stores.{has_failed, LeavesNoMore, SpellsOn};
 ghost use Rattle.reg_service.specs.Deliveries.{served, RepeatsAgree, NoOtherAnswers};
 ghost use Rattle.reg_service.specs.Admissions.{AllAdmitted};
 ghost use Rattle.reg_service.specs.Crashes.{IsFoundAfter, LeavesSpelled, reply_or_fault};
-ghost use Rattle.reg_service.specs.Services.{store_in, state_in, ServesOver, AreUnanswered, KeepsService};
+ghost use Rattle.reg_service.specs.Services.{store_in, state_in, ServesOver, AreUnanswered, FailsAt, KeepsService};
+ghost use Rattle.reg_service.specs.Inside.Crashing.{IsFoundOne};
 ghost use Rattle.reg_service.specs.Inside.Steps.{IsDecidedFor, CarriesOut};
 
 use crate::delivery::retry_key;
 use crate::error::Unanswered;
 use crate::kept::answer_again;
-use crate::schema::{identity_text, schema_sent};
+use crate::schemas::{SchemaCaches, identity_text};
 use reg_core::{Code, Command, Decision, Delivery, Key, OutOfMemory, Reply, decide_with, print_of};
 use reg_store::{Keep, Store};
-use schema_memory::Memory;
 use sqlite::Alter;
 use std::alloc::Global;
 
@@ -27,18 +27,18 @@ use std::alloc::Global;
 pub struct Service<S: Alter> {
     alloc: Global,
     store: Store<S>,
-    memory: Memory,
+    schemas: SchemaCaches,
 }
 
 impl<S: Alter> Service<S> {
-    /// A service over the tables of a store. It takes no memory.
+    /// A service over the tables of a store. It allocates nothing.
     pub fn new(alloc: Global, store: Store<S>) -> Service<S>
         ensures { store_in result ≡ store }
     {
         Service {
             alloc,
             store,
-            memory: Memory::new(),
+            schemas: SchemaCaches::new(),
         }
     }
 
@@ -49,42 +49,43 @@ impl<S: Alter> Service<S> {
         let Service {
             alloc: _,
             store,
-            memory: _,
+            schemas: _,
         } = self;
         store
     }
 
-    /// Whether the store has answered a fault of the disk. Each reply is 50001 from then on.
+    /// Whether the store has reported a fault of the disk. Each reply is 50001 from then on.
     pub fn failed(&self) -> bool
         ensures { result ≡ has_failed (store_in self.now) }
     {
         self.store.failed()
     }
 
-    /// Answers a delivery. It is carried out where it is a read, or a write that has no key or a new
-    /// one. A key that comes again gets the first reply, or 42290 if its command is another one.
-    /// Where memory is refused or the store fails the reply is 50001, and nothing has changed; but
-    /// after a fault of the disk has shut the connection, a crash may leave it carried out.
+    /// Answers a delivery. Carries it out if it is a read, or a write without a key or with a new one. A
+    /// retry gets the first reply; a key with another command gets 42290. If an allocation or the store
+    /// fails, the reply is 50001 and nothing has changed. One exception: if a fault of the disk closed
+    /// the connection, a crash may leave the delivery carried out.
     pub fn answer(&mut self, delivery: &Delivery) -> Reply
-        // After a fault of the disk, and over a connection that is shut, nothing is done.
+        // After a fault of the disk, and over a closed connection, nothing is done.
         ensures frame { KeepsService self.old self.new (result ≡ fault Code.BackendFault) }
 
-        // The evidence of versions is what the registry named, and where it was true it is.
+        // The delivery at which the store fails gets 50001 too.
+        ensures fails { IsTrue (has_failed (store_in self.new)) → result ≡ fault Code.BackendFault }
+
+        // The evidence of versions is what the registry named, and true if all of it was true.
         ensures served { HasCleanDisk (state_in self.new)
             → ServesOver (state_in self.old) (state_in self.new) (served ((delivery.now, result) ∷ [])) }
-        ensures fault { HasCleanDisk (state_in self.new) → result ≡ fault Code.BackendFault
-            → SpellsOn (state_in self.old) (state_in self.new) }
 
         // Each version that is added was admitted by its subject's level.
         ensures admitted { HasCleanDisk (state_in self.new) → (was : Stored)
             → IsOpenOver (state_in self.old) was
             → AllAdmitted was (served ((delivery.now, result) ∷ [])) }
 
-        // A crash leaves what was answered, and may leave a delivery that was answered 50001: version,
-        // reply and evidence together.
+        // A crash leaves what was answered. It may also leave a delivery that got 50001: version, reply
+        // and evidence together.
         ensures crash { HasCleanDisk (state_in self.new) → (was : Stored)
             → IsOpenOver (state_in self.old) was
-            → IsFoundAfter was ((delivery.now, result) ∷ []) (state_in self.new).may_leave }
+            → IsFoundAfter self.old self.new was ((delivery.now, result) ∷ []) }
 
         ensures settled { LeavesSpelled (state_in self.new) }
     {
@@ -95,18 +96,22 @@ impl<S: Alter> Service<S> {
     }
 
     /// Answers each delivery, in order, as `answer` does. A crash leaves all that was answered, with or
-    /// without one delivery that was answered 50001 and after which nothing else was answered.
+    /// without one delivery that got 50001, and after which every reply was 50001.
     ///
     /// # Errors
     ///
-    /// `OutOfMemory` where memory for the replies is refused. Then nothing was carried out.
+    /// `OutOfMemory` if memory for the replies can't be allocated. Then nothing was carried out.
     pub fn run(&mut self, list: &[Delivery]) -> Result<Vec<Reply>, OutOfMemory>
         ensures count { IfOk result (λ replies. vec_len replies ≡ length list.now) }
 
-        // After a fault of the disk, and over a connection that is shut, nothing is done.
+        // After a fault of the disk, and over a closed connection, nothing is done.
         ensures frame { KeepsService self.old self.new (IfOk result (λ replies. AreUnanswered replies.items)) }
 
-        // The evidence of versions is what the registry named, and where it was true it is.
+        // If the disk fails within the list, each reply from that delivery on is 50001.
+        ensures fails { IfOk result (λ replies. IsTrue (has_failed (store_in self.new))
+            → IsTrue (has_failed (store_in self.old)) ⊎ FailsAt self.old self.new (zip list.now replies.items)) }
+
+        // The evidence of versions is what the registry named, and true if all of it was true.
         ensures served { HasCleanDisk (state_in self.new) → IfOk result (λ replies.
             ServesOver (state_in self.old) (state_in self.new) (served (zip list.now replies.items))) }
         ensures repeats { HasCleanDisk (state_in self.new) → IfOk result (λ replies.
@@ -122,11 +127,11 @@ impl<S: Alter> Service<S> {
             (was : Stored) → IsOpenOver (state_in self.old) was
             → AllAdmitted was (served (zip list.now replies.items))) }
 
-        // A crash leaves all that was answered, with or without the one delivery under way: each time
+        // A crash leaves all that was answered, with or without the delivery at which the disk failed:
         // version, reply and evidence together.
         ensures crash { HasCleanDisk (state_in self.new) → IfOk result (λ replies.
             (was : Stored) → IsOpenOver (state_in self.old) was
-            → IsFoundAfter was (zip list.now replies.items) (state_in self.new).may_leave) }
+            → IsFoundAfter self.old self.new was (zip list.now replies.items)) }
 
         ensures settled { LeavesSpelled (state_in self.new) }
     {
@@ -141,13 +146,14 @@ impl<S: Alter> Service<S> {
     /// The answer, or an error that changes nothing.
     fn try_answer(&mut self, delivery: &Delivery) -> Result<Reply, Unanswered>
         ensures frame { KeepsService self.old self.new (OnOk result ⊥) }
+        ensures fails { IsTrue (has_failed (store_in self.new)) → OnOk result ⊥ }
         ensures served { HasCleanDisk (state_in self.new) → IfOk result (λ reply.
             ServesOver (state_in self.old) (state_in self.new) (served ((delivery.now, reply) ∷ []))) }
         ensures err { HasCleanDisk (state_in self.new)
             → OnErr result (SpellsOn (state_in self.old) (state_in self.new)) }
         ensures crash { HasCleanDisk (state_in self.new) → (was : Stored)
             → IsOpenOver (state_in self.old) was
-            → IsFoundAfter was ((delivery.now, reply_or_fault result) ∷ []) (state_in self.new).may_leave }
+            → IsFoundOne was delivery.now (reply_or_fault result) (state_in self.new).may_leave }
     {
         let Some(key) = retry_key(delivery) else {
             return self.carry_out(&delivery.command);
@@ -162,6 +168,7 @@ impl<S: Alter> Service<S> {
     /// The answer to a command whose reply isn't kept.
     fn carry_out(&mut self, command: &Command) -> Result<Reply, Unanswered>
         ensures frame { KeepsService self.old self.new (OnOk result ⊥) }
+        ensures fails { IsTrue (has_failed (store_in self.new)) → OnOk result ⊥ }
         ensures carries { HasCleanDisk (state_in self.new)
             → CarriesOut (state_in self.old) (state_in self.new) command.now None result }
     {
@@ -180,6 +187,7 @@ impl<S: Alter> Service<S> {
         command: &Command,
     ) -> Result<Reply, Unanswered>
         ensures frame { KeepsService self.old self.new (OnOk result ⊥) }
+        ensures fails { IsTrue (has_failed (store_in self.new)) → OnOk result ⊥ }
         ensures carries { HasCleanDisk (state_in self.new) → CarriesOut
             (state_in self.old) (state_in self.new) command.now (Some (key.now, text.now)) result }
     {
@@ -193,9 +201,10 @@ impl<S: Alter> Service<S> {
         Ok(reply)
     }
 
-    /// What the command does to the registry, and its reply.
+    /// The changes that the command makes, and its reply.
     fn decision(&mut self, command: &Command) -> Result<Decision, Unanswered>
         ensures frame { KeepsService self.old self.new (OnOk result ⊥) }
+        ensures fails { IsTrue (has_failed (store_in self.new)) → OnOk result ⊥ }
         ensures same { HasCleanDisk (state_in self.new) → SpellsOn (state_in self.old) (state_in self.new) }
         ensures decided { HasCleanDisk (state_in self.new) → IfOk result (λ d. (was : Stored)
             → SpellsWhileOpen (state_in self.old) was → IsDecidedFor was command.now d) }
@@ -203,10 +212,13 @@ impl<S: Alter> Service<S> {
         ensures crash { HasCleanDisk (state_in self.new)
             → LeavesNoMore (state_in self.old) (state_in self.new) }
     {
-        let schema = schema_sent(self.alloc, command)?;
+        let schema = self.schemas.take(self.alloc, command)?;
         let identity = identity_text(self.alloc, schema.as_ref())?;
         let view = self.store.view(command, identity.as_deref())?;
-        let memory = Some(&mut self.memory);
-        Ok(decide_with(self.alloc, &view, command, schema.as_ref(), memory)?)
+        let registered = Some(&mut self.schemas.registered);
+        let decision = decide_with(self.alloc, &view, command, schema.as_ref(), registered)?;
+        self.schemas
+            .keep(self.alloc, command, &decision.changes, schema, identity);
+        Ok(decision)
     }
 }

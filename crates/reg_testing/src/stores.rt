@@ -116,16 +116,12 @@ pub fn first_registry(alloc: Global, statements: &str) -> Result<Files<Fuse<Memo
     Ok(files)
 }
 
-/// A service over a new registry in memory. At most one request for memory is refused.
+/// A service over a new registry in memory.
 fn new_service(alloc: Global) -> Result<Service<MemStore>, Fail> {
-    for _ in 0..2 {
-        if let Ok(connection) = Connection::open_in_memory(alloc)
-            && let Ok(store) = Store::create(alloc, connection)
-        {
-            return Ok(Service::new(alloc, store));
-        }
+    match Store::create(alloc, Connection::open_in_memory(alloc)?) {
+        Ok(store) => Ok(Service::new(alloc, store)),
+        Err((error, _)) => Err(error.into()),
     }
-    Err("no tables were made".into())
 }
 
 /// What is done with a service, whatever its database stands on.
@@ -142,11 +138,11 @@ pub trait OnService {
     ) -> Result<(), Fail>;
 }
 
-/// Does it with a service over a new registry in memory. At most one request for memory is refused before.
+/// Does it with a service over a new registry in memory.
 ///
 /// # Errors
 ///
-/// A failed test, as the task says, or where memory is refused twice before.
+/// A failed test, as the task says, or if an allocation fails.
 pub fn in_memory<T: OnService>(alloc: Global, task: &mut T) -> Result<(), Fail> {
     task.work(alloc, &mut new_service(alloc)?)
 }

@@ -1,25 +1,27 @@
-//! A list of writes, each with a retry key.
+//! A list of deliveries: writes with retry keys, and reads between them.
 
 use crate::bodies::{FULL_SET, INCOMPATIBLE, NOT_SOFT_DELETED};
 use crate::deliveries::{Ask, Row};
 
-/// Writes to a new registry. They leave eight kept replies, two texts, no version and no evidence.
-pub const WRITES: [Row; 8] = [
+/// Deliveries to a new registry. They leave eight kept replies, two texts, no version and no evidence.
+/// Reads of stored rows stand between the writes. `Types` needs no row: after a fault of the disk it must be
+/// answered 50001 too.
+pub const WRITES: [Row; 14] = [
     (Some("z1"), Ask::SetGlobal("FULL"), 200, FULL_SET),
     (Some("z2"), Ask::Register("t", "\"int\""), 200, "{\"id\":1}"),
+    (Some("z3"), Ask::DeleteVersion("t", "1"), 200, "1"),
+    (None, Ask::ById("1"), 200, "{\"schema\":\"\\\"int\\\"\"}"),
     (
-        Some("z3"),
-        Ask::Register("t", "\"string\""),
-        409,
-        INCOMPATIBLE,
-    ),
-    (Some("z4"), Ask::DeleteVersion("t", "1"), 200, "1"),
-    (
-        Some("z5"),
+        Some("z4"),
         Ask::Register("t", "\"string\""),
         200,
         "{\"id\":2}",
     ),
+    (None, Ask::Text("t", "latest"), 200, "\"string\""),
+    (None, Ask::Types, 200, "[\"AVRO\"]"),
+    (Some("z5"), Ask::Register("t", "\"int\""), 409, INCOMPATIBLE),
+    (None, Ask::Versions("t", true), 200, "[1,2]"),
+    (None, Ask::Types, 200, "[\"AVRO\"]"),
     (
         Some("z6"),
         Ask::DeleteSubject("t", true),
@@ -27,5 +29,6 @@ pub const WRITES: [Row; 8] = [
         NOT_SOFT_DELETED,
     ),
     (Some("z7"), Ask::DeleteSubject("t", false), 200, "[2]"),
+    (None, Ask::Types, 200, "[\"AVRO\"]"),
     (Some("z8"), Ask::DeleteSubject("t", true), 200, "[1,2]"),
 ];

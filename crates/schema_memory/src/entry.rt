@@ -61,7 +61,8 @@ impl Entry {
 
     /// The schema alone.
     pub fn into_schema(self) -> Schema
-        ensures { result ≡ self.nodes }
+        ensures schema { result ≡ self.nodes }
+        ensures denotes { denoted_nodes self.text ≡ Some (nodes_view result) }
     {
         let Entry { text: _, schema } = self;
         schema

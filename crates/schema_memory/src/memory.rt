@@ -1,6 +1,6 @@
 //! A memory of the schemas of stored texts.
 
-ghost use Rattle.std.specs.Prelude.{◌≡◌, ◌≢◌, ◌≤◌, length, List, [], None, Some, IfOk, IfErr, option_copied, nat_eq, IsTrue};
+ghost use Rattle.std.specs.Prelude.{◌≡◌, ◌≢◌, ◌≤◌, length, List, [], None, Some, IfOk, IfErr, IfSome, option_copied, nat_eq, IsTrue};
 ghost use Rattle.std.specs.Map.{lookup};
 ghost use Rattle.avro_nodes.specs.Nodes.{NodeView, nodes_view};
 ghost use Rattle.avro_schema.specs.Texts.{TextDenotes};
@@ -109,6 +109,27 @@ impl Memory {
                 None => unreachable!(),
             },
             Err(e) => Err(e),
+        }
+    }
+
+    /// Stores a schema under an id, as `read` does when it has parsed this text, which denotes the
+    /// schema. Drops the schema if `read` wouldn't remember it.
+    pub fn put(&mut self, alloc: Global, id: u32, text: &str, schema: Schema, when_full: WhenFull)
+        requires { denoted_nodes text.now ≡ Some (nodes_view schema) }
+    {
+        let _unremembered = self.keep(alloc, id, text, schema, when_full);
+    }
+
+    /// Takes the schema of the id out, if it was read from this text.
+    pub fn take(&mut self, id: u32, text: &str) -> Option<Schema>
+        ensures { IfSome result (λ schema. denoted_nodes text.now ≡ Some (nodes_view schema)) }
+    {
+        if !self.knows(id, text) {
+            return None;
+        }
+        match &mut self.shelf {
+            Some(shelf) => Some(shelf.remove(id)?.into_schema()),
+            None => None,
         }
     }
 

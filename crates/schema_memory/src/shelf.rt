@@ -84,6 +84,15 @@ impl Shelf {
         self.cache.promote(&id);
     }
 
+    /// Removes the entry of the id.
+    pub fn remove(&mut self, id: u32) -> Option<Entry>
+        ensures { result ≡ lookup (nat_eq id) self.old }
+    {
+        let (_, entry) = self.cache.pop_entry(&id)?;
+        self.bytes -= entry.text().len();
+        Some(entry)
+    }
+
     /// Whether another entry, with a text of so many bytes, has room beside those that are there.
     pub fn has_room(&self, more: usize) -> bool {
         self.cache.len() < MAX_ENTRIES && self.bytes.saturating_add(more) <= MAX_TOTAL

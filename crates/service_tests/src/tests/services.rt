@@ -1,12 +1,13 @@
 //! The service over a registry in memory.
 
-use reg_core::Reply;
 use reg_service::{Delivery, Service};
 use reg_testing::bodies::{
     BACKWARD, FAULT, FORWARD, FORWARD_SET, FULL, FULL_SET, INCOMPATIBLE, INVALID, INVALID_MODE,
     NO_OWN, NO_OWN_MODE, NO_SUBJECT, NONE, NONE_SET, NOT_PERMITTED, READONLY, READWRITE, REUSED,
 };
-use reg_testing::{Ask, OnService, Row, answer, answers, deliveries_of, in_memory, is_answer};
+use reg_testing::{
+    Ask, OnService, Row, answered, answers, answers_in_turn, deliveries_of, in_memory,
+};
 use sqlite::Alter;
 use std::alloc::Global;
 use std::test::Fail;
@@ -14,7 +15,7 @@ use std::test::Fail;
 /// The global level.
 const GLOBAL: [Row; 14] = [
     (None, Ask::Global, 200, BACKWARD),
-    // A keyed write, its repeat, and its key with another command.
+    // A keyed write, its retry, and its key with another command.
     (Some("k1"), Ask::SetGlobal("FULL"), 200, FULL_SET),
     (Some("k1"), Ask::SetGlobal("FULL"), 200, FULL_SET),
     (Some("k1"), Ask::SetGlobal("NONE"), 422, REUSED),
@@ -24,7 +25,7 @@ const GLOBAL: [Row; 14] = [
     (None, Ask::SetGlobal("NONE"), 200, NONE_SET),
     (Some("k5"), Ask::SetGlobal("full"), 422, INVALID),
     (Some("k5"), Ask::SetGlobal("FULL"), 422, REUSED),
-    // Two keys by turns, and a read beside one of them.
+    // Two keys in turn, and a key with a read, which ignores it.
     (Some("a"), Ask::SetGlobal("FULL"), 200, FULL_SET),
     (Some("b"), Ask::SetGlobal("NONE"), 200, NONE_SET),
     (Some("a"), Ask::SetGlobal("FULL"), 200, FULL_SET),
@@ -38,7 +39,7 @@ const SUBJECTS: [Row; 20] = [
     (None, Ask::LevelOf("s", true), 200, BACKWARD),
     (None, Ask::SetLevel("s", "Full"), 422, INVALID),
     (None, Ask::LevelOf("s", false), 404, NO_OWN),
-    // A keyed write and its repeat, which acts once though another write came between.
+    // A keyed write and its retry, which is applied once although another write came between.
     (Some("k1"), Ask::SetLevel("s", "FORWARD"), 200, FORWARD_SET),
     (None, Ask::LevelOf("s", false), 200, FORWARD),
     (None, Ask::SetLevel("s", "FULL"), 200, FULL_SET),
@@ -65,7 +66,7 @@ const MODES: [Row; 20] = [
     (None, Ask::GlobalMode, 200, READWRITE),
     (None, Ask::ModeOf("s", false), 404, NO_OWN_MODE),
     (None, Ask::ModeOf("s", true), 200, READWRITE),
-    // A keyed write and its repeat, which acts once though another write came between.
+    // A keyed write and its retry, which is applied once although another write came between.
     (Some("k1"), Ask::SetMode("s", "READONLY"), 200, READONLY),
     (None, Ask::ModeOf("s", false), 200, READONLY),
     (None, Ask::SetMode("s", "READWRITE"), 200, READWRITE),
@@ -75,7 +76,7 @@ const MODES: [Row; 20] = [
     (Some("k2"), Ask::SetMode("s", "readonly"), 422, INVALID_MODE),
     (Some("k2"), Ask::SetMode("s", "READONLY"), 422, REUSED),
     (Some("k1"), Ask::SetGlobalMode("READONLY"), 422, REUSED),
-    // All is frozen but the subject s, and thawed again.
+    // All is read-only but the subject s, and then writable again.
     (Some("k3"), Ask::SetGlobalMode("READONLY"), 200, READONLY),
     (None, Ask::ModeOf("t", true), 200, READONLY),
     (None, Ask::SetGlobal("NONE"), 422, NOT_PERMITTED),
@@ -125,7 +126,7 @@ const VERSIONS: [Row; 20] = [
         200,
         "{\"is_compatible\":true}",
     ),
-    // Each goes, and a repeat brings none back.
+    // Each version is deleted, and a retry restores none.
     (Some("k3"), Ask::DeleteVersion("s", "1"), 200, "1"),
     (Some("k4"), Ask::DeleteSubject("s", false), 200, "[2]"),
     (Some("k5"), Ask::DeleteSubject("s", true), 200, "[1,2]"),
@@ -140,88 +141,33 @@ const VERSIONS: [Row; 20] = [
     (None, Ask::Versions("s", true), 404, NO_SUBJECT),
 ];
 
-/// What asks for all that the rows change.
-const READS: [Row; 6] = [
-    (None, Ask::Global, 200, ""),
-    (None, Ask::LevelOf("s", false), 200, ""),
-    (None, Ask::GlobalMode, 200, ""),
-    (None, Ask::ModeOf("s", false), 200, ""),
-    (None, Ask::Versions("s", false), 200, ""),
-    (None, Ask::Versions("s", true), 200, ""),
-];
-
-/// The deliveries of the rows. At most one request for memory is refused.
-fn deliveries(alloc: Global, rows: &[Row]) -> Result<Vec<Delivery<'static>>, Fail> {
-    match deliveries_of(alloc, rows) {
-        Ok(list) => Ok(list),
-        Err(_) => Ok(deliveries_of(alloc, rows)?),
-    }
+/// How deliveries reach a service.
+#[derive(Clone, Copy)]
+enum Way {
+    InTurn,
+    InOneRun,
 }
 
-/// Whether one of the replies is 50001.
-fn has_fault(replies: &[Reply]) -> bool {
-    replies.iter().any(|reply| reply.status() == 500)
-}
-
-/// What the service answers to the reads. At most one request for memory is refused.
-fn shown<S: Alter + Drop>(
-    service: &mut Service<S>,
-    reads: &[Delivery],
-) -> Result<Vec<Reply>, Fail> {
-    for _ in 0..2 {
-        if let Ok(replies) = answers(service, reads)
-            && !has_fault(&replies)
-        {
-            return Ok(replies);
-        }
-    }
-    Err("the registry shows nothing".into())
-}
-
-/// Holds what the service answers to the reads to what it answered before.
-fn shows<S: Alter + Drop>(
-    service: &mut Service<S>,
-    reads: &[Delivery],
-    before: &[Reply],
-) -> Result<(), Fail> {
-    let now = shown(service, reads)?;
-    for (reply, other) in now.iter().zip(before) {
-        if reply.status() != other.status() || reply.body() != other.body() {
-            return Err("a delivery that was answered 50001 changed something".into());
-        }
-    }
-    Ok(())
-}
-
-/// Delivers a row, and once more where it is answered 50001, which has changed nothing.
-fn is_answered<S: Alter + Drop>(
-    service: &mut Service<S>,
-    delivery: &Delivery,
-    row: &Row,
-    reads: &[Delivery],
-) -> Result<(), Fail> {
-    let before = shown(service, reads)?;
-    let reply = answer(service, delivery);
-    if reply.status() != 500 {
-        return is_answer(&reply, row);
-    }
-    is_answer(&reply, &(row.0, row.1, 500, FAULT))?;
-    shows(service, reads, &before)?;
-    is_answer(&answer(service, delivery), row)
-}
-
-/// Rows over a new registry, with their deliveries.
+/// Deliveries to a service, with their rows.
 #[derive(Drop)]
 struct Deliver<'a> {
+    way: Way,
     rows: &'a [Row],
     list: &'a [Delivery<'static>],
-    reads: &'a [Delivery<'static>],
 }
 
 impl<'a> OnService for Deliver<'a> {
-    fn work<S: Alter + Drop>(&mut self, _: Global, service: &mut Service<S>) -> Result<(), Fail> {
-        for (delivery, row) in self.list.iter().zip(self.rows) {
-            is_answered(service, delivery, row, self.reads)?;
+    fn work<S: Alter + Drop>(
+        &mut self,
+        alloc: Global,
+        service: &mut Service<S>,
+    ) -> Result<(), Fail> {
+        let replies = match self.way {
+            Way::InTurn => answers_in_turn(alloc, service, self.list)?,
+            Way::InOneRun => answers(service, self.list)?,
+        };
+        if answered(&replies, self.rows)? < self.rows.len() {
+            return Err("a delivery is answered 50001".into());
         }
         if service.failed() {
             return Err("the service failed".into());
@@ -230,101 +176,46 @@ impl<'a> OnService for Deliver<'a> {
     }
 }
 
-/// Delivers the rows, which have their answers.
-fn are_answered(alloc: Global, rows: &[Row]) -> Result<(), Fail> {
-    let reads = deliveries(alloc, &READS)?;
-    let list = deliveries(alloc, rows)?;
+/// Delivers the rows to a new registry. Each gets its answer.
+fn are_answered(alloc: Global, way: Way, rows: &[Row]) -> Result<(), Fail> {
+    let list = deliveries_of(alloc, rows)?;
     let mut task = Deliver {
+        way,
         rows,
         list: &list,
-        reads: &reads,
     };
     in_memory(alloc, &mut task)
 }
 
-/// No contract refuses a service that answers 50001 to every delivery. These do: with ample memory each delivery has its
-/// answer, and each command a 200. Under `rt try --test --fail-alloc N`, for each N, at most one request for memory is
-/// refused. The delivery is then answered 50001 and has changed nothing: sent again, it gets its answer. Each table has a
-/// test of its own, since a check holds a table of rows in memory, several times over.
+/// No contract refuses a service that answers 50001 to every delivery. These tests do: each delivery gets
+/// its answer, and each command a 200. Each table has a test of its own, since a check holds a table of
+/// rows in memory, several times over.
 mod every_delivery_fails {
-    use super::{GLOBAL, MODES, SUBJECTS, VERSIONS, are_answered};
+    use super::{GLOBAL, MODES, SUBJECTS, VERSIONS, Way, are_answered};
     use std::test::Fail;
 
     #[test]
     fn the_global_level_is_answered(rt: HostRuntime) -> Result<(), Fail> {
-        are_answered(rt.alloc(), &GLOBAL)
+        are_answered(rt.alloc(), Way::InTurn, &GLOBAL)
     }
 
     #[test]
     fn levels_of_subjects_are_answered(rt: HostRuntime) -> Result<(), Fail> {
-        are_answered(rt.alloc(), &SUBJECTS)
+        are_answered(rt.alloc(), Way::InTurn, &SUBJECTS)
     }
 
     #[test]
     fn modes_are_answered(rt: HostRuntime) -> Result<(), Fail> {
-        are_answered(rt.alloc(), &MODES)
+        are_answered(rt.alloc(), Way::InTurn, &MODES)
     }
 
     #[test]
     fn versions_are_answered(rt: HostRuntime) -> Result<(), Fail> {
-        are_answered(rt.alloc(), &VERSIONS)
+        are_answered(rt.alloc(), Way::InTurn, &VERSIONS)
     }
 }
 
-/// The same in one run.
-#[derive(Drop)]
-struct Run<'a> {
-    rows: &'a [Row],
-    list: &'a [Delivery<'static>],
-    reads: &'a [Delivery<'static>],
-}
-
-/// What a run over a service answers. Where it gives up, nothing was carried out, and it is tried again.
-fn replies<S: Alter + Drop>(
-    service: &mut Service<S>,
-    list: &[Delivery],
-    reads: &[Delivery],
-) -> Result<Vec<Reply>, Fail> {
-    let before = shown(service, reads)?;
-    if let Ok(replies) = answers(service, list) {
-        return Ok(replies);
-    }
-    shows(service, reads, &before)?;
-    Ok(answers(service, list)?)
-}
-
-impl<'a> OnService for Run<'a> {
-    fn work<S: Alter + Drop>(&mut self, _: Global, service: &mut Service<S>) -> Result<(), Fail> {
-        let mut faults = 0usize;
-        for (reply, row) in replies(service, self.list, self.reads)?
-            .iter()
-            .zip(self.rows)
-        {
-            if reply.status() == 500 {
-                faults = faults.saturating_add(1);
-            } else {
-                is_answer(reply, row)?;
-            }
-        }
-        if faults > 1 {
-            return Err("more than one delivery is answered 50001".into());
-        }
-        Ok(())
-    }
-}
-
-/// The same of `run`: where one delivery is answered 50001 the others get their answers. None of these
-/// rests on a delivery before it that may have been refused.
 #[test]
 fn run_answers_each_in_order(rt: HostRuntime) -> Result<(), Fail> {
-    let alloc = rt.alloc();
-    let rows = &GLOBAL[..9];
-    let list = deliveries(alloc, rows)?;
-    let reads = deliveries(alloc, &READS)?;
-    let mut task = Run {
-        rows,
-        list: &list,
-        reads: &reads,
-    };
-    in_memory(alloc, &mut task)
+    are_answered(rt.alloc(), Way::InOneRun, &GLOBAL)
 }

@@ -8,6 +8,7 @@ use Rattle.reg_store.specs.Stores.{state_of}
 use Rattle.reg_store.proofs.Committing.{leaves_if_open}
 use Rattle.reg_service.proofs.StoreCalls.{on_then, fits, taken_as, makes}
 use Rattle.reg_service.proofs.CrashLemmas.{carries_failed}
+use Rattle.reg_service.proofs.OpenConnections.{goes_on}
 use Rattle.reg_service.proofs.service.Service.answer_first.Goals as goal
 
 pub returns-in_err-changes-clause-carries : goal.returns-in_err-changes-clause-carries
@@ -49,3 +50,6 @@ returns-clause-carries g c clean =
           let made = c.in_ok-apply.ensures.done clean was (c.in_ok-changes.ensures.same early was over) (record { fit = fit; fresh = free }) in
           makes was c.args.command.now d decided c.deref.result.now _ _ (Leaves db) c.deref.ensures.value (taken_as (λ now over. leaves_if_open _ now c.in_ok-apply.ensures.frame.settled over db it) made) (ap (kept was) decided.reply);
     }
+
+pub returns-clause-fails : goal.returns-clause-fails
+returns-clause-fails g c failed = goes_on c.in_ok-apply.ensures.frame failed

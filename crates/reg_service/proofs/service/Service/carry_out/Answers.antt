@@ -5,7 +5,7 @@ use Rattle.reg_store.specs.Stores.{state_of}
 use Rattle.reg_store.proofs.Committing.{leaves_if_open}
 use Rattle.reg_service.specs.Services.{state_in}
 use Rattle.reg_service.proofs.StoreCalls.{on_then, no_changes, some_changes, fits, taken_as, makes, makes_nothing}
-use Rattle.reg_service.proofs.OpenConnections.{was_open}
+use Rattle.reg_service.proofs.OpenConnections.{goes_on, was_open}
 use Rattle.reg_service.proofs.CrashLemmas.{leaves_open, carries_failed}
 use Rattle.reg_service.proofs.service.Service.carry_out.Goals as goal
 use Rattle.reg_service.proofs.service.Service.carry_out.Goals.{then-not-is_empty+in_ok-apply, else-not-is_empty}
@@ -58,8 +58,14 @@ returns-clause-carries g c =
             fails = tt;
             crash = λ was over free db it.
                 let decided = c.in_ok-changes.ensures.decided clean was over in
-                let old = over (was_open _ _ c.in_ok-changes.ensures.frame clean) in
+                let old = over (was_open c.args.self.now c.decision.new.self c.in_ok-changes.ensures.frame clean) in
                 let left = leaves_open (state_in c.args.self.now) (g.met.S.Store.settled c.args.self.now.store.db.idle.conn.store) was old db (c.in_ok-changes.ensures.crash clean db it) in
                 makes_nothing was c.args.command.now d decided (Leaves db) none left;
           })
     ]
+
+pub returns-clause-fails : goal.returns-clause-fails
+returns-clause-fails g c = elim c.if-not-is_empty.branch [
+  | then-not-is_empty+in_ok-apply w ↦ rw w.self-is (λ failed. goes_on w.in_ok-apply.ensures.frame failed)
+  | else-not-is_empty w ↦ rw w.self-is (λ failed. c.in_ok-changes.ensures.fails failed)
+]

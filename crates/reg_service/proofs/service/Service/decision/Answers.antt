@@ -7,7 +7,7 @@ use Rattle.reg_core.specs.Views.{IsGround, schema_taken}
 use Rattle.reg_core.proofs.ViewLemmas.{taken-sent}
 use Rattle.reg_store.proofs.EvidenceOwners.{is_of_versions}
 use Rattle.reg_service.proofs.StoreCalls.{decided_for}
-use Rattle.reg_service.proofs.OpenConnections.{keeps_reading}
+use Rattle.reg_service.proofs.OpenConnections.{goes_on, keeps_reading}
 use Rattle.reg_service.proofs.service.Service.decision.Goals as goal
 
 pub returns-clause-decided : goal.returns-clause-decided
@@ -19,17 +19,17 @@ returns-clause-decided g c clean was over =
     let ground : IsGround was.registry command (schema_taken command (option_map nodes_view (option_copied c.as_ref-2.result))) c.in_ok-view.view = record {
       registry = spells.spelled.base.registry;
       sent = ap (schema_taken command) sent ∙ taken-sent command;
-      shows = (c.in_ok-view.ensures.tells clean).answers was over text;
+      shows = (c.in_ok-view.ensures.tells clean).answers was over (λ _. text);
     } in
-    decided_for was command _ c.in_ok-view.view c.in_ok-decide_with.field-0 c.in_ok-decide_with.ensures ground (is_of_versions _ was spells)
+    decided_for was command _ c.in_ok-view.view c.in_ok-decision.decision c.in_ok-decision.ensures ground (is_of_versions _ was spells)
 
 pub returns-in_err-view-clause-frame : goal.returns-in_err-view-clause-frame
 returns-in_err-view-clause-frame g c =
     let none : OnOk c.from_residual-in_err-view.result ⊥ = search rules in
     keeps_reading c.view.ensures (λ _. none)
 
-pub returns-in_err-decide_with-clause-frame : goal.returns-in_err-decide_with-clause-frame
-returns-in_err-decide_with-clause-frame g c = keeps_reading c.in_ok-view.ensures (λ none. absurd none)
+pub returns-in_err-decision-clause-frame : goal.returns-in_err-decision-clause-frame
+returns-in_err-decision-clause-frame g c = keeps_reading c.in_ok-view.ensures (λ none. absurd none)
 
 pub returns-clause-frame : goal.returns-clause-frame
 returns-clause-frame g c = keeps_reading c.in_ok-view.ensures (λ none. none)
@@ -37,8 +37,8 @@ returns-clause-frame g c = keeps_reading c.in_ok-view.ensures (λ none. none)
 pub returns-in_err-view-clause-same : goal.returns-in_err-view-clause-same
 returns-in_err-view-clause-same g c clean = (c.view.ensures.tells clean).same
 
-pub returns-in_err-decide_with-clause-same : goal.returns-in_err-decide_with-clause-same
-returns-in_err-decide_with-clause-same g c clean = (c.view.ensures.tells clean).same
+pub returns-in_err-decision-clause-same : goal.returns-in_err-decision-clause-same
+returns-in_err-decision-clause-same g c clean = (c.view.ensures.tells clean).same
 
 pub returns-clause-same : goal.returns-clause-same
 returns-clause-same g c clean = (c.view.ensures.tells clean).same
@@ -46,8 +46,11 @@ returns-clause-same g c clean = (c.view.ensures.tells clean).same
 pub returns-in_err-view-clause-crash : goal.returns-in_err-view-clause-crash
 returns-in_err-view-clause-crash g c clean = (c.view.ensures.tells clean).crash
 
-pub returns-in_err-decide_with-clause-crash : goal.returns-in_err-decide_with-clause-crash
-returns-in_err-decide_with-clause-crash g c clean = (c.view.ensures.tells clean).crash
+pub returns-in_err-decision-clause-crash : goal.returns-in_err-decision-clause-crash
+returns-in_err-decision-clause-crash g c clean = (c.view.ensures.tells clean).crash
 
 pub returns-clause-crash : goal.returns-clause-crash
 returns-clause-crash g c clean = (c.view.ensures.tells clean).crash
+
+pub returns-clause-fails : goal.returns-clause-fails
+returns-clause-fails g c failed = goes_on c.in_ok-view.ensures.frame failed

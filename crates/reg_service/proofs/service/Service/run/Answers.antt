@@ -1,16 +1,18 @@
-use Rattle.std.proofs.Common.{◌≡◌, List, [], ◌∷◌, length, take, zip, ap, sym, subst, arith, length-append}
+use Rattle.std.proofs.Common.{◌≡◌, ◌⊎◌, inl, List, [], ◌∷◌, IsTrue, length, take, zip, refl, ap, sym, subst, arith, length-append}
 use Rattle.std.proofs.lemmas.List.{take_all}
 use Rattle.std.proofs.lemmas.List.Elements.{All-nil}
 use Rattle.reg_core.specs.declared.code.Code.TheVariants.{BackendFault}
 use Rattle.reg_core.specs.Replies.{fault}
 use Rattle.reg_core.specs.declared.delivery.Delivery.{Delivery}
-use Rattle.reg_service.specs.Deliveries.{served}
+use Rattle.reg_store.specs.Stores.{has_failed}
+use Rattle.reg_service.specs.Deliveries.{Exchange, served}
 use Rattle.reg_service.specs.Crashes.{IsFoundAfter}
 use Rattle.reg_service.proofs.DueReplies.{repeats_agree, no_other_answers}
-use Rattle.reg_service.specs.Services.{state_in, AreUnanswered, KeepsService}
+use Rattle.reg_service.specs.Services.{store_in, state_in, AreUnanswered, FailsAt, KeepsService}
 use Rattle.reg_service.proofs.OverTables.{none_over, next_over}
 use Rattle.reg_service.proofs.AdmissionLemmas.{all_admitted}
-use Rattle.reg_service.proofs.CrashLemmas.{leaves_open, found_none, found_next}
+use Rattle.reg_service.proofs.CrashLemmas.{leaves_open}
+use Rattle.reg_service.proofs.FoundLists.{fails_next, found_next, found_none, passes_next, zip_next}
 use Rattle.reg_service.proofs.OpenConnections.{keeps_still, keeps_next}
 use Rattle.reg_service.proofs.service.Service.run.Goals as goal
 
@@ -22,8 +24,10 @@ loop-delivery-init g c =
       count = ap length new.items;
       room = new.capacity;
       frame = subst (λ items. KeepsService c.args.self.now c.args.self.now (AreUnanswered items)) (sym new.items) (keeps_still c.args.self.now (AreUnanswered []) (All-nil (λ reply. reply ≡ fault BackendFault)));
+      passed = keeps_still c.args.self.now ([] ≡ []) refl;
+      fails = λ failed. inl failed;
       served = λ h. none_over _;
-      crash = λ h was over. found_none was (state_in c.args.self.now).may_leave (leaves_open (state_in c.args.self.now) (g.met.S.Store.settled c.args.self.now.store.db.idle.conn.store) was over);
+      crash = λ h was over. found_none c.args.self.now was (leaves_open (state_in c.args.self.now) (g.met.S.Store.settled c.args.self.now.store.db.idle.conn.store) was over);
     }
 
 pub loop-delivery-preserved : goal.loop-delivery-preserved
@@ -31,15 +35,21 @@ loop-delivery-preserved g c =
     let i = c.loop-delivery.invariant in
     let more = c.push_reserved.ensures in
     let one = c.answer-reply.ensures in
+    let all = zip (take c.loop-delivery.delivery-index c.args.list.now) c.loop-delivery.replies.items in
+    let next = sym (zip_next c.args.list.now c.loop-delivery.delivery-index c.delivery-item.result c.loop-delivery.replies.items c.push_reserved.new.self.items c.answer-reply.result c.loop-delivery-test.true c.delivery-item.is i.count more.items) in
+    let Passed : List Exchange → Type 0 = λ xs. KeepsService c.args.self.now c.answer-reply.new.self (served xs ≡ []) in
+    let Fails : List Exchange → Type 0 = λ xs. IsTrue (has_failed (store_in c.args.self.now)) ⊎ FailsAt c.args.self.now c.answer-reply.new.self xs in
     record {
       len = omega (arith, i.len, more.len);
       count = omega (arith, i.count, ap length more.items, length-append c.loop-delivery.replies.items (c.answer-reply.result ∷ []));
       room = omega (arith, i.room, more.capacity);
       frame = keeps_next c.args.self.now c.loop-delivery.self c.answer-reply.new.self c.loop-delivery.replies.items c.push_reserved.new.self.items c.answer-reply.result more.items i.frame one.frame;
+      passed = subst Passed next (passes_next c.args.self.now c.loop-delivery.self c.answer-reply.new.self all c.delivery-item.result c.answer-reply.result i.passed one.frame);
+      fails = λ failed. subst Fails next (fails_next c.args.self.now c.loop-delivery.self c.answer-reply.new.self all c.delivery-item.result c.answer-reply.result i.passed one.frame one.fails i.fails failed);
       served = λ h. next_over _ _ _ c.args.list.now c.loop-delivery.delivery-index c.delivery-item.result c.loop-delivery.replies.items c.push_reserved.new.self.items c.answer-reply.result
           c.loop-delivery-test.true c.delivery-item.is i.count more.items (i.served (one.frame.clean h)) (one.served h);
-      crash = λ h was over. found_next (state_in c.args.self.now) (state_in c.loop-delivery.self) (state_in c.answer-reply.new.self) c.args.list.now c.loop-delivery.delivery-index c.delivery-item.result c.loop-delivery.replies.items c.push_reserved.new.self.items c.answer-reply.result
-          c.loop-delivery-test.true c.delivery-item.is i.count more.items was over (i.served (one.frame.clean h)) (i.crash (one.frame.clean h) was over) (one.crash h) (one.frame.shut h);
+      crash = λ h was over. subst (λ (xs : List Exchange). IsFoundAfter c.args.self.now c.answer-reply.new.self was xs) next
+          (found_next c.args.self.now c.loop-delivery.self c.answer-reply.new.self all c.delivery-item.result c.answer-reply.result was over (i.served (one.frame.clean h)) i.passed one.frame (i.crash (one.frame.clean h) was over) (one.crash h) (one.frame.shut h));
     }
 
 pub returns-clause-served : goal.returns-clause-served
@@ -58,7 +68,12 @@ returns-clause-only g c clean was over =
 pub returns-clause-crash : goal.returns-clause-crash
 returns-clause-crash g c clean was over =
     let all : take c.loop-delivery.delivery-index c.args.list.now ≡ c.args.list.now = take_all c.loop-delivery.delivery-index c.args.list.now c.loop-delivery-test.false in
-    subst (λ (list : List Delivery). IsFoundAfter was (zip list c.loop-delivery.replies.items) (state_in c.loop-delivery.self).may_leave) all (c.loop-delivery.invariant.crash clean was over)
+    subst (λ (list : List Delivery). IsFoundAfter c.args.self.now c.loop-delivery.self was (zip list c.loop-delivery.replies.items)) all (c.loop-delivery.invariant.crash clean was over)
+
+pub returns-clause-fails : goal.returns-clause-fails
+returns-clause-fails g c failed =
+    let all : take c.loop-delivery.delivery-index c.args.list.now ≡ c.args.list.now = take_all c.loop-delivery.delivery-index c.args.list.now c.loop-delivery-test.false in
+    subst (λ (list : List Delivery). IsTrue (has_failed (store_in c.args.self.now)) ⊎ FailsAt c.args.self.now c.loop-delivery.self (zip list c.loop-delivery.replies.items)) all (c.loop-delivery.invariant.fails failed)
 
 pub returns-in_err-replies-clause-settled : goal.returns-in_err-replies-clause-settled
 returns-in_err-replies-clause-settled g c = leaves_open (state_in c.args.self.now) (g.met.S.Store.settled c.args.self.now.store.db.idle.conn.store)

@@ -5,7 +5,7 @@ use Rattle.reg_core.specs.KeptReplies.{entry_told}
 use Rattle.reg_store.specs.Stores.{state_of}
 use Rattle.reg_service.specs.Services.{state_in}
 use Rattle.reg_service.proofs.StoreCalls.{whatever_fails, fails_as}
-use Rattle.reg_service.proofs.OpenConnections.{keeps_reading, keeps_read_then}
+use Rattle.reg_service.proofs.OpenConnections.{goes_on, keeps_reading, keeps_read_then}
 use Rattle.reg_service.proofs.OverTables.{keyless_over, first_over, again_over}
 use Rattle.reg_service.proofs.CrashLemmas.{leaves_open, found_failed, found_keyless, found_first, found_again}
 use Rattle.reg_service.proofs.service.Service.try_answer.Goals as goal
@@ -78,3 +78,6 @@ returns-in-Some-2-clause-frame g c = keeps_reading c.in_ok-kept.ensures (λ none
 
 pub returns-clause-frame : goal.returns-clause-frame
 returns-clause-frame g c = keeps_read_then c.in_ok-kept.ensures c.answer_first.ensures.frame
+
+pub returns-in-Some-2-clause-fails : goal.returns-in-Some-2-clause-fails
+returns-in-Some-2-clause-fails g c failed = goes_on c.in_ok-kept.ensures.frame failed

@@ -1,0 +1,203 @@
+-- What is found after a list of exchanges, one after the other.
+use Rattle.std.proofs.Common.{◌≡◌, ◌⊎◌, inl, inr, ℕ, ◌+◌, ◌<◌, ◌∙◌, true, false, Bool, List, [], ◌∷◌, ◌++◌, length, take, zip, get_or, append_assoc, append-nil, IsTrue, refl, sym, ap, subst, arith}
+use Rattle.std.proofs.lemmas.Bool.{cases_Bool, both_ways}
+use Rattle.std.proofs.lemmas.List.{take_more, length-take}
+use Rattle.sqlite.specs.Tree.{Trees}
+use Rattle.sqlite_trees.specs.declared.store.Store.{Ghosts}
+use Rattle.reg_core.specs.declared.code.Code.TheVariants.{BackendFault}
+use Rattle.reg_core.specs.declared.delivery.Delivery.{Delivery}
+use Rattle.reg_core.specs.Machine.{step}
+use Rattle.reg_core.specs.Registry.{Registry}
+use Rattle.reg_core.specs.Replies.{Told, fault}
+use Rattle.reg_core.specs.KeptReplies.{Kept}
+use Rattle.reg_core.specs.Stored.{Stored, HasTrueEvidence}
+use Rattle.reg_store.specs.Spells.{Leaves, IsOpenOver}
+use Rattle.reg_store.specs.Stores.{has_failed, LeavesNoMore}
+use Rattle.reg_service.specs.declared.service.Service.{Service}
+use Rattle.reg_service.specs.Deliveries.{Exchange, is_first, reply_after, served, LeadsTo}
+use Rattle.reg_service.specs.Services.{store_in, state_in, FailsAt, KeepsService, ServesOver, SplitAt}
+use Rattle.reg_service.specs.Crashes.{LeavesAfter, LeavesSpelled, LeavesUnderWay, IsFoundAfter}
+use Rattle.reg_service.specs.Inside.Crashing.{IsFoundOne}
+use Rattle.reg_service.proofs.CrashLemmas.{leaves_later, leaves_none}
+use Rattle.reg_service.proofs.ExchangeLists.{served-append, zip-push}
+use Rattle.reg_service.proofs.JoinedExchanges.{is_led, is_first-append, registry-append}
+use Rattle.reg_service.proofs.OpenConnections.{keeps_as, keeps_both, keeps_still}
+use Rattle.reg_service.proofs.SingleDeliveries.{served_fault}
+
+-- where nothing of both was answered, nothing of all was
+none_of_both : (xs ys : List Exchange) → served xs ≡ [] → served ys ≡ [] → served (xs ++ ys) ≡ []
+none_of_both xs ys x y = served-append xs ys ∙ (λ i. x i ++ y i)
+
+-- the exchanges with the next of a list
+pub zip_next : (list : List Delivery) (i : ℕ) (d : Delivery) (replies more : List Told) (reply : Told) → i < length list → d ≡ get_or list i d → length replies ≡ i → more ≡ replies ++ reply ∷ []
+    → zip (take (i + 1) list) more ≡ zip (take i list) replies ++ (d, reply) ∷ []
+zip_next list i d replies more reply lt item count longer =
+    let front : take (i + 1) list ≡ take i list ++ d ∷ [] = take_more list i d lt ∙ ap (λ (x : Delivery). take i list ++ x ∷ []) (sym item) in
+    let same : length (take i list) ≡ length replies = omega (arith, length-take i list) in
+    (λ j. zip (front j) (longer j)) ∙ zip-push (take i list) replies d reply same
+
+module _ {S : Type 0} {g : Ghosts S} where
+  -- one exchange more
+  pub passes_next : (old mid new : Service S g) (xs : List Exchange) (d : Delivery) (reply : Told) → KeepsService old mid (served xs ≡ []) → KeepsService mid new (reply ≡ fault BackendFault)
+      → KeepsService old new (served (xs ++ (d, reply) ∷ []) ≡ [])
+  passes_next old mid new xs d reply before one = keeps_both old mid new (λ none is. none_of_both xs ((d, reply) ∷ []) none (served_fault d reply is)) before one
+
+  -- ---- where a list splits
+
+  -- one exchange stands apart
+  abbrev split_here : (old new : Service S g) (d : Delivery) (reply : Told) → reply ≡ fault BackendFault → KeepsService old new (reply ≡ fault BackendFault) → SplitAt old new ((d, reply) ∷ [])
+  split_here old new d reply is keeps = record {
+    before = [];
+    exchange = (d, reply);
+    after = [];
+    split = refl;
+    unanswered = served_fault d reply is;
+    reached = old;
+    left = new;
+    earlier = keeps_still old (served [] ≡ []) refl;
+    here = keeps_as old new (served_fault d reply) keeps;
+    later = keeps_still new (served [] ≡ []) refl;
+  }
+
+  -- so it does behind others
+  abbrev split_later : (old mid new : Service S g) (xs ys : List Exchange) → KeepsService old mid (served xs ≡ []) → SplitAt mid new ys → SplitAt old new (xs ++ ys)
+  split_later old mid new xs ys keeps at = record {
+    before = xs ++ at.before;
+    exchange = at.exchange;
+    after = at.after;
+    split = ap (λ (zs : List Exchange). xs ++ zs) at.split ∙ sym (append_assoc xs at.before (at.exchange ∷ at.after));
+    unanswered = at.unanswered;
+    reached = at.reached;
+    left = at.left;
+    earlier = keeps_both old mid at.reached (none_of_both xs at.before) keeps at.earlier;
+    here = at.here;
+    later = at.later;
+  }
+
+  -- and in front of one that wasn't answered
+  abbrev split_still : (old mid new : Service S g) (xs : List Exchange) (d : Delivery) (reply : Told) → reply ≡ fault BackendFault → KeepsService mid new (reply ≡ fault BackendFault) → SplitAt old mid xs
+      → SplitAt old new (xs ++ (d, reply) ∷ [])
+  split_still old mid new xs d reply is keeps at = record {
+    before = at.before;
+    exchange = at.exchange;
+    after = at.after ++ (d, reply) ∷ [];
+    split = ap (λ (zs : List Exchange). zs ++ (d, reply) ∷ []) at.split ∙ append_assoc at.before (at.exchange ∷ at.after) ((d, reply) ∷ []);
+    unanswered = none_of_both (at.exchange ∷ at.after) ((d, reply) ∷ []) at.unanswered (served_fault d reply is);
+    reached = at.reached;
+    left = at.left;
+    earlier = at.earlier;
+    here = at.here;
+    later = passes_next at.left mid new at.after d reply at.later keeps;
+  }
+
+  -- ---- where the store fails
+
+  -- the store fails at the next exchange, or has failed at one before it
+  pub fails_next : (old mid new : Service S g) (xs : List Exchange) (d : Delivery) (reply : Told) → KeepsService old mid (served xs ≡ []) → KeepsService mid new (reply ≡ fault BackendFault)
+      → (IsTrue (has_failed (store_in new)) → reply ≡ fault BackendFault) → (IsTrue (has_failed (store_in mid)) → IsTrue (has_failed (store_in old)) ⊎ FailsAt old mid xs)
+      → IsTrue (has_failed (store_in new)) → IsTrue (has_failed (store_in old)) ⊎ FailsAt old new (xs ++ (d, reply) ∷ [])
+  fails_next old mid new xs d reply passed one fails before failed = by (cases_Bool (has_failed (store_in mid)))
+    where
+      by : (has_failed (store_in mid) ≡ true) ⊎ (has_failed (store_in mid) ≡ false) → IsTrue (has_failed (store_in old)) ⊎ FailsAt old new (xs ++ (d, reply) ∷ [])
+      by (inl was) = elim (before was) [
+        | inl first ↦ inl first
+        | inr it ↦ inr (record { at = split_still old mid new xs d reply (fails failed) one it.at; goes = it.goes; fails = it.fails })
+      ]
+      by (inr goes) = inr (record { at = split_later old mid new xs ((d, reply) ∷ []) passed (split_here mid new d reply (fails failed) one); goes = goes; fails = failed })
+
+  -- ---- what a crash leaves
+
+  -- before the first, what was there is found
+  pub found_none : (s : Service S g) (was : Stored) → ((db : Trees) → (state_in s).may_leave db → Leaves db was) → IsFoundAfter s s was []
+  found_none s was leaves = inl (λ db it. leaves_none was db (leaves db it))
+
+  -- after one exchange: over a connection that stayed open a crash leaves what was answered
+  pub found_once : (old new : Service S g) (was : Stored) (d : Delivery) (reply : Told) → KeepsService old new (reply ≡ fault BackendFault) → IsOpenOver (state_in old) was
+      → ServesOver (state_in old) (state_in new) (served ((d, reply) ∷ [])) → LeavesSpelled (state_in new) → IsFoundOne was d reply (state_in new).may_leave → IsFoundAfter old new was ((d, reply) ∷ [])
+  found_once old new was d reply keeps over serves spelled found = by (cases_Bool (state_in new).is_open) found
+    where
+      by : ((state_in new).is_open ≡ true) ⊎ ((state_in new).is_open ≡ false) → IsFoundOne was d reply (state_in new).may_leave → IsFoundAfter old new was ((d, reply) ∷ [])
+      by still (inl leaves) = inl leaves
+      by (inl is_open) (inr one) =
+          let it = serves was (λ _. over) in
+          inl (λ db left. record { now = it.now; leads = it.serves.leads; stays_true = it.stays_true; leaves = spelled it.now (it.spells is_open) db left })
+      by (inr is_shut) (inr one) = inr (record {
+        at = split_here old new d reply one.unanswered keeps;
+        was_open = over.is_open;
+        shut = λ is_open. both_ways _ is_shut is_open;
+        first = one.first;
+        leaves = one.leaves;
+      })
+
+  -- what is found after exchanges that follow others is found after both
+  found_later : (old mid new : Service S g) (was now : Stored) (xs ys : List Exchange) → KeepsService old mid (served xs ≡ []) → LeadsTo was (served xs) now → (HasTrueEvidence was → HasTrueEvidence now)
+      → IsFoundAfter mid new now ys → IsFoundAfter old new was (xs ++ ys)
+  found_later old mid new was now xs ys passed leads stays found = by found
+    where
+      both : (db : Trees) → LeavesAfter now (served ys) db → LeavesAfter was (served (xs ++ ys)) db
+      both db leaves =
+          let P : List Exchange → Type 0 = λ zs. LeavesAfter was zs db in
+          subst P (sym (served-append xs ys)) (leaves_later was now (served xs) (served ys) db leads stays leaves)
+
+      with_one : (before : List Exchange) (d : Delivery) (db : Trees) → LeavesAfter now (served before ++ (d, reply_after now (served before) d.command) ∷ []) db
+          → LeavesAfter was (served (xs ++ before) ++ (d, reply_after was (served (xs ++ before)) d.command) ∷ []) db
+      with_one before d db leaves =
+          let front = served xs ++ served before in
+          let old = reply_after now (served before) d.command in
+          let all : LeavesAfter was (served xs ++ (served before ++ (d, old) ∷ [])) db = leaves_later was now (served xs) (served before ++ (d, old) ∷ []) db leads stays leaves in
+          let same : old ≡ reply_after was front d.command =
+          ap (λ (s : Stored). reply_after s (served before) d.command) (is_led was now (served xs) leads)
+          ∙ ap (λ (s : Registry). (step s d.command).1) (sym (registry-append was.registry was.replies (served xs) (served before))) in
+          let P : List Exchange → Type 0 = λ zs. LeavesAfter was zs db in
+          let joined : LeavesAfter was (front ++ (d, old) ∷ []) db = subst P (sym (append_assoc (served xs) (served before) ((d, old) ∷ []))) all in
+          let replied : LeavesAfter was (front ++ (d, reply_after was front d.command) ∷ []) db = subst P (ap (λ (t : Told). front ++ (d, t) ∷ []) same) joined in
+          let Q : List Exchange → Type 0 = λ zs. LeavesAfter was (zs ++ (d, reply_after was zs d.command) ∷ []) db in
+          subst Q (sym (served-append xs before)) replied
+
+      by : IsFoundAfter mid new now ys → IsFoundAfter old new was (xs ++ ys)
+      by (inl leaves) = inl (λ db it. both db (leaves db it))
+      by (inr u) = inr (record {
+        at = split_later old mid new xs ys passed u.at;
+        was_open = u.was_open;
+        shut = u.shut;
+        first = ap (λ (zs : List Exchange). is_first was.replies zs u.at.exchange.0) (served-append xs u.at.before) ∙ is_first-append was.replies (served xs) (served u.at.before) u.at.exchange.0
+            ∙ ap (λ (k : Kept). is_first k (served u.at.before) u.at.exchange.0) (sym leads.kept) ∙ u.first;
+        leaves = λ db it. elim (u.leaves db it) [ inl leaves ↦ inl (both db leaves) | inr leaves ↦ inr (with_one u.at.before u.at.exchange.0 db leaves) ];
+      })
+
+  -- an exchange that was answered 50001 and left no more changes nothing of what is found
+  found_still : (old mid new : Service S g) (was : Stored) (xs : List Exchange) (d : Delivery) (reply : Told) → reply ≡ fault BackendFault → KeepsService mid new (reply ≡ fault BackendFault)
+      → LeavesNoMore (state_in mid) (state_in new) → IsFoundAfter old mid was xs → IsFoundAfter old new was (xs ++ (d, reply) ∷ [])
+  found_still old mid new was xs d reply is keeps no_more found = by found
+    where
+      still : (db : Trees) → LeavesAfter was (served xs) db → LeavesAfter was (served (xs ++ (d, reply) ∷ [])) db
+      still db leaves =
+          let P : List Exchange → Type 0 = λ zs. LeavesAfter was zs db in
+          let same : served (xs ++ (d, reply) ∷ []) ≡ served xs = served-append xs ((d, reply) ∷ []) ∙ ap (λ zs. served xs ++ zs) (served_fault d reply is) ∙ append-nil (served xs) in
+          subst P (sym same) leaves
+
+      by : IsFoundAfter old mid was xs → IsFoundAfter old new was (xs ++ (d, reply) ∷ [])
+      by (inl leaves) = inl (λ db it. still db (leaves db (no_more db it)))
+      by (inr u) = inr (record {
+        at = split_still old mid new xs d reply is keeps u.at;
+        was_open = u.was_open;
+        shut = u.shut;
+        first = u.first;
+        leaves = λ db it. elim (u.leaves db (no_more db it)) [ inl leaves ↦ inl (still db leaves) | inr leaves ↦ inr leaves ];
+      })
+
+  -- over an open connection the next exchange is answered from where the others led; over one that is shut it leaves no more
+  pub found_next : (old mid new : Service S g) (xs : List Exchange) (d : Delivery) (reply : Told) (was : Stored) → IsOpenOver (state_in old) was → ServesOver (state_in old) (state_in mid) (served xs)
+      → KeepsService old mid (served xs ≡ []) → KeepsService mid new (reply ≡ fault BackendFault) → IsFoundAfter old mid was xs
+      → ((was : Stored) → IsOpenOver (state_in mid) was → IsFoundAfter mid new was ((d, reply) ∷ []))
+      → ((IsTrue (state_in mid).is_open → ⊥) → (reply ≡ fault BackendFault) × LeavesNoMore (state_in mid) (state_in new))
+      → IsFoundAfter old new was (xs ++ (d, reply) ∷ [])
+  found_next old mid new xs d reply was over before passed one found once shut = by (cases_Bool (state_in mid).is_open)
+    where
+      by : ((state_in mid).is_open ≡ true) ⊎ ((state_in mid).is_open ≡ false) → IsFoundAfter old new was (xs ++ (d, reply) ∷ [])
+      by (inl is_open) =
+          let it = before was (λ _. over) in
+          found_later old mid new was it.now xs ((d, reply) ∷ []) passed it.serves.leads it.stays_true (once it.now (it.spells is_open))
+      by (inr is_shut) =
+          let it = shut (λ is_open. both_ways _ is_shut is_open) in
+          found_still old mid new was xs d reply it.0 one it.1 found

@@ -1,0 +1,21 @@
+-- What a crash may leave of one exchange. (All of it is this project's choice.)
+use Rattle.std.specs.Prelude.{◌≡◌, ◌⊎◌, IsTrue, [], ◌∷◌}
+use Rattle.sqlite.specs.Tree.{Trees}
+use Rattle.reg_core.specs.declared.code.Code.TheVariants.{BackendFault}
+use Rattle.reg_core.specs.declared.delivery.Delivery.{Delivery}
+use Rattle.reg_core.specs.Machine.{step}
+use Rattle.reg_core.specs.Replies.{Told, fault}
+use Rattle.reg_core.specs.Stored.{Stored}
+use Rattle.reg_service.specs.Deliveries.{is_first, served}
+use Rattle.reg_service.specs.Crashes.{LeavesAfter}
+
+-- a first delivery that got 50001 may be left with the plain machine's reply
+pub record LeavesOneUnderWay (was : Stored) (d : Delivery) (reply : Told) (may_leave : Trees → Type 0) : Type 0 where
+  pub unanswered : reply ≡ fault BackendFault
+  pub first : IsTrue (is_first was.replies [] d)
+  pub leaves : (db : Trees) → may_leave db
+      → LeavesAfter was (served ((d, reply) ∷ [])) db ⊎ LeavesAfter was ((d, (step was.registry d.command).1) ∷ []) db
+
+-- a crash leaves what was answered, and perhaps the delivery that got 50001
+abbrev pub IsFoundOne : Stored → Delivery → Told → (Trees → Type 0) → Type 0
+IsFoundOne was d reply may_leave = ((db : Trees) → may_leave db → LeavesAfter was (served ((d, reply) ∷ [])) db) ⊎ LeavesOneUnderWay was d reply may_leave
