@@ -1,9 +1,9 @@
-//! A registry's database in a file: which files are opened as one, and how it is closed.
+//! The database of a registry in a file: which files are opened as one, and how the program closes it.
 
 ghost use Rattle.std.specs.Prelude.{IfOk};
 ghost use Rattle.reg_jobs.specs.Opening.{OpensToList, OpensToRun};
 
-use crate::log::{has_first_log, has_log, is_begun, remove_log};
+use crate::log::{has_first_log, has_frames, has_log, is_unfinished, remove_log};
 use avro_nodes::OutOfMemory;
 use reg_jobs::Opened;
 use sqlite::{Connection, Error, ErrorCode, FileFrom, FileStore, Wary};
@@ -17,34 +17,64 @@ pub type FileDatabase = FileStore<FileFrom<Wary>>;
 /// The first bytes of a database file (SQLite, Database File Format).
 const DATABASE_FRONT: &[u8; 16] = b"SQLite format 3\0";
 
-/// Whether a file begins as a database does, or has no byte.
+/// What is found at the name of a database file, before anything is opened.
+#[derive(Clone, Copy)]
+enum Found {
+    /// No file.
+    Missing,
+    /// A file without a byte.
+    Empty,
+    /// A database whose creation was interrupted before its log had a frame.
+    Unfinished,
+    /// A file that begins as a database, or has a log next to it.
+    Database,
+    /// A log with frames whose database is missing or has no byte. An open would make a new database there,
+    /// and empty the log.
+    OrphanedLog,
+    /// Anything else. An open would overwrite the file.
+    Other,
+}
+
+/// Whether a file begins as a database does.
 fn begins_as_database(rt: &HostRuntime, file: &str) -> io::Result<bool> {
-    if !fs::metadata(rt, file)?.is_file() {
-        return Ok(false);
-    }
     let mut opened = fs::OpenOptions::new().read(true).open(rt, file)?;
     let mut front = [0u8; 16];
-    let read = opened.read(&mut front)?;
-    Ok(read == 0 || front.as_slice() == DATABASE_FRONT.as_slice())
+    opened.read(&mut front)?;
+    Ok(front.as_slice() == DATABASE_FRONT.as_slice())
 }
 
-/// Whether a file may be opened as a database: it is missing, has no byte or begins as one, or a run
-/// that was killed left its log beside it. An open would write over the bytes of another file.
-fn may_open(rt: &HostRuntime, file: &str) -> io::Result<bool> {
-    match begins_as_database(rt, file) {
-        Ok(true) => Ok(true),
-        Ok(false) => has_log(rt, file),
-        Err(error) if error.kind() == io::ErrorKind::NotFound => Ok(true),
-        Err(error) => Err(error),
+/// What a file with bytes is.
+fn found_with_bytes(rt: &HostRuntime, file: &str) -> io::Result<Found> {
+    if is_unfinished(rt, file)? {
+        return Ok(Found::Unfinished);
+    }
+    if begins_as_database(rt, file)? || has_log(rt, file)? {
+        Ok(Found::Database)
+    } else {
+        Ok(Found::Other)
     }
 }
 
-/// Whether the database in a file that may be opened was only begun, or `None` where it may not be.
-fn looked_at(rt: &HostRuntime, file: &str) -> io::Result<Option<bool>> {
-    if may_open(rt, file)? {
-        Ok(Some(is_begun(rt, file)?))
+/// What a file is that is missing or has no byte, `found` if no log with frames lies next to it. A new database
+/// has its first page before its log has a frame, so next to such a log a database was lost.
+fn found_without_bytes(rt: &HostRuntime, file: &str, found: Found) -> io::Result<Found> {
+    if has_frames(rt, file)? {
+        Ok(Found::OrphanedLog)
     } else {
-        Ok(None)
+        Ok(found)
+    }
+}
+
+/// What is found at the name of a database file.
+fn found_at(rt: &HostRuntime, file: &str) -> io::Result<Found> {
+    match fs::metadata(rt, file) {
+        Ok(found) if !found.is_file() => Ok(Found::Other),
+        Ok(found) if found.len() > 0 => found_with_bytes(rt, file),
+        Ok(_) => found_without_bytes(rt, file, Found::Empty),
+        Err(error) if error.kind() == io::ErrorKind::NotFound => {
+            found_without_bytes(rt, file, Found::Missing)
+        }
+        Err(error) => Err(error),
     }
 }
 
@@ -56,19 +86,19 @@ fn lists_nothing(connection: &mut Connection<FileDatabase>) -> Result<bool, Erro
     Ok(count == 0)
 }
 
-/// Whether the registry of a database isn't made yet: it is new or was only begun, or a run ended
-/// that made it, before it had made the tables.
+/// Whether a database has no registry yet: the database is new, or the run that made it ended before it had made
+/// the tables.
 fn is_unmade(
     rt: &HostRuntime,
     file: &str,
-    was_begun: bool,
+    was_unfinished: bool,
     connection: &mut Connection<FileDatabase>,
 ) -> Result<bool, Error> {
     if !lists_nothing(connection)? {
         return Ok(false);
     }
     match has_first_log(rt, file) {
-        Ok(is_first) => Ok(is_first || was_begun),
+        Ok(is_first) => Ok(is_first || was_unfinished),
         Err(error) if error.kind() == io::ErrorKind::OutOfMemory => {
             Err(Error::SqliteFailure(ErrorCode::OutOfMemory))
         }
@@ -76,7 +106,7 @@ fn is_unmade(
     }
 }
 
-/// What a database that can't be opened is for the job, by the error.
+/// What a job gets for a database that can't be opened.
 fn failed(error: Error) -> Result<Opened<FileDatabase>, OutOfMemory>
     ensures { IfOk result OpensToRun }
 {
@@ -86,70 +116,84 @@ fn failed(error: Error) -> Result<Opened<FileDatabase>, OutOfMemory>
     }
 }
 
-/// Opens the database in a file, which is made where it is missing. A new one has no registry yet.
-///
-/// # Errors
-///
-/// `OutOfMemory` where memory is refused. Every other failure is `Opened::Failed`.
-pub fn opened_database(rt: &HostRuntime, file: &str) -> Result<Opened<FileDatabase>, OutOfMemory>
+/// What a job gets for a file that can't be examined.
+fn unexamined(error: io::Error) -> Result<Opened<FileDatabase>, OutOfMemory>
+    ensures run { IfOk result OpensToRun }
+    ensures list { IfOk result OpensToList }
+{
+    match error.kind() {
+        io::ErrorKind::OutOfMemory => Err(OutOfMemory),
+        _ => Ok(Opened::Failed),
+    }
+}
+
+/// Opens the database in a file. If the file is missing, empty or unfinished, it makes the database.
+fn open_or_make(
+    rt: &HostRuntime,
+    file: &str,
+    was_unfinished: bool,
+) -> Result<Opened<FileDatabase>, OutOfMemory>
     ensures { IfOk result OpensToRun }
 {
-    let was_begun = match looked_at(rt, file) {
-        Ok(Some(was_begun)) => was_begun,
-        Err(error) if error.kind() == io::ErrorKind::OutOfMemory => {
-            return Err(OutOfMemory);
-        }
-        _ => return Ok(Opened::Failed),
-    };
     let mut connection = match Connection::open_from(rt, file, false, Wary) {
         Ok(connection) => connection,
         Err((error, _)) => return failed(error),
     };
-    match is_unmade(rt, file, was_begun, &mut connection) {
+    match is_unmade(rt, file, was_unfinished, &mut connection) {
         Ok(true) => Ok(Opened::Fresh(connection)),
         Ok(false) => Ok(Opened::Database(connection)),
         Err(error) => failed(error),
     }
 }
 
-/// What a job finds in a file that makes no registry: whether there is a file, and whether it has
-/// more than a database that was only begun.
-fn is_found(rt: &HostRuntime, file: &str) -> io::Result<Option<bool>> {
-    match fs::metadata(rt, file) {
-        Ok(found) => Ok(Some((found.len() > 0 || has_log(rt, file)?) && !is_begun(rt, file)?)),
-        Err(error) if error.kind() == io::ErrorKind::NotFound => Ok(None),
-        Err(error) => Err(error),
-    }
-}
-
-/// Opens the database in a file for a job that makes no registry: a missing file isn't made, and one
-/// without a byte, or whose database was only begun, isn't opened.
+/// Opens the database in a file for a job that may make a registry. If there is no database, it makes one, which
+/// has no registry yet. If only a log with frames is left, it opens and makes nothing.
 ///
 /// # Errors
 ///
-/// `OutOfMemory` where memory is refused. Every other failure is `Opened::Failed`.
-pub fn found_database(rt: &HostRuntime, file: &str) -> Result<Opened<FileDatabase>, OutOfMemory>
+/// `OutOfMemory` if memory is refused. Every other failure is `Opened::Failed`.
+pub fn opened_database(rt: &HostRuntime, file: &str) -> Result<Opened<FileDatabase>, OutOfMemory>
+    ensures { IfOk result OpensToRun }
+{
+    match found_at(rt, file) {
+        Ok(Found::Missing | Found::Empty | Found::Database) => open_or_make(rt, file, false),
+        Ok(Found::Unfinished) => open_or_make(rt, file, true),
+        Ok(Found::OrphanedLog) => Ok(Opened::OrphanedLog),
+        Ok(Found::Other) => Ok(Opened::Failed),
+        Err(error) => unexamined(error),
+    }
+}
+
+/// Opens an existing database for a job that makes no registry.
+fn open_to_list(rt: &HostRuntime, file: &str) -> Result<Opened<FileDatabase>, OutOfMemory>
     ensures { IfOk result OpensToList }
 {
-    let has_more = match is_found(rt, file) {
-        Ok(Some(has_more)) => has_more,
-        Err(error) if error.kind() == io::ErrorKind::OutOfMemory => {
-            return Err(OutOfMemory);
-        }
-        _ => return Ok(Opened::Failed),
-    };
-    if !has_more {
-        return Ok(Opened::Empty);
-    }
-    match opened_database(rt, file)? {
+    match open_or_make(rt, file, false)? {
         Opened::Fresh(connection) => Ok(Opened::Database(connection)),
         opened => Ok(opened),
     }
 }
 
-/// Closes a database: its log is copied into the file F, and removed. Where the copy fails, what was
-/// committed stands in F and F-wal together, and where the registry isn't made yet both stay, by
-/// which the next start knows it.
+/// Opens the database in a file for a job that makes no registry. It makes no file, and doesn't open one that is
+/// empty, unfinished, or lost next to its log.
+///
+/// # Errors
+///
+/// `OutOfMemory` if memory is refused. Every other failure is `Opened::Failed`.
+pub fn found_database(rt: &HostRuntime, file: &str) -> Result<Opened<FileDatabase>, OutOfMemory>
+    ensures { IfOk result OpensToList }
+{
+    match found_at(rt, file) {
+        Ok(Found::Database) => open_to_list(rt, file),
+        Ok(Found::Empty | Found::Unfinished) => Ok(Opened::Empty),
+        Ok(Found::OrphanedLog) => Ok(Opened::OrphanedLog),
+        Ok(Found::Missing | Found::Other) => Ok(Opened::Failed),
+        Err(error) => unexamined(error),
+    }
+}
+
+/// Closes a database F: copies its log into F, and removes the log. If the copy fails, F and F-wal together hold
+/// the committed state. If there is no registry yet, both files stay, so that the next start can tell.
 pub fn close(rt: &HostRuntime, file: &str, mut connection: Connection<FileDatabase>) {
     if let Ok(false) = is_unmade(rt, file, false, &mut connection)
         && let Ok(files) = connection.close_files()

@@ -1,4 +1,4 @@
-//! The log beside a database file, and what it tells of the registry.
+//! The write-ahead log next to a database file, and what it says about the registry.
 
 use std::io::Read;
 use std::rt::Files;
@@ -7,31 +7,46 @@ use std::{fs, io};
 /// The bytes of a new database.
 const PAGE: u64 = 4096;
 
-/// The bytes of a log's header and of a frame's: a log with fewer has no frame (SQLite, WAL File
-/// Format).
+/// The bytes of a log's header and of one frame's header. A shorter log has no frame (SQLite, WAL File Format).
 const FRAMELESS: u64 = 56;
 
-/// The checkpoints that a log's header counts, at its bytes 12 to 15, where `sqlite` made the log
-/// together with its database. A checkpoint writes another count, as does an open that finds no log.
+/// The number of checkpoints in the header of a log, at bytes 12 to 15, if `sqlite` made the log together with its
+/// database. A checkpoint writes another number, and so does an open that finds no log.
 const UNCOPIED: &[u8; 4] = b"\xff\xff\xff\xff";
 
-/// Whether a log with bytes lies beside a file.
-pub fn has_log(rt: &HostRuntime, file: &str) -> io::Result<bool> {
-    let log = format!(in rt.alloc(); "{file}-wal")?;
-    match fs::metadata(rt, log.as_str()) {
-        Ok(found) => Ok(found.len() > 0),
-        Err(error) if error.kind() == io::ErrorKind::NotFound => Ok(false),
+/// The name of the log of a file. `sqlite` keeps the log next to the file that a symbolic link leads to. If the
+/// file is missing, there is nothing to follow.
+fn log_of(rt: &HostRuntime, file: &str) -> io::Result<String> {
+    match fs::canonicalize(rt, file) {
+        Ok(real) => Ok(format!(in rt.alloc(); "{}-wal", real.as_str())?),
+        Err(error) if error.kind() == io::ErrorKind::NotFound => {
+            Ok(format!(in rt.alloc(); "{file}-wal")?)
+        }
         Err(error) => Err(error),
     }
 }
 
-/// The name of the log beside a file that is there.
-fn log_of(rt: &HostRuntime, file: &str) -> io::Result<String> {
-    let real = fs::canonicalize(rt, file)?;
-    Ok(format!(in rt.alloc(); "{}-wal", real.as_str())?)
+/// The length of the log next to a file, 0 if there is none.
+fn length_of_log(rt: &HostRuntime, file: &str) -> io::Result<u64> {
+    match fs::metadata(rt, log_of(rt, file)?.as_str()) {
+        Ok(found) => Ok(found.len()),
+        Err(error) if error.kind() == io::ErrorKind::NotFound => Ok(0),
+        Err(error) => Err(error),
+    }
 }
 
-/// Whether a log is the one with which its database was made.
+/// Whether a log with bytes lies next to a file.
+pub fn has_log(rt: &HostRuntime, file: &str) -> io::Result<bool> {
+    Ok(length_of_log(rt, file)? > 0)
+}
+
+/// Whether a log that is long enough for a frame lies next to a file. Such a log may hold commits. `sqlite` wrote
+/// it after the first page of its database.
+pub fn has_frames(rt: &HostRuntime, file: &str) -> io::Result<bool> {
+    Ok(length_of_log(rt, file)? >= FRAMELESS)
+}
+
+/// Whether a log was made together with its database.
 fn is_first(rt: &HostRuntime, log: &str) -> io::Result<bool> {
     let mut opened = fs::OpenOptions::new().read(true).open(rt, log)?;
     let mut front = [0u8; 16];
@@ -39,7 +54,7 @@ fn is_first(rt: &HostRuntime, log: &str) -> io::Result<bool> {
     Ok(read == 16 && front[12..] == UNCOPIED[..])
 }
 
-/// The length of the log beside a file, if it is the one with which the database was made.
+/// The length of the log next to a file, if it was made together with its database.
 fn length_of_first(rt: &HostRuntime, file: &str) -> io::Result<Option<u64>> {
     let log = log_of(rt, file)?;
     let found = fs::metadata(rt, log.as_str())?;
@@ -50,7 +65,7 @@ fn length_of_first(rt: &HostRuntime, file: &str) -> io::Result<Option<u64>> {
     }
 }
 
-/// The same, and `None` too where there is no file or no log.
+/// The same, and `None` also if there is no log.
 fn first_log(rt: &HostRuntime, file: &str) -> io::Result<Option<u64>> {
     match length_of_first(rt, file) {
         Err(error) if error.kind() == io::ErrorKind::NotFound => Ok(None),
@@ -58,23 +73,22 @@ fn first_log(rt: &HostRuntime, file: &str) -> io::Result<Option<u64>> {
     }
 }
 
-/// Whether the log beside a file is the one with which the database was made: no table was copied
-/// out of it, or lost with it.
+/// Whether the log next to a file was made together with its database. Then no table was copied out of the log
+/// or lost with an earlier one.
 pub fn has_first_log(rt: &HostRuntime, file: &str) -> io::Result<bool> {
     Ok(first_log(rt, file)?.is_some())
 }
 
-/// Whether a database was only begun in a file: it has no more than its first page, and its log no
-/// frame yet.
-pub fn is_begun(rt: &HostRuntime, file: &str) -> io::Result<bool> {
+/// Whether the creation of a database in an existing file was interrupted: the file has at most its first page,
+/// and its log no frame.
+pub fn is_unfinished(rt: &HostRuntime, file: &str) -> io::Result<bool> {
     match first_log(rt, file)? {
         Some(length) => Ok(length < FRAMELESS && fs::metadata(rt, file)?.len() <= PAGE),
         None => Ok(false),
     }
 }
 
-/// Removes the log of a database file. The caller holds the database's files, so that nobody else
-/// has them open, and the log is empty.
+/// Removes the log of a database file. The caller holds the locks of the database, and the log is empty.
 pub fn remove_log(rt: &HostRuntime, file: &str) -> io::Result<()> {
     fs::remove_file(rt, log_of(rt, file)?.as_str())
 }

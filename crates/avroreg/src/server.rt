@@ -6,6 +6,7 @@ use reg_jobs::{Errors, Outcome, Server, report, serve_with_clock, store_in};
 use reg_service::Service;
 use reg_store::Store;
 use sqlite::Connection;
+use std::io::Stderr;
 use std::net::{Ipv4Addr, TcpListener};
 
 /// Serves the connections to the server's port over a store, and gives its connection back, with the
@@ -14,11 +15,19 @@ fn listen(
     rt: &HostRuntime,
     server: &Server,
     store: Store<FileDatabase>,
+    errors: &mut Errors<Stderr>,
 ) -> (Option<Outcome>, Connection<FileDatabase>) {
     let mut service = Service::new(rt.alloc(), store);
     let fault = match TcpListener::bind(rt, (Ipv4Addr::LOCALHOST, server.port)) {
         Ok(listener) => {
-            serve_with_clock(rt.alloc(), rt, &listener, server.connections, &mut service);
+            serve_with_clock(
+                rt.alloc(),
+                rt,
+                &listener,
+                server.connections,
+                &mut service,
+                errors,
+            );
             None
         }
         Err(_) => Some(Outcome::NotListening(server.port)),
@@ -34,15 +43,16 @@ fn listen(
 pub fn serve(rt: &HostRuntime, server: &Server) -> Result<u8, Unbegun> {
     let file = server.database.as_str();
     let opened = opened_database(rt, file)?;
+    let mut errors = Errors::to(rt.stderr());
     let (fault, connection) = match store_in(rt.alloc(), opened) {
         Ok(store) => {
-            let (fault, connection) = listen(rt, server, store);
+            let (fault, connection) = listen(rt, server, store, &mut errors);
             (fault, Some(connection))
         }
         Err((error, connection)) => (Some(Outcome::Unopened(error)), connection),
     };
     let status = match fault {
-        Some(outcome) => report(&mut Errors::to(rt.stderr()), outcome, file),
+        Some(outcome) => report(&mut errors, outcome, file),
         None => 0,
     };
     if let Some(connection) = connection {

@@ -9,7 +9,7 @@ use Rattle.reg_http.specs.declared.serving.Ended.{Ended}
 use Rattle.reg_http.specs.OverTables.{Over}
 use Rattle.reg_http.specs.Sessions.{Session}
 use Rattle.reg_jobs.specs.declared.job.Opened.{Opened}
-use Rattle.reg_jobs.specs.declared.job.Opened.TheVariants.{Nothing, Texts, Failed, Empty, Fresh, Database}
+use Rattle.reg_jobs.specs.declared.job.Opened.TheVariants.{Nothing, Texts, Failed, Empty, OrphanedLog, Fresh, Database}
 use Rattle.reg_store.specs.declared.error.StoreError.{StoreError}
 use Rattle.reg_store.specs.declared.error.StoreError.TheVariants.{Memory, Disk, NotARegistry, OldLayout, NewerLayout}
 use Rattle.reg_store.specs.Failures.{IsFaultBy, IsFaultOver, is_fault}
@@ -31,10 +31,11 @@ SessionOver-has g Nothing begun new reader reader' writer writer' ended has over
 SessionOver-has g (Texts texts) begun new reader reader' writer writer' ended has over = absurd has
 SessionOver-has g Failed begun new reader reader' writer writer' ended has over = absurd has
 SessionOver-has g Empty begun new reader reader' writer writer' ended has over = absurd has
+SessionOver-has g OrphanedLog begun new reader reader' writer writer' ended has over = absurd has
 SessionOver-has g (Fresh old) begun new reader reader' writer writer' ended has over =
-    record { was = new_stored; begins = (has.empty, refl); leads = over new_stored has.spells }
+    record { was = new_stored; begins = (has.empty, refl); leads = over new_stored (λ _. has.spells) }
 SessionOver-has g (Database old) begun new reader reader' writer writer' ended has over =
-    record { was = has.stored; begins = has.spelled; leads = over has.stored has.spells }
+    record { was = has.stored; begins = has.spelled; leads = over has.stored (λ _. has.spells) }
 
 -- an error that stands for memory or the disk
 pub is_fault-by : (old new : State) (error : StoreError) → IsFaultBy old new error → IsTrue (is_fault error)
@@ -58,6 +59,7 @@ OverDatabase-map g Nothing P Q follows over = over
 OverDatabase-map g (Texts texts) P Q follows over = over
 OverDatabase-map g Failed P Q follows over = over
 OverDatabase-map g Empty P Q follows over = over
+OverDatabase-map g OrphanedLog P Q follows over = over
 OverDatabase-map g (Fresh old) P Q follows over = over
 OverDatabase-map g (Database old) P Q follows over = follows (state g old) over
 
@@ -69,9 +71,9 @@ pub ListsOver-found : (old begun new : State) (kind : Listing) (writer writer' :
 ListsOver-found old begun new kind writer writer' listed has lists fault same = record {
   was = has.stored;
   begins = has.spelled;
-  lists = lists has.stored has.spells;
-  fault = IfUnread-fault listed begun new has.stored fault has.spells;
-  spells = same has.stored has.spells;
+  lists = lists has.stored (λ _. has.spells);
+  fault = IfUnread-fault listed begun new has.stored fault (λ _. has.spells);
+  spells = same has.stored (λ _. has.spells);
 }
 
 -- an audit of what a database has stored
@@ -81,6 +83,6 @@ pub AuditsOver-found : (old begun new : State) (writer writer' : Option (List �
 AuditsOver-found old begun new writer writer' audited has audits same = record {
   was = has.stored;
   begins = has.spelled;
-  audits = audits has.stored has.spells;
-  spells = same has.stored has.spells;
+  audits = audits has.stored (λ _. has.spells);
+  spells = same has.stored (λ _. has.spells);
 }

@@ -1,11 +1,16 @@
 -- Connections, one after the other.
-use Rattle.std.proofs.Common.{◌≡◌, ◌+◌, ℕ, suc, List, refl, sym, inl, inr, arith}
+use Rattle.std.proofs.Common.{◌≡◌, ◌∙◌, ◌+◌, ◌≤◌, ℕ, zero, suc, List, [], ◌++◌, refl, sym, ap, subst, append_assoc, append-nil, inl, inr, arith}
 use Rattle.std.specs.Prelude.{Option}
 use Rattle.sqlite.specs.State.{State}
 use Rattle.reg_http.specs.declared.serving.Ended.{Ended}
 use Rattle.reg_http.specs.OverTables.{Over}
 use Rattle.reg_http.specs.Sessions.{Session}
-use Rattle.reg_jobs.specs.Listening.{ServesNext, ServesUpTo}
+use Rattle.reg_jobs.specs.declared.errors.Errors.{Errors}
+use Rattle.reg_jobs.specs.declared.outcome.Fault.TheVariants.{CannotAccept}
+use Rattle.reg_jobs.specs.Errors.{Puts}
+use Rattle.reg_jobs.specs.Listening.{ServesNext, ServesUpTo, ReportsAcceptFailures, accept_failure_lines}
+use Rattle.reg_jobs.specs.Outcomes.{line_of}
+use Rattle.reg_jobs.proofs.LineLemmas.{Puts-append, Puts-none}
 
 -- no connection came yet
 pub Over-none : (s : State) → Over s s (ServesUpTo 0)
@@ -37,3 +42,31 @@ Over-next old mid new count before next was spells =
       spells = n.spells;
       holds = rw (sym e) (record { between = b.stored; first = b.holds; next = n.holds });
     }
+
+-- so many lines, and then so many more
+accept_failure_lines-add : (a b : ℕ) → accept_failure_lines a ++ accept_failure_lines b ≡ accept_failure_lines (a + b)
+accept_failure_lines-add a zero =
+    let e : a + 0 ≡ a = omega arith in
+    append-nil (accept_failure_lines a) ∙ ap accept_failure_lines (sym e)
+accept_failure_lines-add a (suc b) =
+    let e : suc (a + b) ≡ a + suc b = omega arith in
+    sym (append_assoc (accept_failure_lines a) (accept_failure_lines b) (line_of CannotAccept []))
+    ∙ (ap (λ lines. lines ++ line_of CannotAccept []) (accept_failure_lines-add a b) ∙ ap accept_failure_lines e)
+
+-- nothing was put
+pub ReportsAcceptFailures-none : {E : Type 0} (contents : E → Option (List ℕ)) (most : ℕ) (errors : Errors E) → ReportsAcceptFailures contents most errors errors
+ReportsAcceptFailures-none contents most errors = record { times = 0; within = omega arith; puts = Puts-none contents errors }
+
+-- the line was put once
+pub ReportsAcceptFailures-once : {E : Type 0} (contents : E → Option (List ℕ)) (old new : Errors E) → Puts contents old new (line_of CannotAccept []) → ReportsAcceptFailures contents 1 old new
+ReportsAcceptFailures-once contents old new puts = record { times = 1; within = omega arith; puts = puts }
+
+-- one more connection
+pub ReportsAcceptFailures-next : {E : Type 0} (contents : E → Option (List ℕ)) (count : ℕ) (old mid new : Errors E)
+    → ReportsAcceptFailures contents count old mid → ReportsAcceptFailures contents 1 mid new → ReportsAcceptFailures contents (count + 1) old new
+ReportsAcceptFailures-next contents count old mid new before next = record {
+  times = before.times + next.times;
+  within = omega (arith, before.within, next.within);
+  puts = subst (Puts contents old new) (accept_failure_lines-add before.times next.times)
+      (Puts-append contents old mid new (accept_failure_lines before.times) (accept_failure_lines next.times) before.puts next.puts);
+}

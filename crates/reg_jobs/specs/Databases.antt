@@ -2,14 +2,15 @@
 use Rattle.std.specs.Prelude.{◌≡◌, ◌≢◌, ◌⊎◌, Option, Some, IsTrue}
 use Rattle.sqlite.specs.Held.{Held, state}
 use Rattle.sqlite.specs.State.{State, HasCleanDisk}
+use Rattle.sqlite.specs.Tree.{Trees}
 use Rattle.sqlite_trees.specs.declared.store.Store.{Ghosts}
 use Rattle.reg_core.specs.Stored.{new_stored}
 use Rattle.reg_tables.specs.Layout.{no_schema}
 use Rattle.reg_store.specs.declared.error.StoreError.{StoreError}
 use Rattle.reg_store.specs.declared.error.StoreError.TheVariants.{Disk, NotARegistry}
 use Rattle.reg_store.specs.Failures.{IsFaultBy}
-use Rattle.reg_store.specs.Opening.{LosesNothing}
-use Rattle.reg_store.specs.Spells.{SpellsWhileOpen}
+use Rattle.reg_store.specs.Opening.{IsIndexed, LosesNothing}
+use Rattle.reg_store.specs.Spells.{IsOpenOver}
 use Rattle.reg_store.specs.Stores.{LeavesConnection}
 use Rattle.reg_store.specs.UnopenedFaults.{IsUnopened}
 
@@ -22,7 +23,7 @@ pub record GivesBack {S : Type 0} (g : Ghosts S) (back : Option (Held S)) (P : S
 -- the database was empty, and its tables spell a new registry, which keeps no reply and has no evidence
 pub record IsMadeIn (old new : State) : Type 0 where
   pub empty : ¬ (old.now.schema ≢ no_schema)
-  pub spells : SpellsWhileOpen new new_stored
+  pub spells : IsOpenOver new new_stored
 
 -- why no registry was made: a database that isn't empty is told so, over an empty one memory was refused or there was a fault of the disk, and nothing is
 -- committed, nor left by a crash but after `Disk`
@@ -32,11 +33,13 @@ pub record FailsToMake (old new : State) (error : StoreError) : Type 0 where
   pub leaves : LeavesConnection old new error
 
 -- Why a database gave no registry. Where its tables spell one, memory was refused or there was a fault of the disk. Another layout is told,
--- and with its own number; `Disk` is for a fault of the disk over the tables of a layout. Nothing is committed, and a crash leaves what the tables spelled.
+-- and with its own number; `Disk` is for a fault of the disk, whatever the database holds. Nothing is committed. A crash leaves what it left before, or the
+-- tables with their index; and always what they spelled.
 pub record FailsToOpen (old new : State) (error : StoreError) : Type 0 where
   pub fails : IsUnopened old new error
   pub leaves : LeavesConnection old new error
   pub found : LosesNothing old new
+  pub crash : (db : Trees) → new.may_leave db → old.may_leave db ⊎ IsIndexed old.now db
 
 -- a transaction was under way, or no registry was made
 abbrev pub LacksMade : State → State → StoreError → Type 0

@@ -20,7 +20,7 @@ use Rattle.reg_words.specs.declared.task.Job.TheVariants.{Run, Text as TextJob, 
 use Rattle.reg_words.specs.declared.task.Listing.{Listing}
 use Rattle.reg_jobs.specs.declared.errors.Errors.{Errors}
 use Rattle.reg_jobs.specs.declared.job.Opened.{Opened}
-use Rattle.reg_jobs.specs.declared.job.Opened.TheVariants.{Nothing, Texts, Failed, Empty, Fresh, Database}
+use Rattle.reg_jobs.specs.declared.job.Opened.TheVariants.{Nothing, Texts, Failed, Empty, OrphanedLog, Fresh, Database}
 use Rattle.reg_jobs.specs.declared.outcome.Fault.{Fault}
 use Rattle.reg_jobs.specs.declared.outcome.Outcome.{Outcome}
 use Rattle.reg_jobs.specs.declared.outcome.Outcome.TheVariants.{Session as SessionEnded, Unopened, NotListening, Text as TextEnded, Check as CheckEnded, List as ListEnded, Moved, Audited}
@@ -69,6 +69,7 @@ text_at Nothing position = None
 text_at (Texts texts) position = bytes_of (slice_get texts.items position)
 text_at Failed position = None
 text_at Empty position = None
+text_at OrphanedLog position = None
 text_at (Fresh connection) position = None
 text_at (Database connection) position = None
 
@@ -78,6 +79,7 @@ connection_in Nothing = None
 connection_in (Texts texts) = None
 connection_in Failed = None
 connection_in Empty = None
+connection_in OrphanedLog = None
 connection_in (Fresh connection) = Some connection
 connection_in (Database connection) = Some connection
 
@@ -94,6 +96,7 @@ HasRegistry g Nothing new = ⊥
 HasRegistry g (Texts texts) new = ⊥
 HasRegistry g Failed new = ⊥
 HasRegistry g Empty new = ⊥
+HasRegistry g OrphanedLog new = ⊥
 HasRegistry g (Fresh old) new = IsMadeIn (state g old) new
 HasRegistry g (Database old) new = OpensOver (state g old) new
 
@@ -103,6 +106,7 @@ LacksRegistry g Nothing back error = (back ≡ None) × (error ≡ Disk)
 LacksRegistry g (Texts texts) back error = (back ≡ None) × (error ≡ Disk)
 LacksRegistry g Failed back error = (back ≡ None) × (error ≡ Disk)
 LacksRegistry g Empty back error = (back ≡ None) × (error ≡ NotARegistry)
+LacksRegistry g OrphanedLog back error = (back ≡ None) × (error ≡ NotARegistry)
 LacksRegistry g (Fresh old) back error = GivesBack g back (λ new. LacksMade (state g old) new error)
 LacksRegistry g (Database old) back error = GivesBack g back (λ new. LacksFound (state g old) new error)
 
@@ -112,6 +116,7 @@ BeginsWith g Nothing was = ⊥
 BeginsWith g (Texts texts) was = ⊥
 BeginsWith g Failed was = ⊥
 BeginsWith g Empty was = ⊥
+BeginsWith g OrphanedLog was = ⊥
 BeginsWith g (Fresh old) was = ¬ ((state g old).now.schema ≢ no_schema) × (was ≡ new_stored)
 BeginsWith g (Database old) was = SpellsUnopened (state g old).now was
 
@@ -149,6 +154,7 @@ OverDatabase g Nothing P = ⊥
 OverDatabase g (Texts texts) P = ⊥
 OverDatabase g Failed P = ⊥
 OverDatabase g Empty P = ⊥
+OverDatabase g OrphanedLog P = ⊥
 OverDatabase g (Fresh old) P = ⊥
 OverDatabase g (Database old) P = P (state g old)
 
@@ -158,6 +164,7 @@ FindsNone g Nothing back error = LacksRegistry g Nothing back error
 FindsNone g (Texts texts) back error = LacksRegistry g (Texts texts) back error
 FindsNone g Failed back error = LacksRegistry g Failed back error
 FindsNone g Empty back error = LacksRegistry g Empty back error
+FindsNone g OrphanedLog back error = LacksRegistry g OrphanedLog back error
 FindsNone g (Fresh old) back error = (back ≡ Some old) × (error ≡ NotARegistry)
 FindsNone g (Database old) back error = LacksRegistry g (Database old) back error
 
@@ -213,6 +220,7 @@ MovesOn g Nothing back writer writer' outcome = (back ≡ None) × MovesNothing 
 MovesOn g (Texts texts) back writer writer' outcome = (back ≡ None) × MovesNothing writer writer' Disk outcome
 MovesOn g Failed back writer writer' outcome = (back ≡ None) × MovesNothing writer writer' Disk outcome
 MovesOn g Empty back writer writer' outcome = (back ≡ None) × MovesNothing writer writer' NotARegistry outcome
+MovesOn g OrphanedLog back writer writer' outcome = (back ≡ None) × MovesNothing writer writer' NotARegistry outcome
 MovesOn g (Fresh old) back writer writer' outcome = (back ≡ Some old) × MovesNothing writer writer' NotARegistry outcome
 MovesOn g (Database old) back writer writer' outcome = GivesBack g back (λ new. MovesAs (state g old) new writer writer' outcome)
 

@@ -3,12 +3,13 @@ use Rattle.std.specs.Prelude.{◌≡◌, ◌⊎◌, ℕ, List, ◌++◌, codes, 
 use Rattle.std.specs.Fmt.{decimal}
 use Rattle.std.specs.Io.KnownBytes.{Appends}
 use Rattle.sqlite.specs.State.{State}
+use Rattle.sqlite.specs.Tree.{Trees}
 use Rattle.reg_tables.specs.Reads.{OnlyReads}
 use Rattle.reg_store.specs.declared.error.StoreError.TheVariants.{Memory, Disk, NotARegistry, NewerLayout}
 use Rattle.reg_migrate.specs.declared.error.MigrateError.{MigrateError}
 use Rattle.reg_migrate.specs.declared.error.MigrateError.TheVariants as migrating
 use Rattle.reg_migrate.specs.Errors.{LeavesBefore}
-use Rattle.reg_migrate.specs.Migrations.{IsReasonOver, LosesNothing, Moves}
+use Rattle.reg_migrate.specs.Migrations.{IsReasonOver, LeavesMoved, LosesNothing, Moves}
 use Rattle.reg_http.specs.Output.{Begins}
 use Rattle.reg_jobs.specs.declared.outcome.Outcome.{Outcome}
 use Rattle.reg_jobs.specs.declared.outcome.Outcome.TheVariants.{Unopened, Moved}
@@ -35,12 +36,13 @@ pub record MovesTelling (old new : State) (writer writer' : Option (List ℕ)) (
   pub prints : PrintsLine (kept_line count) writer writer' printed
 
 -- Why a database wasn't moved: where its tables spell a registry in layout 1, for memory or the disk alone, and a newer layout is told, with its own
--- number. Nothing is committed; a crash leaves what it left before, but after `Disk` perhaps layout 2, and always what the tables spelled.
+-- number. Nothing is committed; a crash leaves what it left before, or perhaps layout 2 where layout 1 spelled a registry, and always what that spelled.
 pub record FailsToMove (old new : State) (error : MigrateError) : Type 0 where
-  pub reason : IsReasonOver old error
+  pub reason : IsReasonOver old new error
   pub only_reads : OnlyReads old new
   pub before : IsTrue old.is_open → LeavesBefore old new error
   pub found : LosesNothing old new
+  pub crash : (db : Trees) → new.may_leave db → old.may_leave db ⊎ LeavesMoved old.now db
 
 -- how a database comes out that wasn't moved: layout 2 has nothing to do, which is printed, and else nothing is
 abbrev pub TellsUnmoved : MigrateError → Option (List ℕ) → Option (List ℕ) → Outcome → Type 0

@@ -3,23 +3,25 @@ use Rattle.std.specs.Prelude.{◌≡◌, ⊤, ℕ, length, None, Some}
 use Rattle.reg_words.specs.declared.task.Job.{Job}
 use Rattle.reg_words.specs.declared.task.Job.TheVariants.{Run, Text as TextJob, Check as CheckJob, List as ListJob, Migrate, Audit}
 use Rattle.reg_jobs.specs.declared.job.Opened.{Opened}
-use Rattle.reg_jobs.specs.declared.job.Opened.TheVariants.{Nothing, Texts, Failed, Empty, Fresh, Database}
+use Rattle.reg_jobs.specs.declared.job.Opened.TheVariants.{Nothing, Texts, Failed, Empty, OrphanedLog, Fresh, Database}
 
--- a database for a job that may make its registry: it has one, or is empty, or can't be opened
+-- a database for a job that may make its registry: it has one, or is empty, or only its log is left, or it can't be opened
 abbrev pub OpensToRun : {S : Type 0} → Opened S → Type 0
 OpensToRun Nothing = ⊥
 OpensToRun (Texts texts) = ⊥
 OpensToRun Failed = ⊤
 OpensToRun Empty = ⊥
+OpensToRun OrphanedLog = ⊤
 OpensToRun (Fresh connection) = ⊤
 OpensToRun (Database connection) = ⊤
 
--- a database for a job that makes no registry: it is one, or its file holds nothing yet, or it can't be opened
+-- a database for a job that makes no registry: it is one, or its file holds nothing yet, or only its log is left, or it can't be opened
 abbrev pub OpensToList : {S : Type 0} → Opened S → Type 0
 OpensToList Nothing = ⊥
 OpensToList (Texts texts) = ⊥
 OpensToList Failed = ⊤
 OpensToList Empty = ⊤
+OpensToList OrphanedLog = ⊤
 OpensToList (Fresh connection) = ⊥
 OpensToList (Database connection) = ⊤
 
@@ -29,6 +31,7 @@ OpensTexts count Nothing = ⊥
 OpensTexts count (Texts texts) = length texts.items ≡ count
 OpensTexts count Failed = ⊥
 OpensTexts count Empty = ⊥
+OpensTexts count OrphanedLog = ⊥
 OpensTexts count (Fresh connection) = ⊥
 OpensTexts count (Database connection) = ⊥
 

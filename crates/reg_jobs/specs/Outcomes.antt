@@ -17,7 +17,7 @@ use Rattle.reg_jobs.specs.declared.moving.MoveOutcome.TheVariants.{Whole as Move
 use Rattle.reg_jobs.specs.declared.listings.ListOutcome.TheVariants.{Whole as ListedWhole, Unread, NotWritten as ListNotWritten, OutOfMemory as ListOutOfMemory}
 use Rattle.reg_jobs.specs.declared.outcome.Trouble.{Trouble}
 use Rattle.reg_jobs.specs.declared.outcome.Fault.{Fault}
-use Rattle.reg_jobs.specs.declared.outcome.Fault.TheVariants.{ReadFailed as FaultReadFailed, WriteFailed as FaultWriteFailed, MalformedInput as FaultMalformedInput, OutOfMemory as FaultOutOfMemory, CannotRead as FaultCannotRead, NotSchema as FaultNotSchema, CannotOpen as FaultCannotOpen, NotRegistry as FaultNotRegistry, OldLayout as FaultOldLayout, NewerLayout as FaultNewerLayout, CannotListen}
+use Rattle.reg_jobs.specs.declared.outcome.Fault.TheVariants.{ReadFailed as FaultReadFailed, WriteFailed as FaultWriteFailed, MalformedInput as FaultMalformedInput, OutOfMemory as FaultOutOfMemory, CannotRead as FaultCannotRead, NotSchema as FaultNotSchema, CannotOpen as FaultCannotOpen, NotRegistry as FaultNotRegistry, OldLayout as FaultOldLayout, NewerLayout as FaultNewerLayout, CannotListen, CannotAccept}
 use Rattle.reg_jobs.specs.declared.line.ErrorLine.{ErrorLine}
 use Rattle.reg_jobs.specs.declared.errors.Errors.{Errors}
 use Rattle.reg_jobs.specs.Errors.{Puts}
@@ -88,6 +88,7 @@ line_with FaultNotRegistry file digits = codes "avroreg: " ++ file ++ codes " is
 line_with (FaultOldLayout number) file digits = codes "avroreg: " ++ (file ++ (codes " has layout " ++ (digits ++ codes ", run migrate\n")))
 line_with (FaultNewerLayout number) file digits = codes "avroreg: " ++ (file ++ (codes " has layout " ++ (digits ++ codes ", newer than this program\n")))
 line_with (CannotListen port) file digits = codes "avroreg: cannot listen on port " ++ (digits ++ codes "\n")
+line_with CannotAccept file digits = codes "avroreg: cannot accept connections\n"
 
 -- the layout or the port that a fault names, 0 where it names none
 abbrev pub number_of : Fault → ℕ

@@ -33,6 +33,8 @@ pub enum Opened<S: Alter> {
     Failed,
     /// A file that holds nothing yet, for a job that makes no registry. It isn't opened.
     Empty,
+    /// A log whose database is missing or has no byte. It isn't opened.
+    OrphanedLog,
     /// An empty database, in which the job makes its registry.
     Fresh(Connection<S>),
     /// A database that has a registry.
@@ -113,8 +115,9 @@ fn run_in_memory<R: Read, W: Write>(alloc: Global, reader: &mut R, writer: &mut 
 ///
 /// # Errors
 ///
-/// `Disk` where no database was opened, `NotARegistry` for a file that holds nothing yet and for an empty
-/// database, which comes back as it is, and else why the database gives none, with the connection.
+/// `Disk` if no database was opened. `NotARegistry` for a file that holds nothing yet, for a log without its
+/// database, and for an empty database, which comes back unchanged. Otherwise why the database has no registry,
+/// with the connection.
 fn found_in<S: Alter + Drop>(
     alloc: Global,
     opened: Opened<S>,
@@ -128,6 +131,7 @@ fn found_in<S: Alter + Drop>(
         Opened::Database(connection) => open_in(alloc, connection),
         Opened::Fresh(connection) => Err((StoreError::NotARegistry, Some(connection))),
         Opened::Empty => Err((StoreError::NotARegistry, None)),
+        Opened::OrphanedLog => Err((StoreError::NotARegistry, None)),
         _ => Err((StoreError::Disk, None)),
     }
 }
@@ -136,8 +140,8 @@ fn found_in<S: Alter + Drop>(
 ///
 /// # Errors
 ///
-/// `Disk` where no database was opened, `NotARegistry` for a file that holds nothing yet, and else why the database gives none, with
-/// the connection.
+/// `Disk` if no database was opened. `NotARegistry` for a file that holds nothing yet, and for a log without its
+/// database. Otherwise why the database has no registry, with the connection.
 pub fn store_in<S: Alter + Drop>(
     alloc: Global,
     opened: Opened<S>,
@@ -231,6 +235,7 @@ fn move_on<S: Alter + Drop, W: Write>(
             )
         }
         Opened::Empty => (Outcome::Unopened(StoreError::NotARegistry), None),
+        Opened::OrphanedLog => (Outcome::Unopened(StoreError::NotARegistry), None),
         _ => (Outcome::Unopened(StoreError::Disk), None),
     }
 }

@@ -74,6 +74,7 @@ fn line_of<'a>(fault: Fault, file: &'a str, digits: &'a str) -> ErrorLine<'a>
             [" has layout ", digits, ", newer than this program\n"],
         ),
         Fault::CannotListen(_) => naming("avroreg: cannot listen on port ", "", [digits, "\n", ""]),
+        Fault::CannotAccept => naming_nothing("avroreg: cannot accept connections\n"),
     }
 }
 
@@ -96,7 +97,7 @@ fn put_line<E: Write + Drop>(errors: &mut Errors<E>, line: ErrorLine)
 }
 
 /// Writes the line for trouble.
-fn tell<E: Write + Drop>(errors: &mut Errors<E>, trouble: Trouble)
+pub fn tell<E: Write + Drop>(errors: &mut Errors<E>, trouble: Trouble)
     ensures { Puts E.contents errors.old errors.new (line_of trouble.entry.fault trouble.entry.file.now) }
 {
     let mut digits = Buffer::new();

@@ -1,15 +1,20 @@
 //! Connections to a listener, one after the other.
 
+ghost use Rattle.std.specs.Prelude.{◌≤◌, ℕ};
 ghost use Rattle.sqlite.specs.State.{HasCleanDisk};
 ghost use Rattle.reg_service.specs.Services.{state_in};
 ghost use Rattle.reg_http.specs.OverTables.{Over};
-ghost use Rattle.reg_jobs.specs.Listening.{ServesNext, ServesUpTo};
+ghost use Rattle.reg_jobs.specs.Listening.{ServesNext, ServesUpTo, ReportsAcceptFailures};
 
 mod ending;
 mod halves;
+mod pending;
 mod queue;
 mod timing;
 
+use crate::errors::Errors;
+use crate::line::tell;
+use crate::outcome::Fault;
 use ending::end;
 use halves::{Incoming, Outgoing};
 use queue::Queue;
@@ -17,12 +22,17 @@ use reg_http::serve;
 use reg_service::Service;
 use sqlite::Alter;
 use std::alloc::Global;
+use std::io::Write;
 use std::net::{TcpListener, TcpStream};
+use std::thread::sleep;
 use std::time::{Clock, Duration};
 use timing::{NoClock, SLICE, Timing};
 
-/// Sends small answers at once, and lets a read or a write wait for a slice. A connection that can't be
-/// told so is served all the same.
+/// How many milliseconds pass between two tries to accept a connection, after one has failed.
+const ACCEPT_PAUSE: u64 = 250;
+
+/// Sends small responses at once, and lets a read or a write wait for a slice. If the system refuses one of
+/// these options, the connection is served without it.
 fn prepare(stream: &TcpStream) {
     let slice = Some(Duration::from_millis(SLICE));
     let _ = stream.set_nodelay(true);
@@ -30,18 +40,47 @@ fn prepare(stream: &TcpStream) {
     let _ = stream.set_write_timeout(slice);
 }
 
-/// Serves the next connection to its end, however it ends. One that can't be accepted changes nothing.
-fn serve_next<C: Clock, S: Alter>(
+/// Retries until a connection is accepted, with a pause before each try. The system lacked a file descriptor
+/// or memory, and may have them again.
+fn retry_accept<C: Clock>(clock: &C, queue: &mut Queue<'_>) -> Option<TcpStream> {
+    for _ in 0..u64::MAX {
+        sleep(clock, Duration::from_millis(ACCEPT_PAUSE));
+        if let Ok(stream) = queue.next() {
+            return Some(stream);
+        }
+    }
+    None
+}
+
+/// The next connection. If none can be accepted, it reports that once and retries.
+fn accept_next<C: Clock, E: Write + Drop>(
+    clock: &C,
+    queue: &mut Queue<'_>,
+    errors: &mut Errors<E>,
+) -> Option<TcpStream>
+    ensures { ReportsAcceptFailures E.contents 1 errors.old errors.new }
+{
+    if let Ok(stream) = queue.next() {
+        return Some(stream);
+    }
+    tell(errors, Fault::CannotAccept.on(""));
+    retry_accept(clock, queue)
+}
+
+/// Serves the next connection to its end, however it ends.
+fn serve_next<C: Clock, S: Alter, E: Write + Drop>(
     alloc: Global,
     clock: &C,
     queue: &mut Queue<'_>,
     is_last: bool,
     service: &mut Service<S>,
+    errors: &mut Errors<E>,
 )
     ensures clean { HasCleanDisk (state_in service.new) → HasCleanDisk (state_in service.old) }
     ensures session { HasCleanDisk (state_in service.new) → Over (state_in service.old) (state_in service.new) ServesNext }
+    ensures reports { ReportsAcceptFailures E.contents 1 errors.old errors.new }
 {
-    let Ok(stream) = queue.next() else {
+    let Some(stream) = accept_next(clock, queue, errors) else {
         return;
     };
     prepare(&stream);
@@ -50,43 +89,49 @@ fn serve_next<C: Clock, S: Alter>(
     let mut reader = Incoming::of(&stream, &timing, queue);
     let mut writer = Outgoing::of(&stream, &timing);
     let ended = serve(alloc, &mut reader, &mut writer, service);
-    end(clock, &stream, ended, reader.has_ended());
+    end(clock, &stream, ended, reader.has_ended(), reader.has_more());
 }
 
-/// Serves so many connections, one after the other. One that can't be accepted counts as one.
+/// Serves so many connections, one after the other. If none can be accepted, it reports that on `errors`,
+/// once until the next one that can, and retries each quarter of a second.
 ///
-/// A connection is ended from which no byte came for ten seconds, or which takes none for as long. Where
-/// another waits, it gives way between two messages: after a quarter of a second without a byte, and once
-/// it has been served for a second. A message has thirty seconds to come, and its answer to be taken.
-pub fn serve_with_clock<C: Clock, S: Alter>(
+/// It closes a connection that sent no byte for ten seconds, or took none for as long. If another connection
+/// waits, it closes this one between two requests: after a quarter of a second without a byte, and after a
+/// second of service even if more requests have arrived. A request has thirty seconds to arrive, and its
+/// response to be taken.
+pub fn serve_with_clock<C: Clock, S: Alter, E: Write + Drop>(
     alloc: Global,
     clock: &C,
     listener: &TcpListener,
     connections: u32,
     service: &mut Service<S>,
+    errors: &mut Errors<E>,
 )
     ensures clean { HasCleanDisk (state_in service.new) → HasCleanDisk (state_in service.old) }
     ensures sessions { HasCleanDisk (state_in service.new)
         → Over (state_in service.old) (state_in service.new) (ServesUpTo connections) }
+    ensures reports { ReportsAcceptFailures E.contents connections errors.old errors.new }
 {
     let mut queue = Queue::of(listener);
     for number in 0..connections {
         let is_last = number + 1 == connections;
-        serve_next(alloc, clock, &mut queue, is_last, service);
+        serve_next(alloc, clock, &mut queue, is_last, service, errors);
     }
 }
 
-/// Does as `serve_with_clock` by a clock that stands still: a connection is ended, or gives way, only
-/// where it is silent.
-pub fn serve_on<S: Alter>(
+/// Does as `serve_with_clock` with a clock that stands still: only silence closes a connection, and there is
+/// no pause before an accept is retried.
+pub fn serve_on<S: Alter, E: Write + Drop>(
     alloc: Global,
     listener: &TcpListener,
     connections: u32,
     service: &mut Service<S>,
+    errors: &mut Errors<E>,
 )
     ensures clean { HasCleanDisk (state_in service.new) → HasCleanDisk (state_in service.old) }
     ensures sessions { HasCleanDisk (state_in service.new)
         → Over (state_in service.old) (state_in service.new) (ServesUpTo connections) }
+    ensures reports { ReportsAcceptFailures E.contents connections errors.old errors.new }
 {
-    serve_with_clock(alloc, &NoClock, listener, connections, service);
+    serve_with_clock(alloc, &NoClock, listener, connections, service, errors);
 }

@@ -45,6 +45,7 @@ pub enum Fault {
     OldLayout(u32),
     NewerLayout(u32),
     CannotListen(u16),
+    CannotAccept,
 }
 
 /// What failed, and on which file.

@@ -3,5 +3,6 @@
 
 mod accepting;
 mod connections;
+mod reading;
 mod sessions;
 mod turns;

@@ -1,5 +1,5 @@
-//! The end of a connection whose client may still be sending. Bytes that nobody reads have the system
-//! reset it, and a reset may reach the client before its last answer (RFC 9112, section 9.6).
+//! The end of a connection whose client may still be sending. If bytes stay unread, the system resets the
+//! connection, and a reset may reach the client before its last response (RFC 9112, section 9.6).
 
 use super::timing::{SLICE, has_passed, time};
 use reg_http::Ended;
@@ -7,17 +7,17 @@ use std::io::{ErrorKind, Read};
 use std::net::{Shutdown, TcpStream};
 use std::time::Clock;
 
-/// For how many seconds what still comes is read: time enough to take an answer, and those that wait
-/// wait as long.
+/// For how many seconds the server reads what a client still sends. In that time the client can take its last
+/// response. Other clients wait as long.
 const LINGER: u64 = 1;
 
-/// As many slices without a byte.
+/// The same time in slices without a byte.
 const SILENCE: u64 = LINGER * 1000 / SLICE;
 
 /// How much is dropped at once.
 const ROOM: usize = 16_384;
 
-/// Whether bytes are there unread. It waits for none.
+/// Whether unread bytes have arrived. It doesn't wait for any.
 pub fn has_bytes(stream: &TcpStream) -> bool {
     if stream.set_nonblocking(true).is_err() {
         return false;
@@ -50,19 +50,19 @@ fn drop_rest<C: Clock>(clock: &C, mut stream: &TcpStream) {
     }
 }
 
-/// Whether a client may be sending: it was answered a fault, and what came had no end yet; or bytes of it
-/// are there. One that ended the connection by its message sends nothing behind that, and isn't waited for.
-fn may_be_sending(stream: &TcpStream, ended: Ended, has_ended: bool) -> bool {
+/// Whether a client may still be sending: it got a fault before its input ended, or bytes of it have arrived
+/// that nobody read. A client whose request closed the connection sends nothing after it.
+fn may_be_sending(ended: Ended, has_ended: bool, has_more: bool) -> bool {
     match ended {
         Ended::Malformed => !has_ended,
-        Ended::Closed | Ended::ReadFailed | Ended::Memory => !has_ended && has_bytes(stream),
+        Ended::Closed | Ended::ReadFailed | Ended::Memory => !has_ended && has_more,
         Ended::WriteFailed => false,
     }
 }
 
-/// Ends a connection: where its client may be sending, what is written first.
-pub fn end<C: Clock>(clock: &C, stream: &TcpStream, ended: Ended, has_ended: bool) {
-    if may_be_sending(stream, ended, has_ended) && stream.shutdown(Shutdown::Write).is_ok() {
+/// Ends a connection. If its client may still be sending, the server closes its writing half first.
+pub fn end<C: Clock>(clock: &C, stream: &TcpStream, ended: Ended, has_ended: bool, has_more: bool) {
+    if may_be_sending(ended, has_ended, has_more) && stream.shutdown(Shutdown::Write).is_ok() {
         drop_rest(clock, stream);
     }
 }

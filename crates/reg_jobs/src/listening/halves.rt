@@ -1,26 +1,31 @@
-//! The two halves of a connection, which end it where its time is over, or where it gives way.
+//! The two halves of a connection: what is read from it and what is written to it. They end the connection
+//! if its time is over, or if it yields its turn to one that waits.
 
 ghost use Rattle.std.specs.Io.{ReadsAtMost, WritesAtMost};
 
 use super::ending::has_bytes;
+use super::pending::{Pending, Progress};
 use super::queue::Queue;
 use super::timing::{PATIENCE, Timing};
 use std::io::{self, ErrorKind, Read, Write};
 use std::net::TcpStream;
 use std::time::Clock;
 
-/// What comes over a connection.
+/// The bytes that a client sends. A read gives a part that ends one request at most, so that the connection
+/// can end between two requests that arrived together. Bytes that weren't given count as never received.
 #[derive(Drop)]
 pub struct Incoming<'a, 'b, C: Clock> {
     stream: &'a TcpStream,
     timing: &'a Timing<'a, C>,
     queue: &'a mut Queue<'b>,
-    gives_way: bool,
+    pending: Pending,
+    progress: Progress,
+    yields: bool,
     has_ended: bool,
 }
 
 impl<'a, 'b, C: Clock> Incoming<'a, 'b, C> {
-    /// What comes over a stream behind which those of a queue wait.
+    /// The bytes of a stream, while the connections of a queue wait.
     pub fn of(
         stream: &'a TcpStream,
         timing: &'a Timing<'a, C>,
@@ -30,48 +35,61 @@ impl<'a, 'b, C: Clock> Incoming<'a, 'b, C> {
             stream,
             timing,
             queue,
-            gives_way: false,
+            pending: Pending::new(),
+            progress: Progress::of_new_request(),
+            yields: false,
             has_ended: false,
         }
     }
 
-    /// Whether its end was read.
+    /// Whether the client ended its side, and all bytes before that were given.
     pub fn has_ended(&self) -> bool {
         self.has_ended
     }
 
-    /// Whether a connection between two messages gives way to one that waits. What came before that was
-    /// seen is served first.
-    fn has_given_way(&mut self, is_idle: bool) -> bool {
-        if self.gives_way {
+    /// Whether bytes of the client have arrived that weren't given.
+    pub fn has_more(&self) -> bool {
+        !self.pending.is_empty() || has_bytes(self.stream)
+    }
+
+    /// Whether the connection ends between two requests, since another one waits. A request that arrived
+    /// before the other connection was seen is still served, unless it was read together with an earlier one.
+    fn yields_now(&mut self, is_idle: bool) -> bool {
+        if self.yields {
             return true;
         }
         if is_idle || self.timing.has_had_its_turn() {
-            self.gives_way = self.queue.has_next();
+            self.yields = self.queue.has_next();
         }
-        self.gives_way && !has_bytes(self.stream)
+        self.yields && (!self.pending.is_empty() || !has_bytes(self.stream))
     }
 
-    /// Whether nothing more is to be read.
+    /// Whether nothing more is read.
     fn is_over(&mut self, is_idle: bool) -> bool {
         if self.timing.is_between() {
-            self.has_given_way(is_idle)
+            self.yields_now(is_idle)
         } else {
-            self.timing.is_late()
+            self.pending.is_empty() && self.timing.is_late()
         }
     }
 
-    /// Reads once, and waits for a slice.
-    fn read_slice(&mut self, buf: &mut [u8]) -> io::Result<usize>
+    /// Gives the next part of the pending bytes. If there are none it reads once, and waits for a slice.
+    fn read_part(&mut self, buf: &mut [u8]) -> io::Result<usize>
         ensures { ReadsAtMost result buf.new }
     {
-        let mut stream = self.stream;
-        let count = stream.read(buf)?;
-        if count == 0 {
-            self.has_ended = true;
-        } else {
-            self.timing.begin_message();
+        if self.pending.is_empty() {
+            let mut stream = self.stream;
+            if self.pending.fill(&mut stream)? == 0 {
+                self.has_ended = true;
+                return Ok(0);
+            }
         }
+        if self.timing.is_between() {
+            self.timing.begin_message();
+            self.progress = Progress::of_new_request();
+        }
+        let (count, progress) = self.pending.give_part(self.progress, buf);
+        self.progress = progress;
         Ok(count)
     }
 }
@@ -82,7 +100,7 @@ impl<'a, 'b, C: Clock> Read for Incoming<'a, 'b, C> {
             if self.is_over(slices > 0) {
                 break;
             }
-            match self.read_slice(buf) {
+            match self.read_part(buf) {
                 Err(error) if error.kind() == ErrorKind::WouldBlock => {}
                 read => return read,
             }
@@ -91,7 +109,7 @@ impl<'a, 'b, C: Clock> Read for Incoming<'a, 'b, C> {
     }
 }
 
-/// What goes over a connection, an answer after the other.
+/// The responses to a client, one after the other.
 #[derive(Drop)]
 pub struct Outgoing<'a, C: Clock> {
     stream: &'a TcpStream,
@@ -99,12 +117,12 @@ pub struct Outgoing<'a, C: Clock> {
 }
 
 impl<'a, C: Clock> Outgoing<'a, C> {
-    /// What goes over a stream.
+    /// The responses over a stream.
     pub fn of(stream: &'a TcpStream, timing: &'a Timing<'a, C>) -> Outgoing<'a, C> {
         Outgoing { stream, timing }
     }
 
-    /// Writes once what is left of an answer, and waits for a slice.
+    /// Writes the rest of a response once, and waits for a slice.
     fn write_slice(&mut self, buf: &[u8]) -> io::Result<usize>
         ensures { WritesAtMost result buf.now }
     {

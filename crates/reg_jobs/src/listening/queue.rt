@@ -7,7 +7,7 @@ use std::net::{TcpListener, TcpStream};
 #[derive(Drop)]
 pub struct Queue<'a> {
     listener: &'a TcpListener,
-    found: Option<io::Result<TcpStream>>,
+    found: Option<TcpStream>,
     asks: bool,
 }
 
@@ -21,32 +21,31 @@ impl<'a> Queue<'a> {
         }
     }
 
-    /// Says whether `has_next` asks the listener. It doesn't either where the listener can't be told not
-    /// to wait.
+    /// Sets whether `has_next` asks the listener. If the listener can't be made not to wait, it doesn't ask.
     pub fn ask(&mut self, asks: bool) {
         self.asks = asks && self.listener.set_nonblocking(true).is_ok();
     }
 
-    /// Whether a connection is there, or one that couldn't be accepted. It waits for none.
+    /// Whether a connection waits. It is accepted then. It doesn't wait for one. If an accept fails, a
+    /// connection may wait, and can be accepted once the current one is closed.
     pub fn has_next(&mut self) -> bool {
         if self.asks && self.found.is_none() {
-            self.found = match self.listener.accept() {
-                Ok((stream, _)) => Some(Ok(stream)),
-                Err(error) if error.kind() == io::ErrorKind::WouldBlock => None,
-                Err(error) => Some(Err(error)),
-            };
+            match self.listener.accept() {
+                Ok((stream, _)) => self.found = Some(stream),
+                Err(error) => return error.kind() != io::ErrorKind::WouldBlock,
+            }
         }
         self.found.is_some()
     }
 
-    /// The next connection. It waits for one where none is there.
+    /// The next connection. It waits for one.
     ///
     /// # Errors
     ///
     /// That of the accept.
     pub fn next(&mut self) -> io::Result<TcpStream> {
-        if let Some(found) = self.found.take() {
-            return found;
+        if let Some(stream) = self.found.take() {
+            return Ok(stream);
         }
         self.listener.set_nonblocking(false)?;
         let (stream, _) = self.listener.accept()?;

@@ -1,9 +1,10 @@
 //! What a server does, without what it promises.
 
-use reg_jobs::{serve_on, serve_with_clock};
+use reg_jobs::{Errors, serve_on, serve_with_clock};
 use reg_service::Service;
 use sqlite::Alter;
 use std::alloc::Global;
+use std::io::sink;
 use std::net::TcpListener;
 use std::time::Clock;
 
@@ -14,7 +15,7 @@ pub(super) fn accept<S: Alter>(
     count: u32,
     service: &mut Service<S>,
 ) {
-    serve_on(alloc, listener, count, service);
+    serve_on(alloc, listener, count, service, &mut Errors::to(sink()));
 }
 
 /// Serves so many connections by a clock.
@@ -25,5 +26,12 @@ pub(super) fn accept_by<C: Clock, S: Alter>(
     count: u32,
     service: &mut Service<S>,
 ) {
-    serve_with_clock(alloc, clock, listener, count, service);
+    serve_with_clock(
+        alloc,
+        clock,
+        listener,
+        count,
+        service,
+        &mut Errors::to(sink()),
+    );
 }

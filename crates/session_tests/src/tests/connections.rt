@@ -49,7 +49,8 @@ enum By {
 /// What a client sends, how many blanks behind it, whether it shuts its writing half then, and what comes back.
 type Client = (&'static str, usize, bool, &'static str);
 
-/// A clock, clients, how many of them are served by each call, and how many milliseconds that takes at least and less than.
+/// A clock, clients, how many of them are served by each call, and bounds: so many milliseconds at least, and less than so
+/// many.
 type Row = (By, &'static [Client], &'static [u32], u128, u128);
 
 /// The third is cut inside a message, which has no answer.
@@ -61,7 +62,7 @@ const IN_TURN: [Client; 5] = [
     (GET, 0, true, IS_FULL),
 ];
 
-/// The first is idle, and gives way.
+/// The first is idle, and yields its turn.
 const IDLE: [Client; 2] = [(GET, 0, false, IS_BACKWARD), (SET_FULL, 0, true, FULL_SET)];
 
 /// The answer comes before the rest of the message, and is read whole.
@@ -73,18 +74,30 @@ const LATE: [Client; 1] = [(CUT, 0, false, "")];
 /// No more are accepted than are served: the second waits, and the first has had its turn.
 const ONE_EACH: [Client; 2] = [(GET, 0, true, IS_BACKWARD), (GET, 0, true, IS_BACKWARD)];
 
-const ROWS: [Row; 9] = [
-    (By::None, &IN_TURN, &[4, 1], 0, 5000),
-    (By::Host, &IN_TURN, &[4, 1], 0, 5000),
-    (By::None, &IDLE, &[2], 250, 1000),
-    (By::Host, &IDLE, &[2], 250, 1000),
-    // one that has had its turn needn't be waited for
-    (By::Leaping, &IDLE, &[2], 0, 1000),
-    (By::None, &ANSWERED_EARLY, &[1], 0, 5000),
-    (By::Host, &ANSWERED_EARLY, &[1], 0, 5000),
-    (By::Leaping, &LATE, &[1], 0, 1000),
-    (By::Leaping, &ONE_EACH, &[1, 1], 0, 1000),
+/// A write and two reads, which come together.
+const TOGETHER: &str =
+    "PUT /config HTTP/1.1\r\nContent-Length: 24\r\n\r\n{\"compatibility\":\"FULL\"}GET /config HTTP/1.1\r\n\r\nGET /config HTTP/1.1\r\n\r\n";
+
+/// The first of the messages that came together has its answer, and then the connection yields its turn.
+const MANY: [Client; 2] = [(TOGETHER, 0, true, FULL_SET), (GET, 0, true, IS_FULL)];
+
+const ROWS: [Row; 10] = [
+    (By::None, &IN_TURN, &[4, 1], 0, 1000),
+    (By::Host, &IN_TURN, &[4, 1], 0, 1000),
+    // the idle one is waited for once
+    (By::None, &IDLE, &[2], 250, 500),
+    (By::Host, &IDLE, &[2], 250, 500),
+    // one that has had its turn is not waited for
+    (By::Leaping, &IDLE, &[2], 0, 250),
+    (By::None, &ANSWERED_EARLY, &[1], 0, 2000),
+    (By::Host, &ANSWERED_EARLY, &[1], 0, 2000),
+    (By::Leaping, &LATE, &[1], 250, 1000),
+    (By::Leaping, &ONE_EACH, &[1, 1], 0, 250),
+    (By::Leaping, &MANY, &[2], 0, 250),
 ];
+
+/// How often a row is tried that took too long: the machine may be busy.
+const TRIES: u32 = 3;
 
 /// Serves so many connections by each call.
 #[derive(Drop)]
@@ -139,9 +152,9 @@ fn expect(alloc: Global, stream: &mut TcpStream, text: &str) -> Result<(), Fail>
     Err(Fail::new(format_args!("another answer than {text}")))
 }
 
-/// Serves the clients of a row, each of which has what is due.
-fn are_served(rt: &HostRuntime, row: &Row) -> Result<(), Fail> {
-    let (by, clients, counts, least, most) = *row;
+/// Serves the clients of a row, each of which has its responses, and returns how many milliseconds that took.
+fn time_of(rt: &HostRuntime, row: &Row) -> Result<u128, Fail> {
+    let (by, clients, counts, _, _) = *row;
     let listener = TcpListener::bind(rt, (Ipv4Addr::LOCALHOST, 0))?;
     let mut streams = Vec::new(rt.alloc());
     for client in clients {
@@ -156,13 +169,23 @@ fn are_served(rt: &HostRuntime, row: &Row) -> Result<(), Fail> {
     };
     in_memory(rt.alloc(), &mut task)?;
     let took = begun.elapsed(rt)?.as_millis();
-    if took < least || most <= took {
-        return Err(Fail::new(format_args!("it took {took} ms")));
-    }
     for (stream, client) in streams.iter_mut().zip(clients) {
         expect(rt.alloc(), stream, client.3)?;
     }
-    Ok(())
+    Ok(took)
+}
+
+/// Serves the clients of a row in due time.
+fn are_served(rt: &HostRuntime, row: &Row) -> Result<(), Fail> {
+    let (_, _, _, least, most) = *row;
+    let mut took = 0;
+    for _ in 0..TRIES {
+        took = time_of(rt, row)?;
+        if least <= took && took < most {
+            return Ok(());
+        }
+    }
+    Err(Fail::new(format_args!("it took {took} ms")))
 }
 
 #[test]

@@ -60,8 +60,6 @@ struct Connection<'a> {
     writes: usize,
     takes_nothing: bool,
     due: Due<'a>,
-    /// How it ends where nothing was read.
-    unread: Ended,
 }
 
 /// One that doesn't fail.
@@ -72,7 +70,6 @@ fn whole<'a>(due: Due<'a>) -> Connection<'a> {
         writes: usize::MAX,
         takes_nothing: false,
         due,
-        unread: due.1,
     }
 }
 
@@ -95,12 +92,7 @@ impl<'a> Connection<'a> {
             takes_nothing: self.takes_nothing,
         };
         let ended = served(alloc, &mut reader, &mut writer, service);
-        let due = if reader.left.len() == input.len() {
-            self.unread
-        } else {
-            self.due.1
-        };
-        is_due(writer.taken.as_slice(), ended, (self.due.0, due))
+        is_due(writer.taken.as_slice(), ended, self.due)
     }
 }
 
@@ -181,18 +173,14 @@ fn each_write_fails_in_turn(rt: HostRuntime) -> Result<(), Fail> {
     Ok(())
 }
 
-/// A body that is cut has no answer. Where room is refused, nothing was read: with each request for memory refused in
-/// turn, so is each that comes before the first read, and none comes after it.
+/// A body that is cut has no answer.
 #[test]
 fn a_cut_body_has_no_answer(rt: HostRuntime) -> Result<(), Fail> {
     let alloc = rt.alloc();
     let body = " ".repeat(alloc, 1_000_000)?;
     let head = "PUT /config HTTP/1.1\r\nContent-Length: 1048576\r\n\r\n";
     let input = joined(alloc, &[head, &body])?;
-    let nothing = input.get(..0).ok_or("no beginning")?;
-    let mut cut = whole((nothing, Ended::Malformed));
-    cut.unread = Ended::Memory;
-    let over = [cut];
+    let over = [whole(("", Ended::Malformed))];
     let mut task = Sent {
         input: input.as_str(),
         over: &over,

@@ -9,7 +9,7 @@ returns-then-not-is_autocommit-clause-fault g c =
     record { connection = c.args.connection; given = refl; holds = λ clean. inl (busy, refl) }
 
 pub returns-in-Ok-clause-done : goal.returns-in-Ok-clause-done
-returns-in-Ok-clause-done g c clean = record { empty = λ full. c.in-Ok.ensures.full full; spells = λ is_open. c.in-Ok.ensures.done clean }
+returns-in-Ok-clause-done g c clean = record { empty = λ full. c.in-Ok.ensures.full full; spells = c.in-Ok.ensures.done clean }
 
 pub returns-in-Err-clause-fault : goal.returns-in-Err-clause-fault
 returns-in-Err-clause-fault g c =

@@ -18,6 +18,7 @@ returns g c clean =
           only_reads = rw w.in-Err.is at moved.leaves.nothing clean;
           before = rw w.in-Err.is at moved.leaves.before clean;
           found = moved.found clean;
+          crash = moved.crash clean;
         };
         tells = w.tell_unmoved-outcome.ensures;
       })))

@@ -1,0 +1,215 @@
+//! A client that asks for many large responses at once, and reads them slowly or not at all. Client and server share one
+//! thread: the client reads at each look at the clock.
+
+use super::accepting::accept_by;
+use super::sessions::served;
+use reg_service::Service;
+use reg_testing::{GET, IS_BACKWARD, OnService, in_memory, joined};
+use sqlite::Alter;
+use std::alloc::Global;
+use std::cell::Cell;
+use std::io::{self, Read, Write};
+use std::net::{Ipv4Addr, Shutdown, TcpListener, TcpStream};
+use std::test::Fail;
+use std::time::{Clock, Duration, Instant};
+
+/// How often the client asks at once. The responses, of 100 KB each, are more than the system's buffers hold.
+const MANY: usize = 200;
+
+const ASK: &str = "GET /schemas/ids/1 HTTP/1.1\r\n\r\n";
+
+/// How many bytes are read at most at once.
+const ROOM: usize = 65_536;
+
+/// What a client has read of a response that comes again and again.
+#[derive(Drop)]
+struct Taken<'a> {
+    stream: &'a TcpStream,
+    response: &'a [u8],
+    count: Cell<usize>,
+    is_due: Cell<bool>,
+}
+
+impl<'a> Taken<'a> {
+    /// Reads once, and returns how many bytes came.
+    fn take(&self, most: usize) -> io::Result<usize> {
+        let mut stream = self.stream;
+        let mut room = [0u8; ROOM];
+        let count = stream.read(&mut room[..most.min(ROOM)])?;
+        for byte in &room[..count] {
+            let at = self.count.get();
+            if self.response.get(at % self.response.len().max(1)) != Some(byte) {
+                self.is_due.set(false);
+            }
+            self.count.set(at.saturating_add(1));
+        }
+        Ok(count)
+    }
+
+    /// Reads up to the end.
+    fn take_rest(&self) -> io::Result<()> {
+        for _ in 0..u64::MAX {
+            if self.take(ROOM)? == 0 {
+                break;
+            }
+        }
+        Ok(())
+    }
+}
+
+/// A clock on which so many milliseconds pass between two looks. At each look the client reads so many bytes at most.
+#[derive(Drop)]
+struct Reading<'a> {
+    taken: &'a Taken<'a>,
+    step: u64,
+    most: usize,
+    looks: Cell<u64>,
+}
+
+impl<'a> Clock for Reading<'a> {
+    fn monotonic(&self) -> io::Result<Duration> {
+        if self.most > 0 {
+            let _ = self.taken.take(self.most);
+        }
+        self.looks.set(self.looks.get().saturating_add(1));
+        Ok(Duration::from_millis(self.looks.get().saturating_mul(self.step)))
+    }
+
+    fn since_1970(&self) -> io::Result<Duration> {
+        self.monotonic()
+    }
+}
+
+/// How many bytes the client reads at each look, how many milliseconds pass between two, whether another client waits, and
+/// bounds: so many milliseconds at least, and less than so many.
+type Row = (usize, u64, bool, u128, u128);
+
+const ROWS: [Row; 2] = [
+    // nothing is taken of a response for thirty seconds of this clock
+    (0, 10_000, false, 250, 1000),
+    // the turn is over after a second of this clock
+    (ROOM, 100, true, 0, 500),
+];
+
+/// How often a row is tried that took too long: the machine may be busy.
+const TRIES: u32 = 3;
+
+/// Registers a schema of 100 KB, and returns the response that has it.
+fn large_response<S: Alter + Drop>(
+    alloc: Global,
+    service: &mut Service<S>,
+) -> Result<Vec<u8>, Fail> {
+    let doc = "x".repeat(alloc, 100_000)?;
+    let head = "POST /subjects/s/versions HTTP/1.1\r\nContent-Length: 100044\r\n\r\n";
+    let front = "{\"schema\":\"{\\\"type\\\":\\\"int\\\",\\\"doc\\\":\\\"";
+    let input = joined(alloc, &[head, front, &doc, "\\\"}\"}"])?;
+    let mut registered = Vec::new(alloc);
+    served(alloc, &mut input.as_bytes(), &mut registered, service);
+    let mut response = Vec::new(alloc);
+    served(alloc, &mut ASK.as_bytes(), &mut response, service);
+    Ok(response)
+}
+
+/// Serves the clients of a row, and measures how many milliseconds that takes.
+#[derive(Drop)]
+struct Serve<'a> {
+    rt: &'a HostRuntime,
+    row: Row,
+    took: u128,
+}
+
+impl<'a> Serve<'a> {
+    /// A connection over which a client has sent what it sends.
+    fn sent(&self, listener: &TcpListener, text: &str) -> Result<TcpStream, Fail> {
+        let mut stream = TcpStream::connect(self.rt, listener.local_addr()?)?;
+        stream.write_all(text.as_bytes())?;
+        stream.shutdown(Shutdown::Write)?;
+        Ok(stream)
+    }
+
+    /// Serves both clients, or the first alone.
+    fn serve<S: Alter + Drop>(
+        &mut self,
+        alloc: Global,
+        listener: &TcpListener,
+        taken: &Taken<'_>,
+        service: &mut Service<S>,
+    ) -> Result<(), Fail> {
+        let (most, step, has_other, _, _) = self.row;
+        let clock = Reading {
+            taken,
+            step,
+            most,
+            looks: Cell::new(0),
+        };
+        let begun = Instant::now(self.rt)?;
+        accept_by(
+            alloc,
+            &clock,
+            listener,
+            if has_other { 2 } else { 1 },
+            service,
+        );
+        self.took = begun.elapsed(self.rt)?.as_millis();
+        Ok(())
+    }
+}
+
+impl<'a> OnService for Serve<'a> {
+    fn work<S: Alter + Drop>(
+        &mut self,
+        alloc: Global,
+        service: &mut Service<S>,
+    ) -> Result<(), Fail> {
+        let response = large_response(alloc, service)?;
+        let listener = TcpListener::bind(self.rt, (Ipv4Addr::LOCALHOST, 0))?;
+        let first = self.sent(&listener, &ASK.repeat(alloc, MANY)?)?;
+        let mut second = self.sent(&listener, GET)?;
+        let taken = Taken {
+            stream: &first,
+            response: response.as_slice(),
+            count: Cell::new(0),
+            is_due: Cell::new(true),
+        };
+        first.set_nonblocking(true)?;
+        self.serve(alloc, &listener, &taken, service)?;
+        first.set_nonblocking(false)?;
+        taken.take_rest()?;
+        let count = taken.count.get();
+        if !taken.is_due.get() || count == 0 || count >= response.len().saturating_mul(MANY) {
+            return Err(Fail::new(format_args!("{count} bytes came")));
+        }
+        if !self.row.2 {
+            return Ok(());
+        }
+        let mut other = Vec::new(alloc);
+        second.read_to_end(&mut other)?;
+        if count % response.len().max(1) != 0 || other.as_slice() != IS_BACKWARD.as_bytes() {
+            return Err("a response was cut, or the other client had none".into());
+        }
+        Ok(())
+    }
+}
+
+/// A client that reads nothing of a response is closed after its time. One that reads slowly yields its turn: it has whole
+/// responses, and another client has its own.
+#[test]
+fn slow_readers_hold_up_others_for_a_turn(rt: HostRuntime) -> Result<(), Fail> {
+    for row in ROWS {
+        let mut task = Serve {
+            rt: &rt,
+            row,
+            took: 0,
+        };
+        for _ in 0..TRIES {
+            in_memory(rt.alloc(), &mut task)?;
+            if row.3 <= task.took && task.took < row.4 {
+                break;
+            }
+        }
+        if task.took < row.3 || row.4 <= task.took {
+            return Err(Fail::new(format_args!("it took {} ms", task.took)));
+        }
+    }
+    Ok(())
+}
