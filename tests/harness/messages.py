@@ -124,12 +124,18 @@ def answered(case, line):
     return fault(int(line.word), **fields)
 
 
+def first_answer(left, wanted):
+    """The first response of these bytes if their head gives its length, else as many bytes as `wanted` has and some more."""
+    head = re.match(rb"(?s).*?\r\nContent-Length: (\d+)\r\n.*?\r\n\r\n", left)
+    return left[: head.end() + int(head[1])] if head else left[: len(wanted) + 400]
+
+
 def are_answers(due, ran, ends):
     """Holds the answers of a run to those due, one after the other, and then how it ended."""
     left = ran.stdout
     for where, wanted in due:
         if not left.startswith(wanted):
-            differs(where, wanted.decode(), left[: len(wanted) + 400].decode(errors="backslashreplace"))
+            differs(where, wanted, first_answer(left, wanted))
         left = left[len(wanted) :]
     if left:
         differs("behind the last answer", "", left.decode(errors="backslashreplace"))

@@ -24,5 +24,5 @@ def resolves(where, texts, verdict, folder):
     for name, text in zip(("writer", "reader"), texts):
         written(folder, name, text)
     ran = run(["check", "--reader", "reader", "--writer", "writer"], folder=folder)
-    said = f"{where}: writer {shown(texts[0])}, reader {shown(texts[1])}"
+    said = f"{where}: avroreg check\n  writer: {shown(texts[0])}\n  reader: {shown(texts[1])}"
     held(said, (STATUSES[verdict], f"{verdict}\n", ""), ran)

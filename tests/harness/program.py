@@ -1,7 +1,9 @@
 """The program under test: runs of it, servers of it, and what becomes of both."""
 
+import difflib
 import itertools
 import os
+import pprint
 import shlex
 import socket
 import subprocess
@@ -10,19 +12,50 @@ import time
 
 TESTS = os.path.dirname(os.path.dirname(os.path.abspath(__file__)))
 PROGRAM = os.path.abspath(os.environ.get("AVROREG", f"{TESTS}/../crates/avroreg/out/avroreg"))
-SECONDS = 60
+# How long one run may take. A program that was compiled without proofs isn't optimized, and gets more.
+SECONDS = int(os.environ.get("SECONDS", 60))
 
 
 class Wrong(Exception):
-    """A case that can't be read, or whose outcome isn't what is due."""
+    """A case that can't be read, or whose outcome isn't the expected one."""
 
 
 def differs(where, due, came):
-    raise Wrong(f"{where}\n  due:  {shown(due)}\n  came: {shown(came)}")
+    raise Wrong(f"{where}\n{difference(due, came)}")
 
 
-def shown(value):
-    text = value if isinstance(value, str) else repr(value)
+def difference(due, came):
+    """The expected and the actual outcome as a diff. A carriage return is shown only if the texts differ in nothing else."""
+    sides = [text_of(due), text_of(came)]
+    plain = [it.replace("\r\n", "\n") for it in sides]
+    sides = [it.replace("\r", "\\r") for it in sides] if plain[0] == plain[1] else plain
+    lines = difflib.unified_diff(*(it.split("\n") for it in sides), "expected", "actual", n=8, lineterm="")
+    return "\n".join(f"    {shown(it)}" for it in lines)
+
+
+def text_of(outcome):
+    """An outcome as lines: a text, bytes, rows, a status with both outputs, or another value of Python."""
+    match outcome:
+        case str():
+            return outcome
+        case bytes():
+            return outcome.decode(errors="backslashreplace")
+        case None:
+            return "(no file)"
+        case (int(status), str(out), str(err)):
+            return f"status {status}\nstandard output:\n{out}\nstandard error:\n{err}"
+        case [*rows] if all(isinstance(it, str) for it in rows):
+            return "\n".join(rows)
+    return pprint.pformat(outcome, width=160)
+
+
+def sent_with(where, message):
+    """A place in a file of cases, with the request that was sent there."""
+    lines = message.decode(errors="backslashreplace").replace("\r\n", "\n").rstrip("\n").split("\n") if message else []
+    return "\n".join([where, *["  request:"] * bool(lines), *(f"    > {shown(it)}" for it in lines)])
+
+
+def shown(text):
     return text if len(text) <= 2000 else f"{text[:1000]} .. {len(text)} characters .. {text[-500:]}"
 
 
@@ -85,13 +118,13 @@ def held(where, due, ran):
 
 
 def served(folder, name, connections, talk):
-    """What `talk` gives with a server over a file that takes so many connections, and how the server ended. It is handed
-    the way to a connection."""
+    """What `talk` returns with a server over a file that takes so many connections, and how the server ended. `talk` gets
+    a function that connects, and the server's process."""
     for _ in range(5):
         port = free_port()
         server = started(["serve", "--db", name, "--port", str(port), "--connections", str(connections)], folder)
         try:
-            came = talk(lambda: connected(server, port))
+            came = talk(lambda: connected(server, port), server)
             out, err = server.communicate(timeout=SECONDS)
             return came, ended(server.returncode, out, err)
         except PortTaken:

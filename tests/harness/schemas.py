@@ -1,7 +1,7 @@
 """A text, and the identity text of the schema that it denotes, or that it denotes none."""
 
 from .messages import CLOSED, answer, are_answers, fault, request
-from .program import Wrong, held, run, shown, written
+from .program import Wrong, held, run, sent_with, shown, written
 from .reading import quote
 
 BODY_LIMIT = 1_048_576
@@ -27,10 +27,10 @@ def is_printed(where, text, identity, folder):
     """Prints the text's identity, and then that of the identity text, which is itself."""
     none = (2, "", "avroreg: S is not a schema\n")
     written(folder, "S", text)
-    held(f"{where}: {shown(text)}", none if identity is None else (0, f"{identity}\n", ""), run(["text", "S"], folder=folder))
+    held(f"{where}: avroreg text\n  schema: {shown(text)}", none if identity is None else (0, f"{identity}\n", ""), run(["text", "S"], folder=folder))
     if identity is not None:
         written(folder, "S", identity)
-        held(f"{where}: the identity text read again", (0, f"{identity}\n", ""), run(["text", "S"], folder=folder))
+        held(f"{where}: avroreg text, of the identity text\n  schema: {shown(identity)}", (0, f"{identity}\n", ""), run(["text", "S"], folder=folder))
 
 
 def are_registered(wanted):
@@ -40,12 +40,14 @@ def are_registered(wanted):
         body = f'{{"schema":{quote(text)}}}'
         if len(body.encode()) > BODY_LIMIT:
             continue
-        given += request("POST", f"/subjects/s{at}/versions", body)
+        sent = request("POST", f"/subjects/s{at}/versions", body)
+        given += sent
         if identity is None:
-            due.append((f"{where}, registered", fault(42201)))
+            due.append((sent_with(f"{where}, registered", sent), fault(42201)))
         else:
             number = ids.setdefault(identity, len(ids) + 1)
-            due.append((f"{where}, registered", answer(200, f'{{"id":{number}}}')))
-            given += request("GET", f"/subjects/s{at}/versions/latest/schema")
-            due.append((f"{where}, registered and read", answer(200, identity)))
+            due.append((sent_with(f"{where}, registered", sent), answer(200, f'{{"id":{number}}}')))
+            sent = request("GET", f"/subjects/s{at}/versions/latest/schema")
+            given += sent
+            due.append((sent_with(f"{where}, registered and read", sent), answer(200, identity)))
     are_answers(due, run(["run"], given), CLOSED)

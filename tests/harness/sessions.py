@@ -3,11 +3,13 @@
 import re
 import socket
 
+from .clients import LENGTHS, pieces, run_in_pieces, sent_in_pieces
 from .messages import CLOSED, MALFORMED, answered, are_answers, requested
-from .program import Wrong, ended, held, run, scratch, served
+from .program import Wrong, ended, held, run, scratch, sent_with, served
 from .tables import asked, shows
 
 
+CUT, IN_PIECES = "cut at every byte", "in pieces"
 STATUSES = {"evidence holds": 0, "evidence does not hold": 1}
 
 
@@ -22,11 +24,13 @@ class Run:
 
 
 def check(case, folder):
-    runs, cut = runs_of(case)
+    runs, flags = runs_of(case)
     if len(runs) == 1:
         are_answers(runs[0].due, run(["run"], runs[0].input()), runs[0].ends)
-    if cut:
+    if CUT in flags:
         is_cut(runs[0])
+    if IN_PIECES in flags:
+        comes_in_pieces(runs[0], folder)
     for form in (over_a_file, through_a_socket):
         with scratch() as inner:
             try:
@@ -40,11 +44,11 @@ def check(case, folder):
 
 
 def runs_of(case):
-    """The runs of a session, and whether it is cut at every byte too. What is looked at in the file ends a run."""
-    runs, cut = [Run()], False
+    """The runs of a session, and how its bytes are sent too. What is looked at in the file ends a run."""
+    runs, flags = [Run()], []
     for line in case.lines:
-        if line.text == "cut at every byte":
-            cut = True
+        if line.text in (CUT, IN_PIECES):
+            flags.append(line.text)
         elif line.text == "restart":
             runs.append(Run())
         elif line.word in ("list", "rows", "sql", "audit"):
@@ -53,7 +57,7 @@ def runs_of(case):
             if runs[-1].after:
                 runs.append(Run())
             said(case, line, runs[-1])
-    return runs, cut
+    return runs, flags
 
 
 def said(case, line, it):
@@ -64,7 +68,9 @@ def said(case, line, it):
     elif line.text == "ends malformed":
         it.ends = MALFORMED
     elif re.fullmatch(r"\d{3}|\d{5}", line.word):
-        it.due.append((line.where, answered(case, line)))
+        # (a request has one response, unless `bytes` sends several requests)
+        message = it.given[min(len(it.due), len(it.given) - 1)] if it.given else b""
+        it.due.append((sent_with(line.where, message), answered(case, line)))
     else:
         raise Wrong(f"{line.where}: neither a request nor an answer: {line.text}")
 
@@ -79,12 +85,21 @@ def is_cut(it):
         are_answers(it.due[:count], run(["run"], whole[:size]), CLOSED if between else MALFORMED)
 
 
+def comes_in_pieces(it, folder):
+    """The session's requests again and again, in pieces of each length: over standard input, and through a socket."""
+    parts, due = pieces(it.input()), it.due * len(LENGTHS)
+    are_answers(due, run_in_pieces(["run"], parts, folder), it.ends)
+    came, end = served(folder, "P", 1, lambda connect, _: sent_in_pieces(connect(), parts))
+    held("the end of the server", (0, "", ""), end)
+    are_answers(due, ended(0, came, b""), CLOSED)
+
+
 def over_a_file(it, folder):
     are_answers(it.due, run(["run", "--db", "F"], it.input(), folder), it.ends)
 
 
 def through_a_socket(it, folder):
-    came, end = served(folder, "F", 1, lambda connect: talked(connect(), it))
+    came, end = served(folder, "F", 1, lambda connect, _: talked(connect(), it))
     held("the end of the server", (0, "", ""), end)
     are_answers(it.due, ended(0, came, b""), CLOSED)
 

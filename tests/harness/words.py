@@ -4,8 +4,9 @@ import os
 import shlex
 import socket
 
+from .clients import behind_many, rest_of, without_descriptor
 from .messages import inputs, request
-from .program import SECONDS, Wrong, contents, differs, ended, held, run, served, started, written
+from .program import SECONDS, Wrong, contents, differs, ended, held, run, sent_with, served, started, written
 from .tables import asked, shows
 
 EXPECTED = ("out", "prints", "err", "status", "usage")
@@ -33,7 +34,11 @@ class Scene:
         doing = {
             "avroreg": self.runs,
             "connect": self.connects,
+            "behind": self.waits_behind,
+            "starve": self.starves,
             "file": self.makes,
+            "link": self.links,
+            "move": self.moves,
             "given": self.gives,
             "sql": self.changes,
             "rows": self.looks,
@@ -65,18 +70,45 @@ class Scene:
         full, unread = line.rest.endswith(" > /dev/full"), line.rest.endswith(" < .")
         words = shlex.split(self.case.filled(line.rest.removesuffix(" > /dev/full").removesuffix(" < .")))
         given = b"".join(inputs(self.case, line))
-        self.ran = Due(f"{line.where}: avroreg {line.rest}", run(words, given, self.folder, full, unread))
+        where = sent_with(f"{line.where}: avroreg {line.rest}", given)
+        self.ran = Due(where, run(words, given, self.folder, full, unread))
+
+    def serves(self, line, connections, talk, given=()):
+        """A server of so many connections. What `talk` returns counts as its output, or as that and its standard error."""
+        self.hold()
+        came, end = served(self.folder, self.name(line), connections, talk)
+        came, told = came if isinstance(came, tuple) else (came, b"")
+        where = sent_with(f"{line.where}: avroreg serve --db {line.rest}", b"\n".join(given))
+        self.ran = Due(where, ended(end.returncode, end.stdout + came, told + end.stderr))
 
     def connects(self, line):
         """A server of as many connections as there are messages, each on one of its own."""
-        self.hold()
         given = inputs(self.case, line)
-        came, end = served(self.folder, self.name(line), len(given), lambda connect: b"".join(sent(connect(), it) for it in given))
-        self.ran = Due(f"{line.where}: serve --db {line.rest}", ended(end.returncode, end.stdout + came, end.stderr))
+        self.serves(line, len(given), lambda connect, _: b"".join(sent(connect(), it) for it in given), given)
+
+    def waits_behind(self, line):
+        """A client that comes behind one that sends many requests at once."""
+        often, once = inputs(self.case, line)
+        self.serves(line, 2, lambda connect, _: behind_many(connect, often, once))
+
+    def starves(self, line):
+        """A server that has no file descriptor for its second connection, until one more accept has failed."""
+        given = inputs(self.case, line)
+        self.serves(line, len(given), lambda connect, server: without_descriptor(connect, server, given))
 
     def makes(self, line):
         name, _, text = line.rest.partition(" ")
         written(self.folder, self.case.filled(name), self.case.value(text.strip(" ")))
+
+    def links(self, line):
+        name, target = line.rest.split(" ")
+        os.symlink(target, os.path.join(self.folder, name))
+
+    def moves(self, line):
+        """Gives a file another name, once the last run is as it is due."""
+        self.hold()
+        name, new = (os.path.join(self.folder, it) for it in line.rest.split(" "))
+        os.replace(name, new)
 
     def gives(self, line):
         ran = run(["run", "--db", self.name(line)], b"".join(inputs(self.case, line)), self.folder)
@@ -126,13 +158,10 @@ class Scene:
 
 def sent(client, message):
     """All that is answered to a message on a connection of its own."""
-    came = b""
     with client:
         client.sendall(message)
         client.shutdown(socket.SHUT_WR)
-        while more := client.recv(1 << 16):
-            came += more
-    return came
+        return rest_of(client)
 
 
 class Due:
