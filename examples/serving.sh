@@ -1,8 +1,10 @@
-# What the scripts here share: where the program is, a server on a free port, nginx in front of it. Sourced, not run.
+# What the scripts of examples/ and trials/ share: the program's path, a server on a free port, nginx in front of it, a run
+# of several scripts. It is sourced, not run.
 #
 #   AVROREG    the program; by default as `rt run` builds it
 
 examples=$(cd "$(dirname "${BASH_SOURCE[0]}")" && pwd)
+trials=$(cd "$examples/../trials" && pwd)
 avroreg=${AVROREG:-$examples/../crates/avroreg/out/avroreg}
 key_field=Registry-Retry-Key
 scratch=$(mktemp -d)
@@ -117,4 +119,31 @@ stop_server() {
   kill "-${1:-TERM}" "$server"
   wait "$server" 2>/dev/null
   unset 'started[-1]'
+}
+
+# try NAME PACKAGES COMMAND..: installs these packages of Debian and runs the command in the current folder, if $asked is
+# empty or has the name.
+asked=()
+failed=()
+try() {
+  local name=$1 needs=$2 start=$SECONDS outcome=passed
+  shift 2
+  [ ${#asked[@]} = 0 ] || [[ " ${asked[*]} " == *" $name "* ]] || return 0
+  # shellcheck disable=SC2086
+  packages $needs
+  "$@" >"$scratch/$name.log" 2>&1 </dev/null || {
+    outcome=failed
+    failed+=("$name")
+  }
+  printf '%-14s %-7s %4d s   needs %s\n' "$name" "$outcome" $((SECONDS - start)) "$needs"
+}
+
+# Prints the last lines of each script that failed, and ends with status 1 if one did.
+sum_up() {
+  local name
+  for name in ${failed[@]+"${failed[@]}"}; do
+    printf '\n%s:\n' "$name"
+    tail -n 5 "$scratch/$name.log"
+  done
+  [ ${#failed[@]} = 0 ]
 }

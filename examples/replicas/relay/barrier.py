@@ -1,0 +1,57 @@
+"""Fresh reads: a wait until this node has applied every write that any node acknowledged before the read came."""
+import asyncio
+from typing import Awaitable, Callable
+
+from relay.faults import Unavailable
+
+RETRY_SECONDS = 0.1
+
+
+class Barrier:
+    """`ask_newest` returns the revision of the newest entry, as a majority has it."""
+
+    def __init__(self, ask_newest: Callable[[], Awaitable[int]], applied: int) -> None:
+        self.ask_newest, self.applied = ask_newest, applied
+        self.turn = asyncio.Lock()
+        self.next_query: asyncio.Task[int] | None = None
+        self.waiting: list[tuple[int, asyncio.Future[None]]] = []
+
+    def reached(self, revision: int) -> None:
+        """This node has applied the entries up to a revision."""
+        self.applied = revision
+        for wanted, future in self.waiting:
+            if wanted <= revision and not future.done():
+                future.set_result(None)
+        self.waiting = [it for it in self.waiting if not it[1].done()]
+
+    async def wait(self, seconds: float) -> None:
+        """Returns once this node has applied the entry that is the newest now, or a later one."""
+        try:
+            async with asyncio.timeout(seconds):
+                await self.until_applied(await self.newest())
+        except TimeoutError as fault:
+            raise Unavailable("no majority of etcd answers, or this node is behind it") from fault
+
+    async def newest(self) -> int:
+        while True:
+            try:
+                return await self.shared_query()
+            except Unavailable:
+                await asyncio.sleep(RETRY_SECONDS)
+
+    async def shared_query(self) -> int:
+        """Reads share a query that begins after each of them came: the one under way is too old for a read that comes now."""
+        if self.next_query is None:
+            self.next_query = asyncio.create_task(self.query())
+        return await asyncio.shield(self.next_query)
+
+    async def query(self) -> int:
+        async with self.turn:
+            self.next_query = None
+            return await self.ask_newest()
+
+    async def until_applied(self, revision: int) -> None:
+        if self.applied < revision:
+            future = asyncio.get_running_loop().create_future()
+            self.waiting.append((revision, future))
+            await future

@@ -1,0 +1,46 @@
+"""The messages that avroreg is sent: what is a write, and how the log spells it.
+
+A message has a request line, three fields that the relay writes itself, and the body. Nothing else of a client's head
+goes on. So a message is one request to every reader of HTTP, and one batch is several of them, one after the other.
+"""
+import re
+from typing import Iterator
+
+KEY = re.compile(rb"[A-Za-z0-9._-]{1,64}")
+
+# avroreg refuses every write with this key (40001), and doesn't examine the key of a read. The relay sends it with each
+# request that it doesn't append. So a request that avroreg takes for a write and the relay doesn't is refused.
+NO_KEY = b"?"
+
+WRITE = re.compile(
+    rb"(PUT /(config|mode)(/[^/?]+)?"
+    rb"|POST /subjects/[^/?]+/versions"
+    rb"|DELETE /subjects/[^/?]+(/versions/[^/?]+)?)(\?.*)?"
+)
+
+HEAD = re.compile(
+    rb"[^ \r\n]+ [^ \r\n]+ HTTP/1\.1\r\nHost: registry\r\nRegistry-Retry-Key: [^\r\n]+\r\nContent-Length: ([0-9]{1,7})\r\n\r\n"
+)
+
+
+def is_write(line: bytes) -> bool:
+    """Whether the method and the target are those of a write."""
+    return WRITE.fullmatch(line) is not None
+
+
+def message(line: bytes, key: bytes, body: bytes) -> bytes:
+    """The message for a method and a target, as the client sent them."""
+    head = b"%s HTTP/1.1\r\nHost: registry\r\nRegistry-Retry-Key: %s\r\n" % (line, key)
+    return head + b"Content-Length: %d\r\n\r\n" % len(body) + body
+
+
+def split(batch: bytes) -> Iterator[bytes]:
+    """The messages of a batch, in order."""
+    start = 0
+    while start < len(batch):
+        found = HEAD.match(batch, start)
+        end = found.end() + int(found[1]) if found else len(batch) + 1
+        if end > len(batch):
+            raise ValueError(f"no message at byte {start} of an entry")
+        yield batch[start:end]
+        start = end

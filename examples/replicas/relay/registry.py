@@ -1,0 +1,61 @@
+"""This node's avroreg.
+
+avroreg serves one connection at a time, so the relay keeps one, and sends a message after the response to the one before.
+It sends nothing ahead: if avroreg answers a write 50001, no later write may be applied before that write is.
+"""
+import asyncio
+
+from relay import http1
+from relay.config import Address
+from relay.faults import Unavailable
+from relay.http1 import Response
+
+LIMIT = 65536  # a response head is far shorter
+SECONDS = 60.0  # a check of two large schemas takes six
+BACKEND_FAULT = 500
+
+
+class Registry:
+    def __init__(self, address: Address) -> None:
+        self.address = address
+        self.turn = asyncio.Lock()
+        self.streams: tuple[asyncio.StreamReader, asyncio.StreamWriter] | None = None
+
+    async def ask(self, message: bytes) -> Response:
+        """The response to a message that may be sent twice: a read, a write that has a key, or one that is refused.
+
+        avroreg may close a kept connection between two messages at any time, so a failure on one is no failure yet.
+        """
+        async with self.turn:
+            if self.streams:
+                try:
+                    return await self.exchange(message)
+                except Unavailable:
+                    pass
+            return await self.exchange(message)
+
+    async def exchange(self, message: bytes) -> Response:
+        try:
+            async with asyncio.timeout(SECONDS):
+                if not self.streams:
+                    self.streams = await asyncio.open_connection(*self.address, limit=LIMIT)
+                reader, writer = self.streams
+                writer.write(message)
+                response, is_last = await http1.read_response(reader)
+        except OSError as fault:
+            self.close()
+            raise Unavailable(f"avroreg: {fault!r}") from fault
+        except BaseException:
+            self.close()
+            raise
+        if is_last:
+            self.close()
+        if response.status == BACKEND_FAULT:
+            self.close()
+            raise Unavailable("avroreg: it answers 50001: memory was refused or its disk failed; then start it anew")
+        return response
+
+    def close(self) -> None:
+        if self.streams:
+            self.streams[1].close()
+            self.streams = None

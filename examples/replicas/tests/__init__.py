@@ -1,0 +1,13 @@
+"""Unit tests: `python3 -m unittest` in the folder above. None needs etcd, avroreg or a network."""
+import asyncio
+import time
+from typing import Callable
+
+
+async def eventually(condition: Callable[[], bool]) -> None:
+    """Waits until a condition holds, on however busy a machine."""
+    until = time.monotonic() + 30
+    while not condition():
+        if time.monotonic() > until:
+            raise AssertionError("it doesn't hold after thirty seconds")
+        await asyncio.sleep(0.005)

@@ -1,0 +1,102 @@
+"""What the relay reads as a request, and what it refuses."""
+import asyncio
+import unittest
+
+from relay import http1
+from relay.faults import Refused, Unavailable
+
+
+async def parsed(text: bytes) -> http1.Request | None:
+    reader = asyncio.StreamReader(limit=65536)
+    reader.feed_data(text)
+    reader.feed_eof()
+    return await http1.read_request(reader)
+
+
+class Requests(unittest.IsolatedAsyncioTestCase):
+    async def test_a_request(self) -> None:
+        text = b"PUT /config/s?x=1 HTTP/1.1\r\nhost: h\r\nRegistry-Retry-Key:  k \r\nCONTENT-LENGTH: 2\r\nCache-Control: a, No-Cache\r\n\r\n{}rest"
+        self.assertEqual(await parsed(text), http1.Request(b"PUT /config/s?x=1", (b"k",), b"{}", True, False))
+
+    async def test_the_end_of_the_input(self) -> None:
+        self.assertIsNone(await parsed(b""))
+        for text in (b"GET / HTT", b"GET / HTTP/1.1\r\n", b"GET / HTTP/1.1\r\nContent-Length: 3\r\n\r\nab"):
+            with self.assertRaises(ConnectionError):
+                await parsed(text)
+
+    async def test_last_requests(self) -> None:
+        for head in (b"GET / HTTP/1.0\r\n\r\n", b"GET / HTTP/1.1\r\nConnection: x, Close\r\n\r\n"):
+            found = await parsed(head)
+            self.assertTrue(found and found.is_last)
+        found = await parsed(b"GET / HTTP/1.1\r\nConnection: closed\r\n\r\n")
+        self.assertFalse(found and found.is_last)
+
+    async def refused(self, head: bytes, code: int) -> None:
+        with self.assertRaises(Refused, msg=repr(head)) as found:
+            await parsed(head + b"\r\nGET /second HTTP/1.1\r\n\r\n")
+        self.assertEqual(found.exception.code, code, head)
+
+    async def test_what_could_be_read_in_two_ways(self) -> None:
+        for head in (
+            b"GET / HTTP/1.1\n",
+            b"GET / HTTP/1.1\r\nA: b\n",
+            b"\r\nGET / HTTP/1.1\r\n",
+            b"GET /a b HTTP/1.1\r\n",
+            b"GET  / HTTP/1.1\r\n",
+            b"GET /\tHTTP/1.1\r\n",
+            b"GET / HTTP/1.1 \r\n",
+            b"GET / HTTP/2.0\r\n",
+            b"GET /\r\n",
+            b"G(T / HTTP/1.1\r\n",
+            b"GET /\xff HTTP/1.1\r\n",
+            b"GET /\x00 HTTP/1.1\r\n",
+            b"GET / HTTP/1.1\r\nA : b\r\n",
+            b"GET / HTTP/1.1\r\n A: b\r\n",
+            b"GET / HTTP/1.1\r\nA: b\r\n c\r\n",
+            b"GET / HTTP/1.1\r\nA: b\rc\r\n",
+            b"GET / HTTP/1.1\r\nA: \x00\r\n",
+            b"GET / HTTP/1.1\r\nno field\r\n",
+            b"GET / HTTP/1.1\r\nContent-Length: 1\r\nContent-Length: 1\r\n",
+            b"GET / HTTP/1.1\r\nContent-Length: 1, 1\r\n",
+            b"GET / HTTP/1.1\r\nContent-Length: +1\r\n",
+            b"GET / HTTP/1.1\r\nContent-Length: 0x1\r\n",
+            b"GET / HTTP/1.1\r\nContent-Length: -1\r\n",
+            b"GET / HTTP/1.1\r\nContent-Length:\r\n",
+            b"GET / HTTP/1.1\r\nContent-Length: 00000000000000000001\r\n",
+        ):
+            await self.refused(head, 40001)
+
+    async def test_what_is_too_large_or_coded(self) -> None:
+        await self.refused(b"GET / HTTP/1.1\r\nA: " + b"a" * 20000 + b"\r\n", 40001)
+        await self.refused(b"GET / HTTP/1.1\r\n" + b"A: a\r\n" * 4000, 40001)
+        await self.refused(b"GET / HTTP/1.1\r\nA: " + b"a" * 70000 + b"\r\n", 40001)
+        await self.refused(b"PUT / HTTP/1.1\r\nContent-Length: 1048577\r\n", 413)
+        for coding in (b"chunked", b"identity", b"", b"x\r\nContent-Length: 3"):
+            await self.refused(b"PUT / HTTP/1.1\r\nTransfer-Encoding: " + coding + b"\r\n", 501)
+
+
+class Responses(unittest.IsolatedAsyncioTestCase):
+    async def read(self, text: bytes) -> tuple[http1.Response, bool]:
+        reader = asyncio.StreamReader(limit=65536)
+        reader.feed_data(text)
+        reader.feed_eof()
+        return await http1.read_response(reader)
+
+    async def test_a_response_goes_on_as_it_came(self) -> None:
+        fields = b"Content-Type: t\r\nContent-Length: 2\r\n"
+        for end in (b"", b"Connection: close\r\n"):
+            found, is_last = await self.read(b"HTTP/1.1 405 Method Not Allowed\r\n" + fields + end + b"\r\n{}")
+            self.assertEqual((found, is_last), (http1.Response(405, fields, b"{}"), bool(end)))
+
+    async def test_what_is_no_whole_response(self) -> None:
+        for text in (b"", b"HTTP/1.1 200 OK\r\n", b"HTTP/1.1 200 OK\r\nContent-Length: 3\r\n\r\n{}", b"HTTP/1.1 200 OK\r\n\r\n"):
+            with self.assertRaises(Unavailable):
+                await self.read(text)
+
+    def test_what_is_written(self) -> None:
+        found = http1.write_response(http1.refusal(Refused(50301, "no")), b"k", True)
+        self.assertEqual(
+            found,
+            b"HTTP/1.1 503 Service Unavailable\r\nContent-Type: application/vnd.schemaregistry.v1+json\r\nContent-Length: 35\r\n"
+            b'Registry-Retry-Key: k\r\nConnection: close\r\n\r\n{"error_code":50301,"message":"no"}',
+        )

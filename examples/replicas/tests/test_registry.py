@@ -1,0 +1,251 @@
+"""The relay and a stand-in for avroreg: what is repeated, and that no write passes one without a response."""
+import asyncio
+import pathlib
+import tempfile
+import unittest
+from typing import AsyncGenerator
+
+from relay import config, digest, messages, position
+from relay.config import Address
+from relay.faults import Unavailable
+from relay.http1 import Request
+from relay.log import Base, Entry, Log
+from relay.position import Position
+from relay.registry import Registry
+from relay.replica import Replica
+from tests import eventually
+
+RELAY_TOML = pathlib.Path(__file__).parent.parent / "relay.toml"
+
+
+class StandIn:
+    """An avroreg that keeps the lines of the messages it got, and misbehaves as `moods` says, a word a message."""
+
+    def __init__(self) -> None:
+        self.got: list[bytes] = []
+        self.heads: list[bytes] = []
+        self.moods: list[str] = []
+        self.connections = 0
+
+    async def start(self) -> Address:
+        self.server = await asyncio.start_server(self.serve, "127.0.0.1", 0)
+        return Address(*self.server.sockets[0].getsockname())
+
+    async def serve(self, reader: asyncio.StreamReader, writer: asyncio.StreamWriter) -> None:
+        self.connections += 1
+        try:
+            while True:
+                head = await reader.readuntil(b"\r\n\r\n")
+                line = head.partition(b"\r\n")[0]
+                mood = self.moods.pop(0) if self.moods else "answer"
+                if mood == "close unread":
+                    return
+                self.got.append(line)
+                self.heads.append(head)
+                if mood == "close":
+                    return
+                status = b"500 Internal Server Error" if mood == "fault" else b"404 Not Found" if mood == "missing" else b"200 OK"
+                body = b"%d" % len(self.got)
+                end = b"Connection: close\r\n" if mood == "last" else b""
+                writer.write(b"HTTP/1.1 %s\r\nContent-Length: %d\r\n%s\r\n%s" % (status, len(body), end, body))
+                if mood == "last":
+                    return
+        except asyncio.IncompleteReadError:
+            pass
+        finally:
+            writer.close()
+
+
+def write(number: int) -> bytes:
+    return messages.message(b"PUT /config/%d" % number, b"k%d" % number, b"")
+
+
+def line(number: int) -> bytes:
+    return b"PUT /config/%d HTTP/1.1" % number
+
+
+class Asking(unittest.IsolatedAsyncioTestCase):
+    async def asyncSetUp(self) -> None:
+        self.avroreg = StandIn()
+        self.registry = Registry(await self.avroreg.start())
+
+    async def asyncTearDown(self) -> None:
+        self.registry.close()
+        self.avroreg.server.close()
+
+    async def test_one_connection(self) -> None:
+        await asyncio.gather(*(self.registry.ask(write(it)) for it in range(5)))
+        self.assertEqual((self.avroreg.got, self.avroreg.connections), ([line(it) for it in range(5)], 1))
+
+    async def test_a_kept_connection_that_was_closed(self) -> None:
+        self.avroreg.moods = ["answer", "close unread", "answer", "last", "answer"]
+        for number in range(4):
+            self.assertEqual((await self.registry.ask(write(number))).status, 200)
+        self.assertEqual((self.avroreg.got, self.avroreg.connections), ([line(it) for it in range(4)], 3))
+
+    async def test_faults(self) -> None:
+        for moods in (["close"], ["fault"], ["answer", "fault", "fault"], ["answer", "close", "close"]):
+            self.avroreg.moods = moods
+            with self.assertRaises(Unavailable):
+                for number in range(len(moods)):
+                    await self.registry.ask(write(number))
+
+    async def test_nobody_listens(self) -> None:
+        self.avroreg.server.close()
+        with self.assertRaises(Unavailable):
+            await self.registry.ask(write(0))
+
+    async def test_a_cancelled_request_leaves_no_response_behind(self) -> None:
+        asking = asyncio.create_task(self.registry.ask(write(0)))
+        await eventually(lambda: bool(self.registry.streams))
+        asking.cancel()
+        await asyncio.gather(asking, return_exceptions=True)
+        found = await self.registry.ask(write(1))
+        self.assertEqual(int(found.body), len(self.avroreg.got))
+
+
+class StandInLog(Log):
+    """A log of entries that a test puts there."""
+
+    def __init__(self, entries: list[Entry], newest: int = 0) -> None:
+        self.all, self.last, self.asked = entries, newest, 0
+        self.is_followed = True
+        self.published: list[tuple[int, int]] = []
+        self.others: dict[str, dict[str, object]] = {}
+        self.start: Base | None = None
+        self.path = pathlib.Path()
+
+    async def entries(self, after: int) -> AsyncGenerator[Entry, None]:
+        for entry in self.all:
+            if entry.revision > after:
+                yield entry
+        await asyncio.sleep(1000)
+
+    async def base(self) -> Base | None:
+        return self.start
+
+    async def newest(self) -> int:
+        self.asked += 1
+        return self.last
+
+    async def publish(self, node: str, revision: int, seen: str) -> None:
+        self.published.append((revision, position.load(self.path).revision))
+
+    async def positions(self) -> dict[str, dict[str, object]]:
+        return self.others
+
+
+def entries(*sizes: int) -> list[Entry]:
+    """Entries of so many messages each, at the revisions 10, 20 ..: message N is write N."""
+    found, number = [], 0
+    for at, size in enumerate(sizes):
+        found.append(Entry("c", 10 * at + 10, b"%d" % at, b"".join(write(it) for it in range(number, number + size))))
+        number += size
+    return found
+
+
+class Applying(unittest.IsolatedAsyncioTestCase):
+    async def asyncSetUp(self) -> None:
+        self.avroreg = StandIn()
+        self.folder = tempfile.TemporaryDirectory()
+        self.path = pathlib.Path(self.folder.name) / "position"
+        path = pathlib.Path(self.folder.name) / "relay.toml"
+        host, port = await self.avroreg.start()
+        text = RELAY_TOML.read_text().replace("/var/lib/avroreg-relay/position", str(self.path))
+        path.write_text(text.replace("127.0.0.1:8081", f"{host}:{port}").replace("patience_seconds = 8.0", "patience_seconds = 3.0"))
+        self.config = config.load(path)
+        self.work: list[asyncio.Task[None]] = []
+        self.replicas: list[Replica] = []
+
+    async def asyncTearDown(self) -> None:
+        for task in self.work:
+            task.cancel()
+        await asyncio.gather(*self.work, return_exceptions=True)
+        for replica in self.replicas:
+            replica.close()
+        self.avroreg.server.close()
+        self.folder.cleanup()
+
+    def replica(self, log: StandInLog) -> Replica:
+        replica = Replica(self.config)
+        self.replicas.append(replica)
+        log.etcd, replica.log, log.path = replica.log.etcd, log, self.path
+        replica.barrier.ask_newest = log.newest
+        self.work += [asyncio.create_task(replica.follow()), asyncio.create_task(replica.keep_books())]
+        return replica
+
+    async def test_no_write_passes_one_without_a_response(self) -> None:
+        self.avroreg.moods = ["answer", "fault", "close", "fault", "answer"]
+        replica = self.replica(StandInLog(entries(2, 3)))
+        await eventually(lambda: replica.position.revision == 20)
+        self.assertEqual(self.avroreg.got, [line(it) for it in (0, 1, 1, 1, 1, 2, 3, 4)])
+        seen = ""
+        for revision, numbers, first in ((10, (0, 1), 0), (20, (2, 3, 4), 3)):
+            for at, number in enumerate(numbers):
+                body = b"1" if number == 0 else b"%d" % (first + at + (4 if revision == 10 else 3))
+                seen = digest.extended(seen, revision, write(number), 200, body)
+        self.assertEqual(replica.position, Position("c", 20, seen))
+
+    async def test_it_goes_on_from_its_position(self) -> None:
+        position.save(self.path, Position("c", 10, "d"))
+        replica = self.replica(StandInLog(entries(1, 1)))
+        await eventually(lambda: replica.position.revision == 20)
+        self.assertEqual(self.avroreg.got, [line(1)])
+
+    async def test_a_position_is_saved_before_it_is_published(self) -> None:
+        log = StandInLog(entries(1, 1))
+        self.replica(log)
+        await eventually(lambda: bool(log.published))
+        self.assertEqual(log.published, [(20, 20)])
+
+    async def test_another_cluster(self) -> None:
+        position.save(self.path, Position("other", 5, "d"))
+        replica = self.replica(StandInLog(entries(1)))
+        await eventually(lambda: replica.broken is not None)
+        self.assertEqual(self.avroreg.got, [])
+
+    async def test_a_cluster_that_began_from_a_file(self) -> None:
+        log = StandInLog(entries(1))
+        log.start = Base(7, "d")
+        replica = self.replica(log)
+        await eventually(lambda: replica.broken is not None)
+        self.assertEqual(self.avroreg.got, [])
+
+    async def test_what_is_no_batch(self) -> None:
+        replica = self.replica(StandInLog([Entry("c", 10, b"0", b"nonsense")]))
+        await eventually(lambda: replica.broken is not None)
+        self.assertEqual(replica.position, Position())
+
+    async def test_most_nodes_answered_otherwise(self) -> None:
+        log = StandInLog(entries(1))
+        replica = self.replica(log)
+        await eventually(lambda: replica.position.revision == 10)
+        log.others = {"n2": {"revision": 10, "digest": "x"}, "n3": {"revision": 10, "digest": replica.position.digest}}
+        await eventually(lambda: replica.health()["status"] == "trouble")
+        self.assertIsNone(replica.broken)
+        log.others["n3"]["digest"] = "x"
+        await eventually(lambda: replica.broken is not None)
+        self.assertEqual(replica.health()["status"], "stopped")
+
+    async def test_which_reads_ask_the_majority(self) -> None:
+        log = StandInLog([], newest=0)
+        replica = self.replica(log)
+        read = Request(b"GET /schemas/ids/1", (), b"", False, False)
+        self.assertEqual((await replica.answer(read))[1].status, 200)
+        self.assertEqual(log.asked, 0)
+        self.avroreg.moods = ["missing", "answer"]
+        self.assertEqual((await replica.answer(read))[1].status, 200)
+        self.assertEqual(log.asked, 1)
+        self.assertEqual((await replica.answer(read._replace(is_fresh=True)))[1].status, 200)
+        self.assertEqual(log.asked, 2)
+        log.last = 10  # an entry that this node hasn't applied
+        self.avroreg.moods = ["missing"]
+        with self.assertRaises(Unavailable):
+            await replica.answer(read)
+
+    async def test_the_key_of_a_request_that_is_no_write(self) -> None:
+        replica = self.replica(StandInLog([]))
+        for target in (b"GET /config", b"PUT /config/", b"PATCH /mode", b"POST /subjects/s"):
+            await replica.answer(Request(target, (b"key",), b"", False, False))
+        self.assertEqual(len(self.avroreg.heads), 4)
+        self.assertEqual([it for it in self.avroreg.heads if b"\r\nRegistry-Retry-Key: ?\r\n" not in it], [])

@@ -1,0 +1,110 @@
+"""What the nodes hold, and what two folds of the log say that they have to hold."""
+import base64
+import collections
+import json
+import os
+import pathlib
+import re
+import shutil
+import sqlite3
+import subprocess
+import sys
+import tempfile
+from typing import Any, Iterator
+
+from trial.clients import Write
+from trial.local import HERE
+from trial.machine import Machine
+from trial.spaces import SpaceNode
+
+TABLES = {
+    "texts": "*", "versions": "*", "levels": "*", "modes": "*", "kept": "*", "meta": "*", "evidence": "subject, version, level",
+    "against": "subject, version, position, id",
+}  # fmt: skip
+DUMP = """
+import asyncio, base64, json, sys
+sys.path.insert(0, sys.argv[1])
+from relay import messages
+from relay.config import Address
+from relay.etcd import Etcd
+from relay.log import Log
+
+async def dump(upto):
+    async for entry in Log(Etcd(Address("127.0.0.1", 2379))).entries(0):
+        for message in messages.split(entry.batch):
+            print(json.dumps([entry.revision, base64.b64encode(message).decode()]))
+        if entry.revision >= upto:
+            return
+
+asyncio.run(dump(int(sys.argv[2])))
+"""
+
+Rows = dict[str, list[tuple[Any, ...]]]
+
+
+def dump(node: SpaceNode, upto: int) -> list[tuple[int, bytes]]:
+    """The messages of the log up to a revision, as a node's etcd has them."""
+    lines = node.inside(sys.executable, "-c", DUMP, str(HERE), str(upto), seconds=300).splitlines()
+    return [(revision, base64.b64decode(text)) for revision, text in map(json.loads, lines)]
+
+
+def rows(node: SpaceNode, program: pathlib.Path) -> tuple[Rows, str]:
+    """The rows of a node's tables and the outcome of its audit, from copies; its services are stopped."""
+    with tempfile.TemporaryDirectory() as folder:
+        for suffix in ("", "-wal"):
+            source = node.database.with_name(node.database.name + suffix)
+            if source.exists():
+                shutil.copy(source, os.path.join(folder, "F" + suffix))
+        audit = subprocess.run([program, "audit", "--db", f"{folder}/F"], capture_output=True, text=True)
+        connection = sqlite3.connect(f"{folder}/F")
+        try:
+            found = {name: sorted(connection.execute(f"SELECT {columns} FROM {name}")) for name, columns in TABLES.items()}
+        finally:
+            connection.close()
+        return found, (audit.stdout + audit.stderr).strip()
+
+
+def responses_of(output: bytes) -> Iterator[tuple[int, str]]:
+    """Status and body of each response that `avroreg run` wrote."""
+    while output:
+        head, _, output = output.partition(b"\r\n\r\n")
+        length = re.search(rb"Content-Length: ([0-9]+)", head)
+        assert length
+        yield int(head[9:12]), output[: int(length[1])].decode()
+        output = output[int(length[1]) :]
+
+
+class Fold:
+    """The log, folded by the machine in Python and by `avroreg run`."""
+
+    def __init__(self, log: list[tuple[int, bytes]], program: pathlib.Path) -> None:
+        self.log, self.machine = log, Machine()
+        self.responses: dict[bytes, set[tuple[int, str]]] = collections.defaultdict(set)
+        told = []
+        for _, message in log:
+            told.append(self.machine.answer(message))
+            self.responses[message].add(told[-1])
+        run = subprocess.run([program, "run"], input=b"".join(message for _, message in log), capture_output=True)
+        self.differing = [
+            (revision, message, mine, its)
+            for (revision, message), mine, its in zip(log, told, responses_of(run.stdout))
+            if mine != its
+        ]
+        self.is_whole = len(list(responses_of(run.stdout))) == len(log)
+
+    def lost(self, writes: list[Write]) -> list[Write]:
+        """The acknowledged writes that aren't in the log."""
+        return [it for it in writes if it.message() not in self.responses]
+
+    def wrongly_answered(self, writes: list[Write]) -> list[tuple[Write, int, str]]:
+        """The responses that clients got and the log doesn't give."""
+        return [
+            (write, status, body.decode())
+            for write in writes
+            for status, body in write.responses
+            if (status, body.decode()) not in self.responses.get(write.message(), set())
+        ]
+
+    def repeats(self) -> int:
+        """How many messages of the log are repeats of an earlier one."""
+        return len(self.log) - len(self.responses)

@@ -1,0 +1,81 @@
+"""The faults that the trial makes, each with its beginning and its end."""
+import json
+import signal
+import time
+from functools import partial
+from typing import Callable
+
+from trial.local import SERVICES
+from trial.spaces import SpaceNode
+
+Step = Callable[[SpaceNode], None]
+
+
+def fill(node: SpaceNode) -> None:
+    """Takes all room of the node's disk."""
+    with open(node.disk / "filler", "wb", buffering=0) as stream:
+        try:
+            while stream.write(bytes(4096)) == 4096:
+                pass
+        except OSError:
+            pass
+
+
+def empty(node: SpaceNode) -> None:
+    """Makes room again. avroreg answers 50001 until it is started anew, which an operator does."""
+    (node.disk / "filler").unlink()
+    node.kill("registry")
+    node.run("registry")
+
+
+def kill_slowly(node: SpaceNode) -> None:
+    node.kill("registry")
+    time.sleep(1)
+    node.kill()
+
+
+def kill_and_compact(nodes: list[SpaceNode], node: SpaceNode) -> None:
+    """Kills a node, and compacts etcd's history at another one meanwhile, as etcd's own compaction may."""
+    node.kill()
+    time.sleep(1)
+    other = next(it for it in nodes if it is not node)
+    gateway = ("curl", "-s", "-m", "5", "http://127.0.0.1:2379/v3/kv/")
+    found = other.inside(*gateway[:-1], gateway[-1] + "range", "-d", '{"key":"eA=="}')
+    revision = json.loads(found)["header"]["revision"]
+    other.inside(*gateway[:-1], gateway[-1] + "compaction", "-d", json.dumps({"revision": revision}))
+
+
+def kinds_of_faults(nodes: list[SpaceNode]) -> dict[str, tuple[Step, Step]]:
+    """Each kind of fault: how it begins, and how it ends."""
+
+    def run_all(node: SpaceNode) -> None:
+        node.run()
+
+    kinds: dict[str, tuple[Step, Step]] = {
+        "fill the disk": (fill, empty),
+        "kill all": (lambda it: it.kill(), run_all),
+        "kill registry, then all": (kill_slowly, run_all),
+        "kill all, and compact": (partial(kill_and_compact, nodes), run_all),
+    }
+    for service in SERVICES:
+        kinds[f"kill {service}"] = (partial(kill, service), partial(run, service))
+        kinds[f"pause {service}"] = (partial(send, signal.SIGSTOP, service), partial(send, signal.SIGCONT, service))
+    for links in (("peers",), ("clients",), ("peers", "clients")):
+        kinds[f"cut from {' and '.join(links)}"] = (partial(cut, links, True), partial(cut, links, False))
+    return kinds
+
+
+def kill(service: str, node: SpaceNode) -> None:
+    node.kill(service)
+
+
+def run(service: str, node: SpaceNode) -> None:
+    node.run(service)
+
+
+def send(number: signal.Signals, service: str, node: SpaceNode) -> None:
+    node.signal(number, service)
+
+
+def cut(links: tuple[str, ...], is_cut: bool, node: SpaceNode) -> None:
+    node.cut(links, is_cut)

@@ -1,0 +1,192 @@
+#!/usr/bin/env python3
+"""Three nodes on the loopback of one machine: for try.sh, the tests and the measurements.
+
+    local.py FOLDER new PROGRAM            writes the configurations, starts nothing
+    local.py FOLDER start [NODE [SERVICE]] starts etcd, registry and relay, and returns once they answer
+    local.py FOLDER stop|kill [NODE [SERVICE]]
+
+Each process has its id in a file, and is ended by it.
+"""
+import http.client
+import json
+import os
+import pathlib
+import random
+import shutil
+import signal
+import socket
+import subprocess
+import sys
+import time
+import urllib.request
+
+HERE = pathlib.Path(__file__).resolve().parent.parent
+NODES = ("n1", "n2", "n3")
+SERVICES = ("etcd", "registry", "relay")
+PORTS = ("etcd", "peer", "registry", "relay", "admin")
+
+
+def free_ports(count: int) -> int:
+    """The first of so many neighbouring ports that no one listens to."""
+    for _ in range(100):
+        first = random.randrange(20000, 32000 - count)
+        try:
+            for port in range(first, first + count):
+                with socket.socket() as found:
+                    found.bind(("127.0.0.1", port))
+            return first
+        except OSError:
+            continue
+    raise SystemExit("local.py: no free ports")
+
+
+class Node:
+    def __init__(self, cluster: "Cluster", name: str) -> None:
+        self.cluster, self.name = cluster, name
+        self.folder = cluster.folder / name
+        first = cluster.first_port + 10 * NODES.index(name)
+        self.ports = {name: first + at for at, name in enumerate(PORTS)}
+        self.database, self.position = self.folder / "registry.db", self.folder / "position"
+        self.config = self.folder / "relay.toml"
+        self.host, self.peer_host, self.prefix = "127.0.0.1", "127.0.0.1", list[str]()
+        self.relay = HERE / "avroreg-relay"
+
+    @property
+    def url(self) -> str:
+        return f"http://{self.host}:{self.ports['relay']}"
+
+    @property
+    def peer_url(self) -> str:
+        return f"https://{self.peer_host}:{self.ports['peer']}"
+
+    def write_config(self) -> None:
+        """The configuration of the repository with this node's names and ports."""
+        self.folder.mkdir(parents=True, exist_ok=True)
+        control = [sys.executable, __file__, str(self.cluster.folder)]
+        values: dict[str, object] = {
+            "node": self.name,
+            **{name: f"{self.host}:{self.ports[port]}" for name, port in (("listen", "relay"), ("admin", "admin"))},
+            **{name: f"127.0.0.1:{self.ports[name]}" for name in ("registry", "etcd")},
+            "position": str(self.position), "database": str(self.database), "program": str(self.folder / "avroreg"), "owner": "",
+            **{f"{verb}_{service}": [*control, verb, self.name, service]
+               for verb in ("start", "stop") for service in ("relay", "registry")},
+        }  # fmt: skip
+        lines = []
+        for line in (HERE / "relay.toml").read_text().splitlines():
+            name = line.partition(" = ")[0]
+            lines.append(f"{name} = {json.dumps(values[name])}" if name in values else line)
+        self.config.write_text("\n".join(lines) + "\n")
+
+    def command(self, service: str) -> list[str]:
+        if service == "registry":
+            return [str(self.folder / "avroreg"), "serve", "--db", str(self.database), "--port", str(self.ports["registry"])]
+        if service == "relay":
+            return [sys.executable, str(self.relay), "--config", str(self.config)]
+        tls = self.cluster.folder / "tls"
+        client = f"http://127.0.0.1:{self.ports['etcd']}"
+        members = ",".join(f"{it.name}={it.peer_url}" for it in self.cluster.nodes.values())
+        words = {
+            "name": self.name, "data-dir": self.folder / "etcd", "logger": "zap", "log-level": "warn", "pre-vote": "true",
+            "listen-client-urls": client, "advertise-client-urls": client, "listen-peer-urls": self.peer_url,
+            "initial-advertise-peer-urls": self.peer_url, "initial-cluster": members, "initial-cluster-token": "avroreg",
+            "initial-cluster-state": "existing" if (self.folder / "joins").exists() else "new", "peer-client-cert-auth": "true",
+            "peer-trusted-ca-file": tls / "ca.crt", "peer-cert-file": tls / f"{self.name}.crt",
+            "peer-key-file": tls / f"{self.name}.key",
+        }  # fmt: skip
+        return ["etcd", *(f"--{name}={value}" for name, value in words.items())]
+
+    def process(self, service: str) -> int | None:
+        """The id of the service's process, if it runs."""
+        try:
+            number = int((self.folder / f"{service}.pid").read_text())
+            state = pathlib.Path(f"/proc/{number}/stat").read_text().rpartition(")")[2].split()[0]
+            return None if state == "Z" else number
+        except (OSError, ValueError):
+            return None
+
+    def start(self, service: str) -> None:
+        if self.process(service):
+            return
+        with open(self.folder / f"{service}.log", "ab") as log:
+            process = subprocess.Popen([*self.prefix, *self.command(service)], stdin=subprocess.DEVNULL, stdout=log, stderr=log, start_new_session=True)
+        (self.folder / f"{service}.pid").write_text(str(process.pid))
+
+    def end(self, service: str, number: signal.Signals) -> None:
+        process = self.process(service)
+        if process:
+            os.kill(process, number)
+            for _ in range(600):
+                if not self.process(service):
+                    break
+                time.sleep(0.05)
+        (self.folder / f"{service}.pid").unlink(missing_ok=True)
+
+    def is_up(self, service: str) -> bool:
+        port = self.ports[service]
+        target = {"etcd": "/health", "registry": "/config", "relay": "/config"}[service]
+        try:
+            with urllib.request.urlopen(f"http://127.0.0.1:{port}{target}", timeout=5) as found:
+                return service != "etcd" or json.load(found)["health"] == "true"
+        except OSError:
+            return False
+
+    def health(self) -> dict[str, object]:
+        try:
+            with urllib.request.urlopen(f"http://{self.host}:{self.ports['admin']}/health", timeout=5) as found:
+                return dict(json.load(found))
+        except urllib.error.HTTPError as fault:
+            return dict(json.load(fault))
+        except (OSError, ValueError, http.client.HTTPException):
+            return {}
+
+
+class Cluster:
+    def __init__(self, folder: pathlib.Path) -> None:
+        self.folder = folder.resolve()
+        port_file = self.folder / "first_port"
+        if not port_file.exists():
+            self.folder.mkdir(parents=True, exist_ok=True)
+            port_file.write_text(str(free_ports(30)))
+        self.first_port = int(port_file.read_text())
+        self.nodes = {name: Node(self, name) for name in NODES}
+
+    def new(self, program: pathlib.Path) -> None:
+        for node in self.nodes.values():
+            node.write_config()
+            shutil.copy(program, node.folder / "avroreg")
+        subprocess.run([str(HERE / "certificates.sh"), str(self.folder / "tls"), *(f"{name}={node.peer_host}" for name, node in self.nodes.items())], check=True)
+
+    def chosen(self, words: list[str]) -> list[tuple[Node, str]]:
+        names, services = words[:1] or NODES, words[1:2] or SERVICES
+        return [(self.nodes[name], service) for service in services for name in names]
+
+    def start(self, *words: str, seconds: float = 60) -> None:
+        chosen = self.chosen(list(words))
+        for node, service in chosen:
+            node.start(service)
+        until = time.monotonic() + seconds
+        for node, service in chosen:
+            while not node.is_up(service):
+                if time.monotonic() > until or not node.process(service):
+                    tail = (node.folder / f"{service}.log").read_text().splitlines()[-5:]
+                    raise SystemExit(f"local.py: {service} of {node.name} doesn't answer: " + " | ".join(tail))
+                time.sleep(0.05)
+
+    def end(self, number: signal.Signals, *words: str) -> None:
+        for node, service in reversed(self.chosen(list(words))):
+            node.end(service, number)
+
+
+def main() -> None:
+    cluster, verb = Cluster(pathlib.Path(sys.argv[1])), sys.argv[2]
+    if verb == "new":
+        cluster.new(pathlib.Path(sys.argv[3]))
+    elif verb == "start":
+        cluster.start(*sys.argv[3:])
+    else:
+        # avroreg has no clean-up to do: every stop of it is a kill.
+        cluster.end({"stop": signal.SIGTERM, "kill": signal.SIGKILL}[verb], *sys.argv[3:])
+
+
+if __name__ == "__main__":
+    main()

@@ -1,0 +1,249 @@
+#!/usr/bin/env python3
+"""Each operation of README.md on three nodes of this machine's loopback, one after the other, with its outcome compared.
+
+    operations.py PROGRAM [NAME]..     the names of the operations, none all
+
+Ends with status 0 if each did what README.md says.
+"""
+import http.client
+import json
+import pathlib
+import shutil
+import signal
+import sqlite3
+import subprocess
+import sys
+import tempfile
+import threading
+import time
+
+HERE = pathlib.Path(__file__).resolve().parent.parent
+sys.path.insert(0, str(HERE))
+
+from trial.steps import FAULTS, LocalTrial, Wrong, ask, check, schema  # noqa: E402
+
+
+class Operations(LocalTrial):
+    def from_nothing(self) -> None:
+        self.set_up()
+        check(self.register(self.nodes[0], 3) == [1, 2, 3], "three schemas are registered at n1")
+        check(self.register(self.nodes[1], 2) == [4, 5], "two at n2")
+        self.meet()
+        check("5 entries" in self.command(self.nodes[2], "status"), "status shows five entries")
+
+    def adopt(self) -> None:
+        """A single avroreg runs; it becomes n1 of three."""
+        self.set_up()
+        self.cluster.end(signal.SIGTERM)
+        first, second, third = self.nodes
+        for node in self.nodes:
+            for path in (node.database, node.database.with_name("registry.db-wal"), node.position):
+                path.unlink(missing_ok=True)
+        self.cluster.start("n1", "registry")
+        single = http.client.HTTPConnection("127.0.0.1", first.ports["registry"], timeout=60)
+        for number in range(4):
+            single.request("POST", f"/subjects/old{number}/versions", schema(1000 + number), {"Registry-Retry-Key": f"old{number}"})
+            check(json.loads(single.getresponse().read())["id"] == number + 1, f"the single avroreg registers {number + 1}")
+        single.close()
+        for node in self.nodes:
+            node.start("etcd")
+        self.wait_for(lambda: all(it.is_up("etcd") for it in self.nodes), "etcd runs")
+        self.command(first, "adopt", first.database)
+        copy = self.folder / "copy.db"
+        first.end("relay", signal.SIGTERM)
+        first.end("registry", signal.SIGTERM)
+        shutil.copy(first.database, copy)
+        self.cluster.start("n1", "registry")
+        self.cluster.start("n1", "relay")
+        other = self.folder / "other.db"
+        shutil.copy(copy, other)
+        with open(other, "ab") as stream:
+            stream.write(bytes(4096))
+        check("another file" in self.command(second, "adopt", other, fails=True), "n2 can't adopt another file")
+        self.cluster.start("n3", "registry")
+        third.start("relay")
+        self.wait_for(lambda: third.health().get("status") == "stopped", "n3 on an empty file stops")
+        self.command(second, "adopt", copy)
+        self.command(third, "adopt", copy)
+        check(self.register(third, 2) == [5, 6], "ids go on after those of the file")
+        status, body = ask(second, "POST", "/subjects/old2/versions", schema(1002), **{"Registry-Retry-Key": "old2"})
+        check((status, body) == (200, b'{"id":3}'), "a retry of a write to the single avroreg gets its first response")
+        self.meet()
+
+    def replace(self) -> None:
+        """n3 is lost with its disk: etcd's data, the database, the position."""
+        self.set_up()
+        first, second, third = self.nodes
+        self.register(first, 4)
+        self.cluster.end(signal.SIGKILL, "n3")
+        for path in (third.folder / "etcd",):
+            shutil.rmtree(path)
+        for path in (third.database, third.database.with_name("registry.db-wal"), third.position):
+            path.unlink(missing_ok=True)
+        check(self.register(second, 2) == [5, 6], "two nodes go on")
+        backup = self.folder / "replace-backup"
+        self.command(first, "backup", backup)
+        self.command(first, "trim")
+        printed = self.command(second, "replace", "n3", f"https://127.0.0.1:{third.ports['peer']}")
+        check("--initial-cluster-state=existing" in printed, "replace prints how to start the new member")
+        (third.folder / "joins").touch()
+        third.start("etcd")
+        self.wait_for(lambda: third.is_up("etcd"), "the new member runs")
+        third.start("registry")
+        third.start("relay")
+        self.register(second, 1)
+        self.wait_for(lambda: third.health().get("revision") or third.health().get("status") == "stopped", "n3 without a file follows or stops")
+        self.command(third, "restore", backup)
+        self.meet()
+
+    def upgrade(self) -> None:
+        """Each node gets a new program, while a client reads all the time."""
+        self.set_up()
+        self.register(self.nodes[0], 3)
+        self.meet()
+        new = self.folder / "new-program"
+        shutil.copy(self.program, new)
+        over, failures, reads = threading.Event(), [], []
+
+        def read() -> None:
+            at = 0
+            while not over.is_set():
+                for turn in range(3):  # as nginx does: the next node if one doesn't answer
+                    try:
+                        status, _ = ask(self.nodes[(at + turn) % 3], "GET", "/subjects/s1/versions")
+                        if status == 200:
+                            reads.append(at)
+                            break
+                    except FAULTS:
+                        pass
+                else:
+                    failures.append(at)
+                at += 1
+                time.sleep(0.02)
+
+        reader = threading.Thread(target=read)
+        check("aren't paused" in self.command(self.nodes[1], "upgrade", new, fails=True), "without a pause there is no upgrade")
+        reader.start()
+        try:
+            self.command(self.nodes[1], "pause")
+            status, body = ask(self.nodes[0], "PUT", "/config", b'{"compatibility":"FULL"}')
+            check((status, json.loads(body)["error_code"]) == (503, 50304), "a write is answered 503, 50304")
+            for node in self.nodes:
+                before = node.process("registry")
+                self.command(node, "upgrade", new)
+                self.wait_for(lambda: node.is_up("relay"), f"{node.name} answers again")
+                check(node.process("registry") != before, f"{node.name} runs the new program")
+            self.command(self.nodes[2], "resume")
+        finally:
+            over.set()
+            reader.join()
+        check(reads and not failures, f"of {len(reads)} reads none failed")
+        check(self.register(self.nodes[0], 1) == [4], "writes go on")
+        self.meet()
+
+    def trim(self) -> None:
+        self.set_up()
+        self.register(self.nodes[0], 5)
+        self.cluster.end(signal.SIGTERM, "n2", "relay")
+        self.register(self.nodes[0], 5)
+        backup = self.folder / "trim-old"
+        self.command(self.nodes[0], "trim")
+        check("5 entries" in self.command(self.nodes[0], "status"), "trim keeps the entries that n2 hasn't applied")
+        self.cluster.start("n2", "relay")
+        self.meet()
+        self.command(self.nodes[2], "backup", backup)
+        self.meet()
+        check("removed 5" in self.command(self.nodes[2], "trim"), "then it removes them")
+        self.register(self.nodes[1], 2)
+        self.meet()
+        self.command(self.nodes[0], "restore", backup)
+        self.meet()
+        shutil.copy(backup / "position", self.folder / "position")
+        self.register(self.nodes[1], 1)
+        self.meet()
+        self.command(self.nodes[2], "trim")
+        check("newer backup" in self.command(self.nodes[0], "restore", backup, fails=True), "a backup older than the log is refused")
+        self.meet()
+
+    def restore_all(self) -> None:
+        """All three nodes are lost; there is one backup."""
+        self.set_up()
+        ids = self.register(self.nodes[0], 4)
+        self.meet()
+        backup = self.folder / "last-backup"
+        self.command(self.nodes[1], "backup", backup)
+        self.cluster.end(signal.SIGKILL)
+        for node in self.nodes:
+            shutil.rmtree(node.folder / "etcd")
+            for path in (node.database, node.database.with_name("registry.db-wal"), node.position):
+                path.unlink(missing_ok=True)
+            node.start("etcd")
+        self.wait_for(lambda: all(it.is_up("etcd") for it in self.nodes), "a new etcd runs")
+        check("another cluster" in self.command(self.nodes[0], "restore", backup, fails=True), "restore refuses another cluster's backup")
+        for node in self.nodes:
+            self.command(node, "adopt", backup / "registry.db")
+        self.meet()
+        check(self.register(self.nodes[2], 1) == [ids[-1] + 1], "ids go on after those of the backup")
+        status, body = ask(self.nodes[0], "POST", "/subjects/s2/versions", schema(2), **{"Registry-Retry-Key": "k2"})
+        check((status, body) == (200, b'{"id":2}'), "a retry of an old write gets its first response")
+        self.meet()
+
+    def tampered(self) -> None:
+        """Somebody writes to n2's database past the log; and then changes a row that no write depends on."""
+        self.set_up()
+        first, second, third = self.nodes
+        self.register(first, 2)
+        self.meet()
+        direct = http.client.HTTPConnection("127.0.0.1", second.ports["registry"], timeout=60)
+        direct.request("POST", "/subjects/past/versions", schema(9999))
+        check(direct.getresponse().status == 200, "a schema is registered at n2's avroreg itself")
+        direct.close()
+        self.register(first, 1)
+        self.wait_for(lambda: second.health().get("status") == "stopped", "n2 stops after the next registration")
+        check([it.health()["status"] for it in (first, third)] == ["ok", "ok"], "the others go on")
+        status, body = ask(second, "GET", "/subjects")
+        check((status, json.loads(body)["error_code"]) == (503, 50303), "n2 answers 503, 50303")
+        backup = self.folder / "for-n2"
+        self.command(first, "backup", backup)
+        self.command(second, "restore", backup)
+        self.meet()
+        self.cluster.end(signal.SIGTERM, "n3", "relay")
+        self.cluster.end(signal.SIGTERM, "n3", "registry")
+        subprocess.run([third.folder / "avroreg", "list", "--db", third.database, "subjects"], capture_output=True, check=True)
+        with sqlite3.connect(third.database) as database:
+            database.execute("UPDATE texts SET text = replace(text, 'number 2', 'number X') WHERE id = 2")
+        database.close()
+        self.cluster.start("n3", "registry")
+        self.cluster.start("n3", "relay")
+        prints = {it.name: self.command(it, "fingerprint").split()[1] for it in self.nodes}
+        check(prints["n1"] == prints["n2"] != prints["n3"], "a changed text in n3's database shows in its fingerprint")
+        self.command(third, "restore", backup)
+        self.meet()
+
+
+NAMES = ("from_nothing", "adopt", "replace", "upgrade", "trim", "restore_all", "tampered")
+
+
+def main() -> None:
+    program, chosen = pathlib.Path(sys.argv[1]).resolve(), sys.argv[2:] or NAMES
+    began = time.monotonic()
+    with tempfile.TemporaryDirectory() as folder:
+        trial = Operations(pathlib.Path(folder), program)
+        try:
+            for name in chosen:
+                start = time.monotonic()
+                print(f"{name}:", flush=True)
+                getattr(trial, name)()
+                print(f"  {time.monotonic() - start:.0f} s", flush=True)
+        except (Wrong, KeyError) as fault:
+            print(f"WRONG: {fault!r}")
+            for log in sorted(pathlib.Path(folder).glob("cluster/n*/re*.log")):
+                print(f"{log.parent.name}/{log.name}: " + " | ".join(log.read_text().splitlines()[-4:]))
+            sys.exit(1)
+        finally:
+            trial.tear_down()
+    print(f"all {len(chosen)} operations did what they have to, in {time.monotonic() - began:.0f} s")
+
+
+if __name__ == "__main__":
+    main()

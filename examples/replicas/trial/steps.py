@@ -1,0 +1,110 @@
+"""What the trials on loopback share: three nodes, requests, registrations, comparisons."""
+import http.client
+import json
+import pathlib
+import shutil
+import signal
+import subprocess
+import sys
+import time
+import urllib.error
+import urllib.request
+from typing import Callable
+
+from trial.local import HERE, Cluster, Node
+
+FAULTS = (OSError, http.client.HTTPException)
+
+
+class Wrong(Exception):
+    """An operation didn't do what it has to."""
+
+
+def check(condition: object, what: str) -> None:
+    if not condition:
+        raise Wrong(what)
+    print(f"  ok: {what}", flush=True)
+
+
+def schema(number: int) -> bytes:
+    record = {"type": "record", "name": "R", "doc": f"number {number}", "fields": []}
+    return json.dumps({"schema": json.dumps(record)}).encode()
+
+
+def ask(node: Node, method: str, target: str, body: bytes | None = None, **fields: str) -> tuple[int, bytes]:
+    request = urllib.request.Request(node.url + target, body, fields, method=method)
+    try:
+        with urllib.request.urlopen(request, timeout=60) as found:
+            return found.status, found.read()
+    except urllib.error.HTTPError as fault:
+        return fault.code, fault.read()
+
+
+class LocalTrial:
+    def __init__(self, folder: pathlib.Path, program: pathlib.Path) -> None:
+        self.folder, self.program = folder, program
+        self.cluster = Cluster(folder / "cluster")
+        self.count = 0
+
+    @property
+    def nodes(self) -> list[Node]:
+        return list(self.cluster.nodes.values())
+
+    def set_up(self) -> None:
+        """Three nodes from nothing."""
+        self.tear_down()
+        shutil.rmtree(self.cluster.folder, ignore_errors=True)
+        self.cluster, self.count = Cluster(self.folder / "cluster"), 0
+        self.cluster.new(self.program)
+        self.cluster.start()
+
+    def tear_down(self) -> None:
+        if (self.cluster.folder / "n1").exists():
+            self.cluster.end(signal.SIGKILL)
+
+    def command(self, node: Node, *words: object, fails: bool = False) -> str:
+        done = subprocess.run(
+            [sys.executable, str(HERE / "avroreg-cluster"), "--config", str(node.config), *map(str, words)], capture_output=True, text=True
+        )
+        if bool(done.returncode) != fails:
+            raise Wrong(f"avroreg-cluster {' '.join(map(str, words))} ended with {done.returncode}: {done.stdout}{done.stderr}")
+        return done.stdout + done.stderr
+
+    def register(self, node: Node, count: int) -> list[int]:
+        """Registers so many schemas, each in a subject of its own. Returns their ids."""
+        ids = []
+        for _ in range(count):
+            self.count += 1
+            until = time.monotonic() + 60
+            while True:
+                status, body = ask(node, "POST", f"/subjects/s{self.count}/versions", schema(self.count), **{"Registry-Retry-Key": f"k{self.count}"})
+                if status == 200:
+                    break
+                if status != 503 or time.monotonic() > until:
+                    raise Wrong(f"a registration was answered {status}: {body!r}")
+                time.sleep(0.2)
+            ids.append(int(json.loads(body)["id"]))
+        return ids
+
+    def meet(self, *nodes: Node) -> None:
+        """Waits until the nodes are at one revision, saved, and checks that they have one digest and show the same."""
+        nodes = nodes or tuple(self.nodes)
+        until = time.monotonic() + 90
+        while True:
+            found = [it.health() for it in nodes]
+            if len({(it.get("revision"), it.get("saved")) for it in found}) == 1 and found[0].get("status") == "ok":
+                break
+            if time.monotonic() > until:
+                raise Wrong(f"the nodes don't meet: {found}")
+            time.sleep(0.2)
+        check(len({it["digest"] for it in found}) == 1, f"{len(nodes)} nodes at revision {found[0]['revision']} with one digest")
+        prints = {self.command(it, "fingerprint") for it in nodes}
+        check(len(prints) == 1, f"and one fingerprint: {prints.pop().split()[1]}")
+
+    def wait_for(self, condition: Callable[[], object], what: str) -> None:
+        until = time.monotonic() + 60
+        while not condition():
+            if time.monotonic() > until:
+                raise Wrong(what)
+            time.sleep(0.1)
+        check(True, what)

@@ -1,0 +1,283 @@
+#!/usr/bin/env python3
+"""Three nodes in network namespaces, clients and faults: what was acknowledged is compared with two folds of the log, and with the
+tables of the nodes. trial.sh calls it, as root.
+
+    trial.py PROGRAM [--seconds N] [--rate R] [--seed N] [--relay FILE]
+
+Ends with status 0 if nothing was lost, nothing was applied twice, and no two nodes differ.
+"""
+import argparse
+import bisect
+import collections
+import json
+import os
+import pathlib
+import random
+import shutil
+import signal
+import subprocess
+import sys
+import tempfile
+import time
+
+HERE = pathlib.Path(__file__).resolve().parent.parent
+sys.path.insert(0, str(HERE))
+
+from trial import compare  # noqa: E402
+from trial.clients import FAULTS, Client, ask  # noqa: E402
+from trial.faults import kinds_of_faults  # noqa: E402
+from trial.spaces import SpaceCluster, SpaceNode  # noqa: E402
+
+class Trial:
+    def __init__(self, options: argparse.Namespace, folder: pathlib.Path) -> None:
+        self.options, self.folder, self.random = options, folder, random.Random(options.seed)
+        self.program = options.program.resolve()
+        self.cluster = SpaceCluster(folder / "cluster", options.relay.resolve())
+        self.nodes = list(self.cluster.spaces.values())
+        self.clients: list[Client] = []
+        self.wrong: list[str] = []
+        self.faults: list[tuple[str, float, float, bool]] = []  # name, begin, end, whether at etcd's leader
+        self.healing: list[float] = []
+        self.differences = self.duplicates = 0
+
+    def say(self, line: str) -> None:
+        print(line, flush=True)
+
+    def hold(self, condition: object, what: str) -> None:
+        self.say(f"{'ok   ' if condition else 'WRONG'} {what}")
+        if not condition:
+            self.wrong.append(what)
+
+    # --- Faults
+
+    def chaos(self, seconds: float) -> None:
+        """One fault after the other, most at one node, some at two, until the time is over and each kind was there."""
+        kinds, names = kinds_of_faults(self.nodes), list[str]()
+        until, is_first = time.monotonic() + seconds, True
+        while time.monotonic() < until or (names and is_first):
+            if not names:
+                is_first = not self.faults
+                names = self.random.sample(list(kinds), len(kinds))
+            name = names.pop()
+            leader, chosen = self.cluster.leader(), self.random.sample(self.nodes, 2 if self.random.random() < 0.1 else 1)
+            if leader and self.random.random() < 0.4:
+                chosen = [leader]
+            began = time.monotonic()
+            for node in chosen:
+                kinds[name][0](node)
+            time.sleep(self.random.uniform(0.5, 5))
+            for node in chosen:
+                kinds[name][1](node)
+            ended = time.monotonic()
+            self.faults.append((name, began, ended, leader in chosen))
+            self.meet()
+            self.healing.append(time.monotonic() - ended)
+            time.sleep(self.random.uniform(0.2, 1.5))
+
+    # --- Waiting
+
+    def meet(self, seconds: float = 300) -> None:
+        """Waits until each node has applied what any node had applied when this began."""
+        until, newest = time.monotonic() + seconds, None
+        while True:
+            found = [it.health() for it in self.nodes]
+            revisions = [int(str(it.get("revision", -1))) for it in found]
+            if any(it.get("status") == "stopped" for it in found):
+                self.hold(False, f"no node stops: {[it.get('reasons') for it in found]}")
+                raise TimeoutError("a node has stopped")
+            newest = max(revisions) if newest is None and min(revisions) >= 0 else newest
+            if newest is not None and min(revisions) >= newest:
+                return
+            if time.monotonic() > until:
+                raise TimeoutError(f"the nodes don't meet at {newest}: {found}")
+            time.sleep(0.3)
+
+    def rest(self) -> int:
+        """Waits until nothing changes any more. Returns the revision."""
+        for _ in range(60):
+            time.sleep(3)
+            self.meet()
+            found = {(it.health().get("revision"), it.health().get("saved")) for it in self.nodes}
+            if len(found) == 1 and len(set(*found)) == 1:
+                return int(str(self.nodes[0].health()["revision"]))
+        raise TimeoutError("the nodes don't come to rest")
+
+    # --- Comparison
+
+    def compare_all(self) -> None:
+        revision = self.rest()
+        digests = {str(it.health()["digest"]) for it in self.nodes}
+        self.hold(len(digests) == 1, f"the nodes are at revision {revision} with one digest")
+        fold = compare.Fold(compare.dump(self.nodes[0], revision), self.program)
+        self.hold(fold.is_whole and not fold.differing,
+                  f"the log's {len(fold.log)} messages get the same responses from avroreg run and from the machine in Python"
+                  f" {fold.differing[:1] or ''}")  # fmt: skip
+        writes = [it for client in self.clients for it in client.writes]
+        self.lost, wrongly = fold.lost(writes), fold.wrongly_answered(writes)
+        self.hold(not self.lost, f"acknowledged writes that the log lacks: {len(self.lost)} of {len(writes)}")
+        count = sum(len(it.responses) for it in writes)
+        example = [(it.message(), status, body) for it, status, body in wrongly[:1]]
+        self.hold(not wrongly, f"responses that the log doesn't give: {len(wrongly)} of {count} {example or ''}")
+        self.compare_tables(fold)
+        self.fold, self.written, self.wrongly = fold, writes, wrongly
+
+    def compare_tables(self, fold: compare.Fold) -> None:
+        wanted, found = fold.machine.tables(), []
+        for node in self.nodes:
+            node.kill("relay", "registry")
+            found.append(compare.rows(node, self.program))
+            node.run("registry", "relay")
+        names = {name: [it[0][name] == wanted[name] for it in found] for name in wanted}
+        self.differences = sum(not it for same in names.values() for it in same)
+        self.duplicates = sum(len(set(it[0]["versions"]) - set(wanted["versions"])) for it in found)
+        sizes = ", ".join(f"{name} {len(rows)}" for name, rows in wanted.items())
+        self.hold(not self.differences, f"the tables of the three nodes are the log's: {sizes} {names if self.differences else ''}")
+        self.hold({it[1] for it in found} == {"evidence holds"}, f"their audits: {[it[1] for it in found]}")
+
+    # --- A node that is too old, and one that was changed
+
+    def command(self, node: SpaceNode, *words: str) -> str:
+        done = subprocess.run([*node.prefix, sys.executable, str(HERE / "avroreg-cluster"), "--config", str(node.config), *words],
+                              capture_output=True, text=True)  # fmt: skip
+        return done.stdout + done.stderr
+
+    def register(self, subject: str) -> None:
+        body = json.dumps({"schema": json.dumps({"doc": subject, "fields": [], "name": "R", "type": "record"})}).encode()
+        for _ in range(200):
+            try:
+                if ask(self.nodes[0], "POST", f"/subjects/{subject}/versions", body, subject)[0] == 200:
+                    return
+            except FAULTS:
+                pass
+            time.sleep(0.2)
+        raise TimeoutError("a registration gets no response")
+
+    def until_stopped(self, node: SpaceNode, what: str, seconds: float = 60) -> None:
+        until = time.monotonic() + seconds
+        while node.health().get("status") != "stopped" and time.monotonic() < until:
+            time.sleep(0.3)
+        health = node.health()
+        self.hold(health.get("status") == "stopped", f"{what}: {health.get('reasons')}")
+
+    def old_node(self) -> None:
+        """n3 loses its files, and the log has been trimmed meanwhile: it must not go on from the entries that are left."""
+        third = self.nodes[2]
+        self.rest()
+        third.kill("relay", "registry")
+        for path in (third.database, third.database.with_name("registry.db-wal"), third.position):
+            path.unlink(missing_ok=True)
+        self.say("      " + self.command(self.nodes[0], "trim").strip())
+        third.run("registry", "relay")
+        self.register("after-trim")
+        self.until_stopped(third, "a node that needs entries that were trimmed stops")
+        third.kill("relay", "registry")
+        self.copy(self.nodes[0], third)
+        third.run("registry", "relay")
+        self.meet()
+
+    def copy(self, source: SpaceNode, target: SpaceNode) -> None:
+        """Copies a node's database and position, as backup and restore do."""
+        source.kill("relay")
+        source.kill("registry")
+        for suffix in ("", "-wal"):
+            target.database.with_name("registry.db" + suffix).unlink(missing_ok=True)
+            if source.database.with_name("registry.db" + suffix).exists():
+                shutil.copy(source.database.with_name("registry.db" + suffix), target.database.with_name("registry.db" + suffix))
+        shutil.copy(source.position, target.position)
+        source.run("registry", "relay")
+
+    def changed_node(self) -> None:
+        """Somebody registers at n2's avroreg past the log: n2 has to stop, and the others have to go on."""
+        second = self.nodes[1]
+        body = json.dumps({"schema": json.dumps({"doc": "past the log", "fields": [], "name": "R", "type": "record"})})
+        second.inside("curl", "-s", "-m", "30", "-d", body, "http://127.0.0.1:8081/subjects/past/versions")
+        for number in range(3):
+            self.register(f"after-change-{number}")
+        self.until_stopped(second, "a node whose avroreg was written to past the log stops")
+        others = [it.health().get("status") for it in (self.nodes[0], self.nodes[2])]
+        self.hold(others == ["ok", "ok"], f"the others go on: {others}")
+
+    # --- All of it
+
+    def run(self) -> None:
+        options = self.options
+        self.cluster.set_up(self.program)
+        while not self.cluster.leader() or any(it.health().get("status") != "ok" for it in self.nodes):
+            time.sleep(0.5)
+        self.clients = [Client(list(self.nodes), number, options.rate, options.seed) for number in range(8)]
+        for client in self.clients:
+            client.start()
+        began = time.monotonic()
+        time.sleep(3)
+        self.chaos(options.seconds)
+        ended = time.monotonic()
+        for client in self.clients:
+            client.stop.set()
+        for client in self.clients:
+            client.join(60)
+            client.give_up.set()
+            client.join()
+            self.wrong += client.wrong
+        self.compare_all()
+        self.report(began, ended)
+        self.old_node()
+        self.changed_node()
+
+    def report(self, began: float, ended: float) -> None:
+        answered = sorted(it.answered for it in self.written)
+        counts = sum((it.counts for it in self.clients), collections.Counter[str]())
+        tally = collections.Counter(name for name, *_ in self.faults)
+        at = [began, *answered[bisect.bisect(answered, began) : bisect.bisect(answered, ended)], ended]
+        seconds = sorted(it for client in self.clients for it in client.seconds)
+        rows = {
+            "seconds": f"{ended - began:.0f}",
+            "faults": f"{len(self.faults)}, of them {sum(it[3] for it in self.faults)} at etcd's leader",
+            "acknowledged writes": len(self.written),
+            "writes without a response": sum(len(it.unanswered) for it in self.clients),
+            "losses": len(self.lost),
+            "duplicates, as versions that the log doesn't give": self.duplicates,
+            "responses that the log doesn't give": len(self.wrongly),
+            "differences between tables": self.differences,
+            "repeats in the log, each without effect": self.fold.repeats(),
+            "fresh reads, all right": counts["fresh reads"],
+            "local reads elsewhere that were stale": counts["stale reads"],
+            "longest time without an acknowledged write": f"{max(b - a for a, b in zip(at, at[1:])):.1f} s",
+            "response times": f"half within {seconds[len(seconds) // 2] * 1000:.0f} ms, 99 of 100 within {seconds[len(seconds) * 99 // 100] * 1000:.0f} ms",
+            "until a node had caught up after a fault": f"at most {max(self.healing):.1f} s",
+        }
+        self.say("\n| | |\n|---|---|")
+        for name, value in rows.items():
+            self.say(f"| {name} | {value} |")
+        self.say("| " + "; ".join(f"{name} {count}" for name, count in sorted(tally.items())) + " | |")
+        self.say("| " + "; ".join(f"{name} {count}" for name, count in sorted(counts.items())) + " | |\n")
+
+
+def main() -> None:
+    parser = argparse.ArgumentParser(description=(__doc__ or "").split("\n")[0])
+    parser.add_argument("program", type=pathlib.Path)
+    parser.add_argument("--seconds", type=float, default=60, help="how long faults are made (60)")
+    parser.add_argument("--rate", type=float, default=4, help="writes a second and client (4)")
+    parser.add_argument("--seed", type=int, default=1)
+    parser.add_argument("--relay", type=pathlib.Path, default=HERE / "avroreg-relay", help="another relay, as one with a break")
+    options = parser.parse_args()
+    signal.signal(signal.SIGTERM, lambda *_: sys.exit("ended by a signal"))
+    with tempfile.TemporaryDirectory() as folder:
+        trial = Trial(options, pathlib.Path(folder))
+        trial.cluster.tear_down()
+        trial.cluster = SpaceCluster(pathlib.Path(folder) / "cluster", options.relay.resolve())
+        trial.nodes = list(trial.cluster.spaces.values())
+        try:
+            trial.run()
+        except (TimeoutError, KeyError) as fault:
+            trial.hold(False, f"the trial ends: {fault!r}")
+        finally:
+            if os.environ.get("KEEP"):
+                keep = shutil.ignore_patterns("disk.img", "avroreg", "lost+found")
+                shutil.copytree(trial.cluster.folder, os.environ["KEEP"], ignore=keep, dirs_exist_ok=True)
+            trial.cluster.tear_down()
+    print(f"{len(trial.wrong)} wrong")
+    sys.exit(bool(trial.wrong))
+
+
+if __name__ == "__main__":
+    main()
