@@ -1,0 +1,63 @@
+#!/usr/bin/env bash
+# The part of packaging/try.sh that runs inside a booted Debian, in which /root/avroreg.deb is to be installed.
+set -u
+source /root/checks.sh
+url=http://127.0.0.1:8081
+write() { answers 200 '{"id":1}' -H "Registry-Retry-Key: $1" -d '{"schema":"\"string\""}' "${3:-$url}/subjects/$2/versions"; }
+pid() { systemctl show -P MainPID "$1"; }
+property() { [ "$(systemctl show -P "$2" "$1")" = "$3" ] || { systemctl show "$1" -p "$2"; return 1; }; }
+
+check "the package is installed" dpkg -i /root/avroreg.deb
+check "the service is active" systemctl is-active avroreg
+check "it answers" answers 200 BACKWARD "$url/config"
+check "a write is acknowledged" write k1 orders
+check "it runs as its own user" test "$(ps -o user= -p "$(pid avroreg)")" = avroreg
+check "it has no capabilities" grep -qE '^CapBnd:\s0+$' "/proc/$(pid avroreg)/status"
+check "only its user reads the registry" test "$(stat -c '%a %U' /var/lib/avroreg)" = "700 avroreg"
+check "a restart is over when it answers" bash -c "systemctl restart avroreg && curl -s -f $url/config"
+before=$(pid avroreg)
+kill -9 "$before"
+begin=$(date +%s%N)
+check "killed with -9, it answers again" eventually 60 answers 200 BACKWARD "$url/config"
+echo "       after $((($(date +%s%N) - begin) / 1000000)) ms"
+check "systemd started it again" test "$(pid avroreg)" != "$before"
+check "the acknowledged write is kept" answers 200 '[1]' "$url/subjects/orders/versions"
+check "its retry gets the first reply" write k1 orders
+check "it stops" systemctl stop avroreg
+check "stopped, the file is readable" runuser -u avroreg -- avroreg list --db /var/lib/avroreg/registry.db versions
+check "it starts again" systemctl start avroreg
+check "and answers at once" answers 200 '["orders"]' "$url/subjects"
+
+echo AVROREG_PORT=8082 >/etc/default/avroreg-payments
+check "a second registry starts" systemctl start avroreg@payments
+check "it takes a write" write k1 payments http://127.0.0.1:8082
+check "it has a file of its own" test -s /var/lib/avroreg-payments/registry.db
+check "the first one doesn't know of it" answers 200 '["orders"]' "$url/subjects"
+
+check "a backup is made while the server runs" systemctl start avroreg-backup
+check "the backup passed its audit" test -s /var/lib/avroreg-backup/last-good.json
+check "metrics are written" systemctl start avroreg-watch
+check "they say that the server answers" grep -qx 'avroreg_up 1' /var/lib/avroreg-metrics/avroreg.prom
+check "the timers start" systemctl start avroreg-backup.timer avroreg-watch.timer
+
+cp /etc/default/avroreg /root/default
+sed -i 's/^AVROREG_PORT=.*/AVROREG_PORT=none/' /etc/default/avroreg
+check "wrong arguments are a failure" bash -c '! systemctl restart avroreg'
+sleep 3
+check "and aren't tried again" property avroreg NRestarts 0
+cp /root/default /etc/default/avroreg
+systemctl reset-failed avroreg
+systemctl stop avroreg
+cp -a /var/lib/avroreg /root/kept
+rm -f /var/lib/avroreg/registry.db-wal
+head -c 5000 /dev/urandom >/var/lib/avroreg/registry.db
+systemctl start avroreg 2>/dev/null
+check "a damaged file is a failure, after five starts" eventually 120 property avroreg Result start-limit-hit
+check "the journal names the file" bash -c "journalctl -u avroreg -o cat | grep -q 'avroreg: .*registry.db'"
+cp -a /root/kept/. /var/lib/avroreg/
+systemctl reset-failed avroreg
+check "with the file restored, it starts" systemctl start avroreg
+check "the versions are there" answers 200 '[1]' "$url/subjects/orders/versions"
+check "an upgrade restarts it" bash -c "dpkg -i /root/avroreg.deb && curl -s -f $url/config"
+check "a removal stops both registries" bash -c "dpkg -r avroreg && ! curl -s $url/config && ! curl -s http://127.0.0.1:8082/config"
+counts

@@ -1,0 +1,62 @@
+#!/usr/bin/env bash
+# The part of packaging/try.sh that builds and runs the images. It runs in mount and network namespaces of its own.
+#
+#   packaging/try-oci.sh SCRATCH     STORE: the folder for images
+set -u
+here=$(cd "$(dirname "$0")" && pwd)
+source "$here/checks.sh"
+scratch=$1
+version=$(sed -n '1s/.*(\(.*\)).*/\1/p' "$here/deb/changelog")
+if [ "$(stat -fc %T /sys/fs/cgroup)" != cgroup2fs ]; then
+  umount -R /sys/fs/cgroup && mount -t cgroup2 cgroup2 /sys/fs/cgroup
+fi
+ip link set lo up
+# No limit is raised, and no cgroup made, so this runs in a container too.
+export CONTAINERS_CONF=$scratch/containers.conf
+cat >"$CONTAINERS_CONF" <<'CONF'
+[containers]
+default_ulimits = ["nofile=1024:1024", "nproc=1024:1024"]
+cgroups = "disabled"
+[engine]
+cgroup_manager = "cgroupfs"
+events_logger = "file"
+runtime = "crun"
+CONF
+podman() { command podman --root "$STORE/root" --runroot "$STORE/run" --storage-driver vfs "$@"; }
+trap 'podman pod rm -f -t 1 try >/dev/null 2>&1; podman rm -f -t 1 -a >/dev/null 2>&1' EXIT
+closed=(--read-only --cap-drop all --security-opt no-new-privileges)
+registry=$scratch/registry
+mkdir -m 700 "$registry"
+chown 10001:10001 "$registry"
+
+id_of() { podman inspect -f '{{.Id}}' "localhost/avroreg:$version"; }
+same_image() {
+  local first
+  first=$(id_of)
+  "$here/oci/build" avroreg && [ "$(id_of)" = "$first" ]
+}
+
+check "the images are built" "$here/oci/build" || { counts; exit 1; }
+check "the same program gives the same image" same_image
+check "a pod is made" podman pod create --name try --network=none
+check "the registry starts read-only, without capabilities" podman run -d --name registry --pod try "${closed[@]}" \
+  -v "$registry:/var/lib/avroreg" "localhost/avroreg:$version"
+check "nginx starts read-only, without capabilities" podman run -d --name front --pod try "${closed[@]}" --tmpfs /tmp \
+  "localhost/avroreg-nginx:$version"
+net=$(podman inspect -f '{{.State.Pid}}' front)
+through_nginx() {
+  local came
+  came=$(nsenter -t "$net" -n curl -s -m 60 -w '\n%{http_code}' "${@:3}")
+  echo "$came"
+  [[ $came == *"$2"* && ${came##*$'\n'} == "$1" ]]
+}
+url=http://127.0.0.1:8080
+check "nginx hands on requests" eventually 120 through_nginx 200 BACKWARD "$url/config"
+check "a write is acknowledged" through_nginx 200 '{"id":1}' -d '{"schema":"\"int\""}' "$url/subjects/orders/versions"
+check "the registry is in the volume" test -s "$registry/registry.db"
+check "the registry is killed" podman kill -s KILL registry
+check "nginx answers 502 meanwhile" through_nginx 502 '' "$url/config"
+check "the registry starts again" podman start registry
+check "the acknowledged write is kept" eventually 120 through_nginx 200 '[1]' "$url/subjects/orders/versions"
+check "the registry stops at once" podman stop -t 10 registry
+counts

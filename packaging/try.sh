@@ -1,0 +1,134 @@
+#!/usr/bin/env bash
+# Tries what packaging/ builds: installs, upgrades, removes and purges the Debian package in a fresh Debian 12, boots it under
+# systemd, kills the program and gets the next answer, and runs the images read-only, without capabilities.
+#
+#   AVROREG=PROGRAM packaging/try.sh [deb|systemd|oci]..     default: all
+#   BASE      a tree of Debian 12 to copy; by default debootstrap makes one, which needs the network
+#
+# Needs root, and Debian's debootstrap, systemd-container, lintian, mandoc, dpkg-dev, binutils, buildah, podman, crun, nginx,
+# curl and iproute2. Prints a line for each check; the last line is 'N passed, M failed'. The status is 0 if all passed.
+set -u
+here=$(cd "$(dirname "$0")" && pwd)
+source "$here/checks.sh"
+top=$(cd "$here/.." && pwd)
+program=$(realpath "${AVROREG:-$top/crates/avroreg/out/avroreg}")
+[ -x "$program" ] || { echo "packaging/try.sh: there is no program $program; build it, or name it in AVROREG" >&2; exit 1; }
+[ "$(id -u)" = 0 ] || { echo "packaging/try.sh: run this as root" >&2; exit 1; }
+export AVROREG=$program
+scratch=$(mktemp -d /var/tmp/avroreg-try.XXXXXX)
+booted=
+
+clean() {
+  [ -z "$booted" ] || kill "$booted" 2>/dev/null
+  wait
+  rm -rf --one-file-system "$scratch"
+}
+trap clean EXIT
+trap 'exit 130' INT TERM
+
+# fresh NAME: a new tree of Debian 12, $scratch/NAME.
+fresh() {
+  if [ -z "${BASE:-}" ]; then
+    BASE=$scratch/base
+    debootstrap --variant=minbase --include=systemd,systemd-sysv,dbus,curl,procps,iproute2,python3-minimal bookworm "$BASE" \
+      >"$scratch/debootstrap.log" 2>&1 || { tail -n 5 "$scratch/debootstrap.log"; failed "debootstrap"; return 1; }
+  fi
+  cp -a "$BASE" "$scratch/$1"
+}
+
+# inside NAME COMMAND..: a command in that tree, without a running systemd.
+inside() {
+  local tree=$scratch/$1
+  shift
+  chroot "$tree" env -i PATH=/usr/sbin:/usr/bin:/sbin:/bin LANG=C.UTF-8 DEBIAN_FRONTEND=noninteractive "$@"
+}
+
+built() { deb=$("$here/deb/build" "$scratch/deb") && [ -f "$deb" ]; }
+same_bytes() {
+  local second
+  cp "$program" "$scratch/program"
+  second=$(umask 077 && cd / && AVROREG=$scratch/program TZ=Asia/Tokyo "$here/deb/build" "$scratch/second") && cmp "$deb" "$second"
+}
+# lintian prints errors and warnings, and nothing else.
+no_tags() { [ -z "$(lintian --allow-root --tag-display-limit 0 "$deb" 2>&1 | grep '^[EW]:' | tee /dev/stderr)" ]; }
+no_remarks() { [ -z "$(mandoc -T lint -W warning "$here/man/avroreg.1" 2>&1 | tee /dev/stderr)" ]; }
+
+try_deb() {
+  check "the package is built" built || return
+  check "the same program gives the same bytes" same_bytes
+  check "lintian finds no errors and no warnings" no_tags
+  check "mandoc finds nothing" no_remarks
+  fresh debian || return
+  cp "$deb" "$scratch/debian/tmp/avroreg.deb"
+  check "it is installed" inside debian dpkg -i /tmp/avroreg.deb
+  check "the user exists" inside debian getent passwd avroreg
+  check "the service is enabled" test -L "$scratch/debian/etc/systemd/system/multi-user.target.wants/avroreg.service"
+  check "every file is as packaged" inside debian dpkg -V avroreg
+  check "the program runs" grep -qx '"int"' <(inside debian avroreg text /dev/stdin <<<'"int"')
+  check "the units are valid" inside debian systemd-analyze verify avroreg.service avroreg@orders.service avroreg-backup.timer avroreg-watch.timer
+  mkdir -p "$scratch/debian/var/lib/avroreg"
+  echo data >"$scratch/debian/var/lib/avroreg/registry.db"
+  echo AVROREG_PORT=9000 >>"$scratch/debian/etc/default/avroreg"
+  check "it is upgraded" inside debian dpkg -i --force-confdef --force-confold /tmp/avroreg.deb
+  check "an upgrade keeps the settings" grep -q AVROREG_PORT=9000 "$scratch/debian/etc/default/avroreg"
+  check "it is removed" inside debian dpkg -r avroreg
+  check "a removal keeps the settings" test -f "$scratch/debian/etc/default/avroreg"
+  check "a purge says that it keeps the registry" grep -q "kept /var/lib/avroreg" <(inside debian dpkg -P avroreg 2>&1)
+  check "a purge keeps the registry" grep -qx data "$scratch/debian/var/lib/avroreg/registry.db"
+  check "a purge removes everything else" test -z "$(find "$scratch/debian/etc" "$scratch/debian/usr" "$scratch/debian/lib/" -name '*avroreg*' -print -quit)"
+}
+
+# boot NAME: boots that tree; $leader is its process 1. A host that mounts cgroups of version 1 gets a mount namespace with
+# version 2 alone.
+boot() {
+  local prepare=: _
+  if [ "$(stat -fc %T /sys/fs/cgroup)" != cgroup2fs ]; then
+    prepare='umount -R /sys/fs/cgroup && mount -t cgroup2 cgroup2 /sys/fs/cgroup && mkdir -p /sys/fs/cgroup/avroreg-try && echo $$ >/sys/fs/cgroup/avroreg-try/cgroup.procs'
+  fi
+  SYSTEMD_SECCOMP=0 unshare -m bash -c "$prepare"' && exec systemd-nspawn "$@"' boot --boot -D "$scratch/$1" --register=no \
+    --keep-unit --private-network --console=pipe --capability=all -M avroreg-try >"$scratch/boot.log" 2>&1 </dev/null &
+  booted=$!
+  for _ in $(seq 1200); do
+    leader=$(pgrep -P "$booted" -x systemd | head -n 1)
+    [ -z "$leader" ] || [[ "$(booted systemctl is-system-running 2>/dev/null)" != running && "$(booted systemctl is-system-running 2>/dev/null)" != degraded ]] || return 0
+    kill -0 "$booted" 2>/dev/null || break
+    sleep 0.5
+  done
+  tail -n 5 "$scratch/boot.log"
+  return 1
+}
+
+# booted COMMAND..: a command in the booted tree.
+booted() {
+  nsenter -t "$leader" -m -u -i -n -p --root="/proc/$leader/root" --wd="/proc/$leader/root" \
+    env -i PATH=/usr/sbin:/usr/bin:/sbin:/bin LANG=C.UTF-8 SYSTEMD_PAGER= "$@"
+}
+
+try_systemd() {
+  [ -n "${deb:-}" ] || check "the package is built" built || return
+  fresh booted || return
+  cp "$deb" "$scratch/booted/root/avroreg.deb"
+  cp "$here/checks.sh" "$here/try-booted.sh" "$scratch/booted/root/"
+  check "systemd boots" boot booted || return
+  booted bash /root/try-booted.sh | tee "$scratch/booted.log"
+  take_counts "$scratch/booted.log"
+  kill -s RTMIN+4 "$leader"
+  wait "$booted"
+  booted=
+}
+
+# In namespaces of their own, so that this machine's network, cgroups and images stay as they are.
+try_oci() {
+  STORE=$scratch/store unshare -m -n bash "$here/try-oci.sh" "$scratch" | tee "$scratch/oci.log"
+  take_counts "$scratch/oci.log"
+}
+
+for part in ${*:-deb systemd oci}; do
+  echo "== $part"
+  case $part in
+    deb | systemd | oci) "try_$part" ;;
+    *) failed "there is no trial $part" ;;
+  esac
+done
+counts
+[ "$failures" = 0 ]
