@@ -178,7 +178,7 @@ fn time_of(rt: &HostRuntime, row: &Row) -> Result<u128, Fail> {
 /// Serves the clients of a row in due time.
 fn are_served(rt: &HostRuntime, row: &Row) -> Result<(), Fail> {
     let (_, _, _, least, most) = *row;
-    let mut took = 0;
+    let mut took = 0u128;
     for _ in 0..TRIES {
         took = time_of(rt, row)?;
         if least <= took && took < most {

@@ -18,8 +18,8 @@ const MANY: usize = 200;
 
 const ASK: &str = "GET /schemas/ids/1 HTTP/1.1\r\n\r\n";
 
-/// How many bytes are read at most at once.
-const ROOM: usize = 65_536;
+/// How many bytes the client reads at most at once.
+const ROOM: usize = 16_384;
 
 /// What a client has read of a response that comes again and again.
 #[derive(Drop)]
@@ -32,11 +32,11 @@ struct Taken<'a> {
 
 impl<'a> Taken<'a> {
     /// Reads once, and returns how many bytes came.
-    fn take(&self, most: usize) -> io::Result<usize> {
+    fn take(&self) -> io::Result<usize> {
         let mut stream = self.stream;
         let mut room = [0u8; ROOM];
-        let count = stream.read(&mut room[..most.min(ROOM)])?;
-        for byte in &room[..count] {
+        let count = stream.read(&mut room)?;
+        for byte in room.iter().take(count) {
             let at = self.count.get();
             if self.response.get(at % self.response.len().max(1)) != Some(byte) {
                 self.is_due.set(false);
@@ -49,7 +49,7 @@ impl<'a> Taken<'a> {
     /// Reads up to the end.
     fn take_rest(&self) -> io::Result<()> {
         for _ in 0..u64::MAX {
-            if self.take(ROOM)? == 0 {
+            if self.take()? == 0 {
                 break;
             }
         }
@@ -57,19 +57,19 @@ impl<'a> Taken<'a> {
     }
 }
 
-/// A clock on which so many milliseconds pass between two looks. At each look the client reads so many bytes at most.
+/// A clock on which so many milliseconds pass between two looks. At each look the client may read once.
 #[derive(Drop)]
-struct Reading<'a> {
-    taken: &'a Taken<'a>,
+struct Reading<'a, 'b> {
+    taken: &'a Taken<'b>,
     step: u64,
-    most: usize,
+    reads: bool,
     looks: Cell<u64>,
 }
 
-impl<'a> Clock for Reading<'a> {
+impl<'a, 'b> Clock for Reading<'a, 'b> {
     fn monotonic(&self) -> io::Result<Duration> {
-        if self.most > 0 {
-            let _ = self.taken.take(self.most);
+        if self.reads {
+            let _ = self.taken.take();
         }
         self.looks.set(self.looks.get().saturating_add(1));
         Ok(Duration::from_millis(self.looks.get().saturating_mul(self.step)))
@@ -80,15 +80,15 @@ impl<'a> Clock for Reading<'a> {
     }
 }
 
-/// How many bytes the client reads at each look, how many milliseconds pass between two, whether another client waits, and
-/// bounds: so many milliseconds at least, and less than so many.
-type Row = (usize, u64, bool, u128, u128);
+/// Whether the client reads while it is served, how many milliseconds pass between two looks, how many connections are
+/// served, and bounds: so many milliseconds at least, and less than so many.
+type Row = (bool, u64, u32, u128, u128);
 
 const ROWS: [Row; 2] = [
     // nothing is taken of a response for thirty seconds of this clock
-    (0, 10_000, false, 250, 1000),
+    (false, 10_000, 1, 250, 1000),
     // the turn is over after a second of this clock
-    (ROOM, 100, true, 0, 500),
+    (true, 100, 2, 0, 500),
 ];
 
 /// How often a row is tried that took too long: the machine may be busy.
@@ -103,10 +103,15 @@ fn large_response<S: Alter + Drop>(
     let head = "POST /subjects/s/versions HTTP/1.1\r\nContent-Length: 100044\r\n\r\n";
     let front = "{\"schema\":\"{\\\"type\\\":\\\"int\\\",\\\"doc\\\":\\\"";
     let input = joined(alloc, &[head, front, &doc, "\\\"}\"}"])?;
-    let mut registered = Vec::new(alloc);
-    served(alloc, &mut input.as_bytes(), &mut registered, service);
-    let mut response = Vec::new(alloc);
-    served(alloc, &mut ASK.as_bytes(), &mut response, service);
+    let mut registered: Vec<u8> = Vec::new(alloc);
+    let _ = served(
+        alloc,
+        &mut input.as_str().as_bytes(),
+        &mut registered,
+        service,
+    );
+    let mut response: Vec<u8> = Vec::new(alloc);
+    let _ = served(alloc, &mut ASK.as_bytes(), &mut response, service);
     Ok(response)
 }
 
@@ -127,29 +132,23 @@ impl<'a> Serve<'a> {
         Ok(stream)
     }
 
-    /// Serves both clients, or the first alone.
-    fn serve<S: Alter + Drop>(
+    /// Serves the connections of the row.
+    fn serve_row<S: Alter + Drop>(
         &mut self,
         alloc: Global,
         listener: &TcpListener,
         taken: &Taken<'_>,
         service: &mut Service<S>,
     ) -> Result<(), Fail> {
-        let (most, step, has_other, _, _) = self.row;
+        let (reads, step, connections, _, _) = self.row;
         let clock = Reading {
             taken,
             step,
-            most,
+            reads,
             looks: Cell::new(0),
         };
         let begun = Instant::now(self.rt)?;
-        accept_by(
-            alloc,
-            &clock,
-            listener,
-            if has_other { 2 } else { 1 },
-            service,
-        );
+        accept_by(alloc, &clock, listener, connections, service);
         self.took = begun.elapsed(self.rt)?.as_millis();
         Ok(())
     }
@@ -163,7 +162,8 @@ impl<'a> OnService for Serve<'a> {
     ) -> Result<(), Fail> {
         let response = large_response(alloc, service)?;
         let listener = TcpListener::bind(self.rt, (Ipv4Addr::LOCALHOST, 0))?;
-        let first = self.sent(&listener, &ASK.repeat(alloc, MANY)?)?;
+        let requests = ASK.repeat(alloc, MANY)?;
+        let first = self.sent(&listener, requests.as_str())?;
         let mut second = self.sent(&listener, GET)?;
         let taken = Taken {
             stream: &first,
@@ -172,14 +172,14 @@ impl<'a> OnService for Serve<'a> {
             is_due: Cell::new(true),
         };
         first.set_nonblocking(true)?;
-        self.serve(alloc, &listener, &taken, service)?;
+        self.serve_row(alloc, &listener, &taken, service)?;
         first.set_nonblocking(false)?;
         taken.take_rest()?;
         let count = taken.count.get();
         if !taken.is_due.get() || count == 0 || count >= response.len().saturating_mul(MANY) {
             return Err(Fail::new(format_args!("{count} bytes came")));
         }
-        if !self.row.2 {
+        if self.row.2 == 1 {
             return Ok(());
         }
         let mut other = Vec::new(alloc);

@@ -180,7 +180,8 @@ fn a_cut_body_has_no_answer(rt: HostRuntime) -> Result<(), Fail> {
     let body = " ".repeat(alloc, 1_000_000)?;
     let head = "PUT /config HTTP/1.1\r\nContent-Length: 1048576\r\n\r\n";
     let input = joined(alloc, &[head, &body])?;
-    let over = [whole(("", Ended::Malformed))];
+    let nothing = input.get(..0).ok_or("no beginning")?;
+    let over = [whole((nothing, Ended::Malformed))];
     let mut task = Sent {
         input: input.as_str(),
         over: &over,
