@@ -176,7 +176,8 @@ class Replica:
 
     def health(self) -> dict[str, object]:
         troubles, at = self.all_troubles(), self.position
-        status = "stopped" if self.broken else "trouble" if troubles else "ok"
+        # That another node contradicts this one is that node's trouble, until a majority does.
+        status = "stopped" if self.broken else "trouble" if troubles.keys() - {"digest"} else "ok"
         return {
             "node": self.config.node,
             "status": status,

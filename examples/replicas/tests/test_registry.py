@@ -221,8 +221,8 @@ class Applying(unittest.IsolatedAsyncioTestCase):
         replica = self.replica(log)
         await eventually(lambda: replica.position.revision == 10)
         log.others = {"n2": {"revision": 10, "digest": "x"}, "n3": {"revision": 10, "digest": replica.position.digest}}
-        await eventually(lambda: replica.health()["status"] == "trouble")
-        self.assertIsNone(replica.broken)
+        await eventually(lambda: replica.health()["reasons"] == ["digest: n2 answered otherwise than this node"])
+        self.assertEqual((replica.broken, replica.health()["status"]), (None, "ok"))
         log.others["n3"]["digest"] = "x"
         await eventually(lambda: replica.broken is not None)
         self.assertEqual(replica.health()["status"], "stopped")

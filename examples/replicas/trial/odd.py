@@ -19,7 +19,7 @@ HERE = pathlib.Path(__file__).resolve().parent.parent
 sys.path.insert(0, str(HERE))
 
 from trial.local import Node  # noqa: E402
-from trial.steps import LocalTrial, Wrong, check  # noqa: E402
+from trial.steps import LocalTrial, Wrong, check, end_on_sigterm  # noqa: E402
 
 METHODS = ("PUT", "POST", "DELETE", "GET", "PATCH", "put", "Post", "HEAD", "OPTIONS", "TRACE", "CONNECT", "DELETE ", "\tPUT", "X-PUT", "PU\0T")
 TARGETS = (
@@ -73,6 +73,7 @@ def responses_to(node: Node, message: bytes) -> bytes:
 
 
 def main() -> None:
+    end_on_sigterm()
     program, count = pathlib.Path(sys.argv[1]).resolve(), int(sys.argv[2]) if len(sys.argv) > 2 else 2000
     pick = random.Random(int(sys.argv[3]) if len(sys.argv) > 3 else 1)
     with tempfile.TemporaryDirectory() as folder:

@@ -8,6 +8,7 @@ Ends with status 0 if each did what README.md says.
 import http.client
 import json
 import pathlib
+import re
 import shutil
 import signal
 import sqlite3
@@ -20,7 +21,7 @@ import time
 HERE = pathlib.Path(__file__).resolve().parent.parent
 sys.path.insert(0, str(HERE))
 
-from trial.steps import FAULTS, LocalTrial, Wrong, ask, check, schema  # noqa: E402
+from trial.steps import FAULTS, LocalTrial, Wrong, ask, check, end_on_sigterm, schema  # noqa: E402
 
 
 class Operations(LocalTrial):
@@ -141,9 +142,16 @@ class Operations(LocalTrial):
         check(self.register(self.nodes[0], 1) == [4], "writes go on")
         self.meet()
 
+    def have_published(self) -> bool:
+        """Whether the nodes' published positions are the newest entry's."""
+        shown = self.command(self.nodes[0], "status")
+        newest = re.search("newest ([0-9]+)", shown)
+        return bool(newest) and shown.count(f": revision {newest[1]},") == 3  # type: ignore[index]
+
     def trim(self) -> None:
         self.set_up()
         self.register(self.nodes[0], 5)
+        self.wait_for(self.have_published, "the nodes have published their positions")
         self.cluster.end(signal.SIGTERM, "n2", "relay")
         self.register(self.nodes[0], 5)
         backup = self.folder / "trim-old"
@@ -153,14 +161,15 @@ class Operations(LocalTrial):
         self.meet()
         self.command(self.nodes[2], "backup", backup)
         self.meet()
+        self.wait_for(self.have_published, "the nodes have published their positions")
         check("removed 5" in self.command(self.nodes[2], "trim"), "then it removes them")
         self.register(self.nodes[1], 2)
         self.meet()
         self.command(self.nodes[0], "restore", backup)
         self.meet()
-        shutil.copy(backup / "position", self.folder / "position")
         self.register(self.nodes[1], 1)
         self.meet()
+        self.wait_for(self.have_published, "the nodes have published their positions")
         self.command(self.nodes[2], "trim")
         check("newer backup" in self.command(self.nodes[0], "restore", backup, fails=True), "a backup older than the log is refused")
         self.meet()
@@ -225,6 +234,7 @@ NAMES = ("from_nothing", "adopt", "replace", "upgrade", "trim", "restore_all", "
 
 
 def main() -> None:
+    end_on_sigterm()
     program, chosen = pathlib.Path(sys.argv[1]).resolve(), sys.argv[2:] or NAMES
     began = time.monotonic()
     with tempfile.TemporaryDirectory() as folder:

@@ -20,7 +20,7 @@ HERE = pathlib.Path(__file__).resolve().parent.parent
 sys.path.insert(0, str(HERE))
 
 from trial.local import Cluster  # noqa: E402
-from trial.steps import schema  # noqa: E402
+from trial.steps import end_on_sigterm, schema  # noqa: E402
 
 
 def client(number: int, ports: list[int], kind: str, is_kept: bool, until: float, results: "Queue[list[float]]") -> None:
@@ -63,6 +63,7 @@ def measure(name: str, kind: str, clients: int, ports: list[int], is_kept: bool,
 
 
 def main() -> None:
+    end_on_sigterm()
     program, seconds = pathlib.Path(sys.argv[1]).resolve(), float(sys.argv[2]) if len(sys.argv) > 2 else 5.0
     with tempfile.TemporaryDirectory() as folder:
         cluster = Cluster(pathlib.Path(folder) / "cluster")

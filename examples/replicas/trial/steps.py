@@ -40,6 +40,11 @@ def ask(node: Node, method: str, target: str, body: bytes | None = None, **field
         return fault.code, fault.read()
 
 
+def end_on_sigterm() -> None:
+    """Has SIGTERM end the program as an exception does, so that the nodes are ended too."""
+    signal.signal(signal.SIGTERM, lambda *_: sys.exit("ended by a signal"))
+
+
 class LocalTrial:
     def __init__(self, folder: pathlib.Path, program: pathlib.Path) -> None:
         self.folder, self.program = folder, program
