@@ -15,6 +15,8 @@ cd "$examples" || exit 1
 python="curl python3-confluent-kafka python3-requests python3-avro"
 go="golang-go golang-github-lensesio-schema-registry-dev"
 try first-hour "curl sqlite3" ./first-hour.sh
+try backup "curl python3" backup/try.sh 5
+try watch "curl python3" watch/try.sh
 try check-schemas "curl jq" check-schemas/try.sh
 try clients "$python $go" clients/run.sh
 try from-confluent "curl python3 openssl" from-confluent/try.sh

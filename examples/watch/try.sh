@@ -1,0 +1,88 @@
+#!/usr/bin/env bash
+# Tries watch: with a server that is up, with an old backup, with the server killed, and with a full disk. Checks that the
+# dashboard and the alert rules name only metrics that watch writes. The full disk needs root and a mount of tmpfs.
+#
+#   AVROREG=PROGRAM examples/watch/try.sh
+set -u
+source "$(dirname "$0")/../serving.sh"
+packages curl jq python3
+here=$examples/watch
+metrics=$scratch/avroreg.prom
+
+watch() {
+  python3 "$here/watch" "$url" "$1" "$metrics" --backups "$scratch/backups" --access-log "$scratch/access.log" --timeout 300 || fail "watch failed"
+}
+
+# shows SAMPLE VALUE: what the metrics have to have; VALUE `none` if there must be no such sample.
+shows() {
+  local found
+  found=$(sed -n "s/^avroreg_$1 //p" "$metrics")
+  [ "${found:-none}" = "$2" ] || fail "avroreg_$1 is ${found:-none}, not $2"
+}
+
+# age: seconds since the last good backup, as the rule AvroregBackupOld reckons.
+age() {
+  echo $(($(date +%s) - $(sed -n 's/^avroreg_backup_good_timestamp_seconds //p' "$metrics")))
+}
+
+register() {
+  jq -nc --arg doc "$(head -c "$2" /dev/zero | tr '\0' x)" '{schema: ({type: "enum", name: "E", symbols: [], doc: $doc} | tojson)}' |
+    curl -s -o "$scratch/reply" -w '%{http_code}' --data-binary @- "$url/subjects/$1/versions"
+}
+
+mkdir "$scratch/backups"
+cat >"$scratch/access.log" <<'LOG'
+{"user":"ci","status":200}
+{"user":"ci","status":200}
+{"user":"invented","status":401}
+half a line
+LOG
+start_server "$scratch/registry.db"
+for subject in a b; do [ "$(register $subject 10)" = 200 ] || fail "nothing was registered: $(cat "$scratch/reply")"; done
+watch "$scratch/registry.db"
+shows up 1
+shows store_failed 0
+shows subjects 2
+shows backup_good_timestamp_seconds 0
+shows 'requests{user="ci",status="200"}' 2
+shows 'requests{user="-",status="401"}' 1
+shows 'file_bytes{file="database"}' "$(stat -c %s "$scratch/registry.db")"
+AVROREG=$avroreg "$examples/backup/nightly" "$scratch/registry.db" "$scratch/backups" || fail "no backup"
+watch "$scratch/registry.db"
+shows backup_subjects 2
+shows backup_versions 2
+shows backup_schemas 1
+[ "$(age)" -lt 3600 ] || fail "the new backup is $(age) seconds old"
+echo "up: the metrics are right"
+
+for name in $(grep -oh 'avroreg_[a-z_]*' "$here/alerts.yml" "$here/dashboard.json" | sort -u); do
+  grep -q "^# TYPE $name gauge$" "$metrics" || fail "the rules or the dashboard name $name, which watch doesn't write"
+done
+jq -e '.panels | length == 6' "$here/dashboard.json" >/dev/null || fail "the dashboard isn't as it was"
+
+jq -c '.time -= 37 * 3600' "$scratch/backups/last-good.json" >"$scratch/old.json"
+mv "$scratch/old.json" "$scratch/backups/last-good.json"
+watch "$scratch/registry.db"
+[ "$(age)" -gt $((36 * 3600)) ] || fail "the old backup is $(age) seconds old"
+echo "backup too old: seen"
+
+stop_server KILL
+watch "$scratch/registry.db"
+shows up 0
+shows store_failed 0
+shows subjects none
+echo "killed: seen"
+
+mkdir "$scratch/small"
+if [ "$(id -u)" = 0 ] && mount -t tmpfs -o size=700k tmpfs "$scratch/small" 2>/dev/null; then
+  trap 'umount -l "$scratch/small"; clean' EXIT
+  start_server "$scratch/small/registry.db"
+  for number in $(seq 100); do [ "$(register "s$number" $((20000 + number)))" = 200 ] || break; done
+  grep -q 50001 "$scratch/reply" || fail "the disk didn't get full: $(cat "$scratch/reply")"
+  watch "$scratch/small/registry.db"
+  shows up 0
+  shows store_failed 1
+  echo "disk full: seen"
+else
+  echo "disk full: not tried, since this machine doesn't let it mount"
+fi
