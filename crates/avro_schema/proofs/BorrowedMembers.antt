@@ -1,7 +1,7 @@
 -- The members of a borrowed object by name: the last one of a name counts, and all of it are taken out.
-use Rattle.std.proofs.Common.{◌≡◌, ℕ, zero, suc, List, [], ◌∷◌, ◌++◌, map, Bool, true, false, not, cond, Option, Some, None, Bor, bytes_eq, true≢false, refl, sym, ap, subst, ◌∙◌}
+use Rattle.std.proofs.Common.{◌≡◌, ℕ, zero, suc, List, [], ◌∷◌, ◌++◌, map, Bool, true, false, not, cond, Option, Some, None, Bor, bytes_eq, ◌||◌, true≢false, refl, sym, ap, subst, ◌∙◌}
 use Rattle.std.specs.Prelude.{slice_get, IsTrue}
-use Rattle.std.specs.List.{remove, filter}
+use Rattle.std.specs.List.{remove, filter, list_any}
 use Rattle.std.proofs.lemmas.Option.{same_Some}
 use Rattle.std.proofs.lemmas.Slice.Eq.{bytes_eq-Decides}
 use Rattle.serde_json.specs.Data.{Data, Members, put}
@@ -38,6 +38,14 @@ key_reserved of_items = refl
 key_reserved of_values = refl
 
 -- ---- what is found
+
+-- where a test finds nothing, leaving out what it finds leaves all
+pub all_kept : {X : Type 0} (p : X → Bool) (xs : List X) → list_any p xs ≡ false → filter (λ x. not (p x)) xs ≡ xs
+all_kept p [] none = refl
+all_kept {X} p (x ∷ xs) none = split (p x) refl (λ e. all_kept p xs e) where
+  split : (b : Bool) → p x ≡ b → (list_any p xs ≡ false → filter (λ y. not (p y)) xs ≡ xs) → filter (λ y. not (p y)) (x ∷ xs) ≡ x ∷ xs
+  split true h rest = absurd (true≢false (sym (ap (λ b. b || list_any p xs) h) ∙ none))
+  split false h rest = rw h (ap (λ (ys : List X). x ∷ ys) (rest (sym (ap (λ b. b || list_any p xs) h) ∙ none)))
 
 -- this, or what was there before
 abbrev pub later : Option Data → Option Data → Option Data

@@ -7,6 +7,7 @@ use Rattle.std.proofs.lemmas.List.{get_or-map, length-map}
 use Rattle.std.proofs.lemmas.List.Sorted.{IsPermutation-map, IsPermutation-sym}
 use Rattle.std.proofs.lemmas.Map.Keys.{IsDistinct-from_sorted, IsDistinct-IsPermutation, apart_from_distinct, sorted_from_all_adjacent, IsDistinct-head, IsDistinct-tail}
 use Rattle.std.proofs.lemmas.Map.Text.{is_eq-slice_cmp}
+use Rattle.std.proofs.lemmas.Slice.Eq.{bytes_eq-Decides}
 use Rattle.std.specs.Cmp.{IsTotalOrder}
 use Rattle.std.specs.Cmp.Lexicographic.{slice_cmp}
 use Rattle.std.specs.Ordering.{eq_by_cmp, ordering_reverse}
@@ -17,7 +18,7 @@ use Rattle.std.specs.declared.cmp.Ordering.{Ordering}
 use Rattle.std.specs.declared.cmp.Ordering.TheVariants.{Less, Equal, Greater}
 use Rattle.avro_nodes.specs.declared.node.Field.{Field}
 use Rattle.avro_nodes.specs.Nodes.{field_view}
-use Rattle.avro_schema.specs.Inside.Distinct.{all_new, all_differ}
+use Rattle.avro_schema.specs.Inside.Distinct.{all_new, all_differ, text_hash}
 
 -- ---- one by one, and each pair
 
@@ -118,6 +119,30 @@ module _ {A K : Type 0} (R : K → K → Ordering) (o : IsTotalOrder R) (same : 
   pub rise_differ : (xs ys : List A) (b : Bool) → IsPermutation xs ys → IsSorted (λ x y. R (f x) (f y)) ys → IsAllAdjacentAnswer (λ x y r. r ≡ is_lt (R (f x) (f y))) ys b → b ≡ all_differ same (map f xs)
   rise_differ xs ys true moved sorted rise = sym (differ_if_distinct same (map f xs) (rw level_is at (sorted_distinct xs ys moved rise)))
   rise_differ xs ys false moved sorted falls = no_differ xs (all_differ same (map f xs)) refl (λ distinct. twice xs ys falls.0 moved sorted falls.1 (falls.2 d) distinct)
+
+-- texts whose hashes differ are different
+self_equal : (n : ℕ) → (n == n) ≡ true
+self_equal n = grind (arith, nat_tests)
+
+same_hash : (t u : List ℕ) → bytes_eq t u ≡ true → (text_hash t == text_hash u) ≡ true
+same_hash t u e = rw ((bytes_eq-Decides t u).0 e) (self_equal (text_hash u))
+
+module _ {A : Type 0} (title : A → List ℕ) where
+  apart_by_hash : (x : A) (xs : List A) → AllByRecursion (λ n. (text_hash (title x) == n) ≡ false) (map (λ y. text_hash (title y)) xs) → AllByRecursion (λ t. bytes_eq (title x) t ≡ false) (map title xs)
+  apart_by_hash x [] h = tt
+  apart_by_hash x (y ∷ ys) h = (other (bytes_eq (title x) (title y)) refl, apart_by_hash x ys h.1)
+    where
+      other : (b : Bool) → bytes_eq (title x) (title y) ≡ b → b ≡ false
+      other true e = absurd (false≢true (sym h.0 ∙ same_hash (title x) (title y) e))
+      other false e = refl
+
+  distinct_by_hash : (xs : List A) → IsDistinct (λ a b. a == b) (map (λ y. text_hash (title y)) xs) → IsDistinct bytes_eq (map title xs)
+  unfolding IsDistinct
+  distinct_by_hash [] d = tt
+  distinct_by_hash (x ∷ xs) d = (apart_by_hash x xs d.0, distinct_by_hash xs d.1)
+
+  pub differ_by_hash : (xs : List A) → all_differ (λ a b. a == b) (map (λ y. text_hash (title y)) xs) ≡ true → all_differ bytes_eq (map title xs) ≡ true
+  differ_by_hash xs e = differ_if_distinct bytes_eq (map title xs) (distinct_by_hash xs (distinct_if_differ (λ a b. a == b) (map (λ y. text_hash (title y)) xs) e))
 
 pub texts_level : eq_by_cmp (slice_cmp nat_cmp) ≡ bytes_eq
 texts_level = fun_ext (λ x. fun_ext (λ y. is_eq-slice_cmp x y))

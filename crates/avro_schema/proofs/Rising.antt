@@ -1,11 +1,14 @@
 -- Names in order, each once, and a search among them.
-use Rattle.std.proofs.Common.{◌≡◌, ℕ, ◌<◌, ◌≤◌, List, [], ◌∷◌, length, map, get_or, Bool, true, nat_cmp, bytes_eq, Some, refl, sym, ap, ◌∙◌, subst, inl, inr, arith}
+use Rattle.std.proofs.Common.{◌≡◌, ℕ, ◌+◌, ◌<◌, ◌≤◌, List, [], ◌∷◌, length, map, get_or, Bool, true, nat_cmp, bytes_eq, Some, refl, sym, ap, ◌∙◌, subst, inl, inr, arith}
 use Rattle.std.specs.Prelude.{Contains, All, slice_get}
 use Rattle.std.specs.Borrow.{Bor}
 use Rattle.std.specs.Cmp.{IsTotalOrder}
 use Rattle.std.specs.Cmp.Lexicographic.{slice_cmp}
 use Rattle.std.specs.List.{AllByRecursion, dedup}
-use Rattle.std.specs.List.Sorted.{IsStrictlySortedBy, IsSorted, IsPermutation, IsPartitionPoint, IsNonDecreasingBy}
+use Rattle.std.specs.List.Sorted.{IsStrictlySortedBy, IsSorted, IsSortedBy, IsSortedByKey, IsPermutation, IsPartitionPoint, IsNonDecreasingBy}
+use denote.Param.Members.{Mut}
+use Rattle.std.specs.Fn.{Called, ComputesKey}
+use Rattle.std.proofs.lemmas.Fn.{always_returns_same}
 use Rattle.std.specs.Ordering.{on, ordering_index, ordering_reverse, eq_by_cmp, is_eq, is_lt}
 use Rattle.std.specs.declared.cmp.Ordering.{Ordering}
 use Rattle.std.specs.declared.cmp.Ordering.TheVariants.{Less, Equal, Greater}
@@ -72,6 +75,28 @@ ties x y = sym (is_eq-slice_cmp (text x) (text y))
 pub rise_once : (ts : List (Bor (List ℕ))) → IsSorted (on text order) ts → Rise (map text (dedup same ts))
 rise_once ts h = rise_from (dedup same ts) (IsStrictlySortedBy-dedup total ties ts h)
 
+-- ---- in order with their places
+
+abbrev pub Placed : Type 0
+Placed = Bor (List ℕ) × ℕ
+
+abbrev no_place : Placed
+no_place = (no_text, 0)
+
+without_places : (ps : List Placed) → IsSortedBy (λ x y. is_lt (order (text x.0) (text y.0))) ps → IsSorted (on text order) (map (λ p. p.0) ps)
+without_places ps up k d z l =
+    let within : k + 1 < length ps = omega (arith, length-map ps (λ (p : Placed). p.0)) in
+    let before : k < length ps = omega arith in
+    rw (get_or-map (λ (p : Placed). p.0) ps (k + 1) no_place d within, get_or-map (λ (p : Placed). p.0) ps k no_place d before) (up k no_place z within)
+
+-- what a sort by the texts says
+pub sorted_by_text : {F : Type 0} {g : Mut F (Bor Placed × Unit {0}) (Bor (List ℕ))} {f : F} (ps : List Placed)
+    → ((key : Placed → Bor (List ℕ)) → ComputesKey g key f → IsSortedByKey key (on text order) ps)
+    → ((a : Bor Placed × Unit {0}) (r : Bor (List ℕ)) (f' : F) → Called g f a r f' → (r ≡ a.0.now.0) × (f' ≡ f)) → IsSorted (on text order) (map (λ p. p.0) ps)
+sorted_by_text {g = g} {f = f} ps up h = without_places ps (up (λ p. p.0) (always_returns_same g (λ a r. r ≡ a.0.now.0) f h))
+
+-- ---- each text is kept
+
 equal_by : (a : Ordering) → is_eq a ≡ true → a ≡ Equal
 equal_by Less e = absurd (true≢false (sym e))
 equal_by Equal e = refl
@@ -92,10 +117,13 @@ all_once ts us moved =
 
 -- ---- a search
 
-pub found : (ts : List (Bor (List ℕ))) (x : List ℕ) (rank : ℕ) → rank < length ts → order (text (get_or ts rank no_text)) x ≡ Equal → slice_get (map text ts) rank ≡ Some x
-found ts x rank l e =
+pub text_at : (ts : List (Bor (List ℕ))) (x : List ℕ) (rank : ℕ) → rank < length ts → text (get_or ts rank no_text) ≡ x → slice_get (map text ts) rank ≡ Some x
+text_at ts x rank l e =
     let within : rank < length (map text ts) = rw length-map l in
-    slice_get-get_or (map text ts) rank [] within ∙ ap (λ (y : List ℕ). Some y) (get_or-map text ts rank no_text [] l ∙ exact_bytes (text (get_or ts rank no_text)) x e)
+    slice_get-get_or (map text ts) rank [] within ∙ ap (λ (y : List ℕ). Some y) (get_or-map text ts rank no_text [] l ∙ e)
+
+pub found : (ts : List (Bor (List ℕ))) (x : List ℕ) (rank : ℕ) → rank < length ts → order (text (get_or ts rank no_text)) x ≡ Equal → slice_get (map text ts) rank ≡ Some x
+found ts x rank l e = text_at ts x rank l (exact_bytes (text (get_or ts rank no_text)) x e)
 
 -- what is below y doesn't stand after it
 no_later : (x y z : List ℕ) (a b : Ordering) → order x z ≡ a → order y z ≡ b → order x y ≡ Less → ordering_index a ≤ ordering_index b

@@ -1,7 +1,8 @@
 //! JSON as a schema text has it. Reserved members are borrowed from the text, other members are
 //! owned.
 
-ghost use Rattle.std.specs.Prelude.{◌≡◌, ◌<◌, None, Some, IsTrue, MatchOption, length, option_map, option_and_then, slice_get, OnOk, not};
+ghost use Rattle.std.specs.Prelude.{◌≡◌, ◌<◌, None, Some, IsTrue, MatchOption, length, option_map, option_and_then, slice_get, OnOk, not, filter};
+ghost use Rattle.std.specs.List.{list_any};
 ghost use Rattle.std.specs.Str.{bytes_eq};
 ghost use Rattle.serde_json.specs.Data.{put, no_members};
 ghost use Rattle.serde_json.specs.Find.{get_member, as_str, as_array, as_object, as_number, as_u64};
@@ -142,6 +143,26 @@ pub fn find<'t, 'a>(attributes: &'t Attributes<'a>, key: &str) -> Option<&'t Jso
     }
 }
 
+fn has_member(members: &[(&str, Json<'_>)], key: &str) -> bool
+    ensures { result ≡ list_any (λ m. bytes_eq m.0.now key.now) members.now }
+{
+    members.iter().any(|member| member.0 == key)
+}
+
+/// Takes out the members of this name, of which there are rarely any.
+fn leave_out<'a>(members: &mut Vec<(&'a str, Json<'a>)>, key: &str)
+    ensures { members.new.items ≡ filter (λ m. not (bytes_eq m.0.now key.now)) members.old.items }
+{
+    if !has_member(members, key) {
+        return;
+    }
+    members.retain(
+        |member: &(&str, Json<'_>)| -> bool
+            ensures { result ≡ not (bytes_eq member.now.0.now key.entry.now) }
+        { member.0 != key },
+    );
+}
+
 /// Takes out the attribute of this reserved name.
 pub fn take<'a>(attributes: &mut Attributes<'a>, key: &str) -> Option<Json<'a>>
     requires { IsTrue (is_reserved_name key.now) }
@@ -154,11 +175,7 @@ pub fn take<'a>(attributes: &mut Attributes<'a>, key: &str) -> Option<Json<'a>>
         return None;
     };
     let (_key, value) = attributes.reserved.remove(at);
-    attributes.reserved.retain(
-        |member: &(&str, Json<'_>)| -> bool
-            ensures { result ≡ not (bytes_eq member.now.0.now key.entry.now) }
-        { member.0 != key },
-    );
+    leave_out(&mut attributes.reserved, key);
     Some(value)
 }
 
@@ -170,6 +187,17 @@ pub fn no_attributes<'a>(alloc: Global) -> Attributes<'a>
         reserved: Vec::new(alloc),
         others: Others::none(alloc),
     }
+}
+
+/// Makes room for two values in a list that has none. Most objects have one or two reserved members,
+/// and most unions two branches.
+pub fn make_room<T>(list: &mut Vec<T>) -> Result<(), AllocError>
+    ensures { list.new.items ≡ list.old.items }
+{
+    if list.capacity() == 0 {
+        list.reserve_exact(2)?;
+    }
+    Ok(())
 }
 
 /// Adds an attribute of a reserved name, or replaces the one of this name.
@@ -187,6 +215,7 @@ pub fn put_reserved<'a>(
         ≡ put key.now (value_data value.entry) (members_data attributes.old)) }
 {
     drop(take(attributes, key));
+    make_room(&mut attributes.reserved)?;
     attributes.reserved.push((key, value))?;
     Ok(())
 }

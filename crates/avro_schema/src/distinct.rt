@@ -1,14 +1,17 @@
 //! Whether none stands twice.
 
-ghost use Rattle.std.specs.Prelude.{◌≡◌, ◌==◌, List, ℕ, IfOk, map, string_bytes};
+ghost use Rattle.std.specs.Prelude.{◌≡◌, ◌==◌, List, ℕ, IfOk, IsTrue, true, map, string_bytes};
 ghost use Rattle.std.specs.Cmp.Lexicographic.{slice_cmp};
 ghost use Rattle.std.specs.List.{IsAllAdjacentAnswer};
 ghost use Rattle.std.specs.Ordering.{is_lt, nat_cmp};
 ghost use Rattle.std.specs.Str.{bytes_eq};
-ghost use Rattle.avro_schema.specs.Inside.Distinct.{all_differ};
+ghost use Rattle.avro_schema.specs.Inside.Distinct.{all_differ, text_hash};
 
 use avro_nodes::Field;
 use std::alloc::{AllocError, Global};
+
+/// What the hash of a text is multiplied by before the next byte is added.
+const FACTOR: u64 = 1099511628211;
 
 /// What a text names in its list.
 pub trait Titled {
@@ -56,19 +59,6 @@ fn texts_rise(texts: &[&str]) -> bool
     )
 }
 
-/// Whether no text, or no field's name, stands twice.
-///
-/// # Errors
-///
-/// `AllocError` where memory for a list of them is refused.
-pub fn texts_differ<T: Titled>(alloc: Global, items: &[T]) -> Result<bool, AllocError>
-    ensures { IfOk result (λ b. b ≡ all_differ bytes_eq (map T.title_of items.now)) }
-{
-    let mut titles = titles_of(alloc, items)?;
-    titles.sort_unstable();
-    Ok(texts_rise(&titles))
-}
-
 /// Whether each number is below the next.
 fn numbers_rise(numbers: &[u64]) -> bool
     ensures { IsAllAdjacentAnswer (λ x y b. b ≡ is_lt (nat_cmp x y)) numbers.now result }
@@ -78,6 +68,52 @@ fn numbers_rise(numbers: &[u64]) -> bool
             ensures { result ≡ is_lt (nat_cmp first.now second.now) }
         { *first < *second },
     )
+}
+
+/// A hash of a text.
+fn hash_of(text: &str) -> u64
+    ensures { result ≡ text_hash text.now }
+{
+    text.as_bytes().iter().fold(0, |hash: u64, byte: &u8| {
+        hash.wrapping_mul(FACTOR).wrapping_add(u64::from(*byte))
+    })
+}
+
+/// The hash of each item's title.
+fn hashes_of<T: Titled>(alloc: Global, items: &[T]) -> Result<Vec<u64>, AllocError>
+    ensures { IfOk result (λ v. v.items ≡ map (λ t. text_hash (T.title_of t)) items.now) }
+{
+    let mut hashes = Vec::with_capacity(alloc, items.len())?;
+    for item in items {
+        hashes.push(hash_of(item.title()))?;
+    }
+    Ok(hashes)
+}
+
+/// Whether the hashes of the titles differ. Then the titles differ, too.
+fn hashes_differ<T: Titled>(alloc: Global, items: &[T]) -> Result<bool, AllocError>
+    ensures { IfOk result (λ b. IsTrue b → true ≡ all_differ bytes_eq (map T.title_of items.now)) }
+{
+    let mut hashes = hashes_of(alloc, items)?;
+    hashes.sort_unstable();
+    Ok(numbers_rise(&hashes))
+}
+
+/// Whether no text, or no field's name, occurs twice. The texts themselves are sorted only if two
+/// hashes are equal, as sorting numbers is faster.
+///
+/// # Errors
+///
+/// `AllocError` if allocation fails.
+pub fn texts_differ<T: Titled>(alloc: Global, items: &[T]) -> Result<bool, AllocError>
+    ensures { IfOk result (λ b. b ≡ all_differ bytes_eq (map T.title_of items.now)) }
+{
+    if hashes_differ(alloc, items)? {
+        return Ok(true);
+    }
+    let mut titles = titles_of(alloc, items)?;
+    titles.sort_unstable();
+    Ok(texts_rise(&titles))
 }
 
 /// Whether no kind of a branch, its second part, stands twice.

@@ -9,6 +9,7 @@ use crate::index::{FieldRanks, Index, NamedRanks, Ranks};
 use crate::ranking::{owned, rank_of, ranks_of, rising_ranks_of, sorted_once};
 use avro_nodes::{Field, Named, Node, last_part};
 use std::alloc::{AllocError, Global};
+use std::slice::Iter;
 
 /// The most names that ranks can count. No schema has so many, since each takes a byte of its
 /// text.
@@ -79,42 +80,53 @@ fn push_node<'a>(list: &mut Vec<&'a str>, node: &'a Node) -> Result<(), AllocErr
 fn texts_of(alloc: Global, nodes: &[Node]) -> Result<Vec<&str>, AllocError>
     ensures { IfOk result (λ v. borrowed v.items ≡ nodes_texts (nodes_view nodes.now)) }
 {
-    let mut list = Vec::new(alloc);
+    let mut list = Vec::with_capacity(alloc, nodes.len())?;
     for node in nodes {
         push_node(&mut list, node)?;
     }
     Ok(list)
 }
 
-fn named_ranks(alloc: Global, names: &[&str], named: &Named) -> Result<NamedRanks, AllocError>
+fn named_ranks(
+    alloc: Global,
+    names: &[&str],
+    hints: &mut Iter<'_, u32>,
+    named: &Named,
+) -> Result<NamedRanks, AllocError>
     requires names { AreNames (borrowed names.now) }
     requires known { All (Contains (borrowed names.now)) (named_texts (named_view named.now)) }
     ensures { IfOk result (IsNamedRanked (borrowed names.now) (named_view named.now)) }
 {
-    let full = named.name.as_str();
-    let aliases = rising_ranks_of(alloc, names, &named.aliases)?;
+    let name = named.name.as_str();
+    let last = rank_of(names, hints, last_part(name));
+    let full = rank_of(names, hints, name);
+    let aliases = rising_ranks_of(alloc, names, hints, &named.aliases)?;
     Ok(NamedRanks {
-        last: rank_of(names, last_part(full)),
-        full: rank_of(names, full),
+        last,
+        full,
         aliases,
     })
 }
 
-fn field_ranks(alloc: Global, names: &[&str], field: &Field) -> Result<FieldRanks, AllocError>
+fn field_ranks(
+    alloc: Global,
+    names: &[&str],
+    hints: &mut Iter<'_, u32>,
+    field: &Field,
+) -> Result<FieldRanks, AllocError>
     requires names { AreNames (borrowed names.now) }
     requires known { All (Contains (borrowed names.now)) (field_texts (field_view field.now)) }
     ensures { IfOk result (IsFieldRanked (borrowed names.now) (field_view field.now)) }
 {
-    let aliases = ranks_of(alloc, names, &field.aliases)?;
-    Ok(FieldRanks {
-        name: rank_of(names, field.name.as_str()),
-        aliases,
-    })
+    let name = rank_of(names, hints, field.name.as_str());
+    let aliases = ranks_of(alloc, names, hints, &field.aliases)?;
+    Ok(FieldRanks { name, aliases })
 }
 
 fn fields_ranks(
     alloc: Global,
     names: &[&str],
+    hints: &mut Iter<'_, u32>,
     fields: &[Field],
 ) -> Result<Vec<FieldRanks>, AllocError>
     requires names { AreNames (borrowed names.now) }
@@ -123,29 +135,34 @@ fn fields_ranks(
 {
     let mut ranks = Vec::with_capacity(alloc, fields.len())?;
     for field in fields {
-        ranks.push(field_ranks(alloc, names, field)?)?;
+        ranks.push(field_ranks(alloc, names, hints, field)?)?;
     }
     Ok(ranks)
 }
 
-fn node_ranks(alloc: Global, names: &[&str], node: &Node) -> Result<Ranks, AllocError>
+fn node_ranks(
+    alloc: Global,
+    names: &[&str],
+    hints: &mut Iter<'_, u32>,
+    node: &Node,
+) -> Result<Ranks, AllocError>
     requires names { AreNames (borrowed names.now) }
     requires known { All (Contains (borrowed names.now)) (node_texts (node_view node.now)) }
     ensures { IfOk result (IsRanked (borrowed names.now) (node_view node.now)) }
 {
     match node {
         Node::Enum { named, symbols, .. } => {
-            let named = named_ranks(alloc, names, named)?;
-            let symbols = rising_ranks_of(alloc, names, symbols)?;
+            let named = named_ranks(alloc, names, hints, named)?;
+            let symbols = rising_ranks_of(alloc, names, hints, symbols)?;
             Ok(Ranks::Enum { named, symbols })
         }
         Node::Fixed { named, .. } => {
-            let named = named_ranks(alloc, names, named)?;
+            let named = named_ranks(alloc, names, hints, named)?;
             Ok(Ranks::Fixed { named })
         }
         Node::Rec { named, fields, .. } => {
-            let named = named_ranks(alloc, names, named)?;
-            let fields = fields_ranks(alloc, names, fields)?;
+            let named = named_ranks(alloc, names, hints, named)?;
+            let fields = fields_ranks(alloc, names, hints, fields)?;
             Ok(Ranks::Rec { named, fields })
         }
         Node::Primitive { .. } | Node::Array { .. } | Node::Map { .. } | Node::Union { .. } => {
@@ -155,14 +172,19 @@ fn node_ranks(alloc: Global, names: &[&str], node: &Node) -> Result<Ranks, Alloc
 }
 
 /// The ranks of each node.
-fn nodes_ranks(alloc: Global, names: &[&str], nodes: &[Node]) -> Result<Vec<Ranks>, AllocError>
+fn nodes_ranks(
+    alloc: Global,
+    names: &[&str],
+    hints: &mut Iter<'_, u32>,
+    nodes: &[Node],
+) -> Result<Vec<Ranks>, AllocError>
     requires names { AreNames (borrowed names.now) }
     requires known { All (Contains (borrowed names.now)) (nodes_texts (nodes_view nodes.now)) }
     ensures { IfOk result (λ v. AreRanked (borrowed names.now) (nodes_view nodes.now) v.items) }
 {
     let mut ranks = Vec::with_capacity(alloc, nodes.len())?;
     for node in nodes {
-        ranks.push(node_ranks(alloc, names, node)?)?;
+        ranks.push(node_ranks(alloc, names, hints, node)?)?;
     }
     Ok(ranks)
 }
@@ -176,11 +198,12 @@ pub fn index_of(alloc: Global, nodes: &[Node]) -> Result<Index, AllocError>
     ensures { IfOk result (IsIndex (nodes_view nodes.now)) }
 {
     let texts = texts_of(alloc, nodes)?;
-    let sorted = sorted_once(texts);
+    let (sorted, hints) = sorted_once(alloc, texts)?;
     if sorted.len() > MAX_NAMES {
         return Err(AllocError);
     }
-    let ranks = nodes_ranks(alloc, &sorted, nodes)?;
+    let ranks = nodes_ranks(alloc, &sorted, &mut hints.iter(), nodes)?;
+    drop(hints);
     let names = owned(alloc, &sorted)?;
     Ok(Index { names, ranks })
 }

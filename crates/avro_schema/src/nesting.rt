@@ -37,6 +37,9 @@ fn items_within(items: &Vec<Value>, limit: u32) -> bool
 pub fn members_within(members: &Extra, limit: u32) -> bool
     ensures { result ≡ nat_le (members_depth (members_view members.now.entries)) limit }
 {
+    if members.is_empty() {
+        return true;
+    }
     for (_key, member) in members.iter() {
         if !nests_within(member, limit) {
             return false;

@@ -54,6 +54,9 @@ pub fn owned_members(alloc: Global, attributes: Attributes<'_>) -> Result<Extra,
 {
     let Object { reserved, others } = attributes;
     let mut map = others.into_map();
+    if reserved.is_empty() {
+        return Ok(map);
+    }
     for (name, member) in reserved {
         if !is_reserved(name) {
             continue;

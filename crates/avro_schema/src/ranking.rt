@@ -1,21 +1,76 @@
-//! Names sorted, and the ranks of texts among them.
+//! Names sorted, and the ranks of texts among them. The sort leaves a hint for each text, so that its
+//! rank is compared and not searched for.
 
-ghost use Rattle.std.specs.Prelude.{◌≡◌, ◌<◌, ◌^◌, All, Contains, IfOk, length};
+ghost use Rattle.std.specs.Prelude.{◌≡◌, ◌<◌, ◌^◌, All, Contains, IfOk, IfSome, length, map};
 ghost use Rattle.avro_nodes.specs.Nodes.{texts_view};
 ghost use Rattle.avro_schema.specs.Index.{AreNames, AreRanks, AreRisingRanks, IsRank, Rise};
 ghost use Rattle.avro_schema.specs.Inside.NodeTexts.{borrowed};
 
 use std::alloc::{AllocError, Global};
+use std::slice::Iter;
 
-/// The texts sorted, each once.
-pub fn sorted_once(texts: Vec<&str>) -> Vec<&str>
-    ensures rise { Rise (borrowed result.items) }
-    ensures all { All (Contains (borrowed result.items)) (borrowed texts.entry.items) }
+/// The texts, each with its place in the list.
+fn placed<'a>(alloc: Global, texts: &[&'a str]) -> Result<Vec<(&'a str, usize)>, AllocError>
+    ensures { IfOk result (λ v. map (λ p. p.0) v.items ≡ texts.now) }
 {
-    let mut sorted = texts;
-    sorted.sort_unstable();
-    sorted.dedup();
-    sorted
+    let mut list = Vec::with_capacity(alloc, texts.len())?;
+    for text in texts {
+        list.push((*text, list.len()))?;
+    }
+    Ok(list)
+}
+
+/// The texts without their places.
+fn unplaced<'a>(alloc: Global, list: &[(&'a str, usize)]) -> Result<Vec<&'a str>, AllocError>
+    ensures { IfOk result (λ v. v.items ≡ map (λ p. p.0) list.now) }
+{
+    let mut texts = Vec::with_capacity(alloc, list.len())?;
+    for entry in list {
+        texts.push(entry.0)?;
+    }
+    Ok(texts)
+}
+
+/// The rank of each text of a sorted list, by its place. A rank found here is compared with its
+/// name before it is used, so no clause says that it is right.
+fn hints_of(alloc: Global, sorted: &[(&str, usize)]) -> Result<Vec<u32>, AllocError> {
+    let mut hints = vec![in alloc; 0u32; sorted.len()]?;
+    let mut rank: u32 = 0;
+    let mut name = match sorted.first() {
+        Some(first) => first.0,
+        None => "",
+    };
+    for entry in sorted {
+        if entry.0 != name {
+            rank = rank.wrapping_add(1);
+            name = entry.0;
+        }
+        if let Some(hint) = hints.get_mut(entry.1) {
+            *hint = rank;
+        }
+    }
+    Ok(hints)
+}
+
+/// The texts sorted, each once, and for each place in the list the rank that its text should have.
+///
+/// # Errors
+///
+/// `AllocError` if allocation fails.
+pub fn sorted_once<'a>(
+    alloc: Global,
+    texts: Vec<&'a str>,
+) -> Result<(Vec<&'a str>, Vec<u32>), AllocError>
+    ensures rise { IfOk result (λ r. Rise (borrowed r.0.items)) }
+    ensures all { IfOk result (λ r. All (Contains (borrowed r.0.items)) (borrowed texts.entry.items)) }
+{
+    let mut sorted = placed(alloc, &texts)?;
+    drop(texts);
+    sorted.sort_unstable_by_key(|entry| entry.0);
+    let hints = hints_of(alloc, &sorted)?;
+    let mut names = unplaced(alloc, &sorted)?;
+    names.dedup();
+    Ok((names, hints))
 }
 
 /// Texts of their own.
@@ -33,12 +88,28 @@ pub fn owned(alloc: Global, texts: &[&str]) -> Result<Vec<String>, AllocError>
     Ok(list)
 }
 
+/// The hint, if it is the rank of the text.
+fn confirmed(names: &[&str], hint: Option<&u32>, text: &str) -> Option<u32>
+    ensures { IfSome result (λ rank. IsRank (borrowed names.now) text.now rank) }
+{
+    let Some(rank) = hint else {
+        return None;
+    };
+    match names.get(*rank as usize) {
+        Some(name) if *name == text => Some(*rank),
+        _ => None,
+    }
+}
+
 /// The rank of a text, which is one of the names.
-pub fn rank_of(names: &[&str], text: &str) -> u32
+pub fn rank_of(names: &[&str], hints: &mut Iter<'_, u32>, text: &str) -> u32
     requires names { AreNames (borrowed names.now) }
     requires known { Contains (borrowed names.now) text.now }
     ensures { IsRank (borrowed names.now) text.now result }
 {
+    if let Some(rank) = confirmed(names, hints.next(), text) {
+        return rank;
+    }
     match names.binary_search(&text) {
         Ok(rank) => rank as u32,
         Err(_) => 0,
@@ -50,14 +121,19 @@ pub fn rank_of(names: &[&str], text: &str) -> u32
 /// # Errors
 ///
 /// `AllocError` where memory for them is refused.
-pub fn ranks_of(alloc: Global, names: &[&str], texts: &[String]) -> Result<Vec<u32>, AllocError>
+pub fn ranks_of(
+    alloc: Global,
+    names: &[&str],
+    hints: &mut Iter<'_, u32>,
+    texts: &[String],
+) -> Result<Vec<u32>, AllocError>
     requires names { AreNames (borrowed names.now) }
     requires known { All (Contains (borrowed names.now)) (texts_view texts.now) }
     ensures { IfOk result (λ v. AreRanks (borrowed names.now) (texts_view texts.now) v.items) }
 {
     let mut ranks = Vec::with_capacity(alloc, texts.len())?;
     for text in texts {
-        ranks.push(rank_of(names, text.as_str()))?;
+        ranks.push(rank_of(names, hints, text.as_str()))?;
     }
     Ok(ranks)
 }
@@ -70,13 +146,14 @@ pub fn ranks_of(alloc: Global, names: &[&str], texts: &[String]) -> Result<Vec<u
 pub fn rising_ranks_of(
     alloc: Global,
     names: &[&str],
+    hints: &mut Iter<'_, u32>,
     texts: &[String],
 ) -> Result<Vec<u32>, AllocError>
     requires names { AreNames (borrowed names.now) }
     requires known { All (Contains (borrowed names.now)) (texts_view texts.now) }
     ensures { IfOk result (λ v. AreRisingRanks (borrowed names.now) (texts_view texts.now) v.items) }
 {
-    let mut ranks = ranks_of(alloc, names, texts)?;
+    let mut ranks = ranks_of(alloc, names, hints, texts)?;
     ranks.sort_unstable();
     ranks.dedup();
     Ok(ranks)

@@ -240,15 +240,12 @@ fn record_at(
     if !texts_differ(alloc, &fields)? {
         return Err(SchemaError::Redefined);
     }
-    fill_blank(
-        nodes,
-        place,
-        Node::Rec {
-            named,
-            fields,
-            extra,
-        },
-    );
+    let node = Node::Rec {
+        named,
+        fields,
+        extra,
+    };
+    fill_blank(nodes, place, node);
     Ok(place)
 }
 

@@ -6,7 +6,7 @@ ghost use Rattle.serde_json.specs.Data.{Data, no_members, put};
 ghost use Rattle.serde_json.specs.Read.{of_json, of_items, of_members, converted};
 ghost use Rattle.avro_schema.specs.Inside.Borrowed.{value_data, items_data, members_data};
 
-use crate::borrowed::{Attributes, Json, is_reserved, no_attributes, put_reserved};
+use crate::borrowed::{Attributes, Json, is_reserved, make_room, no_attributes, put_reserved};
 use crate::error::Unread;
 use crate::kept::{kept_value, number_of};
 use crate::owning::put_other;
@@ -73,6 +73,7 @@ fn items_at<'a>(
     let mut found = Vec::new(alloc);
     'items: while !reader.take_end_array() {
         let item = value_at(alloc, reader, depth)?;
+        make_room(&mut found)?;
         found.push(item)?;
     }
     Ok(found)

@@ -38,24 +38,16 @@ pub enum Container {
 pub fn kind_of(name: &str) -> Option<Kind>
     ensures { result ≡ kind_of name.now }
 {
-    if name == "null" {
-        Some(Kind::Null)
-    } else if name == "boolean" {
-        Some(Kind::Boolean)
-    } else if name == "int" {
-        Some(Kind::Int)
-    } else if name == "long" {
-        Some(Kind::Long)
-    } else if name == "float" {
-        Some(Kind::Float)
-    } else if name == "double" {
-        Some(Kind::Double)
-    } else if name == "bytes" {
-        Some(Kind::Bytes)
-    } else if name == "string" {
-        Some(Kind::Text)
-    } else {
-        None
+    match name.len() {
+        3 if name == "int" => Some(Kind::Int),
+        4 if name == "long" => Some(Kind::Long),
+        4 if name == "null" => Some(Kind::Null),
+        5 if name == "bytes" => Some(Kind::Bytes),
+        5 if name == "float" => Some(Kind::Float),
+        6 if name == "string" => Some(Kind::Text),
+        6 if name == "double" => Some(Kind::Double),
+        7 if name == "boolean" => Some(Kind::Boolean),
+        _ => None,
     }
 }
 

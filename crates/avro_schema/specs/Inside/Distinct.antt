@@ -1,5 +1,5 @@
 -- Whether none stands twice.
-use Rattle.std.specs.Prelude.{List, [], ◌∷◌, Bool, true, false, not, cond, ◌&&◌}
+use Rattle.std.specs.Prelude.{ℕ, ◌+◌, ◌*◌, ◌%◌, ◌^◌, List, [], ◌∷◌, Bool, true, false, not, cond, ◌&&◌, fold}
 
 -- whether each is new: neither seen nor before it in the list
 unfoldable pub all_new : {X : Type 0} → (X → X → Bool) → (X → Bool) → List X → Bool
@@ -8,3 +8,7 @@ all_new same seen (x ∷ xs) = not (seen x) && all_new same (λ y. cond (same x 
 
 abbrev pub all_differ : {X : Type 0} → (X → X → Bool) → List X → Bool
 all_differ same xs = all_new same (λ _. false) xs
+
+-- a hash of a text
+abbrev pub text_hash : List ℕ → ℕ
+text_hash text = fold (λ hash byte. (hash * 1099511628211 % 2 ^ 64 + byte) % 2 ^ 64) 0 text

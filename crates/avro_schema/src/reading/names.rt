@@ -7,12 +7,12 @@ ghost use Rattle.avro_schema.specs.Inside.Types.{reference_to, primitive_at, nam
 ghost use Rattle.avro_schema.specs.Inside.ReaderAnswers.{Reads};
 ghost use Rattle.avro_schema.specs.Inside.NameTables.{known_in, HasNumber};
 
-use crate::borrowed::{Attributes, no_attributes};
+use crate::borrowed::Attributes;
 use crate::definitions::{next_place, other_attributes};
 use crate::error::SchemaError;
 use crate::places::{Places, Space};
 use crate::words::kind_of;
-use avro_nodes::{Kind, Node};
+use avro_nodes::{Extra, Kind, Node};
 use std::alloc::Global;
 
 /// Reads a primitive type, whose other attributes are left.
@@ -66,7 +66,7 @@ pub fn reference_to(
 /// # Errors
 ///
 /// The errors of `primitive_at` and of `reference_to`.
-#[tactic(auto, unfolding(crate::specs::Inside::Types::name_at))]
+#[tactic(auto, unfolding(crate::specs::Inside::Types::name_at, crate::specs::Inside::Types::primitive_at, crate::specs::Inside::Declarations::bounded))]
 pub fn name_at(
     alloc: Global,
     name: &str,
@@ -80,7 +80,12 @@ pub fn name_at(
         (nodes_view nodes.old.items) (nodes_view nodes.new.items) (known_in known.now) }
 {
     match kind_of(name) {
-        Some(kind) => primitive_at(alloc, kind, no_attributes(alloc), nodes, known),
+        Some(kind) => {
+            let place = next_place(nodes)?;
+            let extra = Extra::new(alloc);
+            nodes.push(Node::Primitive { kind, extra })?;
+            Ok(place)
+        }
         None => reference_to(name, space, nodes, known),
     }
 }

@@ -1,6 +1,5 @@
-use Rattle.std.proofs.Common.{◌≡◌, Some, option_map, not, bytes_eq, sym, ap, ◌∙◌, rules}
+use Rattle.std.proofs.Common.{◌≡◌, Some, option_map, sym, ap, ◌∙◌}
 use Rattle.std.specs.Prelude.{slice_get}
-use Rattle.std.proofs.lemmas.Fn.{filter_same}
 use Rattle.std.proofs.lemmas.Option.{slice_get-get_or, same_Some}
 use Rattle.serde_json.specs.View.{members_view}
 use Rattle.avro_schema.specs.Inside.Borrowed.{value_data, members_data, put_all}
@@ -27,6 +26,5 @@ returns-clause-rest c =
     let m = c.remove-value.result in
     let here : slice_get xs c.in-Some.at ≡ Some m = slice_get-get_or xs c.in-Some.at m c.in-Some.ensures.0 ∙ ap (λ (y : Entry). Some y) (sym c.remove-value.ensures.value) in
     let named : m.0.now ≡ key = same_Some m.0.now key (sym (ap (option_map (λ (y : Entry). y.0.now)) here) ∙ c.in-Some.ensures.1) in
-    let left : c.retain.new.self.items ≡ others key c.remove-value.new.self.items = filter_same _ (λ (y : Entry). not (bytes_eq y.0.now key)) _ (λ x b f' k. search rules) _ _ c.retain.ensures.filtered in
     let none = none_reserved key kept (reserved_is key c.requires) c.args.attributes.now.others.unreserved in
-    ap (λ ys. put_all (read_of ys) kept) (left ∙ ap (others key) c.remove-value.ensures.items) ∙ taken_out key xs c.in-Some.at m kept here named none (in_order kept c.args.attributes.now.others.in_order)
+    ap (λ ys. put_all (read_of ys) kept) (c.leave_out.ensures ∙ ap (others key) c.remove-value.ensures.items) ∙ taken_out key xs c.in-Some.at m kept here named none (in_order kept c.args.attributes.now.others.in_order)

@@ -9,7 +9,7 @@ ranks_of-requires-clause-known c =
     let field = c.args.field.now in
     rw c.deref.ensures.value (All-tail (Contains (borrowed c.args.names.now)) (string_bytes field.name) (texts_view field.aliases.items) c.requires.known)
 
-pub rank_of-requires-clause-known : goal.rank_of-requires-clause-known
-rank_of-requires-clause-known c =
+pub rank_of-name-requires-clause-known : goal.rank_of-name-requires-clause-known
+rank_of-name-requires-clause-known c =
     let field = c.args.field.now in
     rw c.as_str.ensures.value (All-head (Contains (borrowed c.args.names.now)) (string_bytes field.name) (texts_view field.aliases.items) c.requires.known)

@@ -11,12 +11,12 @@ rising_ranks_of-requires-clause-known c =
     let P = Contains (borrowed c.args.names.now) in let full = string_bytes c.args.named.now.name in let aliases = texts_view c.args.named.now.aliases.items in
     rw c.deref.ensures.value (All-tail P full aliases (All-tail P (last_part full) (full ∷ aliases) c.requires.known))
 
-pub rank_of-requires-clause-known : goal.rank_of-requires-clause-known
-rank_of-requires-clause-known c =
+pub rank_of-last-requires-clause-known : goal.rank_of-last-requires-clause-known
+rank_of-last-requires-clause-known c =
     let P = Contains (borrowed c.args.names.now) in let full = string_bytes c.args.named.now.name in let aliases = texts_view c.args.named.now.aliases.items in
-    rw (c.last_part.ensures ∙ ap last_part c.as_str-full.ensures.value) (All-head P (last_part full) (full ∷ aliases) c.requires.known)
+    rw (c.last_part.ensures ∙ ap last_part c.as_str-name.ensures.value) (All-head P (last_part full) (full ∷ aliases) c.requires.known)
 
-pub rank_of-requires-2-clause-known : goal.rank_of-requires-2-clause-known
-rank_of-requires-2-clause-known c =
+pub rank_of-full-requires-clause-known : goal.rank_of-full-requires-clause-known
+rank_of-full-requires-clause-known c =
     let P = Contains (borrowed c.args.names.now) in let full = string_bytes c.args.named.now.name in let aliases = texts_view c.args.named.now.aliases.items in
-    rw c.as_str-full.ensures.value (All-head P full aliases (All-tail P (last_part full) (full ∷ aliases) c.requires.known))
+    rw c.as_str-name.ensures.value (All-head P full aliases (All-tail P (last_part full) (full ∷ aliases) c.requires.known))

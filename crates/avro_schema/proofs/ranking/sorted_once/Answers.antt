@@ -1,11 +1,27 @@
+use Rattle.std.proofs.Common.{◌≡◌, ℕ, List, map, subst, rules, sym}
+use Rattle.std.specs.Borrow.{Bor}
+use Rattle.std.specs.List.Sorted.{IsPermutation, IsSorted}
+use Rattle.std.specs.Ordering.{on}
 use Rattle.std.proofs.lemmas.List.Filters.{dedup_is}
-use Rattle.avro_schema.proofs.Rising.{same, rise_once, all_once}
+use Rattle.std.proofs.lemmas.List.Sorted.{IsPermutation-map}
+use Rattle.avro_schema.proofs.Rising.{Placed, text, order, same, rise_once, all_once, sorted_by_text}
 use Rattle.avro_schema.proofs.ranking.sorted_once.Goals as goal
 
 pub returns-clause-rise : goal.returns-clause-rise
-returns-clause-rise c = rw (dedup_is same c.sort_unstable.new.self.items c.dedup.new.self.items c.dedup.ensures.filtered) (rise_once c.sort_unstable.new.self.items c.sort_unstable.ensures.sorted)
+returns-clause-rise c =
+    let sorted = c.sort_unstable_by_key.new.self.items in
+    let names = c.in_ok-names.names.items in
+    let are : names ≡ map (λ (p : Placed). p.0) sorted = search rules in
+    let up : IsSorted (on text order) names = subst (λ (ts : List (Bor (List ℕ))). IsSorted (on text order) ts) (sym are) (sorted_by_text sorted c.sort_unstable_by_key.ensures.sorted (λ a r f' q. search rules)) in
+    rw (dedup_is same names c.dedup.new.self.items c.dedup.ensures.filtered) (rise_once names up)
 
 pub returns-clause-all : goal.returns-clause-all
 returns-clause-all c =
-    let sorted = c.sort_unstable.new.self.items in
-    rw (dedup_is same sorted c.dedup.new.self.items c.dedup.ensures.filtered) (all_once c.args.texts.items sorted c.sort_unstable.ensures.permutation)
+    let placed = c.in_ok-sorted.sorted.items in
+    let sorted = c.sort_unstable_by_key.new.self.items in
+    let names = c.in_ok-names.names.items in
+    let are : names ≡ map (λ (p : Placed). p.0) sorted = search rules in
+    let were : map (λ (p : Placed). p.0) placed ≡ c.args.texts.items = search rules in
+    let moved : IsPermutation c.args.texts.items names =
+    subst (λ (ts : List (Bor (List ℕ))). IsPermutation ts names) were (subst (λ (us : List (Bor (List ℕ))). IsPermutation (map (λ (p : Placed). p.0) placed) us) (sym are) (IsPermutation-map (λ (p : Placed). p.0) placed sorted c.sort_unstable_by_key.ensures.permutation)) in
+    rw (dedup_is same names c.dedup.new.self.items c.dedup.ensures.filtered) (all_once c.args.texts.items names moved)

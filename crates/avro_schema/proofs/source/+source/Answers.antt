@@ -1,9 +1,9 @@
-use Rattle.std.proofs.Common.{◌≡◌, ◌-◌, ◌<◌, [], ◌∷◌, length, Some, None, sym, ap, ap₂, ◌∙◌, arith}
+use Rattle.std.proofs.Common.{◌≡◌, ◌-◌, ◌<◌, [], ◌∷◌, ◌++◌, length, Some, None, sym, ap, ap₂, ◌∙◌, arith}
 use Rattle.json.specs.Token.{Token}
 use Rattle.json.specs.Json.{parse_map, after_end_array, read_key, items, members, value}
 use Rattle.json.specs.Reads.{token_of}
 use Rattle.json.proofs.Grammar.{value_is, value-begin_array, value-begin_object, read_key-shorter}
-use Rattle.serde_json.specs.Data.{array, object, put}
+use Rattle.serde_json.specs.Data.{array, object}
 use Rattle.serde_json.specs.Read.{of_json, of_items, of_members, converted}
 use Rattle.avro_schema.specs.Inside.Borrowed.{value_data, members_data}
 use Rattle.avro_schema.proofs.BorrowedLemmas.{of_Null, of_Bool, of_Number, of_Text, of_Array, of_Object, items_before, items_before-no_items, one_more_item}
@@ -123,7 +123,7 @@ items_at-items-preserved t c =
       n - 1,
       omega (arith, l.invariant.1),
       l.invariant.2 ∙ ap (parse_map (items_before l.found.items)) turn ∙ one_more_item l.found.items v _
-          ∙ ap (λ vs. parse_map (items_before vs) (converted of_items (items p (n - 1) r))) (sym c.in_ok-push.ensures.items),
+          ∙ ap (λ vs. parse_map (items_before vs) (converted of_items (items p (n - 1) r))) (sym (c.in_ok-push.ensures.items ∙ ap (λ vs. vs ++ v ∷ []) c.make_room.ensures)),
       omega (arith, l.invariant.3),
     )
 
