@@ -4,7 +4,7 @@ use crate::shape::{NO_TEXT, Shape};
 use avro_testing::Text;
 
 /// What is measured by reading.
-static READING: [Shape; 11] = [
+static READING: [Shape; 13] = [
     // threes of fields of type int, one of them with a default
     Shape {
         name: "fields",
@@ -15,6 +15,34 @@ static READING: [Shape; 11] = [
             word: "",
             parts: r##"once {"type":"record","name":"Root","fields":[
 each ;{"name":"first_#","type":"int","default":#},{"name":"second_#","type":"int"},{"name":"third_#","type":"int"}
+once ]}"##,
+        },
+        reader: NO_TEXT,
+    },
+    // fields with a doc, as most schemas have them
+    Shape {
+        name: "documented",
+        counts: &[1, 10, 100, 1000],
+        behind: 0,
+        inner: "",
+        writer: Text {
+            word: "",
+            parts: r##"once {"type":"record","name":"Order","namespace":"shop.orders","doc":"An order of a shop.","fields":[
+each ;{"name":"field_#","type":"string","doc":"What field # of an order holds, in a few words."}
+once ]}"##,
+        },
+        reader: NO_TEXT,
+    },
+    // a tree: records of ten records of a long, a string and a union, each with a doc
+    Shape {
+        name: "tree",
+        counts: &[1, 10, 30],
+        behind: 0,
+        inner: r##"0..10 ,{"name":"leaf_#","type":{"type":"record","name":"Leaf_#","doc":"Leaf # of a branch.","fields":[{"name":"id","type":"long","doc":"Which one it is."},{"name":"text","type":"string","doc":"What it says."},{"name":"note","type":["null","string"],"doc":"What else it says.","default":null}]}}"##,
+        writer: Text {
+            word: "",
+            parts: r##"once {"type":"record","name":"Tree","namespace":"shop.trees","doc":"The root.","fields":[
+each ;{"name":"branch_#","type":{"type":"record","name":"branch_#.Branch","doc":"Branch # of the tree.","fields":[{"name":"id","type":"long","doc":"Which one it is."}@]}}
 once ]}"##,
         },
         reader: NO_TEXT,
