@@ -35,7 +35,7 @@ fn port<'a>(alloc: Global) -> Arg<'a>
     ensures rule { rule_of result ≡ port_rule }
     ensures local { result.global ≡ false }
 {
-    option(alloc, "port", "N", "The port of 127.0.0.1, from 1 to 65535")
+    option(alloc, "port", "N", "The port on 127.0.0.1, 1 to 65535")
         .required(true)
         .value_parser(value_parser!(u16).range(1..))
 }
@@ -49,7 +49,7 @@ fn connections<'a>(alloc: Global) -> Arg<'a>
         alloc,
         "connections",
         "N",
-        "After how many connections it ends, from 1 to 2147483647, which is the default",
+        "Stop after this many connections, 1 to 2147483647 (the default)",
     )
     .value_parser(value_parser!(u32).range(1..=i64::from(MOST_CONNECTIONS)))
 }
@@ -59,17 +59,17 @@ fn run_command<'a>(alloc: Global) -> Result<Command<'a>, AllocError>
     ensures { IfOk result (IsApp run_command) }
 {
     Command::new(alloc, "run")
-        .about("Answers the HTTP/1.1 requests of standard input on standard output")
+        .about("Answer the HTTP requests on standard input, on standard output")
         .after_help(
-            "The answers come from the registry in the database file, or else from a new one in
-memory. Status 0 where the input ended between messages, or a message ended the
-connection, else 2, with a line on standard error.",
+            "Without --db, the registry is a new one in memory. Status 0 if the input ended
+after a complete request, or a request ended the connection. Status 2 after an
+error, with one line on standard error.",
         )
         .arg(option(
             alloc,
             "db",
             "F",
-            "The database file, which is made where it is missing or empty",
+            "The registry's file, created if it is missing or empty",
         ))
 }
 
@@ -81,14 +81,14 @@ fn serve_command<'a>(alloc: Global) -> Result<Command<'a>, AllocError>
         alloc,
         "db",
         "F",
-        "The database file, which is made where it is missing or empty",
+        "The registry's file, created if it is missing or empty",
     );
     Command::new(alloc, "serve")
-        .about("Answers HTTP/1.1 on a port of 127.0.0.1, one connection after the other")
+        .about("Serve a registry over HTTP on 127.0.0.1")
         .after_help(
-            "The answers come from the registry in the database file. F and F-wal belong
-together while the program is under way, and after it was killed. Status 0 after
-the last connection, or 2 at a fault, with a line on standard error.",
+            "Serves one connection after another. F and F-wal belong together while the
+program runs and after it was killed. Status 0 after the last connection, 2 after
+an error, with one line on standard error.",
         )
         .arg(database.required(true))?
         .arg(port(alloc))?
@@ -99,13 +99,13 @@ the last connection, or 2 at a fault, with a line on standard error.",
 fn check_command<'a>(alloc: Global) -> Result<Command<'a>, AllocError>
     ensures { IfOk result (IsApp check_command) }
 {
-    let reader = option(alloc, "reader", "F", "The file of the reader's schema");
-    let writer = option(alloc, "writer", "F", "The file of the writer's schema");
+    let reader = option(alloc, "reader", "F", "The file with the reader's schema");
+    let writer = option(alloc, "writer", "F", "The file with the writer's schema");
     Command::new(alloc, "check")
-        .about("Prints whether the reader's Avro schema reads what the writer's writes")
+        .about("Check whether a reader's schema can read a writer's data")
         .after_help(
-            "Prints compatible, status 0, or incompatible, status 1.
-Status 2 at a fault, with a line on standard error.",
+            "Prints compatible (status 0) or incompatible (status 1).
+Status 2 after an error, with one line on standard error.",
         )
         .arg(reader.required(true))?
         .arg(writer.required(true))
@@ -116,44 +116,48 @@ fn text_command<'a>(alloc: Global) -> Result<Command<'a>, AllocError>
     ensures { IfOk result (IsApp text_command) }
 {
     Command::new(alloc, "text")
-        .about("Prints the identity text of an Avro schema")
-        .after_help("Status 0, or 2 at a fault, with a line on standard error.")
-        .arg(positional(alloc, "F", "The file of the schema"))
+        .about("Print the canonical text of a schema")
+        .after_help(
+            "Two schemas are the same if their canonical texts are equal. Status 0, or 2 after
+an error, with one line on standard error.",
+        )
+        .arg(positional(alloc, "F", "The file with the schema"))
 }
 
 /// `list --db F W`.
 ///
 /// # Errors
 ///
-/// `AllocError` where memory is refused.
+/// `AllocError` if an allocation fails.
 pub fn list_command<'a>(alloc: Global) -> Result<Command<'a>, AllocError>
     ensures { IfOk result (IsApp list_command) }
 {
-    let database = option(alloc, "db", "F", "The database file, which has a registry");
+    let database = option(alloc, "db", "F", "The registry's file");
     Command::new(alloc, "list")
-        .about("Prints what is in a registry, as CSV")
+        .about("List the subjects, versions or schemas of a registry as CSV")
         .after_help(
-            "Prints a line of names, and then a line for each subject, version or schema:
-  subjects  subject,level,live,deleted: its own level, and how many versions it has
+            "Prints a header, then one line for each subject, version or schema:
+  subjects  subject,level,live,deleted: its own level, and its numbers of versions
   versions  subject,version,id,deleted
   schemas   id,text
-Status 0, or 2 at a fault, with a line on standard error.",
+Status 0, or 2 after an error, with one line on standard error.",
         )
         .arg(database.required(true))?
-        .arg(positional(alloc, "W", "What is listed: subjects, versions or schemas"))
+        .arg(positional(alloc, "W", "What to list: subjects, versions or schemas"))
 }
 
 /// `migrate --db F`.
 fn migrate_command<'a>(alloc: Global) -> Result<Command<'a>, AllocError>
     ensures { IfOk result (IsApp migrate_command) }
 {
-    let database = option(alloc, "db", "F", "The database file, which has a registry");
+    let database = option(alloc, "db", "F", "The registry's file");
     Command::new(alloc, "migrate")
-        .about("Moves a registry of layout 1 to layout 2, which this program reads")
+        .about("Upgrade a registry's file from layout 1 to layout 2")
         .after_help(
-            "Prints layout 2: N versions kept, or layout 2: nothing to do. The registry and the
-kept replies stay as they are. Copy F before, since no program of layout 1 reads
-it then. Status 0, or 2 at a fault, with a line on standard error.",
+            "Prints layout 2: N versions kept, or layout 2: nothing to do. The registry stays as
+it is, and so do the responses kept for retry keys. Back up F first, because older
+programs can't read layout 2. Status 0, or 2 after an error, with one line on
+standard error.",
         )
         .arg(database.required(true))
 }
@@ -162,14 +166,14 @@ it then. Status 0, or 2 at a fault, with a line on standard error.",
 fn audit_command<'a>(alloc: Global) -> Result<Command<'a>, AllocError>
     ensures { IfOk result (IsApp audit_command) }
 {
-    let database = option(alloc, "db", "F", "The database file, which has a registry");
+    let database = option(alloc, "db", "F", "The registry's file");
     Command::new(alloc, "audit")
-        .about("Prints whether the evidence of a registry's versions holds")
+        .about("Check the stored versions against their evidence again")
         .after_help(
-            "Reads each version beside those that it was compared with when it was registered,
-and prints evidence holds, status 0, where each pair resolves as the level asked
-then, or evidence does not hold, status 1. Status 2 at a fault, with a line on
-standard error.",
+            "Compares each version again with those that it was compared with when it was
+registered. Prints evidence holds (status 0) if all pairs are compatible as the
+level required then, otherwise evidence does not hold (status 1). Status 2 after
+an error, with one line on standard error.",
         )
         .arg(database.required(true))
 }
@@ -181,10 +185,10 @@ fn bare<'a>(alloc: Global) -> Result<Command<'a>, AllocError>
     Command::new(alloc, "avroreg")
         .no_binary_name(true)
         .subcommand_required(true)
-        .about("A registry of Avro schemas")
+        .about("A schema registry for Apache Avro")
         .after_help(
-            "Status 2 at a fault, with a line on standard error, and 64 where the words ask for
-nothing, with a text like this one.
+            "Status 2 after an error, with one line on standard error. Status 64 if the arguments
+are wrong, with a usage text like this one.
 
 Examples:
   avroreg serve --db registry.db --port 8081
@@ -197,7 +201,7 @@ Examples:
 ///
 /// # Errors
 ///
-/// `AllocError` where memory is refused.
+/// `AllocError` if an allocation fails.
 pub fn program<'a>(alloc: Global) -> Result<Command<'a>, AllocError>
     ensures { IfOk result (IsApp program) }
 {

@@ -1,4 +1,4 @@
-//! Why the words ask for nothing.
+//! The errors of the command line.
 
 ghost use Rattle.std.specs.Prelude.{◌≢◌};
 ghost use Rattle.clap.specs.Words.{kind_of};
@@ -9,13 +9,13 @@ use clap::{Command, Error};
 use std::alloc::{AllocError, Global};
 use thiserror::Error as ErrorText;
 
-/// Why the words ask for nothing. Its text is printed on standard error.
+/// Why the arguments name no task. Its text is printed on standard error.
 #[derive(Debug, Drop, ErrorText)]
 pub enum LineFault {
-    /// The words are a usage fault, or ask for help. The text is whole lines, each with its end.
+    /// The arguments are wrong, or ask for help. The text has whole lines, each with its line end.
     #[error("{0}")]
     Usage(String),
-    /// Memory was refused. The text has no line's end.
+    /// An allocation failed. The text has no line end.
     #[error("out of memory")]
     OutOfMemory,
 }
@@ -31,7 +31,7 @@ impl From<AllocError> for LineFault {
     }
 }
 
-/// The fault that `clap` found, with its text.
+/// The usage error that `clap` found, with its text.
 pub fn fault_of(alloc: Global, error: &Error) -> LineFault
     ensures { IsUsage result → kind_of error.now ≢ ErrorKind.OutOfMemory }
 {
@@ -44,7 +44,7 @@ pub fn fault_of(alloc: Global, error: &Error) -> LineFault
     }
 }
 
-/// The fault of words that `clap` takes, with a text in its form: the message, and the command's
+/// A usage error that `clap` doesn't find, with a text in its form: the message and the command's
 /// usage.
 pub fn refusal(
     alloc: Global,

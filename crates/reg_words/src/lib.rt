@@ -1,4 +1,4 @@
-//! The words of the program: what those behind its name ask for, as `clap` reads them.
+//! The program's arguments, as `clap` reads them.
 
 #![tactic(auto)]
 

@@ -1,4 +1,4 @@
-//! What the words ask for.
+//! From arguments to tasks.
 
 ghost use Rattle.std.specs.Prelude.{◌≡◌, None, Some, MatchResult, map, string_bytes};
 ghost use Rattle.clap.specs.Words.{found_of, rows_of};
@@ -13,7 +13,7 @@ use clap::ArgMatches;
 use clap::error::ErrorKind;
 use std::alloc::{AllocError, Global};
 
-/// The fault of a command or a value that is missing. `clap` finds it first.
+/// The error for a missing command or value. `clap` reports it first.
 fn incomplete(alloc: Global) -> Result<LineFault, AllocError> {
     Ok(refusal(
         alloc,
@@ -23,7 +23,7 @@ fn incomplete(alloc: Global) -> Result<LineFault, AllocError> {
     ))
 }
 
-/// The fault of a word that names no listing.
+/// The error for an argument that names no listing.
 fn unknown_listing(alloc: Global, word: &str) -> Result<LineFault, AllocError> {
     let message = format!(in alloc;
         "invalid value '{word}' for '<W>'\n  [possible values: subjects, versions, schemas]"
@@ -138,7 +138,7 @@ fn audit_task(alloc: Global, matches: &ArgMatches<'_>) -> Result<Task, LineFault
     }))
 }
 
-/// What a command asks for, with the values of its arguments.
+/// The task of a command with the values of its arguments.
 fn task_named(alloc: Global, name: &str, matches: &ArgMatches<'_>) -> Result<Task, LineFault>
     ensures { MatchResult result
         (λ task. task_in name.now (rows_of (found_of matches.now)) ≡ Some (asked_of task))
@@ -158,12 +158,12 @@ fn task_named(alloc: Global, name: &str, matches: &ArgMatches<'_>) -> Result<Tas
     }
 }
 
-/// What the words behind the program's name ask for.
+/// The task that the arguments name. They don't include the program's name.
 ///
 /// # Errors
 ///
-/// `Usage` where the words ask for nothing that the program does, or for help: `clap` finds a fault
-/// in them, or the word behind `list` names no listing. `OutOfMemory` where memory was refused.
+/// `Usage` if the arguments are wrong or ask for help: `clap` refuses them, or the argument of `list`
+/// names no listing. `OutOfMemory` if an allocation fails.
 pub fn task_of(alloc: Global, words: &[String]) -> Result<Task, LineFault>
     ensures { MatchResult result
         (λ task. line (map string_bytes words.now) ≡ Some (asked_of task))

@@ -21,7 +21,7 @@ pub fn value_of<'a>(matches: &ArgMatches<'a>, id: &str) -> Option<&'a str>
 ///
 /// # Errors
 ///
-/// `AllocError` where memory for the copy is refused.
+/// `AllocError` if the allocation fails.
 pub fn copy_of(alloc: Global, text: Option<&str>) -> Result<Option<String>, AllocError>
     ensures { IfOk result (λ copy. option_map string_bytes copy
         ≡ option_map (λ text. text.now) text.entry) }
@@ -52,7 +52,7 @@ fn count_in(text: &str) -> Option<u32>
     }
 }
 
-/// How many connections, `None` where the text is no number.
+/// The number of connections, or `None` if the text is no number.
 pub fn connections_in(text: Option<&str>) -> Option<u32>
     ensures { result ≡ connections_in (option_map (λ text. text.now) text.entry) }
 {
@@ -62,7 +62,7 @@ pub fn connections_in(text: Option<&str>) -> Option<u32>
     }
 }
 
-/// The listing that a word names, if it names one.
+/// The listing with this name, if there is one.
 pub fn listing_in(word: &str) -> Option<Listing>
     ensures { result ≡ listing_in word.now }
 {
