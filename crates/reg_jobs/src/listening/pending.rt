@@ -8,6 +8,7 @@
 ghost use Rattle.std.specs.Prelude.{◌≡◌, ◌≤◌, ◌↔◌, [], ℕ, length, take, drop, IsTrue, IfOk};
 ghost use Rattle.std.specs.Io.KnownBytes.{Consumes};
 
+use memchr::memchr;
 use std::io::{self, Read};
 use std::marker::Model;
 
@@ -37,7 +38,7 @@ impl Progress {
 fn line_length(bytes: &[u8]) -> usize
     ensures { result ≤ length bytes.now }
 {
-    match bytes.iter().position(|byte| *byte == b'\n') {
+    match memchr(b'\n', bytes) {
         Some(at) => at + 1,
         None => bytes.len(),
     }
