@@ -126,8 +126,9 @@ def answered(case, line):
 
 def first_answer(left, wanted):
     """The first response of these bytes if their head gives its length, else as many bytes as `wanted` has and some more."""
-    head = re.match(rb"(?s).*?\r\nContent-Length: (\d+)\r\n.*?\r\n\r\n", left)
-    return left[: head.end() + int(head[1])] if head else left[: len(wanted) + 400]
+    head, end, _ = left.partition(b"\r\n\r\n")
+    length = re.search(rb"\r\nContent-Length: (\d+)", head)
+    return left[: len(head + end) + int(length[1])] if length else left[: len(wanted) + 400]
 
 
 def are_answers(due, ran, ends):
@@ -138,5 +139,5 @@ def are_answers(due, ran, ends):
             differs(where, wanted, first_answer(left, wanted))
         left = left[len(wanted) :]
     if left:
-        differs("behind the last answer", "", left.decode(errors="backslashreplace"))
+        differs("more came after the last response", "", left.decode(errors="backslashreplace"))
     held("the end of the run", (ends[0], "", ends[1]), ended(ran.returncode, b"", ran.stderr))
