@@ -58,7 +58,10 @@ def client_of(port):
 def waited(client):
     """How long a client waits for its answer."""
     began = time.monotonic()
-    client.get_subjects()
+    try:
+        client.get_subjects()
+    except TimeoutError:
+        sys.exit(f"a client had no answer after {time.monotonic() - began:.0f} s")
     return time.monotonic() - began
 
 
@@ -191,8 +194,9 @@ def behind_pipelining(port):
     the request in progress. One that reads nothing, or too little, is closed after its time."""
     text = json.dumps({"type": "record", "name": "R", "doc": "x" * 100_000, "fields": []})
     id = answered(port, "POST", "/subjects/s/versions", json.dumps({"schema": text}))["id"]
+    # (a soft-deleted version's schema still has its id, and its subject isn't listed)
     answered(port, "DELETE", "/subjects/s")
-    answered(port, "DELETE", "/subjects/s?permanent=true")
+    assert len(answered(port, "GET", f"/schemas/ids/{id}")["schema"]) > 100_000
     rates = (("all", 10**9, 2.5), ("200 KB a second", 200_000, 2.5), ("20 KB a second", 20_000, 31), ("nothing", 0, 31))
     for name, rate, most in rates:
         other = Pipelining(port, id, rate)

@@ -12,7 +12,10 @@ set -u
 source "$(dirname "$0")/../examples/serving.sh"
 need cc python3
 bench=${BENCH:-$examples/../crates/bench_schemas/out/bench_schemas}
-for program in "$avroreg" "$bench"; do
+programs=("$avroreg")
+# (only its own part needs the benchmark)
+[ $# != 0 ] && [[ " $* " != *" bench "* ]] || programs+=("$bench")
+for program in "${programs[@]}"; do
   [ -x "$program" ] || fail "there is no program $program; build it, or name it in AVROREG or BENCH"
 done
 cc -O1 -shared -fPIC -o "$scratch/refuse.so" "$trials/refuse.c" || fail "refuse.c doesn't compile"
