@@ -8,6 +8,9 @@ failed() {
   failures=$((failures + 1))
 }
 
+# skipped WHAT: says what isn't tried, and why. It counts neither as passed nor as failed.
+skipped() { echo "skipped $*"; }
+
 # check NAME COMMAND..: counts whether the command succeeds, and prints its output if it doesn't.
 check() {
   local name=$1 output

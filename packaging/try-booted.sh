@@ -13,10 +13,11 @@ check "it answers" answers 200 BACKWARD "$url/config"
 check "a write is acknowledged" write k1 orders
 check "it runs as its own user" test "$(ps -o user= -p "$(pid avroreg)")" = avroreg
 check "it has no capabilities" grep -qE '^CapBnd:\s0+$' "/proc/$(pid avroreg)/status"
+check "its system calls are filtered" grep -qE '^Seccomp:\s2$' "/proc/$(pid avroreg)/status"
 check "only its user reads the registry" test "$(stat -c '%a %U' /var/lib/avroreg)" = "700 avroreg"
 check "a restart is over when it answers" bash -c "systemctl restart avroreg && curl -s -f $url/config"
 before=$(pid avroreg)
-kill -9 "$before"
+systemctl kill -s KILL --kill-who=main avroreg
 begin=$(date +%s%N)
 check "killed with -9, it answers again" eventually 60 answers 200 BACKWARD "$url/config"
 echo "       after $((($(date +%s%N) - begin) / 1000000)) ms"
@@ -42,9 +43,11 @@ check "the timers start" systemctl start avroreg-backup.timer avroreg-watch.time
 
 cp /etc/default/avroreg /root/default
 sed -i 's/^AVROREG_PORT=.*/AVROREG_PORT=none/' /etc/default/avroreg
+systemctl reset-failed avroreg
 check "wrong arguments are a failure" bash -c '! systemctl restart avroreg'
+check "the status says so" property avroreg ExecMainStatus 64
 sleep 3
-check "and aren't tried again" property avroreg NRestarts 0
+check "and systemd doesn't try them again" property avroreg NRestarts 0
 cp /root/default /etc/default/avroreg
 systemctl reset-failed avroreg
 systemctl stop avroreg
@@ -52,7 +55,8 @@ cp -a /var/lib/avroreg /root/kept
 rm -f /var/lib/avroreg/registry.db-wal
 head -c 5000 /dev/urandom >/var/lib/avroreg/registry.db
 systemctl start avroreg 2>/dev/null
-check "a damaged file is a failure, after five starts" eventually 120 property avroreg Result start-limit-hit
+check "a damaged file is a failure" eventually 120 property avroreg ActiveState failed
+check "after five starts" property avroreg NRestarts 5
 check "the journal names the file" bash -c "journalctl -u avroreg -o cat | grep -q 'avroreg: .*registry.db'"
 cp -a /root/kept/. /var/lib/avroreg/
 systemctl reset-failed avroreg

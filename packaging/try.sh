@@ -5,8 +5,9 @@
 #   AVROREG=PROGRAM packaging/try.sh [deb|systemd|oci]..     default: all
 #   BASE      a tree of Debian 12 to copy; by default debootstrap makes one, which needs the network
 #
-# Needs root, and Debian's debootstrap, systemd-container, lintian, mandoc, dpkg-dev, binutils, buildah, podman, crun, nginx,
-# curl and iproute2. Prints a line for each check; the last line is 'N passed, M failed'. The status is 0 if all passed.
+# Needs root, and Debian's debootstrap, systemd-container, lintian, mandoc, dpkg-dev, binutils, buildah, podman, crun,
+# catatonit, nginx, curl and iproute2. Prints a line for each check, and a line 'skipped' for what it can't try;
+# the last line is 'N passed, M failed'. The status is 0 if all passed.
 set -u
 here=$(cd "$(dirname "$0")" && pwd)
 source "$here/checks.sh"
@@ -21,6 +22,7 @@ booted=
 clean() {
   [ -z "$booted" ] || kill "$booted" 2>/dev/null
   wait
+  remove_cgroup
   rm -rf --one-file-system "$scratch"
 }
 trap clean EXIT
@@ -30,7 +32,7 @@ trap 'exit 130' INT TERM
 fresh() {
   if [ -z "${BASE:-}" ]; then
     BASE=$scratch/base
-    debootstrap --variant=minbase --include=systemd,systemd-sysv,dbus,curl,procps,iproute2,python3-minimal bookworm "$BASE" \
+    debootstrap --variant=minbase --include=systemd,systemd-sysv,dbus,curl,procps,iproute2,python3 bookworm "$BASE" \
       >"$scratch/debootstrap.log" 2>&1 || { tail -n 5 "$scratch/debootstrap.log"; failed "debootstrap"; return 1; }
   fi
   cp -a "$BASE" "$scratch/$1"
@@ -64,8 +66,9 @@ try_deb() {
   check "the user exists" inside debian getent passwd avroreg
   check "the service is enabled" test -L "$scratch/debian/etc/systemd/system/multi-user.target.wants/avroreg.service"
   check "every file is as packaged" inside debian dpkg -V avroreg
-  check "the program runs" grep -qx '"int"' <(inside debian avroreg text /dev/stdin <<<'"int"')
-  check "the units are valid" inside debian systemd-analyze verify avroreg.service avroreg@orders.service avroreg-backup.timer avroreg-watch.timer
+  echo '{"type":"int"}' >"$scratch/debian/tmp/schema"
+  check "the program runs" grep -qx '"int"' <(inside debian avroreg text /tmp/schema)
+  check "the units are valid" inside debian systemd-analyze verify --man=no avroreg.service avroreg@orders.service avroreg-backup.timer avroreg-watch.timer
   mkdir -p "$scratch/debian/var/lib/avroreg"
   echo data >"$scratch/debian/var/lib/avroreg/registry.db"
   echo AVROREG_PORT=9000 >>"$scratch/debian/etc/default/avroreg"
@@ -76,6 +79,12 @@ try_deb() {
   check "a purge says that it keeps the registry" grep -q "kept /var/lib/avroreg" <(inside debian dpkg -P avroreg 2>&1)
   check "a purge keeps the registry" grep -qx data "$scratch/debian/var/lib/avroreg/registry.db"
   check "a purge removes everything else" test -z "$(find "$scratch/debian/etc" "$scratch/debian/usr" "$scratch/debian/lib/" -name '*avroreg*' -print -quit)"
+}
+
+# remove_cgroup: removes the cgroup that `boot` made.
+remove_cgroup() {
+  unshare -m bash -c 'umount -R /sys/fs/cgroup && mount -t cgroup2 cgroup2 /sys/fs/cgroup &&
+    find /sys/fs/cgroup/avroreg-try -depth -type d -exec rmdir {} +' 2>/dev/null
 }
 
 # boot NAME: boots that tree; $leader is its process 1. A host that mounts cgroups of version 1 gets a mount namespace with
