@@ -52,7 +52,7 @@ REQUESTS = [
     ("POST", VERSIONS + "?normalize=true", {}, schema(ORDER % NOTE)),
     ("POST", "/subjects/orders", {}, schema(ORDER % "")),
     ("POST", "/subjects/orders?deleted=true", {}, schema(ORDER % TOTAL)),
-    ("POST", "/compatibility/subjects/orders/versions/latest?verbose=true", {}, schema(ORDER % TOTAL)),
+    ("POST", "/compatibility/subjects/orders/versions/latest?verbose=false", {}, schema(ORDER % TOTAL)),
     ("POST", "/compatibility/subjects/orders/versions", {}, schema(ORDER % NOTE)),
     ("GET", VERSIONS, {}, None),
     ("GET", VERSIONS + "/latest", {}, None),

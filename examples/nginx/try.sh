@@ -1,8 +1,7 @@
 #!/usr/bin/env bash
-# Runs avroreg alone and avroreg behind nginx, on new files and free ports, and holds the second to the first; sends writes
-# as pages of this origin and of others would; then runs the clients of examples/clients eight at once, and eight clients
-# at a steady rate. Installs what it needs.
-# Ends with status 0 where no request was lost and each answer was as it has to be.
+# Compares avroreg alone with avroreg behind nginx, on new files and free ports. Sends writes as web pages of this origin and
+# of others do. Then runs the clients of examples/clients eight at once, and eight clients at a steady rate. Installs what it
+# needs. The status is 0 if no request was lost and each response was right. roles.sh tries users, roles, cache and limits.
 #
 #   AVROREG=PROGRAM examples/nginx/try.sh [SECONDS] [RATE]     of the steady run: 20 seconds, 20 a second and client
 set -u
@@ -15,7 +14,8 @@ python=/usr/bin/python3
 start_server "$scratch/alone.db"
 alone=${url##*:}
 start_server "$scratch/behind.db"
-start_nginx same "${url##*:}"
+unlimited='s/200r/9000r/; s/burst=400/burst=9000/' # these clients are faster than a user may be
+start_nginx same "${url##*:}" "$unlimited"
 "$python" "$here/same.py" "$alone" "$front" || fail "an answer behind nginx differed"
 
 # page STATUS ORIGIN METHOD PATH [BODY]: what a page of an origin gets; the body as a page may send it without asking first.
@@ -59,7 +59,7 @@ done
 echo "eight of Confluent's Python client and eight of the Go client at once: each got what it has to"
 
 start_server "$scratch/steady.db"
-start_nginx steady "${url##*:}"
+start_nginx steady "${url##*:}" "$unlimited"
 "$python" "$here/eight.py" "$front" "${1:-20}" "${2:-20}" >"$scratch/eight" || fail "the steady run found a difference"
 cat "$scratch/eight"
 
