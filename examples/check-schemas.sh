@@ -1,27 +1,33 @@
 #!/usr/bin/env bash
-# For a pull request: asks a registry whether it would take each schema of a folder, and where it wouldn't, says which file
-# and which version of its subject stand against each other. Registers nothing.
+# For a pull request: asks a registry whether it would accept each schema of a folder. If not, it says which file, which
+# version of its subject, in which direction, and why. It registers nothing.
 #
 #   examples/check-schemas.sh DIR URL
 #
-# A file's name without `.avsc` is its subject: orders-value.avsc is for orders-value. What a file's name can't hold is
-# written as in a URL: %2F for a slash, %25 for a percent sign. Folders in DIR aren't looked into.
+# A file's name without `.avsc` is its subject: orders-value.avsc is for orders-value. Write %2F for a slash and %25 for a
+# percent sign. Subfolders of DIR aren't read.
 #
-# A schema that a live version of its subject has is taken. Any other is compared with the versions that the subject's level
-# names, one by one: all live ones for a TRANSITIVE level, none for NONE, else the latest.
+# A schema that a live version of its subject has is accepted. Any other is compared with the versions that the subject's
+# level names: all live ones for a TRANSITIVE level, none for NONE, else the latest.
 #
-# Status 0 where each schema would be taken, 1 where one wouldn't, 2 where the registry can't be asked, or there is nothing
-# to ask for, 64 for other words. curl takes a user and a password from ~/.netrc, and looks at its own environment
+# The lines `second opinion` are the reasons that python3-avro sees, if it is installed. It isn't the registry: avroreg's
+# verdict alone counts, and if the second opinion calls the schemas compatible, the line says so.
+#
+# Status 0 if each schema would be accepted, 1 if one wouldn't, 2 if the registry can't be asked or there is nothing to ask
+# for, 64 for wrong arguments. curl takes a user and a password from ~/.netrc, and reads its own environment
 # (CURL_CA_BUNDLE, https_proxy). Needs curl and jq.
 set -u
+why=$(cd "$(dirname "$0")" && pwd)/why.py
+scratch=$(mktemp -d)
+trap 'rm -rf "$scratch"' EXIT
 
-# unasked TEXT: ends where nothing can be said.
+# unasked TEXT: ends without a verdict.
 unasked() {
   echo "check-schemas.sh: $*" >&2
   exit 2
 }
 
-# ask METHOD PATH [BODY]: a request; $status, $code and $answer are what came.
+# ask METHOD PATH [BODY]: a request; $status, $code and $answer are the response.
 ask() {
   answer=$(curl -sS --netrc-optional --max-time 60 -X "$1" -w '\n%{http_code}' -H 'Expect:' \
     -H 'Content-Type: application/vnd.schemaregistry.v1+json' ${3:+--data-binary @-} "$url$2" <<<"${3:-}") ||
@@ -31,11 +37,36 @@ ask() {
   code=$(jq -r '.error_code? // empty' <<<"$answer" 2>/dev/null)
 }
 
-# get MEMBER METHOD PATH [BODY]: the same, where only 200 is an answer; $found is a member of it, or for `.` all.
+# get MEMBER METHOD PATH [BODY]: the same, but any status except 200 ends the script; $found is a member of the response.
 get() {
   ask "${@:2}"
   [ "$status" = 200 ] || unasked "$url$3 answers $status: $answer"
   found=$(jq -r "$1" <<<"$answer") || unasked "$url$3 answers no JSON: $answer"
+}
+
+# opinion READER WRITER DIRECTION: prints python3-avro's reasons for two files, each line marked. Status 1 if it has none.
+opinion() {
+  local lines status
+  lines=$(timeout 20 /usr/bin/python3 "$why" "$scratch/$1" "$scratch/$2" 2>&1)
+  status=$?
+  [ $status != 1 ] || return 1
+  [ $status != 124 ] || lines="python3-avro took over 20 seconds"
+  sed "s/^/    second opinion, $3: /" <<<"$lines"
+}
+
+# explain VERSION: the second opinion on a version and the schema in $path, in the directions of $level.
+explain() {
+  local silent=1
+  /usr/bin/python3 -c 'import avro.compatibility' 2>/dev/null || {
+    echo "    no second opinion: install python3-avro for reasons"
+    return
+  }
+  cp "$path" "$scratch/new"
+  get .schema GET "/subjects/$quoted/versions/$1"
+  printf '%s' "$found" >"$scratch/old"
+  case $level in BACKWARD* | FULL*) opinion new old "the new schema reads version $1" && silent=0 ;; esac
+  case $level in FORWARD* | FULL*) opinion old new "version $1 reads the new schema" && silent=0 ;; esac
+  [ $silent = 0 ] || echo "    second opinion: python3-avro calls them compatible. avroreg's verdict counts"
 }
 
 # compare: compares the schema in $body with the versions of $subject that its level names.
@@ -53,14 +84,15 @@ compare() {
   for version in $versions; do
     get .is_compatible POST "/compatibility/subjects/$quoted/versions/$version" "$body"
     [ "$found" = true ] && continue
-    echo "$file: version $version of $subject stands against it, by $level"
+    echo "$file: incompatible with version $version of $subject, by $level"
+    explain "$version"
     against=1
   done
   [ "$against" = 0 ] && echo "$file: compatible with $subject, by $level"
   return "$against"
 }
 
-# check FILE: whether the registry would take its schema.
+# check FILE: whether the registry would accept its schema.
 check() {
   local file=${1##*/} subject quoted body
   subject=$(sed 's/%2F/\//g; s/%25/%/g' <<<"${file%.avsc}")
@@ -72,7 +104,7 @@ check() {
   404/40401) echo "$file: the first one of $subject" ;;
   404/40403) compare ;;
   422/42201)
-    echo "$file: no schema that the registry takes"
+    echo "$file: not a schema that the registry accepts"
     return 1
     ;;
   *) unasked "$url/subjects/$quoted answers $status: $answer" ;;

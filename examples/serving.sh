@@ -7,6 +7,7 @@ examples=$(cd "$(dirname "${BASH_SOURCE[0]}")" && pwd)
 trials=$(cd "$examples/../trials" && pwd)
 avroreg=${AVROREG:-$examples/../crates/avroreg/out/avroreg}
 key_field=Registry-Retry-Key
+start_tries=600 # every tenth of a second: a busy machine takes long to start a program
 scratch=$(mktemp -d)
 started=()
 
@@ -19,7 +20,7 @@ fail() {
 # Ends what was started, and removes what it left.
 clean() {
   for process in ${started[@]+"${started[@]}"}; do
-    kill "$process" 2>/dev/null && wait "$process" 2>/dev/null
+    kill "$process" 2>/dev/null && kill -CONT "$process" 2>/dev/null && wait "$process" 2>/dev/null # a stopped one too
   done
   rm -rf "$scratch"
 }
@@ -63,16 +64,15 @@ free_port() {
   echo "$port"
 }
 
-# start_server FILE: serves the registry in FILE; $server is the process, $url where it answers.
+# start_server FILE [PORT]: serves the registry in FILE, by default on a free port; $server is the process, $url its address.
 start_server() {
-  local port _
+  local port=${2:-$(free_port)} _
   [ -x "$avroreg" ] || fail "there is no program $avroreg; build it, or name it in AVROREG"
-  port=$(free_port)
   "$avroreg" serve --db "$1" --port "$port" &
   server=$!
   started+=("$server")
   url=http://127.0.0.1:$port
-  for _ in $(seq 100); do
+  for _ in $(seq "$start_tries"); do
     curl -s -o /dev/null "$url/config" && return
     kill -0 "$server" 2>/dev/null || fail "the server ended before it answered"
     sleep 0.1
@@ -80,14 +80,18 @@ start_server() {
   fail "the server doesn't answer at $url"
 }
 
-# start_nginx NAME PORT [EDIT]: nginx on the free port $front, in front of PORT, by the configuration in nginx, which
-# sed's EDIT changes first.
+# start_nginx NAME PORT [EDIT]: nginx on the free port $front, in front of PORT, with the configuration of examples/nginx,
+# which sed's EDIT changes first. $nginx is the process. In $scratch/NAME, avroreg.log is the log of that configuration, and
+# access.log has status, method and target.
 start_nginx() {
   local folder=$scratch/$1 user="" _
   [ "$(id -u)" != 0 ] || user='user root;'
   front=$(free_port)
   mkdir "$folder"
-  sed "${3:-};s/127.0.0.1:8081/127.0.0.1:$2/; s/127.0.0.1:8080/127.0.0.1:$front/" "$examples/nginx/avroreg.conf" >"$folder/avroreg.conf"
+  sed "${3:-}" "$examples/nginx/roles.conf" >"$folder/avroreg-roles.conf"
+  sed "${3:-};s/127.0.0.1:8081/127.0.0.1:$2/; s/\\(127.0.0.1\\|localhost\\):8080/\\1:$front/; s,/var/lib/nginx/avroreg,cache,
+    s,access_log /var/log/nginx/avroreg.log,access_log access.log answered; access_log avroreg.log," \
+    "$examples/nginx/avroreg.conf" >"$folder/avroreg.conf"
   cat >"$folder/nginx.conf" <<CONF
 daemon off;
 $user
@@ -95,8 +99,7 @@ worker_processes 1;
 pid nginx.pid;
 events { }
 http {
-    log_format  answered "\$status \$request_method \$request_uri";
-    access_log  access.log answered;
+    log_format answered "\$status \$request_method \$request_uri";
     client_body_temp_path bodies;
     proxy_temp_path       answers;
     fastcgi_temp_path     unused;
@@ -106,7 +109,8 @@ http {
 }
 CONF
   /usr/sbin/nginx -p "$folder" -c nginx.conf -e error.log &
-  started+=("$!")
+  nginx=$!
+  started+=("$nginx")
   for _ in $(seq 100); do
     (exec 3<>"/dev/tcp/127.0.0.1/$front") 2>/dev/null && return
     sleep 0.1
@@ -116,9 +120,12 @@ CONF
 
 # stop_server [SIGNAL]: ends the last server that was started.
 stop_server() {
+  local at
   kill "-${1:-TERM}" "$server"
   wait "$server" 2>/dev/null
-  unset 'started[-1]'
+  for at in "${!started[@]}"; do
+    [ "${started[at]}" != "$server" ] || unset "started[at]"
+  done
 }
 
 # try NAME PACKAGES COMMAND..: installs these packages of Debian and runs the command in the current folder, if $asked is
