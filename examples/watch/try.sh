@@ -1,6 +1,7 @@
 #!/usr/bin/env bash
 # Tries watch: with a server that is up, with an old backup, with the server killed, and with a full disk. Checks that the
-# dashboard and the alert rules name only metrics that watch writes. The full disk needs root and a mount of tmpfs.
+# dashboard and the alert rules name only metrics that watch writes, and that docs/running.md has a row for each rule. The full
+# disk needs root and a mount of tmpfs.
 #
 #   AVROREG=PROGRAM examples/watch/try.sh
 set -u
@@ -32,9 +33,11 @@ register() {
 
 mkdir "$scratch/backups"
 cat >"$scratch/access.log" <<'LOG'
-{"user":"ci","status":200}
-{"user":"ci","status":200}
-{"user":"invented","status":401}
+{"user":"ci","status":200,"upstream_status":"200"}
+{"user":"ci","status":200,"upstream_status":""}
+{"user":"ci","status":409,"upstream_status":"409"}
+{"user":"invented","status":401,"upstream_status":""}
+{"user":"invented","status":403,"upstream_status":""}
 half a line
 LOG
 start_server "$scratch/registry.db"
@@ -45,7 +48,9 @@ shows store_failed 0
 shows subjects 2
 shows backup_good_timestamp_seconds 0
 shows 'requests{user="ci",status="200"}' 2
+shows 'requests{user="ci",status="409"}' 1
 shows 'requests{user="-",status="401"}' 1
+shows 'requests{user="-",status="403"}' 1
 shows 'file_bytes{file="database"}' "$(stat -c %s "$scratch/registry.db")"
 AVROREG=$avroreg "$examples/backup/nightly" "$scratch/registry.db" "$scratch/backups" || fail "no backup"
 watch "$scratch/registry.db"
@@ -58,6 +63,9 @@ echo "up: the metrics are right"
 for name in $(grep -oh 'avroreg_[a-z_]*' "$here/alerts.yml" "$here/dashboard.json" | sort -u); do
   grep -q "^# TYPE $name gauge$" "$metrics" || fail "the rules or the dashboard name $name, which watch doesn't write"
 done
+rules=$(sed -n 's/.*- alert: //p' "$here/alerts.yml" | sort)
+rows=$(sed -n 's/^| `\(Avroreg[A-Za-z]*\)` |.*/\1/p' "$examples/../docs/running.md" | sort)
+[ -n "$rules" ] && [ "$rules" = "$rows" ] || fail "docs/running.md has rows for other rules: $rows"
 jq -e '.panels | length == 6' "$here/dashboard.json" >/dev/null || fail "the dashboard isn't as it was"
 
 jq -c '.time -= 37 * 3600' "$scratch/backups/last-good.json" >"$scratch/old.json"
