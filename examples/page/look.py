@@ -1,8 +1,8 @@
 #!/usr/bin/env python3
-"""Drives headless Chromium through the page, and holds what it shows to what the registry answers. try.sh calls it.
+"""Drives headless Chromium through the page, and compares what it shows with the registry's responses. try.sh calls it.
 
-Each of the functions that begin with `look_at` or `try` is one part, in the order in which `main` has them, since what one
-changes the next one finds. A fault is an AssertionError with the part's line.
+Each function that begins with `look` or `try` is one part. `main` has their order, because each finds the changes of the
+earlier ones. A fault is an AssertionError with the part's line.
 """
 import argparse
 import contextlib
@@ -28,7 +28,7 @@ WIDE, PHONE = (1280, 900), (360, 780)
 EVENT = [{"name": "id", "type": "long", "doc": "Its number."}, {"name": "note", "type": ["null", "string"], "default": None}]
 ORDERS = [
     {"type": "record", "name": "Order", "namespace": "shop", "doc": "An order, as the shop took it.", "fields": [
-        {"name": "id", "type": "long", "doc": "Its number, for good."},
+        {"name": "id", "type": "long", "doc": "The order's number."},
         {"name": "placed", "type": {"type": "long", "logicalType": "timestamp-millis"}},
         {"name": "total", "type": {"type": "bytes", "logicalType": "decimal", "precision": 9, "scale": 2}, "doc": "With taxes."},
         {"name": "state", "type": {"type": "enum", "name": "State", "symbols": ["NEW", "PAID", "SENT"], "default": "NEW"}, "default": "NEW"},
@@ -187,13 +187,16 @@ class Page:
         return self.until(lambda: [text for text in self.texts(f"{within} .message.{kind}") if words in text],
                           what=f"no {kind} {words}")[0]
 
-    def shot(self, name):
-        """Screenshots at both widths, light and dark; no view is wider than its window, and each text has contrast."""
+    def shot(self, name, at=None):
+        """Screenshots at both widths, light and dark, scrolled to what the selector `at` selects. No view is wider than its
+        window, and each text has contrast."""
         for size, width in ((WIDE, "wide"), (PHONE, "phone")):
             self.size(size)
             self.settle()
             wide = self.run("return document.scrollingElement.scrollWidth")
             assert wide <= size[0], (name, width, wide)
+            if at:
+                self.run("document.querySelector(arguments[0]).scrollIntoView({block: 'center'})", at)
             for is_light, light in ((True, "light"), (False, "dark")):
                 self.light(is_light)
                 time.sleep(0.1)
@@ -432,12 +435,12 @@ def look_at_hostile_names(page, registry):
     assert cells == ["text", "string", json.dumps(HOSTILE), HOSTILE, "moment", f"long ({HOSTILE})", "none", ""], cells
     assert page.texts(".definition > .doc") == [HOSTILE]
     page.shot("hostile")
-    page.button("Delete subject…").click()
-    assert page.texts("dialog h2") == [f"Delete {HOSTILE} softly?"]
+    page.button("Soft-delete subject…").click()
+    assert page.texts("dialog h2") == [f"Soft-delete {HOSTILE}?"]
     page.press(Keys.ESCAPE)
     for dots in (".", ".."):
         page.open(subject=dots)
-        assert "No browser can ask" in page.message("bad", "named")
+        assert "A browser can't request" in page.message("bad", "named")
     assert not page.all("img, iframe, object, body script")
     print("a subject, a doc, a default and an attribute of HTML, and subjects of odd letters, are shown as they are")
 
@@ -456,16 +459,15 @@ def try_new_versions(page, registry, server):
     box.clear()
     box.send_keys(json.dumps(bad))
     page.button("Check").click()
-    assert page.message("bad", "The level FULL doesn't admit it.")
+    assert "FULL compares it with the latest version. Refused by version 3." in page.message("bad", "Not compatible.")
     page.button("Register").click()
-    assert page.message("bad", "409 Schema is incompatible with an earlier version.")
-    page.run("document.querySelector('.new').scrollIntoView()")
-    page.shot("refused")
+    assert "Refused by version 3." in page.message("bad", "409 Schema is incompatible with an earlier version.")
+    page.shot("refused", ".new .outcome")
     assert registry.get("/subjects/orders/versions") == [1, 2, 3]
     box.clear()
     box.send_keys(json.dumps(good))
     page.button("Check").click()
-    assert page.message("good", "The level FULL admits it.")
+    assert page.message("good", "Compatible: the level FULL accepts it.")
     before = len(page.lines())
     with standing_still(server):
         ActionChains(page.driver).double_click(page.button("Register")).perform()
@@ -480,86 +482,256 @@ def try_new_versions(page, registry, server):
     page.shot("registered")
     print("a schema is checked, refused with code and message, and registered; a double click sends one request")
 
-    page.choose("#config-own", "NONE")
-    assert page.message("good", "Level is NONE.")
-    assert registry.get("/config/orders") == {"compatibilityLevel": "NONE"}
+    page.choose("#config-own", "BACKWARD")
+    assert page.message("good", "Compatibility level is BACKWARD.")
+    assert registry.get("/config/orders") == {"compatibilityLevel": "BACKWARD"}
     page.open()
     page.choose("#config-all", "FORWARD")
-    assert page.message("good", "Level is FORWARD.")
+    assert page.message("good", "Global compatibility level is FORWARD.")
     assert registry.get("/config") == {"compatibilityLevel": "FORWARD"}
-    print("the level of a subject and of all is changed")
+    print("the compatibility level of a subject and the global one are changed")
+
+
+def record_of(kind):
+    return {"type": "record", "name": "Price", "fields": [{"name": "amount", "type": kind}]}
+
+
+def try_refusals(page, registry):
+    """A check or a registration that fails names each version that refuses the schema, and no other."""
+    subject, kinds = "prices", ("int", "long", "string", "double")
+    assert registry.ask("PUT", f"/config/{subject}", {"compatibility": "NONE"})[0] == 200
+    for kind in kinds:
+        registry.register(subject, record_of(kind))
+    schema = {"schema": json.dumps(record_of("float"))}
+    for level in ("BACKWARD", "BACKWARD_TRANSITIVE"):
+        assert registry.ask("PUT", f"/config/{subject}", {"compatibility": level})[0] == 200
+        live = registry.get(f"/subjects/{subject}/versions")
+        refusing = [version for version in (live if "TRANSITIVE" in level else live[-1:]) if not registry.ask(
+            "POST", f"/compatibility/subjects/{subject}/versions/{version}", schema)[1]["is_compatible"]]
+        wanted = {"BACKWARD": "version 4", "BACKWARD_TRANSITIVE": "versions 3 and 4"}[level]
+        assert refusing == ([4] if level == "BACKWARD" else [3, 4]), refusing
+        page.open(subject=subject)
+        page.one("#new-schema").send_keys(schema["schema"])
+        for press, words in (("Check", "Not compatible."), ("Register", "409 Schema is incompatible")):
+            page.button(press).click()
+            assert page.message("bad", words, ".new").endswith(f"Refused by {wanted}."), page.text(".new .message")
+    page.shot("refusing", ".new .outcome")
+    page.all(".new .message a")[0].click()
+    page.until(lambda: page.text("h2").startswith("Version 3 "))
+    page.open(new="")
+    page.one("#new-subject").send_keys(subject)
+    page.one("#new-schema").send_keys(schema["schema"])
+    page.button("Check").click()
+    assert "Refused by versions 3 and 4." in page.message("bad", "Not compatible.")
+    assert registry.get(f"/subjects/{subject}/versions") == live
+    print("a check and a registration that fail name each version that refuses the schema, with a link to it")
+
+
+def try_questions(page, registry):
+    """NONE, and READONLY for everybody, ask first; other values don't."""
+    for parameters, box, value, question in (
+            ({"subject": "prices"}, "#config-own", "NONE", "Set the compatibility level of prices to NONE?"),
+            ({}, "#config-all", "NONE", "Set the global compatibility level to NONE?"),
+            ({}, "#mode-all", "READONLY", "Set the global mode to READONLY?")):
+        target = "/" + "/".join([box[1:].split("-")[0], *parameters.values()])
+        before, name = registry.get(target), question[8:].partition(" of ")[0].rpartition(" to ")[0] or "compatibility level"
+        page.open(**parameters)
+        for key in (Keys.ENTER, Keys.ESCAPE):
+            page.choose(box, value)
+            assert page.texts("dialog h2") == [question]
+            assert page.run("return document.activeElement.textContent") == "Cancel"
+            page.press(key)
+            page.until(lambda: not page.all("dialog"))
+            assert page.run("return document.querySelector(arguments[0]).value", box) == list(before.values())[0]
+        assert registry.get(target) == before
+        page.choose(box, value)
+        if box != "#config-own":
+            page.shot(f"question-{box[1:]}")
+        page.button(f"Set {value}", "dialog").click()
+        assert page.message("good", f"{name[0].upper()}{name[1:]} is {value}.")
+        assert list(registry.get(target).values()) == [value]
+    page.choose("#mode-all", "READWRITE")
+    assert page.message("good", "Global mode is READWRITE.")
+    page.choose("#config-all", "FORWARD")
+    assert page.message("good", "Global compatibility level is FORWARD.")
+    assert page.texts(".setting label") == ["Global compatibility level", "Global mode"]
+    assert page.texts(".switch") == ["Include soft-deleted"]
+    print("NONE, and READONLY for everybody, are set once a person has said yes; other values at once")
+
+
+def look_up_ids(page, registry):
+    """A schema by its id, with the versions that have it."""
+    page.open()
+    page.all("header nav a")[2].click()
+    page.until(lambda: page.texts("h1") == ["Schema by id"])
+    assert page.all("#schema-id") and not page.all(".version, .message")
+    number = registry.get("/subjects/gone/versions/latest?deleted=true")["id"]
+    page.one("#schema-id").send_keys(str(number), Keys.ENTER)
+    page.until(lambda: page.all(".version"))
+    live = registry.get(f"/schemas/ids/{number}/versions")
+    uses = registry.get(f"/schemas/ids/{number}/versions?deleted=true")
+    assert len(uses) > len(live) > 1 and page.text(".version h2") == f"Schema with id {number}"
+    wanted = [f"{each['subject']}, version {each['version']}{'' if each in live else ' soft-deleted'}" for each in uses]
+    assert page.texts(".uses li") == wanted, page.texts(".uses li")
+    page.shot("id")
+    page.one(".tabs a:nth-child(2)").click()
+    page.until(lambda: page.all("pre"))
+    assert compact(page.text("pre")) == registry.get(f"/schemas/ids/{number}")["schema"]
+    assert page.run("return location.hash") == f"#id={number}&view=json"
+    page.all(".uses a")[0].click()
+    page.until(lambda: page.texts("h1")[0].startswith(uses[0]["subject"]))
+    page.one("h2 a").click()
+    page.until(lambda: page.run("return location.hash") == f"#id={number}")
+    page.open(id=2147483647)
+    assert page.message("bad", "40403 Schema not found.") and page.all("#schema-id")
+    page.shot("no-id")
+    print(f"a schema by its id: as fields, as JSON, and the {len(uses)} versions that have it")
+
+
+def try_links(page, registry):
+    """The address has what is shown: loaded anew, it shows that again, and so does the browser's way back."""
+    page.open()
+    page.one("#search").send_keys("ORDER")
+    page.until(lambda: page.run("return location.hash") == "#search=ORDER")
+    page.one("#search").clear()
+    page.one("#search").send_keys("gone")
+    page.one("#deleted").click()
+    page.until(lambda: page.texts(".subjects tbody th") == ["gone soft-deleted"])
+    assert page.run("return location.hash") == "#search=gone&deleted=true"
+    page.driver.refresh()
+    page.settle()
+    page.until(lambda: page.texts(".subjects tbody th") == ["gone soft-deleted"])
+    assert page.run("return document.querySelector('#search').value") == "gone"
+    page.one(".subjects tbody th a").click()
+    page.until(lambda: page.all(".version"))
+    assert page.run("return location.hash") == "#subject=gone&deleted=true"
+    page.driver.back()
+    page.until(lambda: page.texts(".subjects tbody th") == ["gone soft-deleted"])
+    for parameters, shown in (
+            ({"subject": "orders", "version": 2, "view": "json"}, "pre"),
+            ({"subject": "orders", "version": 3, "view": "compare", "against": 1}, ".difference"),
+            ({"id": 1, "view": "json"}, "pre"), ({"new": ""}, "#new-subject"), ({"search": "ORDER"}, ".subjects")):
+        page.open(**parameters)
+        page.one(shown)
+        assert page.run("return location.hash") == "#" + urllib.parse.urlencode(parameters)
+    assert page.texts(".subjects tbody th a") == ["orders"]
+    print("each view has a link: subjects with a search and soft-deleted ones, a version as fields, JSON or compared, an id")
 
 
 def try_lost_answers(page, registry, server):
-    """An answer is lost, though the registry acted: sent again, it acts once."""
+    """A response is lost, although the write was applied: sent again, also after a reload, it is applied exactly once."""
     page.open(new="")
     page.one("#new-subject").send_keys("lost")
     page.one("#new-schema").send_keys('"int"')
     with standing_still(server):
         page.button("Register").click()
-        said = page.message("open", "Whether this acted is open")
+        said = page.message("open", "The write may have been applied.")
     key = re.search("[0-9a-f]{32}", said)[0]
     page.until(lambda: registry.ask("GET", "/subjects/lost/versions")[0] == 200)
-    page.shot("lost")
+    page.shot("lost", ".new .outcome")
     page.button("Register").click()
     said = page.message("good", "Version 1 of lost has this schema")
-    assert f"Sent 2 times, and acted once, under the retry key {key}" in said, said
+    assert f"Sent 2 times and applied exactly once, with the retry key {key}" in said, said
     sent = [line for line in page.lines() if line.endswith("POST /subjects/lost/versions")]
     assert sent == ["504 POST /subjects/lost/versions", "200 POST /subjects/lost/versions"], sent
     status, answer = registry.ask("DELETE", "/subjects/lost")
     assert (status, answer) == (200, [1]), answer
+    try_reloads(page, registry, server)
     page.open(subject="orders")
     page.offline(True)
     page.one(".versions li:last-child a").click()
-    assert page.message("bad", "No answer came.")
+    assert page.message("bad", "No response.")
     page.shot("offline")
     page.offline(False)
     page.button("Try again").click()
     page.until(lambda: page.all(".version"))
-    print("a lost answer: the page says that it is open, sends the request again under the same key, and it acts once")
+    print("a lost response: the page says so, and sends the write again with its key, also after a reload: it is applied once")
+
+
+def try_reloads(page, registry, server):
+    """A write without a response keeps its key when the page is loaded anew."""
+    page.open()
+    with standing_still(server):
+        page.choose("#config-all", "FULL")
+        said = page.message("open", "The write may have been applied.")
+    key = re.search("[0-9a-f]{32}", said)[0]
+    page.until(lambda: registry.get("/config") == {"compatibilityLevel": "FULL"})
+    # with another key, the write would be applied once more
+    assert registry.ask("PUT", "/config", {"compatibility": "FORWARD"})[0] == 200
+    page.driver.refresh()
+    page.settle()
+    said = page.message("open", "No response yet: Set the global compatibility level to FULL.")
+    assert f"Its retry key is {key}." in said, said
+    page.shot("pending")
+    page.open(subject="orders")
+    page.message("open", f"Its retry key is {key}.")
+    page.button("Send again").click()
+    said = page.message("good", "Done: Set the global compatibility level to FULL.")
+    assert f"Sent 2 times and applied exactly once, with the retry key {key}" in said, said
+    assert registry.get("/config") == {"compatibilityLevel": "FORWARD"} and not page.all(".pending")
+
+    for ending in ("the same form", "Forget it"):
+        page.open(subject="orders")
+        page.offline(True)
+        page.choose("#config-own", "FULL")
+        key = re.search("[0-9a-f]{32}", page.message("open", "The write may have been applied."))[0]
+        page.offline(False)
+        page.open(subject="orders")
+        said = page.message("open", "No response yet: Set the compatibility level of orders to FULL.")
+        assert f"It may have been applied. Its retry key is {key}." in said, said
+        if ending == "Forget it":
+            page.button(ending).click()
+            page.until(lambda: not page.all(".pending"))
+            page.open()
+            assert not page.all(".pending")
+        page.open(subject="orders")
+        page.choose("#config-own", "FULL")
+        said = page.message("good", "Compatibility level is FULL.")
+        assert (f"Sent 2 times and applied exactly once, with the retry key {key}" in said) == (ending != "Forget it"), said
+        assert not page.all(".pending") and registry.get("/config/orders") == {"compatibilityLevel": "FULL"}
 
 
 def try_deletions(page, registry):
     """A deletion asks first."""
     page.open(subject="orders", version=2)
-    page.button("Delete version…").click()
+    page.button("Soft-delete version…").click()
     assert page.run("return document.activeElement.textContent") == "Cancel"
     page.shot("question")
     page.press(Keys.ENTER)
     page.until(lambda: not page.all("dialog"))
-    page.button("Delete version…").click()
+    page.button("Soft-delete version…").click()
     page.press(Keys.ESCAPE)
     page.until(lambda: not page.all("dialog"))
     assert registry.get("/subjects/orders/versions") == [1, 2, 3, 4]
-    page.button("Delete version…").click()
-    page.button("Delete", "dialog").click()
-    assert page.message("good", "Deleted version 2 of orders softly.")
+    page.button("Soft-delete version…").click()
+    page.button("Soft-delete", "dialog").click()
+    assert page.message("good", "Soft-deleted version 2 of orders.")
     assert registry.get("/subjects/orders/versions") == [1, 3, 4]
     page.one("#deleted").click()
     page.until(lambda: page.texts(".versions li") == ["4", "3", "2", "1"])
     page.one(".versions li:nth-child(3) a").click()
-    page.button("Delete version for good…")
+    page.button("Delete version permanently…")
     page.shot("deleted")
-    page.button("Delete version for good…").click()
-    page.button("Delete for good", "dialog").click()
-    assert page.message("good", "Deleted version 2 of orders for good.")
+    page.button("Delete version permanently…").click()
+    page.button("Delete permanently", "dialog").click()
+    assert page.message("good", "Deleted version 2 of orders permanently.")
     assert registry.get("/subjects/orders/versions?deleted=true") == [1, 3, 4]
-    page.button("Delete subject…").click()
-    page.button("Delete", "dialog").click()
-    assert page.message("good", "Deleted orders softly.")
+    page.button("Soft-delete subject…").click()
+    page.button("Soft-delete", "dialog").click()
+    assert page.message("good", "Soft-deleted orders.")
     assert registry.ask("GET", "/subjects/orders/versions")[1]["error_code"] == 40401
-    page.button("Delete subject for good…").click()
-    page.button("Delete for good", "dialog").click()
-    assert page.message("good", "Deleted orders for good.")
+    page.button("Delete subject permanently…").click()
+    page.button("Delete permanently", "dialog").click()
+    assert page.message("good", "Deleted orders permanently.")
     assert registry.ask("GET", "/subjects/orders/versions?deleted=true")[1]["error_code"] == 40401
     page.open(subject="orders")
     assert page.message("bad", "40401 Subject not found.")
     page.shot("not-found")
-    print("versions and subjects are deleted, softly and for good, once a person has said yes")
+    print("versions and subjects are soft-deleted and deleted permanently, once a person has said yes")
 
 
 def try_keyboard(page, registry):
-    """All by the keyboard: a new subject, a second version, a fold, a comparison, a level, a mode, a deletion."""
+    """All by the keyboard: a new subject, a second version, a fold, a comparison, a level, a mode, a deletion, an id."""
     page.open()
     page.press_at("at.textContent === 'New subject'", Keys.ENTER)
     page.until(lambda: page.texts("h1") == ["New subject"])
@@ -576,7 +748,7 @@ def try_keyboard(page, registry):
     schema["fields"].append({"name": "b", "type": "int", "default": 0})
     page.press(json.dumps(schema))
     page.press_at("at.textContent === 'Check'", Keys.ENTER)
-    page.message("good", "admits it.")
+    page.message("good", "Compatible: the level FORWARD accepts it.")
     page.press_at("at.textContent === 'Register'", Keys.ENTER)
     page.message("good", "Version 2 of keys has this schema")
     page.press_at("at.textContent === 'Compare'", Keys.ENTER)
@@ -584,17 +756,25 @@ def try_keyboard(page, registry):
     assert page.run("return document.activeElement.textContent") == "Compare"
     page.press_at("at.id === 'config-own'", Keys.END, back=True)
     page.press_at("at.textContent === 'Set'", Keys.ENTER)
-    page.message("good", "Level is NONE.")
+    page.press_at("at.textContent === 'Set NONE'", Keys.ENTER)
+    page.message("good", "Compatibility level is NONE.")
     assert registry.get("/config/keys") == {"compatibilityLevel": "NONE"}
     for key, mode in ((Keys.END, "READONLY"), (Keys.HOME, "READWRITE")):
         page.press_at("at.id === 'mode-own'", key)
         page.press_at("at.textContent === 'Set'", Keys.ENTER)
         page.message("good", f"Mode is {mode}.")
         assert registry.get("/mode/keys") == {"mode": mode}
-    page.press_at("at.textContent === 'Delete subject…'", Keys.ENTER)
-    page.press_at("at.textContent === 'Delete'", Keys.ENTER)
-    page.message("good", "Deleted keys softly.")
+    page.press_at("at.textContent === 'Soft-delete subject…'", Keys.ENTER)
+    page.press_at("at.textContent === 'Soft-delete'", Keys.ENTER)
+    page.message("good", "Soft-deleted keys.")
     assert registry.ask("GET", "/subjects/keys/versions")[0] == 404
+    page.press_at("at.textContent === 'Schema by id'", Keys.ENTER, back=True)
+    page.until(lambda: page.texts("h1") == ["Schema by id"])
+    page.press_at("at.id === 'schema-id'", "2")
+    page.press(Keys.ENTER)
+    page.until(lambda: page.all(".uses"))
+    page.press_at("at.textContent === 'JSON'", Keys.ENTER)
+    page.until(lambda: page.all("pre"))
     page.press_at("at.textContent === 'Subjects'", Keys.ENTER, back=True)
     page.until(lambda: page.all("#search"))
     page.press_at("at.id === 'search'", "event-0001")
@@ -603,11 +783,11 @@ def try_keyboard(page, registry):
     page.until(lambda: page.all(".version"))
     assert "event-0001" in page.text("h1")
     page.shot("keyboard")
-    print("all of that by the keyboard alone, the focus always to be seen")
+    print("all of that by the keyboard alone, with the focus always visible")
 
 
 def try_modes(page, registry):
-    """Modes, a subject's own and that of all, shown and set; and what READONLY forbids, each with its code and message."""
+    """Modes, a subject's own and the global one, are shown and set; what READONLY rejects gets its code and message."""
     def forbidden(within):
         assert page.message("bad", "42205 Operation not permitted.", within)
 
@@ -616,11 +796,12 @@ def try_modes(page, registry):
     page.choose("#mode-own", "READONLY")
     assert "Sent once" in page.message("good", "Mode is READONLY.")
     assert registry.get(path("mode", HOSTILE)) == {"mode": "READONLY"} and registry.get("/mode") == {"mode": "READWRITE"}
-    page.choose("#config-own", "NONE")
+    page.choose("#config-own", "FULL")
     forbidden("form:has(#config-own)")
+    assert page.text("#config-own option:checked") == "FORWARD (global)"
     page.one("#new-schema").send_keys(json.dumps(ORDERS[0]))
     page.button("Check").click()
-    assert page.message("bad", "doesn't admit it.", ".new")
+    assert page.message("bad", "Not compatible.", ".new")
     page.button("Register").click()
     forbidden(".new")
     page.run("arguments[0].append(new Option('IMPORT'))", page.one("#mode-own"))
@@ -628,21 +809,22 @@ def try_modes(page, registry):
     assert page.message("bad", "42204 Invalid mode.", "form:has(#mode-own)")
     for what in "version", "subject":
         page.run("document.querySelector('main > .message')?.remove()")
-        page.button(f"Delete {what}…").click()
-        page.button("Delete", "dialog").click()
+        page.button(f"Soft-delete {what}…").click()
+        page.button("Soft-delete", "dialog").click()
         forbidden("main >")
-    page.shot("frozen")
+    page.shot("readonly")
     assert registry.get(path("subjects", HOSTILE, "versions")) == [1]
     page.open(subject=HOSTILE)
     assert page.run("return document.querySelector('#mode-own').value") == "READONLY"
     page.choose("#mode-own", "READWRITE")
     assert page.message("good", "Mode is READWRITE.")
-    page.choose("#config-own", "NONE")
-    assert page.message("good", "Level is NONE.")
+    page.choose("#config-own", "BACKWARD")
+    assert page.message("good", "Compatibility level is BACKWARD.")
 
     page.open()
     page.choose("#mode-all", "READONLY")
-    assert page.message("good", "Mode is READONLY.") and registry.get("/mode") == {"mode": "READONLY"}
+    page.button("Set READONLY", "dialog").click()
+    assert page.message("good", "Global mode is READONLY.") and registry.get("/mode") == {"mode": "READONLY"}
     page.choose("#config-all", "FULL")
     forbidden("form:has(#config-all)")
     page.settle()
@@ -651,21 +833,21 @@ def try_modes(page, registry):
     assert shown == [[HOSTILE, "READWRITE", "own"], [other, "READONLY", "faint"]], shown
     page.shot("modes")
     page.open(subject=other)
-    assert page.text("#mode-own option:checked") == "READONLY, as all"
-    page.choose("#config-own", "NONE")
+    assert page.text("#mode-own option:checked") == "READONLY (global)"
+    page.choose("#config-own", "BACKWARD")
     forbidden("form:has(#config-own)")
     page.open(subject=HOSTILE)
     page.choose("#config-own", "FULL")
-    assert page.message("good", "Level is FULL.")
+    assert page.message("good", "Compatibility level is FULL.")
     page.open(new="")
-    page.one("#new-subject").send_keys("thawed")
+    page.one("#new-subject").send_keys("writable")
     page.one("#new-schema").send_keys('"int"')
     page.button("Register").click()
     forbidden(".new")
     assert registry.ask("PUT", "/mode", {"mode": "READWRITE"})[0] == 200
     page.button("Register").click()
-    assert page.message("good", "Version 1 of thawed has this schema")
-    print("modes of a subject and of all: shown and set; what READONLY forbids is refused with its code, and done once it thaws")
+    assert page.message("good", "Version 1 of writable has this schema")
+    print("a subject's mode and the global one: shown and set; READONLY rejects writes with its code, READWRITE accepts them again")
 
 
 def look_at_nothing(page, registry):
@@ -697,6 +879,10 @@ def main():
         look_at_differences(page, registry)
         look_at_hostile_names(page, registry)
         try_new_versions(page, registry, given.server)
+        try_refusals(page, registry)
+        try_questions(page, registry)
+        look_up_ids(page, registry)
+        try_links(page, registry)
         try_lost_answers(page, registry, given.server)
         try_deletions(page, registry)
         try_keyboard(page, registry)

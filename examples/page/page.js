@@ -1,8 +1,8 @@
-// A page to look at a registry and to change it. It asks the registry beside it, on its own origin, and nothing else.
+// A page that shows and changes a registry. It sends requests only to its own origin, where nginx serves the registry too.
 // Texts of the registry become text nodes: nothing here makes HTML of a string.
 
 const LEVEL = {
-  name: "Level",
+  name: "Compatibility level",
   place: "config",
   answered: "compatibilityLevel",
   sent: "compatibility",
@@ -11,12 +11,18 @@ const LEVEL = {
 const MODE = { name: "Mode", place: "mode", answered: "mode", sent: "mode", values: ["READWRITE", "READONLY"] };
 const SETTINGS = [LEVEL, MODE];
 
-/** The code of what a mode forbids. */
+/** The name of a setting: a subject's own one, or without a subject the global one. */
+function settingName(setting, subject) {
+  return subject === undefined ? `Global ${setting.name.toLowerCase()}` : setting.name;
+}
+
+/** Codes: what a mode rejects, and what a level rejects. */
 const FORBIDDEN = 42205;
+const INCOMPATIBLE = 409;
 
 // ---- Requests ----
 
-/** What the registry refused, or that it gave no answer; then it is open whether a write acted. */
+/** A refusal of the registry, or no response from it: then a write may have been applied. */
 class Fault extends Error {
   constructor(code, message, isOpen = false) {
     super(message);
@@ -27,8 +33,8 @@ class Fault extends Error {
 
 /** The path of these parts. */
 function pathOf(...parts) {
-  // a browser takes such a part out of a path, also where it is escaped
-  if (parts.some((part) => part === "." || part === "..")) throw new Fault("", "No browser can ask for a subject named . or ..");
+  // a browser removes such a part from a path, even if it is escaped
+  if (parts.some((part) => part === "." || part === "..")) throw new Fault("", "A browser can't request a subject named . or ..");
   return "/" + parts.map(encodeURIComponent).join("/");
 }
 
@@ -38,11 +44,11 @@ async function ask(method, path, body, headers = {}) {
     response = await fetch(path, { method, headers, body: body && JSON.stringify(body), cache: "no-store" });
     text = await response.text();
   } catch {
-    throw new Fault("", "No answer came", true);
+    throw new Fault("", "No response", true);
   }
   const answer = valueOf(text);
   if (response.ok && answer !== undefined) return answer;
-  const other = (!response.ok && response.statusText) || "This is no answer of the registry";
+  const other = (!response.ok && response.statusText) || "This response isn't from the registry";
   const { error_code: code = response.status, message = other } = answer ?? {};
   throw new Fault(code, message, response.status >= 500);
 }
@@ -58,7 +64,10 @@ function valueOf(text) {
 
 const read = (path) => ask("GET", path);
 
-/** Reads what may not be there: `otherwise` where the answer is 404. */
+/** How many requests are sent at once. */
+const ASKED_AT_ONCE = 4;
+
+/** Reads something that may not exist: `otherwise` if the response is 404. */
 async function readOr(otherwise, path) {
   try {
     return await read(path);
@@ -68,22 +77,63 @@ async function readOr(otherwise, path) {
   }
 }
 
-/** Writes, each under a retry key that is made once for each try: until the registry answers, the same request has it. */
+/** Does the action with each item, a few at a time, and returns the results in the items' order. */
+async function inTurns(items, action) {
+  const results = [];
+  let next = 0;
+  async function work() {
+    while (next < items.length) {
+      const at = next++;
+      results[at] = await action(items[at]);
+    }
+  }
+  await Promise.all(Array.from({ length: ASKED_AT_ONCE }, work));
+  return results;
+}
+
+/**
+ * Sends writes. Each intended write has one retry key until the registry has answered it. The keys are in the tab's
+ * session storage, so they survive a reload.
+ */
 const writes = (() => {
-  const tries = new Map();
+  const STORED = "avroreg: writes without a response";
+  const tries = new Map(stored());
+
+  function stored() {
+    try {
+      return valueOf(sessionStorage.getItem(STORED)) ?? [];
+    } catch {
+      return [];
+    }
+  }
+
+  function store() {
+    const open = [...tries].map(([request, { key, times }]) => [request, { key, times }]);
+    try {
+      sessionStorage.setItem(STORED, JSON.stringify(open));
+    } catch {
+      // the storage is full or turned off: the keys last as long as this page
+    }
+  }
 
   function newKey() {
     return Array.from(crypto.getRandomValues(new Uint8Array(16)), (byte) => byte.toString(16).padStart(2, "0")).join("");
   }
 
+  function forget(request) {
+    tries.delete(request);
+    store();
+  }
+
   async function deliver(request, attempt) {
     attempt.times += 1;
+    store();
     try {
       const answer = await ask(...JSON.parse(request), { "Registry-Retry-Key": attempt.key });
-      tries.delete(request);
+      forget(request);
       return { answer, key: attempt.key, times: attempt.times };
     } catch (fault) {
-      if (!fault.isOpen) tries.delete(request);
+      if (!fault.isOpen) forget(request);
       fault.key = attempt.key;
       throw fault;
     } finally {
@@ -91,7 +141,7 @@ const writes = (() => {
     }
   }
 
-  /** The answer, its key, and how often the request was sent. What is under way isn't sent beside itself. */
+  /** The response, its key, and how often the request was sent. While a request is in progress, it isn't sent again. */
   function write(method, path, body) {
     const request = JSON.stringify([method, path, body ?? null]);
     const attempt = tries.get(request) ?? { key: newKey(), times: 0 };
@@ -100,10 +150,15 @@ const writes = (() => {
     return attempt.delivery;
   }
 
-  return { write };
+  /** The writes without a response that aren't in progress. */
+  function open() {
+    return [...tries].filter(([, attempt]) => !attempt.delivery).map(([request, { key }]) => ({ request, key }));
+  }
+
+  return { write, open, forget };
 })();
 
-/** The value of each setting for all subjects. */
+/** The global value of each setting. */
 async function globalSettings() {
   return Promise.all(SETTINGS.map(async (setting) => (await read(pathOf(setting.place)))[setting.answered]));
 }
@@ -120,20 +175,20 @@ async function settingsOf(subject, globals) {
 
 // ---- Schemas ----
 
-/** The schema of a text. Numbers stay as they are spelt: a default may have more digits than a number here keeps. */
+/** The schema of a text. Numbers keep their digits: a default may have more of them than a number here holds. */
 function schemaOf(text) {
   return JSON.parse(text, (_, value, context) => (typeof value === "number" && JSON.rawJSON ? JSON.rawJSON(context.source) : value));
 }
 
 const IS_NAMED = new Set(["record", "enum", "fixed"]);
 
-/** A text as it is, other JSON spelt out, nothing where there is none. */
+/** A text unchanged, other JSON as text, nothing for undefined. */
 function plain(value) {
   if (value === undefined) return "";
   return typeof value === "string" ? value : JSON.stringify(value);
 }
 
-/** A type on one line; the named ones that it defines are told by their names. */
+/** A type on one line, named types by their names. */
 function typeText(type) {
   if (typeof type === "string") return type;
   if (Array.isArray(type)) return type.map(typeText).join(" | ") || "union of nothing";
@@ -145,7 +200,7 @@ function typeText(type) {
   return `${base} (${plain(type.logicalType)}${digits.length ? " " + digits.join(", ") : ""})`;
 }
 
-/** The named types that a type defines, but for those inside of them. */
+/** The named types that a type defines, without those inside them. */
 function definitions(type) {
   if (Array.isArray(type)) return type.flatMap(definitions);
   if (type.type === "array") return definitions(type.items);
@@ -170,7 +225,7 @@ function indented(text) {
 
 // ---- Differences ----
 
-/** Tables of more cells than this aren't made: then all lines between the first and the last difference count as such. */
+/** If the table had more cells than this, all lines between the first and the last difference count as different. */
 const MOST_CELLS = 4_000_000;
 
 /** The longest common lines of two lists, as pairs of places in ascending order. */
@@ -195,7 +250,7 @@ function commonLines(left, right) {
   return pairs;
 }
 
-/** Two texts side by side: rows of a line of each, by its place, or of one; those that differ stand beside one another. */
+/** Two texts side by side: rows with a line of each, or of one, by its index. Different lines share a row. */
 function sideBySide(left, right) {
   let head = 0;
   let tail = 0;
@@ -236,8 +291,11 @@ function element(name, attributes = {}, ...children) {
 
 const count = (number, one) => `${number.toLocaleString("en")} ${one}${number === 1 ? "" : "s"}`;
 
+/** The choice that each view has. */
+const choices = { deleted: false };
+
 /** The address of a view on this page. */
-const address = (parameters) => "#" + new URLSearchParams(parameters);
+const address = (parameters) => "#" + new URLSearchParams(choices.deleted ? { ...parameters, deleted: true } : parameters);
 
 /** A message; `kind` is good, bad or open. */
 function message(kind, ...content) {
@@ -247,21 +305,60 @@ function message(kind, ...content) {
 function faultMessage(fault) {
   const code = fault.code ? element("b", {}, String(fault.code)) : null;
   const text = fault instanceof Fault ? fault.message : `The page failed: ${fault.message}`;
-  const why = fault.code === FORBIDDEN && element("small", {}, " The mode READONLY forbids it.");
-  if (!fault.isOpen || !fault.key) return message("bad", code, code && " ", text, ".", why);
+  const why = fault.code === FORBIDDEN && element("small", {}, " The mode READONLY rejects writes.");
+  if (!fault.isOpen || !fault.key) return message("bad", code, code && " ", text, ".", why, ...(fault.detail ?? []));
   return message(
     "open", code, code && " ", text,
-    `. Whether this acted is open. Send it again: it goes out under the same retry key, ${fault.key}, and acts once.`,
+    `. The write may have been applied. Send it again: it keeps its retry key, ${fault.key}, so it is applied exactly once.`,
   );
 }
 
-/** What is said behind an answer to a write of how it was sent. */
+/** How a write was sent that got a response. */
 function sentText({ key, times }) {
-  const often = times === 1 ? "Sent once" : `Sent ${times} times, and acted once`;
-  return element("small", {}, ` ${often}, under the retry key ${key}.`);
+  const often = times === 1 ? "Sent once" : `Sent ${times} times and applied exactly once`;
+  return element("small", {}, ` ${often}, with the retry key ${key}.`);
 }
 
-/** A button whose second press of a double click counts for nothing. */
+/** What a write does, from its method, path and body. */
+function writeText([method, path, body]) {
+  const [place, query] = path.split("?");
+  const [kind, subject, , version] = place.slice(1).split("/").map(decodeURIComponent);
+  const setting = SETTINGS.find((each) => each.place === kind);
+  if (setting) return `Set the ${settingPhrase(setting, subject)} to ${body[setting.sent]}`;
+  if (method === "POST") return `Register a schema under ${subject}`;
+  const what = version ? `version ${version} of ${subject}` : subject;
+  return query ? `Delete ${what} permanently` : `Soft-delete ${what}`;
+}
+
+/** The writes that got no response, also before a reload, each with a button that sends it again with its key. */
+function openWrites() {
+  return writes.open().map(({ request, key }) => {
+    const parts = JSON.parse(request);
+    const outcome = element("div", { class: "outcome" });
+    const box = element("div", { class: "message open pending", role: "status" },
+      element("p", {}, element("b", {}, "No response yet: "), `${writeText(parts)}. `,
+        element("small", {}, `It may have been applied. Its retry key is ${key}.`)));
+    async function send() {
+      let said;
+      try {
+        said = message("good", `Done: ${writeText(parts)}.`, sentText(await writes.write(...parts)));
+      } catch (fault) {
+        if (fault.isOpen) throw fault;
+        said = faultMessage(fault);
+      }
+      await views.show();
+      views.say(said);
+    }
+    box.append(
+      element("div", { class: "actions" },
+        button("Send again", { onclick: () => act(box, outcome, send) }),
+        button("Forget it", { onclick: () => { writes.forget(request); box.remove(); } })),
+      outcome);
+    return box;
+  });
+}
+
+/** A button that ignores the second press of a double click. */
 function button(text, attributes = {}) {
   const drop = (event) => event.detail > 1 && (event.preventDefault(), event.stopImmediatePropagation());
   const { onclick, ...others } = attributes;
@@ -270,7 +367,7 @@ function button(text, attributes = {}) {
   return node;
 }
 
-/** Does what a form asks for, its buttons being off meanwhile, and puts the message of it into `place`. */
+/** Does the form's action with its buttons turned off, and puts the message about it into `place`. */
 async function act(form, place, action) {
   const buttons = [...form.querySelectorAll("button")];
   for (const each of buttons) each.setAttribute("aria-disabled", "true");
@@ -285,7 +382,7 @@ async function act(form, place, action) {
   for (const each of buttons) each.removeAttribute("aria-disabled");
 }
 
-/** Whether a person says yes to a question. */
+/** Asks a question, and returns whether the person said yes. */
 function agreed(question, consequence, yes) {
   const dialog = element("dialog", { "aria-labelledby": "question" });
   dialog.append(
@@ -305,27 +402,59 @@ function agreed(question, consequence, yes) {
   });
 }
 
-/** A form that changes a setting: of a subject, or of all. */
+function settingPhrase(setting, subject) {
+  const name = settingName(setting, subject);
+  const phrase = name[0].toLowerCase() + name.slice(1);
+  return subject === undefined ? phrase : `${phrase} of ${subject}`;
+}
+
+/** What a person has to agree to before a setting gets this value, or null. */
+function warning(setting, value, subject) {
+  if (setting === LEVEL && value === "NONE") {
+    const whom = subject === undefined ? " This applies to each subject without a level of its own." : "";
+    return `NONE accepts every schema, also one with which consumers can't read messages.${whom}`;
+  }
+  if (setting === MODE && value === "READONLY" && subject === undefined) {
+    return "Nobody can register or delete then, except in subjects with a mode of their own. Modes can still be set.";
+  }
+  return null;
+}
+
+/** A form that changes a setting: a subject's own one, or the global one. */
 function settingForm(setting, { value, isOwn }, subject) {
   const id = `${setting.place}-${subject === undefined ? "all" : "own"}`;
   const chosen = element("select", { id });
-  if (!isOwn) chosen.append(element("option", { value: "", selected: true, disabled: true }, `${value}, as all`));
+  if (!isOwn) chosen.append(element("option", { value: "", selected: true, disabled: true }, `${value} (global)`));
   for (const each of setting.values) {
     chosen.append(element("option", { value: each, selected: isOwn && each === value }, each));
   }
   const outcome = element("div", { class: "outcome" });
   const form = element("form", { class: "setting" },
-    element("label", { for: id }, subject === undefined ? `${setting.name} of all` : setting.name),
+    element("label", { for: id }, settingName(setting, subject)),
     chosen, button("Set", { type: "submit" }), outcome);
-  form.addEventListener("submit", (event) => {
+
+  async function set() {
+    const path = subject === undefined ? pathOf(setting.place) : pathOf(setting.place, subject);
+    let sent;
+    try {
+      sent = await writes.write("PUT", path, { [setting.sent]: chosen.value });
+    } catch (fault) {
+      // a refused value isn't in force, so it isn't shown any more
+      if (!fault.isOpen) form.reset();
+      throw fault;
+    }
+    await views.show();
+    views.say(message("good", `${settingName(setting, subject)} is ${sent.answer[setting.sent]}.`, sentText(sent)));
+  }
+
+  form.addEventListener("submit", async (event) => {
     event.preventDefault();
     if (!chosen.value) return;
-    act(form, outcome, async () => {
-      const path = subject === undefined ? pathOf(setting.place) : pathOf(setting.place, subject);
-      const sent = await writes.write("PUT", path, { [setting.sent]: chosen.value });
-      await views.show();
-      views.say(message("good", `${setting.name} is ${sent.answer[setting.sent]}.`, sentText(sent)));
-    });
+    const wanted = chosen.value;
+    const consequence = warning(setting, wanted, subject);
+    const question = `Set the ${settingPhrase(setting, subject)} to ${wanted}?`;
+    if (consequence && !(await agreed(question, consequence, `Set ${wanted}`))) form.reset();
+    else act(form, outcome, set);
   });
   return form;
 }
@@ -363,7 +492,7 @@ function fieldTable(fields) {
     element("tbody", {}, fields.flatMap((field) => fieldRows(field, columns))));
 }
 
-/** What stands inside a named type. */
+/** The contents of a named type. */
 function definition(type) {
   const facts = [];
   if (type.doc !== undefined) facts.push(element("p", { class: "doc" }, plain(type.doc)));
@@ -379,7 +508,7 @@ function definition(type) {
   return element("div", { class: "definition" }, facts);
 }
 
-/** A schema as tables of fields: its own where it is a named type, else those of the types inside. */
+/** A schema as tables of fields: its own if it is a named type, otherwise those of the types inside. */
 function fieldsView(text) {
   const type = schemaOf(text);
   const named = definitions(type);
@@ -416,8 +545,28 @@ function differenceView(old, oldText, version, text) {
 
 const drafts = new Map();
 
-/** A box that checks and registers a schema: under this subject, or under one that is named in it. */
-function newSchemaForm(subject, level) {
+/** The versions that refuse a schema, among those with which the level compares it. */
+async function refusingVersions(subject, level, schema) {
+  const live = await readOr([], pathOf("subjects", subject, "versions"));
+  const compared = level.endsWith("_TRANSITIVE") ? live : live.slice(-1);
+  const answers = await inTurns(compared, (version) =>
+    ask("POST", pathOf("compatibility", "subjects", subject, "versions", String(version)), schema));
+  return compared.filter((_, at) => !answers[at].is_compatible);
+}
+
+/** Names each version that refuses a schema, with a link to it. */
+async function refusalText(subject, schema) {
+  const { compatibilityLevel: level } = await read(pathOf("config", subject) + "?defaultToGlobal=true");
+  const refusing = await refusingVersions(subject, level, schema);
+  if (refusing.length === 0) return [` The level ${level} refuses it no longer: check it again.`];
+  const links = refusing.map((version) => element("a", { href: address({ subject, version }) }, String(version)));
+  const listed = links.flatMap((link, at) => [at === 0 ? "" : at === links.length - 1 ? " and " : ", ", link]);
+  return [` The level ${level} compares it with `, level.endsWith("_TRANSITIVE") ? "all versions" : "the latest version",
+    `. Refused by version${refusing.length === 1 ? "" : "s"} `, ...listed, "."];
+}
+
+/** A form that checks and registers a schema: under this subject, or under one that is typed in. */
+function newSchemaForm(subject) {
   const outcome = element("div", { class: "outcome" });
   const name = element("input", { id: "new-subject", required: true, autocomplete: "off", spellcheck: "false" });
   const text = element("textarea", {
@@ -430,15 +579,23 @@ function newSchemaForm(subject, level) {
   const schema = () => ({ schema: text.value });
 
   async function check() {
-    const { is_compatible: isCompatible } = await ask("POST", pathOf("compatibility", "subjects", under(), "versions"), schema());
-    const by = level ? `The level ${level}` : "The level";
-    return isCompatible ? message("good", `${by} admits it.`) : message("bad", `${by} doesn't admit it.`);
+    const [target, sent] = [under(), schema()];
+    const { is_compatible: isCompatible } = await ask("POST", pathOf("compatibility", "subjects", target, "versions"), sent);
+    if (!isCompatible) return message("bad", "Not compatible.", ...(await refusalText(target, sent)));
+    const { compatibilityLevel: level } = await read(pathOf("config", target) + "?defaultToGlobal=true");
+    return message("good", `Compatible: the level ${level} accepts it.`);
   }
 
   async function register() {
-    const target = under();
-    const sent = await writes.write("POST", pathOf("subjects", target, "versions"), schema());
-    const { version } = await ask("POST", pathOf("subjects", target), schema());
+    const [target, body] = [under(), schema()];
+    let sent;
+    try {
+      sent = await writes.write("POST", pathOf("subjects", target, "versions"), body);
+    } catch (fault) {
+      if (fault.code === INCOMPATIBLE) fault.detail = await refusalText(target, body).catch(() => []);
+      throw fault;
+    }
+    const { version } = await ask("POST", pathOf("subjects", target), body);
     drafts.delete(subject);
     await views.go({ subject: target, version });
     views.say(message("good", `Version ${version} of ${target} has this schema, id ${sent.answer.id}.`, sentText(sent)));
@@ -453,18 +610,18 @@ function newSchemaForm(subject, level) {
   form.append(
     element("div", { class: "actions" }, button("Check", { onclick: press(check) }),
       button("Register", { class: "main", onclick: press(register) })),
-    element("p", { class: "faint" }, "Each try has one retry key, so a double click or a lost answer acts once."),
+    element("p", { class: "faint" }, "A write keeps its retry key until it gets a response. "
+      + "So it is applied exactly once, also after a double click or a reload."),
     outcome);
   return form;
 }
 
 // ---- The subjects ----
 
-const COLUMNS = ["Subject", "Latest", "Schema", ...SETTINGS.map((setting) => setting.name)];
+const COLUMNS = ["Subject", "Latest version", "Schema", ...SETTINGS.map((setting) => setting.name)];
 const ROWS_AT_ONCE = 200;
-const ASKED_AT_ONCE = 4;
 
-/** Has each row that is watched filled while it is in view, a few at a time. */
+/** Fills the rows that are in view, a few at a time. */
 function fillerInView() {
   const fillOf = new WeakMap();
   const wanted = new Set();
@@ -511,7 +668,7 @@ async function fillRow(row, subject, isDeleted, globals) {
   try {
     const version = pathOf("subjects", subject, "versions", "latest") + (isDeleted ? "?deleted=true" : "");
     const [found, own] = await Promise.all([read(version), settingsOf(subject, globals)]);
-    latest.replaceChildren(`${found.version}`, element("span", { class: "faint" }, ` id ${found.id}`));
+    latest.replaceChildren(`${found.version} `, idLink(found.id));
     schema.replaceChildren(element("code", {}, typeText(schemaOf(found.schema))));
     own.forEach(({ value, isOwn }, at) => values[at].replaceChildren(element("span", { class: isOwn ? "own" : "faint" }, value)));
   } catch (fault) {
@@ -521,18 +678,17 @@ async function fillRow(row, subject, isDeleted, globals) {
   }
 }
 
-const choices = { search: "", deleted: false };
-
-function deletedSwitch() {
+function deletedSwitch(parameters) {
   const box = element("input", { type: "checkbox", id: "deleted", checked: choices.deleted });
   box.addEventListener("change", () => {
     choices.deleted = box.checked;
+    views.replace(parameters());
     views.show();
   });
-  return element("label", { class: "switch", for: "deleted" }, box, "Soft-deleted too");
+  return element("label", { class: "switch", for: "deleted" }, box, "Include soft-deleted");
 }
 
-async function subjectsView() {
+async function subjectsView(parameters) {
   const [live, all, globals] = await Promise.all([
     read("/subjects"), choices.deleted ? read("/subjects?deleted=true") : null, globalSettings(),
   ]);
@@ -560,13 +716,12 @@ async function subjectsView() {
     body.append(...found.slice(body.rows.length, body.rows.length + ROWS_AT_ONCE).map(rowOf));
     const below = found.length - body.rows.length;
     rest.textContent = below ? `${below.toLocaleString("en")} more below` : "";
-    // watched anew, it is told again where it is in view still
+    // observed anew, it is reported again if it is still in view
     end.unobserve(rest);
     end.observe(rest);
   }
 
   function draw() {
-    choices.search = search.value;
     const wanted = search.value.toLowerCase();
     found = subjects.filter((subject) => subject.toLowerCase().includes(wanted));
     body.replaceChildren();
@@ -577,14 +732,26 @@ async function subjectsView() {
   }
 
   const end = new IntersectionObserver((entries) => entries.at(-1).isIntersecting && rest.textContent && addRows(), { rootMargin: "400px" });
-  search.value = choices.search;
-  search.addEventListener("input", draw);
+  search.value = parameters.search ?? "";
+  const shown = () => (search.value ? { search: search.value } : {});
+  let timer;
+  function keepInAddress() {
+    clearTimeout(timer);
+    if (search.isConnected) views.replace(shown());
+  }
+  search.addEventListener("input", () => {
+    // browsers block an address that changes with every key
+    clearTimeout(timer);
+    timer = setTimeout(keepInAddress, 300);
+    draw();
+  });
+  search.addEventListener("change", keepInAddress);
   draw();
   const forms = SETTINGS.map((setting, at) => settingForm(setting, { value: globals[at], isOwn: true }));
   const none = element("p", { class: "empty" }, "There are no subjects yet. ", element("a", { href: "#new=" }, "Register the first schema"), ".");
   return [
     element("h1", { tabindex: -1 }, "Subjects"),
-    element("div", { class: "bar" }, search, deletedSwitch(), element("div", { class: "settings" }, forms)),
+    element("div", { class: "bar" }, search, deletedSwitch(shown), element("div", { class: "settings" }, forms)),
     subjects.length ? told : none,
     subjects.length > 0 && element("table", { class: "subjects" },
       element("thead", {}, element("tr", {}, COLUMNS.map((name) => element("th", { scope: "col" }, name)))),
@@ -595,14 +762,14 @@ async function subjectsView() {
 
 // ---- A subject ----
 
-/** Asks a person, deletes what is at the path, and shows what is left: the subjects where nothing is left of this one. */
-async function remove(path, { what, consequence, isForGood, isLast }) {
-  const how = isForGood ? "for good" : "softly";
-  if (!(await agreed(`Delete ${what} ${how}?`, consequence, isForGood ? "Delete for good" : "Delete"))) return;
+/** Asks, deletes, and shows the subject again, or the subjects if nothing is left of it. */
+async function remove(path, { what, consequence, isPermanent, isLast }) {
+  const question = isPermanent ? `Delete ${what} permanently?` : `Soft-delete ${what}?`;
+  if (!(await agreed(question, consequence, isPermanent ? "Delete permanently" : "Soft-delete"))) return;
   try {
-    const sent = await writes.write("DELETE", path + (isForGood ? "?permanent=true" : ""));
-    await (isForGood && isLast ? views.go({}) : views.show());
-    views.say(message("good", `Deleted ${what} ${how}.`, sentText(sent)));
+    const sent = await writes.write("DELETE", path + (isPermanent ? "?permanent=true" : ""));
+    await (isPermanent && isLast ? views.go({}) : views.show());
+    views.say(message("good", isPermanent ? `Deleted ${what} permanently.` : `Soft-deleted ${what}.`, sentText(sent)));
   } catch (fault) {
     views.say(faultMessage(fault));
   }
@@ -610,26 +777,26 @@ async function remove(path, { what, consequence, isForGood, isLast }) {
 
 function deleteVersionButton(subject, version, isLive, isLast) {
   const consequence = isLive
-    ? "Levels look at it no more. Its schema is still found by its id."
-    : "It can't be brought back.";
-  return button(isLive ? "Delete version…" : "Delete version for good…", {
+    ? "Later schemas aren't compared with it any more. Its schema can still be read by its id."
+    : "This can't be undone.";
+  return button(isLive ? "Soft-delete version…" : "Delete version permanently…", {
     id: "delete-version",
     onclick: () => remove(pathOf("subjects", subject, "versions", String(version)),
-      { what: `version ${version} of ${subject}`, consequence, isForGood: !isLive, isLast }),
+      { what: `version ${version} of ${subject}`, consequence, isPermanent: !isLive, isLast }),
   });
 }
 
 function deleteSubjectButton(subject, live, all) {
   const consequence = live.length
-    ? `This deletes ${count(live.length, "version")}, and the subject has no level of its own any more. Schemas are still found by their ids.`
-    : `This deletes ${count(all.length, "version")}, which can't be brought back, and the subject's own mode.`;
-  return button(live.length ? "Delete subject…" : "Delete subject for good…", {
+    ? `This soft-deletes ${count(live.length, "version")}, and removes the subject's own compatibility level. Schemas can still be read by their ids.`
+    : `This deletes ${count(all.length, "version")} permanently, and the subject's own mode. It can't be undone.`;
+  return button(live.length ? "Soft-delete subject…" : "Delete subject permanently…", {
     id: "delete-subject",
-    onclick: () => remove(pathOf("subjects", subject), { what: subject, consequence, isForGood: live.length === 0, isLast: true }),
+    onclick: () => remove(pathOf("subjects", subject), { what: subject, consequence, isPermanent: live.length === 0, isLast: true }),
   });
 }
 
-/** The part for one version: how it is looked at, and the version so. */
+/** The part for one version: the links to its views, and one of these views. */
 async function versionPart(subject, version, { versions, live, all }, { view, against }) {
   const readVersion = (number) => read(pathOf("subjects", subject, "versions", String(number)) + "?deleted=true");
   const others = versions.filter((other) => other !== version);
@@ -642,9 +809,9 @@ async function versionPart(subject, version, { versions, live, all }, { view, ag
   compared.addEventListener("change", () => views.go({ subject, version, view: "compare", against: compared.value }));
   return element("section", { class: "version" },
     element("div", { class: "bar" },
-      element("h2", {}, `Version ${found.version}`, element("span", { class: "faint" }, ` id ${found.id}`),
+      element("h2", {}, `Version ${found.version} `, idLink(found.id),
         !live.includes(version) && [" ", element("span", { class: "tag" }, "soft-deleted")]),
-      element("nav", { class: "tabs", "aria-label": "How it is shown" },
+      element("nav", { class: "tabs", "aria-label": "Views of this version" },
         link("Fields", {}, !view), link("JSON", { view: "json" }, view === "json"),
         others.length > 0 && link("Compare", { view: "compare", against: other }, view === "compare")),
       old && compared,
@@ -666,12 +833,12 @@ async function subjectView(parameters) {
     element("h1", { tabindex: -1 }, subject, live.length === 0 && [" ", element("span", { class: "tag" }, "soft-deleted")]),
     element("div", { class: "bar" },
       own.map((each) => settingForm(each.setting, each, subject)),
-      all.length > live.length && live.length > 0 && deletedSwitch(),
+      all.length > live.length && live.length > 0 && deletedSwitch(() => parameters),
       deleteSubjectButton(subject, live, all)),
     element("nav", { class: "versions", "aria-label": "Versions" }, element("span", { class: "faint" }, count(versions.length, "version")),
       element("ol", {}, versions.toReversed().map(item))),
     await versionPart(subject, version, { versions, live, all }, parameters),
-    element("section", {}, element("h2", {}, "New version"), newSchemaForm(subject, own[0].value)),
+    element("section", {}, element("h2", {}, "New version"), newSchemaForm(subject)),
   ];
 }
 
@@ -679,9 +846,64 @@ function newSubjectView() {
   return [element("h1", { tabindex: -1 }, "New subject"), newSchemaForm()];
 }
 
+// ---- A schema by its id ----
+
+/** How many versions that have a schema are listed. */
+const MOST_USES = 500;
+
+function idLink(id) {
+  return element("a", { class: "id", href: address({ id }), "aria-label": `Schema with id ${id}` }, `id ${id}`);
+}
+
+/** The versions that have the schema of an id, each with a link. */
+async function usesOf(id) {
+  const path = pathOf("schemas", "ids", id, "versions");
+  const [all, live] = await Promise.all([read(path + "?deleted=true"), read(path)]);
+  const name = ({ subject, version }) => JSON.stringify([subject, version]);
+  const isLive = new Set(live.map(name));
+  const item = (use) => element("li", { class: !isLive.has(name(use)) && "deleted" },
+    element("a", { href: address(use) }, `${use.subject}, version ${use.version}`),
+    !isLive.has(name(use)) && [" ", element("span", { class: "tag" }, "soft-deleted")]);
+  return [
+    element("h2", {}, `Used by ${count(all.length, "version")}`),
+    element("ul", { class: "uses" }, all.slice(0, MOST_USES).map(item)),
+    all.length > MOST_USES && element("p", { class: "faint" }, `${(all.length - MOST_USES).toLocaleString("en")} more`),
+  ];
+}
+
+async function schemaOfId(id, view) {
+  try {
+    const [{ schema }, uses] = await Promise.all([read(pathOf("schemas", "ids", id)), usesOf(id)]);
+    const link = (name, parameters, isShown) =>
+      element("a", { href: address({ id, ...parameters }), "aria-current": isShown && "true" }, name);
+    return [
+      element("section", { class: "version" },
+        element("div", { class: "bar" }, element("h2", {}, `Schema with id ${id}`),
+          element("nav", { class: "tabs", "aria-label": "Views of this schema" },
+            link("Fields", {}, view !== "json"), link("JSON", { view: "json" }, view === "json"))),
+        view === "json" ? jsonView(schema) : fieldsView(schema)),
+      element("section", {}, uses),
+    ];
+  } catch (fault) {
+    return [faultMessage(fault)];
+  }
+}
+
+async function idView({ id, view }) {
+  const number = element("input", { id: "schema-id", required: true, inputmode: "numeric", pattern: "[0-9]+", title: "Digits only",
+    autocomplete: "off", value: id });
+  const form = element("form", { class: "look-up" },
+    element("label", { for: "schema-id" }, "Id"), number, button("Look up", { type: "submit", class: "main" }));
+  form.addEventListener("submit", (event) => {
+    event.preventDefault();
+    views.go({ id: number.value });
+  });
+  return [element("h1", { tabindex: -1 }, "Schema by id"), form, ...(id ? await schemaOfId(id, view) : [])];
+}
+
 // ---- The page ----
 
-/** What is shown: by the address behind the page's `#`. */
+/** The current view, from the address after the page's `#`. So each view has a link. */
 const views = (() => {
   const main = document.querySelector("main");
   let latest = 0;
@@ -689,10 +911,17 @@ const views = (() => {
 
   function viewOf(parameters) {
     if ("subject" in parameters) return subjectView(parameters);
-    return "new" in parameters ? newSubjectView() : subjectsView();
+    if ("id" in parameters) return idView(parameters);
+    return "new" in parameters ? newSubjectView() : subjectsView(parameters);
   }
 
-  /** The element of `main` that stands for the one that had the focus before it was drawn anew. */
+  function titleOf(parameters) {
+    if ("subject" in parameters) return parameters.subject;
+    if ("id" in parameters) return parameters.id ? `Schema ${parameters.id}` : "Schema by id";
+    return "new" in parameters ? "New subject" : "Subjects";
+  }
+
+  /** The element that replaces the one that had the focus before the view was drawn anew. */
   function standIn(held) {
     if (held?.id) return document.getElementById(held.id);
     const href = held?.getAttribute("href");
@@ -701,26 +930,33 @@ const views = (() => {
 
   async function show() {
     const turn = ++latest;
-    const parameters = Object.fromEntries(new URLSearchParams(location.hash.slice(1)));
+    const { deleted, ...parameters } = Object.fromEntries(new URLSearchParams(location.hash.slice(1)));
+    choices.deleted = deleted === "true";
     main.setAttribute("aria-busy", "true");
     let content;
     try {
       content = await viewOf(parameters);
     } catch (fault) {
-      content = [element("h1", { tabindex: -1 }, parameters.subject ?? "Subjects"), faultMessage(fault), button("Try again", { onclick: show })];
+      content = [element("h1", { tabindex: -1 }, titleOf(parameters)), faultMessage(fault), button("Try again", { onclick: show })];
     }
     if (turn !== latest) return;
     const held = main.contains(document.activeElement) ? document.activeElement : null;
-    main.replaceChildren(...content.filter(Boolean));
+    const [heading, ...rest] = content.filter(Boolean);
+    main.replaceChildren(heading, ...openWrites(), ...rest);
     main.removeAttribute("aria-busy");
     const before = title;
-    title = parameters.subject ?? ("new" in parameters ? "New subject" : "Subjects");
+    title = titleOf(parameters);
     document.title = `${title} – avroreg`;
     if (before === title) standIn(held)?.focus({ preventScroll: true });
     else if (before) main.querySelector("h1").focus();
   }
 
-  /** Shows another view, as if its link had been followed. */
+  /** Makes the address that of these parameters, without a new entry in the browser's history. */
+  function replace(parameters) {
+    history.replaceState(null, "", address(parameters));
+  }
+
+  /** Shows another view, as its link would. */
   function go(parameters) {
     history.pushState(null, "", address(parameters));
     return show();
@@ -734,7 +970,7 @@ const views = (() => {
     text.focus();
   }
 
-  return { show, go, say };
+  return { show, go, replace, say };
 })();
 
 window.addEventListener("hashchange", views.show);

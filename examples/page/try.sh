@@ -1,17 +1,17 @@
 #!/usr/bin/env bash
-# Serves a new registry of 2,000 subjects and the page beside it, and drives Chromium through the page as a person would.
-# Installs what it needs. Ends with status 0 where the page showed what the registry answers, and did what it has to.
+# Serves a new registry of 2,000 subjects and the page, and drives Chromium through the page as a person would. It installs
+# what it needs. The status is 0 if the page showed the registry's responses and did what it has to.
 #
 #   AVROREG=PROGRAM [SHOTS=FOLDER] examples/page/try.sh     screenshots go to the folder, else to a temporary one that stays
 set -u
 source "$(dirname "$0")/../serving.sh"
-packages nginx curl chromium chromium-driver python3-selenium
+packages nginx curl jq chromium chromium-driver python3-selenium
 getent hosts localhost >/dev/null || fail "localhost has no address here, and selenium asks chromedriver there; /etc/hosts wants a line 127.0.0.1 localhost"
 here=$examples/page
 shots=${SHOTS:-$(mktemp -d "${TMPDIR:-/tmp}/avroreg-page.XXXXXX")}
 mkdir -p "$shots"
 
-# nginx reads the page as another user than the one that has this folder, and answers 504 sooner than it would else.
+# nginx reads the page as another user than the owner of this folder, and answers 504 sooner than by default.
 mkdir "$scratch/page"
 cp "$here"/index.html "$here"/page.css "$here"/page.js "$scratch/page/"
 sed "s,/usr/local/share/avroreg/page,$scratch/page," "$here/page.conf" >"$scratch/page.conf"
@@ -21,4 +21,8 @@ start_server "$scratch/page.db"
 start_nginx front "${url##*:}" "$with_page"
 /usr/bin/python3 -u "$here/look.py" --registry "${url##*:}" --server "$server" --page "$front" \
   --log "$scratch/front/access.log" --shots "$shots" || fail "the page isn't as it has to be"
+
+# Each write of the page that reached avroreg has a retry key.
+jq -e -s '[.[] | select(.upstream_status != "" and (.method == "PUT" or .method == "DELETE" or (.method == "POST" and (.path | test("^/subjects/[^/?]+/versions")))))]
+  | length > 10 and all(.[]; .retry_key_hash != "")' "$scratch/front/avroreg.log" >/dev/null || fail "a write has no retry key"
 echo "screenshots: $shots"
