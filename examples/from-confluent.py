@@ -1,73 +1,86 @@
 #!/usr/bin/env python3
-"""Moves what a registry of schemas holds into avroreg: subjects, versions, ids, soft-deleted versions, levels, modes.
+"""Copies a running schema registry into avroreg: subjects, versions, ids, soft-deleted versions, levels, modes.
 
     python3 examples/from-confluent.py [options] FROM TO
     python3 examples/from-confluent.py --dry-run https://registry.example.org http://127.0.0.1:8081
 
-FROM is a running registry that answers as Confluent's does, or as avroreg: the second is a copy of a registry that runs.
-It is only read. TO is an avroreg that holds nothing yet: a new file. Python's standard library is all that this needs.
+FROM is a running registry that answers as Confluent's does, or avroreg, which copies a registry in use. It is only read.
+TO is an avroreg with a new file. This needs only Python's standard library.
 
-All is read first, until two readings in a row say the same, and nothing is written before it is known that it can be. A
-subject keeps the numbers of its versions, and a schema its id. Where that can't be, it says of which, and writes nothing
-until a flag says how to go on:
+It reads FROM until two readings in a row are equal. If FROM lists its schemas (GET /schemas), a reading takes one request
+for 1,000 versions and two for each subject; otherwise it also takes one for each version. Nothing is written before it is
+known that everything can be. A subject keeps its version numbers, and a schema its id. If something can't be copied
+unchanged, this says what, and writes nothing until an option says how to continue:
 
-  --skip           leaves out what avroreg doesn't take: other types than Avro, references, metadata, rule sets, schemas
-                   that avroreg's check of a schema refuses (as a number that isn't whole), a second live version with the
-                   schema of a first one, subjects of a context, and what a level has beside it. The numbers of versions
-                   that are left out stay unused, and so do their ids, which need one of the next two then.
-  --fill-ids       keeps ids that can't come as 1, 2, 3.. by themselves: what has an id that no version has any more, or
-                   one that comes behind a later one, is registered under a subject made for this, which is removed. An id
-                   that no version has is then used up, as it is at FROM.
-  --new-ids        gives new ids, and prints what each one becomes. Messages that were written with the old ones can't be
-                   read by them any more.
-  --without-modes  leaves out modes that avroreg doesn't have, as IMPORT: a subject that has one gets none of its own, and
-                   all are READWRITE where FROM has one for all.
+  --skip           leaves out what avroreg doesn't accept: other types than Avro, references, metadata, rule sets, schemas
+                   that avroreg rejects (such as one with a non-integer number), a second live version with the schema of
+                   an earlier one, subjects of a context, and attributes of a level. Version numbers that are left out
+                   stay unused, and so do their ids, which then need one of the next three options.
+  --fill-ids       keeps ids that wouldn't be given as 1, 2, 3.. otherwise: a schema whose id no version has any more, or
+                   whose id comes after a later one, is registered under a subject that is deleted afterwards. An id that
+                   no version has is used up then, as at FROM. This takes one write for each such id.
+  --used-ids N     expects that the ids 1 to N are used up in the file of TO, which takes no writes. Make that file with
+                   from-confluent/used-ids.py. Confluent Cloud's ids begin at 100,001: use 100000.
+  --new-ids        gives new ids, and prints each change. Messages that were written with the old ids become unreadable.
+  --without-modes  leaves out modes that avroreg doesn't have, such as IMPORT: a subject with such a mode gets none of its
+                   own. If the global mode is one, the global mode of TO is READWRITE.
 
-avroreg gives numbers and ids in order, so a gap in the numbers is made by what makes one: the next schema is registered,
-softly deleted, registered again, and the first one removed. All is written under the level NONE; levels and modes come last.
-At the end TO is read, and compared with what it has to hold.
+avroreg gives numbers and ids in order. A gap in the version numbers is made by what makes one: the next schema is
+registered, soft-deleted and registered again, and the first one is deleted permanently. Versions are written under the
+level NONE; levels and modes come last. At the end this reads TO and compares it with what it has to hold.
 
-Every write has a retry key, made of FROM, subject, version, step and the name of the run, so this can be killed, and run
-again with the same words: what was done is answered again, and acts no second time. Where FROM has changed meanwhile, or
-other flags are given, that can't go on, and needs another new file.
+Before it writes, it says how many writes it takes. On a terminal a bar shows how far it is and how long the rest takes.
+A request that gets 429 or 5xx is repeated, after the time that Retry-After asks for but at most a minute, until --patience
+is used up. A request without any response is sent six times.
 
-A registry that somebody writes to is read as it was at one moment, and what comes later isn't moved: stop the writers
-before a move, or set FROM's mode to READONLY. That is moved too: set TO's to READWRITE when all is there. Not seen over HTTP,
-so not moved: levels and modes of subjects without versions, what was kept for retry keys, schemas that no version has, and
-how many ids were given after the last that is seen.
+Every write has a retry key, made of FROM, subject, version, step and the name of the run. So if this was interrupted, run
+it again with the same arguments: a write that was applied gets its response again and changes nothing. If FROM has
+changed since, or the options differ, take another new file.
 
-A password is taken from the environment: FROM_PASSWORD beside --from-user, TO_PASSWORD beside --to-user.
+If somebody writes to FROM, its state at one moment is copied, and later writes aren't: stop the writers first, or set
+FROM's mode to READONLY. The mode is copied too: set TO's to READWRITE afterwards. HTTP doesn't show these, so they aren't
+copied: levels and modes of subjects without versions, replies kept for retry keys, schemas that no version has, and how
+many ids were given after the last visible one.
 
-Status: 0  all is moved, or with --dry-run: can be
-        1  it can't be moved so: what stands against it, and the flag; nothing was written
-        2  a registry can't be asked, or FROM changes all the time; run it again
-        3  TO answered a write otherwise than it has to, or differs at the end: take a new file
-        64 other words
+Passwords come from the environment: FROM_PASSWORD for --from-user, TO_PASSWORD for --to-user.
+
+Status: 0  everything is copied, or with --dry-run: can be
+        1  it can't be copied so: each reason, and the option to use; nothing was written
+        2  a registry can't be read, or FROM keeps changing; run it again
+        3  TO gave another response than expected, or differs at the end: take a new file
+        64 wrong arguments
 """
 from __future__ import annotations
 
 import argparse
 import base64
+import email.utils
 import hashlib
 import heapq
 import http.client
+import itertools
 import json
 import os
+import shutil
 import ssl
 import sys
 import time
 import urllib.parse
-from collections.abc import Iterator
+from collections.abc import Iterable, Iterator
 from dataclasses import dataclass, field, replace
 
 LEVELS = {"NONE", "BACKWARD", "FORWARD", "FULL", "BACKWARD_TRANSITIVE", "FORWARD_TRANSITIVE", "FULL_TRANSITIVE"}
 MODES = {"READWRITE", "READONLY"}
 NO_LEVEL = {"compatibility": "no level"}  # which is refused, so a command that changes nothing
-PAUSES = [0, 0.1, 0.3, 1, 3, 5]  # seconds before a request is sent again
+PAUSES = [0.1, 0.3, 1, 3, 5]  # seconds before a request is repeated; after that LONGEST_PAUSE
+LONGEST_PAUSE = 60  # seconds, even if Retry-After asks for more
+PATIENCE = 600  # seconds for which a request is repeated that gets one of the next statuses
+BUSY = {429, 500, 502, 503, 504}
+PAGE = 1000  # versions that are listed by one request
 READINGS = 5  # of FROM, until two in a row are equal
 BODY = 1_048_576  # bytes of a request's body that avroreg takes
 MOST = 1_000_000  # unused numbers in front of a version, and unused ids in all, that are made
-SKIP, FILL, NEW, MODELESS = "--skip", "--fill-ids", "--new-ids", "--without-modes"
+SKIP, FILL, USED, NEW, MODELESS = "--skip", "--fill-ids", "--used-ids", "--new-ids", "--without-modes"
 CANNOT, UNASKED, DIFFERS, USAGE = 1, 2, 3, 64
 
 
@@ -80,19 +93,90 @@ class Stop(Exception):
 
 
 class Changed(Stop):
-    """A version that was listed isn't there any more."""
+    """The registry changed while it was read."""
 
     def __init__(self, where: str):
-        super().__init__(UNASKED, f"{where} went while it was read")
+        super().__init__(UNASKED, f"{where} changed while it was read")
 
 
-# Asking
+# Progress
+
+
+def clock(seconds: float) -> str:
+    minutes, rest = divmod(round(seconds), 60)
+    hours, minutes = divmod(minutes, 60)
+    return f"{hours}:{minutes:02}:{rest:02}" if hours else f"{minutes}:{rest:02}"
+
+
+class Progress:
+    """Says how far a task is: on a terminal by a bar in one line, otherwise by a new line after every `every` steps."""
+
+    current: Progress | None = None
+
+    def __init__(self, verb: str, total: int, noun: str, every: int):
+        self.verb, self.total, self.noun, self.every = verb, total, noun, every
+        self.done, self.begun, self.drawn = 0, time.monotonic(), 0.0
+        self.is_terminal = sys.stdout.isatty()
+        Progress.current = self
+        self.draw()
+
+    def step(self):
+        self.done += 1
+        is_last = self.done == self.total
+        if not self.is_terminal:
+            if is_last or self.done % self.every == 0:
+                print(f"{self.verb} {self.done} of {self.total} {self.noun}", flush=True)
+        elif is_last or time.monotonic() > self.drawn + 0.1:
+            self.draw()
+        if is_last:
+            self.end()
+
+    def left(self) -> str:
+        if not self.done:
+            return ""
+        return f", {clock((time.monotonic() - self.begun) / self.done * (self.total - self.done))} left"
+
+    def draw(self, note: str = ""):
+        if not self.is_terminal or not self.total:
+            return
+        self.drawn = time.monotonic()
+        text = f"{self.verb} {self.done:,} of {self.total:,} {self.noun}{note or self.left()}"
+        width = shutil.get_terminal_size().columns - 1
+        cells = min(30, width - len(text) - 3)
+        filled = cells * self.done // self.total
+        bar = f"[{'#' * filled}{'.' * (cells - filled)}] " if cells >= 5 else ""
+        print(f"\r\x1b[K{(bar + text)[:width]}", end="", flush=True)
+
+    def end(self):
+        """Leaves the last state as a line."""
+        if Progress.current is self:
+            Progress.current = None
+            if self.is_terminal and self.total:
+                print(flush=True)
+
+    def over(self, items: Iterable):
+        for item in items:
+            yield item
+            self.step()
+        self.end()
+
+
+def say_wait(server: str, problem: object, pause: float):
+    """Says why nothing happens for a while."""
+    if Progress.current and Progress.current.is_terminal:
+        Progress.current.draw(f", {problem}, again in {clock(pause)}")
+    elif pause >= 1:
+        print(f"{server}: {problem}, again in {clock(pause)}", flush=True)
+
+
+# Requests
 
 
 @dataclass(frozen=True)
 class Answer:
     status: int
     value: object
+    retry_after: str | None = field(default=None, compare=False)
 
     @property
     def code(self):
@@ -103,12 +187,24 @@ class Answer:
         return f"{self.status} {json.dumps(self.value, ensure_ascii=False)[:300]}"
 
 
-class Server:
-    """A registry, asked on a connection that is kept."""
+def pause_of(retry_after: str | None) -> float | None:
+    """The seconds that a Retry-After field asks for: it has a number of them, or a date."""
+    if retry_after is None:
+        return None
+    if retry_after.strip().isdecimal():
+        return float(retry_after)
+    try:
+        return email.utils.parsedate_to_datetime(retry_after).timestamp() - time.time()
+    except (TypeError, ValueError):
+        return None
 
-    def __init__(self, url: str, user: str | None, password: str | None, authority: str | None):
+
+class Server:
+    """A registry, and the connection to it, which is kept."""
+
+    def __init__(self, url: str, user: str | None, password: str | None, authority: str | None, patience: float):
         parts = urllib.parse.urlsplit(url)
-        self.url, self.path = url.rstrip("/"), parts.path.rstrip("/")
+        self.url, self.path, self.patience = url.rstrip("/"), parts.path.rstrip("/"), patience
         self.fields = {"Accept": "application/vnd.schemaregistry.v1+json, application/json"}
         if user is not None:
             self.fields["Authorization"] = "Basic " + base64.b64encode(f"{user}:{password}".encode()).decode()
@@ -119,21 +215,29 @@ class Server:
             self.connection = http.client.HTTPConnection(parts.hostname, parts.port, timeout=60)
 
     def ask(self, method: str, path: str, body: object = None, key: str | None = None) -> Answer:
-        """The answer; asked again where none comes, or the server can't give one now. A write has a key, so it acts once."""
-        problem = None
-        for pause in PAUSES:
-            time.sleep(pause)
+        """The response. The request is repeated if none comes, or if the server is busy. A write has a key, so a repeated
+        one is applied exactly once."""
+        end, silences = time.monotonic() + self.patience, 0
+        for pause in itertools.chain(PAUSES, itertools.repeat(LONGEST_PAUSE)):
             try:
                 answer = self.once(method, path, body, key)
             except ssl.SSLCertVerificationError as fault:
                 raise Stop(UNASKED, f"{self.url}: {fault}") from fault
             except (OSError, http.client.HTTPException, ValueError) as fault:
                 self.connection.close()
-                problem = f"{type(fault).__name__}: {fault}"
+                problem = reason = f"{type(fault).__name__}: {fault}"
+                silences += 1
             else:
-                if answer.status not in (429, 500, 502, 503, 504):
+                if answer.status not in BUSY:
                     return answer
-                problem = answer
+                problem, reason = answer, f"status {answer.status}"
+                wish = pause_of(answer.retry_after)
+                if wish is not None:
+                    pause = min(max(wish, PAUSES[0]), LONGEST_PAUSE)
+            if silences > len(PAUSES) or time.monotonic() + pause > end:
+                break
+            say_wait(self.url, reason, pause)
+            time.sleep(pause)
         raise Stop(UNASKED, f"{self.url}{path}: {problem}")
 
     def once(self, method: str, path: str, body: object, key: str | None) -> Answer:
@@ -146,10 +250,11 @@ class Server:
         self.connection.request(method, self.path + path, body, fields)
         answer = self.connection.getresponse()
         data = answer.read()
+        retry_after = answer.headers["Retry-After"]
         try:
-            return Answer(answer.status, json.loads(data))
+            return Answer(answer.status, json.loads(data), retry_after)
         except ValueError:
-            return Answer(answer.status, data.decode(errors="replace"))
+            return Answer(answer.status, data.decode(errors="replace"), retry_after)
 
     def find(self, path: str) -> object:
         """What a path shows, or None where the registry says that there is no such thing."""
@@ -167,9 +272,9 @@ class Server:
         return found
 
     def offers(self, path: str) -> bool:
-        """Whether the registry has this path, which not all have."""
+        """Whether the registry has this path, which not all have. 422 is the response of avroreg behind its nginx."""
         answer = self.ask("GET", path)
-        if answer.status not in (200, 404, 405):
+        if answer.status not in (200, 404, 405, 422):
             raise Stop(UNASKED, f"{self.url}{path}: {answer}")
         return answer.status == 200
 
@@ -195,7 +300,7 @@ class Version:
     id: int
     text: str
     deleted: bool = False
-    beside: tuple[str, ...] = ()  # what it has that avroreg doesn't take
+    more: tuple[str, ...] = ()  # what it has that avroreg doesn't take
 
 
 @dataclass(frozen=True)
@@ -203,7 +308,7 @@ class Subject:
     versions: tuple[Version, ...]
     level: str | None = None
     mode: str | None = None
-    beside: tuple[str, ...] = ()
+    more: tuple[str, ...] = ()
     context: bool = False  # whether it is one of a context
 
 
@@ -212,7 +317,7 @@ class Registry:
     subjects: dict[str, Subject]
     level: str
     mode: str | None  # None where it doesn't tell modes
-    beside: tuple[str, ...] = ()
+    more: tuple[str, ...] = ()
 
     def versions(self) -> Iterator[tuple[str, Version]]:
         return ((name, version) for name, subject in self.subjects.items() for version in subject.versions)
@@ -226,30 +331,72 @@ class Registry:
                 f"{sum(it.mode is not None for it in subjects)} own modes")
 
 
-def beside_schema(shown: dict) -> Iterator[str]:
+def more_of_schema(shown: dict) -> Iterator[str]:
     if shown.get("schemaType") not in (None, "AVRO"):
         yield f"schemaType {shown['schemaType']}"
     yield from (member for member in ("references", "metadata", "ruleSet") if shown.get(member))
 
 
-def beside_level(shown: dict | None) -> tuple[str, ...]:
+def more_of_level(shown: dict | None) -> tuple[str, ...]:
     return tuple(member for member, value in sorted((shown or {}).items()) if value and member != "compatibilityLevel")
 
 
-def read_version(server: Server, name: str, number: int, deleted: bool) -> Version:
-    shown = server.find(f"{versions_of(name)}/{number}?deleted=true")
-    if shown is None:
-        raise Changed(f"{server.url}{versions_of(name)}/{number}")
-    return Version(number, shown["id"], shown["schema"], deleted, tuple(beside_schema(shown)))
+def version_of(shown: dict, deleted: bool) -> Version:
+    return Version(shown["version"], shown["id"], shown["schema"], deleted, tuple(more_of_schema(shown)))
 
 
-def read_subject(server: Server, name: str, modes: bool, contexts: bool) -> Subject:
+def list_path(deleted: bool, offset: int, limit: int) -> str:
+    """A page of all versions in all contexts."""
+    query = {"subjectPrefix": ":*:", "deleted": str(deleted).lower(), "offset": offset, "limit": limit}
+    return "/schemas?" + urllib.parse.urlencode(query)
+
+
+def listed(server: Server, deleted: bool) -> dict[str, dict[int, dict]] | None:
+    """All versions by subject and number, read page by page. None if the registry ignores the offset."""
+    found: dict[str, dict[int, dict]] = {}
+    offset = 0
+    while page := server.get(list_path(deleted, offset, PAGE)):
+        for shown in page:
+            name, number = shown["subject"], shown["version"]
+            if number in found.setdefault(name, {}):
+                if shown is page[0] and next(iter(found)) == name and next(iter(found[name])) == number:
+                    return None
+                raise Changed(f"{server.url}{versions_of(name)}/{number}")
+            found[name][number] = shown
+        offset += len(page)
+    return found
+
+
+def read_list(server: Server) -> dict[str, tuple[Version, ...]]:
+    """The versions of each subject, read in bulk; none if the registry can't list them."""
+    if not server.offers(list_path(True, 0, 1)):
+        return {}
+    every = listed(server, True)
+    live = listed(server, False) if every else None
+    if every is None or live is None:
+        return {}
+    return {name: tuple(version_of(versions[number], number not in live.get(name, {})) for number in sorted(versions))
+            for name, versions in every.items()}
+
+
+def read_versions(server: Server, name: str) -> tuple[Version, ...]:
+    """The versions of a subject, each by a request of its own."""
     live = set(server.find(versions_of(name)) or [])
-    numbers = sorted(server.find(f"{versions_of(name)}?deleted=true") or [])
-    versions = tuple(read_version(server, name, number, number not in live) for number in numbers)
+    found = []
+    for number in sorted(server.find(f"{versions_of(name)}?deleted=true") or []):
+        shown = server.find(f"{versions_of(name)}/{number}?deleted=true")
+        if shown is None:
+            raise Changed(f"{server.url}{versions_of(name)}/{number}")
+        found.append(version_of(shown, number not in live))
+    return tuple(found)
+
+
+def read_subject(server: Server, name: str, versions: tuple[Version, ...] | None, modes: bool, contexts: bool) -> Subject:
+    if versions is None:
+        versions = read_versions(server, name)
     level = server.find(f"/config/{quoted(name)}")
     mode = server.find(f"/mode/{quoted(name)}") if modes else None
-    return Subject(versions, level and level["compatibilityLevel"], mode and mode["mode"], beside_level(level),
+    return Subject(versions, level and level["compatibilityLevel"], mode and mode["mode"], more_of_level(level),
                    contexts and name.startswith(":."))
 
 
@@ -257,9 +404,11 @@ def read(server: Server) -> Registry:
     names = sorted(server.get("/subjects?deleted=true"))
     modes, contexts = server.offers("/mode"), server.offers("/contexts")
     level, mode = server.get("/config"), server.get("/mode")["mode"] if modes else None
-    subjects = {name: read_subject(server, name, modes, contexts) for name in names}
+    lists = read_list(server)
+    progress = Progress("read", len(names), f"subjects of {server.url}", 1000)
+    subjects = {name: read_subject(server, name, lists.get(name), modes, contexts) for name in progress.over(names)}
     return Registry({name: subject for name, subject in subjects.items() if subject.versions},
-                    level["compatibilityLevel"], mode, beside_level(level))
+                    level["compatibilityLevel"], mode, more_of_level(level))
 
 
 def read_at_one_moment(server: Server) -> Registry:
@@ -271,11 +420,11 @@ def read_at_one_moment(server: Server) -> Registry:
         except Changed:
             found = None
         except (KeyError, TypeError) as fault:
-            raise Stop(UNASKED, f"{server.url} answers in a form that isn't known: {fault!r}") from fault
+            raise Stop(UNASKED, f"{server.url} gave a response of an unknown form: {fault!r}") from fault
         if found is not None and found == last:
             return found
         last = found
-    raise Stop(UNASKED, f"{server.url} changes all the time: freeze it, or its writers")
+    raise Stop(UNASKED, f"{server.url} keeps changing: stop its writers, or set its mode to READONLY")
 
 
 # The identity text of a schema, by docs/avro-registry-profile.md. It is known to be one, since the target has taken it.
@@ -344,7 +493,7 @@ def identity(text: str) -> str:
 
 @dataclass(frozen=True)
 class Trouble:
-    """What can't be moved as it is, and the flag with which the rest can."""
+    """What can't be copied unchanged, and the option with which the rest can."""
     flag: str
     where: str
     what: str
@@ -372,6 +521,7 @@ class Plan:
     troubles: list[Trouble] = field(default_factory=list)
     spelt: dict[str, str] = field(default_factory=dict)  # by identity text, a text as the source has it
     renumbered: dict[int, int] = field(default_factory=dict)
+    fillers: int = 0  # writes that use up an id, or give one early
     wanted: Registry | None = None  # what the target holds at the end
 
     def trouble(self, flag: str, where: str, what: str):
@@ -411,7 +561,7 @@ def spare_subject(registry: Registry) -> str:
 def refusals(target: Server, registry: Registry, spare: str) -> dict[str, str]:
     """What the target says to each text that it doesn't take, asked by the check of a schema, which writes nothing."""
     refused = {}
-    for text in sorted({version.text for _, version in registry.versions() if not version.beside}):
+    for text in sorted({version.text for _, version in registry.versions() if not version.more}):
         if len(body_of({"schema": text})) > BODY:
             refused[text] = f"takes a request of more than {BODY:,} bytes"
             continue
@@ -428,10 +578,10 @@ def is_subject(name: str) -> bool:
 
 
 def taken_versions(plan: Plan, name: str, subject: Subject, refused: dict[str, str]) -> Iterator[Version]:
-    """The versions that can be moved, by their identity texts."""
+    """The versions that can be copied, by their identity texts."""
     live, last = {}, 0
     for version in subject.versions:
-        against = list(version.beside)
+        against = list(version.more)
         if version.text in refused:
             against.append(refused[version.text])
         if not against:
@@ -440,7 +590,7 @@ def taken_versions(plan: Plan, name: str, subject: Subject, refused: dict[str, s
             if version.text in live:
                 against.append(f"has the schema of version {live[version.text]}, which is live")
         if version.number - last > MOST:
-            against.append(f"has more than {MOST:,} unused numbers in front of it")
+            against.append(f"has more than {MOST:,} unused numbers before it")
         if against:
             plan.trouble(SKIP, f"{name} {version.number}", ", ".join(against))
             continue
@@ -450,9 +600,9 @@ def taken_versions(plan: Plan, name: str, subject: Subject, refused: dict[str, s
         yield version
 
 
-def taken_level(plan: Plan, where: str, level: str | None, beside: tuple[str, ...]) -> str | None:
-    for member in beside:
-        plan.trouble(SKIP, where, f"has {member} beside its level")
+def taken_level(plan: Plan, where: str, level: str | None, more: tuple[str, ...]) -> str | None:
+    for member in more:
+        plan.trouble(SKIP, where, f"has {member} in addition to its level")
     if level is None or level in LEVELS:
         return level
     plan.trouble(SKIP, where, f"has the level {level}")
@@ -467,17 +617,17 @@ def taken_mode(plan: Plan, where: str, mode: str | None) -> str | None:
 
 
 def taken(plan: Plan, registry: Registry, refused: dict[str, str]) -> Registry:
-    """What of a registry can be moved, by identity texts."""
+    """What of a registry can be copied, by identity texts."""
     subjects = {}
     for name, subject in registry.subjects.items():
         if subject.context or not is_subject(name):
-            plan.trouble(SKIP, name, "stands in a context" if subject.context else "is too long, or has control characters")
+            plan.trouble(SKIP, name, "is in a context" if subject.context else "is too long, or has control characters")
             continue
         versions = tuple(taken_versions(plan, name, subject, refused))
         if versions:
-            level = taken_level(plan, name, subject.level, subject.beside)
+            level = taken_level(plan, name, subject.level, subject.more)
             subjects[name] = Subject(versions, level, taken_mode(plan, name, subject.mode))
-    level = taken_level(plan, "The registry", registry.level, registry.beside) or "BACKWARD"
+    level = taken_level(plan, "The registry", registry.level, registry.more) or "BACKWARD"
     return Registry(subjects, level, taken_mode(plan, "The registry", registry.mode) or "READWRITE")
 
 
@@ -505,22 +655,24 @@ def by_ids(registry: Registry) -> Iterator[tuple[str, Version]]:
             heapq.heappush(queue, (rows[name][at + 1].id, name, at + 1))
 
 
-def look_at_ids(plan: Plan, registry: Registry):
-    """Says which ids don't come as 1, 2, 3.. by themselves."""
-    given, came = 0, set()
+def look_at_ids(plan: Plan, registry: Registry, used: int):
+    """Says which ids wouldn't be given as 1, 2, 3.. otherwise, or after those that are used up."""
+    given, came = used, set()
     for name, version in by_ids(registry):
-        if version.id < 1:
-            plan.trouble(NEW, f"{name} {version.number}", f"has the id {version.id}")
+        if version.id <= used:
+            what = f", which {USED} {used} uses up" if used else ""
+            plan.trouble(NEW, f"{name} {version.number}", f"has the id {version.id}{what}")
         elif version.id < given and version.id not in came:
-            plan.trouble(FILL, f"{name} {version.number}", f"has the id {version.id}, and stands behind id {given}")
+            plan.trouble(FILL, f"{name} {version.number}", f"has the id {version.id}, and comes after id {given}")
         came.add(version.id)
         given = max(given, version.id)
-    numbers = sorted(came)
-    flag = NEW if given - len(numbers) > MOST else FILL
-    for before, after in zip([0, *numbers], numbers):
+    numbers = sorted(number for number in came if number > used)
+    flag = NEW if given - used - len(numbers) > MOST else FILL
+    for before, after in zip([used, *numbers], numbers):
         if after - before > 1:
-            ids = f"Id {before + 1}" if after - before == 2 else f"Ids {before + 1} to {after - 1}"
-            plan.trouble(flag, ids, "no version has any more")
+            is_one = after - before == 2
+            ids = f"Id {before + 1}" if is_one else f"Ids {before + 1} to {after - 1}"
+            plan.trouble(flag, ids, f"no version has {'it' if is_one else 'them'}")
 
 
 def renumber(registry: Registry) -> tuple[Registry, dict[int, int]]:
@@ -534,7 +686,7 @@ def renumber(registry: Registry) -> tuple[Registry, dict[int, int]]:
 
 
 def write_version(plan: Plan, name: str, version: Version, last: int):
-    """A version behind the last one of its subject. Numbers between them are used by its own schema, and given up."""
+    """A version after the last one of its subject. Numbers between them are used up by its own schema."""
     gap = range(last + 1, version.number)
     for number in gap:
         plan.register(name, number, version.text, version.id)
@@ -551,10 +703,10 @@ def placeholder(identifier: int) -> str:
     return compact({"name": f"from_confluent.unused_{identifier}", "size": 0, "type": "fixed"})
 
 
-def write_versions(plan: Plan, registry: Registry, spare: str):
-    """All versions, and under the spare subject the schemas of the ids that don't come by themselves."""
+def write_versions(plan: Plan, registry: Registry, spare: str, used: int):
+    """All versions, and under the spare subject the schemas of the ids that wouldn't be given otherwise."""
     texts = {version.id: version.text for _, version in registry.versions()}
-    given, filled, last = 0, 0, {}
+    given, filled, last = used, 0, {}
     for name, version in by_ids(registry):
         for missing in range(given + 1, version.id):
             filled += 1
@@ -564,6 +716,7 @@ def write_versions(plan: Plan, registry: Registry, spare: str):
         last[name] = version.number
     if filled:
         plan.remove_subject(spare, filled)
+    plan.fillers = filled
 
 
 def write_settings(plan: Plan, registry: Registry):
@@ -578,9 +731,9 @@ def write_settings(plan: Plan, registry: Registry):
     plan.put("mode", "", "mode", registry.mode)
 
 
-def lay_out(plan: Plan, spare: str):
+def lay_out(plan: Plan, spare: str, used: int):
     """The steps of the plan. The first one's key is that of a run with exactly these."""
-    write_versions(plan, plan.wanted, spare)
+    write_versions(plan, plan.wanted, spare, used)
     write_settings(plan, plan.wanted)
     steps = json.dumps([vars(step) for step in plan.steps])
     level = {"compatibility": "NONE"}
@@ -588,19 +741,19 @@ def lay_out(plan: Plan, spare: str):
 
 
 def plan_of(source: Registry, target: Server, spare: str, flags: argparse.Namespace) -> Plan:
-    """What is moved and what stands against it, without its steps."""
+    """What is copied and what prevents it, without its steps."""
     plan = Plan()
     registry = taken(plan, source, refusals(target, source, spare))
     if flags.new_ids:
         registry, plan.renumbered = renumber(registry)
     else:
         look_at_twins(plan, registry)
-        look_at_ids(plan, registry)
+        look_at_ids(plan, registry, flags.used_ids)
     plan.wanted = registry
     return plan
 
 
-# What stands against a plan
+# What prevents a plan
 
 
 def look_at_flags(plan: Plan, flags: argparse.Namespace):
@@ -612,11 +765,30 @@ def look_at_flags(plan: Plan, flags: argparse.Namespace):
         missing.discard(FILL)  # new ids need no other flag for ids
     if missing:
         words = ", ".join(f"{FILL} or {NEW}" if flag == FILL else flag for flag in sorted(missing))
-        raise Stop(CANNOT, f"nothing was written: this needs {words}, which --help explains")
+        hint = unused_before(plan.wanted, flags.used_ids) if FILL in missing else ""
+        raise Stop(CANNOT, f"nothing was written: this needs {words}, which --help explains{hint}")
+
+
+def unused_before(registry: Registry, used: int) -> str:
+    """How to do without a write for each id before the first one."""
+    first = min((version.id for _, version in registry.versions()), default=1)
+    if first - used <= 1000:
+        return ""
+    return (f"; {FILL} takes {first - used - 1:,} writes for the ids before {first}, and none if the file of TO is made by "
+            f"from-confluent/used-ids.py, with {USED} {first - 1}")
+
+
+def say_cost(plan: Plan, target: Server):
+    """Says how many writes it takes, and how long if the disk of the target allows 100 to 1,000 a second."""
+    writes = len(plan.steps)
+    fillers = f", {plan.fillers:,} of them for ids that wouldn't be given otherwise" if plan.fillers else ""
+    print(f"{target.url} gets {plan.wanted}, by {writes} writes{fillers}", flush=True)
+    if writes > 5000:
+        print(f"At 100 to 1,000 writes a second this takes {clock(writes / 1000)} to {clock(writes / 100)}", flush=True)
 
 
 def look_at_keys(target: Server):
-    """Whether the target looks at retry keys: then one that is none is refused, and else a level that is none, or all."""
+    """Whether the target knows retry keys: if so, it rejects an invalid key, otherwise an invalid level or any write."""
     answer = target.ask("PUT", "/config", NO_LEVEL, "no key")
     if answer.code in (42203, 42205):
         raise Stop(CANNOT, f"{target.url} is no avroreg, or doesn't get the field Registry-Retry-Key")
@@ -641,12 +813,11 @@ def look_at_target(target: Server, plan: Plan, source: str, run: str, dry: bool)
 
 
 def write(target: Server, plan: Plan, source: str, run: str):
-    for count, step in enumerate(plan.steps, 1):
+    for step in Progress("written", len(plan.steps), "writes", 100).over(plan.steps):
         answer = target.ask(step.method, step.path, step.body, step.key(source, run))
         if answer != Answer(200, step.wanted):
-            raise Stop(DIFFERS, f"{step.method} {step.path} had to be answered {Answer(200, step.wanted)}, and was {answer}")
-        if count % 100 == 0 or count == len(plan.steps):
-            print(f"written {count} of {len(plan.steps)}", flush=True)
+            wanted = Answer(200, step.wanted)
+            raise Stop(DIFFERS, f"{step.method} {step.path}: expected {wanted}, got {answer}; take a new file")
 
 
 def members(registry: Registry) -> dict[str, object]:
@@ -664,10 +835,10 @@ def compare(wanted: Registry, target: Server):
     for name in differences[:20]:
         print(f"{name}: wanted {wanted.get(name)}, found {found.get(name)}")
     if differences:
-        raise Stop(DIFFERS, f"{len(differences)} differences: {target.url} isn't as it has to be")
+        raise Stop(DIFFERS, f"{len(differences)} differences: {target.url} doesn't hold what it has to")
 
 
-# The words
+# The arguments
 
 
 class Words(argparse.ArgumentParser):
@@ -683,43 +854,55 @@ def url(text: str) -> str:
     return text
 
 
+def natural(text: str) -> int:
+    if not text.isdecimal():
+        raise argparse.ArgumentTypeError("this is a number from 0 on")
+    return int(text)
+
+
 def words() -> argparse.Namespace:
     parser = Words(prog="from-confluent.py", description=__doc__, allow_abbrev=False,
                    formatter_class=argparse.RawDescriptionHelpFormatter)
     parser.add_argument("source", metavar="FROM", type=url, help="the registry that is read")
     parser.add_argument("target", metavar="TO", type=url, help="the avroreg that is written to")
     parser.add_argument("--dry-run", action="store_true", help="says what it would do, and writes nothing")
+    parser.add_argument("--patience", metavar="SECONDS", type=natural, default=PATIENCE,
+                        help="how long a request is repeated that gets 429 or 5xx (%(default)s)")
     parser.add_argument("--run", metavar="NAME", default="move", help="the run's name, a part of its keys (%(default)s)")
-    parser.add_argument(SKIP, action="store_true", help="leaves out what avroreg doesn't take")
+    parser.add_argument(SKIP, action="store_true", help="leaves out what avroreg doesn't accept")
     ids = parser.add_mutually_exclusive_group()
-    ids.add_argument(FILL, action="store_true", help="keeps ids that don't come by themselves")
+    ids.add_argument(FILL, action="store_true", help="keeps ids that wouldn't be given otherwise")
     ids.add_argument(NEW, action="store_true", help="gives new ids")
+    parser.add_argument(USED, metavar="N", type=natural, default=0, help="the ids that the file of TO has used up")
     parser.add_argument(MODELESS, action="store_true", help="leaves out modes that avroreg doesn't have")
     for side, name in (("from", "FROM"), ("to", "TO")):
         parser.add_argument(f"--{side}-user", metavar="USER", help=f"the user at {name}; {name}_PASSWORD has the password")
         parser.add_argument(f"--{side}-ca", metavar="FILE", help=f"the certificates by which {name} is known")
-    return parser.parse_args()
+    given = parser.parse_args()
+    if given.new_ids and given.used_ids:
+        parser.error(f"{NEW} begins with 1, so it excludes {USED}")
+    return given
 
 
 def move(flags: argparse.Namespace):
-    source = Server(flags.source, flags.from_user, os.environ.get("FROM_PASSWORD", ""), flags.from_ca)
-    target = Server(flags.target, flags.to_user, os.environ.get("TO_PASSWORD", ""), flags.to_ca)
+    source = Server(flags.source, flags.from_user, os.environ.get("FROM_PASSWORD", ""), flags.from_ca, flags.patience)
+    target = Server(flags.target, flags.to_user, os.environ.get("TO_PASSWORD", ""), flags.to_ca, flags.patience)
     look_at_keys(target)
     registry = read_at_one_moment(source)
     print(f"{source.url} has {registry}", flush=True)
     spare = spare_subject(registry)
     plan = plan_of(registry, target, spare, flags)
     look_at_flags(plan, flags)
-    lay_out(plan, spare)
+    lay_out(plan, spare, flags.used_ids)
     look_at_target(target, plan, source.url, flags.run, flags.dry_run)
     for old, new in sorted(plan.renumbered.items()):
         if old != new:
             print(f"id {old} becomes {new}")
-    print(f"{target.url} gets {plan.wanted}, by {len(plan.steps)} writes", flush=True)
+    say_cost(plan, target)
     if not flags.dry_run:
         write(target, plan, source.url, flags.run)
         compare(plan.wanted, target)
-        print(f"{target.url} was read, and has {plan.wanted}, each as it has to be")
+        print(f"{target.url} was read, and has {plan.wanted}, as it has to")
 
 
 def main():
@@ -727,6 +910,8 @@ def main():
     try:
         move(flags)
     except Stop as stop:
+        if Progress.current:
+            Progress.current.end()
         sys.stdout.flush()
         print(f"from-confluent.py: {stop}", file=sys.stderr)
         sys.exit(stop.status)

@@ -146,7 +146,7 @@ class Comparison:
         if self.becomes:
             self.new_identifiers(ids)
         else:
-            for number in range(1, max(ids, default=0) + 2):
+            for number in range(max(min(ids, default=1) - 50, 1), max(ids, default=0) + 2):
                 self.identifier(number)
         return len(names)
 

@@ -3,18 +3,21 @@
 
     python3 examples/from-confluent/standin.py PORT [options]
 
-It holds so many versions in so many subjects: some soft-deleted, some numbers without a version, schemas that came back,
-own levels. Each id is there and comes in order, unless --lost-ids says that versions may be gone for good with theirs. It
-takes no writes: what isn't GET, or a look-up, is 405.
+It holds so many versions in so many subjects: some soft-deleted, some numbers without a version, schemas that were
+registered again, own levels. Each id is used and comes in order, unless --lost-ids says that versions may be deleted
+permanently. It lists all versions (GET /schemas) a page at a time. It takes no writes: all but GET and a lookup get 405.
 """
 import argparse
 import base64
 import contextlib
+import email.utils
 import http.server
 import json
 import random
 import re
 import ssl
+import threading
+import time
 import urllib.parse
 
 FORMS = [
@@ -47,6 +50,7 @@ class Registry:
 
     def __init__(self, words):
         self.random = random.Random(words.seed)
+        self.first_id = words.first_id
         self.ids, self.schemas, self.subjects, self.givers, self.registered = {}, {}, {}, set(), 0
         self.level, self.levels, self.mode, self.modes = "FULL_TRANSITIVE", {}, "READWRITE", {}
         names = NAMES[:words.subjects] + [f"topic-{at}-value" for at in range(len(NAMES), words.subjects)]
@@ -78,7 +82,7 @@ class Registry:
         versions = self.subjects.setdefault(name, {})
         key = json.dumps(schema)
         if key not in self.ids:
-            self.ids[key] = len(self.ids) + 1
+            self.ids[key] = len(self.ids) + self.first_id
             self.schemas[self.ids[key]] = schema
             self.givers.add((name, max(versions, default=0) + 1))
         if [self.ids[key], False] not in versions.values():
@@ -106,9 +110,42 @@ class Registry:
 
 
 class Fault(Exception):
-    def __init__(self, code, message):
+    def __init__(self, code, message, retry_after=None):
         super().__init__(message)
-        self.code = code
+        self.code, self.retry_after = code, retry_after
+
+
+class Busy:
+    """Makes each so-many-th request fail as a busy registry would: 429 and 503 with Retry-After, 500, 502 without, and a
+    connection that closes. The one after it is answered, and has to come no sooner than Retry-After says."""
+
+    def __init__(self, every):
+        self.every, self.count, self.earliest, self.soon = every, 0, 0.0, 0
+        self.lock = threading.Lock()
+
+    def check(self):
+        if not self.every:
+            return
+        with self.lock:
+            if time.time() < self.earliest:
+                self.soon += 1
+            self.earliest = 0.0
+            self.count += 1
+            if self.count % self.every:
+                return
+            kind = self.count // self.every % 5
+            moment = int(time.time()) + 2
+            if kind in (0, 1):
+                self.earliest = time.time() + 1 if kind == 0 else moment
+        if kind == 0:
+            raise Fault(429, "Too many requests", "1")
+        if kind == 1:
+            raise Fault(503, "Busy", email.utils.formatdate(moment, usegmt=True))
+        if kind == 2:
+            raise Fault(50001, "Error in the backend datastore")
+        if kind == 3:
+            raise Fault(502, "Bad gateway")
+        raise ConnectionAbortedError
 
 
 class Handler(http.server.BaseHTTPRequestHandler):
@@ -153,6 +190,19 @@ class Handler(http.server.BaseHTTPRequestHandler):
             raise Fault(40403, f"Schema {number} not found")
         return int(number)
 
+    def all_versions(self, deleted):
+        """A page of all versions. Each subject is in the default context or has its context in its name."""
+        wanted = self.query.get("subjectPrefix", [""])[0]
+        offset, limit = (int(self.query.get(name, [otherwise])[0]) for name, otherwise in (("offset", 0), ("limit", -1)))
+        rows = [self.version(deleted, name, str(number)) for name in sorted(self.subjects(deleted))
+                for number in self.shown(deleted, name) if wanted == ":*:" or name.startswith(wanted)]
+        page = self.words.page if limit < 0 else min(limit, self.words.page)
+        return rows[:page] if self.words.ignore_offset else rows[offset:offset + page]
+
+    def requests(self, deleted):
+        """How many requests came by now, of each kind, and how many came before the time of Retry-After."""
+        return {**self.counts, "too soon": self.busy.soon}
+
     def versions_of(self, deleted, number):
         number = self.known(number)
         return [{"subject": name, "version": version} for name, versions in self.registry.subjects.items()
@@ -178,7 +228,9 @@ class Handler(http.server.BaseHTTPRequestHandler):
         registry = self.registry
         config = self.setting(lambda: registry.level, lambda: registry.levels, 40408, "compatibility")
         mode = self.setting(lambda: registry.mode, lambda: registry.modes, 40409, "mode")
-        return [("GET", "/subjects", self.subjects), ("GET", "/subjects/([^/]+)/versions", self.versions),
+        lists = [] if self.words.no_list else [("GET", "/schemas", self.all_versions)]
+        return [*lists, ("GET", "/requests", self.requests),
+                ("GET", "/subjects", self.subjects), ("GET", "/subjects/([^/]+)/versions", self.versions),
                 ("GET", "/subjects/([^/]+)/versions/([^/]+)", self.version),
                 ("GET", "/subjects/([^/]+)/versions/([^/]+)/schema", self.text),
                 ("GET", "/schemas/ids/([^/]+)", self.schema), ("GET", "/schemas/ids/([^/]+)/versions", self.versions_of),
@@ -192,20 +244,27 @@ class Handler(http.server.BaseHTTPRequestHandler):
         wanted = self.password and "Basic " + base64.b64encode(self.password.encode()).decode()
         if wanted and self.headers["Authorization"] != wanted:
             raise Fault(401, "Unauthorized")
+        if path != "/requests":
+            self.busy.check()
         for method, pattern, action in self.routes():
             found = re.fullmatch(pattern, path)
             if found and method == self.command:
+                self.counts[pattern] = self.counts.get(pattern, 0) + 1
                 return action(self.query.get("deleted") == ["true"], *map(urllib.parse.unquote, found.groups()))
         raise Fault(404 if self.command == "GET" else 405, f"HTTP {404 if self.command == 'GET' else 405}")
 
     def do_GET(self):
         self.body = self.rfile.read(int(self.headers.get("Content-Length", 0)))
+        retry_after = None
         try:
             status, value = 200, self.answer()
         except Fault as fault:
             status, value = int(str(fault.code)[:3]), {"error_code": fault.code, "message": str(fault)}
+            retry_after = fault.retry_after
         body = json.dumps(value).encode()
         self.send_response(status)
+        if retry_after:
+            self.send_header("Retry-After", retry_after)
         self.send_header("Content-Type", "application/vnd.schemaregistry.v1+json")
         self.send_header("Content-Length", str(len(body)))
         self.end_headers()
@@ -233,8 +292,14 @@ def main():
     parser.add_argument("--twins", action="store_true", help="two ids have schemas that are one for avroreg")
     parser.add_argument("--password", metavar="USER:PASSWORD", help="asks for it")
     parser.add_argument("--certificate", metavar="FILE", help="speaks https, by a file of a certificate and its key")
+    parser.add_argument("--first-id", type=int, default=1, help="ids begin here; Confluent Cloud's with 100,001")
+    parser.add_argument("--busy", metavar="N", type=int, default=0, help="each Nth request fails, and works if repeated")
+    parser.add_argument("--page", metavar="N", type=int, default=1000, help="GET /schemas lists at most N versions")
+    parser.add_argument("--no-list", action="store_true", help="an older registry: GET /schemas gets 404")
+    parser.add_argument("--ignore-offset", action="store_true", help="GET /schemas lists the first page, whatever the offset")
     words = parser.parse_args()
     Handler.registry, Handler.password = Registry(words), words.password
+    Handler.words, Handler.busy, Handler.counts = words, Busy(words.busy), {}
     server = http.server.ThreadingHTTPServer(("127.0.0.1", words.port), Handler)
     if words.certificate:
         context = ssl.SSLContext(ssl.PROTOCOL_TLS_SERVER)

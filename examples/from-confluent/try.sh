@@ -1,12 +1,13 @@
 #!/usr/bin/env bash
-# Moves a registry of Confluent's forms (standin.py) into avroreg by from-confluent.py, which is killed five times on the
-# way, and asks both for all that they show; then with what avroreg doesn't take, with ids that are lost or of one schema,
-# behind https and a password, and from one avroreg into a second. Ends with status 0 where no answer differs.
+# Copies a registry of Confluent's forms (standin.py) into avroreg by from-confluent.py, which is killed five times on the
+# way, and compares all responses of both. Then come: a registry that is busy, or lists no schemas; ids that begin late; a
+# terminal; versions that avroreg doesn't accept; lost ids, and two ids of one schema; https and a password; a copy of an
+# avroreg. The status is 0 if no response differs.
 #
 #   AVROREG=PROGRAM examples/from-confluent/try.sh [VERSIONS] [SUBJECTS]     2,000 and 300
 set -u
 source "$(dirname "$0")/../serving.sh"
-need curl python3 openssl
+need curl python3 openssl script
 here=$examples/from-confluent
 size=(--versions "${1:-2000}" --subjects "${2:-300}")
 mkfifo "$scratch/lines"
@@ -58,6 +59,16 @@ is_new() {
     fail "$1 was written to"
 }
 
+# asked KIND: how many requests of the kind came to the stand-in; KIND is a key that /requests shows.
+asked() {
+  curl -s "$source/requests" | python3 -c 'import json, sys; print(json.load(sys.stdin).get(sys.argv[1], 0))' "$1"
+}
+
+# has WORDS [FILE]: what the mover said has these words.
+has() {
+  grep -qF -- "$1" "${2:-$scratch/moved}" || fail "the mover didn't say \"$1\": $(tail -n 5 "${2:-$scratch/moved}")"
+}
+
 python3 "$here/identities.py" || fail "an identity text differs"
 start_server "$scratch/killed.db"
 first=$url
@@ -79,14 +90,72 @@ move 1 --run another "$source" "$url"
 tail -n 1 "$scratch/moved"
 same "$source" "$url" "$avroreg"
 
-printf '\nWith what avroreg does not take, and ids that are lost or come late\n'
+printf '\nA registry that is busy: each seventh request fails\n'
+small=(--versions 200 --subjects 40)
+all=("${size[@]}")
+size=("${small[@]}")
+stand_in
+rest=$source
+stand_in --busy 7 --page 70
+start_server "$scratch/busy.db"
+move 0 "$source" "$url"
+has 'status 503, again in 0:'
+echo "requests for pages of versions: $(asked /schemas), for one version: $(asked '/subjects/([^/]+)/versions/([^/]+)')," \
+  "before Retry-After: $(asked 'too soon')"
+[ "$(asked /schemas)" -le 24 ] || fail "the pages are read too often"
+[ "$(asked '/subjects/([^/]+)/versions/([^/]+)')" = 0 ] || fail "versions are read one by one"
+[ "$(asked 'too soon')" = 0 ] || fail "Retry-After wasn't waited for"
+! grep -q $'\r' "$scratch/moved" || fail "there is a bar, but no terminal"
+same "$rest" "$url" "$avroreg"
+stand_in --busy 1
+move 2 --patience 2 "$source" "$url"
+has '/subjects?deleted=true: 50'
+
+printf '\nRegistries that list no schemas, or ignore the offset\n'
+for kind in --no-list "--ignore-offset --page 70"; do
+  # shellcheck disable=SC2086
+  stand_in $kind
+  start_server "$scratch/${kind%% *}.db"
+  move 0 "$source" "$url"
+  [ "$(asked '/subjects/([^/]+)/versions/([^/]+)')" = 400 ] || fail "two readings of 200 versions take 400 requests"
+  same "$source" "$url" "$avroreg"
+done
+
+printf '\nIds from 20,001 on, and a terminal\n'
+stand_in --first-id 20001
+start_server "$scratch/late.db"
+move 1 "$source" "$url"
+has '--fill-ids takes 20,000 writes for the ids before 20001, and none if'
+move 0 --dry-run --fill-ids "$source" "$url"
+has ', 20,000 of them for ids that'
+is_new "$url"
+move 3 --used-ids 20000 "$source" "$url"
+has 'expected 200 {"id": 20001}, got 200 {"id": 1}'
+python3 "$here/used-ids.py" "$scratch/used.db" 20000 || fail "used-ids.py made no file"
+! python3 "$here/used-ids.py" "$scratch/used.db" 1 2>/dev/null || fail "used-ids.py wrote into a file that was there"
+start_server "$scratch/used.db"
+move 64 --used-ids 20000 --new-ids "$source" "$url"
+move 1 --used-ids 20001 "$source" "$url"
+has 'has the id 20001, which --used-ids 20001 uses up'
+is_new "$url"
+TERM=xterm script -qec "stty cols 100; python3 $examples/from-confluent.py --used-ids 20000 $source $url" "$scratch/typed" >/dev/null ||
+  fail "the mover failed in a terminal: $(tail -n 3 "$scratch/typed")"
+tr '\r' '\n' <"$scratch/typed" | grep -E '#\.+\] written .* left' | tail -n 1 | sed 's/^[^[]*\[K//'
+grep -qE '\[#+\.+\] written [0-9]+ of [0-9]+ writes, [0-9]+:[0-9]{2} left' "$scratch/typed" || fail "the terminal shows no bar"
+has ', as it has to' "$scratch/typed"
+writes=$(sed -n 's/.* by \([0-9]*\) writes.*/\1/p' "$scratch/typed")
+[ "$writes" -lt 400 ] || fail "$writes writes for 200 versions"
+same "$source" "$url" "$avroreg"
+size=("${all[@]}")
+
+printf '\nWith versions that avroreg does not accept, and ids that are lost or come late\n'
 start_server "$scratch/foreign.db"
 stand_in --lost-ids
 rest=$source
 stand_in --lost-ids --foreign
 move 1 "$source" "$url"
-grep -v -e '^Ids\? ' -e ' stands behind id ' "$scratch/moved"
-echo "and $(grep -c -e '^Ids\? ' -e ' stands behind id ' "$scratch/moved") lines on ids"
+grep -v -e '^Ids\? ' -e ' comes after id ' "$scratch/moved"
+echo "and $(grep -c -e '^Ids\? ' -e ' comes after id ' "$scratch/moved") lines on ids"
 is_new "$url"
 move 1 --skip --without-modes "$source" "$url"
 move 1 --fill-ids --without-modes "$source" "$url"
@@ -152,4 +221,4 @@ move 0 --fill-ids "$first" "$url"
 tail -n 1 "$scratch/moved"
 same "$first" "$url" "$avroreg"
 
-printf '\nNo answer differs.\n'
+printf '\nNo response differs.\n'
