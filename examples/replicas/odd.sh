@@ -1,10 +1,20 @@
 #!/usr/bin/env bash
-# Sends odd requests to one relay of three, and compares the nodes: no request may be applied past the log. Installs what it
-# needs.
+# Sends odd requests to one relay of three, and compares the nodes: no request may be applied past the log, and none may hide
+# another one. Installs what it needs.
 #
-#   AVROREG=PROGRAM examples/replicas/odd.sh [COUNT [SEED]]
+#   AVROREG=PROGRAM examples/replicas/odd.sh [COUNT [SEED]]    2000 random requests, seed 1
+#   AVROREG=PROGRAM examples/replicas/odd.sh breaks [NAME]..   breaks the relay, and expects that to be detected
 set -u
 source "$(dirname "$0")/../serving.sh"
+source "$examples/replicas/breaks.sh"
+here=$examples/replicas
+python=/usr/bin/python3
 packages python3 etcd-server openssl
 [ -x "$avroreg" ] || fail "there is no program $avroreg; build it, or name it in AVROREG"
-/usr/bin/python3 "$examples/replicas/trial/odd.py" "$avroreg" "$@"
+
+if [ "${1:-}" = breaks ]; then
+  shift
+  try_breaks odd "$*" "$python" "$here/trial/odd.py" "$avroreg"
+  exit
+fi
+"$python" "$here/trial/odd.py" "$avroreg" --count "${1:-2000}" --seed "${2:-1}"

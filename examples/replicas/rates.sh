@@ -1,9 +1,9 @@
 #!/usr/bin/env bash
-# Measures writes and reads a second, of a single avroreg and of three nodes. Installs what it needs.
+# Measures writes and reads a second, of a single avroreg and of three nodes in turn. Installs what it needs.
 #
-#   AVROREG=PROGRAM examples/replicas/rates.sh [SECONDS]
+#   AVROREG=PROGRAM examples/replicas/rates.sh [SECONDS [ROUNDS]]     3 rounds of 2 seconds for each figure: five minutes
 set -u
 source "$(dirname "$0")/../serving.sh"
-packages python3 etcd-server openssl
+packages python3 etcd-server openssl nginx
 [ -x "$avroreg" ] || fail "there is no program $avroreg; build it, or name it in AVROREG"
 /usr/bin/python3 "$examples/replicas/trial/rates.py" "$avroreg" "$@"

@@ -9,27 +9,18 @@
 # with its processes is on one machine here, so a fault takes part of it, never all.
 set -u
 source "$(dirname "$0")/../serving.sh"
+source "$examples/replicas/breaks.sh"
 here=$examples/replicas
 python=/usr/bin/python3
 packages python3 etcd-server openssl curl iproute2 e2fsprogs
 [ -x "$avroreg" ] || fail "there is no program $avroreg; build it, or name it in AVROREG"
 [ "$(id -u)" = 0 ] || fail "network namespaces and mounts need root"
+exec 9>/run/avroreg-trial.lock
+flock -n 9 || fail "another trial runs on this machine"
 
-if [ "${1:-}" != breaks ]; then
-  exec "$python" "$here/trial/trial.py" "$avroreg" --seconds "${1:-60}" --rate "${2:-4}" --seed "${3:-1}"
+if [ "${1:-}" = breaks ]; then
+  shift
+  try_breaks trial "$*" "$python" "$here/trial/trial.py" "$avroreg" --seconds 20
+  exit
 fi
-shift
-[ $# != 0 ] || mapfile -t names < <("$python" "$here/trial/breaks.py")
-undetected=0
-for name in "${names[@]:-$@}"; do
-  "$python" "$here/trial/breaks.py" "$name" "$scratch/$name" || fail "there is no break $name"
-  "$python" "$here/trial/trial.py" "$avroreg" --seconds 20 --relay "$scratch/$name/avroreg-relay" >"$scratch/$name.log" 2>&1
-  outcome=$?
-  if [ $outcome = 1 ] && grep -q '^WRONG' "$scratch/$name.log"; then
-    echo "$name: detected: $(grep -m1 '^WRONG' "$scratch/$name.log" | cut -c1-160)"
-  else
-    echo "$name: NOT DETECTED, status $outcome: $(tail -n 1 "$scratch/$name.log")"
-    undetected=$((undetected + 1))
-  fi
-done
-[ $undetected = 0 ]
+"$python" "$here/trial/trial.py" "$avroreg" --seconds "${1:-60}" --rate "${2:-4}" --seed "${3:-1}"

@@ -5,10 +5,11 @@ from typing import Any
 
 from relay import etcd, log
 from relay.config import Config
-from relay.etcd import Etcd
+from relay.etcd import Etcd, Json
 from relay.faults import Unavailable
-from relay.faults import Misconfigured
-from relay.log import Log
+from relay.log import Base, Log
+
+REMOVED = 100  # entries in one transaction; etcd takes up to 128 operations
 
 
 class Failed(Exception):
@@ -31,10 +32,6 @@ class Cluster:
     async def entries(self) -> int:
         found = await self.etcd.call("/v3/kv/range", {**etcd.below(log.ENTRIES), "count_only": True})
         return int(found.get("count", "0"))
-
-    async def cluster_id(self) -> str:
-        found = await self.etcd.call("/v3/kv/range", {"key": etcd.encode(log.NEWEST)})
-        return str(found["header"]["cluster_id"])
 
     async def pause(self, seconds: float) -> None:
         """Stops the writes of all nodes, and waits until each node has applied and saved the whole log.
@@ -59,14 +56,57 @@ class Cluster:
         if not positions:
             raise Failed("no node has published a position")
         upto = min(int(it["revision"]) for it in positions.values())
-        found = await self.etcd.call("/v3/kv/put", etcd.put(log.TRIMMED, b"%d" % upto))
-        chosen = {**etcd.below(log.ENTRIES), "keys_only": True, "max_mod_revision": str(upto)}
-        pairs = await self.etcd.pairs(chosen, 60)
-        for pair in pairs:
-            found = await self.etcd.call("/v3/kv/deleterange", {"key": pair["key"]})
-        await self.etcd.call("/v3/kv/compaction", {"revision": found["header"]["revision"], "physical": True}, 60)
+        await self.record_trimmed(upto)
+        count = 0
+        while keys := [pair["key"] for pair in await self.etcd.pairs(self.removable(upto), 60)]:
+            for first in range(0, len(keys), REMOVED):
+                removals = [{"request_delete_range": {"key": it}} for it in keys[first : first + REMOVED]]
+                await self.etcd.call("/v3/kv/txn", {"success": removals}, 60)
+            count += len(keys)
+        print(f"removed {count} entries, up to revision {upto}")
+        await self.defragment()
+
+    async def record_trimmed(self, upto: int) -> None:
+        """Records how far entries may be removed, before any is. The record never goes back."""
+        found = await self.log.value(log.TRIMMED)
+        if found and upto < int(found[1]):
+            raise Failed(f"a node is at {upto}, and the log was trimmed up to {int(found[1])}: rebuild or forget that node first")
+        unchanged = {"key": etcd.encode(log.TRIMMED), "target": "MOD", "result": "EQUAL", "mod_revision": str(found[0] if found else 0)}
+        record = {"request_put": etcd.put(log.TRIMMED, b"%d" % upto)}
+        recorded = await self.etcd.call("/v3/kv/txn", {"compare": [unchanged], "success": [record]})
+        if not recorded.get("succeeded"):
+            raise Failed("another node trims the log now")
+
+    async def defragment(self) -> None:
+        """Drops etcd's history, frees its room in this node's etcd, and ends the alarm of a full quota."""
+        revision = (await self.etcd.call("/v3/kv/range", {"key": etcd.encode(log.NEWEST)}))["header"]["revision"]
+        try:
+            await self.etcd.call("/v3/kv/compaction", {"revision": revision, "physical": True}, 60)
+        except Unavailable as fault:
+            if "has been compacted" not in str(fault):
+                raise
         await self.etcd.call("/v3/maintenance/defragment", {}, 60)
-        print(f"removed {len(pairs)} entries, up to revision {upto}")
+        for alarm in (await self.etcd.call("/v3/maintenance/alarm", {"action": "GET"})).get("alarms", []):
+            await self.etcd.call("/v3/maintenance/alarm", {"action": "DEACTIVATE", **alarm})
+        size = int((await self.etcd.call("/v3/maintenance/status", {})).get("dbSize", "0"))
+        print(f"etcd of this node has {size} bytes")
+
+    @staticmethod
+    def removable(upto: int) -> Json:
+        """The range of the keys of entries up to a revision, so many at once."""
+        return {**etcd.below(log.ENTRIES), "keys_only": True, "max_mod_revision": str(upto), "limit": str(log.LISTED)}
+
+    async def begin_from(self, digest: str) -> Base:
+        """Has the log begin after a file with this digest, unless it began so already."""
+        begin = {"request_put": etcd.put(log.BASE, digest.encode())}
+        empty = [etcd.is_missing(it) for it in (log.BASE, log.NEWEST)]
+        await self.etcd.call("/v3/kv/txn", {"compare": empty, "success": [begin]})
+        base = await self.log.base()
+        if not base:
+            raise Failed("this cluster has entries already, so it can't begin from a file")
+        if base.digest != digest:
+            raise Failed("the other nodes adopted another file: copy the same one to every node")
+        return base
 
     async def forget(self, node: str) -> None:
         """Removes the position of a node that won't come back: trimming doesn't wait for it any more."""

@@ -23,6 +23,7 @@ def parsed() -> argparse.Namespace:
     pause.add_argument("--seconds", type=float, default=60, help="how long to wait for a node (60)")
     commands.add_parser("resume", help="let writes go on")
     commands.add_parser("trim", help="remove the entries that every node has applied")
+    commands.add_parser("defragment", help="free the room of removed entries in this node's etcd, and end the alarm of a full quota")
     forget = commands.add_parser("forget", help="stop waiting for a node that won't come back")
     forget.add_argument("node")
     replace = commands.add_parser("replace", help="put a new member of etcd in the place of a lost node's")
@@ -52,6 +53,8 @@ async def run(options: argparse.Namespace, settings: config.Config) -> None:
             await cluster.resume()
         case "trim":
             await cluster.trim()
+        case "defragment":
+            await cluster.defragment()
         case "forget":
             await cluster.forget(options.node)
         case "replace":

@@ -9,7 +9,7 @@ import subprocess
 
 from operations.cluster import Cluster, Failed
 from operations.fingerprint import fingerprint
-from relay import etcd, log, position
+from relay import log, position
 from relay.config import Config
 from relay.position import Position
 
@@ -62,6 +62,10 @@ class Node:
         wal(self.config.database).unlink(missing_ok=True)
         os.replace(new, self.config.database)
         os.sync()
+        self.save_position(at)
+
+    def save_position(self, at: Position) -> None:
+        """The file belongs to the relay's user, as its folder does."""
         position.save(self.config.position, at)
         if self.config.owner:
             folder = self.config.position.parent.stat()
@@ -93,7 +97,7 @@ class Node:
         if digest_of(folder / "registry.db") != facts["sha256"] or facts["revision"] != at.revision:
             raise Failed(f"{folder} was changed after it was made")
         base, trimmed = await self.cluster.log.base(), await self.cluster.log.trimmed()
-        if at.cluster not in ("", await self.cluster.cluster_id()):
+        if at.log not in ("", await self.cluster.log.name()):
             raise Failed("the backup is another cluster's; to start a new cluster from it: avroreg-cluster adopt")
         if at.revision < max(trimmed, base.revision if base else 0):
             raise Failed(f"the log has no entries from revision {at.revision} on: take a newer backup")
@@ -106,28 +110,17 @@ class Node:
         """Starts this node of a new cluster from a database: a single avroreg's, or the one of a backup. Each node adopts
         the same file. The log must be empty, since its entries come after the file."""
         self.stop()
-        self.merge(database)
-        digest, key = digest_of(database), etcd.encode(log.BASE)
-        entries = await self.cluster.entries()
-        if entries or await self.cluster.log.trimmed():
-            if not await self.cluster.log.base():
-                raise Failed("this cluster has entries already, so it can't begin from a file")
-        await self.cluster.etcd.call(
-            "/v3/kv/txn",
-            {
-                "compare": [etcd.is_missing(log.BASE), etcd.is_missing(log.NEWEST)],
-                "success": [{"request_put": {"key": key, "value": etcd.encode(digest.encode())}}],
-            },
-        )
-        base = await self.cluster.log.base()
-        if not base or base.digest != digest:
-            raise Failed("the other nodes adopted another file: copy the same one to every node")
-        if database != self.config.database:
-            self.install(database, Position(await self.cluster.cluster_id(), base.revision, digest))
-        else:
-            position.save(self.config.position, Position(await self.cluster.cluster_id(), base.revision, digest))
-        self.start()
-        print(f"{self.config.node} began from {database}, digest {digest}")
+        try:
+            self.merge(database)
+            base = await self.cluster.begin_from(digest_of(database))
+            at = Position(await self.cluster.log.name(), base.revision, base.digest)
+            if database == self.config.database:
+                self.save_position(at)
+            else:
+                self.install(database, at)
+        finally:
+            self.start()
+        print(f"{self.config.node} began from {database}, digest {base.digest}")
 
     async def upgrade(self, program: pathlib.Path, is_migrated: bool) -> None:
         """Replaces this node's avroreg. Writes must be paused on all nodes: no entry is applied by two versions."""

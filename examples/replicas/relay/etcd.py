@@ -64,10 +64,11 @@ class Connection:
         return int(status[1]), found.lower()
 
     async def chunks(self) -> AsyncGenerator[bytes, None]:
-        """The chunks of a body (RFC 9112, section 7.1)."""
+        """The chunks of a body, without the trailers that etcd's errors have (RFC 9112, section 7.1)."""
         while size := int((await self.reader.readuntil(b"\r\n")).partition(b";")[0], 16):
             yield (await self.reader.readexactly(size + 2))[:-2]
-        await self.reader.readuntil(b"\r\n")
+        while await self.reader.readuntil(b"\r\n") != b"\r\n":
+            pass
 
     async def body(self, head: bytes) -> bytes:
         if b"\r\ntransfer-encoding: chunked\r\n" in head:

@@ -5,6 +5,7 @@ log, and etcd's compaction loses no entry. Only trimming removes entries, and re
 """
 import contextlib
 import json
+import secrets
 from typing import Any, AsyncGenerator, NamedTuple
 
 from relay import etcd
@@ -12,17 +13,18 @@ from relay.etcd import Etcd, Json
 from relay.faults import Broken, Compacted, Refused, Unavailable
 
 ENTRIES = b"avroreg/log/"
+NAME = b"avroreg/name"  # the random name of this log. A new etcd of the same members has the old one's cluster id
 NEWEST = b"avroreg/newest"  # written in the transaction that appends an entry
 TRIMMED = b"avroreg/trimmed"  # every entry up to this revision may be gone
 BASE = b"avroreg/base"  # the digest of the file from which a cluster began; missing if it began from nothing
 PAUSE = b"avroreg/pause"  # while it is there, nothing is appended
 NODES = b"avroreg/node/"
 
-PAGE = 4  # entries: together they are shorter than the 4 MiB of a response that the gateway takes
+LISTED = 10000  # keys in one response
+READ = 16  # entries in one response: an entry has at most about 1 MiB
 
 
 class Entry(NamedTuple):
-    cluster: str
     revision: int
     name: bytes
     batch: bytes
@@ -33,8 +35,8 @@ class Base(NamedTuple):
     digest: str
 
 
-def entry_of(cluster: str, pair: Json) -> Entry:
-    return Entry(cluster, int(pair["mod_revision"]), etcd.decode(pair["key"])[len(ENTRIES) :], etcd.decode(pair["value"]))
+def entry_of(pair: Json) -> Entry:
+    return Entry(int(pair["mod_revision"]), etcd.decode(pair["key"])[len(ENTRIES) :], etcd.decode(pair["value"]))
 
 
 class Log:
@@ -77,21 +79,37 @@ class Log:
                         after = entry.revision
                         yield entry
             except Compacted:
-                found = await self.page(after)
-                for pair in found.get("kvs", []):
-                    entry = entry_of(found["header"]["cluster_id"], pair)
-                    after = entry.revision
-                    yield entry
+                found = await self.listed(after)
+                await self.check_trimmed(after)
+                names = found.get("kvs", [])
+                for first in range(0, len(names), READ):
+                    for entry in await self.read(names[first : first + READ], after):
+                        after = entry.revision
+                        yield entry
                 start = 1 + (after if found.get("more") else int(found["header"]["revision"]))
 
-    async def page(self, after: int) -> Json:
-        """The first entries after a revision, read without the history. Fails if trimming may have removed one of them."""
-        page = {"min_mod_revision": str(after + 1), "sort_order": "ASCEND", "sort_target": "MOD", "limit": str(PAGE)}
-        found = await self.etcd.call("/v3/kv/range", {**etcd.below(ENTRIES), **page}, 60)
+    async def listed(self, after: int) -> Json:
+        """The keys of the first entries after a revision, in order, without their values.
+
+        etcd reads and sorts all entries for each such request, however few it returns. So this one returns many.
+        """
+        wanted = {"min_mod_revision": str(after + 1), "sort_order": "ASCEND", "sort_target": "MOD", "limit": str(LISTED), "keys_only": True}
+        return await self.etcd.call("/v3/kv/range", {**etcd.below(ENTRIES), **wanted}, 60)
+
+    async def read(self, names: list[Json], after: int) -> list[Entry]:
+        """The entries of these keys, which come after a revision. Fails if one was removed."""
+        found = await self.etcd.call("/v3/kv/txn", {"success": [{"request_range": {"key": it["key"]}} for it in names]}, 60)
+        pairs = [pair for it in found["responses"] for pair in it["response_range"].get("kvs", [])]
+        if len(pairs) < len(names):
+            await self.check_trimmed(after)
+            raise Broken("an entry of the log was removed, and not by trimming")
+        return [entry_of(pair) for pair in pairs]
+
+    async def check_trimmed(self, after: int) -> None:
+        """Fails if trimming may have removed an entry after a revision. Trimming records how far it goes before it removes any."""
         trimmed = await self.trimmed()
         if after < trimmed:
             raise Broken(f"the log was trimmed up to {trimmed}, and this node is at {after}: restore another node's backup")
-        return found
 
     async def watched(self, start: int) -> AsyncGenerator[Entry, None]:
         watch = {**etcd.below(ENTRIES), "start_revision": str(start), "filters": ["NODELETE"], "fragment": True}
@@ -105,7 +123,7 @@ class Log:
                         raise Unavailable(f"etcd: {line[:200]!r}")
                     self.is_followed = True
                     for event in found.get("events", []):
-                        yield entry_of(found["header"]["cluster_id"], event["kv"])
+                        yield entry_of(event["kv"])
         finally:
             self.is_followed = False
         raise Unavailable("etcd: the watch ended")
@@ -114,6 +132,19 @@ class Log:
         """The revision and the value of a key."""
         found = await self.etcd.pairs({"key": etcd.encode(key)})
         return (int(found[0]["mod_revision"]), etcd.decode(found[0].get("value", ""))) if found else None
+
+    async def name(self) -> str:
+        """The name of this log, which no other log has. It gets one when it is first asked for."""
+        new = secrets.token_hex(8)
+        found = await self.etcd.call(
+            "/v3/kv/txn",
+            {
+                "compare": [etcd.is_missing(NAME)],
+                "success": [{"request_put": etcd.put(NAME, new.encode())}],
+                "failure": [{"request_range": {"key": etcd.encode(NAME)}}],
+            },
+        )
+        return new if found.get("succeeded") else etcd.decode(found["responses"][0]["response_range"]["kvs"][0]["value"]).decode()
 
     async def trimmed(self) -> int:
         found = await self.value(TRIMMED)

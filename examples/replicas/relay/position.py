@@ -13,7 +13,7 @@ from relay.faults import Misconfigured
 
 @dataclasses.dataclass(frozen=True)
 class Position:
-    cluster: str = ""  # etcd's cluster id, empty before the first entry
+    log: str = ""  # the log's name, empty before the first entry
     revision: int = 0
     digest: str = ""
 
@@ -23,7 +23,7 @@ def load(path: pathlib.Path) -> Position:
     try:
         found = json.loads(path.read_text())
         position = Position(**found)
-        if not (isinstance(position.cluster, str) and isinstance(position.revision, int) and isinstance(position.digest, str)):
+        if not (isinstance(position.log, str) and isinstance(position.revision, int) and isinstance(position.digest, str)):
             raise ValueError("a member of another type")
         return position
     except FileNotFoundError:

@@ -1,8 +1,10 @@
 """One node: it applies the log to its avroreg, and answers requests."""
 import asyncio
 import contextlib
+import dataclasses
 import logging
 import secrets
+import threading
 
 from relay import digest, http1, messages, position
 from relay.appender import Appender
@@ -31,6 +33,7 @@ class Replica:
         self.registry = Registry(config.registry)
         self.appender = Appender(self.log, config.patience_seconds, config.batch_messages, config.batch_bytes)
         self.position = self.saved = position.load(config.position)
+        self.saving = threading.Lock()
         self.barrier = Barrier(self.log.newest, self.position.revision)
         self.history = digest.History()
         self.history.add(self.position.revision, self.position.digest)
@@ -42,12 +45,9 @@ class Replica:
 
     async def follow(self) -> None:
         """Applies the log's entries, without an end."""
-        is_checked = False
         while not self.broken:
             try:
-                if not is_checked:
-                    await self.check_base()
-                    is_checked = True
+                await self.check_log()
                 async with contextlib.aclosing(self.log.entries(self.position.revision)) as entries:
                     async for entry in entries:
                         await self.apply(entry)
@@ -57,23 +57,24 @@ class Replica:
             except Broken as fault:
                 self.stop(str(fault))
 
-    async def check_base(self) -> None:
-        """A cluster that began from a file has no entries for what is in that file."""
-        base = await self.log.base()
+    async def check_log(self) -> None:
+        """The log has to be that of the position, and to have all entries after it. etcd may have been set up anew."""
+        name, base = await self.log.name(), await self.log.base()
+        if self.position.log not in ("", name):
+            raise Broken("this isn't the log of this node's position: etcd was set up anew")
+        self.position = dataclasses.replace(self.position, log=name)
         if base and self.position.revision < base.revision:
             raise Broken("this cluster began from a file: adopt that file, or restore another node's backup")
 
     async def apply(self, entry: Entry) -> None:
         """Sends each message of an entry until avroreg answers it. A message that was applied before changes nothing."""
-        if entry.cluster != (self.position.cluster or entry.cluster):
-            raise Broken("this is another cluster of etcd than that of the position")
         seen = self.position.digest
         responses = []
         for message in batch_of(entry):
             response = await self.until_answered(message)
             seen = digest.extended(seen, entry.revision, message, response.status, response.body)
             responses.append(response)
-        self.position = Position(entry.cluster, entry.revision, seen)
+        self.position = Position(self.position.log, entry.revision, seen)
         self.history.add(entry.revision, seen)
         self.metrics.applied += len(responses)
         self.appender.answer(entry, responses)
@@ -99,10 +100,11 @@ class Replica:
         while not self.broken:
             await asyncio.sleep(BOOKS_SECONDS)
             try:
-                self.save_position()
-                if self.saved != published:
-                    await self.log.publish(self.config.node, self.saved.revision, self.saved.digest)
-                    published = self.saved
+                await asyncio.to_thread(self.save_position)
+                saved = self.saved
+                if saved != published:
+                    await self.log.publish(self.config.node, saved.revision, saved.digest)
+                    published = saved
                 self.compare(await self.log.positions())
                 self.troubles.pop("books", None)
             except (Unavailable, OSError) as fault:
@@ -111,10 +113,12 @@ class Replica:
                 self.stop(str(fault))
 
     def save_position(self) -> None:
-        if self.position != self.saved:
+        """Saves the position. A thread of its own does it while requests go on, since a disk may take its time."""
+        with self.saving:
             at = self.position
-            position.save(self.config.position, at)
-            self.saved = at
+            if at != self.saved:
+                position.save(self.config.position, at)
+                self.saved = at
 
     def compare(self, positions: dict[str, dict[str, object]]) -> None:
         contradicting = self.history.contradicting(positions, self.config.node)
@@ -182,7 +186,7 @@ class Replica:
             "node": self.config.node,
             "status": status,
             "reasons": [self.broken] if self.broken else [f"{part}: {it}" for part, it in sorted(troubles.items())],
-            "cluster": at.cluster,
+            "log": at.log,
             "revision": at.revision,
             "digest": at.digest,
             "saved": self.saved.revision,

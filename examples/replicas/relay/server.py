@@ -69,6 +69,8 @@ class Server:
             began, is_last = time.monotonic(), request.is_last or self.is_closing
             kind = kind_of(request)
             key, response = await self.replica.answer(request)
+            if request.line.startswith(b"HEAD "):  # avroreg answers it with a body, which HTTP doesn't allow
+                response = response._replace(body=b"")
         except Refused as refused:
             response = http1.refusal(refused)
         except Unavailable as fault:

@@ -46,7 +46,7 @@ class Appending(unittest.IsolatedAsyncioTestCase):
     def answer_all(self) -> None:
         for at, (name, batch) in enumerate(self.log.batches.items()):
             count = len(self.appender.appended.get(name, []))
-            self.appender.answer(Entry("c", at, name, batch), [OK._replace(body=b"%d.%d" % (at, it)) for it in range(count)])
+            self.appender.answer(Entry(at, name, batch), [OK._replace(body=b"%d.%d" % (at, it)) for it in range(count)])
 
     async def test_writes_that_wait_go_together_in_order(self) -> None:
         writes = [asyncio.create_task(self.appender.response_to(b"%d" % it)) for it in range(5)]

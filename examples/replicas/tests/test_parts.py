@@ -114,10 +114,13 @@ class Barriers(unittest.IsolatedAsyncioTestCase):
         waiting = asyncio.create_task(barrier.wait(30))
         await eventually(lambda: bool(barrier.waiting))
         barrier.reached(6)
+        later = asyncio.create_task(barrier.wait(30))
+        await eventually(lambda: len(barrier.waiting) == 2)
         await asyncio.sleep(0)
         self.assertFalse(waiting.done())
+        self.assertFalse(later.done())
         barrier.reached(7)
-        await waiting
+        await asyncio.gather(waiting, later)
 
     async def test_reads_share_a_query_that_begins_after_each(self) -> None:
         barrier = Barrier(self.ask, 5)

@@ -2,8 +2,10 @@
 import asyncio
 import pathlib
 import tempfile
+import threading
 import unittest
 from typing import AsyncGenerator
+from unittest import mock
 
 from relay import config, digest, messages, position
 from relay.config import Address
@@ -113,13 +115,19 @@ class StandInLog(Log):
         self.published: list[tuple[int, int]] = []
         self.others: dict[str, dict[str, object]] = {}
         self.start: Base | None = None
+        self.is_new = False
         self.path = pathlib.Path()
 
     async def entries(self, after: int) -> AsyncGenerator[Entry, None]:
         for entry in self.all:
             if entry.revision > after:
                 yield entry
-        await asyncio.sleep(1000)
+        while not self.is_new:
+            await asyncio.sleep(0.01)
+        raise Unavailable("etcd ended")
+
+    async def name(self) -> str:
+        return "new" if self.is_new else "c"
 
     async def base(self) -> Base | None:
         return self.start
@@ -139,7 +147,7 @@ def entries(*sizes: int) -> list[Entry]:
     """Entries of so many messages each, at the revisions 10, 20 ..: message N is write N."""
     found, number = [], 0
     for at, size in enumerate(sizes):
-        found.append(Entry("c", 10 * at + 10, b"%d" % at, b"".join(write(it) for it in range(number, number + size))))
+        found.append(Entry(10 * at + 10, b"%d" % at, b"".join(write(it) for it in range(number, number + size))))
         number += size
     return found
 
@@ -198,7 +206,30 @@ class Applying(unittest.IsolatedAsyncioTestCase):
         await eventually(lambda: bool(log.published))
         self.assertEqual(log.published, [(20, 20)])
 
-    async def test_another_cluster(self) -> None:
+    async def test_etcd_is_set_up_anew_under_a_running_relay(self) -> None:
+        log = StandInLog(entries(1))
+        replica = self.replica(log)
+        await eventually(lambda: replica.position.revision == 10)
+        log.is_new, log.all = True, entries(1, 1)
+        await eventually(lambda: replica.broken is not None)
+        self.assertEqual(self.avroreg.got, [line(0)])
+
+    async def test_a_slow_disk_holds_up_no_request(self) -> None:
+        replica = self.replica(StandInLog(entries(1)))
+        is_saving, go_on = threading.Event(), threading.Event()
+
+        def save(path: pathlib.Path, at: Position) -> None:
+            is_saving.set()
+            go_on.wait(30)
+
+        with mock.patch.object(position, "save", save):
+            await eventually(is_saving.is_set)
+            self.assertEqual((await replica.answer(Request(b"GET /config", (), b"", False, False)))[1].status, 200)
+            self.assertEqual(replica.saved, Position())
+            go_on.set()
+            await eventually(lambda: replica.saved.revision == 10)
+
+    async def test_another_log(self) -> None:
         position.save(self.path, Position("other", 5, "d"))
         replica = self.replica(StandInLog(entries(1)))
         await eventually(lambda: replica.broken is not None)
@@ -212,9 +243,9 @@ class Applying(unittest.IsolatedAsyncioTestCase):
         self.assertEqual(self.avroreg.got, [])
 
     async def test_what_is_no_batch(self) -> None:
-        replica = self.replica(StandInLog([Entry("c", 10, b"0", b"nonsense")]))
+        replica = self.replica(StandInLog([Entry(10, b"0", b"nonsense")]))
         await eventually(lambda: replica.broken is not None)
-        self.assertEqual(replica.position, Position())
+        self.assertEqual(replica.position, Position("c"))
 
     async def test_most_nodes_answered_otherwise(self) -> None:
         log = StandInLog(entries(1))

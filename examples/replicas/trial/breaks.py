@@ -1,69 +1,114 @@
 #!/usr/bin/env python3
-"""Copies the relay with one break, which the trial has to detect.
+"""Copies the relay with one break, which a script has to detect: trial.sh the breaks of the log, odd.sh those of requests.
 
-    breaks.py             prints the names of the breaks
-    breaks.py NAME FOLDER copies the relay with that break into a new folder
+    breaks.py trial|odd             prints the name of each break and what the script has to report, a regular expression
+    breaks.py trial|odd NAME FOLDER copies the relay with that break into a new folder
 """
 import pathlib
 import shutil
 import sys
+from typing import NamedTuple
 
 HERE = pathlib.Path(__file__).resolve().parent.parent
 
-# Of each break: the file, the text, and what stands there instead.
-BREAKS = {
-    # n2 counts every tenth entry as applied without sending it to avroreg.
-    "skip-an-entry": (
-        "replica.py",
-        "        for message in batch_of(entry):\n",
-        '        is_skipped = self.config.node == "n2" and sum(entry.name) % 10 == 0\n'
-        "        for message in [] if is_skipped else batch_of(entry):\n",
+
+class Edit(NamedTuple):
+    """One text of one file of the relay, and what stands there instead."""
+
+    file: str
+    text: str
+    change: str
+
+
+class Break(NamedTuple):
+    """A script that fails for another reason than the report hasn't detected the break."""
+
+    report: str
+    edits: tuple[Edit, ...]
+
+
+STOPS = "no node stops: .*answered otherwise than this node"
+TABLES = "the tables of the three nodes are the log's"
+REQUEST = "messages.message(request.line, key, request.body)"
+
+# n2 counts every tenth entry as applied without sending it to avroreg.
+SKIP_AN_ENTRY = Edit(
+    "replica.py",
+    "        for message in batch_of(entry):\n",
+    '        is_skipped = self.config.node == "n2" and sum(entry.name) % 10 == 0\n'
+    "        for message in [] if is_skipped else batch_of(entry):\n",
+)
+# A write goes to this node's avroreg first and then into the log.
+APPLY_BEFORE_APPEND = Edit(
+    "replica.py",
+    f"            return key, await self.appender.response_to({REQUEST})\n",
+    f"            response = await self.registry.ask({REQUEST})\n"
+    f"            await self.appender.response_to({REQUEST})\n"
+    "            return key, response\n",
+)
+# A client gets its response once the write is in the log, before avroreg has answered it.
+ANSWER_BEFORE_APPLY = Edit(
+    "appender.py",
+    "                break\n            except Unavailable:\n                is_unsure",
+    "                for write in batch:\n"
+    "                    if not write.response.done():\n"
+    '                        write.response.set_result(Response(200, b"Content-Length: 2\\r\\n", b"{}"))\n'
+    "                break\n            except Unavailable:\n                is_unsure",
+)
+# A node goes on from a position whose next entries were trimmed.
+TRUST_AN_OLD_POSITION = Edit("log.py", "        if after < trimmed:\n", "        if after < trimmed - 2**62:\n")
+# No node compares its digest with the others' digests.
+DROP_THE_DIGEST = Edit("digest.py", "    return 2 * len(contradicting) > nodes\n", "    return False\n")
+
+TRIAL = {
+    "skip-an-entry": Break(STOPS, (SKIP_AN_ENTRY,)),
+    "apply-before-append": Break(STOPS, (APPLY_BEFORE_APPEND,)),
+    "answer-before-apply": Break("responses that the log doesn't give: [1-9]", (ANSWER_BEFORE_APPLY,)),
+    "trust-an-old-position": Break("a node that needs entries that were trimmed stops", (TRUST_AN_OLD_POSITION,)),
+    "drop-the-digest": Break("a node whose avroreg was written to past the log stops", (DROP_THE_DIGEST,)),
+    # The nodes themselves don't notice these two, so the trial's comparison has to.
+    "skip-an-entry-unnoticed": Break(TABLES, (SKIP_AN_ENTRY, DROP_THE_DIGEST)),
+    "apply-before-append-unnoticed": Break(TABLES, (APPLY_BEFORE_APPEND, DROP_THE_DIGEST)),
+}
+
+ODD = {
+    # The relay doesn't take a change of a mode for a write, and sends avroreg a key with it.
+    "forward-a-write": Break(
+        "a write is past the log: PUT /mode/s1",
+        (Edit("messages.py", "(config|mode)(/", "(config)(/"), Edit("messages.py", 'NO_KEY = b"?"', 'NO_KEY = b"no-key"')),
     ),
-    # A write goes to this node's avroreg first and then into the log.
-    "apply-before-append": (
-        "replica.py",
-        "            return key, await self.appender.response_to(messages.message(request.line, key, request.body))\n",
-        "            response = await self.registry.ask(messages.message(request.line, key, request.body))\n"
-        "            await self.appender.response_to(messages.message(request.line, key, request.body))\n"
-        "            return key, response\n",
+    # The relay ignores Transfer-Encoding, so another reader may see another end of the body.
+    "ignore-a-coding": Break(
+        "what could be read in two ways",
+        (Edit("http1.py", '    if b"transfer-encoding" in fields:\n', '    if b"transfer-encodings" in fields:\n'),),
     ),
-    # A client gets its response once the write is in the log, before avroreg has answered it.
-    "answer-before-apply": (
-        "appender.py",
-        "                break\n            except Unavailable:\n                is_unsure",
-        "                for write in batch:\n"
-        "                    if not write.response.done():\n"
-        '                        write.response.set_result(Response(200, b"Content-Length: 2\\r\\n", b"{}"))\n'
-        "                break\n            except Unavailable:\n                is_unsure",
+    # Of two lengths the relay takes the first.
+    "take-the-first-length": Break(
+        "what could be read in two ways",
+        (Edit("http1.py", "    if len(lengths) > 1 or not re.", "    if not re."),),
     ),
-    # A node goes on from a position whose next entries were trimmed.
-    "trust-an-old-position": (
-        "log.py",
-        "        if after < trimmed:\n",
-        "        if after < trimmed - 2**62:\n",
-    ),
-    # No node compares its digest with the others' digests.
-    "drop-the-digest": (
-        "digest.py",
-        "    return 2 * len(contradicting) > nodes\n",
-        "    return False\n",
+    # After a head that it can't read, the relay goes on with what follows.
+    "read-on": Break(
+        "what could be read in two ways",
+        (Edit("server.py", 'time.monotonic(), "faulty", b"", True\n', 'time.monotonic(), "faulty", b"", False\n'),),
     ),
 }
 
 
 def main() -> None:
-    if len(sys.argv) != 3:
-        print("\n".join(BREAKS))
+    breaks = {"trial": TRIAL, "odd": ODD}[sys.argv[1]]
+    if len(sys.argv) != 4:
+        print("\n".join(f"{name} {it.report}" for name, it in breaks.items()))
         return
-    file, old, new = BREAKS[sys.argv[1]]
-    folder = pathlib.Path(sys.argv[2])
+    folder = pathlib.Path(sys.argv[3])
     shutil.copytree(HERE / "relay", folder / "relay")
     shutil.copy(HERE / "avroreg-relay", folder)
-    path = folder / "relay" / file
-    text = path.read_text()
-    if text.count(old) != 1:
-        sys.exit(f"breaks.py: {file} doesn't have the text of {sys.argv[1]} once")
-    path.write_text(text.replace(old, new))
+    for edit in breaks[sys.argv[2]].edits:
+        path = folder / "relay" / edit.file
+        text = path.read_text()
+        if text.count(edit.text) != 1:
+            sys.exit(f"breaks.py: {edit.file} doesn't have the text of {sys.argv[2]} once")
+        path.write_text(text.replace(edit.text, edit.change))
 
 
 if __name__ == "__main__":

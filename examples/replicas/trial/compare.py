@@ -44,7 +44,7 @@ Rows = dict[str, list[tuple[Any, ...]]]
 
 def dump(node: SpaceNode, upto: int) -> list[tuple[int, bytes]]:
     """The messages of the log up to a revision, as a node's etcd has them."""
-    lines = node.inside(sys.executable, "-c", DUMP, str(HERE), str(upto), seconds=300).splitlines()
+    lines = node.inside(sys.executable, "-c", DUMP, str(HERE), str(upto), seconds=1800).splitlines()
     return [(revision, base64.b64decode(text)) for revision, text in map(json.loads, lines)]
 
 
@@ -66,12 +66,32 @@ def rows(node: SpaceNode, program: pathlib.Path) -> tuple[Rows, str]:
 
 def responses_of(output: bytes) -> Iterator[tuple[int, str]]:
     """Status and body of each response that `avroreg run` wrote."""
-    while output:
-        head, _, output = output.partition(b"\r\n\r\n")
-        length = re.search(rb"Content-Length: ([0-9]+)", head)
+    start = 0
+    while start < len(output):
+        body = output.index(b"\r\n\r\n", start) + 4
+        length = re.search(rb"Content-Length: ([0-9]+)", output[start:body])
         assert length
-        yield int(head[9:12]), output[: int(length[1])].decode()
-        output = output[int(length[1]) :]
+        end = body + int(length[1])
+        yield int(output[start + 9 : start + 12]), output[body:end].decode()
+        start = end
+
+
+def output_of_run(messages: list[bytes], program: pathlib.Path) -> bytes:
+    """What `avroreg run` answers, with a database in memory: its registry without a file takes long for many versions."""
+    with tempfile.TemporaryDirectory(dir="/dev/shm") as folder:
+        return subprocess.run([program, "run", "--db", f"{folder}/F"], input=b"".join(messages), capture_output=True).stdout
+
+
+def out_of_order(messages: list[bytes], writes: list[Write]) -> int:
+    """How many writes the log has after one that began when they were acknowledged already."""
+    places: dict[bytes, int] = {}
+    for at, message in enumerate(messages):
+        places.setdefault(message, at)
+    found, latest = 0, 0.0
+    for write in sorted((it for it in writes if it.message() in places), key=lambda it: places[it.message()]):
+        found += write.answered < latest
+        latest = max(latest, write.began)
+    return found
 
 
 class Fold:
@@ -84,13 +104,11 @@ class Fold:
         for _, message in log:
             told.append(self.machine.answer(message))
             self.responses[message].add(told[-1])
-        run = subprocess.run([program, "run"], input=b"".join(message for _, message in log), capture_output=True)
+        found = list(responses_of(output_of_run([message for _, message in log], program)))
         self.differing = [
-            (revision, message, mine, its)
-            for (revision, message), mine, its in zip(log, told, responses_of(run.stdout))
-            if mine != its
+            (revision, message, mine, its) for (revision, message), mine, its in zip(log, told, found) if mine != its
         ]
-        self.is_whole = len(list(responses_of(run.stdout))) == len(log)
+        self.is_whole = len(found) == len(log)
 
     def lost(self, writes: list[Write]) -> list[Write]:
         """The acknowledged writes that aren't in the log."""

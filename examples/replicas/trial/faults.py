@@ -1,5 +1,4 @@
 """The faults that the trial makes, each with its beginning and its end."""
-import json
 import signal
 import time
 from functools import partial
@@ -39,10 +38,11 @@ def kill_and_compact(nodes: list[SpaceNode], node: SpaceNode) -> None:
     node.kill()
     time.sleep(1)
     other = next(it for it in nodes if it is not node)
-    gateway = ("curl", "-s", "-m", "5", "http://127.0.0.1:2379/v3/kv/")
-    found = other.inside(*gateway[:-1], gateway[-1] + "range", "-d", '{"key":"eA=="}')
-    revision = json.loads(found)["header"]["revision"]
-    other.inside(*gateway[:-1], gateway[-1] + "compaction", "-d", json.dumps({"revision": revision}))
+    for _ in range(10):  # an election takes one or two seconds
+        revision = other.etcd("kv/range", {"key": "eA=="}).get("header", {}).get("revision")
+        if revision and "header" in other.etcd("kv/compaction", {"revision": revision}):
+            return
+        time.sleep(0.5)
 
 
 def kinds_of_faults(nodes: list[SpaceNode]) -> dict[str, tuple[Step, Step]]:

@@ -18,12 +18,13 @@ import socket
 import subprocess
 import sys
 import time
+import urllib.error
 import urllib.request
 
 HERE = pathlib.Path(__file__).resolve().parent.parent
 NODES = ("n1", "n2", "n3")
 SERVICES = ("etcd", "registry", "relay")
-PORTS = ("etcd", "peer", "registry", "relay", "admin")
+PORTS = ("etcd", "peer", "registry", "relay", "admin", "https", "nodes")
 
 
 def free_ports(count: int) -> int:
@@ -91,16 +92,16 @@ class Node:
             "initial-advertise-peer-urls": self.peer_url, "initial-cluster": members, "initial-cluster-token": "avroreg",
             "initial-cluster-state": "existing" if (self.folder / "joins").exists() else "new", "peer-client-cert-auth": "true",
             "peer-trusted-ca-file": tls / "ca.crt", "peer-cert-file": tls / f"{self.name}.crt",
-            "peer-key-file": tls / f"{self.name}.key",
+            "peer-key-file": tls / f"{self.name}.key", "quota-backend-bytes": self.cluster.quota,
         }  # fmt: skip
         return ["etcd", *(f"--{name}={value}" for name, value in words.items())]
 
     def process(self, service: str) -> int | None:
-        """The id of the service's process, if it runs."""
+        """The id of the service's process, if it runs. A killed process has its ports until the last of its threads has ended."""
         try:
             number = int((self.folder / f"{service}.pid").read_text())
             state = pathlib.Path(f"/proc/{number}/stat").read_text().rpartition(")")[2].split()[0]
-            return None if state == "Z" else number
+            return None if state == "Z" and len(os.listdir(f"/proc/{number}/task")) == 1 else number
         except (OSError, ValueError):
             return None
 
@@ -108,7 +109,8 @@ class Node:
         if self.process(service):
             return
         with open(self.folder / f"{service}.log", "ab") as log:
-            process = subprocess.Popen([*self.prefix, *self.command(service)], stdin=subprocess.DEVNULL, stdout=log, stderr=log, start_new_session=True)
+            command = [*self.prefix, *self.command(service)]
+            process = subprocess.Popen(command, stdin=subprocess.DEVNULL, stdout=log, stderr=log, start_new_session=True)
         (self.folder / f"{service}.pid").write_text(str(process.pid))
 
     def end(self, service: str, number: signal.Signals) -> None:
@@ -127,6 +129,8 @@ class Node:
         try:
             with urllib.request.urlopen(f"http://127.0.0.1:{port}{target}", timeout=5) as found:
                 return service != "etcd" or json.load(found)["health"] == "true"
+        except urllib.error.HTTPError:  # a relay that has stopped runs, and answers 503
+            return service == "relay" and self.health().get("status") == "stopped"
         except OSError:
             return False
 
@@ -148,13 +152,15 @@ class Cluster:
             self.folder.mkdir(parents=True, exist_ok=True)
             port_file.write_text(str(free_ports(30)))
         self.first_port = int(port_file.read_text())
+        self.quota = 0  # of each etcd, in bytes; 0 is etcd's own, 2 GB
         self.nodes = {name: Node(self, name) for name in NODES}
 
     def new(self, program: pathlib.Path) -> None:
         for node in self.nodes.values():
             node.write_config()
             shutil.copy(program, node.folder / "avroreg")
-        subprocess.run([str(HERE / "certificates.sh"), str(self.folder / "tls"), *(f"{name}={node.peer_host}" for name, node in self.nodes.items())], check=True)
+        hosts = [f"{name}={node.peer_host}" for name, node in self.nodes.items()]
+        subprocess.run([str(HERE / "certificates.sh"), str(self.folder / "tls"), *hosts], check=True)
 
     def chosen(self, words: list[str]) -> list[tuple[Node, str]]:
         names, services = words[:1] or NODES, words[1:2] or SERVICES

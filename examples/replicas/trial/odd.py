@@ -1,11 +1,17 @@
 #!/usr/bin/env python3
 """Odd requests to one relay of three: unknown methods, odd targets, keys that are none, heads that two parsers read in two ways.
 
-    odd.py PROGRAM [COUNT [SEED]]     2000 random ones after those that are listed
+    odd.py PROGRAM [--count N] [--seed N] [--relay FILE]
 
 n1 gets all of them, and n2 and n3 only what is in the log. So n1 shows the same as they do exactly if no request was applied
-past the log. Ends with status 0 if so.
+past the log. Requests whose end two readers could see at different places hide a write; none may come through. And avroreg
+itself has to refuse each kind of write with the key that the relay sends with what it doesn't append. Ends with status 0 if
+all that holds.
 """
+import argparse
+import collections
+import http.client
+import itertools
 import json
 import pathlib
 import random
@@ -13,13 +19,13 @@ import re
 import socket
 import sys
 import tempfile
-import time
 
 HERE = pathlib.Path(__file__).resolve().parent.parent
 sys.path.insert(0, str(HERE))
 
+from relay.messages import NO_KEY  # noqa: E402
 from trial.local import Node  # noqa: E402
-from trial.steps import LocalTrial, Wrong, check, end_on_sigterm  # noqa: E402
+from trial.steps import LocalTrial, Wrong, ask, check, end_on_sigterm, schema  # noqa: E402
 
 METHODS = ("PUT", "POST", "DELETE", "GET", "PATCH", "put", "Post", "HEAD", "OPTIONS", "TRACE", "CONNECT", "DELETE ", "\tPUT", "X-PUT", "PU\0T")
 TARGETS = (
@@ -30,31 +36,52 @@ TARGETS = (
     "/subjects/" + "s" * 300 + "/versions", "/config/" + "s" * 16200, "/subjects/s/versions/latest?permanent=true&permanent=false",
 )  # fmt: skip
 KEYS = ("", "k1", "k2", "?", "a b", "\xff", "k" * 65, "k1\r\nRegistry-Retry-Key: k2", " k3 ", "k4\r\n\tk5", "k6\0", "k7\nX: y")
-SMUGGLED = 'PUT /config/smuggled HTTP/1.1\r\nHost: h\r\nRegistry-Retry-Key: sNUMBER\r\nContent-Length: 24\r\n\r\n{"compatibility":"NONE"}'
-FRAMINGS = (
-    "Content-Length: {length}", "Content-Length: 0", "Content-Length: {length}\r\nContent-Length: 0", "Transfer-Encoding: chunked",
-    "Content-Length: {length}\r\nTransfer-Encoding: chunked", "Transfer-Encoding: xchunked", "Content-Length : {length}", "Content-Length: +{length}",
-    "Content-Length: 0{length}", "Content-Length: {length}, {length}", " Content-Length: {length}", "X: y\r\n Content-Length: {length}",
-    "Content-Length:\x0b{length}", "content-length:{length}\r\nExpect: 100-continue", "X: y\rContent-Length: {length}", "Connection: close, Content-Length",
+HIDDEN = 'PUT /config/SUBJECT HTTP/1.1\r\nHost: h\r\nRegistry-Retry-Key: sNUMBER\r\nContent-Length: 24\r\n\r\n{"compatibility":"NONE"}'
+CLEAR = (
+    "Content-Length: {length}", "Content-Length: 0", "Content-Length: 0{length}", "content-length:{length}\r\nExpect: 100-continue",
+    "Connection: close, Content-Length",
+)  # fmt: skip
+UNCLEAR = (
+    "Content-Length: {length}\r\nContent-Length: 0", "Content-Length: 0\r\nContent-Length: {length}", "Content-Length: 0\r\nContent-Length: 0",
+    "Content-Length: 0, {length}", "Content-Length: {length}, {length}", "Content-Length: +{length}", "Content-Length: -0", "Content-Length: 0x0",
+    "Content-Length: {length} 0", "Content-Length:", "Content-Length: 00000000000000000000", "Content-Length : {length}", " Content-Length: {length}",
+    "X: y\r\n Content-Length: {length}", "X: y\r\n\tContent-Length: {length}", "Content-Length:\x0b{length}", "Content-Length: \x00{length}",
+    "X: y\rContent-Length: {length}", "X: y\nContent-Length: {length}", "X: y\n\r\nContent-Length: {length}", "Content-Length\x00: {length}",
+    "Transfer-Encoding: chunked", "Transfer-Encoding: xchunked", "Transfer-Encoding: identity", "Transfer-Encoding: chunked, identity",
+    "transfer-encoding:\tchunked", "Transfer-Encoding:", "Content-Length: {length}\r\nTransfer-Encoding: chunked",
+    "Content-Length: 0\r\nTransfer-Encoding: chunked", "Transfer-Encoding: chunked\r\nContent-Length: {length}", "Transfer-Encoding : chunked",
+    " Transfer-Encoding: chunked", "X: y\r\n\tTransfer-Encoding: chunked", "Transfer-Encoding\x0b: chunked",
+)  # fmt: skip
+# Each kind of write. In this order each of them changes something, and the last one makes the registry writable again.
+WRITES = (
+    ("PUT", "/config", b'{"compatibility":"FULL"}'), ("PUT", "/config/s1", b'{"compatibility":"FULL_TRANSITIVE"}'),
+    ("POST", "/subjects/s1/versions", schema(7777)), ("DELETE", "/subjects/s1/versions/1", b""),
+    ("DELETE", "/subjects/s1/versions/1?permanent=true", b""), ("DELETE", "/subjects/s1/versions/latest", b""), ("DELETE", "/subjects/s2", b""),
+    ("DELETE", "/subjects/s2?permanent=true", b""), ("PUT", "/mode/s1", b'{"mode":"READONLY"}'), ("PUT", "/mode", b'{"mode":"READONLY"}'),
+    ("PUT", "/mode", b'{"mode":"READWRITE"}'),
 )  # fmt: skip
 
 
+def hidden(subject: str, number: int) -> str:
+    """A write that hides in the body of another request."""
+    return HIDDEN.replace("SUBJECT", subject).replace("NUMBER", str(number))
+
+
 def request(pick: random.Random, number: int) -> bytes:
-    """One odd request. Its body is a write of its own, or hides one."""
-    schema = {"type": "record", "name": "R", "doc": f"odd {number}", "fields": []}
-    smuggled = SMUGGLED.replace("NUMBER", str(number))
-    body = pick.choice(
-        (
-            json.dumps({"schema": json.dumps(schema), "compatibility": "NONE", "mode": "READWRITE"}),
-            smuggled,
-            "0\r\n\r\n" + smuggled,
-            f"{len(smuggled):x}\r\n{smuggled}\r\n0\r\n\r\n",
-            "",
-        )
+    """One request, of which each part may be odd. Its body is a write of its own, or hides one."""
+
+    def part(usual: tuple[str, ...], odd: tuple[str, ...]) -> str:
+        return pick.choice(usual if pick.random() < 0.7 else odd)
+
+    record = json.dumps({"type": "record", "name": "R", "doc": f"odd {number}", "fields": []})
+    write = hidden("odd", number)
+    body = part(
+        (json.dumps({"schema": record, "compatibility": "NONE", "mode": "READWRITE"}),),
+        (write, "0\r\n\r\n" + write, f"{len(write):x}\r\n{write}\r\n0\r\n\r\n", ""),
     )
-    key = pick.choice(KEYS)
-    head = f"{pick.choice(METHODS)} {pick.choice(TARGETS)} {pick.choice(('HTTP/1.1',) * 6 + ('HTTP/1.0', 'HTTP/2', 'http/1.1', ''))}"
-    lines = [head, "Host: h", *([f"Registry-Retry-Key: {key}"] if key else []), pick.choice(FRAMINGS).replace("{length}", str(len(body)))]
+    method, target, version = part(METHODS[:4], METHODS), part(TARGETS[:8], TARGETS), part(("HTTP/1.1",), ("HTTP/1.0", "HTTP/2", "http/1.1", ""))
+    key, framing = part((f"r{number}",), KEYS), part(CLEAR[:1], CLEAR + UNCLEAR).replace("{length}", str(len(body)))
+    lines = [f"{method} {target} {version}", "Host: h", *([f"Registry-Retry-Key: {key}"] if key else []), framing]
     return ("\r\n".join(lines) + "\r\n\r\n" + body).encode("latin-1")
 
 
@@ -72,29 +99,85 @@ def responses_to(node: Node, message: bytes) -> bytes:
         return found
 
 
+def statuses_of(responses: bytes) -> list[int]:
+    return [int(it) for it in re.findall(rb"HTTP/1\.1 ([0-9]{3}) ", responses)]
+
+
+class Odd(LocalTrial):
+    def unclear(self) -> None:
+        """Requests that two readers could read in two ways get one refusal, and what hides in them isn't a request."""
+        heads = (
+            "POST /subjects/s1/versions HTTP/1.1", "GET /config HTTP/1.1", "PUT /config HTTP/1.0", "PUT /config HTTP/1.1\r\nConnection: keep-alive",
+        )  # fmt: skip
+        count = 0
+        for head, framing in itertools.product(heads, UNCLEAR):
+            count += 1
+            write = hidden("hidden", count)
+            for body in (write, "0\r\n\r\n" + write, f"{len(write):x}\r\n{write}\r\n0\r\n\r\n"):
+                text = f"{head}\r\nHost: h\r\nRegistry-Retry-Key: u{count}\r\n{framing.replace('{length}', str(len(body)))}\r\n\r\n{body}"
+                found = statuses_of(responses_to(self.nodes[0], text.encode("latin-1")))
+                if found not in ([400], [501]):
+                    raise Wrong(f"what could be read in two ways is answered {found}: {text!r}")
+        status, _ = ask(self.nodes[0], "GET", "/config/hidden", None, **{"Cache-Control": "no-cache"})
+        check(status == 404, f"{3 * count} requests that could be read in two ways are refused, and none hides a write")
+
+    def without_a_key(self) -> None:
+        """avroreg refuses each kind of write with the key `?`, so the relay can't have it apply one past the log."""
+        third = self.nodes[2]
+        for method, target, body in WRITES:
+            connection = http.client.HTTPConnection("127.0.0.1", third.ports["registry"], timeout=60)
+            connection.request(method, target, body, {"Registry-Retry-Key": NO_KEY.decode()})
+            response = connection.getresponse()
+            if (response.status, json.loads(response.read())["error_code"]) != (400, 40001):
+                raise Wrong(f"avroreg takes a write with the key of a read: {method} {target}")
+            connection.close()
+        check(True, f"avroreg refuses {len(WRITES)} writes of all kinds with the key of a read")
+
+    def entries(self) -> int:
+        found = re.search("log: ([0-9]+) entries", self.command(self.nodes[0], "status"))
+        return int(found[1]) if found else -1
+
+    def with_a_key(self) -> None:
+        """The relay appends each kind of write, before avroreg gets it."""
+        before = self.entries()
+        for at, (method, target, body) in enumerate(WRITES):
+            status, response = ask(self.nodes[0], method, target, body, **{"Registry-Retry-Key": f"w{at}"})
+            if status != 200:
+                raise Wrong(f"{method} {target} is answered {status}: {response!r}")
+            if self.entries() != before + at + 1:
+                raise Wrong(f"a write is past the log: {method} {target}")
+        check(True, f"the log has {len(WRITES)} writes of all kinds")
+
+    def random_requests(self, count: int, pick: random.Random) -> None:
+        counts: collections.Counter[int] = collections.Counter()
+        for number in range(count):
+            counts.update(statuses_of(responses_to(self.nodes[0], request(pick, number))))
+        check(counts[200] and counts[400], f"{count} random requests; responses by status: {dict(sorted(counts.items()))}")
+
+    def run(self, count: int, pick: random.Random) -> None:
+        self.set_up()
+        self.register(self.nodes[0], 3)
+        self.unclear()
+        self.without_a_key()
+        self.with_a_key()
+        self.random_requests(count, pick)
+        self.meet()
+        check(self.register(self.nodes[0], 1), "n1 goes on")
+        self.meet()
+
+
 def main() -> None:
+    parser = argparse.ArgumentParser(description=(__doc__ or "").split("\n")[0])
+    parser.add_argument("program", type=pathlib.Path)
+    parser.add_argument("--count", type=int, default=2000, help="how many random requests (2000)")
+    parser.add_argument("--seed", type=int, default=1)
+    parser.add_argument("--relay", type=pathlib.Path, default=HERE / "avroreg-relay", help="another relay, as one with a break")
+    options = parser.parse_args()
     end_on_sigterm()
-    program, count = pathlib.Path(sys.argv[1]).resolve(), int(sys.argv[2]) if len(sys.argv) > 2 else 2000
-    pick = random.Random(int(sys.argv[3]) if len(sys.argv) > 3 else 1)
     with tempfile.TemporaryDirectory() as folder:
-        trial = LocalTrial(pathlib.Path(folder), program)
+        trial = Odd(pathlib.Path(folder), options.program.resolve(), options.relay.resolve())
         try:
-            trial.set_up()
-            first = trial.nodes[0]
-            trial.register(first, 3)
-            statuses: dict[int, int] = {}
-            began = time.monotonic()
-            for number in range(count):
-                found = responses_to(first, request(pick, number))
-                for status in re.findall(rb"HTTP/1\.1 ([0-9]{3}) ", found):
-                    statuses[int(status)] = statuses.get(int(status), 0) + 1
-            print(f"{count} odd requests in {time.monotonic() - began:.0f} s; responses by status: {dict(sorted(statuses.items()))}")
-            check(statuses.get(200) and statuses.get(400), "some were answered 200, and some 400")
-            trial.meet()
-            check(trial.register(first, 1), "n1 goes on")
-            trial.meet()
-            configs = {it.name: trial.command(it, "status") for it in trial.nodes}
-            check(len(set(configs.values())) == 1, "the nodes report one status")
+            trial.run(options.count, random.Random(options.seed))
         except Wrong as fault:
             print(f"WRONG: {fault}")
             sys.exit(1)

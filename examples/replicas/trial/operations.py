@@ -21,10 +21,11 @@ import time
 HERE = pathlib.Path(__file__).resolve().parent.parent
 sys.path.insert(0, str(HERE))
 
-from trial.steps import FAULTS, LocalTrial, Wrong, ask, check, end_on_sigterm, schema  # noqa: E402
+from trial.steps import FAULTS, Wrong, ask, check, end_on_sigterm, schema  # noqa: E402
+from trial.through_nginx import ThroughNginx  # noqa: E402
 
 
-class Operations(LocalTrial):
+class Operations(ThroughNginx):
     def from_nothing(self) -> None:
         self.set_up()
         check(self.register(self.nodes[0], 3) == [1, 2, 3], "three schemas are registered at n1")
@@ -84,6 +85,7 @@ class Operations(LocalTrial):
         check(self.register(second, 2) == [5, 6], "two nodes go on")
         backup = self.folder / "replace-backup"
         self.command(first, "backup", backup)
+        self.wait_for(lambda: self.have_published(2), "two nodes have published their positions")
         self.command(first, "trim")
         printed = self.command(second, "replace", "n3", f"https://127.0.0.1:{third.ports['peer']}")
         check("--initial-cluster-state=existing" in printed, "replace prints how to start the new member")
@@ -142,11 +144,11 @@ class Operations(LocalTrial):
         check(self.register(self.nodes[0], 1) == [4], "writes go on")
         self.meet()
 
-    def have_published(self) -> bool:
-        """Whether the nodes' published positions are the newest entry's."""
+    def have_published(self, nodes: int = 3) -> bool:
+        """Whether the published positions of so many nodes are the newest entry's."""
         shown = self.command(self.nodes[0], "status")
         newest = re.search("newest ([0-9]+)", shown)
-        return bool(newest) and shown.count(f": revision {newest[1]},") == 3  # type: ignore[index]
+        return newest is not None and shown.count(f": revision {newest[1]},") >= nodes
 
     def trim(self) -> None:
         self.set_up()
@@ -172,6 +174,33 @@ class Operations(LocalTrial):
         self.wait_for(self.have_published, "the nodes have published their positions")
         self.command(self.nodes[2], "trim")
         check("newer backup" in self.command(self.nodes[0], "restore", backup, fails=True), "a backup older than the log is refused")
+        self.meet()
+
+    def write_until_full(self) -> None:
+        """Writes to the log until etcd's quota is full."""
+        body = json.dumps({"compatibility": "FULL", "padding": "x" * 400000}).encode()
+        for number in range(200):
+            status, response = ask(self.nodes[0], "PUT", f"/config/full{number}", body, **{"Registry-Retry-Key": f"full{number}"})
+            if status == 503:
+                check(number, f"after {number} large writes etcd's quota is full, and a write is answered {json.loads(response)['error_code']}")
+                return
+        raise Wrong("etcd's quota doesn't get full")
+
+    def full_quota(self) -> None:
+        """etcd's quota is full: writes stop, reads go on, and trimming makes room."""
+        self.set_up(quota=16 * 1048576)
+        first, second, third = self.nodes
+        self.register(first, 1)
+        self.write_until_full()
+        check(ask(second, "GET", "/subjects")[0] == 200, "reads go on")
+        check(ask(third, "GET", "/subjects", None, **{"Cache-Control": "no-cache"})[0] == 200, "fresh reads go on")
+        for node in self.nodes:
+            self.command(node, "defragment")
+        self.wait_for(self.have_published, "the nodes have published their positions")
+        print("  " + self.command(second, "trim").strip().replace("\n", "; "))
+        for node in (first, third):
+            self.command(node, "defragment")
+        check(self.register(second, 2) == [2, 3], "writes go on")
         self.meet()
 
     def restore_all(self) -> None:
@@ -230,7 +259,7 @@ class Operations(LocalTrial):
         self.meet()
 
 
-NAMES = ("from_nothing", "adopt", "replace", "upgrade", "trim", "restore_all", "tampered")
+NAMES = ("from_nothing", "clients", "adopt", "replace", "upgrade", "trim", "full_quota", "restore_all", "tampered")
 
 
 def main() -> None:
@@ -247,7 +276,7 @@ def main() -> None:
                 print(f"  {time.monotonic() - start:.0f} s", flush=True)
         except (Wrong, KeyError) as fault:
             print(f"WRONG: {fault!r}")
-            for log in sorted(pathlib.Path(folder).glob("cluster/n*/re*.log")):
+            for log in sorted(pathlib.Path(folder).glob("cluster/n*/*.log")):
                 print(f"{log.parent.name}/{log.name}: " + " | ".join(log.read_text().splitlines()[-4:]))
             sys.exit(1)
         finally:

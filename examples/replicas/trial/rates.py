@@ -1,11 +1,13 @@
 #!/usr/bin/env python3
-"""Writes and reads a second and their times: a single avroreg, and three nodes.
+"""Writes and reads a second and their times, of a single avroreg and of three nodes in turn.
 
-    rates.py PROGRAM [SECONDS]     5 seconds for each row
+    rates.py PROGRAM [SECONDS [ROUNDS]]     3 rounds of 2 seconds for each figure
 
-Each client is a process with one connection. A single avroreg serves a connection for a second while others wait, so its clients
-take a connection for each request if there are several, as nginx does. The three nodes, etcd and the clients share this machine.
+Each client is a process, on its way to avroreg or the relays, or by TLS through the nginx that README.md has in front of either.
+Both systems run all the time, and each figure is measured in rounds that alternate between them. So what else the machine does
+slows down both. The nodes, etcd and the clients share this machine.
 """
+import base64
 import http.client
 import multiprocessing
 import os
@@ -15,79 +17,140 @@ import sys
 import tempfile
 import time
 from multiprocessing.queues import Queue
+from typing import NamedTuple
 
 HERE = pathlib.Path(__file__).resolve().parent.parent
 sys.path.insert(0, str(HERE))
 
-from trial.local import Cluster  # noqa: E402
-from trial.steps import end_on_sigterm, schema  # noqa: E402
+from trial import front  # noqa: E402
+from trial.local import Cluster, free_ports  # noqa: E402
+from trial.steps import FAULTS, end_on_sigterm, schema  # noqa: E402
+
+COUNTS = (1, 8, 64)
+KINDS = ("write", "read", "fresh read")
+HEAD = """| | Clients | One: a second | Half within | 99 of 100 within | Three: a second | Half within | 99 of 100 within | Rate, of one's | Half, of one's |
+|---|---|---|---|---|---|---|---|---|---|"""
+PASSWORD = {"Authorization": "Basic " + base64.b64encode(":".join(front.USER).encode()).decode()}
 
 
-def client(number: int, ports: list[int], kind: str, is_kept: bool, until: float, results: "Queue[list[float]]") -> None:
-    """Sends one request after the other to the port of this client's node."""
-    port, times, count = ports[number % len(ports)], list[float](), 0
-    connection = http.client.HTTPConnection("127.0.0.1", port, timeout=60)
-    while time.time() < until:
-        began = time.perf_counter()
+class System(NamedTuple):
+    """Where clients send requests. A client keeps its connection, or takes one for each request."""
+
+    ports: list[int]
+    authority: str  # the file of the authority that TLS trusts; empty without TLS
+    is_kept: bool = True
+
+    def connection(self, number: int) -> http.client.HTTPConnection:
+        port = self.ports[number % len(self.ports)]
+        if not self.authority:
+            return http.client.HTTPConnection("127.0.0.1", port, timeout=60)
+        return front.connection(port, pathlib.Path(self.authority))
+
+
+def send(connection: http.client.HTTPConnection, kind: str, count: int, fields: dict[str, str]) -> bool:
+    """Sends one request. Returns whether it was carried out."""
+    if kind == "write":
+        key = {"Registry-Retry-Key": f"{os.getpid()}.{count}"}
+        connection.request("POST", f"/subjects/r{os.getpid()}-{count}/versions", schema(count % 50), {**fields, **key})
+    else:
+        fresh = {"Cache-Control": "no-cache"} if kind == "fresh read" else {}
+        connection.request("GET", "/schemas/ids/1", headers={**fields, **fresh})
+    response = connection.getresponse()
+    response.read()
+    return response.status == 200
+
+
+def client(number: int, system: System, kind: str, begin: float, end: float, results: "Queue[list[float]]") -> None:
+    """Sends one request before the time begins, and then one after the other until it ends."""
+    connection, times, count = system.connection(number), list[float](), 0
+    fields = {**({} if system.is_kept else {"Connection": "close"}), **(PASSWORD if system.authority else {})}
+    while time.time() < end:
+        began = time.time()
         try:
-            if kind == "write":
-                target = f"/subjects/r{os.getpid()}-{count}/versions"
-                fields = {"Registry-Retry-Key": f"{os.getpid()}.{count}.{port}", **({} if is_kept else {"Connection": "close"})}
-                connection.request("POST", target, schema(count % 50), fields)
-            else:
-                fresh = {"Cache-Control": "no-cache"} if kind == "fresh read" else {}
-                connection.request("GET", "/schemas/ids/1", headers={**fresh, **({} if is_kept else {"Connection": "close"})})
-            response = connection.getresponse()
-            response.read()
-            if response.status == 200:
-                times.append(time.perf_counter() - began)
-        except (OSError, http.client.HTTPException):
+            if send(connection, kind, count, fields) and count:
+                times.append(time.time() - began)
+        except FAULTS:
             connection.close()
+        if not count:
+            time.sleep(max(0, begin - time.time()))
         count += 1
     results.put(times)
 
 
-def measure(name: str, kind: str, clients: int, ports: list[int], is_kept: bool, seconds: float) -> float:
+def measure(system: System, kind: str, clients: int, seconds: float) -> list[float]:
+    """The time of each request that was carried out."""
     results: "Queue[list[float]]" = multiprocessing.Queue()
-    until = time.time() + 0.5 + seconds
-    workers = [multiprocessing.Process(target=client, args=(it, ports, kind, is_kept, until, results)) for it in range(clients)]
+    begin = time.time() + 0.5 + clients / 32
+    workers = [multiprocessing.Process(target=client, args=(it, system, kind, begin, begin + seconds, results)) for it in range(clients)]
     for worker in workers:
         worker.start()
-    times = sorted(it for _ in workers for it in results.get())
+    times = [it for _ in workers for it in results.get()]
     for worker in workers:
         worker.join()
-    rate = len(times) / (seconds + 0.5)
-    half, most = (times[len(times) * part // 100] * 1000 if times else 0.0 for part in (50, 99))
-    print(f"| {name} | {kind} | {clients} | {rate:.0f} | {half:.1f} ms | {most:.1f} ms |", flush=True)
-    return rate
+    return times
+
+
+def compare(way: str, kind: str, clients: int, systems: tuple[System, System], seconds: float, rounds: int) -> None:
+    """Prints a row: requests a second, and within which time half and 99 of 100 were answered, of one and of three nodes."""
+    times: tuple[list[float], list[float]] = ([], [])
+    for _ in range(rounds):
+        for system, found in zip(systems, times):
+            found += measure(system._replace(is_kept=system.is_kept or clients == 1), kind, clients, seconds)
+    rates = [len(it) / (seconds * rounds) for it in times]
+    halves, most = ([sorted(it)[len(it) * part // 100] * 1000 if it else 0.0 for it in times] for part in (50, 99))
+    cells = [f"{rate:.0f} | {half:.1f} ms | {top:.1f} ms" for rate, half, top in zip(rates, halves, most)]
+    ratios = f"{rates[1] / max(rates[0], 1):.2f} | {halves[1] / max(halves[0], 0.001):.2f}"
+    print(f"| {kind}, {way} | {clients} | {' | '.join(cells)} | {ratios} |", flush=True)
+
+
+def single_front(folder: pathlib.Path, port: int, tls: pathlib.Path, users: pathlib.Path) -> front.Nginx:
+    """The nginx of a single avroreg, with the lines for TLS and users."""
+    config, https = (HERE.parent / "nginx" / "avroreg.conf").read_text(), free_ports(2)
+    for name in ("listen 443", "ssl_", "auth_"):
+        config = config.replace(f"# {name}", name)
+    for old, new in (
+        ("127.0.0.1:8081", f"127.0.0.1:{port}"),
+        ("listen 127.0.0.1:8080", f"listen 127.0.0.1:{https + 1}"),
+        ("listen 443", f"listen 127.0.0.1:{https}"),
+        ("/etc/nginx/avroreg.users", str(users)),
+        ("/etc/nginx/avroreg", f"{tls}/n1"),
+    ):
+        config = config.replace(old, new)
+    return front.Nginx(folder / "nginx", config, https)
 
 
 def main() -> None:
     end_on_sigterm()
-    program, seconds = pathlib.Path(sys.argv[1]).resolve(), float(sys.argv[2]) if len(sys.argv) > 2 else 5.0
-    with tempfile.TemporaryDirectory() as folder:
-        cluster = Cluster(pathlib.Path(folder) / "cluster")
-        cluster.new(program)
-        rates: dict[tuple[str, str, int], float] = {}
-        print("| | | clients | a second | half within | 99 of 100 within |\n|---|---|---|---|---|---|")
+    program = pathlib.Path(sys.argv[1]).resolve()
+    seconds, rounds = float(sys.argv[2]) if len(sys.argv) > 2 else 2.0, int(sys.argv[3]) if len(sys.argv) > 3 else 3
+    with tempfile.TemporaryDirectory() as name:
+        folder = pathlib.Path(name)
+        three, one = Cluster(folder / "three"), Cluster(folder / "one")
+        fronts: list[front.Nginx] = []
         try:
-            first = cluster.nodes["n1"]
-            cluster.start("n1", "registry")
-            for kind in ("write", "read"):
-                for clients in (1, 8, 64):
-                    rates["single", kind, clients] = measure("single", kind, clients, [first.ports["registry"]], clients == 1, seconds)
-            cluster.end(signal.SIGKILL)
-            first.database.unlink()
-            first.database.with_name("registry.db-wal").unlink(missing_ok=True)
-            cluster.start()
-            ports = [it.ports["relay"] for it in cluster.nodes.values()]
-            for kind in ("write", "read", "fresh read"):
-                for clients in (1, 8, 64):
-                    rates["three", kind, clients] = measure("three nodes", kind, clients, ports, True, seconds)
+            for cluster in (three, one):
+                cluster.new(program)
+            three.start()
+            one.start("n1", "registry")
+            tls, alone = three.folder / "tls", one.nodes["n1"].ports["registry"]
+            fronts += [front.of_node(three, it) for it in three.nodes.values()]
+            fronts.append(single_front(folder, alone, tls, front.set_up_users(folder)))
+            for it in fronts:
+                it.wait()
+            ways = {
+                "direct": (System([alone], "", False), System([it.ports["relay"] for it in three.nodes.values()], "")),
+                "nginx": (System([fronts[3].port], str(tls / "ca.crt")), System([it.port for it in fronts[:3]], str(tls / "ca.crt"))),
+            }
+            print(HEAD)
+            for way, systems in ways.items():
+                for kind in KINDS:
+                    for clients in COUNTS:
+                        compare(way, kind, clients, systems, seconds, rounds)
         finally:
-            cluster.end(signal.SIGKILL)
-        for clients in (1, 8, 64):
-            print(f"writes with {clients} clients: {rates['three', 'write', clients] / rates['single', 'write', clients]:.2f} of a single avroreg's")
+            for it in fronts:
+                it.stop()
+            for cluster in (three, one):
+                cluster.end(signal.SIGKILL)
 
 
 if __name__ == "__main__":

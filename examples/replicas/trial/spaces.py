@@ -9,6 +9,7 @@ import shutil
 import signal
 import subprocess
 import threading
+from typing import Any
 
 from trial.local import SERVICES, Cluster, Node
 
@@ -41,7 +42,7 @@ class SpaceNode(Node):
     def set_up(self) -> None:
         self.disk.mkdir(parents=True)
         image = self.folder / "disk.img"
-        shell("truncate", "-s", "96M", str(image))
+        shell("truncate", "-s", "160M", str(image))
         shell("mkfs.ext4", "-q", "-F", str(image))
         shell("mount", "-o", "loop", str(image), str(self.disk))
         shell("ip", "netns", "add", self.space)
@@ -52,6 +53,10 @@ class SpaceNode(Node):
             shell("ip", "link", "set", outer, "master", bridge, "up")
             shell("ip", "-n", self.space, "addr", "add", f"{ip}/24", "dev", inner)
             shell("ip", "-n", self.space, "link", "set", inner, "up")
+
+    def files(self) -> tuple[pathlib.Path, pathlib.Path]:
+        """The database and its write-ahead log."""
+        return self.database, self.database.with_name(self.database.name + "-wal")
 
     def tear_down(self) -> None:
         self.wanted.clear()
@@ -99,13 +104,17 @@ class SpaceNode(Node):
                     self.starts[service] += 1
                     self.start(service)
 
-    def is_leader(self) -> bool:
-        found = self.inside("curl", "-s", "-m", "2", "-d", "{}", "http://127.0.0.1:2379/v3/maintenance/status")
+    def etcd(self, path: str, document: dict[str, object]) -> dict[str, Any]:
+        """What this node's etcd answers to a request, nothing if it doesn't answer."""
+        found = self.inside("curl", "-s", "-m", "5", "-d", json.dumps(document), f"http://127.0.0.1:{self.ports['etcd']}/v3/{path}")
         try:
-            status = json.loads(found)
-            return bool(status["leader"] == status["header"]["member_id"])
-        except (ValueError, KeyError):
-            return False
+            return dict(json.loads(found))
+        except ValueError:
+            return {}
+
+    def is_leader(self) -> bool:
+        status = self.etcd("maintenance/status", {})
+        return "leader" in status and status["leader"] == status["header"]["member_id"]
 
 
 class SpaceCluster(Cluster):

@@ -46,8 +46,8 @@ def end_on_sigterm() -> None:
 
 
 class LocalTrial:
-    def __init__(self, folder: pathlib.Path, program: pathlib.Path) -> None:
-        self.folder, self.program = folder, program
+    def __init__(self, folder: pathlib.Path, program: pathlib.Path, relay: pathlib.Path = HERE / "avroreg-relay") -> None:
+        self.folder, self.program, self.relay = folder, program, relay
         self.cluster = Cluster(folder / "cluster")
         self.count = 0
 
@@ -55,11 +55,14 @@ class LocalTrial:
     def nodes(self) -> list[Node]:
         return list(self.cluster.nodes.values())
 
-    def set_up(self) -> None:
+    def set_up(self, quota: int = 0) -> None:
         """Three nodes from nothing."""
         self.tear_down()
         shutil.rmtree(self.cluster.folder, ignore_errors=True)
         self.cluster, self.count = Cluster(self.folder / "cluster"), 0
+        self.cluster.quota = quota
+        for node in self.nodes:
+            node.relay = self.relay
         self.cluster.new(self.program)
         self.cluster.start()
 

@@ -7,8 +7,6 @@ tables of the nodes. trial.sh calls it, as root.
 Ends with status 0 if nothing was lost, nothing was applied twice, and no two nodes differ.
 """
 import argparse
-import bisect
-import collections
 import json
 import os
 import pathlib
@@ -26,7 +24,9 @@ sys.path.insert(0, str(HERE))
 from trial import compare  # noqa: E402
 from trial.clients import FAULTS, Client, ask  # noqa: E402
 from trial.faults import kinds_of_faults  # noqa: E402
+from trial.report import Fault, Outcome, table  # noqa: E402
 from trial.spaces import SpaceCluster, SpaceNode  # noqa: E402
+
 
 class Trial:
     def __init__(self, options: argparse.Namespace, folder: pathlib.Path) -> None:
@@ -36,9 +36,8 @@ class Trial:
         self.nodes = list(self.cluster.spaces.values())
         self.clients: list[Client] = []
         self.wrong: list[str] = []
-        self.faults: list[tuple[str, float, float, bool]] = []  # name, begin, end, whether at etcd's leader
-        self.healing: list[float] = []
-        self.differences = self.duplicates = 0
+        self.faults: list[Fault] = []
+        self.outcome = Outcome()
 
     def say(self, line: str) -> None:
         print(line, flush=True)
@@ -62,17 +61,20 @@ class Trial:
             leader, chosen = self.cluster.leader(), self.random.sample(self.nodes, 2 if self.random.random() < 0.1 else 1)
             if leader and self.random.random() < 0.4:
                 chosen = [leader]
-            began = time.monotonic()
             for node in chosen:
                 kinds[name][0](node)
             time.sleep(self.random.uniform(0.5, 5))
             for node in chosen:
                 kinds[name][1](node)
             ended = time.monotonic()
-            self.faults.append((name, began, ended, leader in chosen))
             self.meet()
-            self.healing.append(time.monotonic() - ended)
+            self.faults.append(Fault(name, leader in chosen, time.monotonic() - ended))
+            self.report_progress()
             time.sleep(self.random.uniform(0.2, 1.5))
+
+    def report_progress(self) -> None:
+        if len(self.faults) % 50 == 0:
+            self.say(f"      {len(self.faults)} faults, {sum(len(it.writes) for it in self.clients)} acknowledged writes")
 
     # --- Waiting
 
@@ -113,13 +115,15 @@ class Trial:
                   f"the log's {len(fold.log)} messages get the same responses from avroreg run and from the machine in Python"
                   f" {fold.differing[:1] or ''}")  # fmt: skip
         writes = [it for client in self.clients for it in client.writes]
-        self.lost, wrongly = fold.lost(writes), fold.wrongly_answered(writes)
-        self.hold(not self.lost, f"acknowledged writes that the log lacks: {len(self.lost)} of {len(writes)}")
+        lost, wrongly = fold.lost(writes), fold.wrongly_answered(writes)
+        self.hold(not lost, f"acknowledged writes that the log lacks: {len(lost)} of {len(writes)}")
         count = sum(len(it.responses) for it in writes)
         example = [(it.message(), status, body) for it, status, body in wrongly[:1]]
         self.hold(not wrongly, f"responses that the log doesn't give: {len(wrongly)} of {count} {example or ''}")
+        early = compare.out_of_order([message for _, message in fold.log], writes)
+        self.hold(not early, f"writes that the log has after one that began later than they were acknowledged: {early}")
+        self.outcome = Outcome(len(lost), 0, len(wrongly), early, 0, fold.repeats())
         self.compare_tables(fold)
-        self.fold, self.written, self.wrongly = fold, writes, wrongly
 
     def compare_tables(self, fold: compare.Fold) -> None:
         wanted, found = fold.machine.tables(), []
@@ -128,10 +132,10 @@ class Trial:
             found.append(compare.rows(node, self.program))
             node.run("registry", "relay")
         names = {name: [it[0][name] == wanted[name] for it in found] for name in wanted}
-        self.differences = sum(not it for same in names.values() for it in same)
-        self.duplicates = sum(len(set(it[0]["versions"]) - set(wanted["versions"])) for it in found)
+        self.outcome.differences = differences = sum(not it for same in names.values() for it in same)
+        self.outcome.duplicates = sum(len(set(it[0]["versions"]) - set(wanted["versions"])) for it in found)
         sizes = ", ".join(f"{name} {len(rows)}" for name, rows in wanted.items())
-        self.hold(not self.differences, f"the tables of the three nodes are the log's: {sizes} {names if self.differences else ''}")
+        self.hold(not differences, f"the tables of the three nodes are the log's: {sizes} {names if differences else ''}")
         self.hold({it[1] for it in found} == {"evidence holds"}, f"their audits: {[it[1] for it in found]}")
 
     # --- A node that is too old, and one that was changed
@@ -152,39 +156,45 @@ class Trial:
             time.sleep(0.2)
         raise TimeoutError("a registration gets no response")
 
-    def until_stopped(self, node: SpaceNode, what: str, seconds: float = 60) -> None:
+    def until_stopped(self, node: SpaceNode, reason: str, what: str, seconds: float = 60) -> None:
         until = time.monotonic() + seconds
         while node.health().get("status") != "stopped" and time.monotonic() < until:
             time.sleep(0.3)
         health = node.health()
-        self.hold(health.get("status") == "stopped", f"{what}: {health.get('reasons')}")
+        self.hold(health.get("status") == "stopped" and reason in str(health.get("reasons")), f"{what}: {health.get('reasons')}")
+
+    def others_go_on(self, node: SpaceNode) -> None:
+        found = [it.health().get("status") for it in self.nodes if it is not node]
+        self.hold(found == ["ok", "ok"], f"the others go on: {found}")
 
     def old_node(self) -> None:
         """n3 loses its files, and the log has been trimmed meanwhile: it must not go on from the entries that are left."""
         third = self.nodes[2]
         self.rest()
         third.kill("relay", "registry")
-        for path in (third.database, third.database.with_name("registry.db-wal"), third.position):
+        for path in (*third.files(), third.position):
             path.unlink(missing_ok=True)
         self.say("      " + self.command(self.nodes[0], "trim").strip())
         third.run("registry", "relay")
         self.register("after-trim")
-        self.until_stopped(third, "a node that needs entries that were trimmed stops")
-        third.kill("relay", "registry")
-        self.copy(self.nodes[0], third)
-        third.run("registry", "relay")
-        self.meet()
+        self.until_stopped(third, "trimmed", "a node that needs entries that were trimmed stops")
+        subjects = third.inside("curl", "-s", "-m", "30", "http://127.0.0.1:8081/subjects?deleted=true")
+        self.hold(subjects == b"[]", f"its avroreg got none of the entries that are left: {subjects[:100]!r}")
+        self.rebuild(third, self.nodes[0])
 
-    def copy(self, source: SpaceNode, target: SpaceNode) -> None:
+    def rebuild(self, target: SpaceNode, source: SpaceNode) -> None:
         """Copies a node's database and position, as backup and restore do."""
-        source.kill("relay")
-        source.kill("registry")
-        for suffix in ("", "-wal"):
-            target.database.with_name("registry.db" + suffix).unlink(missing_ok=True)
-            if source.database.with_name("registry.db" + suffix).exists():
-                shutil.copy(source.database.with_name("registry.db" + suffix), target.database.with_name("registry.db" + suffix))
+        for node in (target, source):
+            node.kill("relay")
+            node.kill("registry")
+        for mine, its in zip(target.files(), source.files()):
+            mine.unlink(missing_ok=True)
+            if its.exists():
+                shutil.copy(its, mine)
         shutil.copy(source.position, target.position)
-        source.run("registry", "relay")
+        for node in (source, target):
+            node.run("registry", "relay")
+        self.meet()
 
     def changed_node(self) -> None:
         """Somebody registers at n2's avroreg past the log: n2 has to stop, and the others have to go on."""
@@ -193,9 +203,25 @@ class Trial:
         second.inside("curl", "-s", "-m", "30", "-d", body, "http://127.0.0.1:8081/subjects/past/versions")
         for number in range(3):
             self.register(f"after-change-{number}")
-        self.until_stopped(second, "a node whose avroreg was written to past the log stops")
-        others = [it.health().get("status") for it in (self.nodes[0], self.nodes[2])]
-        self.hold(others == ["ok", "ok"], f"the others go on: {others}")
+        self.until_stopped(second, "answered otherwise", "a node whose avroreg was written to past the log stops")
+        self.others_go_on(second)
+        self.rebuild(second, self.nodes[0])
+
+    def older_database(self) -> None:
+        """n3 gets an older database next to its newer position: it has to stop, and the others have to go on."""
+        third = self.nodes[2]
+        third.kill("relay", "registry")
+        old = [it.read_bytes() if it.exists() else b"" for it in third.files()]
+        third.run("registry", "relay")
+        self.register("before-older-database")
+        self.rest()
+        third.kill("relay", "registry")
+        for path, content in zip(third.files(), old):
+            path.write_bytes(content) if content else path.unlink(missing_ok=True)
+        third.run("registry", "relay")
+        self.register("after-older-database")
+        self.until_stopped(third, "answered otherwise", "a node with an older database next to its position stops")
+        self.others_go_on(third)
 
     # --- All of it
 
@@ -219,37 +245,10 @@ class Trial:
             client.join()
             self.wrong += client.wrong
         self.compare_all()
-        self.report(began, ended)
+        self.say(f"\n{table(began, ended, self.faults, self.clients, self.outcome)}\n")
         self.old_node()
         self.changed_node()
-
-    def report(self, began: float, ended: float) -> None:
-        answered = sorted(it.answered for it in self.written)
-        counts = sum((it.counts for it in self.clients), collections.Counter[str]())
-        tally = collections.Counter(name for name, *_ in self.faults)
-        at = [began, *answered[bisect.bisect(answered, began) : bisect.bisect(answered, ended)], ended]
-        seconds = sorted(it for client in self.clients for it in client.seconds)
-        rows = {
-            "seconds": f"{ended - began:.0f}",
-            "faults": f"{len(self.faults)}, of them {sum(it[3] for it in self.faults)} at etcd's leader",
-            "acknowledged writes": len(self.written),
-            "writes without a response": sum(len(it.unanswered) for it in self.clients),
-            "losses": len(self.lost),
-            "duplicates, as versions that the log doesn't give": self.duplicates,
-            "responses that the log doesn't give": len(self.wrongly),
-            "differences between tables": self.differences,
-            "repeats in the log, each without effect": self.fold.repeats(),
-            "fresh reads, all right": counts["fresh reads"],
-            "local reads elsewhere that were stale": counts["stale reads"],
-            "longest time without an acknowledged write": f"{max(b - a for a, b in zip(at, at[1:])):.1f} s",
-            "response times": f"half within {seconds[len(seconds) // 2] * 1000:.0f} ms, 99 of 100 within {seconds[len(seconds) * 99 // 100] * 1000:.0f} ms",
-            "until a node had caught up after a fault": f"at most {max(self.healing):.1f} s",
-        }
-        self.say("\n| | |\n|---|---|")
-        for name, value in rows.items():
-            self.say(f"| {name} | {value} |")
-        self.say("| " + "; ".join(f"{name} {count}" for name, count in sorted(tally.items())) + " | |")
-        self.say("| " + "; ".join(f"{name} {count}" for name, count in sorted(counts.items())) + " | |\n")
+        self.older_database()
 
 
 def main() -> None:

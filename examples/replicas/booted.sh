@@ -1,0 +1,170 @@
+#!/usr/bin/env bash
+# Boots three Debians 12 under systemd, sets them up by the commands of docs/running.md and README.md, and tries the units and
+# the operations on them. Prints a line for each check; the last line is 'N passed, M failed'.
+#
+#   AVROREG=PROGRAM examples/replicas/booted.sh
+#   BASE      a tree of Debian 12 with these packages to copy; by default debootstrap makes one, which needs the network
+#
+# Needs root, and Debian's debootstrap, systemd-container, iproute2 and openssl.
+set -u
+source "$(dirname "$0")/../serving.sh"
+top=$(realpath "$examples/..")
+source "$top/packaging/checks.sh"
+[ -x "$avroreg" ] || fail "there is no program $avroreg; build it, or name it in AVROREG"
+[ "$(id -u)" = 0 ] || fail "namespaces and mounts need root"
+program=$(realpath "$avroreg")
+rmdir "$scratch"
+scratch=$(mktemp -d /var/tmp/avroreg-booted.XXXXXX)
+bridge=avrboot
+packages=systemd,systemd-sysv,dbus,curl,procps,iproute2,python3,etcd-server,openssl,nginx-light
+declare -A leaders=() containers=()
+
+clean_nodes() {
+  local node
+  for node in "${!containers[@]}"; do off "$node"; done
+  ip link del "$bridge" 2>/dev/null
+  rm -rf --one-file-system "$scratch"
+}
+trap clean_nodes EXIT
+trap 'exit 130' INT TERM
+
+# block FILE HEADING: the first block of shell commands after that line of a page.
+block() { awk -v heading="$2" 'index($0, heading) == 1 { on = 1 } on && /^```$/ { exit } inside { print } on && /^```sh$/ { inside = 1 }' "$top/$1"; }
+
+# tree NODE: a Debian with the repository's files, the node's certificate, and a script of the pages' commands.
+tree() {
+  local node=$1 to=$scratch/$1/root/avroreg
+  cp -a "$BASE" "$scratch/$node"
+  echo "$node" >"$scratch/$node/etc/hostname"
+  mkdir -p "$to/crates/avroreg/out"
+  cp "$program" "$to/crates/avroreg/out/avroreg"
+  cp -r "$top/packaging" "$top/examples" "$scratch/tls" "$to/"
+  cat >"$to/etcd.env" <<ENV
+NODE=$node
+PEER=https://10.78.0.${node#n}:2380
+MEMBERS=n1=https://10.78.0.1:2380,n2=https://10.78.0.2:2380,n3=https://10.78.0.3:2380
+STATE=new
+ENV
+  {
+    echo "set -eux; cd /root/avroreg; ip addr add 10.78.0.${node#n}/24 dev host0; ip link set host0 up"
+    block docs/running.md "**On another Linux with systemd**" | sed 's/^curl /curl --retry 9 --retry-connrefused -s -f /'
+    block examples/replicas/README.md "## Set up three nodes" |
+      sed "s,tls/n1\.,tls/$node.,g; s,^editor \(.*\),cp etcd.env \1,; s,\(/etc/avroreg/\)  .*,\1 \&\& sed -i 's/^node = .*/node = \"$node\"/' /etc/avroreg/relay.toml," |
+      sed '/^avroreg-cluster/d'
+  } >"$to/set-up.sh"
+}
+
+# boot NODE: boots its tree. A host that mounts cgroups of version 1 gets a mount namespace with version 2 alone.
+boot() {
+  local node=$1 prepare=: leader _
+  if [ "$(stat -fc %T /sys/fs/cgroup)" != cgroup2fs ]; then
+    prepare='umount -R /sys/fs/cgroup && mount -t cgroup2 cgroup2 /sys/fs/cgroup && mkdir -p /sys/fs/cgroup/$M && echo $$ >/sys/fs/cgroup/$M/cgroup.procs'
+  fi
+  M=avrboot-$node SYSTEMD_SECCOMP=0 unshare -m bash -c "$prepare"' && exec systemd-nspawn "$@"' boot --boot -D "$scratch/$node" --register=no \
+    --keep-unit --network-bridge="$bridge" --console=pipe --capability=all -M "avrboot-$node" >"$scratch/$node.log" 2>&1 </dev/null &
+  containers[$node]=$!
+  for _ in $(seq 600); do
+    leader=$(pgrep -P "${containers[$node]}" -x systemd | head -n 1)
+    leaders[$node]=${leader:-}
+    [ -z "$leader" ] || [[ "$(on "$node" systemctl is-system-running 2>/dev/null)" != @(running|degraded) ]] || return 0
+    kill -0 "${containers[$node]}" 2>/dev/null || break
+    sleep 0.5
+  done
+  tail -n 5 "$scratch/$node.log"
+  return 1
+}
+
+# off NODE: takes its power away.
+off() {
+  [ -z "${containers[$1]:-}" ] || kill -9 "${leaders[$1]:-${containers[$1]}}" 2>/dev/null
+  wait "${containers[$1]:-}" 2>/dev/null
+  unset "containers[$1]"
+}
+
+# on NODE COMMAND..: a command in its booted tree.
+on() {
+  local leader=${leaders[$1]}
+  shift
+  nsenter -t "$leader" -m -u -i -n -p --root="/proc/$leader/root" --wd="/proc/$leader/root" \
+    env -i PATH=/usr/local/bin:/usr/sbin:/usr/bin:/sbin:/bin LANG=C.UTF-8 SYSTEMD_PAGER= "$@"
+}
+
+# asks NODE STATUS TEXT CURL'S ARGUMENT..: whether the node's relay answers so; the last argument is the path.
+asks() {
+  local node=$1 status=$2 text=$3 found
+  shift 3
+  found=$(on "$node" curl -s -m 60 -w '\n%{http_code}' "${@:1:$#-1}" "http://127.0.0.1:8080${*: -1}")
+  echo "$found"
+  [[ $found == *"$text"* && ${found##*$'\n'} == "$status" ]]
+}
+register() { asks "$1" 200 "{\"id\":$3}" -H "Registry-Retry-Key: $2" -d "{\"schema\":\"{\\\"type\\\":\\\"fixed\\\",\\\"name\\\":\\\"F\\\",\\\"size\\\":$3}\"}" "/subjects/$2/versions"; }
+# cluster NODE ARGUMENT..: avroreg-cluster on a node; if it fails, what avroreg wrote.
+cluster() {
+  local node=$1
+  shift
+  on "$node" avroreg-cluster "$@" || { on "$node" journalctl -u avroreg -o short-precise -n 12; return 1; }
+}
+is_healthy() { on "$1" curl -s -f -m 10 http://127.0.0.1:8082/health; }
+user_of() { [ "$(on "$1" ps -o user:20= -p "$(on "$1" systemctl show -P MainPID "$2")")" = "$3" ]; }
+fingerprints() {
+  local found
+  found=$(for node in n1 n2 n3; do on "$node" avroreg-cluster fingerprint || echo none; done | tee /dev/stderr | sort -u)
+  [ "$(wc -l <<<"$found")" = 1 ] && [[ $found != *none* ]]
+}
+
+if [ -z "${BASE:-}" ]; then
+  BASE=$scratch/base
+  debootstrap --variant=minbase --include="$packages" bookworm "$BASE" >"$scratch/debootstrap.log" 2>&1 || fail "debootstrap: $(tail -n 3 "$scratch/debootstrap.log")"
+fi
+"$examples/replicas/certificates.sh" "$scratch/tls" n1=10.78.0.1 n2=10.78.0.2 n3=10.78.0.3
+ip link add "$bridge" type bridge && ip link set "$bridge" up || fail "there is no bridge"
+for node in n1 n2 n3; do
+  tree "$node"
+  check "$node boots" boot "$node" || exit 1
+done
+for node in n1 n2 n3; do
+  on "$node" bash /root/avroreg/set-up.sh >"$scratch/$node.set-up" 2>&1 &
+  set_ups+=($!)
+done
+for node in n1 n2 n3; do
+  check "$node is set up by the commands of the pages" wait "${set_ups[${node#n} - 1]}" || tail -n 5 "$scratch/$node.set-up"
+done
+for node in n1 n2 n3; do
+  check "$node is healthy" eventually 120 is_healthy "$node"
+  check "its units are valid" on "$node" systemd-analyze verify --man=no etcd.service avroreg.service avroreg-relay.service
+  for pair in etcd=etcd avroreg=avroreg avroreg-relay=avroreg-relay; do
+    check "$node: ${pair%=*} runs as its own user" user_of "$node" "${pair%=*}" "${pair#*=}"
+  done
+  check "$node: the relay starts after both" on "$node" bash -c '[[ " $(systemctl show -P After avroreg-relay) " == *" etcd.service "*"avroreg.service "* || " $(systemctl show -P After avroreg-relay) " == *" avroreg.service "*"etcd.service "* ]]'
+done
+check "a write at n1" eventually 60 register n1 a 1
+check "a write at n2" register n2 b 2
+check "a read at n3" asks n3 200 '[1]' -H 'Cache-Control: no-cache' /subjects/a/versions
+for service in etcd avroreg avroreg-relay; do
+  check "$service of n1 is killed, and systemd starts it" on n1 systemctl kill -s KILL "$service"
+  check "n1 is healthy again" eventually 120 is_healthy n1
+done
+off n1
+check "n1 has no power, and n2 takes a write" eventually 60 register n2 c 3
+check "n1 boots" boot n1 || exit 1
+on n1 bash -c 'ip addr add 10.78.0.1/24 dev host0; ip link set host0 up'
+check "n1 is healthy without a command" eventually 120 is_healthy n1
+check "the nodes are equal" fingerprints
+check "a backup of n1" cluster n1 backup /root/backup
+check "n1 is healthy after it" eventually 120 is_healthy n1
+cp -r "$scratch/n1/root/backup" "$scratch/n2/root/"
+check "n2 is rebuilt from it" cluster n2 restore /root/backup
+check "n2 is healthy after it" eventually 120 is_healthy n2
+check "a pause" cluster n3 pause
+for node in n1 n2 n3; do
+  check "$node gets a new program" cluster "$node" upgrade /root/avroreg/crates/avroreg/out/avroreg
+  check "$node is healthy with it" eventually 120 is_healthy "$node"
+done
+check "writes go on" cluster n3 resume
+check "a write at n3" eventually 60 register n3 d 4
+check "entries are trimmed" cluster n3 trim
+check "the nodes are equal" fingerprints
+check "the relay ends by SIGTERM with its position saved" on n1 systemctl stop avroreg-relay
+check "its journal says so" on n1 bash -c "journalctl -u avroreg-relay -o cat | grep -q 'ended at revision'"
+counts
+[ "$failures" = 0 ]

@@ -1,0 +1,23 @@
+# What trial.sh and odd.sh share: it breaks the relay, and runs a script that has to detect that. It is sourced, not run.
+
+# try_breaks KIND "NAME.." COMMAND..: for each break of the kind, or each named one, runs the command with --relay BROKEN. It
+# has to end with status 1 and the report of the break. Ends with status 1 if a break wasn't detected.
+try_breaks() {
+  local kind=$1 names=$2 name report found outcome tried=0 undetected=0
+  shift 2
+  while read -r name report; do
+    [ -z "$names" ] || [[ " $names " == *" $name "* ]] || continue
+    tried=$((tried + 1))
+    "$python" "$here/trial/breaks.py" "$kind" "$name" "$scratch/$name" || fail "the break $name can't be made"
+    "$@" --relay "$scratch/$name/avroreg-relay" </dev/null >"$scratch/$name.log" 2>&1
+    outcome=$?
+    if [ $outcome = 1 ] && found=$(grep -E -m1 "^WRONG:? ($report)" "$scratch/$name.log"); then
+      echo "$name: detected: ${found:0:200}"
+    else
+      echo "$name: NOT DETECTED, status $outcome: $(grep -m1 '^WRONG' "$scratch/$name.log"); $(tail -n 1 "$scratch/$name.log")"
+      undetected=$((undetected + 1))
+    fi
+  done < <("$python" "$here/trial/breaks.py" "$kind")
+  [ $tried != 0 ] || fail "there is no break $names"
+  return $((undetected != 0))
+}

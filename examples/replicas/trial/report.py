@@ -1,0 +1,65 @@
+"""What a trial found, as a table."""
+import bisect
+import collections
+import dataclasses
+from typing import NamedTuple
+
+from trial.clients import Client, Write
+
+
+class Fault(NamedTuple):
+    name: str
+    is_at_leader: bool
+    seconds_until_equal: float  # from its end until each node had caught up
+
+
+@dataclasses.dataclass
+class Outcome:
+    """How often each thing happened that must not happen; and how many entries were repeats, which may."""
+
+    losses: int = 0
+    duplicates: int = 0
+    wrong_responses: int = 0
+    out_of_order: int = 0
+    differences: int = 0
+    repeats: int = 0
+
+
+def table(began: float, ended: float, faults: list[Fault], clients: list[Client], outcome: Outcome) -> str:
+    writes = [it for client in clients for it in client.writes]
+    counts = sum((it.counts for it in clients), collections.Counter[str]())
+    rows = {
+        "seconds": f"{ended - began:.0f}",
+        "faults": f"{len(faults)}, of them {sum(it.is_at_leader for it in faults)} at etcd's leader",
+        "acknowledged writes": len(writes),
+        "writes without a response": sum(len(it.unanswered) for it in clients),
+        "losses": outcome.losses,
+        "duplicates, as versions that the log doesn't give": outcome.duplicates,
+        "responses that the log doesn't give": outcome.wrong_responses,
+        "writes out of order": outcome.out_of_order,
+        "differences between tables": outcome.differences,
+        "repeats in the log, each without effect": outcome.repeats,
+        "fresh reads, all right": counts["fresh reads"],
+        "local reads elsewhere that were stale": counts["stale reads"],
+        "longest time without an acknowledged write": f"{longest_gap(began, ended, writes):.1f} s",
+        "response times": within([it for client in clients for it in client.seconds]),
+        "until each node had caught up after a fault": f"at most {max(it.seconds_until_equal for it in faults):.1f} s",
+        "kinds of faults": listed(collections.Counter(it.name for it in faults)),
+        "what clients saw": listed(counts),
+    }
+    return "\n".join(["| | |", "|---|---|", *(f"| {name} | {value} |" for name, value in rows.items())])
+
+
+def longest_gap(began: float, ended: float, writes: list[Write]) -> float:
+    answered = sorted(it.answered for it in writes)
+    moments = [began, *answered[bisect.bisect(answered, began) : bisect.bisect(answered, ended)], ended]
+    return max(later - earlier for earlier, later in zip(moments, moments[1:]))
+
+
+def within(seconds: list[float]) -> str:
+    found = sorted(seconds)
+    return ", ".join(f"{it} of 100 within {found[len(found) * it // 100] * 1000:.0f} ms" for it in (50, 99))
+
+
+def listed(counts: collections.Counter[str]) -> str:
+    return "; ".join(f"{name} {count}" for name, count in sorted(counts.items()))
