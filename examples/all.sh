@@ -4,7 +4,7 @@
 #
 #   AVROREG=PROGRAM examples/all.sh [NAME]..     NAME is in the first column; default: all
 #
-# The page's script needs an address for localhost in /etc/hosts, which debootstrap doesn't write.
+# The page's script needs an address for localhost in /etc/hosts, which debootstrap doesn't write. The trial of replicas needs root.
 set -u
 source "$(dirname "$0")/serving.sh"
 [ -x "$avroreg" ] || fail "there is no program $avroreg; build it, or name it in AVROREG"
@@ -17,10 +17,13 @@ go="golang-go golang-github-lensesio-schema-registry-dev"
 try first-hour "curl sqlite3" ./first-hour.sh
 try backup "curl python3" backup/try.sh 5
 try watch "curl python3" watch/try.sh
-try check-schemas "curl jq" check-schemas/try.sh
+try check-schemas "curl jq python3-avro" check-schemas/try.sh
 try clients "$python $go" clients/run.sh
+try replay "nginx curl python3 libavro-java libjackson-json-java libslf4j-java" clients/replay.sh
 try from-confluent "curl python3 openssl" from-confluent/try.sh
 try nginx "nginx $python $go" nginx/try.sh
-try nginx-tls "nginx curl openssl" nginx/tls.sh
-try page "nginx curl chromium chromium-driver python3-selenium" page/try.sh
+try nginx-roles "nginx curl jq openssl" nginx/roles.sh
+try nginx-tls "nginx openssl $python" nginx/tls.sh
+try replicas "python3 etcd-server openssl curl iproute2 e2fsprogs" replicas/trial.sh 60
+try page "nginx curl jq chromium chromium-driver python3-selenium" page/try.sh
 sum_up
