@@ -6,8 +6,7 @@
 //! resolves a writer's and a reader's text by `resolves` and by `resolves_plain`. It prints the
 //! numbers of their places, the verdicts and the times. `behind` does the same with each text behind
 //! a cycle of records, for which `resolves` stops and eliminates pairs. `files W R` resolves the
-//! texts of two files. `text F N` reads the text of a file N times and prints no time: for counting
-//! instructions. Times are those of the shortest of many calls. Each measurement ends with the
+//! texts of two files. Times are those of the shortest of many calls. Each measurement ends with the
 //! most memory that the process has held so far.
 //!
 //! `random` resolves 2,000 random pairs, always the same ones, and fails if the two ways disagree.
@@ -138,18 +137,6 @@ fn compare_files(rt: &HostRuntime, words: &[String]) -> Result<()> {
     compare(rt, writer.as_str(), written.as_str(), read.as_str())
 }
 
-/// Reads the text of a file as often as the words say.
-fn read_file(rt: &HostRuntime, words: &[String]) -> Result<()> {
-    let file = words.get(1).context("a file is wanted")?;
-    let text = fs::read_to_string(rt, file.as_str())?;
-    for _call in 0..count_of(words.get(2))?.unwrap_or(1) {
-        if Schema::read(rt.alloc(), text.as_str()).is_err() {
-            println!(rt; "refused")?;
-        }
-    }
-    Ok(())
-}
-
 /// Whether both ways say yes to a random pair; they answer alike, or it is an error.
 fn answer_alike(alloc: Global, pair: u64) -> Result<bool> {
     let writer = random_text(alloc, pair, 1)?;
@@ -242,9 +229,6 @@ fn measure_by(rt: &HostRuntime, words: &[String]) -> Result<()> {
     }
     if word == "files" {
         return compare_files(rt, words);
-    }
-    if word == "text" {
-        return read_file(rt, words);
     }
     let measured = match word {
         "read" => Measured::Reading,
