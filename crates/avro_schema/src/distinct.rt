@@ -1,4 +1,4 @@
-//! Whether none stands twice.
+//! Whether the names or kinds in a list are all different.
 
 ghost use Rattle.std.specs.Prelude.{◌≡◌, ◌==◌, List, ℕ, IfOk, IsTrue, true, map, string_bytes};
 ghost use Rattle.std.specs.Cmp.Lexicographic.{slice_cmp};
@@ -104,7 +104,7 @@ fn hashes_differ<T: Titled>(alloc: Global, items: &[T]) -> Result<bool, AllocErr
 ///
 /// # Errors
 ///
-/// `AllocError` if allocation fails.
+/// `AllocError` if an allocation fails.
 pub fn texts_differ<T: Titled>(alloc: Global, items: &[T]) -> Result<bool, AllocError>
     ensures { IfOk result (λ b. b ≡ all_differ bytes_eq (map T.title_of items.now)) }
 {
@@ -116,11 +116,11 @@ pub fn texts_differ<T: Titled>(alloc: Global, items: &[T]) -> Result<bool, Alloc
     Ok(texts_rise(&titles))
 }
 
-/// Whether no kind of a branch, its second part, stands twice.
+/// Whether the kinds of the branches, their second parts, are all different.
 ///
 /// # Errors
 ///
-/// `AllocError` where memory for a list of them is refused.
+/// `AllocError` if an allocation fails.
 pub fn kinds_differ(alloc: Global, branches: &[(u32, u64)]) -> Result<bool, AllocError>
     ensures { IfOk result (λ b. b ≡ all_differ (λ a c. a == c) (map (λ p. p.1) branches.now)) }
 {

@@ -193,7 +193,7 @@ fn nodes_ranks(
 ///
 /// # Errors
 ///
-/// `AllocError` where memory for it is refused.
+/// `AllocError` if an allocation fails.
 pub fn index_of(alloc: Global, nodes: &[Node]) -> Result<Index, AllocError>
     ensures { IfOk result (IsIndex (nodes_view nodes.now)) }
 {

@@ -56,7 +56,7 @@ fn hints_of(alloc: Global, sorted: &[(&str, usize)]) -> Result<Vec<u32>, AllocEr
 ///
 /// # Errors
 ///
-/// `AllocError` if allocation fails.
+/// `AllocError` if an allocation fails.
 pub fn sorted_once<'a>(
     alloc: Global,
     texts: Vec<&'a str>,
@@ -77,7 +77,7 @@ pub fn sorted_once<'a>(
 ///
 /// # Errors
 ///
-/// `AllocError` where memory for them is refused.
+/// `AllocError` if an allocation fails.
 pub fn owned(alloc: Global, texts: &[&str]) -> Result<Vec<String>, AllocError>
     ensures { IfOk result (λ v. texts_view v.items ≡ borrowed texts.now) }
 {
@@ -120,7 +120,7 @@ pub fn rank_of(names: &[&str], hints: &mut Iter<'_, u32>, text: &str) -> u32
 ///
 /// # Errors
 ///
-/// `AllocError` where memory for them is refused.
+/// `AllocError` if an allocation fails.
 pub fn ranks_of(
     alloc: Global,
     names: &[&str],
@@ -142,7 +142,7 @@ pub fn ranks_of(
 ///
 /// # Errors
 ///
-/// `AllocError` where memory for them is refused.
+/// `AllocError` if an allocation fails.
 pub fn rising_ranks_of(
     alloc: Global,
     names: &[&str],

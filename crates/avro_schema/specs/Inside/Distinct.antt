@@ -1,4 +1,4 @@
--- Whether none stands twice.
+-- Whether the elements of a list are all different.
 use Rattle.std.specs.Prelude.{ℕ, ◌+◌, ◌*◌, ◌%◌, ◌^◌, List, [], ◌∷◌, Bool, true, false, not, cond, ◌&&◌, fold}
 
 -- whether each is new: neither seen nor before it in the list
