@@ -21,6 +21,7 @@ import time
 HERE = pathlib.Path(__file__).resolve().parent.parent
 sys.path.insert(0, str(HERE))
 
+from trial.local import Node  # noqa: E402
 from trial.steps import FAULTS, Wrong, ask, check, end_on_sigterm, schema  # noqa: E402
 from trial.through_nginx import ThroughNginx  # noqa: E402
 
@@ -68,8 +69,12 @@ class Operations(ThroughNginx):
         self.command(second, "adopt", copy)
         self.command(third, "adopt", copy)
         check(self.register(third, 2) == [5, 6], "ids go on after those of the file")
-        status, body = ask(second, "POST", "/subjects/old2/versions", schema(1002), **{"Registry-Retry-Key": "old2"})
-        check((status, body) == (200, b'{"id":3}'), "a retry of a write to the single avroreg gets its first response")
+        self.retry(second, "old2", "old2", schema(1002), 3, "a retry of a write to the single avroreg gets its first response")
+
+    def retry(self, node: Node, subject: str, key: str, body: bytes, number: int, what: str) -> None:
+        """Sends a registration again, expects the id of its first response, and waits until the nodes are equal."""
+        response = ask(node, "POST", f"/subjects/{subject}/versions", body, **{"Registry-Retry-Key": key})
+        check(response == (200, b'{"id":%d}' % number), what)
         self.meet()
 
     def replace(self) -> None:
@@ -222,9 +227,7 @@ class Operations(ThroughNginx):
             self.command(node, "adopt", backup / "registry.db")
         self.meet()
         check(self.register(self.nodes[2], 1) == [ids[-1] + 1], "ids go on after those of the backup")
-        status, body = ask(self.nodes[0], "POST", "/subjects/s2/versions", schema(2), **{"Registry-Retry-Key": "k2"})
-        check((status, body) == (200, b'{"id":2}'), "a retry of an old write gets its first response")
-        self.meet()
+        self.retry(self.nodes[0], "s2", "k2", schema(2), 2, "a retry of an old write gets its first response")
 
     def tampered(self) -> None:
         """Somebody writes to n2's database past the log; and then changes a row that no write depends on."""
