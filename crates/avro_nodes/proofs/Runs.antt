@@ -26,7 +26,7 @@ other_next : (q : Quoting) (c : ℕ) (cs : List ℕ) → (is_outside q && is_num
 unfolding pieces joined
 other_next q c cs e = rw e refl
 
-range_more : (xs : List ℕ) (i j : ℕ) → i ≤ j → j < length xs → slice_range xs i (j + 1) ≡ slice_range xs i j ++ get_or xs j 0 ∷ []
+pub range_more : (xs : List ℕ) (i j : ℕ) → i ≤ j → j < length xs → slice_range xs i (j + 1) ≡ slice_range xs i j ++ get_or xs j 0 ∷ []
 range_more xs i j a b =
     let one : j + 1 - i ≡ suc (j - i) = omega arith in
     let there : i + (j - i) ≡ j = omega arith in
@@ -38,7 +38,7 @@ other_more bs from at q a b e =
     rw (range_more bs from at a b, drop_item bs at 0 b, other_next q (get_or bs at 0) (drop (at + 1) bs) e)
     (sym (before_before (slice_range bs from at) (get_or bs at 0 ∷ []) (joined (pieces (after q (get_or bs at 0)) (drop (at + 1) bs)))))
 
-range_join : (xs : List ℕ) (i j k : ℕ) → i ≤ j → j ≤ k → slice_range xs i j ++ slice_range xs j k ≡ slice_range xs i k
+pub range_join : (xs : List ℕ) (i j k : ℕ) → i ≤ j → j ≤ k → slice_range xs i j ++ slice_range xs j k ≡ slice_range xs i k
 range_join xs i j k a b =
     let total : k - i ≡ (j - i) + (k - j) = omega arith in
     let there : i + (j - i) ≡ j = omega arith in

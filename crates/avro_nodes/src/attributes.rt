@@ -23,6 +23,9 @@ fn write_before(out: &mut Compact, others: &mut Others<'_>, key: &str) -> Result
     ensures { OnOk result (WritesBefore key.now (members_view others.old)
         (members_view others.new) out.old out.new) }
 {
+    if others.len() == 0 {
+        return Ok(());
+    }
     for (name, value) in others.clone()? {
         match key.cmp(name.as_str()) {
             Ordering::Less => return Ok(()),

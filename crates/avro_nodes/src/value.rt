@@ -73,6 +73,9 @@ pub(crate) fn write_member(out: &mut Compact, name: &str, value: &Value) -> Resu
 pub(crate) fn write_rest(out: &mut Compact, others: Others<'_>) -> Result<(), AllocError>
     ensures { OnOk result (Ends (members_view others.entry) out.old out.new) }
 {
+    if others.len() == 0 {
+        return out.end_object();
+    }
     for (name, value) in others {
         write_member(out, name.as_str(), value)?;
     }

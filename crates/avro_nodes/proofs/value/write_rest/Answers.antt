@@ -1,4 +1,5 @@
-use Rattle.std.proofs.Common.{List, sym, subst}
+use Rattle.std.proofs.Common.{◌≡◌, List, [], sym, subst, arith}
+use Rattle.std.proofs.lemmas.List.{nil_from_length}
 use Rattle.std.proofs.lemmas.Result.{on_ok_weaker}
 use Rattle.serde_json.specs.View.{members_view}
 use Rattle.serde_json.proofs.Views.{Entry}
@@ -15,6 +16,11 @@ loop-name-preserved c = λ end rest.
 pub returns : goal.returns
 returns c =
     let l = c.loop-name in
-    on_ok_weaker c.end_object.result (λ e.
-    subst (λ (es : List Entry). Ends (members_view es) c.args.out.now c.end_object.new.self) c.into_iter-name-iterator.ensures.into_iter_gives
-    (l.invariant _ (subst (λ (es : List Entry). Ends (members_view es) l.out c.end_object.new.self) (sym c.in-None.ensures.steps.0) (members_ended _ _ e)))) c.end_object.ensures
+    on_ok_weaker c.end_object-2.result (λ e.
+    subst (λ (es : List Entry). Ends (members_view es) c.args.out.now c.end_object-2.new.self) c.into_iter-name-iterator.ensures.into_iter_gives
+    (l.invariant _ (subst (λ (es : List Entry). Ends (members_view es) l.out c.end_object-2.new.self) (sym c.in-None.ensures.steps.0) (members_ended _ _ e)))) c.end_object-2.ensures
+
+pub returns-then-len-eq0 : goal.returns-then-len-eq0
+returns-then-len-eq0 c =
+    let nothing : c.args.others ≡ [] = nil_from_length c.args.others (omega (arith, c.len.ensures.value)) in
+    on_ok_weaker c.end_object.result (λ e. subst (λ (es : List Entry). Ends (members_view es) c.args.out.now c.end_object.new.self) (sym nothing) (members_ended _ _ e)) c.end_object.ensures
