@@ -16,7 +16,7 @@ use Rattle.avro_schema.specs.declared.words.Container.TheVariants.{Items as of_i
 use Rattle.avro_schema.specs.Inside.Types.{key_of}
 use Rattle.avro_schema.specs.Inside.Reserved.{is_reserved, is_reserved_name}
 use Rattle.avro_schema.specs.Inside.Borrowed.{put_all, value_data}
-use Rattle.avro_schema.proofs.PutLemmas.{flip, put_apart, put_aside, put_again, nothing_there}
+use Rattle.avro_schema.proofs.PutLemmas.{flip, put_apart, put_aside, nothing_there}
 use Rattle.avro_schema.proofs.RoundMembers.{without-put}
 
 abbrev pub Entry : Type 0
@@ -144,14 +144,9 @@ taken_out k xs i x found at is none o =
 
 -- ---- what is added
 
-pushed : (ms : List Entry) (m : Entry) (found : Members) → put_all (read_of (ms ++ m ∷ [])) found ≡ with_one (m.0, value_data m.1) (put_all (read_of ms) found)
+pub pushed : (ms : List Entry) (m : Entry) (found : Members) → put_all (read_of (ms ++ m ∷ [])) found ≡ with_one (m.0, value_data m.1) (put_all (read_of ms) found)
 pushed [] m found = refl
 pushed (n ∷ ms) m found = pushed ms m (with_one (n.0, value_data n.1) found)
-
--- a reserved name that was left out before
-pub reserved_put : (ms : List Entry) (m : Entry) (found before : Members) → is_reserved m.0.now ≡ true → put_all (read_of ms) found ≡ without m.0.now before → AreOrdered before
-    → put_all (read_of (ms ++ m ∷ [])) found ≡ put m.0.now (value_data m.1) before
-reserved_put ms m found before r e o = pushed ms m found ∙ rw r (ap (put m.0.now (value_data m.1)) e ∙ put_again m.0.now (value_data m.1) before o)
 
 one_aside : (c : Bool) (k l : List ℕ) (d e : Data) (found : Members) → is_reserved l ≡ c → is_reserved k ≡ false → cond c (put l e (put k d found)) (put k d found) ≡ put k d (cond c (put l e found) found)
 one_aside true k l d e found is r =

@@ -65,29 +65,3 @@ rest_is false (c ∷ cs) = gone_on (is_dot c) c cs (λ fresh. rest_is fresh cs)
 pub dotted_is : (text : List ℕ) → is_dotted text ≡ is_rest true text
 unfolding is_dotted are_parts
 dotted_is text = sym (rest_is true text)
-
--- ---- a simple name has no dot, and is dotted
-
-parts_at : (dot : Bool) (c : ℕ) (cs : List ℕ) → is_dot c ≡ dot → list_all is_part cs ≡ (is_rest false cs && not (list_any is_dot cs))
-    → (is_part c && list_all is_part cs) ≡ (cond dot (is_rest true cs) (is_part c && is_rest false cs) && not (dot || list_any is_dot cs))
-parts_at true c cs e rest = rw (not_part c e) (sym (and_false (is_rest true cs)))
-parts_at false c cs e rest = ap (λ b. is_part c && b) rest ∙ sym (and_again (is_part c) (is_rest false cs) (not (list_any is_dot cs)))
-
-parts_only : (cs : List ℕ) → list_all is_part cs ≡ (is_rest false cs && not (list_any is_dot cs))
-unfolding is_rest
-parts_only [] = refl
-parts_only (c ∷ cs) = parts_at (is_dot c) c cs refl (parts_only cs)
-
-simple_at : (dot : Bool) (c : ℕ) (cs : List ℕ) → is_dot c ≡ dot → (is_start c && list_all is_part cs) ≡ ((is_start c && is_rest false cs) && not (dot || list_any is_dot cs))
-simple_at true c cs e = rw (not_start c e) refl
-simple_at false c cs e = ap (λ b. is_start c && b) (parts_only cs) ∙ sym (and_again (is_start c) (is_rest false cs) (not (list_any is_dot cs)))
-
-simple_rest : (text : List ℕ) → is_simple text ≡ (is_rest true text && not (list_any is_dot text))
-unfolding is_simple is_rest
-simple_rest [] = refl
-simple_rest (c ∷ cs) = simple_at (is_dot c) c cs refl
-
--- a simple name is a dotted one without a dot
-pub simple_is : (text : List ℕ) → is_simple text ≡ (is_dotted text && not (has_dot text))
-unfolding has_dot
-simple_is text = simple_rest text ∙ ap (λ b. b && not (list_any is_dot text)) (sym (dotted_is text))

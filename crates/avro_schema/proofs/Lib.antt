@@ -19,6 +19,7 @@ pub mod TextLemmas
 pub mod RoundMembers
 pub mod ReservedLemmas
 pub mod PutLemmas
+pub mod TypeApart
 pub mod BorrowedMembers
 pub mod BorrowedReads
 pub mod RoundNames

@@ -4,7 +4,7 @@
 ghost use Rattle.std.specs.Prelude.{◌≡◌, ◌<◌, None, Some, IsTrue, MatchOption, length, option_map, option_and_then, slice_get, OnOk, not, filter};
 ghost use Rattle.std.specs.List.{list_any};
 ghost use Rattle.std.specs.Str.{bytes_eq};
-ghost use Rattle.serde_json.specs.Data.{put, no_members};
+ghost use Rattle.serde_json.specs.Data.{Data, put, no_members};
 ghost use Rattle.serde_json.specs.Find.{get_member, as_str, as_array, as_object, as_number, as_u64};
 ghost use Rattle.avro_schema.specs.Attributes.{without};
 ghost use Rattle.avro_schema.specs.Inside.Reserved.{is_reserved, is_reserved_name};
@@ -200,6 +200,19 @@ pub fn make_room<T>(list: &mut Vec<T>) -> Result<(), AllocError>
     Ok(())
 }
 
+/// Drops the attribute of this reserved name, of which there rarely is one.
+fn drop_member(attributes: &mut Attributes<'_>, key: &str)
+    requires { IsTrue (is_reserved_name key.now) }
+    ensures { (value : Data) → put key.now value (members_data attributes.new)
+        ≡ put key.now value (members_data attributes.old) }
+{
+    let Some(at) = last_at(attributes, key) else {
+        return;
+    };
+    drop(attributes.reserved.remove(at));
+    leave_out(&mut attributes.reserved, key);
+}
+
 /// Adds an attribute of a reserved name, or replaces the one of this name.
 ///
 /// # Errors
@@ -214,7 +227,7 @@ pub fn put_reserved<'a>(
     ensures { OnOk result (members_data attributes.new
         ≡ put key.now (value_data value.entry) (members_data attributes.old)) }
 {
-    drop(take(attributes, key));
+    drop_member(attributes, key);
     make_room(&mut attributes.reserved)?;
     attributes.reserved.push((key, value))?;
     Ok(())

@@ -1,6 +1,7 @@
 //! Names and namespaces.
 
 ghost use Rattle.std.specs.Prelude.{◌≡◌, ◌<◌, length, IfOk, option_map, string_bytes};
+ghost use Rattle.std.specs.List.{list_all};
 ghost use Rattle.avro_schema.specs.Names.{is_start, is_part, is_dotted, is_simple, joined, is_space, full_name, alias_in};
 ghost use Rattle.avro_schema.specs.Inside.NameTables.{without_space};
 
@@ -17,6 +18,12 @@ fn is_part(c: u8) -> bool
     ensures { result ≡ is_part c }
 {
     is_start(c) || c.is_ascii_digit()
+}
+
+fn are_parts(bytes: &[u8]) -> bool
+    ensures { result ≡ list_all is_part bytes.now }
+{
+    bytes.iter().all(|c| is_part(*c))
 }
 
 /// Whether these are simple names joined by dots.
@@ -41,10 +48,14 @@ pub fn is_dotted(text: &str) -> bool
 }
 
 /// Whether this is a simple name: one without a dot.
+#[tactic(auto, unfolding(crate::specs::Names::is_simple))]
 pub fn is_simple(text: &str) -> bool
     ensures { result ≡ is_simple text.now }
 {
-    is_dotted(text) && !has_dot(text)
+    match text.as_bytes() {
+        [] => false,
+        [first, rest @ ..] => is_start(*first) && are_parts(rest),
+    }
 }
 
 /// Whether this is a namespace: the null one, or simple names joined by dots.

@@ -289,8 +289,10 @@ fn field_at(
     let Some(mut rest) = members_of(value) else {
         return Err(SchemaError::BadShape);
     };
+    // most fields have a name and then a type, and what is last is found first
+    let inner = take(&mut rest, "type");
     let label = label_of(alloc, &mut rest)?;
-    let Some(inner) = take(&mut rest, "type") else {
+    let Some(inner) = inner else {
         return Err(SchemaError::BadShape);
     };
     let extra = other_attributes(alloc, rest)?;

@@ -1,4 +1,4 @@
-use Rattle.std.proofs.Common.{◌≡◌, length, map, string_bytes, bytes_eq, sym, ap, ◌∙◌, arith, rules}
+use Rattle.std.proofs.Common.{◌≡◌, length, map, option_map, string_bytes, bytes_eq, sym, ap, ◌∙◌, arith, rules}
 use Rattle.std.proofs.lemmas.List.{map_push}
 use Rattle.serde_json.specs.Data.{null, boolean, number, string, array, object}
 use Rattle.serde_json.specs.View.{number_view}
@@ -17,6 +17,7 @@ use Rattle.avro_schema.proofs.Sequence.{at_start, one_more, nodes_push, length-n
 use Rattle.avro_schema.proofs.ReaderCases.{too_deep, type_string, type_array, type_object, type_null, type_boolean, type_number, no_word, object_is, reference_unbound, reference_is}
 use Rattle.avro_schema.proofs.ReaderCases.{container_past, nothing_held, container_unbound, held_fails, container_done, union_past, branches_fail, branches_alike, union_done, branch_fails, is_no_branch, is_branch}
 use Rattle.avro_schema.proofs.ReaderCases.{no_object, no_label, no_type, field_unbound, field_fails, field_is, record_past, no_named, no_fields, record_unbound, fields_fail, fields_alike, record_done}
+use Rattle.avro_schema.proofs.TypeApart.{label_apart, type_apart, rest_apart}
 use Rattle.avro_schema.proofs.reading.+read.Goals as goal
 
 -- ---- a type
@@ -220,32 +221,42 @@ field_at-returns-in_default-clause-read t c = no_object _ _ _ _ (sym c.in_defaul
 
 pub field_at-returns-in_err-label-clause-read : goal.field_at-returns-in_err-label-clause-read
 field_at-returns-in_err-label-clause-read t c =
-    reads_exit _ _ _ _ _ _ _ c.from_residual.ensures.1 (fails_from _ _ _ (no_label _ _ _ _ _ (sym c.in-Some.ensures)) c.in_err-label.ensures.label)
+    let same = label_apart _ _ _ (sym c.in-Some.ensures) c.take-inner.ensures.rest in
+    let label = rw same at c.in_err-label.ensures.label in
+    reads_exit _ _ _ _ _ _ _ c.from_residual.ensures.1 (fails_from _ _ _ (no_label _ _ _ _ _ (sym c.in-Some.ensures)) label)
 
-pub field_at-returns-in_default-take-clause-read : goal.field_at-returns-in_default-take-clause-read
-field_at-returns-in_default-take-clause-read t c =
-    no_type _ _ _ _ _ (sym c.in-Some.ensures) _ c.in_ok-label.ensures.label (rw c.in_ok-label.ensures.rest at (sym c.in_default-take.ensures.value))
+pub field_at-returns-in_default-inner-clause-read : goal.field_at-returns-in_default-inner-clause-read
+field_at-returns-in_default-inner-clause-read t c =
+    let same = label_apart _ _ _ (sym c.in-Some.ensures) c.take-inner.ensures.rest in
+    let label = rw same at c.in_ok-label.ensures.label in
+    no_type _ _ _ _ _ (sym c.in-Some.ensures) _ label (type_apart _ _ _ (sym c.in-Some.ensures) c.take-inner.ensures.rest ∙ sym c.take-inner.ensures.value ∙ ap (option_map value_data) c.in_default-inner.is)
 
 pub field_at-returns-in_err-extra-clause-read : goal.field_at-returns-in_err-extra-clause-read
 field_at-returns-in_err-extra-clause-read t c =
-    let typed = rw c.in_ok-label.ensures.rest at (sym c.in-Some-take.ensures.value) in
-    let rest = rw c.in_ok-label.ensures.rest at c.in-Some-take.ensures.rest in
+    let same = label_apart _ _ _ (sym c.in-Some.ensures) c.take-inner.ensures.rest in
+    let label = rw same at c.in_ok-label.ensures.label in
+    let typed = type_apart _ _ _ (sym c.in-Some.ensures) c.take-inner.ensures.rest ∙ sym c.take-inner.ensures.value ∙ ap (option_map value_data) c.in-Some-inner.is in
+    let rest = c.in_ok-label.ensures.rest ∙ rest_apart _ _ _ (sym c.in-Some.ensures) c.take-inner.ensures.rest in
     reads_exit _ _ _ _ _ _ _ c.from_residual-in_err-extra.ensures.1
-    (fails_from _ _ _ (field_unbound _ _ _ _ _ (sym c.in-Some.ensures) _ c.in_ok-label.ensures.label _ typed) (rw rest at c.in_err-extra.ensures))
+    (fails_from _ _ _ (field_unbound _ _ _ _ _ (sym c.in-Some.ensures) _ label _ typed) (rw rest at c.in_err-extra.ensures))
 
 pub field_at-returns-in_err-place-clause-read : goal.field_at-returns-in_err-place-clause-read
 field_at-returns-in_err-place-clause-read t c =
-    let typed = rw c.in_ok-label.ensures.rest at (sym c.in-Some-take.ensures.value) in
-    let rest = rw c.in_ok-label.ensures.rest at c.in-Some-take.ensures.rest in
+    let same = label_apart _ _ _ (sym c.in-Some.ensures) c.take-inner.ensures.rest in
+    let label = rw same at c.in_ok-label.ensures.label in
+    let typed = type_apart _ _ _ (sym c.in-Some.ensures) c.take-inner.ensures.rest ∙ sym c.take-inner.ensures.value ∙ ap (option_map value_data) c.in-Some-inner.is in
+    let rest = c.in_ok-label.ensures.rest ∙ rest_apart _ _ _ (sym c.in-Some.ensures) c.take-inner.ensures.rest in
     reads_exit _ _ _ _ _ _ _ c.from_residual-in_err-place.ensures.1
-    (fails_from _ _ _ (field_fails _ _ _ _ _ (sym c.in-Some.ensures) _ c.in_ok-label.ensures.label _ typed _ (rw rest at c.in_ok-extra.ensures)) c.in_err-place.ensures.read)
+    (fails_from _ _ _ (field_fails _ _ _ _ _ (sym c.in-Some.ensures) _ label _ typed _ (rw rest at c.in_ok-extra.ensures)) c.in_err-place.ensures.read)
 
 pub field_at-returns-clause-read : goal.field_at-returns-clause-read
 field_at-returns-clause-read t c =
-    let typed = rw c.in_ok-label.ensures.rest at (sym c.in-Some-take.ensures.value) in
-    let rest = rw c.in_ok-label.ensures.rest at c.in-Some-take.ensures.rest in
+    let same = label_apart _ _ _ (sym c.in-Some.ensures) c.take-inner.ensures.rest in
+    let label = rw same at c.in_ok-label.ensures.label in
+    let typed = type_apart _ _ _ (sym c.in-Some.ensures) c.take-inner.ensures.rest ∙ sym c.take-inner.ensures.value ∙ ap (option_map value_data) c.in-Some-inner.is in
+    let rest = c.in_ok-label.ensures.rest ∙ rest_apart _ _ _ (sym c.in-Some.ensures) c.take-inner.ensures.rest in
     rw c.field_from.ensures
-    (field_is _ _ _ _ _ (sym c.in-Some.ensures) _ c.in_ok-label.ensures.label _ typed _ (rw rest at c.in_ok-extra.ensures) _ _ _ _ c.in_ok-place.ensures.read)
+    (field_is _ _ _ _ _ (sym c.in-Some.ensures) _ label _ typed _ (rw rest at c.in_ok-extra.ensures) _ _ _ _ c.in_ok-place.ensures.read)
 
 pub fields_at-loop-item-init : goal.fields_at-loop-item-init
 fields_at-loop-item-init t c = (rw c.in_ok-fields.ensures.items (at_start _ _ _ _ _), search rules, keeps_same c.args.known.now)
