@@ -2,6 +2,7 @@ pub mod Examples
 pub mod RegisterExamples
 pub mod ModeExamples
 pub mod Arrays
+pub mod Quoting
 pub mod OwnReplies
 pub mod ModeLemmas
 pub mod UnchangedRegistries

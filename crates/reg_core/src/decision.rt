@@ -35,6 +35,7 @@ mod comparing;
 mod deleting;
 mod modes;
 mod needs;
+mod quoting;
 mod reading;
 mod registering;
 mod rows;

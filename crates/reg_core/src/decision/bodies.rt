@@ -6,9 +6,11 @@ ghost use Rattle.serde_json.specs.Written.{compact_text, has_float};
 ghost use Rattle.reg_core.specs.Bodies.{number_body, numbers_body, subject_version_data, subject_versions_body, schema_body, texts_body, version_body};
 ghost use Rattle.reg_core.specs.Replies.{answer};
 
+use crate::decision::quoting::quoted;
 use crate::reply::Reply;
 use crate::row::Row;
 use avro_nodes::OutOfMemory;
+use itoa::Buffer;
 use serde_json::{Value, json};
 use std::alloc::Global;
 
@@ -16,20 +18,33 @@ use std::alloc::Global;
 pub fn schema_reply(alloc: Global, text: &str) -> Result<Reply, OutOfMemory>
     ensures { IfOk result (λ reply. reply ≡ answer (schema_body text.now)) }
 {
-    let object = json!(in alloc; {"schema": text})?;
-    value_reply(alloc, object)
+    let schema = quoted(alloc, text)?;
+    let mut body = String::with_capacity(alloc, schema.len() + 11)?;
+    body.push_str("{\"schema\":")?;
+    body.push_str(schema.as_str())?;
+    body.push_str("}")?;
+    Ok(Reply::answer(body))
 }
 
 /// A version with the identity text of its schema.
 pub fn version_reply(alloc: Global, row: &Row, text: &str) -> Result<Reply, OutOfMemory>
     ensures { IfOk result (λ reply. reply ≡ answer (version_body row.now text.now)) }
 {
-    let id = row.id();
-    let subject = row.subject().as_str();
-    let version = row.version();
-    let object =
-        json!(in alloc; {"id": id, "schema": text, "subject": subject, "version": version})?;
-    value_reply(alloc, object)
+    let schema = quoted(alloc, text)?;
+    let subject = quoted(alloc, row.subject().as_str())?;
+    let mut id = Buffer::new();
+    let mut version = Buffer::new();
+    let mut body = String::with_capacity(alloc, schema.len().saturating_add(subject.len() + 64))?;
+    body.push_str("{\"id\":")?;
+    body.push_str(id.format(row.id()))?;
+    body.push_str(",\"schema\":")?;
+    body.push_str(schema.as_str())?;
+    body.push_str(",\"subject\":")?;
+    body.push_str(subject.as_str())?;
+    body.push_str(",\"version\":")?;
+    body.push_str(version.format(row.version()))?;
+    body.push_str("}")?;
+    Ok(Reply::answer(body))
 }
 
 /// An array of texts.

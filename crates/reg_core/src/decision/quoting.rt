@@ -1,0 +1,67 @@
+//! Texts as JSON strings.
+
+ghost use Rattle.std.specs.Prelude.{◌≡◌, ◌≤◌, ◌<◌, ◌==◌, ◌||◌, true, length, nat_lt, slice_index, slice_range, string_bytes, IfOk};
+ghost use Rattle.json.specs.Print.{escape, quoted};
+
+use serde_json::Value;
+use std::alloc::{AllocError, Global};
+
+/// Whether a byte of a JSON string may have to be escaped.
+fn is_mark(byte: u8) -> bool
+    ensures { result ≡ (byte == 34 || (byte == 92 || nat_lt byte 32)) }
+{
+    byte == b'"' || byte == b'\\' || byte < b' '
+}
+
+/// Where the first byte that may have to be escaped is, from a byte on.
+fn next_mark(bytes: &[u8], from: usize) -> usize
+    requires { from ≤ length bytes.now }
+    ensures place { (from ≤ result) × (result ≤ length bytes.now) }
+    ensures found { result < length bytes.now
+        → (slice_index bytes.now result == 34 || (slice_index bytes.now result == 92 || nat_lt (slice_index bytes.now result) 32)) ≡ true }
+    ensures plain { escape (slice_range bytes.now from result) ≡ slice_range bytes.now from result }
+{
+    let mut at = from;
+    while at < bytes.len() {
+        if is_mark(bytes[at]) {
+            return at;
+        }
+        at += 1;
+    }
+    at
+}
+
+/// Any text as a JSON string.
+fn quoted_slowly(alloc: Global, text: &str) -> Result<String, AllocError>
+    ensures { IfOk result (λ s. string_bytes s ≡ quoted text.now) }
+{
+    Value::String(String::from_str(alloc, text)?).to_string(alloc)
+}
+
+/// A text as a JSON string, with its quotation marks. A schema's text has no control character, and
+/// up to a quarter of it are quotation marks. So each run of bytes without a mark is copied at once.
+///
+/// # Errors
+///
+/// `AllocError` if an allocation fails.
+pub fn quoted(alloc: Global, text: &str) -> Result<String, AllocError>
+    ensures { IfOk result (λ s. string_bytes s ≡ quoted text.now) }
+{
+    let bytes = text.as_bytes();
+    let mut out = String::with_capacity(alloc, bytes.len() + bytes.len() / 4 + 2)?;
+    out.push_str("\"")?;
+    let mut from = 0;
+    let mut mark = next_mark(bytes, 0);
+    while mark < bytes.len() {
+        if bytes[mark] < b' ' {
+            return quoted_slowly(alloc, text);
+        }
+        out.push_str(&text[from..mark])?;
+        out.push_str("\\")?;
+        from = mark;
+        mark = next_mark(bytes, mark + 1);
+    }
+    out.push_str(&text[from..])?;
+    out.push_str("\"")?;
+    Ok(out)
+}
