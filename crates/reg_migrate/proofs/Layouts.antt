@@ -6,36 +6,35 @@ use Rattle.sqlite.specs.Schema.{Schema}
 use Rattle.sqlite.specs.Effect.{Database}
 use Rattle.sqlite.specs.State.{State}
 use Rattle.sqlite.specs.declared.error.Error.{Error}
-use Rattle.reg_tables.specs.Layout.{layout, unindexed, IsLayout}
-use Rattle.reg_tables.specs.SecondLayout.{second}
+use Rattle.reg_tables.specs.Layout.{layout_one, layout_one_unindexed, layout_two, IsLayoutOne}
 use Rattle.reg_tables.specs.Contents.{HoldsIn}
-use Rattle.reg_tables.specs.SecondContents.{HoldsAllIn}
+use Rattle.reg_tables.specs.Changes.{numbered_layout_two}
 use Rattle.reg_tables.specs.FailedCalls.{IsWriteFault, IsInsertFault}
-use Rattle.reg_migrate.specs.Inside.{CanMove, HasFirst, HoldsMoved, MovesBy, TakesMoved, moved}
+use Rattle.reg_migrate.specs.Inside.{CanMove, HasLayoutOne, HoldsMoved, MovesBy, TakesMoved}
 
 -- what is held under one schema of layout 1 is held under the one that the database has
-pub holds_under : (schema : Schema) (db : Database) → db.schema ≡ schema → (it : HasFirst db) → HoldsIn schema db it.contents
+pub holds_under : (schema : Schema) (db : Database) → db.schema ≡ schema → (it : HasLayoutOne db) → HoldsIn schema db it.contents
 holds_under schema db is it = subst (λ x. HoldsIn x db it.contents) (sym it.holds.declared ∙ is) it.holds
 
 -- layout 1 without the index missing has it
-pub is_indexed : (db : Database) → db.schema ≢ unindexed → HasFirst db → db.schema ≡ layout
+pub is_indexed : (db : Database) → db.schema ≢ layout_one_unindexed → HasLayoutOne db → db.schema ≡ layout_one
 is_indexed db other it = elim it.known [
   | inl has ↦ it.holds.declared ∙ has
   | inr lacks ↦ absurd (other (it.holds.declared ∙ lacks))
 ]
 
 -- a schema of layout 1 that doesn't lack the index has it
-pub one_of_two : (schema : Schema) → IsLayout schema → (schema ≢ unindexed) → schema ≡ layout
+pub one_of_two : (schema : Schema) → IsLayoutOne schema → (schema ≢ layout_one_unindexed) → schema ≡ layout_one
 one_of_two schema (inl has) other = has
 one_of_two schema (inr lacks) other = absurd (other lacks)
 
 -- what was moved from the schema that the database has was moved from either
-pub moves_both : (schema : Schema) (before now : Database) → ((other : Schema) → IsLayout other → before.schema ≡ other → other ≡ schema) → MovesBy schema before now → HoldsMoved before now
+pub moves_both : (schema : Schema) (before now : Database) → ((other : Schema) → IsLayoutOne other → before.schema ≡ other → other ≡ schema) → MovesBy schema before now → HoldsMoved before now
 moves_both schema before now one moves other known contents holds = moves contents (subst (λ x. HoldsIn x before contents) (one other known holds.declared) holds)
 
 -- over a connection that is shut a write fails by a fault, and over an open one as it says
 pub fails_either : {X : Type 0} (old new : State) (r : Result X Error) → IfErr r (λ e. IsTrue old.is_open ⊎ IsWriteFault old new e)
-    → IfErr r (λ e. HasFirst old.now → IsInsertFault old new e) → IfErr r (λ e. CanMove old → IsInsertFault old new e)
+    → IfErr r (λ e. HasLayoutOne old.now → IsInsertFault old new e) → IfErr r (λ e. CanMove old → IsInsertFault old new e)
 fails_either old new (Ok x) shut fails = tt
 fails_either old new (Err e) (inl is_open) fails = λ can. fails (can is_open)
 fails_either old new (Err e) (inr fault) fails = λ can. inl (inl fault)
@@ -44,5 +43,5 @@ fails_either old new (Err e) (inr fault) fails = λ can. inl (inl fault)
 pub taken_if_held : (before now : Database) (db : Trees) → db ≡ now.trees → HoldsMoved before now → TakesMoved before db
 taken_if_held before now db is moves schema known contents holds =
     let it = moves schema known contents holds in
-    subst (λ d. HoldsAllIn second (record { schema = second; trees = d }) (moved contents)) (sym is)
-    (subst (λ x. HoldsAllIn second (record { schema = x; trees = now.trees }) (moved contents)) it.base.declared it)
+    subst (λ d. HoldsIn layout_two (record { schema = layout_two; trees = d }) (numbered_layout_two contents)) (sym is)
+    (subst (λ x. HoldsIn layout_two (record { schema = x; trees = now.trees }) (numbered_layout_two contents)) it.declared it)

@@ -9,11 +9,11 @@ use Rattle.sqlite.specs.State.{State}
 use Rattle.sqlite_trees.specs.declared.store.Store.{Ghosts}
 use Rattle.reg_tables.specs.Reads.{OnlyReads}
 use Rattle.reg_tables.proofs.Transactions.{keeps_then}
-use Rattle.reg_store.specs.Opening.{FindsFirst}
-use Rattle.reg_store.specs.Spells.{SpellsFirst}
+use Rattle.reg_store.specs.Opening.{FindsLayoutOne}
+use Rattle.reg_store.specs.Spells.{SpellsLayoutOne}
 use Rattle.reg_store.specs.Stores.{LeavesNoMore}
 use Rattle.reg_migrate.specs.Migrations.{LeavesMoved, LosesNothing, Moves, SpellsSome}
-use Rattle.reg_migrate.specs.Inside.{CanMove, HasFirst, HoldsMoved, IsMovedOver, TakesMoved}
+use Rattle.reg_migrate.specs.Inside.{CanMove, HasLayoutOne, HoldsMoved, IsMovedOver, TakesMoved}
 use Rattle.reg_migrate.proofs.Layouts.{taken_if_held}
 use Rattle.reg_migrate.proofs.NoEvidence.{no_evidence_left}
 use Rattle.reg_migrate.proofs.Spelled.{leaves_moved, spells_moved}
@@ -40,7 +40,7 @@ reported P number count (Ok x) is h = subst P (sym is) h
 reported P number count (Err e) is h = tt
 
 -- tables that passed spell a registry
-pub spells_some : (db : Database) (count : ℕ) → FindsFirst db count → SpellsSome db
+pub spells_some : (db : Database) (count : ℕ) → FindsLayoutOne db count → SpellsSome db
 spells_some db count found = record { stored = found.stored; spelled = found.spells }
 
 module _ (old mid : State) (reads : OnlyReads old mid) (settled : IsTrue old.is_open → old.now ≡ old.committed) where
@@ -51,21 +51,21 @@ module _ (old mid : State) (reads : OnlyReads old mid) (settled : IsTrue old.is_
       reads.settled is_open ∙ (reads.commit_stays.committed is_open ∙ sym (settled was_open))
 
   -- tables that passed can be moved
-  pub can_move : (count : ℕ) → FindsFirst old.now count → CanMove mid
-  can_move count found is_open = subst HasFirst (sym (same_now is_open)) (record { schema = found.spells.schema; known = found.spells.known; contents = found.spells.contents; holds = found.spells.holds })
+  pub can_move : (count : ℕ) → FindsLayoutOne old.now count → CanMove mid
+  can_move count found is_open = subst HasLayoutOne (sym (same_now is_open)) (record { schema = found.spells.schema; known = found.spells.known; contents = found.spells.contents; holds = found.spells.holds })
 
   -- nothing was written by the test, nor by the move
   pub reads_both : (new : State) → OnlyReads mid new → OnlyReads old new
   reads_both new later = record { commit_stays = keeps_then old mid new reads.commit_stays later.commit_stays; settled = later.settled }
 
   -- what is left of the tables that were tested
-  pub takes_on : (count : ℕ) → FindsFirst old.now count → (db : Trees) → IsTrue mid.is_open → TakesMoved mid.now db → LeavesMoved old.now db
+  pub takes_on : (count : ℕ) → FindsLayoutOne old.now count → (db : Trees) → IsTrue mid.is_open → TakesMoved mid.now db → LeavesMoved old.now db
   takes_on count found db is_open takes = record {
     found = spells_some old.now count found;
     spells = λ was spelled. leaves_moved old.now db was (subst (λ (d : Database). TakesMoved d db) (same_now is_open) takes) spelled;
   }
 
-  module _ (new : State) (count : ℕ) (found : FindsFirst old.now count) (over : IsMovedOver mid new) where
+  module _ (new : State) (count : ℕ) (found : FindsLayoutOne old.now count) (over : IsMovedOver mid new) where
     held : HoldsMoved old.now new.now
     held = subst (λ (d : Database). HoldsMoved d new.now) (same_now over.was_open) over.holds
 
@@ -91,8 +91,8 @@ pub loses_nothing : (old new : State) → (IsTrue old.is_open → old.now ≡ ol
 loses_nothing old new settled only crash is_open was spelled db it = elim (crash db it) [
   | inl before ↦ inl (record {
     schema = spelled.schema;
-    spells = subst (λ t. SpellsFirst (record { schema = spelled.schema; trees = t }) was) (sym (only db is_open before ∙ sym (ap (λ (d : Database). d.trees) (settled is_open))))
-        (subst (λ x. SpellsFirst (record { schema = x; trees = old.now.trees }) was) spelled.holds.declared spelled);
+    spells = subst (λ t. SpellsLayoutOne (record { schema = spelled.schema; trees = t }) was) (sym (only db is_open before ∙ sym (ap (λ (d : Database). d.trees) (settled is_open))))
+        (subst (λ x. SpellsLayoutOne (record { schema = x; trees = old.now.trees }) was) spelled.holds.declared spelled);
   })
   | inr made ↦ inr (made.spells was spelled)
 ]

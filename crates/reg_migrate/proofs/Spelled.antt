@@ -7,13 +7,14 @@ use Rattle.reg_core.specs.Levels.{level_text}
 use Rattle.reg_core.specs.Modes.{mode_text}
 use Rattle.reg_core.specs.Stored.{Stored}
 use Rattle.reg_tables.specs.Contents.{text_cmp, TextMap, Contents}
-use Rattle.reg_tables.specs.SecondLayout.{second}
-use Rattle.reg_tables.specs.Changes.{meta_as, numbered_meta, numbered_second}
+use Rattle.reg_tables.specs.Layout.{layout_two}
+use Rattle.reg_tables.proofs.Opening.{nothing_held}
+use Rattle.reg_tables.specs.Changes.{meta_as, numbered_meta, numbered_layout_two}
 use Rattle.reg_tables.proofs.MapLemmas.{get-insert-same, get-insert-other, same_or_not}
 use Rattle.reg_tables.proofs.KeyedTables.{text_order}
-use Rattle.reg_store.specs.Spells.{IsSpelledEvidence, IsSpelledFirst, IsSpelledSecond, Leaves, Spells, SpellsFirst, second_meta}
+use Rattle.reg_store.specs.Spells.{IsSpelledEvidence, IsSpelledLayoutOne, IsSpelledLayoutTwo, Leaves, Spells, SpellsLayoutOne, layout_two_meta}
 use Rattle.reg_store.proofs.Evidence.{no_evidence}
-use Rattle.reg_migrate.specs.Inside.{HoldsMoved, TakesMoved, moved}
+use Rattle.reg_migrate.specs.Inside.{HoldsMoved, TakesMoved}
 
 -- the layout's number alone is another one
 module _ (level : List ℕ) where
@@ -41,8 +42,8 @@ module _ (level : List ℕ) where
   ])
 
 -- what layout 1 spells, its contents spell in layout 2
-pub moved_spelled : (contents : Contents) (was : Stored) → IsSpelledFirst contents was → IsSpelledSecond (moved contents) was
-moved_spelled contents was s = record {
+pub moved_spelled : (contents : Contents) (was : Stored) → (contents.modes ≡ empty) × (contents.evidence ≡ empty) × (contents.against ≡ empty) → IsSpelledLayoutOne contents was → IsSpelledLayoutTwo (numbered_layout_two contents) was
+moved_spelled contents was none s = record {
   base = record {
     registry = s.base.registry;
     texts = s.base.texts;
@@ -56,22 +57,22 @@ moved_spelled contents was s = record {
   };
   meta = ap (λ (m : TextMap (List ℕ)). insert (insert m (codes "layout") (codes "2")) (codes "mode") (codes "READWRITE")) s.meta
       ∙ ap (λ (m : TextMap (List ℕ)). insert m (codes "mode") (codes "READWRITE")) (renumbered (level_text was.registry.global))
-      ∙ ap (λ mode. second_meta (level_text was.registry.global) (mode_text mode)) (sym s.modes.global);
-  modes = λ subject. get-empty text_cmp subject ∙ sym (ap (option_map mode_text) (s.modes.own subject));
+      ∙ ap (λ mode. layout_two_meta (level_text was.registry.global) (mode_text mode)) (sym s.modes.global);
+  modes = λ subject. ap (λ m. get m subject) none.0 ∙ get-empty text_cmp subject ∙ sym (ap (option_map mode_text) (s.modes.own subject));
   owners = λ subject mode there. absurd (let none = sym (s.modes.own subject) ∙ there in cc);
-  evidence = subst (IsSpelledEvidence (moved contents)) (sym s.evidence) (no_evidence (numbered_second contents));
+  evidence = subst (IsSpelledEvidence (numbered_layout_two contents)) (sym s.evidence) (no_evidence (numbered_layout_two contents) none.1 none.2);
 }
 
 -- a database to which the tables were moved spells what they spelled
-pub spells_moved : (before now : Database) (was : Stored) → HoldsMoved before now → SpellsFirst before was → Spells now was
+pub spells_moved : (before now : Database) (was : Stored) → HoldsMoved before now → SpellsLayoutOne before was → Spells now was
 spells_moved before now was moves s = record {
-  schema = second;
+  schema = layout_two;
   known = inl refl;
-  contents = moved s.contents;
+  contents = numbered_layout_two s.contents;
   holds = moves s.schema s.known s.contents s.holds;
-  spelled = moved_spelled s.contents was s.spelled;
+  spelled = moved_spelled s.contents was (nothing_held s.schema s.known before.trees s.contents s.holds.shows) s.spelled;
 }
 
 -- so do trees that a crash leaves
-pub leaves_moved : (before : Database) (db : Trees) (was : Stored) → TakesMoved before db → SpellsFirst before was → Leaves db was
-leaves_moved before db was takes s = record { schema = second; spells = spells_moved before (record { schema = second; trees = db }) was takes s }
+pub leaves_moved : (before : Database) (db : Trees) (was : Stored) → TakesMoved before db → SpellsLayoutOne before was → Leaves db was
+leaves_moved before db was takes s = record { schema = layout_two; spells = spells_moved before (record { schema = layout_two; trees = db }) was takes s }

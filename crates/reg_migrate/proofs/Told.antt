@@ -10,7 +10,7 @@ use Rattle.reg_store.specs.declared.error.StoreError.{StoreError}
 use Rattle.reg_store.specs.declared.error.StoreError.TheVariants as store
 use Rattle.reg_store.specs.Failures as failures
 use Rattle.reg_store.specs.Opening.{IsRefusedAs, NamesLayout, ShowsLayout, TellsOther}
-use Rattle.reg_store.specs.UnopenedFaults.{IsFaultFirst}
+use Rattle.reg_store.specs.UnopenedFaults.{IsFaultOverLayoutOne}
 use Rattle.reg_store.specs.Stores as stores
 use Rattle.reg_store.specs.Stores.{LeavesNoMore}
 use Rattle.reg_migrate.specs.declared.error.MigrateError.{MigrateError}
@@ -106,7 +106,7 @@ before_if_faulted old mid new AlreadyNew more up h = absurd (cc)
 before_if_faulted old mid new (NewerLayout number) more up h = absurd (cc)
 
 -- tables that spell a registry fail only because of memory or the disk
-pub fault_over : (old new : State) (e : StoreError) → IsFaultFirst old new e → IsFaultOver old (told_as e)
+pub fault_over : (old new : State) (e : StoreError) → IsFaultOverLayoutOne old new e → IsFaultOver old (told_as e)
 fault_over old new e fault spells = told_fault e (fault_if_by old new e (go old.is_open refl))
   where
     go : (b : Bool) → old.is_open ≡ b → failures.IsFaultBy old new e

@@ -3,7 +3,7 @@ use Rattle.std.specs.Prelude.{◌≡◌, ◌⊎◌, ◌<◌, ◌==◌, ℕ, Bool
 use Rattle.sqlite_disk.specs.Disk.{MoreFaults}
 use Rattle.sqlite.specs.Effect.{Database}
 use Rattle.sqlite.specs.State.{State, HasCleanDisk}
-use Rattle.reg_tables.specs.Layout.{HasTablesFirst}
+use Rattle.reg_tables.specs.Layout.{HasFiveTables}
 use Rattle.reg_tables.specs.Reads.{HoldsMeta, OnlyReads}
 use Rattle.reg_tables.specs.FailedCalls.{HasDiskFault}
 use Rattle.reg_store.specs.declared.error.StoreError.{StoreError}
@@ -34,8 +34,8 @@ IsTold old new _ = Unit {0}
 
 -- an error with a number, or for layout 2, has the number from the rows of `meta`
 abbrev pub IsRefusedBy : Database → MigrateError → Type 0
-IsRefusedBy db AlreadyNew = ShowsLayout db 2 × (HasTablesFirst db.schema → NamesLayout db 2)
-IsRefusedBy db (NewerLayout number) = (2 < number) × ShowsLayout db number × (HasTablesFirst db.schema → NamesLayout db number)
+IsRefusedBy db AlreadyNew = ShowsLayout db 2 × (HasFiveTables db.schema → NamesLayout db 2)
+IsRefusedBy db (NewerLayout number) = (2 < number) × ShowsLayout db number × (HasFiveTables db.schema → NamesLayout db number)
 IsRefusedBy db _ = Unit {0}
 
 -- the error for a layout above 1 with this number

@@ -26,7 +26,7 @@ use Rattle.reg_tables.proofs.KeyedTables.{number_order, version_order}
 use Rattle.reg_store.specs.Spells.{IsSpelled, stored_version}
 use Rattle.reg_store.specs.Inside.Making.{Makes}
 use Rattle.reg_store.proofs.Maps.{insert_each}
-use Rattle.reg_store.proofs.Seconds.{spelled_in, put}
+use Rattle.reg_store.proofs.SpelledTwo.{spelled_in, put}
 
 -- each id but the next keeps its schema, or has none still
 schema_other : (schemas : Schemas) (new : List NodeView) (id : ℕ) → id ≢ length schemas + 1 → schema_at (schemas ++ new ∷ []) id ≡ schema_at schemas id
@@ -100,5 +100,5 @@ module _ (contents : Contents) (g : Registry) (k : Kept) (s : IsSpelled contents
 module _ (old new : State) where
   pub makes_text : (id : ℕ) (text : List ℕ) → IsUtf8 text → ChangesIf old new (λ contents. get contents.texts id ≡ None) (with_text id text) → Makes old new (AddText id text)
   makes_text id text utf8 puts was s fits =
-      put old new (λ contents. get contents.texts id ≡ None) (with_text id text) puts was s (id_is_free s.contents.base was.registry was.replies s.spelled.base id text fits) _
-      (spelled_in s.contents was s.spelled _ _ _ (spelled_text s.contents.base was.registry was.replies s.spelled.base id text utf8 fits) s.spelled.meta refl)
+      put old new (λ contents. get contents.texts id ≡ None) (with_text id text) puts was s (id_is_free s.contents was.registry was.replies s.spelled.base id text fits) _
+      (spelled_in s.contents was s.spelled _ _ _ (spelled_text s.contents was.registry was.replies s.spelled.base id text utf8 fits) s.spelled.meta refl (refl, refl, refl))

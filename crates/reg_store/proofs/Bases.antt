@@ -2,34 +2,38 @@
 use Rattle.sqlite.specs.Schema.{Schema}
 use Rattle.sqlite.specs.Effect.{Database}
 use Rattle.reg_core.specs.Stored.{Stored}
-use Rattle.reg_tables.specs.Layout.{HasTablesFirst}
-use Rattle.reg_tables.specs.SecondLayout.{IsSecondLayout}
-use Rattle.reg_tables.proofs.EvidenceParents.{added_tables, added_tables_first}
-use Rattle.reg_tables.proofs.Statements.{has_tables_first, second_tables_first}
-use Rattle.reg_store.specs.Spells.{SpellsFirst, SpellsIn, Spells, SpellsUnopened}
+use Rattle.reg_tables.specs.Layout.{HasFiveTables}
+use Rattle.reg_tables.specs.Contents.{Contents, HoldsIn}
+use Rattle.reg_tables.proofs.Tables.{openable_has_eight, eight_has_five, two_has_eight}
+use Rattle.reg_tables.proofs.Statements.{one_has_five}
+use Rattle.reg_store.specs.Spells.{IsSpelled, SpellsLayoutOne, Spells, SpellsUnopened}
 use Rattle.reg_store.specs.Inside.Reads.{SpellsBase}
 use Rattle.reg_store.specs.Inside.Testing.{SpellsSome}
-use Rattle.reg_store.proofs.Texts.{readable_first, readable_second}
+use Rattle.reg_store.proofs.Readable.{one_readable, all_readable}
 
-first_tables : (schema : Schema) → IsSecondLayout schema → HasTablesFirst schema
-first_tables schema known = added_tables_first schema (added_tables schema known)
+-- the five tables spell a registry, without its modes, and its kept replies
+pub record SpellsTables (db : Database) (was : Stored) : Type 0 where
+  pub schema : Schema
+  pub first : HasFiveTables schema
+  pub contents : Contents
+  pub holds : HoldsIn schema db contents
+  pub spelled : IsSpelled contents was.registry was.replies
 
 module _ {db : Database} {was : Stored} where
-  base_in : {Known : Schema → Type 0} → ((schema : Schema) → Known schema → HasTablesFirst schema) → SpellsIn Known db was → SpellsBase db was
-  base_in first s = record { schema = s.schema; first = first s.schema s.known; contents = s.contents.base; holds = s.holds.base; readable = readable_second s.contents was s.spelled; spelled = s.spelled.base }
-
-  pub base_of : Spells db was → SpellsBase db was
-  base_of s = base_in second_tables_first s
+  pub base_of : Spells db was → SpellsTables db was
+  base_of s = record { schema = s.schema; first = eight_has_five s.schema (two_has_eight s.schema s.known); contents = s.contents; holds = s.holds; spelled = s.spelled.base }
 
   pub base_unopened : SpellsUnopened db was → SpellsBase db was
-  base_unopened s = base_in first_tables s
+  base_unopened s =
+      let tables = openable_has_eight s.schema s.known in
+      record { schema = s.schema; first = eight_has_five s.schema tables; contents = s.contents; holds = s.holds; readable = all_readable db was s tables; spelled = s.spelled.base }
 
-  pub base_first : SpellsFirst db was → SpellsBase db was
-  base_first s = record { schema = s.schema; first = has_tables_first s.schema s.known; contents = s.contents; holds = s.holds; readable = readable_first s.contents was s.spelled; spelled = s.spelled.base }
+  pub base_of_one : SpellsLayoutOne db was → SpellsBase db was
+  base_of_one s = record { schema = s.schema; first = one_has_five s.schema s.known; contents = s.contents; holds = s.holds; readable = one_readable db was s; spelled = s.spelled.base }
 
 module _ {db : Database} where
   pub some_unopened : SpellsSome SpellsUnopened db → SpellsSome SpellsBase db
   some_unopened s = record { stored = s.stored; spells = base_unopened s.spells }
 
-  pub some_first : SpellsSome SpellsFirst db → SpellsSome SpellsBase db
-  some_first s = record { stored = s.stored; spells = base_first s.spells }
+  pub some_of_one : SpellsSome SpellsLayoutOne db → SpellsSome SpellsBase db
+  some_of_one s = record { stored = s.stored; spells = base_of_one s.spells }

@@ -16,9 +16,9 @@ use Rattle.reg_core.specs.Replies.{IsKeptStatus}
 use Rattle.reg_core.specs.Subjects.{is_subject}
 use Rattle.avro_nodes.specs.Identity.{identity}
 use Rattle.reg_core.specs.Registry.{RowKey, Registry, OwnLevels, no_own, schema_at}
-use Rattle.reg_tables.specs.declared.lines.LevelLine.{LevelLine}
-use Rattle.reg_tables.specs.declared.lines.KeptLine.{KeptLine}
-use Rattle.reg_tables.specs.Contents.{text_cmp, TextMap, VersionRow, KeptRow, Contents}
+use Rattle.reg_tables.specs.declared.levels.LevelLine.{LevelLine}
+use Rattle.reg_tables.specs.declared.kept.KeptLine.{KeptLine}
+use Rattle.reg_tables.specs.Contents.{text_cmp, TextMap, VersionRow, KeptRow, TableName, Contents}
 use Rattle.reg_tables.specs.Listings.{HasNoTwins, without_rowid, level_entry, kept_entry}
 use Rattle.reg_tables.specs.Inside.AllLines.{Lines, HaveNoTwins, contents_of}
 use Rattle.reg_tables.proofs.ListMembers.{has_mapped, maps_had}
@@ -121,37 +121,37 @@ module _ (lines : Lines) (apart : HaveNoTwins lines) where
   -- rows that fit spell a registry, where no text stands twice and the id of each version is that of a text
   pub spelled_if_rows : ((i j : ℕ) (text : List ℕ) → get held.texts i ≡ Some text → get held.texts j ≡ Some text → i ≡ j)
       → ((key : RowKey) (row : VersionRow) → get held.versions key ≡ Some row → (text : List ℕ) × (get held.texts row.id ≡ Some text))
-      → AreTexts (map text_shown lines.texts) → AllByRecursion IsVersionRow (map version_shown lines.versions) → AllByRecursion IsLevelRow (map level_shown lines.levels) → AllByRecursion IsKeptRow (map kept_shown lines.kept)
+      → AreTexts (map text_shown (lines TableName.Texts)) → AllByRecursion IsVersionRow (map version_shown (lines TableName.Versions)) → AllByRecursion IsLevelRow (map level_shown (lines TableName.Levels)) → AllByRecursion IsKeptRow (map kept_shown (lines TableName.Kept))
       → (g : Registry) × (k : Kept) × IsSpelled held g k
   spelled_if_rows unique refers texts versions levels kept =
-      let schemas = schemas_in lines.texts texts.identities in
+      let schemas = schemas_in (lines TableName.Texts) texts.identities in
       let own = λ (subject : List ℕ). option_and_then level_of (get held.levels subject) in
       let replies = λ (key : List ℕ). option_map entry_in (get held.kept key) in
-      let spelled = texts_spelled lines.texts texts in (
+      let spelled = texts_spelled (lines TableName.Texts) texts in (
         record { schemas = schemas; rows = rows_in held.versions; global = Backward; own = own; global_mode = Readwrite; own_modes = no_own },
         replies,
         record {
           registry = record {
-            schemas = all_schemas lines.texts texts.identities;
-            few = (let few = texts.few in let same = length_schemas lines.texts texts.identities in omega (arith, few, same));
+            schemas = all_schemas (lines TableName.Texts) texts.identities;
+            few = (let few = texts.few in let same = length_schemas (lines TableName.Texts) texts.identities in omega (arith, few, same));
             apart = λ i j one other here there same. unique i j (identity one) (spelled i ∙ ap (option_map identity) here) (spelled j ∙ ap (option_map identity) there ∙ ap Some (sym same));
             rows = λ key version there.
                 let row = row_there held.versions key version there in
                 let text = refers key row.0 row.1 in
                 let it = was_written identity (schema_at schemas row.0.id) text.0 (sym (spelled row.0.id) ∙ text.1) in
-                record { within = (version_fits lines.versions versions key row.0 row.1).within; has_schema = rw row.2 (schema_within schemas row.0.id it.0 it.1) };
+                record { within = (version_fits (lines TableName.Versions) versions key row.0 row.1).within; has_schema = rw row.2 (schema_within schemas row.0.id it.0 it.1) };
           };
           texts = spelled;
-          utf8 = utf8_schemas lines.texts texts.identities;
+          utf8 = utf8_schemas (lines TableName.Texts) texts.identities;
           versions = versions_spelled held.versions;
-          registered = λ key version there. let row = row_there held.versions key version there in (version_fits lines.versions versions key row.0 row.1).subject;
-          levels = λ subject. spelt_back (get held.levels subject) (λ v there. (level_fits lines.levels levels subject v there).level);
+          registered = λ key version there. let row = row_there held.versions key version there in (version_fits (lines TableName.Versions) versions key row.0 row.1).subject;
+          levels = λ subject. spelt_back (get held.levels subject) (λ v there. (level_fits (lines TableName.Levels) levels subject v there).level);
           subjects = λ subject level there. subject_fits subject level (get held.levels subject) refl there;
           kept = λ key. row_back (get held.kept key);
-          keys = λ key entry there. let it = was_written entry_in (get held.kept key) entry there in subst (CanBeKept key) (sym it.2) (kept_fits lines.kept kept key it.0 it.1);
+          keys = λ key entry there. let it = was_written entry_in (get held.kept key) entry there in subst (CanBeKept key) (sym it.2) (kept_fits (lines TableName.Kept) kept key it.0 it.1);
         },
       )
     where
       subject_fits : (subject : List ℕ) (level : Level) (o : Option (List ℕ)) → get held.levels subject ≡ o → option_and_then level_of o ≡ Some level → IsTrue (is_subject subject)
       subject_fits subject level None e h = absurd (cc)
-      subject_fits subject level (Some v) e h = (level_fits lines.levels levels subject v e).subject
+      subject_fits subject level (Some v) e h = (level_fits (lines TableName.Levels) levels subject v e).subject

@@ -19,11 +19,9 @@ use Rattle.avro_nodes.specs.Nodes.{NodeView}
 use Rattle.avro_nodes.specs.Identity.{identity}
 use Rattle.avro_schema.specs.Texts.{IsSchema}
 use Rattle.reg_core.specs.Registry.{new_registry, row_cmp, schema_at}
-use Rattle.reg_tables.specs.Layout.{layout}
-use Rattle.reg_tables.specs.SecondLayout.{second}
-use Rattle.reg_tables.specs.Contents.{text_cmp, version_cmp, TextMap, Holds}
-use Rattle.reg_tables.specs.SecondContents.{SecondContents, HoldsAllIn, second_new_contents}
-use Rattle.reg_tables.specs.Changes.{no_contents, new_contents}
+use Rattle.reg_tables.specs.Layout.{layout_one, layout_two}
+use Rattle.reg_tables.specs.Contents.{text_cmp, version_cmp, TextMap, Holds, Contents, HoldsIn}
+use Rattle.reg_tables.specs.Changes.{new_contents_two, no_contents, new_contents_one}
 use Rattle.reg_tables.proofs.Transactions.{keeps_if_unchanged, keeps_if_undone}
 use Rattle.reg_core.specs.KeptReplies.{nothing_kept}
 use Rattle.reg_core.specs.Stored.{Stored, new_stored}
@@ -31,9 +29,9 @@ use Rattle.reg_store.specs.declared.error.StoreError.{StoreError}
 use Rattle.reg_store.specs.declared.error.StoreError.TheVariants.{Memory, Disk, NotARegistry, OldLayout, NewerLayout}
 use Rattle.reg_store.specs.Failures.{failure_of, IsFaultBy}
 use Rattle.reg_store.specs.Stores.{LeavesBefore, LeavesCommit}
-use Rattle.reg_store.specs.Spells.{stored_version, IsSpelled, SpellsFirst, LeavesFirst, SpellsIn, Spells, LeavesIn, Leaves, IsOpenOver, SpellsWhileOpen}
+use Rattle.reg_store.specs.Spells.{stored_version, IsSpelled, SpellsLayoutOne, SpellsIn, Spells, LeavesIn, Leaves, IsOpenOver, SpellsWhileOpen}
 use Rattle.reg_store.specs.declared.layout.Layout.{Layout}
-use Rattle.reg_store.specs.declared.layout.Layout.TheVariants.{First, Second}
+use Rattle.reg_store.specs.declared.layout.Layout.TheVariants.{One, Two}
 use Rattle.reg_store.specs.Inside.Making.{SpellsNew, IsNew, LeavesNew}
 use Rattle.reg_store.proofs.Evidence.{no_evidence}
 
@@ -55,19 +53,13 @@ on_err_each (Ok x) h = tt
 on_err_each (Err e) h = h
 
 -- trees that hold the contents do so after a crash
-pub left_if_held : (schema : Schema) (db : Trees) (now : Database) (contents : SecondContents) → db ≡ now.trees → HoldsAllIn schema now contents → HoldsAllIn schema (record { schema = schema; trees = db }) contents
+pub left_if_held : (schema : Schema) (db : Trees) (now : Database) (contents : Contents) → db ≡ now.trees → HoldsIn schema now contents → HoldsIn schema (record { schema = schema; trees = db }) contents
 left_if_held schema db now contents is h =
-    subst (λ d. HoldsAllIn schema (record { schema = schema; trees = d }) contents) (sym is) (subst (λ x. HoldsAllIn schema (record { schema = x; trees = now.trees }) contents) h.base.declared h)
+    subst (λ d. HoldsIn schema (record { schema = schema; trees = d }) contents) (sym is) (subst (λ x. HoldsIn schema (record { schema = x; trees = now.trees }) contents) h.declared h)
 
 -- trees that are those of a database spell what that does
-pub left_if_spelled : {Known : Schema → Type 0} (db : Trees) (now : Database) (was : Stored) → db ≡ now.trees → SpellsIn Known now was → LeavesIn Known db was
-left_if_spelled {Known} db now was is s = record { schema = now.schema; spells = subst (λ d. SpellsIn Known (record { schema = now.schema; trees = d }) was) (sym is) s }
-
-pub leaves_if_spelled : (db : Trees) (now : Database) (was : Stored) → db ≡ now.trees → Spells now was → Leaves db was
-leaves_if_spelled db now was is s = left_if_spelled db now was is s
-
-pub leaves_first : (db : Trees) (now : Database) (was : Stored) → db ≡ now.trees → SpellsFirst now was → LeavesFirst db was
-leaves_first db now was is s = record { schema = now.schema; spells = subst (λ d. SpellsFirst (record { schema = now.schema; trees = d }) was) (sym is) s }
+pub left_if_spelled : {Known : Schema → Type 0} {Spelled : Contents → Stored → Type 0} (db : Trees) (now : Database) (was : Stored) → db ≡ now.trees → SpellsIn Known Spelled now was → LeavesIn Known Spelled db was
+left_if_spelled {Known} {Spelled} db now was is s = record { schema = now.schema; spells = subst (λ d. SpellsIn Known Spelled (record { schema = now.schema; trees = d }) was) (sym is) s }
 
 none_at : (id : ℕ) → schema_at [] id ≡ None
 none_at zero = refl
@@ -95,38 +87,38 @@ new_is_spelled meta = record {
   keys = λ key entry some. absurd (cc);
 }
 
-pub spells_new : (now : Database) → HoldsAllIn second now second_new_contents → Spells now new_stored
+pub spells_new : (now : Database) → HoldsIn layout_two now new_contents_two → Spells now new_stored
 spells_new now h = record {
-  schema = second;
+  schema = layout_two;
   known = inl refl;
-  contents = second_new_contents;
+  contents = new_contents_two;
   holds = h;
   spelled = record {
-    base = new_is_spelled second_new_contents.base.meta;
+    base = new_is_spelled new_contents_two.meta;
     meta = refl;
     modes = λ subject. get-empty text_cmp subject;
     owners = λ subject mode some. absurd (cc);
-    evidence = no_evidence second_new_contents.base;
+    evidence = no_evidence new_contents_two refl refl;
   };
 }
 
-pub spells_new_first : (now : Database) → Holds now new_contents → SpellsFirst now new_stored
-spells_new_first now h = record {
-  schema = layout;
+pub spells_new_one : (now : Database) → Holds now new_contents_one → SpellsLayoutOne now new_stored
+spells_new_one now h = record {
+  schema = layout_one;
   known = inl refl;
-  contents = new_contents;
+  contents = new_contents_one;
   holds = h;
-  spelled = record { base = new_is_spelled new_contents.meta; meta = refl; modes = record { global = refl; own = λ subject. refl }; evidence = refl };
+  spelled = record { base = new_is_spelled new_contents_one.meta; meta = refl; modes = record { global = refl; own = λ subject. refl }; evidence = refl };
 }
 
 -- so they do in either layout
 pub is_new : (layout : Layout) (s : State) → IsTrue s.is_open → s.committed ≡ s.now → SpellsNew layout s.now → IsNew layout s
-is_new First s is_open settled spells = record { is_open = is_open; settled = settled; spells = spells }
-is_new Second s is_open settled spells = record { is_open = is_open; settled = settled; spells = spells }
+is_new One s is_open settled spells = record { is_open = is_open; settled = settled; spells = spells }
+is_new Two s is_open settled spells = record { is_open = is_open; settled = settled; spells = spells }
 
 pub leaves_new : (layout : Layout) (db : Trees) (now : Database) → db ≡ now.trees → SpellsNew layout now → LeavesNew layout db
-leaves_new First db now is spells = leaves_first db now new_stored is spells
-leaves_new Second db now is spells = leaves_if_spelled db now new_stored is spells
+leaves_new One db now is spells = left_if_spelled db now new_stored is spells
+leaves_new Two db now is spells = left_if_spelled db now new_stored is spells
 
 -- what keeps the last commit, and shows it, spells what it spelled
 pub still_spells : (old new : State) (was : Stored) → KeepsCommit old new → (IsTrue new.is_open → new.now ≡ new.committed) → SpellsWhileOpen old was → SpellsWhileOpen new was
@@ -137,7 +129,7 @@ still_spells old new was keeps settled s is_open =
 
 -- while it shows its last commit, a crash leaves what that spells
 pub leaves_if_open : (s : State) (was : Stored) → LeavesCommit s → IsOpenOver s was → (db : Trees) → s.may_leave db → Leaves db was
-leaves_if_open s was only over db it = leaves_if_spelled db s.now was (only over.is_open db it ∙ ap (λ (d : Database). d.trees) over.settled) over.spells
+leaves_if_open s was only over db it = left_if_spelled db s.now was (only over.is_open db it ∙ ap (λ (d : Database). d.trees) over.settled) over.spells
 
 -- what holds where one result is an error holds where the other is one
 pub on_err_same : {X Y E F P Q : Type 0} (r : Result X E) (s : Result Y F) → is_ok s ≡ is_ok r → (P → Q) → OnErr r P → OnErr s Q

@@ -14,8 +14,7 @@ use Rattle.reg_core.proofs.DeletionLemmas.{altered_was, removed_was}
 use Rattle.reg_core.proofs.RegistryLemmas.{fewer-IsRegistry, levels-IsRegistry}
 use Rattle.reg_tables.specs.Contents.{version_cmp, VersionRow, Contents}
 use Rattle.reg_tables.specs.Changes.{without_level, without_version, with_deleted}
-use Rattle.reg_tables.specs.Writing.{Changes, ChangesAll}
-use Rattle.reg_tables.specs.SecondContents.{without_evidence}
+use Rattle.reg_tables.specs.Writing.{Changes}
 use Rattle.reg_tables.specs.Changes as tables
 use Rattle.reg_tables.proofs.MapLemmas.{get-altered-same, get-altered-other, same_or_not}
 use Rattle.reg_tables.proofs.KeyedTables.{version_order}
@@ -23,7 +22,7 @@ use Rattle.reg_store.specs.Inside.Making.{Makes}
 use Rattle.reg_store.specs.Spells.{IsSpelled, stored_version}
 use Rattle.reg_store.proofs.Maps.{remove_both, remove_each}
 use Rattle.reg_store.proofs.Evidence.{evidence_left}
-use Rattle.reg_store.proofs.Seconds.{spelled_in, changed}
+use Rattle.reg_store.proofs.SpelledTwo.{spelled_in, changed}
 
 -- a row is marked as its version is
 marked_row : (found : Option Version) → option_map tables.as_deleted (option_map stored_version found) ≡ option_map stored_version (option_map as_deleted found)
@@ -89,16 +88,16 @@ module _ (old new : State) where
   pub makes_deleted : (subject : List ℕ) (number : ℕ) → Changes old new (with_deleted (subject, number)) → Makes old new (MarkDeleted subject number)
   makes_deleted subject number changes was s fits =
       changed old new (with_deleted (subject, number)) changes was s _
-      (spelled_in s.contents was s.spelled _ _ _ (spelled_deleted s.contents.base was.registry was.replies s.spelled.base subject number) s.spelled.meta refl)
+      (spelled_in s.contents was s.spelled _ _ _ (spelled_deleted s.contents was.registry was.replies s.spelled.base subject number) s.spelled.meta refl (refl, refl, refl))
 
-  pub makes_removed : (subject : List ℕ) (number : ℕ) → ChangesAll old new (without_evidence (subject, number)) → Makes old new (Remove subject number)
+  pub makes_removed : (subject : List ℕ) (number : ℕ) → Changes old new (without_version (subject, number)) → Makes old new (Remove subject number)
   makes_removed subject number changes was s fits = record {
     schema = s.schema;
     known = s.known;
-    contents = without_evidence (subject, number) s.contents;
-    holds = changes s.schema (inr s.known) s.contents s.holds;
+    contents = without_version (subject, number) s.contents;
+    holds = changes s.schema s.known s.contents s.holds;
     spelled = record {
-      base = spelled_removed s.contents.base was.registry was.replies s.spelled.base subject number;
+      base = spelled_removed s.contents was.registry was.replies s.spelled.base subject number;
       meta = s.spelled.meta;
       modes = s.spelled.modes;
       owners = s.spelled.owners;
@@ -109,4 +108,4 @@ module _ (old new : State) where
   pub makes_dropped : (subject : List ℕ) → Changes old new (without_level subject) → Makes old new (DropLevel subject)
   makes_dropped subject changes was s fits =
       changed old new (without_level subject) changes was s _
-      (spelled_in s.contents was s.spelled _ _ _ (spelled_dropped s.contents.base was.registry was.replies s.spelled.base subject) s.spelled.meta refl)
+      (spelled_in s.contents was s.spelled _ _ _ (spelled_dropped s.contents was.registry was.replies s.spelled.base subject) s.spelled.meta refl (refl, refl, refl))

@@ -7,11 +7,11 @@ use Rattle.std.proofs.lemmas.Option.{same_Some}
 use Rattle.reg_core.specs.Evidence.{Evidence, EvidenceOf}
 use Rattle.reg_core.specs.Levels.{level_text}
 use Rattle.reg_core.specs.Registry.{RowKey, row_cmp}
-use Rattle.reg_tables.specs.Contents.{version_cmp, Contents}
-use Rattle.reg_tables.specs.SecondContents.{PlaceKey, place_cmp, SecondContents, with_evidence, without_places, without_evidence, with_no_more}
+use Rattle.reg_tables.specs.Contents.{version_cmp, Contents, PlaceKey, place_cmp}
+use Rattle.reg_tables.specs.Changes.{with_evidence, without_places, without_version}
 use Rattle.reg_tables.proofs.MapLemmas.{get-insert-same, get-insert-other, get-remove-same, get-remove-other, same_or_not, tied_key, other_key}
 use Rattle.reg_tables.proofs.KeyedTables.{version_order}
-use Rattle.reg_tables.proofs.SecondTables.{place_order}
+use Rattle.reg_tables.proofs.Keys.{place_order}
 use Rattle.reg_store.specs.Inside.Making.{with_own, HasNoPlace}
 use Rattle.reg_store.specs.Spells.{id_at, IsSpelledEvidence}
 use Rattle.reg_store.proofs.Maps.{insert_each, remove_each}
@@ -25,7 +25,7 @@ no_value : {A B : Type 0} (f : A → B) (o : Option A) → option_map f o ≡ No
 no_value f None e = refl
 no_value f (Some a) e = absurd (cc)
 
-module _ (contents : SecondContents) (evidence : EvidenceOf) (s : IsSpelledEvidence contents evidence) where
+module _ (contents : Contents) (evidence : EvidenceOf) (s : IsSpelledEvidence contents evidence) where
   -- a version without a level has no evidence, and no place
   pub has_none : (key : RowKey) → get contents.evidence key ≡ None → get evidence key ≡ None
   has_none key none = no_value level_of_one (get evidence key) (sym (s.levels key) ∙ none)
@@ -34,8 +34,8 @@ module _ (contents : SecondContents) (evidence : EvidenceOf) (s : IsSpelledEvide
   has_no_place key none position = s.ids (key, position) ∙ ap (option_and_then (id_at position)) (has_none key none)
 
   -- whatever the other tables hold
-  pub evidence_beside : (base : Contents) → IsSpelledEvidence (record contents { base = base }) evidence
-  evidence_beside base = record { levels = s.levels; ids = s.ids; few = s.few }
+  pub evidence_beside : (now : Contents) → now.evidence ≡ contents.evidence → now.against ≡ contents.against → IsSpelledEvidence now evidence
+  evidence_beside now levels ids = record { levels = λ key. ap (λ m. get m key) levels ∙ s.levels key; ids = λ place. ap (λ m. get m place) ids ∙ s.ids place; few = s.few }
 
   -- ---- a version that comes with its own
 
@@ -52,7 +52,7 @@ module _ (contents : SecondContents) (evidence : EvidenceOf) (s : IsSpelledEvide
 
     pub evidence_more : IsSpelledEvidence (with_own key own contents) (insert evidence key own)
     evidence_more = record {
-      levels = λ q. ap (λ (c : SecondContents). get c.evidence q) (ids_beside key 1 own.against (with_evidence key (level_text own.level) contents)) ∙ insert_each version_order level_of_one contents.evidence evidence s.levels key own q;
+      levels = λ q. ap (λ (c : Contents). get c.evidence q) (ids_beside key 1 own.against (with_evidence key (level_text own.level) contents)) ∙ insert_each version_order level_of_one contents.evidence evidence s.levels key own q;
       ids = λ place. elim (same_or_not version_cmp version_order place.0 key) [
         | inl is ↦
             ap (λ (q : RowKey). get (with_own key own contents).against (q, place.1)) is ∙ own_ids place.1
@@ -84,7 +84,7 @@ module _ (contents : SecondContents) (evidence : EvidenceOf) (s : IsSpelledEvide
       | inr other ↦ sym (get-remove-other row_cmp version_order evidence key q other) ∙ there
     ]
 
-    pub evidence_left : IsSpelledEvidence (without_evidence key contents) (remove evidence key)
+    pub evidence_left : IsSpelledEvidence (without_version key contents) (remove evidence key)
     evidence_left = record {
       levels = remove_each version_order level_of_one contents.evidence evidence s.levels key;
       ids = λ place. elim (same_or_not version_cmp version_order place.0 key) [
@@ -95,9 +95,9 @@ module _ (contents : SecondContents) (evidence : EvidenceOf) (s : IsSpelledEvide
     }
 
 -- no version has evidence
-pub no_evidence : (base : Contents) → IsSpelledEvidence (with_no_more base) empty
-no_evidence base = record {
-  levels = λ q. get-empty version_cmp q ∙ sym (ap (option_map level_of_one) (get-empty row_cmp q));
-  ids = λ place. get-empty place_cmp place ∙ sym (ap (option_and_then (id_at place.1)) (get-empty row_cmp place.0));
+pub no_evidence : (contents : Contents) → contents.evidence ≡ empty → contents.against ≡ empty → IsSpelledEvidence contents empty
+no_evidence contents none no_place = record {
+  levels = λ q. ap (λ m. get m q) none ∙ get-empty version_cmp q ∙ sym (ap (option_map level_of_one) (get-empty row_cmp q));
+  ids = λ place. ap (λ m. get m place) no_place ∙ get-empty place_cmp place ∙ sym (ap (option_and_then (id_at place.1)) (get-empty row_cmp place.0));
   few = λ q one there. absurd (let none = sym (get-empty row_cmp q) ∙ there in cc);
 }

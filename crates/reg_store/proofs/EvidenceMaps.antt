@@ -7,8 +7,7 @@ use Rattle.reg_core.specs.declared.level.Level.TheVariants.{Backward}
 use Rattle.reg_core.specs.Evidence.{Evidence, EvidenceOf}
 use Rattle.reg_core.specs.Levels.{level_text, level_of}
 use Rattle.reg_core.specs.Registry.{RowKey}
-use Rattle.reg_tables.specs.Contents.{version_cmp}
-use Rattle.reg_tables.specs.SecondContents.{PlaceKey, place_cmp, SecondContents}
+use Rattle.reg_tables.specs.Contents.{version_cmp, PlaceKey, place_cmp, Contents}
 use Rattle.reg_tables.proofs.KeyedTables.{version_order}
 use Rattle.reg_tables.proofs.MapLemmas.{same_or_not, tied_key, other_key}
 use Rattle.reg_store.specs.Spells.{id_at, IsSpelledEvidence}
@@ -60,7 +59,7 @@ find-keyed {V} {W} write key (e ∷ es) =
           ap (λ b. cond b (Some (write e.0 e.1)) rest) other ∙ find-keyed write key es ∙ sym (ap (λ b. option_map (write key) (cond b (Some e.1) (find version_cmp key es))) other)
     ]
 
-module _ (contents : SecondContents) (rows : IsEvidence contents) where
+module _ (contents : Contents) (rows : IsEvidence contents) where
   -- what a version was admitted by, whose row has this level
   abbrev one_at : RowKey → List ℕ → Evidence
   one_at key text = record { level = unwrap_or (level_of text) Backward; against = ids_from contents.against key 1 (rows.places key).count }
@@ -126,7 +125,7 @@ stood one (suc n) within = elim (slice_get_cases one.against n).1 [
   | inr it ↦ absurd (let high = within.1 in let past = it.0 in omega (arith, high, past))
 ]
 
-module _ (contents : SecondContents) (evidence : EvidenceOf) (s : IsSpelledEvidence contents evidence) where
+module _ (contents : Contents) (evidence : EvidenceOf) (s : IsSpelledEvidence contents evidence) where
   in_order : (key : RowKey) (o : Option Evidence) → get evidence key ≡ o → AreInOrder contents.against key
   in_order key None none = record {
     count = 0;

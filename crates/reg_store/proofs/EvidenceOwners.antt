@@ -9,7 +9,8 @@ use Rattle.reg_core.specs.Evidence.{Evidence, IsOfVersions}
 use Rattle.reg_core.specs.Levels.{level_text}
 use Rattle.reg_core.specs.Registry.{RowKey, schema_at}
 use Rattle.reg_core.specs.Stored.{Stored}
-use Rattle.reg_tables.proofs.EvidenceParents.{added_tables, has_evidence_version, has_against_text}
+use Rattle.reg_tables.proofs.References.{has_evidence_version, has_against_text}
+use Rattle.reg_tables.proofs.Tables.{openable_has_eight}
 use Rattle.reg_store.specs.Spells.{Spells, id_at, stored_version}
 
 is_some-map : {V W : Type 0} (f : V → W) (o : Option V) → is_some (option_map f o) ≡ is_some o
@@ -22,7 +23,7 @@ module _ (db : Database) (was : Stored) (s : Spells db was) where
   owned key (Some one) is gone =
       let it = s.spelled in
       let level = it.evidence.levels key ∙ ap (option_map (λ (e : Evidence). level_text e.level)) is in
-      let row = has_evidence_version s.schema db s.contents (added_tables s.schema (inl s.known)) s.holds key (level_text one.level) level in
+      let row = has_evidence_version s.schema db s.contents (openable_has_eight s.schema (inl s.known)) s.holds key (level_text one.level) level in
       let none = it.base.versions key ∙ ap (option_map stored_version) gone in
       absurd (let some = subst IsSome none row in cc)
 
@@ -36,5 +37,5 @@ module _ (db : Database) (was : Stored) (s : Spells db was) where
       let it = s.spelled in
       let id = get_or one.against k d in
       let there = it.evidence.ids (key, suc k) ∙ ap (option_and_then (id_at (suc k))) is ∙ slice_get-get_or one.against k d within in
-      let text = has_against_text s.schema db s.contents (added_tables s.schema (inl s.known)) s.holds (key, suc k) id there in
+      let text = has_against_text s.schema db s.contents (openable_has_eight s.schema (inl s.known)) s.holds (key, suc k) id there in
       sym (is_some-map identity (schema_at was.registry.schemas id)) ∙ ap is_some (sym (it.base.texts id)) ∙ text

@@ -6,16 +6,14 @@ use Rattle.std.specs.FinMap.{FinMap, get, from_entries, get-from_entries}
 use Rattle.sqlite_rules.specs.Lists.{Has}
 use Rattle.sqlite_rules.proofs.ListLemmas.{all_has, all_from, has_contained, contains_had}
 use Rattle.reg_core.specs.Registry.{RowKey}
-use Rattle.reg_tables.specs.declared.second_lines.EvidenceLine.{EvidenceLine}
-use Rattle.reg_tables.specs.declared.second_lines.AgainstLine.{AgainstLine}
-use Rattle.reg_tables.specs.Contents.{version_cmp}
-use Rattle.reg_tables.specs.SecondContents.{PlaceKey, place_cmp, SecondContents}
-use Rattle.reg_tables.specs.Listings.{HasNoTwins, without_rowid}
-use Rattle.reg_tables.specs.SecondListings.{evidence_entry, against_entry}
+use Rattle.reg_tables.specs.declared.evidence.EvidenceLine.{EvidenceLine}
+use Rattle.reg_tables.specs.declared.evidence.AgainstLine.{AgainstLine}
+use Rattle.reg_tables.specs.Contents.{version_cmp, PlaceKey, place_cmp, Contents}
+use Rattle.reg_tables.specs.Listings.{HasNoTwins, without_rowid, evidence_entry, against_entry}
 use Rattle.reg_tables.proofs.KeyedTables.{version_order}
 use Rattle.reg_tables.proofs.ListMembers.{has_mapped, maps_had}
 use Rattle.reg_tables.proofs.ListingLemmas.{found_first, find_had}
-use Rattle.reg_tables.proofs.SecondTables.{place_order}
+use Rattle.reg_tables.proofs.Keys.{place_order}
 use Rattle.reg_rows.specs.Spelling.{FitsEvidence}
 use Rattle.reg_store.specs.Inside.Evidence.{IsEvidence}
 use Rattle.reg_store.specs.Inside.Testing.{evidence_fits, against_fits, version_at, place_at, AreInPlace}
@@ -89,7 +87,7 @@ module _ (evidence : List EvidenceLine) (against : List AgainstLine) (versions_a
 
   -- ---- both ways
 
-  module _ (contents : SecondContents) (same_evidence : contents.evidence ≡ evidence_in) (same_against : contents.against ≡ against_in) where
+  module _ (contents : Contents) (same_evidence : contents.evidence ≡ evidence_in) (same_against : contents.against ≡ against_in) where
     few_places : AllByRecursion against_fits against → (key : RowKey) (count : ℕ) → ((position : ℕ) → (0 < position) × (position ≤ count) → Contains (map place_at against) (key, position)) → count < 2 ^ 32
     few_places fits key zero all = lit≤ tt
     few_places fits key (suc n) all =

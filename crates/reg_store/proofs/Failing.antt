@@ -11,16 +11,12 @@ use Rattle.sqlite.specs.State.{State, store_error}
 use Rattle.sqlite_trees.specs.declared.error.StoreError as trees
 use Rattle.sqlite_trees.specs.declared.error.StoreError.TheVariants as stored
 use Rattle.sqlite_disk.specs.Disk.{MoreFaults}
-use Rattle.reg_tables.specs.Reads.{CanBeRead}
 use Rattle.reg_tables.specs.FailedCalls.{HasDiskFault, HasReason, IsFault, IsRefused, IsUnreadable}
 use Rattle.reg_tables.proofs.Reasons.{fault_until, fault_since}
 use Rattle.reg_store.specs.declared.error.StoreError.{StoreError}
 use Rattle.reg_store.specs.declared.error.StoreError.TheVariants.{Memory, Disk, NotARegistry, OldLayout, NewerLayout}
 use Rattle.reg_store.specs.Failures.{failure_of, is_fault, IsFaultBy, IsTold, IsNumberless}
-use Rattle.reg_core.specs.Stored.{Stored}
 use Rattle.reg_store.specs.Opening.{IsRefusedAs}
-use Rattle.reg_store.specs.Spells.{SpellsWhileOpen}
-use Rattle.reg_store.proofs.Bases.{base_of}
 
 -- what is by memory or by the disk is a fault
 pub fault_if_by : (old new : State) (e : StoreError) → IsFaultBy old new e → IsTrue (is_fault e)
@@ -149,12 +145,6 @@ told_since a b c closes up on Disk h = fault_since a b c closes up on h
 told_since a b c closes up on NotARegistry h = tt
 told_since a b c closes up on (OldLayout number) h = tt
 told_since a b c closes up on (NewerLayout number) h = tt
-
--- what is spelled can be read
-pub can_be_read : (s : State) (was : Stored) → SpellsWhileOpen s was → CanBeRead s
-can_be_read s was over = λ is_open.
-    let it = base_of (over is_open).spells in
-    record { schema = it.schema; known = it.first; contents = it.contents; holds = it.holds; readable = it.readable }
 
 -- an error that `?` passes on
 pub passed : {X : Type 0} (P : StoreError → Type 0) (r : Result X StoreError) (first : StoreError) → IsErrAnd r (λ e. e ≡ first) → P first → IfErr r P

@@ -3,7 +3,7 @@ pub mod Numbering
 pub mod Ids
 pub mod Places
 pub mod Evidence
-pub mod Seconds
+pub mod SpelledTwo
 pub mod Spelling
 pub mod ReadBack
 pub mod Committing
@@ -13,13 +13,14 @@ pub mod Prepared
 pub mod Schemas
 pub mod Bridge
 pub mod MetaRows
+pub mod Readable
 pub mod Bases
 pub mod Rereading
 pub mod Distinct
 pub mod TestLemmas
 pub mod EvidenceRows
 pub mod EvidenceMaps
-pub mod SecondTests
+pub mod EightTests
 pub mod LayoutNumbers
 pub mod MetaLemmas
 pub mod OpenLemmas

@@ -12,8 +12,8 @@ use Rattle.sqlite.specs.Held.{Held, state}
 use Rattle.sqlite.specs.State.{State, HasCleanDisk}
 use Rattle.sqlite.specs.declared.error.Error.{Error}
 use Rattle.sqlite_trees.specs.declared.store.Store.{Ghosts}
-use Rattle.reg_tables.specs.declared.lines.MetaLine.{MetaLine}
-use Rattle.reg_tables.specs.Layout.{HasTablesFirst, meta}
+use Rattle.reg_tables.specs.declared.meta.MetaLine.{MetaLine}
+use Rattle.reg_tables.specs.Layout.{HasFiveTables, meta}
 use Rattle.reg_tables.specs.Contents.{pair_form, text_cmp}
 use Rattle.reg_tables.specs.Frames.{StaysIdle}
 use Rattle.reg_tables.specs.Listings.{RowParts, Lists, entry_parts, without_rowid, meta_entry, ListsMeta}
@@ -23,17 +23,18 @@ use Rattle.reg_tables.specs.FailedCalls.{IsFault}
 use Rattle.reg_tables.proofs.KeyedTables.{text_order, distinct_texts}
 use Rattle.reg_tables.proofs.ListingLemmas.{find_had, stored, listed_if_shown}
 use Rattle.reg_tables.proofs.UniqueKeys.{rowids_of}
-use Rattle.reg_tables.proofs.Statements.{laid_out}
+use Rattle.reg_tables.proofs.Tables.{openable_has_eight, five, eight_has_five}
+use Rattle.reg_tables.proofs.Statements.{laid_out, one_has_five}
 use Rattle.reg_rows.specs.Meta.{value_at, names, second_names, has_value, has_level, has_mode, has_common, names_known, number_in, layout_in}
 use Rattle.reg_store.specs.declared.error.StoreError.{StoreError}
 use Rattle.reg_store.specs.declared.error.StoreError.TheVariants.{Memory, Disk, NotARegistry, OldLayout, NewerLayout}
 use Rattle.reg_store.specs.declared.layout.Layout.{Layout}
-use Rattle.reg_store.specs.declared.layout.Layout.TheVariants.{First, Second}
+use Rattle.reg_store.specs.declared.layout.Layout.TheVariants.{One, Two}
 use Rattle.reg_store.specs.Failures.{failure_of, IsTold}
 use Rattle.reg_store.specs.Opening.{Says, RowsNameLayout, NamesLayout, ShowsLayout, HasOther, refusal_of, IsRefusedAs, TellsOther}
 use Rattle.reg_store.specs.Inside.Testing.{AreApart, pairs_of, number_of, is_meta_of, PassesMeta, Allows, JudgesMeta, MetaPass, SpellsAs, Tests}
-use Rattle.reg_store.proofs.Bases.{some_first, some_unopened}
-use Rattle.reg_store.proofs.MetaRows.{value_is, layout_is, meta_found, meta_fit, second_meta_fit}
+use Rattle.reg_store.proofs.Bases.{some_of_one, some_unopened}
+use Rattle.reg_store.proofs.MetaRows.{value_is, layout_is, meta_found, meta_fit, layout_two_meta_fit}
 use Rattle.reg_store.proofs.LayoutNumbers.{above_zero}
 use Rattle.reg_store.proofs.Failing.{fault_if_by, fault_by, passed}
 use Rattle.reg_store.proofs.Maps.{same_bytes}
@@ -48,27 +49,27 @@ layout_named number text lines is common =
     ap (λ b. if b then option_and_then number_in (value_at (codes "layout") (pairs_of lines)) else None) one ∙ ap (option_and_then number_in) (layout_is lines text common) ∙ is
 
 names_own : (layout : Layout) (lines : List MetaLine) → IsTrue (is_meta_of layout (pairs_of lines)) → layout_in (pairs_of lines) ≡ Some (number_of layout)
-names_own First lines passes = layout_named 1 (codes "1") lines refl (and_parts (has_common (codes "1") (pairs_of lines)) (names_known names (pairs_of lines)) passes).0
-names_own Second lines passes =
+names_own One lines passes = layout_named 1 (codes "1") lines refl (and_parts (has_common (codes "1") (pairs_of lines)) (names_known names (pairs_of lines)) passes).0
+names_own Two lines passes =
     let parts = and_parts (has_common (codes "2") (pairs_of lines) && has_mode (value_at (codes "mode") (pairs_of lines))) (names_known second_names (pairs_of lines)) passes in
     layout_named 2 (codes "2") lines refl (and_parts (has_common (codes "2") (pairs_of lines)) (has_mode (value_at (codes "mode") (pairs_of lines))) parts.0).0
 
 -- tables that spell a registry have rows of `meta` that pass
 spelled_passes : (layout : Layout) (db : Database) → SpellsAs layout db → (lines : List MetaLine) → ListsMeta db lines → PassesMeta layout lines
-spelled_passes First db s lines lists =
-    let shown = listed_if_shown pair_form text_cmp text_order distinct_texts (db.trees meta.tree) (map meta_entry lines) lists s.spells.contents.meta distinct_texts s.spells.holds.meta in
+spelled_passes One db s lines lists =
+    let shown = listed_if_shown pair_form text_cmp text_order distinct_texts (db.trees meta.tree) (map meta_entry lines) lists s.spells.contents.meta distinct_texts (five s.spells.holds (one_has_five s.spells.schema s.spells.known)).meta in
     (subst AreApart (rowids_of meta_entry (λ (line : MetaLine). line.rowid) (λ line. refl) lines) shown.apart.rowids, meta_fit lines shown.apart s.stored.registry.global (sym shown.is ∙ s.spells.spelled.meta))
-spelled_passes Second db s lines lists =
-    let shown = listed_if_shown pair_form text_cmp text_order distinct_texts (db.trees meta.tree) (map meta_entry lines) lists s.spells.contents.base.meta distinct_texts s.spells.holds.base.meta in
-    (subst AreApart (rowids_of meta_entry (λ (line : MetaLine). line.rowid) (λ line. refl) lines) shown.apart.rowids, second_meta_fit lines shown.apart s.stored.registry.global s.stored.registry.global_mode (sym shown.is ∙ s.spells.spelled.meta))
+spelled_passes Two db s lines lists =
+    let shown = listed_if_shown pair_form text_cmp text_order distinct_texts (db.trees meta.tree) (map meta_entry lines) lists s.spells.contents.meta distinct_texts (five s.spells.holds (eight_has_five s.spells.schema (openable_has_eight s.spells.schema s.spells.known))).meta in
+    (subst AreApart (rowids_of meta_entry (λ (line : MetaLine). line.rowid) (λ line. refl) lines) shown.apart.rowids, layout_two_meta_fit lines shown.apart s.stored.registry.global s.stored.registry.global_mode (sym shown.is ∙ s.spells.spelled.meta))
 
-spelled_first : (layout : Layout) (db : Database) → SpellsAs layout db → HasTablesFirst db.schema
-spelled_first First db s = some_known db (some_first s)
-spelled_first Second db s = some_known db (some_unopened s)
+spelled_has_five : (layout : Layout) (db : Database) → SpellsAs layout db → HasFiveTables db.schema
+spelled_has_five One db s = some_known db (some_of_one s)
+spelled_has_five Two db s = some_known db (some_unopened s)
 
 pub spelled_can_be_read : (layout : Layout) (s : State) → (IsTrue s.is_open → SpellsAs layout s.now) → CanBeRead s
-spelled_can_be_read First s over = some_can_be_read s (λ is_open. some_first (over is_open))
-spelled_can_be_read Second s over = some_can_be_read s (λ is_open. some_unopened (over is_open))
+spelled_can_be_read One s over = some_can_be_read s (λ is_open. some_of_one (over is_open))
+spelled_can_be_read Two s over = some_can_be_read s (λ is_open. some_unopened (over is_open))
 
 named_in : (format : Bool) (layout : Option ℕ) (number : ℕ) → (if format then layout else None) ≡ Some number → (format ≡ true) × (layout ≡ Some number)
 named_in true layout number h = (refl, h)
@@ -134,7 +135,7 @@ same_number a b h = cc
 pub tells_meta : (s : State) → CanBeRead s → CanTellMeta s
 tells_meta s can is_open =
     let there = can is_open in
-    record { first = laid_out there.holds there.known; names = there.contents.meta; shows = there.holds.meta; readable = there.readable.meta }
+    record { first = laid_out there.holds there.known; names = there.contents.meta; shows = (five there.holds there.known).meta; readable = there.readable.meta }
 
 -- how another layout is refused
 refuses_old : (own number : ℕ) → number < own → OldLayout number ≡ refusal_of own number
@@ -157,18 +158,18 @@ module _ {S : Type 0} (g : Ghosts S) (old new : Held S) (layout : Layout) where
   other_unread r e unlimited fault is = passed (TellsOther (number_of layout) (state g old)) r (failure_of e) is (λ number is_open out.
       inr (fault_if_by (state g old) (state g new) (failure_of e) (fault_by (state g old) (state g new) e unlimited (fault (λ _. out.holds)))))
 
-  module _ {X : Type 0} (x : X) (lines : List MetaLine) (f : StaysIdle {X = X} {E = Error} g old new (Ok x)) (listed : HasCleanDisk (state g new) → HasTablesFirst (state g old).now.schema → ListsMeta (state g old).now lines) where
+  module _ {X : Type 0} (x : X) (lines : List MetaLine) (f : StaysIdle {X = X} {E = Error} g old new (Ok x)) (listed : HasCleanDisk (state g new) → HasFiveTables (state g old).now.schema → ListsMeta (state g old).now lines) where
     abbrev db : Database
     db = (state g old).now
 
     spelled : HasCleanDisk (state g new) → SpellsAs layout db → PassesMeta layout lines
-    spelled clean s = spelled_passes layout db s lines (listed clean (spelled_first layout db s))
+    spelled clean s = spelled_passes layout db s lines (listed clean (spelled_has_five layout db s))
 
     other_spelled : HasCleanDisk (state g new) → SpellsAs layout db → (number : ℕ) → layout_in (pairs_of lines) ≡ Some number → number ≡ number_of layout
     other_spelled clean s number named = same_number number (number_of layout) (sym named ∙ names_own layout lines (spelled clean s).1)
 
     -- `meta` was read, and judged
-    pub meta_tests : (r : Result (Unit {0}) StoreError) → JudgesMeta layout lines r → Tests HasTablesFirst (SpellsAs layout) g old new r (λ _. MetaPass layout)
+    pub meta_tests : (r : Result (Unit {0}) StoreError) → JudgesMeta layout lines r → Tests HasFiveTables (SpellsAs layout) g old new r (λ _. MetaPass layout)
     meta_tests (Ok y) j = record { frame = framed g old new (Ok x) (Ok y) f f.was_open; tells = λ clean known. record { lines = lines; lists = listed clean known; apart = j.0; fit = j.1 }; fault = λ clean. tt; told = λ clean. tt }
     meta_tests (Err Memory) j = record { frame = framed g old new (Ok x) (Err Memory) f (λ clean. tt); tells = λ clean. tt; fault = λ clean over. tt; told = λ clean known. tt }
     meta_tests (Err Disk) j = absurd j
@@ -186,7 +187,7 @@ module _ {S : Type 0} (g : Ghosts S) (old new : Held S) (layout : Layout) where
       told = λ clean known. tt;
     }
 
-    names_first : HasCleanDisk (state g new) → (number : ℕ) → layout_in (pairs_of lines) ≡ Some number → HasTablesFirst db.schema → NamesLayout db number
+    names_first : HasCleanDisk (state g new) → (number : ℕ) → layout_in (pairs_of lines) ≡ Some number → HasFiveTables db.schema → NamesLayout db number
     names_first clean number is first = names_if_in lines (db.trees meta.tree) (listed clean first) number is
 
     pub meta_refused : (HasCleanDisk (state g new) → ReadsMeta db lines) → (r : Result (Unit {0}) StoreError) → JudgesMeta layout lines r → HasCleanDisk (state g new) → IfErr r (IsRefusedAs (number_of layout) db)

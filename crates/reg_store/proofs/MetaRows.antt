@@ -10,7 +10,7 @@ use Rattle.reg_core.specs.declared.level.Level.{Level}
 use Rattle.reg_core.specs.declared.mode.Mode.{Mode}
 use Rattle.reg_core.specs.Levels.{level_text, level_of}
 use Rattle.reg_core.specs.Modes.{mode_text, mode_of, modes}
-use Rattle.reg_tables.specs.declared.lines.MetaLine.{MetaLine}
+use Rattle.reg_tables.specs.declared.meta.MetaLine.{MetaLine}
 use Rattle.reg_tables.specs.Contents.{text_cmp, TextMap}
 use Rattle.reg_tables.specs.Changes.{meta_as, meta_of}
 use Rattle.reg_tables.specs.Listings.{HasNoTwins, without_rowid, meta_entry}
@@ -20,7 +20,7 @@ use Rattle.reg_tables.proofs.KeyedTables.{text_order}
 use Rattle.reg_tables.proofs.ListingLemmas.{found_first, find_had}
 use Rattle.reg_rows.specs.Spelling.{pair_of}
 use Rattle.reg_rows.specs.Meta.{Pair, value_at, names, second_names, is_name, names_known, has_value, has_level, has_mode, has_common, is_meta, is_second_meta}
-use Rattle.reg_store.specs.Spells.{second_meta}
+use Rattle.reg_store.specs.Spells.{layout_two_meta}
 use Rattle.reg_store.specs.Opening.{meta_shown}
 use Rattle.reg_store.proofs.Bridge.{find_passes, spelt}
 use Rattle.reg_store.proofs.Maps.{same_bytes, other_bytes}
@@ -111,8 +111,8 @@ module _ (number level : List ℕ) where
   has_global : get (meta_as number level) (codes "global") ≡ Some level
   has_global = get-insert-same text_cmp text_order _ (codes "global") level
 
-  has_layout : get (meta_as number level) (codes "layout") ≡ Some number
-  has_layout = get-insert-other text_cmp text_order _ (codes "global") level (codes "layout") (names_apart (codes "layout") (codes "global") refl) ∙ get-insert-same text_cmp text_order _ (codes "layout") number
+  has_layout_one : get (meta_as number level) (codes "layout") ≡ Some number
+  has_layout_one = get-insert-other text_cmp text_order _ (codes "global") level (codes "layout") (names_apart (codes "layout") (codes "global") refl) ∙ get-insert-same text_cmp text_order _ (codes "layout") number
 
   has_format : get (meta_as number level) (codes "format") ≡ Some (codes "avroreg")
   has_format =
@@ -126,10 +126,10 @@ module _ (number level : List ℕ) where
       ∙ get-insert-other text_cmp text_order empty (codes "format") (codes "avroreg") q (no_name names q (codes "format") none (inl refl)) ∙ get-empty text_cmp q
 
 module _ (level mode : List ℕ) where
-  second_mode : get (second_meta level mode) (codes "mode") ≡ Some mode
-  second_mode = get-insert-same text_cmp text_order _ (codes "mode") mode
+  two_mode : get (layout_two_meta level mode) (codes "mode") ≡ Some mode
+  two_mode = get-insert-same text_cmp text_order _ (codes "mode") mode
 
-  beside_mode : (q : List ℕ) → q ≢ codes "mode" → get (second_meta level mode) q ≡ get (meta_as (codes "2") level) q
+  beside_mode : (q : List ℕ) → q ≢ codes "mode" → get (layout_two_meta level mode) q ≡ get (meta_as (codes "2") level) q
   beside_mode q other = get-insert-other text_cmp text_order _ (codes "mode") mode q other
 
   no_first_name : (q : List ℕ) → is_name second_names q ≡ false → is_name names q ≡ false
@@ -144,8 +144,8 @@ module _ (level mode : List ℕ) where
       more (inr (inr (inl e))) = inr (inr (inl e))
       more (inr (inr (inr none))) = absurd none
 
-  second_no_other : (q : List ℕ) → is_name second_names q ≡ false → get (second_meta level mode) q ≡ None
-  second_no_other q none = beside_mode q (no_name second_names q (codes "mode") none (inr (inr (inr (inl refl))))) ∙ has_no_other (codes "2") level q (no_first_name q none)
+  two_no_other : (q : List ℕ) → is_name second_names q ≡ false → get (layout_two_meta level mode) q ≡ None
+  two_no_other q none = beside_mode q (no_name second_names q (codes "mode") none (inr (inr (inr (inl refl))))) ∙ has_no_other (codes "2") level q (no_first_name q none)
 
 -- ---- lines
 
@@ -215,7 +215,7 @@ module _ (lines : List MetaLine) where
     -- the names of both layouts have the values of the map
     common_is : (q : List ℕ) → Has names q → get meta_in q ≡ get (meta_as number (level_text global_is.0)) q
     common_is q (inl e) = ap (get meta_in) e ∙ format_is ∙ sym (has_format number (level_text global_is.0)) ∙ ap (get (meta_as number (level_text global_is.0))) (sym e)
-    common_is q (inr (inl e)) = ap (get meta_in) e ∙ sym (meta_found (codes "layout")) ∙ layout_is ∙ sym (has_layout number (level_text global_is.0)) ∙ ap (get (meta_as number (level_text global_is.0))) (sym e)
+    common_is q (inr (inl e)) = ap (get meta_in) e ∙ sym (meta_found (codes "layout")) ∙ layout_is ∙ sym (has_layout_one number (level_text global_is.0)) ∙ ap (get (meta_as number (level_text global_is.0))) (sym e)
     common_is q (inr (inr (inl e))) = ap (get meta_in) e ∙ global_is.1 ∙ sym (has_global number (level_text global_is.0)) ∙ ap (get (meta_as number (level_text global_is.0))) (sym e)
     common_is q (inr (inr (inr none))) = absurd none
 
@@ -239,35 +239,35 @@ module _ (lines : List MetaLine) where
       let text = level_text level in
       let look = λ (q : List ℕ). ap (λ m. get m q) is in
       and_from _ _
-      (common_fits (codes "1") level (look (codes "format") ∙ has_format (codes "1") text) (look (codes "layout") ∙ has_layout (codes "1") text) (look (codes "global") ∙ has_global (codes "1") text))
+      (common_fits (codes "1") level (look (codes "format") ∙ has_format (codes "1") text) (look (codes "layout") ∙ has_layout_one (codes "1") text) (look (codes "global") ∙ has_global (codes "1") text))
       (known_lines apart names (meta_of text) is (has_no_other (codes "1") text))
 
   -- so it is in layout 2, with a mode
-  pub second_meta_is : IsTrue (is_second_meta pairs_in) → (level : Level) × (mode : Mode) × (meta_in ≡ second_meta (level_text level) (mode_text mode))
-  second_meta_is passes =
+  pub layout_two_meta_is : IsTrue (is_second_meta pairs_in) → (level : Level) × (mode : Mode) × (meta_in ≡ layout_two_meta (level_text level) (mode_text mode))
+  layout_two_meta_is passes =
       let parts = and_parts (has_common (codes "2") pairs_in && has_mode (value_at (codes "mode") pairs_in)) (names_known second_names pairs_in) passes in
       let both = and_parts (has_common (codes "2") pairs_in) (has_mode (value_at (codes "mode") pairs_in)) parts.0 in
       let level = (global_is (codes "2") both.0).0 in
       let mode = mode_is (value_at (codes "mode") pairs_in) both.1 in
-      (level, mode.0, same_meta second_names parts.1 (second_meta (level_text level) (mode_text mode.0)) (values both.0 mode.0 (sym (meta_found (codes "mode")) ∙ mode.1)) (second_no_other (level_text level) (mode_text mode.0)))
+      (level, mode.0, same_meta second_names parts.1 (layout_two_meta (level_text level) (mode_text mode.0)) (values both.0 mode.0 (sym (meta_found (codes "mode")) ∙ mode.1)) (two_no_other (level_text level) (mode_text mode.0)))
     where
       values : (common : has_common (codes "2") pairs_in ≡ true) (mode : Mode) → get meta_in (codes "mode") ≡ Some (mode_text mode) → (q : List ℕ) → Has second_names q
-          → get meta_in q ≡ get (second_meta (level_text (global_is (codes "2") common).0) (mode_text mode)) q
+          → get meta_in q ≡ get (layout_two_meta (level_text (global_is (codes "2") common).0) (mode_text mode)) q
       values common mode there q (inl e) = common_is (codes "2") common q (inl e) ∙ sym (beside_mode _ (mode_text mode) q (λ f. names_apart (codes "format") (codes "mode") refl (sym e ∙ f)))
       values common mode there q (inr (inl e)) = common_is (codes "2") common q (inr (inl e)) ∙ sym (beside_mode _ (mode_text mode) q (λ f. names_apart (codes "layout") (codes "mode") refl (sym e ∙ f)))
       values common mode there q (inr (inr (inl e))) = common_is (codes "2") common q (inr (inr (inl e))) ∙ sym (beside_mode _ (mode_text mode) q (λ f. names_apart (codes "global") (codes "mode") refl (sym e ∙ f)))
-      values common mode there q (inr (inr (inr (inl e)))) = ap (get meta_in) e ∙ there ∙ sym (second_mode _ (mode_text mode)) ∙ ap (get (second_meta _ (mode_text mode))) (sym e)
+      values common mode there q (inr (inr (inr (inl e)))) = ap (get meta_in) e ∙ there ∙ sym (two_mode _ (mode_text mode)) ∙ ap (get (layout_two_meta _ (mode_text mode))) (sym e)
       values common mode there q (inr (inr (inr (inr none)))) = absurd none
 
-  pub second_meta_fit : HasNoTwins text_cmp (map meta_entry lines) → (level : Level) (mode : Mode) → meta_in ≡ second_meta (level_text level) (mode_text mode) → IsTrue (is_second_meta pairs_in)
-  second_meta_fit apart level mode is =
+  pub layout_two_meta_fit : HasNoTwins text_cmp (map meta_entry lines) → (level : Level) (mode : Mode) → meta_in ≡ layout_two_meta (level_text level) (mode_text mode) → IsTrue (is_second_meta pairs_in)
+  layout_two_meta_fit apart level mode is =
       let text = level_text level in
       let look = λ (q : List ℕ). ap (λ m. get m q) is in
       and_from _ _
       (and_from _ _
       (common_fits (codes "2") level
       (look (codes "format") ∙ beside_mode text (mode_text mode) (codes "format") (names_apart (codes "format") (codes "mode") refl) ∙ has_format (codes "2") text)
-      (look (codes "layout") ∙ beside_mode text (mode_text mode) (codes "layout") (names_apart (codes "layout") (codes "mode") refl) ∙ has_layout (codes "2") text)
+      (look (codes "layout") ∙ beside_mode text (mode_text mode) (codes "layout") (names_apart (codes "layout") (codes "mode") refl) ∙ has_layout_one (codes "2") text)
       (look (codes "global") ∙ beside_mode text (mode_text mode) (codes "global") (names_apart (codes "global") (codes "mode") refl) ∙ has_global (codes "2") text))
-      (ap has_mode (meta_found (codes "mode") ∙ look (codes "mode") ∙ second_mode text (mode_text mode)) ∙ ap is_some (mode_of-mode_text mode)))
-      (known_lines apart second_names (second_meta text (mode_text mode)) is (second_no_other text (mode_text mode)))
+      (ap has_mode (meta_found (codes "mode") ∙ look (codes "mode") ∙ two_mode text (mode_text mode)) ∙ ap is_some (mode_of-mode_text mode)))
+      (known_lines apart second_names (layout_two_meta text (mode_text mode)) is (two_no_other text (mode_text mode)))

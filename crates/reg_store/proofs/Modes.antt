@@ -8,13 +8,12 @@ use Rattle.reg_core.specs.Levels.{level_text}
 use Rattle.reg_core.specs.Modes.{mode_text}
 use Rattle.reg_core.specs.Registry.{own_with, own_without}
 use Rattle.reg_core.specs.Subjects.{is_subject}
-use Rattle.reg_tables.specs.Changes.{with_global_mode}
-use Rattle.reg_tables.specs.SecondContents.{ChangesSecond, with_mode, without_mode}
+use Rattle.reg_tables.specs.Changes.{with_global_mode, with_mode, without_mode}
 use Rattle.reg_tables.specs.Writing.{Changes}
 use Rattle.reg_store.specs.Inside.Making.{Makes}
 use Rattle.reg_store.proofs.Deletions.{left_value}
 use Rattle.reg_store.proofs.Maps.{insert_both, remove_both}
-use Rattle.reg_store.proofs.Seconds.{spelled_in, mode_changed, changed}
+use Rattle.reg_store.proofs.SpelledTwo.{spelled_in, mode_changed, changed}
 use Rattle.reg_store.proofs.Spelling.{each_entry, spelled_beside}
 
 module _ (old new : State) where
@@ -22,16 +21,16 @@ module _ (old new : State) where
   makes_global_mode mode changes was s fits =
       let g = was.registry in
       changed old new (with_global_mode (mode_text mode)) changes was s _
-      (spelled_in s.contents was s.spelled _ _ _ (spelled_beside s.contents.base g was.replies s.spelled.base _ g.global mode g.own_modes) (mode_changed s.contents.base.meta (level_text g.global) (mode_text g.global_mode) (mode_text mode) s.spelled.meta) refl)
+      (spelled_in s.contents was s.spelled _ _ _ (spelled_beside s.contents g was.replies s.spelled.base (with_global_mode (mode_text mode) s.contents) (refl, refl, refl, refl) g.global mode g.own_modes) (mode_changed s.contents.meta (level_text g.global) (mode_text g.global_mode) (mode_text mode) s.spelled.meta) refl (refl, refl, refl))
 
-  pub makes_mode : (subject : List ℕ) (mode : Mode) → IsTrue (is_subject subject) → ChangesSecond old new (with_mode subject (mode_text mode)) → Makes old new (SetMode subject mode)
+  pub makes_mode : (subject : List ℕ) (mode : Mode) → IsTrue (is_subject subject) → Changes old new (with_mode subject (mode_text mode)) → Makes old new (SetMode subject mode)
   makes_mode subject mode within changes was s fits = record {
     schema = s.schema;
     known = s.known;
     contents = with_mode subject (mode_text mode) s.contents;
     holds = changes s.schema s.known s.contents s.holds;
     spelled = record {
-      base = spelled_beside s.contents.base was.registry was.replies s.spelled.base s.contents.base.meta was.registry.global was.registry.global_mode (own_with was.registry.own_modes subject mode);
+      base = spelled_beside s.contents was.registry was.replies s.spelled.base (with_mode subject (mode_text mode) s.contents) (refl, refl, refl, refl) was.registry.global was.registry.global_mode (own_with was.registry.own_modes subject mode);
       meta = s.spelled.meta;
       modes = insert_both mode_text s.contents.modes was.registry.own_modes subject mode s.spelled.modes;
       owners = each_entry (λ q _. IsTrue (is_subject q)) was.registry.own_modes subject mode within s.spelled.owners;
@@ -39,14 +38,14 @@ module _ (old new : State) where
     };
   }
 
-  pub makes_no_mode : (subject : List ℕ) → ChangesSecond old new (without_mode subject) → Makes old new (DropMode subject)
+  pub makes_no_mode : (subject : List ℕ) → Changes old new (without_mode subject) → Makes old new (DropMode subject)
   makes_no_mode subject changes was s fits = record {
     schema = s.schema;
     known = s.known;
     contents = without_mode subject s.contents;
     holds = changes s.schema s.known s.contents s.holds;
     spelled = record {
-      base = spelled_beside s.contents.base was.registry was.replies s.spelled.base s.contents.base.meta was.registry.global was.registry.global_mode (own_without was.registry.own_modes subject);
+      base = spelled_beside s.contents was.registry was.replies s.spelled.base (without_mode subject s.contents) (refl, refl, refl, refl) was.registry.global was.registry.global_mode (own_without was.registry.own_modes subject);
       meta = s.spelled.meta;
       modes = remove_both mode_text s.contents.modes was.registry.own_modes subject s.spelled.modes;
       owners = λ other mode there. s.spelled.owners other mode (left_value (bytes_eq subject other) (was.registry.own_modes other) mode there);

@@ -10,7 +10,7 @@ use Rattle.sqlite_rules.specs.Lists.{Has}
 use Rattle.sqlite_rules.proofs.ListLemmas.{all_has, all_from}
 use Rattle.reg_tables.proofs.MapLemmas.{tied_key, other_key}
 use Rattle.reg_tables.proofs.KeyedTables.{number_order}
-use Rattle.reg_tables.specs.declared.lines.TextLine.{TextLine}
+use Rattle.reg_tables.specs.declared.text_lines.TextLine.{TextLine}
 use Rattle.reg_rows.specs.Spelling.{AreNumbered, Text}
 use Rattle.reg_store.specs.Opening.{text_shown}
 

@@ -8,43 +8,42 @@ use Rattle.sqlite.specs.State.{State, HasCleanDisk, Survives, KeepsCommit}
 use Rattle.sqlite.proofs.StateLemmas.{survives_then}
 use Rattle.sqlite_trees.specs.declared.store.Store.{Ghosts}
 use Rattle.reg_core.specs.Stored.{Stored}
-use Rattle.reg_tables.specs.Layout.{HasTablesFirst, IsLayout, no_schema}
-use Rattle.reg_tables.proofs.Statements.{has_tables_first}
-use Rattle.reg_tables.specs.SecondLayout.{second_unindexed, second_indexed_last, IsSecondLayout}
-use Rattle.reg_tables.specs.SecondContents.{SecondContents, HoldsAllIn}
+use Rattle.reg_tables.specs.Layout.{HasFiveTables, IsLayoutOne, no_schema, layout_two_unindexed, layout_two_indexed_last, IsOpenable}
+use Rattle.reg_tables.proofs.Statements.{one_has_five}
+use Rattle.reg_tables.specs.Contents.{Contents, HoldsIn}
 use Rattle.reg_tables.specs.Reads.{OnlyReads}
 use Rattle.reg_store.specs.declared.error.StoreError.{StoreError}
-use Rattle.reg_store.specs.declared.error.StoreError.TheVariants.{Memory, Disk, NotARegistry, OldLayout, NewerLayout}
-use Rattle.reg_store.specs.declared.layout.Layout.TheVariants.{First}
+use Rattle.reg_store.specs.declared.error.StoreError.TheVariants.{NotARegistry}
+use Rattle.reg_store.specs.declared.layout.Layout.TheVariants.{One}
 use Rattle.reg_store.specs.Failures.{IsFaultBy, IsTold}
-use Rattle.reg_store.specs.UnopenedFaults.{IsFaultFirst, IsUnread}
-use Rattle.reg_store.specs.Opening.{IsRefusedAs, TellsOther, OpensOver, LacksIndex, IsIndexed, LosesNothing, HasVersionRows, FindsFirst}
-use Rattle.reg_store.specs.Spells.{IsSpelledSecond, Spells, SpellsFirst, SpellsUnopened}
+use Rattle.reg_store.specs.UnopenedFaults.{IsFaultOverLayoutOne, IsUnread}
+use Rattle.reg_store.specs.Opening.{IsRefusedAs, TellsOther, OpensOver, LacksIndex, IsIndexed, LosesNothing, HasVersionRows, FindsLayoutOne}
+use Rattle.reg_store.specs.Spells.{IsSpelledLayoutTwo, Spells, SpellsLayoutOne, SpellsUnopened}
 use Rattle.reg_store.specs.Stores.{LeavesCommit, LeavesConnection, IsUnmade}
-use Rattle.reg_store.specs.Inside.Testing.{SpellsSome, TablesPass, SecondPasses}
+use Rattle.reg_store.specs.Inside.Testing.{SpellsSome, FivePass, EightPass}
 use Rattle.reg_store.specs.Inside.Making.{TakesIndex}
 use Rattle.reg_store.proofs.Committing.{left_if_spelled, leaves_before}
 use Rattle.reg_store.proofs.Rereading.{same_now}
-use Rattle.reg_store.proofs.SecondTests.{spelled_if_first_passed, spelled_if_all_passed}
+use Rattle.reg_store.proofs.EightTests.{spelled_if_five_passed, spelled_if_all_passed}
 
 -- the tables lack the index and spell what is stored
 pub record SpellsBare (db : Database) (was : Stored) : Type 0 where
-  pub contents : SecondContents
-  pub holds : HoldsAllIn second_unindexed db contents
-  pub spelled : IsSpelledSecond contents was
+  pub contents : Contents
+  pub holds : HoldsIn layout_two_unindexed db contents
+  pub spelled : IsSpelledLayoutTwo contents was
 
-pub spells_bare : (db : Database) (was : Stored) → db.schema ≡ second_unindexed → SpellsUnopened db was → SpellsBare db was
-spells_bare db was is s = record { contents = s.contents; holds = subst (λ x. HoldsAllIn x db s.contents) (sym s.holds.base.declared ∙ is) s.holds; spelled = s.spelled }
+pub spells_bare : (db : Database) (was : Stored) → db.schema ≡ layout_two_unindexed → SpellsUnopened db was → SpellsBare db was
+spells_bare db was is s = record { contents = s.contents; holds = subst (λ x. HoldsIn x db s.contents) (sym s.holds.declared ∙ is) s.holds; spelled = s.spelled }
 
-module _ (old mid : State) (reads : OnlyReads old mid) (settled : IsTrue old.is_open → old.now ≡ old.committed) (known : IsSecondLayout old.now.schema) (sound : IsDatabase old.now) (passed : SecondPasses old.now) where
+module _ (old mid : State) (reads : OnlyReads old mid) (settled : IsTrue old.is_open → old.now ≡ old.committed) (known : IsOpenable old.now.schema) (sound : IsDatabase old.now) (passed : EightPass old.now) where
   -- the index is there, and nothing is changed
-  pub opens_as_it_is : IsTrue mid.is_open → mid.now.schema ≢ second_unindexed → OpensOver old mid
+  pub opens_as_it_is : IsTrue mid.is_open → mid.now.schema ≢ layout_two_unindexed → OpensOver old mid
   opens_as_it_is is_open other =
       let it = spelled_if_all_passed old.now known sound passed in
       let same = same_now old mid reads settled is_open in
       let here : Spells old.now it.stored = elim it.spells.known [
         | inl is ↦ record { schema = it.spells.schema; known = is; contents = it.spells.contents; holds = it.spells.holds; spelled = it.spells.spelled }
-        | inr bare ↦ absurd (other (ap (λ (d : Database). d.schema) same ∙ it.spells.holds.base.declared ∙ bare))
+        | inr bare ↦ absurd (other (ap (λ (d : Database). d.schema) same ∙ it.spells.holds.declared ∙ bare))
       ] in
       record {
         stored = it.stored;
@@ -53,8 +52,8 @@ module _ (old mid : State) (reads : OnlyReads old mid) (settled : IsTrue old.is_
       }
 
   -- the index is added
-  pub opens_with_index : (new : State) → mid.now.schema ≡ second_unindexed → IsTrue mid.is_open → IsTrue new.is_open → new.committed ≡ new.now
-      → ((contents : SecondContents) → HoldsAllIn second_unindexed mid.now contents → HoldsAllIn second_indexed_last new.now contents) → OpensOver old new
+  pub opens_with_index : (new : State) → mid.now.schema ≡ layout_two_unindexed → IsTrue mid.is_open → IsTrue new.is_open → new.committed ≡ new.now
+      → ((contents : Contents) → HoldsIn layout_two_unindexed mid.now contents → HoldsIn layout_two_indexed_last new.now contents) → OpensOver old new
   opens_with_index new bare mid_open is_open committed made =
       let it = spelled_if_all_passed old.now known sound passed in
       let same = same_now old mid reads settled mid_open in
@@ -66,23 +65,23 @@ module _ (old mid : State) (reads : OnlyReads old mid) (settled : IsTrue old.is_
           is_open = is_open;
           settled = committed;
           spells = record {
-            schema = second_indexed_last;
+            schema = layout_two_indexed_last;
             known = inr refl;
             contents = spells.contents;
-            holds = made spells.contents (subst (λ (d : Database). HoldsAllIn second_unindexed d spells.contents) (sym same) spells.holds);
+            holds = made spells.contents (subst (λ (d : Database). HoldsIn layout_two_unindexed d spells.contents) (sym same) spells.holds);
             spelled = spells.spelled;
           };
         };
       }
 
   -- tables that lack the index spell a registry
-  pub bare_tables : mid.now.schema ≡ second_unindexed → IsTrue mid.is_open → LacksIndex old.now
+  pub bare_tables : mid.now.schema ≡ layout_two_unindexed → IsTrue mid.is_open → LacksIndex old.now
   bare_tables bare mid_open =
       let it = spelled_if_all_passed old.now known sound passed in
       record { stored = it.stored; spelled = it.spells; bare = sym (ap (λ (d : Database). d.schema) (same_now old mid reads settled mid_open)) ∙ bare }
 
 -- such tables hold contents
-pub bare_contents : (db : Database) → LacksIndex db → (contents : SecondContents) × HoldsAllIn second_unindexed db contents
+pub bare_contents : (db : Database) → LacksIndex db → (contents : Contents) × HoldsIn layout_two_unindexed db contents
 bare_contents db it = let spells = spells_bare db it.stored it.bare it.spelled in (spells.contents, spells.holds)
 
 module _ (old mid new : State) (reads : HasCleanDisk mid → OnlyReads old mid) (settled : IsTrue old.is_open → old.now ≡ old.committed) (bare : HasCleanDisk new → IsTrue mid.is_open → LacksIndex old.now) where
@@ -94,7 +93,7 @@ module _ (old mid new : State) (reads : HasCleanDisk mid → OnlyReads old mid) 
       made clean db it =
           let early : HasCleanDisk mid = omega (arith, q.clean) in
           let there = bare clean it.0 in
-          record { found = there; indexed = λ held holds. it.1 held (subst (λ (d : Database). HoldsAllIn second_unindexed d held) (sym (same_now old mid (reads early) settled it.0)) holds) }
+          record { found = there; indexed = λ held holds. it.1 held (subst (λ (d : Database). HoldsIn layout_two_unindexed d held) (sym (same_now old mid (reads early) settled it.0)) holds) }
 
 -- a crash leaves what the tables spelled, with or without the index
 module _ (old new : State) (settled : IsTrue old.is_open → old.now ≡ old.committed) (only : (db : Trees) → IsTrue old.is_open → old.may_leave db → db ≡ old.committed.trees) (survives : Survives old new (IsIndexed old.now)) where
@@ -103,17 +102,17 @@ module _ (old new : State) (settled : IsTrue old.is_open → old.now ≡ old.com
     | inl left ↦ left_if_spelled db old.now was (only db is_open left ∙ sym (ap (λ (d : Database). d.trees) (settled is_open))) spelled
     | inr made ↦
         let bare = spells_bare old.now was made.found.bare spelled in
-        record { schema = second_indexed_last; spells = record { schema = second_indexed_last; known = inl (inr refl); contents = bare.contents; holds = made.indexed bare.contents bare.holds; spelled = bare.spelled } }
+        record { schema = layout_two_indexed_last; spells = record { schema = layout_two_indexed_last; known = inl (inr refl); contents = bare.contents; holds = made.indexed bare.contents bare.holds; spelled = bare.spelled } }
   ]
 
 -- tables of layout 1 that passed spell a registry
-pub finds_first : (old new : State) (r : Result ℕ StoreError) → OnOk r (IsLayout old.now.schema) → OnOk r (IsTrue old.is_open) → (IsTrue old.is_open → IsDatabase old.now) → IfOk r (λ count. HasTablesFirst old.now.schema → TablesPass First old.now × HasVersionRows old.now count)
-    → IfOk r (FindsFirst old.now)
-finds_first old new (Ok count) known is_open sound passes =
-    let both = passes (has_tables_first old.now.schema known) in
-    let it = spelled_if_first_passed old.now known (sound is_open) both.0 in
+pub finds_one : (old new : State) (r : Result ℕ StoreError) → OnOk r (IsLayoutOne old.now.schema) → OnOk r (IsTrue old.is_open) → (IsTrue old.is_open → IsDatabase old.now) → IfOk r (λ count. HasFiveTables old.now.schema → FivePass One old.now × HasVersionRows old.now count)
+    → IfOk r (FindsLayoutOne old.now)
+finds_one old new (Ok count) known is_open sound passes =
+    let both = passes (one_has_five old.now.schema known) in
+    let it = spelled_if_five_passed old.now known (sound is_open) both.0 in
     record { stored = it.stored; spells = it.spells; counted = both.1 }
-finds_first old new (Err e) known is_open sound passes = tt
+finds_one old new (Err e) known is_open sound passes = tt
 
 -- ---- what a failed call leaves
 
@@ -153,10 +152,10 @@ unmade_beside g conn begun is others settled commit = record {
 
 -- nor for the errors of `check_first`
 pub unread_unlimited : {S X : Type 0} (g : Ghosts S) (conn begun : Held S) → begun ≡ record conn { step_limit = None } → (new : State) (r : Result X StoreError)
-    → IfErr r (λ e. (IsTrue (state g begun).is_open → SpellsSome SpellsFirst (state g begun).now) → IsFaultBy (state g begun) new e)
+    → IfErr r (λ e. (IsTrue (state g begun).is_open → SpellsSome SpellsLayoutOne (state g begun).now) → IsFaultBy (state g begun) new e)
     → IfErr r (IsTold (state g begun) new) → IfErr r (IsRefusedAs 1 (state g begun).now) → IfErr r (TellsOther 1 (state g begun)) → IfErr r (IsUnread (state g conn) new)
 unread_unlimited g conn begun is new (Ok x) fault told refused other = tt
 unread_unlimited g conn begun is new (Err e) fault told refused other =
-    let first : IsFaultFirst (state g begun) new e = λ was over. fault (λ is_open. record { stored = was; spells = over is_open }) in
+    let first : IsFaultOverLayoutOne (state g begun) new e = λ was over. fault (λ is_open. record { stored = was; spells = over is_open }) in
     let it = subst (λ h. IsUnread (state g h) new e) is (record { fault = first; told = told; refused = refused; other = other }) in
     record { fault = it.fault; told = it.told; refused = it.refused; other = it.other }

@@ -1,6 +1,6 @@
 -- Ids that a registry's tables hold pass, read version after version, and what passes so is evidence.
 use Rattle.std.proofs.Common.{◌≡◌, ◌||◌, inl, inr, ℕ, ℤ, List, [], ◌∷◌, map, filter, length, Bool, true, false, IsTrue, refl, sym, ap, subst, ◌∙◌}
-use Rattle.std.specs.Prelude.{Contains, IsSome, slice_get}
+use Rattle.std.specs.Prelude.{Contains, IsSome}
 use Rattle.std.specs.FinMap.{get}
 use Rattle.std.specs.List.{AllByRecursion, IsDistinct}
 use Rattle.std.specs.Ordering.{eq_by_cmp}
@@ -13,25 +13,23 @@ use Rattle.sqlite.specs.Effect.{Database}
 use Rattle.sqlite_rules.specs.Lists.{Has}
 use Rattle.sqlite_rules.proofs.ListLemmas.{all_has, has_contained, contains_had, has_filtered}
 use Rattle.reg_core.specs.Registry.{RowKey}
-use Rattle.reg_tables.specs.declared.second_lines.EvidenceLine.{EvidenceLine}
-use Rattle.reg_tables.specs.declared.second_lines.AgainstLine.{AgainstLine}
-use Rattle.reg_tables.specs.SecondLayout.{table_at}
-use Rattle.reg_tables.specs.Contents.{version_cmp}
+use Rattle.reg_tables.specs.declared.evidence.EvidenceLine.{EvidenceLine}
+use Rattle.reg_tables.specs.declared.evidence.AgainstLine.{AgainstLine}
+use Rattle.reg_tables.specs.Layout.{table_at}
+use Rattle.reg_tables.specs.Contents.{version_cmp, place_cells, evidence_form, against_form, TableName, Against, Contents, HoldsIn}
 use Rattle.reg_tables.specs.TableMaps.{ShowsMap}
-use Rattle.reg_tables.specs.SecondContents.{place_cells, evidence_form, against_form, SecondContents, HoldsAllIn}
-use Rattle.reg_tables.specs.Listings.{parts_of, entry_parts}
-use Rattle.reg_tables.specs.SecondListings.{evidence_entry, against_entry, against_rows, is_of, ListsEvidence, ListsAgainst}
+use Rattle.reg_tables.specs.Listings.{parts_of, entry_parts, evidence_entry, against_entry, against_rows, is_of, ListsEvidence, ListsAgainst}
 use Rattle.reg_tables.proofs.KeyedTables.{distinct_texts, version_order, distinct_versions}
 use Rattle.reg_tables.proofs.ListMembers.{has_mapped}
 use Rattle.reg_tables.proofs.ListingLemmas.{listed_if_shown}
 use Rattle.reg_tables.proofs.MapLemmas.{same_or_not, tied_key}
-use Rattle.reg_tables.proofs.SecondOpening.{shown_in, has_added}
+use Rattle.reg_tables.proofs.Tables.{shown_by}
 use Rattle.reg_rows.specs.Places.{Place, AreCounted, ArePositions}
 use Rattle.reg_store.specs.Spells.{SpellsUnopened}
 use Rattle.reg_store.specs.Inside.Testing.{AreApart, against_fits, version_at, place_at, evidence_fits, StandInOrder, JudgesVersions, EvidenceFits, EvidencePasses, SpellsSome}
 use Rattle.reg_store.proofs.EvidenceMaps.{evidence_if_spelled}
 use Rattle.reg_store.proofs.EvidenceRows.{version_listed}
-use Rattle.reg_store.proofs.SecondTests.{second_known, evidence_passes}
+use Rattle.reg_store.proofs.EightTests.{eight_known, evidence_passes}
 use Rattle.reg_store.proofs.TextParts.{Splits, split, all_pass, none_passes}
 use Rattle.reg_store.proofs.VersionParts.{key_is, row_of, counted_if, if_counted, many_lines, of_itself, of_one, close, uncounted, rows_of, joined, Parts, all_listed, version_read, against, lists_all, positions_if_fit, fits_if_fit}
 
@@ -119,14 +117,14 @@ module _ (db : Database) (evidence : List EvidenceLine) (lists : ListsEvidence d
       }
 
   module _ (s : SpellsSome SpellsUnopened db) where
-    abbrev held : SecondContents
+    abbrev held : Contents
     held = s.spells.contents
 
-    holds : HoldsAllIn db.schema db held
-    holds = subst (λ x. HoldsAllIn x db held) (sym s.spells.holds.base.declared) s.spells.holds
+    holds : HoldsIn db.schema db held
+    holds = subst (λ x. HoldsIn x db held) (sym s.spells.holds.declared) s.spells.holds
 
     shows : ShowsMap against_form (against_rows db) (get held.against)
-    shows = shown_in against_form db.trees held.against _ (slice_get db.schema.tables 7) (has_added db.schema (second_known db s)).2 holds.against
+    shows = shown_by holds Against (eight_known db s)
 
     keyed : ArePlaced (against_rows db)
     keyed row there = let e = shows.sound row there in (e.0, e.3.0)
@@ -134,8 +132,7 @@ module _ (db : Database) (evidence : List EvidenceLine) (lists : ListsEvidence d
     covered : IsPermutation (against_rows db) (rows_of db versions)
     unfolding IsDistinct
     covered =
-        let levels = listed_if_shown evidence_form version_cmp version_order distinct_versions (db.trees (table_at db.schema 6).tree) (map evidence_entry evidence) lists held.evidence distinct_texts
-        (shown_in evidence_form db.trees held.evidence _ (slice_get db.schema.tables 6) (has_added db.schema (second_known db s)).1 holds.evidence) in
+        let levels = listed_if_shown evidence_form version_cmp version_order distinct_versions (db.trees (table_at db.schema 6).tree) (map evidence_entry evidence) lists held.evidence distinct_texts (shown_by holds TableName.Evidence (eight_known db s)) in
         let rows = evidence_if_spelled held s.stored.evidence s.spells.spelled.evidence in
         let apart = subst (IsDistinct (eq_by_cmp version_cmp)) (map-map (λ (e : ℤ × RowKey × List ℕ). e.1) evidence_entry evidence) levels.apart.keys in
         subst (λ l. IsPermutation l (rows_of db versions)) (all_pass (among versions) (against_rows db) (λ row there.

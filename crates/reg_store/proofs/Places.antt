@@ -5,24 +5,25 @@ use Rattle.std.proofs.lemmas.List.{take_more, length-take-le}
 use Rattle.std.proofs.lemmas.Option.{slice_get_past}
 use Rattle.std.specs.FinMap.{get}
 use Rattle.reg_core.specs.Registry.{RowKey}
-use Rattle.reg_tables.specs.SecondContents.{PlaceKey, place_cmp, SecondContents, with_against}
+use Rattle.reg_tables.specs.Contents.{PlaceKey, place_cmp, Contents}
+use Rattle.reg_tables.specs.Changes.{with_against}
 use Rattle.reg_tables.proofs.MapLemmas.{get-insert-same, get-insert-other}
-use Rattle.reg_tables.proofs.SecondTables.{place_order}
+use Rattle.reg_tables.proofs.Keys.{place_order}
 use Rattle.reg_store.specs.Inside.Making.{with_ids, HasNoPlace, HasTexts}
 
 module _ (key : RowKey) where
   -- nothing else changes
-  pub ids_beside : (n : ℕ) (ids : List ℕ) (contents : SecondContents) → with_ids key n ids contents ≡ record contents { against = (with_ids key n ids contents).against }
+  pub ids_beside : (n : ℕ) (ids : List ℕ) (contents : Contents) → with_ids key n ids contents ≡ record contents { against = (with_ids key n ids contents).against }
   ids_beside n [] contents = refl
   ids_beside n (id ∷ ids) contents = ids_beside (n + 1) ids (with_against (key, n) id contents)
 
   -- one id more stands behind the others
-  pub ids_append : (n : ℕ) (ids : List ℕ) (id : ℕ) (contents : SecondContents) → with_ids key n (ids ++ id ∷ []) contents ≡ with_against (key, n + length ids) id (with_ids key n ids contents)
+  pub ids_append : (n : ℕ) (ids : List ℕ) (id : ℕ) (contents : Contents) → with_ids key n (ids ++ id ∷ []) contents ≡ with_against (key, n + length ids) id (with_ids key n ids contents)
   ids_append n [] id contents = ap (λ (p : ℕ). with_against (key, p) id contents) (omega arith)
   ids_append n (x ∷ ids) id contents = ids_append (n + 1) ids id (with_against (key, n) x contents) ∙ ap (λ (p : ℕ). with_against (key, p) id (with_ids key (n + 1) ids (with_against (key, n) x contents))) (omega arith)
 
   -- the places of another version stay
-  pub ids_elsewhere : (n : ℕ) (ids : List ℕ) (contents : SecondContents) (place : PlaceKey) → place.0 ≢ key → get (with_ids key n ids contents).against place ≡ get contents.against place
+  pub ids_elsewhere : (n : ℕ) (ids : List ℕ) (contents : Contents) (place : PlaceKey) → place.0 ≢ key → get (with_ids key n ids contents).against place ≡ get contents.against place
   ids_elsewhere n [] contents place other = refl
   ids_elsewhere n (id ∷ ids) contents place other =
       ids_elsewhere (n + 1) ids (with_against (key, n) id contents) place other ∙ get-insert-other place_cmp place_order contents.against (key, n) id place (λ e. other (ap (λ (p : PlaceKey). p.0) e))
@@ -31,13 +32,13 @@ module _ (key : RowKey) where
   another position n apart e = apart (ap (λ (p : PlaceKey). p.1) e)
 
   -- and so do those before the first
-  ids_before : (n : ℕ) (ids : List ℕ) (contents : SecondContents) (position : ℕ) → position < n → get (with_ids key n ids contents).against (key, position) ≡ get contents.against (key, position)
+  ids_before : (n : ℕ) (ids : List ℕ) (contents : Contents) (position : ℕ) → position < n → get (with_ids key n ids contents).against (key, position) ≡ get contents.against (key, position)
   ids_before n [] contents position low = refl
   ids_before n (id ∷ ids) contents position low =
       ids_before (n + 1) ids (with_against (key, n) id contents) position (omega (arith, low)) ∙ get-insert-other place_cmp place_order contents.against (key, n) id (key, position) (another position n (λ e. omega (arith, low, e)))
 
   -- where places were free, the ids stand there in their order, and no more
-  ids_since : (n : ℕ) (ids : List ℕ) (contents : SecondContents) → ((position : ℕ) → n ≤ position → get contents.against (key, position) ≡ None) → (k : ℕ) → get (with_ids key n ids contents).against (key, n + k) ≡ slice_get ids k
+  ids_since : (n : ℕ) (ids : List ℕ) (contents : Contents) → ((position : ℕ) → n ≤ position → get contents.against (key, position) ≡ None) → (k : ℕ) → get (with_ids key n ids contents).against (key, n + k) ≡ slice_get ids k
   ids_since n [] contents free k = free (n + k) (omega arith)
   ids_since n (id ∷ ids) contents free zero =
       let here : n + 0 ≡ n = omega arith in
@@ -49,7 +50,7 @@ module _ (key : RowKey) where
       ap (λ (p : ℕ). get (with_ids key n (id ∷ ids) contents).against (key, p)) there
       ∙ ids_since (n + 1) ids (with_against (key, n) id contents) (λ p up. get-insert-other place_cmp place_order contents.against (key, n) id (key, p) (another p n (λ e. omega (arith, up, e))) ∙ free p (omega (arith, up))) k
 
-  module _ (ids : List ℕ) (contents : SecondContents) (free : HasNoPlace contents key) where
+  module _ (ids : List ℕ) (contents : Contents) (free : HasNoPlace contents key) where
     -- no id has the position 0
     pub at_zero : get (with_ids key 1 ids contents).against (key, 0) ≡ None
     at_zero = ids_before 1 ids contents 0 (omega arith) ∙ free 0
@@ -60,7 +61,7 @@ module _ (key : RowKey) where
         let next : suc k ≡ 1 + k = omega arith in
         ap (λ (p : ℕ). get (with_ids key 1 ids contents).against (key, p)) next ∙ ids_since 1 ids contents (λ position up. free position) k
 
-  module _ (ids : List ℕ) (contents : SecondContents) (i position : ℕ) (within : i < length ids) (next : position ≡ i + 1) where
+  module _ (ids : List ℕ) (contents : Contents) (i position : ℕ) (within : i < length ids) (next : position ≡ i + 1) where
     -- behind some of the ids the next position is free
     pub next_is_free : HasNoPlace contents key → get (with_ids key 1 (take i ids) contents).against (key, position) ≡ None
     next_is_free free =
@@ -79,5 +80,5 @@ module _ (key : RowKey) where
         ∙ sym (ap (λ (l : List ℕ). with_ids key 1 l contents) (take_more ids i 0 within))
 
     -- the version is there still, and so are the texts
-    pub has_still : HasTexts contents key ids → IsSome (get (with_ids key 1 (take i ids) contents).base.versions key) × IsSome (get (with_ids key 1 (take i ids) contents).base.texts (get_or ids i 0))
-    has_still has = subst (λ (c : SecondContents). IsSome (get c.base.versions key) × IsSome (get c.base.texts (get_or ids i 0))) (sym (ids_beside 1 (take i ids) contents)) (has.version, has.texts i 0 within)
+    pub has_still : HasTexts contents key ids → IsSome (get (with_ids key 1 (take i ids) contents).versions key) × IsSome (get (with_ids key 1 (take i ids) contents).texts (get_or ids i 0))
+    has_still has = subst (λ (c : Contents). IsSome (get c.versions key) × IsSome (get c.texts (get_or ids i 0))) (sym (ids_beside 1 (take i ids) contents)) (has.version, has.texts i 0 within)

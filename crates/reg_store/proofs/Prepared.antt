@@ -1,6 +1,6 @@
 -- What a statement that is prepared tells of the connection.
-use Rattle.std.proofs.Common.{◌≡◌, ◌⊎◌, inl, inr, List, ℕ, Ok, Err, Result, IsTrue, true, sym, ap, subst, ◌∙◌}
-use Rattle.std.specs.Prelude.{IfErr, IsErrAnd, OnOk, not}
+use Rattle.std.proofs.Common.{◌≡◌, ◌⊎◌, inl, inr, List, ℕ, Ok, Err, Result, IsTrue, sym, ap, subst}
+use Rattle.std.specs.Prelude.{IfErr, OnOk, not}
 use Rattle.std.proofs.lemmas.Bool.{both_ways}
 use Rattle.sqlite.specs.Order.{Row}
 use Rattle.sqlite.specs.declared.error.Error.{Error}

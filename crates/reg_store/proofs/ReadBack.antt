@@ -10,13 +10,12 @@ use Rattle.reg_core.specs.Stored.{Stored}
 use Rattle.reg_core.specs.declared.mode.Mode.{Mode}
 use Rattle.reg_core.specs.declared.mode.Mode.TheVariants.{Readwrite, Readonly}
 use Rattle.reg_core.specs.Modes.{mode_text, mode_of}
-use Rattle.reg_tables.specs.Contents.{text_cmp, KeptRow}
-use Rattle.reg_tables.specs.SecondContents.{SecondContents}
+use Rattle.reg_tables.specs.Contents.{text_cmp, KeptRow, Contents}
 use Rattle.reg_tables.proofs.MapLemmas.{get-insert-same, get-insert-other}
 use Rattle.reg_tables.proofs.KeyedTables.{text_order}
 use Rattle.reg_core.specs.KeptReplies.{Entry}
-use Rattle.reg_store.specs.Spells.{IsSpelledSecond, row_of}
-use Rattle.reg_store.proofs.Seconds.{other_name}
+use Rattle.reg_store.specs.Spells.{IsSpelledLayoutTwo, row_of}
+use Rattle.reg_store.proofs.SpelledTwo.{other_name}
 
 -- a level's text spells it alone
 pub level_of-level_text : (level : Level) → level_of (level_text level) ≡ Some level
@@ -63,11 +62,11 @@ mode_of-mode_text Readonly = refl
 pub mode_is : (text : List ℕ) (read written : Mode) → text ≡ mode_text written → mode_of text ≡ Some read → read ≡ written
 mode_is text read written is spells = let same : Some read ≡ Some written = sym spells ∙ ap mode_of is ∙ mode_of-mode_text written in cc
 
-module _ (contents : SecondContents) (was : Stored) (s : IsSpelledSecond contents was) where
-  pub global_is : get contents.base.meta (codes "global") ≡ Some (level_text was.registry.global)
+module _ (contents : Contents) (was : Stored) (s : IsSpelledLayoutTwo contents was) where
+  pub global_is : get contents.meta (codes "global") ≡ Some (level_text was.registry.global)
   global_is =
       ap (λ m. get m (codes "global")) s.meta ∙ get-insert-other text_cmp text_order _ (codes "mode") (mode_text was.registry.global_mode) (codes "global") other_name
       ∙ get-insert-same text_cmp text_order _ (codes "global") (level_text was.registry.global)
 
-  pub global_mode_is : get contents.base.meta (codes "mode") ≡ Some (mode_text was.registry.global_mode)
+  pub global_mode_is : get contents.meta (codes "mode") ≡ Some (mode_text was.registry.global_mode)
   global_mode_is = ap (λ m. get m (codes "mode")) s.meta ∙ get-insert-same text_cmp text_order _ (codes "mode") (mode_text was.registry.global_mode)

@@ -6,11 +6,12 @@ use Rattle.sqlite.specs.State.{State, HasCleanDisk}
 use Rattle.sqlite.specs.declared.error.Error.{Error}
 use Rattle.sqlite_trees.specs.declared.store.Store.{Ghosts}
 use Rattle.sqlite.specs.Effect.{Database}
-use Rattle.reg_tables.specs.Layout.{HasTablesFirst}
+use Rattle.sqlite.specs.Schema.{Schema}
+use Rattle.reg_tables.specs.Layout.{HasFiveTables, HasEightTables}
 use Rattle.reg_tables.specs.Frames.{StaysIdle}
-use Rattle.reg_tables.specs.Reads.{HoldsReadable, CanBeRead, HasLayout}
-use Rattle.reg_tables.specs.SecondContents.{CanBeReadSecond}
+use Rattle.reg_tables.specs.Reads.{HoldsReadable, CanBeRead, CanBeReadIn, HasLayout}
 use Rattle.reg_tables.specs.FailedCalls.{IsFault}
+use Rattle.reg_tables.proofs.Tables.{eight_has_five}
 use Rattle.reg_tables.proofs.Transactions.{keeps_then, survives_both}
 use Rattle.reg_store.specs.declared.error.StoreError.{StoreError}
 use Rattle.reg_store.specs.declared.error.StoreError.TheVariants.{Memory}
@@ -20,8 +21,8 @@ use Rattle.reg_store.specs.Spells.{IsOpenOver, SpellsWhileOpen}
 use Rattle.reg_store.specs.Failures.{failure_of, IsFaultBy, IsTold}
 use Rattle.reg_store.specs.Inside.Reads.{shown, Rests, MayRead, Reads}
 use Rattle.reg_store.specs.Stores.{TellsStored}
-use Rattle.reg_store.proofs.Failing.{by_since, fault_by, told_since, can_be_read}
-use Rattle.reg_store.proofs.SecondTests.{can_be_read_second}
+use Rattle.reg_store.proofs.Failing.{by_since, fault_by, told_since}
+use Rattle.reg_store.proofs.EightTests.{can_read_eight}
 use Rattle.reg_store.proofs.Committing.{still_spells}
 
 -- ---- results
@@ -106,7 +107,7 @@ module _ (a b : State) (p : Rests a b) (settled : IsTrue a.is_open → a.now ≡
   readable_on can is_open = subst HoldsReadable (sym (same_db is_open)) (can ((p.commit_stays clean).was_open is_open))
 
   pub layout_on : HasLayout a → HasLayout b
-  layout_on known is_open = subst (λ (d : Database). HasTablesFirst d.schema) (sym (same_db is_open)) (known ((p.commit_stays clean).was_open is_open))
+  layout_on known is_open = subst (λ (d : Database). HasFiveTables d.schema) (sym (same_db is_open)) (known ((p.commit_stays clean).was_open is_open))
 
 -- ---- reads
 
@@ -128,27 +129,23 @@ module _ {S : Type 0} {g : Ghosts S} where
     pub read_refused : {Y : Type 0} {y : Y} → StaysIdle {E = Error} g old.idle.conn new.idle.conn (Ok y) → IsErrAnd r (λ failure. failure ≡ Memory) → Reads old new r Tells
     read_refused frame is = read frame (λ clean was over. passed_on (Tells was) (IsFaultBy (shown old) (shown new)) r Memory is tt)
 
-    -- it wasn't
-    pub not_read : {Y : Type 0} {e : Error} → StaysIdle {X = Y} g old.idle.conn new.idle.conn (Err e) → (HasCleanDisk (shown new) → CanBeRead (shown old) → IsFault (shown old) (shown new) e)
-        → IsErrAnd r (λ failure. failure ≡ failure_of e) → Reads old new r Tells
-    not_read {e = e} frame fault is = record {
+    -- a table of these schemas wasn't
+    pub not_read_in : {Known : Schema → Type 0} → ((schema : Schema) → HasEightTables schema → Known schema) → {Y : Type 0} {e : Error} → StaysIdle {X = Y} g old.idle.conn new.idle.conn (Err e)
+        → (HasCleanDisk (shown new) → CanBeReadIn Known (shown old) → IsFault (shown old) (shown new) e) → IsErrAnd r (λ failure. failure ≡ failure_of e) → Reads old new r Tells
+    not_read_in has {e = e} frame fault is = record {
       may = record {
         rests = rests_read g old.idle.conn new.idle.conn (Err e) frame;
-        answers = λ clean was over. passed_on (Tells was) (IsFaultBy (shown old) (shown new)) r (failure_of e) is (fault_by (shown old) (shown new) e old.unlimited (fault clean (can_be_read (shown old) was over)));
+        answers = λ clean was over. passed_on (Tells was) (IsFaultBy (shown old) (shown new)) r (failure_of e) is (fault_by (shown old) (shown new) e old.unlimited (fault clean (λ is_open.
+            let it = can_read_eight (shown old) was over is_open in
+            record { schema = it.schema; known = has it.schema it.known; contents = it.contents; holds = it.holds; readable = it.readable })));
       };
       was_open = λ clean. none_ok (IsTrue (shown old).is_open) r (failure_of e) is;
     }
 
-    -- nor was one of those that layout 2 adds
-    pub not_read_second : {Y : Type 0} {e : Error} → StaysIdle {X = Y} g old.idle.conn new.idle.conn (Err e) → (HasCleanDisk (shown new) → CanBeReadSecond (shown old) → IsFault (shown old) (shown new) e)
+    -- one of the five tables wasn't
+    pub not_read : {Y : Type 0} {e : Error} → StaysIdle {X = Y} g old.idle.conn new.idle.conn (Err e) → (HasCleanDisk (shown new) → CanBeRead (shown old) → IsFault (shown old) (shown new) e)
         → IsErrAnd r (λ failure. failure ≡ failure_of e) → Reads old new r Tells
-    not_read_second {e = e} frame fault is = record {
-      may = record {
-        rests = rests_read g old.idle.conn new.idle.conn (Err e) frame;
-        answers = λ clean was over. passed_on (Tells was) (IsFaultBy (shown old) (shown new)) r (failure_of e) is (fault_by (shown old) (shown new) e old.unlimited (fault clean (can_be_read_second (shown old) was over)));
-      };
-      was_open = λ clean. none_ok (IsTrue (shown old).is_open) r (failure_of e) is;
-    }
+    not_read frame fault is = not_read_in eight_has_five frame fault is
 
   -- ---- what is made of a read
 

@@ -14,8 +14,8 @@ use Rattle.sqlite_rules.specs.Lists.{Has}
 use Rattle.sqlite_rules.proofs.ListLemmas.{all_has, all_from}
 use Rattle.reg_core.specs.Registry.{Schemas, RowKey, Version, Rows, IsRow, schema_at, max_number}
 use Rattle.reg_core.specs.Subjects.{is_subject}
-use Rattle.reg_tables.specs.declared.lines.TextLine.{TextLine}
-use Rattle.reg_tables.specs.declared.lines.VersionLine.{VersionLine}
+use Rattle.reg_tables.specs.declared.text_lines.TextLine.{TextLine}
+use Rattle.reg_tables.specs.declared.versions.VersionLine.{VersionLine}
 use Rattle.reg_tables.specs.Contents.{version_cmp, VersionRow}
 use Rattle.reg_tables.specs.Listings.{HasNoTwins, without_rowid, text_entry, version_entry}
 use Rattle.reg_tables.proofs.ListMembers.{has_mapped, maps_had}

@@ -17,7 +17,7 @@ use Rattle.avro_nodes.specs.Identity.{identity}
 use Rattle.avro_schema.specs.Texts.{IsSchema}
 use Rattle.reg_core.specs.Modes.{mode_text}
 use Rattle.reg_core.specs.Registry.{Schemas, Rows, Registry, OwnModes, IsRow, IsRegistry, schema_at, max_number, own_with}
-use Rattle.reg_tables.specs.Contents.{TextMap, Contents}
+use Rattle.reg_tables.specs.Contents.{Contents}
 use Rattle.reg_tables.specs.Writing.{Changes, ChangesIf}
 use Rattle.reg_tables.specs.Changes.{with_global, with_level, with_kept}
 use Rattle.reg_core.specs.KeptReplies.{Entry, Kept, kept_with}
@@ -27,7 +27,7 @@ use Rattle.reg_store.specs.Changes.{entry_of, made_of}
 use Rattle.reg_store.specs.Spells.{CanBeKept, IsSpelled, row_of}
 use Rattle.reg_store.specs.Inside.Making.{Makes, Keeps}
 use Rattle.reg_store.proofs.Maps.{insert_both}
-use Rattle.reg_store.proofs.Seconds.{spelled_in, level_changed, changed, put}
+use Rattle.reg_store.proofs.SpelledTwo.{spelled_in, level_changed, changed, put}
 
 -- what holds of each entry holds with one more
 pub each_entry : {V : Type 0} (P : List ℕ → V → Type 0) (look : List ℕ → Option V) (k : List ℕ) (v : V) → P k v → ((q : List ℕ) (w : V) → look q ≡ Some w → P q w)
@@ -50,20 +50,30 @@ same_registry g h schemas rows is = record {
   rows = λ key version there. subst (λ (l : Schemas). IsRow l key version) (sym schemas) (is.rows key version (ap (λ (m : Rows). get m key) (sym rows) ∙ there));
 }
 
+-- what schemas, versions, levels and kept replies are in stays
+abbrev pub KeepsBase : Contents → Contents → Type 0
+KeepsBase was now = (now.texts ≡ was.texts) × (now.versions ≡ was.versions) × (now.levels ≡ was.levels) × (now.kept ≡ was.kept)
+
+pub spelled_as : (contents : Contents) (g : Registry) (k : Kept) → IsSpelled contents g k → (now : Contents) → KeepsBase contents now → IsSpelled now g k
+spelled_as contents g k s now keeps = record {
+  registry = s.registry;
+  texts = λ id. ap (λ m. get m id) keeps.0 ∙ s.texts id;
+  utf8 = s.utf8;
+  versions = λ key. ap (λ m. get m key) keeps.1 ∙ s.versions key;
+  registered = s.registered;
+  levels = λ subject. ap (λ m. get m subject) keeps.2 ∙ s.levels subject;
+  subjects = s.subjects;
+  kept = λ key. ap (λ m. get m key) keeps.3 ∙ s.kept key;
+  keys = s.keys;
+}
+
 module _ (contents : Contents) (g : Registry) (k : Kept) (s : IsSpelled contents g k) where
   -- the global level, modes and the rows of `meta` are no matter of it
-  pub spelled_beside : (meta : TextMap (List ℕ)) (level : Level) (mode : Mode) (modes : OwnModes) → IsSpelled (record contents { meta = meta }) (record g { global = level; global_mode = mode; own_modes = modes }) k
-  spelled_beside meta level mode modes = record {
-    registry = same_registry g _ refl refl s.registry;
-    texts = s.texts;
-    utf8 = s.utf8;
-    versions = s.versions;
-    registered = s.registered;
-    levels = s.levels;
-    subjects = s.subjects;
-    kept = s.kept;
-    keys = s.keys;
-  }
+  -- the other tables hold something else
+  pub spelled_beside : (now : Contents) → KeepsBase contents now → (level : Level) (mode : Mode) (modes : OwnModes) → IsSpelled now (record g { global = level; global_mode = mode; own_modes = modes }) k
+  spelled_beside now keeps level mode modes =
+      let it = spelled_as contents g k s now keeps in
+      record { registry = same_registry g _ refl refl s.registry; texts = it.texts; utf8 = it.utf8; versions = it.versions; registered = it.registered; levels = it.levels; subjects = it.subjects; kept = it.kept; keys = it.keys }
 
   spelled_level : (subject : List ℕ) (level : Level) → IsTrue (is_subject subject) → IsSpelled (with_level subject (level_text level) contents) (record g { own = own_with g.own subject level }) k
   spelled_level subject level within = record {
@@ -98,17 +108,17 @@ module _ (old new : State) where
   respells_global level changes was s fits =
       let g = was.registry in
       changed old new (with_global (level_text level)) changes was s _
-      (spelled_in s.contents was s.spelled _ _ _ (spelled_beside s.contents.base g was.replies s.spelled.base _ level g.global_mode g.own_modes) (level_changed s.contents.base.meta g.global level (mode_text g.global_mode) s.spelled.meta) refl)
+      (spelled_in s.contents was s.spelled _ _ _ (spelled_beside s.contents g was.replies s.spelled.base (with_global (level_text level) s.contents) (refl, refl, refl, refl) level g.global_mode g.own_modes) (level_changed s.contents.meta g.global level (mode_text g.global_mode) s.spelled.meta) refl (refl, refl, refl))
 
   pub respells_level : (subject : List ℕ) (level : Level) → IsTrue (is_subject subject) → Changes old new (with_level subject (level_text level)) → Makes old new (SetLevel subject level)
   respells_level subject level within changes was s fits =
       changed old new (with_level subject (level_text level)) changes was s _
-      (spelled_in s.contents was s.spelled _ _ _ (spelled_level s.contents.base was.registry was.replies s.spelled.base subject level within) s.spelled.meta refl)
+      (spelled_in s.contents was s.spelled _ _ _ (spelled_level s.contents was.registry was.replies s.spelled.base subject level within) s.spelled.meta refl (refl, refl, refl))
 
   pub respells_kept : (keep : Keep) → CanBeKept keep.key.now (entry_of keep) → ChangesIf old new (λ contents. get contents.kept keep.key.now ≡ None) (with_kept keep.key.now (row_of (entry_of keep))) → Keeps old new (Some keep)
   respells_kept keep fits puts was s fresh =
       put old new (λ contents. get contents.kept keep.key.now ≡ None) (with_kept keep.key.now (row_of (entry_of keep))) puts was s (s.spelled.base.kept keep.key.now ∙ ap (option_map row_of) fresh) _
-      (spelled_in s.contents was s.spelled _ _ _ (spelled_kept s.contents.base was.registry was.replies s.spelled.base keep.key.now (entry_of keep) fits) s.spelled.meta refl)
+      (spelled_in s.contents was s.spelled _ _ _ (spelled_kept s.contents was.registry was.replies s.spelled.base keep.key.now (entry_of keep) fits) s.spelled.meta refl (refl, refl, refl))
 
 -- ---- several changes
 

@@ -1,7 +1,7 @@
 -- What the tests of the tables say, both ways.
-use Rattle.std.proofs.Common.{◌⊎◌, ◌≡◌, ℕ, List, [], ◌∷◌, map, length, Bool, false, None, Ok, Err, Result, IsTrue, refl, sym, ap, subst, ◌∙◌, arith}
+use Rattle.std.proofs.Common.{◌⊎◌, ◌≡◌, ℕ, List, [], ◌∷◌, map, length, Bool, false, None, Ok, Err, Result, IsTrue, refl, sym, ap, subst, ◌∙◌, arith, slice_get}
 use Rattle.std.specs.Prelude.{IfOk, IfErr, OnOk, IsErrAnd}
-use Rattle.std.specs.List.{AllByRecursion, IsDistinct}
+use Rattle.std.specs.List.{AllByRecursion}
 use Rattle.std.specs.List.Sorted.{IsPermutation}
 use Rattle.std.proofs.lemmas.List.{length-map}
 use Rattle.std.proofs.lemmas.List.Sorted.{IsPermutation-map, IsPermutation-trans, length_permutation}
@@ -13,23 +13,28 @@ use Rattle.sqlite.specs.State.{State, HasCleanDisk}
 use Rattle.sqlite.specs.declared.error.Error.{Error}
 use Rattle.sqlite_trees.specs.declared.store.Store.{Ghosts}
 use Rattle.reg_core.specs.Registry.{Registry}
-use Rattle.reg_tables.specs.declared.lines.TextLine.{TextLine}
-use Rattle.reg_tables.specs.declared.lines.VersionLine.{VersionLine}
-use Rattle.reg_tables.specs.declared.lines.LevelLine.{LevelLine}
-use Rattle.reg_tables.specs.declared.lines.KeptLine.{KeptLine}
-use Rattle.reg_tables.specs.declared.lines.MetaLine.{MetaLine}
-use Rattle.reg_tables.specs.Layout.{HasTablesFirst, texts, versions, levels, kept}
-use Rattle.reg_tables.specs.Contents.{text_form, version_form, pair_form, kept_form, text_cmp, version_cmp, HoldsIn}
+use Rattle.reg_tables.specs.declared.text_lines.TextLine.{TextLine}
+use Rattle.reg_tables.specs.declared.versions.VersionLine.{VersionLine}
+use Rattle.reg_tables.specs.declared.levels.LevelLine.{LevelLine}
+use Rattle.reg_tables.specs.declared.kept.KeptLine.{KeptLine}
+use Rattle.reg_tables.specs.declared.meta.MetaLine.{MetaLine}
+use Rattle.reg_tables.specs.declared.modes.ModeLine.{ModeLine}
+use Rattle.reg_tables.specs.declared.evidence.EvidenceLine.{EvidenceLine}
+use Rattle.reg_tables.specs.declared.evidence.AgainstLine.{AgainstLine}
+use Rattle.reg_tables.specs.Layout.{HasFiveTables, texts, versions, levels, kept}
+use Rattle.reg_tables.specs.Contents.{text_form, version_form, pair_form, kept_form, evidence_form, against_form, text_cmp, version_cmp, place_cmp, TableName, HoldsIn}
 use Rattle.reg_tables.specs.Frames.{StaysIdle}
-use Rattle.reg_tables.specs.Listings.{parts_of, entry_parts, text_entry, version_entry, level_entry, kept_entry, ListsTexts, ListsVersions, ListsLevels, ListsKept, ListsMeta}
-use Rattle.reg_tables.specs.Inside.AllLines.{ListsAll, HaveNoTwins, Lines, contents_of}
+use Rattle.reg_tables.specs.Listings.{HasNoTwins, parts_of, entry_parts, text_entry, version_entry, level_entry, kept_entry, mode_entry, evidence_entry, against_entry, ListsTexts, ListsVersions, ListsLevels, ListsKept, ListsMeta}
+use Rattle.reg_tables.specs.Inside.AllLines.{ListsIn, ListsAll, HaveNoTwins, Lines, contents_of}
 use Rattle.reg_tables.specs.Reads.{CanBeRead}
 use Rattle.reg_tables.specs.FailedCalls.{IsFault, IsUnreadable}
 use Rattle.reg_tables.proofs.KeyedTables.{text_order, distinct_texts, number_order, distinct_numbers, version_order, distinct_versions}
 use Rattle.reg_tables.proofs.ListingLemmas.{listed_if_shown}
-use Rattle.reg_tables.proofs.Opening.{holds_if_listed, distinct_version_rows, distinct_kept_rows}
+use Rattle.reg_tables.proofs.Opening.{holds_if_listed, lists_by_name}
+use Rattle.reg_tables.proofs.Keys.{distinct_version_rows, distinct_kept_rows}
 use Rattle.reg_tables.proofs.Statements.{laid_out}
-use Rattle.reg_tables.proofs.UniqueKeys.{HasKeysFirst, apart_by_id, versions_apart, levels_apart, kept_apart, meta_apart, rowids_of}
+use Rattle.reg_tables.proofs.Tables.{five}
+use Rattle.reg_tables.proofs.UniqueKeys.{HasFiveKeys, one_keys, apart_by_id, versions_apart, levels_apart, kept_apart, meta_apart, rowids_of}
 use Rattle.reg_rows.specs.Spelling.{Text, AreTexts, IsVersionRow, IsLevelRow, IsKeptRow}
 use Rattle.reg_store.specs.declared.error.StoreError.{StoreError}
 use Rattle.reg_store.specs.declared.error.StoreError.TheVariants.{Memory, NotARegistry}
@@ -69,67 +74,80 @@ versions_counted db lines lists =
 
 -- ---- tables that spell a registry pass
 
-pub is_known : (db : Database) (was : Stored) → SpellsBase db was → HasTablesFirst db.schema
+pub is_known : (db : Database) (was : Stored) → SpellsBase db was → HasFiveTables db.schema
 is_known db was s = laid_out s.holds s.first
 
 module _ (db : Database) (was : Stored) (s : SpellsBase db was) where
   pub texts_pass : (lines : List TextLine) → ListsTexts db lines → Rises (map (λ (row : ℕ × Text). row.0) (map text_shown lines)) → AreTexts (map text_shown lines)
   texts_pass lines lists rising =
-      let shown = listed_if_shown text_form _ number_order distinct_numbers (db.trees texts.tree) (map text_entry lines) lists s.contents.texts distinct_texts s.holds.texts in
+      let shown = listed_if_shown text_form _ number_order distinct_numbers (db.trees texts.tree) (map text_entry lines) lists s.contents.texts distinct_texts (five s.holds s.first).texts in
       texts_fit lines shown.apart was.registry.schemas s.spelled.registry.schemas s.spelled.registry.few (λ id. sym (ap (λ m. get m id) shown.is) ∙ s.spelled.texts id) rising
 
   pub versions_pass : (lines : List VersionLine) → ListsVersions db lines → AreApart (map (λ (line : VersionLine). line.rowid) lines) × AllByRecursion version_fits lines
   versions_pass lines lists =
-      let shown = listed_if_shown version_form version_cmp version_order distinct_versions (db.trees versions.tree) (map version_entry lines) lists s.contents.versions distinct_version_rows s.holds.versions in (
+      let shown = listed_if_shown version_form version_cmp version_order distinct_versions (db.trees versions.tree) (map version_entry lines) lists s.contents.versions distinct_version_rows (five s.holds s.first).versions in (
         subst AreApart (rowids_of version_entry (λ (line : VersionLine). line.rowid) (λ line. refl) lines) shown.apart.rowids,
         each_line version_shown IsVersionRow lines (versions_fit lines shown.apart was.registry.schemas was.registry.rows (λ key. sym (ap (λ m. get m key) shown.is) ∙ s.spelled.versions key) s.spelled.registry.rows s.spelled.registered),
       )
 
   pub levels_pass : (lines : List LevelLine) → ListsLevels db lines → AreApart (map (λ (line : LevelLine). line.rowid) lines) × AllByRecursion level_fits lines
   levels_pass lines lists =
-      let shown = listed_if_shown pair_form text_cmp text_order distinct_texts (db.trees levels.tree) (map level_entry lines) lists s.contents.levels distinct_texts s.holds.levels in (
+      let shown = listed_if_shown pair_form text_cmp text_order distinct_texts (db.trees levels.tree) (map level_entry lines) lists s.contents.levels distinct_texts (five s.holds s.first).levels in (
         subst AreApart (rowids_of level_entry (λ (line : LevelLine). line.rowid) (λ line. refl) lines) shown.apart.rowids,
         each_line level_shown IsLevelRow lines (levels_fit lines shown.apart was.registry.own (λ q. sym (ap (λ m. get m q) shown.is) ∙ s.spelled.levels q) s.spelled.subjects),
       )
 
   pub kept_pass : (lines : List KeptLine) → ListsKept db lines → AreApart (map (λ (line : KeptLine). line.rowid) lines) × AllByRecursion kept_fits lines
   kept_pass lines lists =
-      let shown = listed_if_shown kept_form text_cmp text_order distinct_texts (db.trees kept.tree) (map kept_entry lines) lists s.contents.kept distinct_kept_rows s.holds.kept in (
+      let shown = listed_if_shown kept_form text_cmp text_order distinct_texts (db.trees kept.tree) (map kept_entry lines) lists s.contents.kept distinct_kept_rows (five s.holds s.first).kept in (
         subst AreApart (rowids_of kept_entry (λ (line : KeptLine). line.rowid) (λ line. refl) lines) shown.apart.rowids,
         each_line kept_shown IsKeptRow lines (kept_fit lines shown.apart was.replies (λ q. sym (ap (λ m. get m q) shown.is) ∙ s.spelled.kept q) s.spelled.keys),
       )
 
 -- ---- tables that pass spell a registry
 
--- the lines of the five tables
-abbrev pub lines_in : {db : Database} → List MetaLine → RestPasses db → Lines
-lines_in meta rest = record { texts = rest.texts.lines; versions = rest.versions.lines; levels = rest.levels.lines; kept = rest.kept.lines; meta = meta }
+-- the lines of the tables; layout 1 has none of modes and of evidence
+abbrev pub lines_in : {db : Database} → List MetaLine → RestPasses db → List ModeLine → List EvidenceLine → List AgainstLine → Lines
+lines_in meta rest modes evidence against TableName.Texts = rest.texts.lines
+lines_in meta rest modes evidence against TableName.Versions = rest.versions.lines
+lines_in meta rest modes evidence against TableName.Levels = rest.levels.lines
+lines_in meta rest modes evidence against TableName.Kept = rest.kept.lines
+lines_in meta rest modes evidence against TableName.Meta = meta
+lines_in meta rest modes evidence against TableName.Modes = modes
+lines_in meta rest modes evidence against TableName.Evidence = evidence
+lines_in meta rest modes evidence against TableName.Against = against
 
-module _ (db : Database) (known : HasKeysFirst db.schema) (sound : IsDatabase db) (meta : List MetaLine) (lists : ListsMeta db meta) (ids : AreApart (map (λ (line : MetaLine). line.rowid) meta)) (rest : RestPasses db) where
-  pub apart_if_passed : HaveNoTwins (lines_in meta rest)
-  unfolding IsDistinct
-  apart_if_passed = record {
-    texts = apart_by_id rest.texts.lines (ids_apart rest.texts.lines rest.texts.fit.numbered);
-    versions = versions_apart db known sound rest.versions.lines rest.versions.lists rest.versions.apart;
-    levels = levels_apart db known sound rest.levels.lines rest.levels.lists rest.levels.apart;
-    kept = kept_apart db known sound rest.kept.lines rest.kept.lists rest.kept.apart;
-    meta = meta_apart db known sound meta lists ids;
-  }
+module _ (db : Database) (known : HasFiveKeys db.schema) (sound : IsDatabase db) (meta : List MetaLine) (lists : ListsMeta db meta) (ids : AreApart (map (λ (line : MetaLine). line.rowid) meta)) (rest : RestPasses db)
+    (modes : List ModeLine) (evidence : List EvidenceLine) (against : List AgainstLine) where
+  abbrev lines : Lines
+  lines = lines_in meta rest modes evidence against
 
-  pub lists_if_passed : ListsAll db (lines_in meta rest)
-  lists_if_passed = record { texts = rest.texts.lists; versions = rest.versions.lists; levels = rest.levels.lists; kept = rest.kept.lists; meta = lists }
+  pub apart_if_passed : HasNoTwins text_cmp (map mode_entry modes) → HasNoTwins version_cmp (map evidence_entry evidence) → HasNoTwins place_cmp (map against_entry against) → HaveNoTwins lines
+  apart_if_passed m e a TableName.Texts = apart_by_id rest.texts.lines (ids_apart rest.texts.lines rest.texts.fit.numbered)
+  apart_if_passed m e a TableName.Versions = versions_apart db known sound rest.versions.lines rest.versions.lists rest.versions.apart
+  apart_if_passed m e a TableName.Levels = levels_apart db known sound rest.levels.lines rest.levels.lists rest.levels.apart
+  apart_if_passed m e a TableName.Kept = kept_apart db known sound rest.kept.lines rest.kept.lists rest.kept.apart
+  apart_if_passed m e a TableName.Meta = meta_apart db known sound meta lists ids
+  apart_if_passed m e a TableName.Modes = m
+  apart_if_passed m e a TableName.Evidence = e
+  apart_if_passed m e a TableName.Against = a
 
-  pub holds_if_passed : HoldsIn db.schema db (contents_of (lines_in meta rest))
-  holds_if_passed = holds_if_listed db.schema db (lines_in meta rest) refl lists_if_passed sound apart_if_passed
+  pub lists_if_passed : ListsIn pair_form db.trees (slice_get db.schema.tables 5) (map mode_entry modes) → ListsIn evidence_form db.trees (slice_get db.schema.tables 6) (map evidence_entry evidence) → ListsIn against_form db.trees (slice_get db.schema.tables 7) (map against_entry against)
+      → ListsAll db.schema db.trees lines
+  lists_if_passed = lists_by_name db.schema (one_keys db.schema known) db.trees lines rest.texts.lists rest.versions.lists rest.levels.lists rest.kept.lists lists
 
-  pub spelled_if_passed : (g : Registry) × (k : Kept) × IsSpelled (contents_of (lines_in meta rest)) g k
-  spelled_if_passed =
-      spelled_if_rows (lines_in meta rest) apart_if_passed (one_id db.schema db (contents_of (lines_in meta rest)) known holds_if_passed) (has_text db.schema db (contents_of (lines_in meta rest)) known holds_if_passed)
-      rest.texts.fit (each_row version_shown IsVersionRow rest.versions.lines rest.versions.fit) (each_row level_shown IsLevelRow rest.levels.lines rest.levels.fit) (each_row kept_shown IsKeptRow rest.kept.lines rest.kept.fit)
+  module _ (apart : HaveNoTwins lines) (all : ListsAll db.schema db.trees lines) where
+    pub holds_if_passed : HoldsIn db.schema db (contents_of lines)
+    holds_if_passed = holds_if_listed db.schema db lines all refl sound apart
+
+    pub spelled_if_passed : (g : Registry) × (k : Kept) × IsSpelled (contents_of lines) g k
+    spelled_if_passed =
+        spelled_if_rows lines apart (one_id db.schema db (contents_of lines) known holds_if_passed) (has_text db.schema db (contents_of lines) known holds_if_passed)
+        rest.texts.fit (each_row version_shown IsVersionRow rest.versions.lines rest.versions.fit) (each_row level_shown IsLevelRow rest.levels.lines rest.levels.fit) (each_row kept_shown IsKeptRow rest.kept.lines rest.kept.fit)
 
 -- ---- how a test comes out
 
-pub some_known : (db : Database) → SpellsSome SpellsBase db → HasTablesFirst db.schema
+pub some_known : (db : Database) → SpellsSome SpellsBase db → HasFiveTables db.schema
 some_known db s = is_known db s.stored s.spells
 
 pub some_can_be_read : (s : State) → (IsTrue s.is_open → SpellsSome SpellsBase s.now) → CanBeRead s

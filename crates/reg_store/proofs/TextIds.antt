@@ -14,6 +14,7 @@ use Rattle.reg_core.specs.Stored.{Stored}
 use Rattle.reg_tables.specs.Layout.{texts}
 use Rattle.reg_tables.specs.Listings.{ListsIds}
 use Rattle.reg_tables.proofs.KeyedTables.{int_order}
+use Rattle.reg_tables.proofs.Tables.{five}
 use Rattle.reg_tables.proofs.ListingLemmas.{same_id, same_id_swaps, distinct_if_apart, ints_distinct}
 use Rattle.reg_tables.proofs.ListMembers.{has_mapped, maps_had, has_permuted}
 use Rattle.std.specs.List.Sorted.{IsPermutation}
@@ -45,13 +46,13 @@ module _ (db : Database) (was : Stored) (s : SpellsBase db was) (ids : List ℕ)
   ids_apart =
       let rows = db.trees texts.tree in
       let moved : IsPermutation (map rowid rows) (map Int (map pos ids)) = subst (IsPermutation (map rowid rows)) (sym (map-map Int pos ids)) lists in
-      distinct_numbers ids (ints_distinct (map pos ids) (IsDistinct-IsPermutation same_id same_id_swaps (map rowid rows) (map Int (map pos ids)) moved (distinct_if_apart rows s.holds.texts.rowids.0)))
+      distinct_numbers ids (ints_distinct (map pos ids) (IsDistinct-IsPermutation same_id same_id_swaps (map rowid rows) (map Int (map pos ids)) moved (distinct_if_apart rows (five s.holds s.first).texts.rowids.0)))
 
   id_within : (id : ℕ) → Has ids id → (0 < id) × (id ≤ length was.registry.schemas)
   id_within id there =
       let rows = db.trees texts.tree in
       let row = has_mapped rowid rows (int_of id) (has_permuted (map int_of ids) (map rowid rows) (int_of id) (IsPermutation-sym _ _ lists) (maps_had int_of ids id there)) in
-      let entry = s.holds.texts.sound row.0 row.1 in
+      let entry = (five s.holds s.first).texts.sound row.0 row.1 in
       let key : entry.0 ≡ id = (let cells = entry.3.0 in let is = row.2 in cc) in
       let it = was_written identity (schema_at was.registry.schemas entry.0) entry.1 (sym (s.spelled.texts entry.0) ∙ entry.2) in
       let range = schema_within was.registry.schemas entry.0 it.0 it.1 in
@@ -61,7 +62,7 @@ module _ (db : Database) (was : Stored) (s : SpellsBase db was) (ids : List ℕ)
   id_there id low high =
       let rows = db.trees texts.tree in
       let it = schema_there was.registry.schemas id low high in
-      let row = s.holds.texts.complete id (identity it.0) (s.spelled.texts id ∙ ap (option_map identity) it.1) in
+      let row = (five s.holds s.first).texts.complete id (identity it.0) (s.spelled.texts id ∙ ap (option_map identity) it.1) in
       let is : rowid row.0 ≡ int_of id = (let cells = row.2.0 in cc) in
       let found = has_mapped int_of ids (rowid row.0) (has_permuted (map rowid rows) (map int_of ids) (rowid row.0) lists (maps_had rowid rows row.0 row.1)) in
       let same : found.0 ≡ id = (let other = sym found.2 ∙ is in cc) in

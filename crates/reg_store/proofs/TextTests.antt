@@ -14,7 +14,7 @@ use Rattle.sqlite.specs.State.{HasCleanDisk}
 use Rattle.sqlite_trees.specs.declared.store.Store.{Ghosts}
 use Rattle.sqlite_rules.proofs.ListLemmas.{all_has, all_from}
 use Rattle.reg_rows.specs.Spelling.{Text, AreNumbered, IsTextRow}
-use Rattle.reg_tables.specs.declared.lines.TextLine.{TextLine}
+use Rattle.reg_tables.specs.declared.text_lines.TextLine.{TextLine}
 use Rattle.reg_tables.specs.Frames.{StaysIdle}
 use Rattle.reg_tables.specs.Listings.{ListsTexts}
 use Rattle.reg_tables.specs.Reads.{HoldsReadable}

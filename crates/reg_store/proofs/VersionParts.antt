@@ -18,17 +18,15 @@ use Rattle.sqlite_rules.specs.Lists.{Has}
 use Rattle.sqlite_rules.proofs.ListLemmas.{all_has, has_contained, contains_had, has_filtered, has_kept}
 use Rattle.sqlite_value.proofs.OrderLemmas.{value_cmp_total}
 use Rattle.reg_core.specs.Registry.{RowKey}
-use Rattle.reg_tables.specs.declared.second_lines.AgainstLine.{AgainstLine}
+use Rattle.reg_tables.specs.declared.evidence.AgainstLine.{AgainstLine}
 use Rattle.reg_tables.specs.TableMaps.{HaveOwnRowids}
-use Rattle.reg_tables.specs.Contents.{version_cmp}
-use Rattle.reg_tables.specs.SecondContents.{against_form, place_cells}
-use Rattle.reg_tables.specs.Listings.{RowParts, parts_of, entry_parts, Lists}
-use Rattle.reg_tables.specs.SecondListings.{against_entry, against_rows, is_of, ListsAgainst, ListsAgainstOf}
+use Rattle.reg_tables.specs.Contents.{version_cmp, against_form, place_cells}
+use Rattle.reg_tables.specs.Listings.{RowParts, parts_of, entry_parts, Lists, against_entry, against_rows, is_of, ListsAgainst, ListsAgainstOf}
 use Rattle.reg_tables.proofs.KeyedTables.{version_order}
 use Rattle.reg_tables.proofs.ListMembers.{has_mapped, maps_had, has_permuted}
 use Rattle.reg_tables.proofs.ListingLemmas.{same_id, same_id_swaps, apart_if_distinct, distinct_ints, distinct_if_apart, ints_distinct}
 use Rattle.reg_tables.proofs.MapLemmas.{same_key, tied_key, same_or_not}
-use Rattle.reg_tables.proofs.SecondEvidence.{distinct_places}
+use Rattle.reg_tables.proofs.Keys.{distinct_places}
 use Rattle.reg_tables.proofs.VersionIds.{is_of_told}
 use Rattle.reg_rows.specs.Places.{Place, AreCounted, ArePositions}
 use Rattle.reg_store.specs.Inside.Testing.{AreApart, against_fits, place_at, StandInOrder, rowids_in, JudgesVersions}

@@ -5,9 +5,9 @@ use Rattle.std.proofs.lemmas.Bool.{and_from, and_parts}
 use Rattle.std.proofs.lemmas.List.{map_more}
 use Rattle.sqlite.specs.Effect.{Database}
 use Rattle.reg_core.specs.Registry.{RowKey}
-use Rattle.reg_tables.specs.declared.second_lines.EvidenceLine.{EvidenceLine}
-use Rattle.reg_tables.specs.declared.second_lines.AgainstLine.{AgainstLine}
-use Rattle.reg_tables.specs.SecondListings.{against_rows, greatest_integer, ListsAgainstOf, ListsEvidence}
+use Rattle.reg_tables.specs.declared.evidence.EvidenceLine.{EvidenceLine}
+use Rattle.reg_tables.specs.declared.evidence.AgainstLine.{AgainstLine}
+use Rattle.reg_tables.specs.Listings.{against_rows, greatest_integer, ListsAgainstOf, ListsEvidence}
 use Rattle.reg_store.specs.Spells.{SpellsUnopened}
 use Rattle.reg_store.specs.Inside.Testing.{AreApart, evidence_fits, version_at, StandInOrder, rowids_in, JudgesVersion, JudgesVersions, TellsIds, EvidencePasses, SpellsSome}
 use Rattle.reg_store.proofs.PartsPass.{parts_passed, fits, parts_apart, parts_counted, parts_fit}

@@ -69,7 +69,7 @@ module _ (s new : State) (e : Error) (shut : IsTrue s.is_open ⊎ IsWriteFault s
 
   pub fault_of_reply : (keep : Keep) → WhereHeld s (λ contents. get contents.kept keep.key.now ≡ None → IsInsertFault s new e) → IsFaultOfReply s new (Some keep) e
   fault_of_reply keep fails was spells fresh = elim shut [
-    | inl is_open ↦ let it = spells is_open in fails it.schema (inr it.known) it.contents it.holds (it.spelled.base.kept keep.key.now ∙ ap (option_map row_of) fresh)
+    | inl is_open ↦ let it = spells is_open in fails it.schema it.known it.contents it.holds (it.spelled.base.kept keep.key.now ∙ ap (option_map row_of) fresh)
     | inr fault ↦ inl (inl fault)
   ]
 

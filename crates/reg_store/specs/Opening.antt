@@ -4,17 +4,15 @@ use Rattle.sqlite.specs.Order.{Row}
 use Rattle.sqlite.specs.Tree.{Trees}
 use Rattle.sqlite.specs.Effect.{Database}
 use Rattle.sqlite.specs.State.{State}
-use Rattle.reg_tables.specs.declared.lines.TextLine.{TextLine}
-use Rattle.reg_tables.specs.declared.lines.VersionLine.{VersionLine}
-use Rattle.reg_tables.specs.declared.lines.LevelLine.{LevelLine}
-use Rattle.reg_tables.specs.declared.lines.KeptLine.{KeptLine}
-use Rattle.reg_tables.specs.declared.lines.MetaLine.{MetaLine}
+use Rattle.reg_tables.specs.declared.text_lines.TextLine.{TextLine}
+use Rattle.reg_tables.specs.declared.versions.VersionLine.{VersionLine}
+use Rattle.reg_tables.specs.declared.levels.LevelLine.{LevelLine}
+use Rattle.reg_tables.specs.declared.kept.KeptLine.{KeptLine}
+use Rattle.reg_tables.specs.declared.meta.MetaLine.{MetaLine}
 use Rattle.sqlite_rules.specs.Lists.{Has}
-use Rattle.reg_tables.specs.Layout.{HasTablesFirst, versions, meta}
-use Rattle.reg_tables.specs.SecondLayout.{IsSecondLayout, second_unindexed, second_indexed_last}
+use Rattle.reg_tables.specs.Layout.{HasFiveTables, versions, meta, IsOpenable, layout_two_unindexed, layout_two_indexed_last}
 use Rattle.reg_tables.specs.TableMaps.{IsEntry}
-use Rattle.reg_tables.specs.Contents.{pair_form}
-use Rattle.reg_tables.specs.SecondContents.{SecondContents, HoldsAllIn}
+use Rattle.reg_tables.specs.Contents.{pair_form, Contents, HoldsIn}
 use Rattle.reg_tables.specs.Reads.{HoldsMeta}
 use Rattle.reg_tables.specs.Selects.{ShowsMeta}
 use Rattle.reg_rows.specs.Spelling.{Text}
@@ -23,7 +21,7 @@ use Rattle.reg_core.specs.Stored.{Stored}
 use Rattle.reg_store.specs.declared.error.StoreError.{StoreError}
 use Rattle.reg_store.specs.declared.error.StoreError.TheVariants.{OldLayout, NewerLayout}
 use Rattle.reg_store.specs.Failures.{is_fault}
-use Rattle.reg_store.specs.Spells.{SpellsFirst, SpellsUnopened, LeavesIn, IsOpenOver}
+use Rattle.reg_store.specs.Spells.{IsSpelledLayoutTwo, SpellsLayoutOne, SpellsUnopened, LeavesIn, IsOpenOver}
 
 -- ---- rows
 
@@ -77,8 +75,8 @@ refusal_of own number = if nat_lt number own then OldLayout number else NewerLay
 
 -- an error with a number has the number from the rows of `meta`, and the layout is older or newer than this one
 abbrev pub IsRefusedAs : ℕ → Database → StoreError → Type 0
-IsRefusedAs own db (OldLayout number) = (0 < number) × (number < own) × ShowsLayout db number × (HasTablesFirst db.schema → NamesLayout db number)
-IsRefusedAs own db (NewerLayout number) = (own < number) × ShowsLayout db number × (HasTablesFirst db.schema → NamesLayout db number)
+IsRefusedAs own db (OldLayout number) = (0 < number) × (number < own) × ShowsLayout db number × (HasFiveTables db.schema → NamesLayout db number)
+IsRefusedAs own db (NewerLayout number) = (own < number) × ShowsLayout db number × (HasFiveTables db.schema → NamesLayout db number)
 IsRefusedAs own db _ = Unit {0}
 
 -- if `meta` names another layout, the error has its number, or memory or the disk failed
@@ -96,16 +94,16 @@ TellsLayout = TellsOther 2
 pub record LacksIndex (db : Database) : Type 0 where
   pub stored : Stored
   pub spelled : SpellsUnopened db stored
-  pub bare : db.schema ≡ second_unindexed
+  pub bare : db.schema ≡ layout_two_unindexed
 
 -- the tables lacked the index, and the trees are the same tables with the index
 pub record IsIndexed (before : Database) (db : Trees) : Type 0 where
   pub found : LacksIndex before
-  pub indexed : (held : SecondContents) → HoldsAllIn second_unindexed before held → HoldsAllIn second_indexed_last (record { schema = second_indexed_last; trees = db }) held
+  pub indexed : (held : Contents) → HoldsIn layout_two_unindexed before held → HoldsIn layout_two_indexed_last (record { schema = layout_two_indexed_last; trees = db }) held
 
 -- the trees spell what is stored, with or without the index
 abbrev pub LeavesUnopened : Trees → Stored → Type 0
-LeavesUnopened = LeavesIn IsSecondLayout
+LeavesUnopened = LeavesIn IsOpenable IsSpelledLayoutTwo
 
 -- this project's choice: a crash leaves what the tables of the open connection spelled
 abbrev pub LosesNothing : State → State → Type 0
@@ -122,7 +120,7 @@ abbrev pub HasVersionRows : Database → ℕ → Type 0
 HasVersionRows db count = count ≡ length (db.trees versions.tree)
 
 -- the tables of layout 1 spell what is stored, and `versions` has this number of rows
-pub record FindsFirst (db : Database) (count : ℕ) : Type 0 where
+pub record FindsLayoutOne (db : Database) (count : ℕ) : Type 0 where
   pub stored : Stored
-  pub spells : SpellsFirst db stored
+  pub spells : SpellsLayoutOne db stored
   pub counted : HasVersionRows db count

@@ -18,10 +18,8 @@ use Rattle.reg_core.specs.Replies.{IsKeptStatus}
 use Rattle.reg_core.specs.Registry.{RowKey, Version, Registry, IsRegistry, schema_at}
 use Rattle.reg_core.specs.Evidence.{Evidence, EvidenceOf}
 use Rattle.reg_core.specs.Stored.{Stored}
-use Rattle.reg_tables.specs.Layout.{IsLayout}
-use Rattle.reg_tables.specs.SecondLayout.{IsSecond, IsSecondLayout}
-use Rattle.reg_tables.specs.Contents.{TextMap, VersionRow, KeptRow, Contents, HoldsIn}
-use Rattle.reg_tables.specs.SecondContents.{PlaceKey, SecondContents, HoldsAllIn}
+use Rattle.reg_tables.specs.Layout.{IsLayoutOne, IsLayoutTwo, IsOpenable}
+use Rattle.reg_tables.specs.Contents.{TextMap, VersionRow, KeptRow, Contents, HoldsIn, PlaceKey}
 use Rattle.reg_tables.specs.Changes.{meta_as, meta_of}
 use Rattle.reg_core.specs.KeptReplies.{Entry, Kept}
 
@@ -62,7 +60,7 @@ pub record HasNoModes (g : Registry) : Type 0 where
   pub own : (subject : List ℕ) → g.own_modes subject ≡ None
 
 -- this project's choice: the contents of layout 1 spell what is stored
-pub record IsSpelledFirst (contents : Contents) (was : Stored) : Type 0 where
+pub record IsSpelledLayoutOne (contents : Contents) (was : Stored) : Type 0 where
   pub base : IsSpelled contents was.registry was.replies
   -- the format, the layout and the global level, and no more
   pub meta : contents.meta ≡ meta_of (level_text was.registry.global)
@@ -70,24 +68,11 @@ pub record IsSpelledFirst (contents : Contents) (was : Stored) : Type 0 where
   pub modes : HasNoModes was.registry
   pub evidence : was.evidence ≡ empty
 
--- this project's choice: the tables are those of layout 1, with or without the index, and spell what is stored
-pub record SpellsFirst (db : Database) (was : Stored) : Type 0 where
-  pub schema : Schema
-  pub known : IsLayout schema
-  pub contents : Contents
-  pub holds : HoldsIn schema db contents
-  pub spelled : IsSpelledFirst contents was
-
--- this project's choice: a crash leaves the tables of layout 1, and they spell what is stored
-pub record LeavesFirst (db : Trees) (was : Stored) : Type 0 where
-  pub schema : Schema
-  pub spells : SpellsFirst (record { schema = schema; trees = db }) was
-
 -- ---- layout 2
 
 -- this project's choice: the rows of `meta` in layout 2 are the format, the layout, the global level and the global mode
-abbrev pub second_meta : List ℕ → List ℕ → TextMap (List ℕ)
-second_meta level mode = insert (meta_as (codes "2") level) (codes "mode") mode
+abbrev pub layout_two_meta : List ℕ → List ℕ → TextMap (List ℕ)
+layout_two_meta level mode = insert (meta_as (codes "2") level) (codes "mode") mode
 
 -- this project's choice: the id at a position, counted from 1, of those that a version was tested against
 abbrev pub id_at : ℕ → Evidence → Option ℕ
@@ -95,43 +80,53 @@ id_at zero one = None
 id_at (suc n) one = slice_get one.against n
 
 -- this project's choice: the level's text, and the ids at the positions from 1 to their count, spell the evidence of a version
-pub record IsSpelledEvidence (contents : SecondContents) (evidence : EvidenceOf) : Type 0 where
+pub record IsSpelledEvidence (contents : Contents) (evidence : EvidenceOf) : Type 0 where
   pub levels : (key : RowKey) → get contents.evidence key ≡ option_map (λ one. level_text one.level) (get evidence key)
   pub ids : (place : PlaceKey) → get contents.against place ≡ option_and_then (id_at place.1) (get evidence place.0)
   pub few : (key : RowKey) (one : Evidence) → get evidence key ≡ Some one → length one.against < 2 ^ 32
 
 -- this project's choice: the contents of layout 2 spell what is stored
-pub record IsSpelledSecond (contents : SecondContents) (was : Stored) : Type 0 where
-  pub base : IsSpelled contents.base was.registry was.replies
-  pub meta : contents.base.meta ≡ second_meta (level_text was.registry.global) (mode_text was.registry.global_mode)
+pub record IsSpelledLayoutTwo (contents : Contents) (was : Stored) : Type 0 where
+  pub base : IsSpelled contents was.registry was.replies
+  pub meta : contents.meta ≡ layout_two_meta (level_text was.registry.global) (mode_text was.registry.global_mode)
   pub modes : (subject : List ℕ) → get contents.modes subject ≡ option_map mode_text (was.registry.own_modes subject)
   pub owners : (subject : List ℕ) (mode : Mode) → was.registry.own_modes subject ≡ Some mode → IsTrue (is_subject subject)
   pub evidence : IsSpelledEvidence contents was.evidence
 
--- this project's choice: the database has one of these schemas, and its tables spell what is stored
-pub record SpellsIn (Known : Schema → Type 0) (db : Database) (was : Stored) : Type 0 where
+-- ---- databases
+
+-- this project's choice: the database has one of these schemas, and its tables hold contents that spell what is stored so
+pub record SpellsIn (Known : Schema → Type 0) (Spelled : Contents → Stored → Type 0) (db : Database) (was : Stored) : Type 0 where
   pub schema : Schema
   pub known : Known schema
-  pub contents : SecondContents
-  pub holds : HoldsAllIn schema db contents
-  pub spelled : IsSpelledSecond contents was
+  pub contents : Contents
+  pub holds : HoldsIn schema db contents
+  pub spelled : Spelled contents was
 
 -- this project's choice: the tables are those of layout 2 and spell what is stored
 abbrev pub Spells : Database → Stored → Type 0
-Spells = SpellsIn IsSecond
+Spells = SpellsIn IsLayoutTwo IsSpelledLayoutTwo
 
 -- this project's choice: the same before `open`, when the index may be missing
 abbrev pub SpellsUnopened : Database → Stored → Type 0
-SpellsUnopened = SpellsIn IsSecondLayout
+SpellsUnopened = SpellsIn IsOpenable IsSpelledLayoutTwo
 
--- this project's choice: a crash leaves the tables of one of these schemas, and they spell what is stored
-pub record LeavesIn (Known : Schema → Type 0) (db : Trees) (was : Stored) : Type 0 where
+-- this project's choice: the tables are those of layout 1, with or without the index, and spell what is stored
+abbrev pub SpellsLayoutOne : Database → Stored → Type 0
+SpellsLayoutOne = SpellsIn IsLayoutOne IsSpelledLayoutOne
+
+-- this project's choice: a crash leaves the tables of one of these schemas, and they spell what is stored so
+pub record LeavesIn (Known : Schema → Type 0) (Spelled : Contents → Stored → Type 0) (db : Trees) (was : Stored) : Type 0 where
   pub schema : Schema
-  pub spells : SpellsIn Known (record { schema = schema; trees = db }) was
+  pub spells : SpellsIn Known Spelled (record { schema = schema; trees = db }) was
 
 -- this project's choice: a crash leaves the tables of layout 2, and they spell what is stored
 abbrev pub Leaves : Trees → Stored → Type 0
-Leaves = LeavesIn IsSecond
+Leaves = LeavesIn IsLayoutTwo IsSpelledLayoutTwo
+
+-- this project's choice: the same for layout 1
+abbrev pub LeavesLayoutOne : Trees → Stored → Type 0
+LeavesLayoutOne = LeavesIn IsLayoutOne IsSpelledLayoutOne
 
 -- ---- connections
 
@@ -146,8 +141,8 @@ abbrev pub IsOpenOver : State → Stored → Type 0
 IsOpenOver = IsOpenIn Spells
 
 -- SQLite, transactions: the same for layout 1
-abbrev pub IsOpenOverFirst : State → Stored → Type 0
-IsOpenOverFirst = IsOpenIn SpellsFirst
+abbrev pub IsOpenOverLayoutOne : State → Stored → Type 0
+IsOpenOverLayoutOne = IsOpenIn SpellsLayoutOne
 
 -- SQLite, transactions: if the connection is still open, its last commit spells what is stored; a fault may have closed it
 abbrev pub SpellsWhileOpen : State → Stored → Type 0

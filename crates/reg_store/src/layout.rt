@@ -4,7 +4,7 @@
 #[derive(Clone, Copy, Debug, PartialEq, Eq)]
 pub(crate) enum Layout {
     /// Layout 1, without modes and evidence.
-    First,
+    One,
     /// Layout 2.
-    Second,
+    Two,
 }

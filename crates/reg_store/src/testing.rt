@@ -4,11 +4,10 @@
 ghost use Rattle.std.specs.Prelude.{◌≡◌, ◌↔◌, ℤ, map, IfOk, IfErr, OnOk, IsTrue, false};
 ghost use Rattle.std.specs.List.{AllByRecursion};
 ghost use Rattle.sqlite.specs.State.{HasCleanDisk};
-ghost use Rattle.reg_tables.specs.Layout.{HasTablesFirst};
-ghost use Rattle.reg_tables.specs.SecondLayout.{IsSecondLayout};
+ghost use Rattle.reg_tables.specs.Layout.{HasFiveTables, IsOpenable};
 ghost use Rattle.reg_store.specs.Failures.{IsNumberless, IsTold};
-ghost use Rattle.reg_store.specs.Opening.{HasVersionRows, FindsFirst, IsRefusedAs, TellsOther, IsRefusedBy, TellsLayout};
-ghost use Rattle.reg_store.specs.Inside.Testing.{AreApart, version_fits, level_fits, kept_fits, SpellsAs, Tests, TestsBase, TestsSecond, VersionsPass, LevelsPass, KeptPass, RestPasses, TablesPass, AddedPass, SecondPasses};
+ghost use Rattle.reg_store.specs.Opening.{HasVersionRows, FindsLayoutOne, IsRefusedAs, TellsOther, IsRefusedBy, TellsLayout};
+ghost use Rattle.reg_store.specs.Inside.Testing.{AreApart, version_fits, level_fits, kept_fits, SpellsAs, Tests, TestsFive, TestsEight, VersionsPass, LevelsPass, KeptPass, RestPasses, FivePass, AddedPass, EightPass};
 ghost use Rattle.reg_store.specs.Inside.Reads.{shown};
 
 mod added;
@@ -24,8 +23,8 @@ use crate::testing::meta::test_meta;
 use crate::testing::texts::test_texts;
 use reg_rows::{fits_kept, fits_levels, fits_versions};
 use reg_tables::{
-    KeptLine, LevelLine, VersionLine, has_layout, has_second_layout, is_second_unindexed,
-    is_unindexed, kept_lines, level_lines, version_lines,
+    KeptLine, LevelLine, VersionLine, has_layout_one, has_layout_two, is_unindexed_one,
+    is_unindexed_two, kept_lines, level_lines, version_lines,
 };
 use sqlite::Alter;
 use std::alloc::{AllocError, Global};
@@ -133,7 +132,7 @@ fn allow(passes: bool) -> Result<(), StoreError>
 
 /// Reads `versions`, and tests it. It answers how many rows there are.
 fn test_versions<S: Alter>(alloc: Global, db: &mut Idle<S>) -> Result<u64, StoreError>
-    ensures tests { TestsBase S.Store db.old.idle.conn db.new.idle.conn result
+    ensures tests { TestsFive S.Store db.old.idle.conn db.new.idle.conn result
         (λ count db. VersionsPass db × HasVersionRows db count) }
     ensures plain { IfErr result IsNumberless }
 {
@@ -144,7 +143,7 @@ fn test_versions<S: Alter>(alloc: Global, db: &mut Idle<S>) -> Result<u64, Store
 
 /// Reads `levels`, and tests it.
 fn test_levels<S: Alter>(alloc: Global, db: &mut Idle<S>) -> Result<(), StoreError>
-    ensures tests { TestsBase S.Store db.old.idle.conn db.new.idle.conn result (λ _. LevelsPass) }
+    ensures tests { TestsFive S.Store db.old.idle.conn db.new.idle.conn result (λ _. LevelsPass) }
     ensures plain { IfErr result IsNumberless }
 {
     let lines = level_lines(alloc, &mut db.idle)?;
@@ -153,7 +152,7 @@ fn test_levels<S: Alter>(alloc: Global, db: &mut Idle<S>) -> Result<(), StoreErr
 
 /// Reads `kept`, and tests it.
 fn test_kept<S: Alter>(alloc: Global, db: &mut Idle<S>) -> Result<(), StoreError>
-    ensures tests { TestsBase S.Store db.old.idle.conn db.new.idle.conn result (λ _. KeptPass) }
+    ensures tests { TestsFive S.Store db.old.idle.conn db.new.idle.conn result (λ _. KeptPass) }
     ensures plain { IfErr result IsNumberless }
 {
     let lines = kept_lines(alloc, &mut db.idle)?;
@@ -163,7 +162,7 @@ fn test_kept<S: Alter>(alloc: Global, db: &mut Idle<S>) -> Result<(), StoreError
 /// Reads the tables that each layout has, but `meta`, and tests them. It answers how many rows
 /// `versions` has.
 fn test_rest<S: Alter>(alloc: Global, db: &mut Idle<S>) -> Result<u64, StoreError>
-    ensures tests { TestsBase S.Store db.old.idle.conn db.new.idle.conn result
+    ensures tests { TestsFive S.Store db.old.idle.conn db.new.idle.conn result
         (λ count db. RestPasses db × HasVersionRows db count) }
     ensures plain { IfErr result IsNumberless }
 {
@@ -176,11 +175,11 @@ fn test_rest<S: Alter>(alloc: Global, db: &mut Idle<S>) -> Result<u64, StoreErro
 }
 
 /// Tests the tables of layout 1, and returns the number of rows of `versions`.
-pub(crate) fn test_first<S: Alter>(alloc: Global, db: &mut Idle<S>) -> Result<u64, StoreError>
-    ensures tests { Tests HasTablesFirst (SpellsAs Layout.First)
+pub(crate) fn test_layout_one<S: Alter>(alloc: Global, db: &mut Idle<S>) -> Result<u64, StoreError>
+    ensures tests { Tests HasFiveTables (SpellsAs Layout.One)
         S.Store db.old.idle.conn db.new.idle.conn result
-        (λ count db. TablesPass Layout.First db × HasVersionRows db count) }
-    ensures found { HasCleanDisk (shown db.new) → IfOk result (FindsFirst (shown db.old).now) }
+        (λ count db. FivePass Layout.One db × HasVersionRows db count) }
+    ensures found { HasCleanDisk (shown db.new) → IfOk result (FindsLayoutOne (shown db.old).now) }
     ensures told { HasCleanDisk (shown db.new) → IfErr result (IsTold (shown db.old) (shown db.new)) }
     ensures refused { HasCleanDisk (shown db.new)
         → IfErr result (IsRefusedAs 1 (shown db.old).now) }
@@ -189,16 +188,16 @@ pub(crate) fn test_first<S: Alter>(alloc: Global, db: &mut Idle<S>) -> Result<u6
 {
     let _live = db.idle.conn.schema();
     let _idle = db.idle.conn.is_autocommit();
-    let known = has_layout(&db.idle.conn) || is_unindexed(&db.idle.conn);
-    test_meta(alloc, db, Layout::First)?;
+    let known = has_layout_one(&db.idle.conn) || is_unindexed_one(&db.idle.conn);
+    test_meta(alloc, db, Layout::One)?;
     allow(known)?;
     test_rest(alloc, db)
 }
 
 /// Tests the tables of layout 2.
-pub(crate) fn test_second<S: Alter>(alloc: Global, db: &mut Idle<S>) -> Result<(), StoreError>
-    ensures tests { TestsSecond S.Store db.old.idle.conn db.new.idle.conn result (λ _. SecondPasses) }
-    ensures known { OnOk result (IsSecondLayout (shown db.old).now.schema) }
+pub(crate) fn test_layout_two<S: Alter>(alloc: Global, db: &mut Idle<S>) -> Result<(), StoreError>
+    ensures tests { TestsEight S.Store db.old.idle.conn db.new.idle.conn result (λ _. EightPass) }
+    ensures known { OnOk result (IsOpenable (shown db.old).now.schema) }
     ensures told { HasCleanDisk (shown db.new) → IfErr result (IsTold (shown db.old) (shown db.new)) }
     ensures refused { HasCleanDisk (shown db.new)
         → IfErr result (IsRefusedBy (shown db.old).now) }
@@ -206,15 +205,15 @@ pub(crate) fn test_second<S: Alter>(alloc: Global, db: &mut Idle<S>) -> Result<(
         → IfErr result (TellsLayout (shown db.old)) }
 {
     let _idle = db.idle.conn.is_autocommit();
-    let known = has_second_layout(&db.idle.conn) || is_second_unindexed(&db.idle.conn);
-    test_meta(alloc, db, Layout::Second)?;
+    let known = has_layout_two(&db.idle.conn) || is_unindexed_two(&db.idle.conn);
+    test_meta(alloc, db, Layout::Two)?;
     allow(known)?;
     test_all(alloc, db)
 }
 
 /// Reads all tables of layout 2 but `meta`, and tests them.
 fn test_all<S: Alter>(alloc: Global, db: &mut Idle<S>) -> Result<(), StoreError>
-    ensures tests { TestsSecond S.Store db.old.idle.conn db.new.idle.conn result
+    ensures tests { TestsEight S.Store db.old.idle.conn db.new.idle.conn result
         (λ _ db. RestPasses db × AddedPass db) }
     ensures plain { IfErr result IsNumberless }
 {

@@ -1,7 +1,7 @@
 -- What the count of the rows of `against` shows.
-use Rattle.std.proofs.Common.{◌≡◌, inl, inr, ℕ, ◌+◌, pos, suc, List, [], ◌∷◌, map, filter, flat_map, length, Option, None, Some, false, lit≤, codes, refl, sym, ap, subst, ◌∙◌, arith}
+use Rattle.std.proofs.Common.{◌≡◌, inl, inr, ℕ, pos, suc, List, [], ◌∷◌, map, filter, flat_map, length, Option, None, Some, false, lit≤, codes, refl, sym, ap, subst, ◌∙◌, arith}
 use Rattle.std.specs.List.{AllZip, list_all}
-use Rattle.std.specs.Prelude.{Any, min, slice_get, option_map, unwrap_or}
+use Rattle.std.specs.Prelude.{All, Any, min, slice_get, option_map, unwrap_or}
 use Rattle.std.specs.List.Sorted.{IsPermutation}
 use Rattle.std.proofs.lemmas.List.{length-map}
 use Rattle.std.proofs.lemmas.List.Sorted.{length_permutation}
@@ -18,19 +18,20 @@ use Rattle.sqlite.specs.Listing.{understood}
 use Rattle.sqlite_tied.specs.Compute.{everything}
 use Rattle.sqlite_rules.specs.Lists.{Has}
 use Rattle.sqlite_rules.proofs.ListLemmas.{any_has}
-use Rattle.sqlite_schema.specs.declared.schema.Index.{Index}
+use Rattle.sqlite.specs.Schema.{Schema}
 use Rattle.sqlite_sql.specs.Group.{Aggregate, Grouping, IsSummary, value_over}
 use Rattle.sqlite_sql.specs.Program.{ProgramOverflows}
 use Rattle.sqlite_sql.specs.declared.aggregate.AggregateOp.TheVariants.{CountRows}
-use Rattle.reg_tables.specs.Layout.{begins}
-use Rattle.reg_tables.specs.SecondLayout.{added, HasSecondTables, table_at}
-use Rattle.reg_tables.specs.SecondListings.{against_rows, greatest_integer, HasAgainstRows}
+use Rattle.reg_tables.specs.Layout.{HasEightTables}
+use Rattle.reg_tables.specs.Contents.{Against}
+use Rattle.reg_tables.specs.Listings.{against_rows, greatest_integer, HasAgainstRows}
 use Rattle.reg_tables.specs.Inside.ReadableRows.{IsReadableCount}
 use Rattle.reg_tables.specs.Inside.Statements.{all_rows, IsSelect, TakesSelect}
 use Rattle.reg_tables.proofs.KeyedTables.{with_nothing, select_answered}
 use Rattle.reg_tables.proofs.ListMembers.{has_permuted}
-use Rattle.reg_tables.proofs.SecondLines.{IsPlace, at_places, stands_at, AsksAdded}
-use Rattle.reg_tables.proofs.TableLines.{all_if_each}
+use Rattle.reg_tables.proofs.Faults.{Asks}
+use Rattle.reg_tables.proofs.TableLines.{tree_of, all_if_each}
+use Rattle.reg_tables.proofs.Tables.{at_both}
 
 abbrev pub count_sql : List ℕ
 count_sql = codes "SELECT count(*) FROM against"
@@ -54,15 +55,16 @@ count_query tree = record {
 abbrev count_names : List (List ℕ)
 count_names = codes "count(*)" ∷ []
 
-count_is : (first : ℕ) → IsPlace first → (indexes : List Index) → IsSelect count_sql count_names (count_query (first + 4)) (begins (added first) indexes)
-unfolding understood everything
-count_is = at_places (λ n. (indexes : List Index) → IsSelect count_sql count_names (count_query (n + 4)) (begins (added n) indexes)) (λ indexes. record { command = record { is = refl; plain = (refl, refl) }; unlisted = refl })
-    (λ indexes. record { command = record { is = refl; plain = (refl, refl) }; unlisted = refl })
+abbrev its_count : Schema → Query
+its_count schema = count_query (tree_of Against schema)
 
-count_takes : (first : ℕ) → IsPlace first → (indexes : List Index) → TakesSelect count_sql (count_query (first + 4)) [] (begins (added first) indexes)
+count_is : (schema : Schema) → HasEightTables schema → IsSelect count_sql count_names (its_count schema) schema
 unfolding understood everything
-count_takes = at_places (λ n. (indexes : List Index) → TakesSelect count_sql (count_query (n + 4)) [] (begins (added n) indexes)) (λ indexes. record { whole = (lit≤ tt, refl); typed = refl })
-    (λ indexes. record { whole = (lit≤ tt, refl); typed = refl })
+count_is = at_both (λ s. IsSelect count_sql count_names (its_count s) s) (λ indexes. record { command = record { is = refl; plain = (refl, refl) }; unlisted = refl }) (λ indexes. record { command = record { is = refl; plain = (refl, refl) }; unlisted = refl })
+
+count_takes : (schema : Schema) → HasEightTables schema → TakesSelect count_sql (its_count schema) [] schema
+unfolding understood everything
+count_takes = at_both (λ s. TakesSelect count_sql (its_count s) [] s) (λ indexes. record { whole = (lit≤ tt, refl); typed = refl }) (λ indexes. record { whole = (lit≤ tt, refl); typed = refl })
 
 -- a count never overflows
 count_never : (tree : ℕ) (db : Trees) (params : Row) → ProgramOverflows db params [] [] (count_query tree) → ⊥
@@ -121,32 +123,24 @@ module _ (tree : ℕ) (db : Trees) (found : List Row) (a : IsAnswer (count_query
   pub shows_count : found ≡ (many (db tree) ∷ []) ∷ []
   shows_count = by_rows a.grouped.rows (subst (λ g. AllZip (IsSummary counting) g a.grouped.rows) a.grouped.grouping.2 a.grouped.summaries) a.grouped.having
 
-count_found : (first : ℕ) → IsPlace first → (indexes : List Index) → (old new : State) → old.now.schema ≡ begins (added first) indexes → (found : List Row) → Shown count_sql [] old new found
-    → found ≡ (many (old.now.trees (first + 4)) ∷ []) ∷ []
-count_found first place indexes old new same found h =
-    let it = subst (IsSelect count_sql count_names (count_query (first + 4))) (sym same) (count_is first place indexes) in
-    shows_count (first + 4) (overlay old.now.trees []) found (select_answered count_sql count_names (count_query (first + 4)) [] old new it found h)
-    ∙ ap (λ l. (many l ∷ []) ∷ []) (with_nothing old.now.trees (first + 4))
+pub asks_count : (schema : Schema) → HasEightTables schema → Asks count_sql [] schema
+asks_count schema known = record { names = count_names; body = its_count schema; never = count_never (tree_of Against schema); is = count_is schema known; takes = count_takes schema known }
 
-pub asks_count : AsksAdded count_sql [] IsReadableCount
-asks_count = record {
-  names = count_names;
-  body = λ first. count_query (first + 4);
-  never = λ first. count_never (first + 4);
-  is = count_is;
-  takes = count_takes;
-  readable = λ first place indexes old new same there found h.
-      all_if_each IsReadableCount found (λ x has. elim (subst (λ l. Has l x) (count_found first place indexes old new same found h) has) [ inl is ↦ record { count = min (length (old.now.trees (first + 4))) greatest_integer; is = is } | inr later ↦ absurd later ]);
-}
+module _ (old new : State) (known : HasEightTables old.now.schema) (found : List Row) (h : Shown count_sql [] old new found) where
+  count_found : found ≡ (many (against_rows old.now) ∷ []) ∷ []
+  count_found =
+      let tree = tree_of Against old.now.schema in
+      shows_count tree (overlay old.now.trees []) found (select_answered count_sql count_names (count_query tree) [] old new (count_is old.now.schema known) found h)
+      ∙ ap (λ l. (many l ∷ []) ∷ []) (with_nothing old.now.trees tree)
 
-pub counted : (old new : State) (found : List Row) → Shown count_sql [] old new found → HasSecondTables old.now.schema → option_map (λ (row : Row). column row 0) (slice_get found 0) ≡ Some (many (against_rows old.now))
-counted old new found h known =
-    let here = stands_at old.now.schema known in
-    let place : here.first + 4 ≡ (table_at old.now.schema 7).tree = ap (λ s. (table_at s 7).tree) (sym here.is) in
-    ap (λ (l : List Row). option_map (λ (row : Row). column row 0) (slice_get l 0)) (count_found here.first here.place here.indexes old new here.is found h) ∙ ap (λ t. Some (many (old.now.trees t))) place
+  pub readable_count : All IsReadableCount found
+  readable_count = all_if_each IsReadableCount found (λ x has. elim (subst (λ l. Has l x) count_found has) [ inl is ↦ record { count = min (length (against_rows old.now)) greatest_integer; is = is } | inr later ↦ absurd later ])
+
+  pub counted : option_map (λ (row : Row). column row 0) (slice_get found 0) ≡ Some (many (against_rows old.now))
+  counted = ap (λ (l : List Row). option_map (λ (row : Row). column row 0) (slice_get l 0)) count_found
 
 -- the number that is read
-pub count_told : (old new : State) (found : List Row) → Shown count_sql [] old new found → (o : Option ℕ) → option_map (λ (row : Row). column row 0) (slice_get found 0) ≡ option_map (λ n. Int (pos n)) o → HasSecondTables old.now.schema
+pub count_told : (old new : State) (found : List Row) → Shown count_sql [] old new found → (o : Option ℕ) → option_map (λ (row : Row). column row 0) (slice_get found 0) ≡ option_map (λ n. Int (pos n)) o → HasEightTables old.now.schema
     → HasAgainstRows old.now (unwrap_or o 0)
-count_told old new found h None read known = absurd (let e = sym read ∙ counted old new found h known in cc)
-count_told old new found h (Some count) read known = (let e = sym read ∙ counted old new found h known in cc)
+count_told old new found h None read known = absurd (let e = sym read ∙ counted old new known found h in cc)
+count_told old new found h (Some count) read known = (let e = sym read ∙ counted old new known found h in cc)

@@ -26,10 +26,10 @@ use Rattle.sqlite_rules.specs.Lists.{Has}
 use Rattle.sqlite_rules.proofs.ListLemmas.{all_has}
 use Rattle.sqlite_trees.specs.Sound.{same_name as same_word, begins, is_free_name, fits_kind}
 use Rattle.sqlite_tied.specs.Compute.{everything}
-use Rattle.reg_tables.specs.Layout.{no_schema, begun, texts, versions, levels, kept, meta}
+use Rattle.reg_tables.specs.Layout.{no_schema, begun, texts, versions, levels, kept, meta, modes, evidence, against, extended}
 use Rattle.reg_tables.specs.FailedCalls.{IsFault}
 use Rattle.reg_tables.specs.Inside.Statements.{IsWhole}
-use Rattle.reg_tables.proofs.Statements.{MakesTable, make_texts, make_versions, make_levels, make_kept, make_meta}
+use Rattle.reg_tables.proofs.Statements.{MakesTable, make_texts, make_versions, make_levels, make_kept, make_meta, make_modes, make_evidence, make_against}
 use Rattle.reg_tables.proofs.WriteFaults.{refused_by}
 
 -- what SQLite asks of a table's name, keys and text
@@ -206,3 +206,56 @@ module _ (sql : List ℕ) (before : Schema) (table : Table) (after : Schema) (m 
         refused : Does old.step_limit (mode_of old) [] (record old.now { schema = before }) sql None CreateTable (Err (Some e)) → ⊥
         refused (inl stopped) = made stopped.0 (let same = stopped.2 in cc) stopped.1
         refused (inr done) = let e = done.2 in cc
+
+-- ---- faults
+
+pub modes_can_be : CanBeMade make_modes (extended 0) (record (modes 11) { tree = 0 })
+unfolding understood everything same_name same_word begins is_free_name fits_kind value_cmp lib.Utf8.encode lib.Ieee.is_nan lib.Ieee.lt
+modes_can_be = record {
+  whole = (lit≤ tt, refl);
+  text = (make_modes, (refl, refl));
+  named = (codes "modes", (refl, refl));
+  unused = refl;
+  indexes = (refl, tt);
+  unreserved = refl;
+  room = lit< tt;
+  reals = lit< tt;
+  key_reals = (lit< tt, tt);
+  formed = refl;
+  fits = refl;
+  short = lit< tt;
+}
+
+pub evidence_can_be : CanBeMade make_evidence (extended 1) (record (evidence 13) { tree = 0 })
+unfolding understood everything same_name same_word begins is_free_name fits_kind value_cmp lib.Utf8.encode lib.Ieee.is_nan lib.Ieee.lt
+evidence_can_be = record {
+  whole = (lit≤ tt, refl);
+  text = (make_evidence, (refl, refl));
+  named = (codes "evidence", (refl, refl));
+  unused = refl;
+  indexes = (refl, tt);
+  unreserved = refl;
+  room = lit< tt;
+  reals = lit< tt;
+  key_reals = (lit< tt, tt);
+  formed = refl;
+  fits = refl;
+  short = lit< tt;
+}
+
+pub against_can_be : CanBeMade make_against (extended 2) (record (against 15) { tree = 0 })
+unfolding understood everything same_name same_word begins is_free_name fits_kind value_cmp lib.Utf8.encode lib.Ieee.is_nan lib.Ieee.lt
+against_can_be = record {
+  whole = (lit≤ tt, refl);
+  text = (make_against, (refl, refl));
+  named = (codes "against", (refl, refl));
+  unused = refl;
+  indexes = (refl, tt);
+  unreserved = refl;
+  room = lit< tt;
+  reals = lit< tt;
+  key_reals = (lit< tt, tt);
+  formed = refl;
+  fits = refl;
+  short = lit< tt;
+}

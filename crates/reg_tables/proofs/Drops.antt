@@ -15,7 +15,7 @@ use Rattle.sqlite.specs.Rowids.TheVariants.{Given}
 use Rattle.sqlite_schema.specs.declared.schema.Keys.TheVariants.{Enforced}
 use Rattle.sqlite_schema.specs.Names.{same_name}
 use Rattle.sqlite_schema.specs.Rules.{agree, has_null, references_fit}
-use Rattle.sqlite_value.specs.Keys.{plain, joined, first_key}
+use Rattle.sqlite_value.specs.Keys.{plain, joined}
 use Rattle.sqlite_value.proofs.OrderLemmas.{value_cmp_total}
 use Rattle.sqlite_rules.specs.declared.action.Deed.TheVariants.{Delete}
 use Rattle.sqlite_rules.specs.Action.{Work, works, pairs, loses, is_child_of}
@@ -27,8 +27,7 @@ use Rattle.sqlite_rules.proofs.ListLemmas.{all_has, has_got, has_found, some_has
 use Rattle.sqlite_rules.proofs.TableLemmas.{int_is}
 use Rattle.sqlite.specs.Schema.{Schema}
 use Rattle.sqlite_schema.specs.declared.schema.Index.{Index}
-use Rattle.reg_tables.specs.Layout.{begins, versions}
-use Rattle.reg_tables.specs.SecondLayout.{evidence, against, added, to_versions}
+use Rattle.reg_tables.specs.Layout.{begins, versions, evidence, against, added, to_versions}
 use Rattle.reg_tables.specs.Inside.KeyedLaws.{AreApart}
 use Rattle.reg_tables.specs.TableMaps.{HaveRowids, ShowsMap}
 use Rattle.reg_tables.specs.Contents.{version_cmp, version_key_cells, VersionRow, version_form}
@@ -37,9 +36,10 @@ use Rattle.reg_tables.proofs.MapLemmas.{equal_of, same_key, tied_key}
 use Rattle.reg_tables.proofs.RowLemmas.{FindsRowids, same_if_tied}
 use Rattle.reg_tables.specs.Inside.Statements.{by_version}
 use Rattle.reg_tables.proofs.Queries.{passes}
-use Rattle.reg_tables.proofs.SecondReferences.{has_version}
+use Rattle.reg_tables.proofs.ForeignKeys.{has_version}
 use Rattle.reg_tables.proofs.KeyedTables.{version_order, by_version_test}
-use Rattle.reg_tables.proofs.SecondTables.{second_quiet}
+use Rattle.reg_tables.proofs.Settled.{two_quiet}
+use Rattle.reg_tables.proofs.Keys.{versions_tied}
 use Rattle.reg_tables.proofs.Cascades.{Loses, loses_found, IsLeaf, Takes, AllLose, leads_to}
 
 -- ---- the actions
@@ -94,22 +94,14 @@ module _ (first : ℕ) (high : 10 ≤ first) (indexes : List Index) where
 
   pub leaves : (olds : List Row) (w : Work) → Has (works layout Enforced 0 2 olds []) w → IsLeaf layout w
   leaves olds w there = elim (due olds w there) [
-    | inl same ↦ subst (IsLeaf layout) (sym same) (record { deletes = refl; shallow = refl; listed = evidence_listed; keys = evidence_keys; quiet = λ more. second_quiet first indexes 1 (first + 2) (λ e. omega (arith, e, high)) more [] })
-    | inr same ↦ subst (IsLeaf layout) (sym same) (record { deletes = refl; shallow = refl; listed = against_listed; keys = against_keys; quiet = λ more. second_quiet first indexes 1 (first + 4) (λ e. omega (arith, e, high)) more [] })
+    | inl same ↦ subst (IsLeaf layout) (sym same) (record { deletes = refl; shallow = refl; listed = evidence_listed; keys = evidence_keys; quiet = λ more. two_quiet first indexes 1 (first + 2) (λ e. omega (arith, e, high)) more [] })
+    | inr same ↦ subst (IsLeaf layout) (sym same) (record { deletes = refl; shallow = refl; listed = against_listed; keys = against_keys; quiet = λ more. two_quiet first indexes 1 (first + 4) (λ e. omega (arith, e, high)) more [] })
   ]
 
 -- ---- keys
 
 abbrev pub HasVersionKey : Row → (List ℕ × ℕ) → Type 0
 HasVersionKey row key = column row 1 ∷ column row 2 ∷ [] ≡ version_key_cells key
-
--- rows agree on a version where their keys are one
-pub agree_by : (a b : Row) (q k : (List ℕ × ℕ)) → HasVersionKey a q → HasVersionKey b k → agree (record { digits = 0 }) (1 ∷ 2 ∷ []) a (1 ∷ 2 ∷ []) b ≡ is_eq (version_cmp q k)
-unfolding first_key
-agree_by a b q k is its =
-    let subject : column b 1 ≡ Text k.0 = cc in
-    let number : column b 2 ≡ Int (pos k.1) = cc in
-    rw (subject, number) (by_version_test a k q is)
 
 pub not_null : (row : Row) (key : (List ℕ × ℕ)) → HasVersionKey row key → has_null (1 ∷ 2 ∷ []) row ≡ false
 not_null row key is =
@@ -220,7 +212,7 @@ module _ (first : ℕ) (high : 10 ≤ first) (indexes : List Index) (apart : Are
         entry.3.0 ∙ ap version_key_cells same
 
     loses_key : (r : Row) → HasVersionKey r key → loses (record { digits = 0 }) (1 ∷ 2 ∷ []) (r, []) ≡ true
-    loses_key r is = and_from _ _ (agree_by r r key key is is ∙ tied_key version_cmp version_order key key refl) (sym (no_heir (record { digits = 0 }) (1 ∷ 2 ∷ []) r))
+    loses_key r is = and_from _ _ (versions_tied r r key key is is ∙ tied_key version_cmp version_order key key refl) (sym (no_heir (record { digits = 0 }) (1 ∷ 2 ∷ []) r))
 
     -- the children of what is gone are the rows of the version
     module _ (child : Table) (rows : List Row) (have : HasVersions (db 2) rows) where
@@ -231,7 +223,7 @@ module _ (first : ℕ) (high : 10 ≤ first) (indexes : List Index) (apart : Are
           let it : is_child_of (deletion_of child gone) r (pair.0, []) ≡ true = subst (λ m. is_child_of (deletion_of child gone) r m ≡ true) pair.2 move.2 in
           let agrees = (and_parts _ _ it).1 in
           let its = have r there in
-          by_version_test r key its.0 its.1 ∙ sym (agree_by r pair.0 its.0 key its.1 (had_key pair.0 pair.1)) ∙ agrees
+          by_version_test r key its.0 its.1 ∙ sym (versions_tied r pair.0 its.0 key its.1 (had_key pair.0 pair.1)) ∙ agrees
 
       -- a row of the version had it for a parent
       parent_of : (r : Row) → Has rows r → named r ≡ true → (s : Row) × Has gone s × HasVersionKey r key
@@ -244,7 +236,7 @@ module _ (first : ℕ) (high : 10 ≤ first) (indexes : List Index) (apart : Are
             | inr some ↦
                 let s = some_has (λ parent. agree plain (1 ∷ 2 ∷ []) parent (1 ∷ 2 ∷ []) r) (db 2) some in
                 let entry = shows.sound s.0 s.1 in
-                let own = by_version_test s.0 key entry.0 entry.3.0 ∙ sym (agree_by s.0 r entry.0 key entry.3.0 mine) ∙ s.2 in
+                let own = by_version_test s.0 key entry.0 entry.3.0 ∙ sym (versions_tied s.0 r entry.0 key entry.3.0 mine) ∙ s.2 in
                 (s.0, goes s.0 s.1 own, mine)
           ]
 
@@ -253,7 +245,7 @@ module _ (first : ℕ) (high : 10 ≤ first) (indexes : List Index) (apart : Are
           let s = parent_of r there is in
           let lost = loses_key s.0 (had_key s.0 s.1) in
           some_from (is_child_of (deletion_of child gone) r) (pairs gone []) (s.0, []) (has_pair gone s.0 s.1)
-          (and_from _ _ lost (agree_by r s.0 key key s.2 (had_key s.0 s.1) ∙ tied_key version_cmp version_order key key refl))
+          (and_from _ _ lost (versions_tied r s.0 key key s.2 (had_key s.0 s.1) ∙ tied_key version_cmp version_order key key refl))
 
       named_works : (r : Row) → Has rows r → named r ≡ true → works schema Enforced 0 2 gone [] ≡ deletions first high indexes gone
       named_works r there is =

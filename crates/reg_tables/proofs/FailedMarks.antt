@@ -22,7 +22,6 @@ use Rattle.sqlite.proofs.Callers.{statement_of}
 use Rattle.sqlite_schema.specs.declared.schema.Keys.TheVariants.{Enforced}
 use Rattle.sqlite_schema.specs.declared.schema.Among.TheVariants.{All}
 use Rattle.sqlite_schema.specs.declared.schema.Constraint.TheVariants.{Datatype, NotNull, Check, PrimaryKey, Unique, ForeignKey}
-use Rattle.sqlite.specs.Table.{Table}
 use Rattle.sqlite.specs.Schema.{Schema}
 use Rattle.sqlite_value.specs.Keys.{plain}
 use Rattle.sqlite_schema.specs.declared.schema.Index.{Index}
@@ -35,22 +34,21 @@ use Rattle.sqlite_rules.specs.Lists.{Has}
 use Rattle.sqlite_rules.proofs.ListLemmas.{all_has, has_got, test_from, some_has}
 use Rattle.sqlite_rules.proofs.TableLemmas.{int_is, without_all_has, put_all_has, put_all_adds, put_all_keeps}
 use Rattle.sqlite_tied.specs.Compute.{everything}
-use Rattle.reg_tables.specs.Layout.{begins, versions}
-use Rattle.reg_tables.specs.SecondContents.{SecondContents, HoldsAllIn}
+use Rattle.reg_tables.specs.Layout.{begins, added, versions}
+use Rattle.reg_tables.specs.Contents.{Contents, HoldsIn, version_cmp, VersionRow, version_form, TableName}
 use Rattle.reg_tables.specs.TableMaps.{IsEntry}
-use Rattle.reg_tables.specs.Contents.{version_cmp, VersionRow, version_form}
 use Rattle.reg_tables.specs.FailedCalls.{IsInsertFault}
 use Rattle.reg_tables.specs.Inside.Statements.{plain_query, by_version}
 use Rattle.reg_tables.proofs.ListMembers.{has_mapped, maps_had}
 use Rattle.reg_tables.proofs.MapLemmas.{equal_of, tied_key}
 use Rattle.reg_tables.proofs.RowLemmas.{left_fails, fails_left, same_if_tied}
 use Rattle.reg_tables.proofs.Queries.{passes}
-use Rattle.reg_tables.proofs.KeyedTables.{version_order, by_version_test, cast-Int, given_as_is, FindsOne, own_row, finds_one}
+use Rattle.reg_tables.proofs.KeyedTables.{version_order, by_version_test, cast-Int, given_as_is, FindsLayoutOne, own_row, finds_one}
 use Rattle.reg_tables.proofs.Statements.{with_flag, mark_version, mark_version_is}
 use Rattle.reg_tables.proofs.UniqueLemmas.{on_columns, with_tree_there, with_tree_elsewhere, stays_unique}
 use Rattle.reg_tables.proofs.WriteFaults.{refused_by, update_refused}
-use Rattle.reg_tables.proofs.SecondReferences.{has_text_at, more_versions}
-use Rattle.reg_tables.proofs.Settled.{IsSettled}
+use Rattle.reg_tables.proofs.ForeignKeys.{has_text_at, more_versions, kept_refers}
+use Rattle.reg_tables.proofs.Settled.{IsSettled, steady}
 use Rattle.reg_tables.proofs.TableFaults.{obeys as obeyed, differ_itself, plain_fits}
 use Rattle.reg_tables.proofs.FailedVersions.{version_keys, flag_passes}
 
@@ -72,9 +70,9 @@ same_agreement r a b subject number = let of_key : Value → Value → Bool = λ
 abbrev marked_row : ℤ → List ℕ × ℕ → ℕ → Row
 marked_row place key id = Int place ∷ Text key.0 ∷ Int (pos key.1) ∷ Int (pos id) ∷ Int (pos 1) ∷ []
 
-module _ (tables : List Table) (indexes : List Index) (s : IsSettled tables indexes) (old new : State) (contents : SecondContents) (h : HoldsAllIn (begins tables indexes) old.now contents) (e : Error) (key : List ℕ × ℕ) where
+module _ (first : ℕ) (indexes : List Index) (high : 10 ≤ first) (s : IsSettled (begins (added first) indexes)) (old new : State) (contents : Contents) (h : HoldsIn (begins (added first) indexes) old.now contents) (e : Error) (key : List ℕ × ℕ) where
   abbrev layout : Schema
-  layout = begins tables indexes
+  layout = begins (added first) indexes
 
   abbrev db : Trees
   db = old.now.trees
@@ -92,18 +90,18 @@ module _ (tables : List Table) (indexes : List Index) (s : IsSettled tables inde
   marking = record { lets = []; body = plain_query 2 by_version (col 1 0 ∷ with_flag) }
 
   obeys : Obeys layout db
-  obeys = obeyed layout old.now h.base.declared h.base.sound
+  obeys = obeyed layout old.now h.declared h.sound
 
   -- a row that passes is the version's
-  its_version : (r : Row) → Has (db 2) r → named r ≡ true → (v : VersionRow) × (get contents.base.versions key ≡ Some v) × IsEntry version_form r key v
-  its_version = own_row version_form version_cmp version_order db 2 contents.base.versions h.base.versions key by_version params (λ row q is. by_version_test row key q is)
+  its_version : (r : Row) → Has (db 2) r → named r ≡ true → (v : VersionRow) × (get contents.versions key ≡ Some v) × IsEntry version_form r key v
+  its_version = own_row version_form version_cmp version_order db 2 contents.versions (h.shows TableName.Versions) key by_version params (λ row q is. by_version_test row key q is)
 
   -- the rows that were found are the version's, if there is one
   abbrev IsFound : List Row → Type 0
-  IsFound found = FindsOne named rest (db 2) found
+  IsFound found = FindsLayoutOne named rest (db 2) found
 
   found_as : (found : List Row) → Answers (record { schema = layout; trees = db }) marking params found → IsFound found
-  found_as found it = finds_one version_form version_cmp version_order db 2 contents.base.versions h.base.versions key by_version params (λ row q is. by_version_test row key q is) with_flag found (it.answer Null)
+  found_as found it = finds_one version_form version_cmp version_order db 2 contents.versions (h.shows TableName.Versions) key by_version params (λ row q is. by_version_test row key q is) with_flag found (it.answer Null)
 
   module _ (found : List Row) (f : IsFound found) where
     abbrev edit : Edit
@@ -124,7 +122,7 @@ module _ (tables : List Table) (indexes : List Index) (s : IsSettled tables inde
       there : Has (db 2) was
       passing : named was ≡ true
       version : VersionRow
-      known : get contents.base.versions key ≡ Some version
+      known : get contents.versions key ≡ Some version
       entry : IsEntry version_form was key version
       is : x ≡ marked_row (id_in (rowid was)) key version.id
 
@@ -133,7 +131,7 @@ module _ (tables : List Table) (indexes : List Index) (s : IsSettled tables inde
         let s = has_mapped source found x (subst (λ l. Has l x) (given_as_is left (map source found)) new) in
         let r = f.finds.sound s.0 s.1 in
         let its = its_version r.0 r.1 r.2 in
-        let place : rowid r.0 ≡ Int (id_in (rowid r.0)) = int_is (rowid r.0) (all_has _ (db 2) r.0 h.base.versions.rowids.1 r.1) in
+        let place : rowid r.0 ≡ Int (id_in (rowid r.0)) = int_is (rowid r.0) (all_has _ (db 2) r.0 (h.shows TableName.Versions).rowids.1 r.1) in
         let subject : column r.0 1 ≡ Text key.0 = (let k = its.2.0 in cc) in
         let number : column r.0 2 ≡ Int (pos key.1) = (let k = its.2.0 in cc) in
         let id : column r.0 3 ≡ Int (pos its.0.id) = (let v = its.2.1 in cc) in
@@ -145,15 +143,15 @@ module _ (tables : List Table) (indexes : List Index) (s : IsSettled tables inde
     each p good fails = both_ways _ fails (test_from p edit.news (λ x new. let it = is_new x new in ap p it.is ∙ good (id_in (rowid it.was)) it.version.id))
 
     place_of : (x : Row) (it : IsNew x) → rowid x ≡ rowid it.was
-    place_of x it = ap (λ (r : Row). rowid r) it.is ∙ sym (int_is (rowid it.was) (all_has _ (db 2) it.was h.base.versions.rowids.1 it.there))
+    place_of x it = ap (λ (r : Row). rowid r) it.is ∙ sym (int_is (rowid it.was) (all_has _ (db 2) it.was (h.shows TableName.Versions).rowids.1 it.there))
 
     untaken : (x : Row) → Has edit.news x → is_taken left x ≡ true → ⊥
     untaken x new taken =
         let it = is_new x new in
         let r = some_has (λ y. is_eq (value_cmp (rowid y) (rowid x))) left taken in
-        let stood = left_fails named rest (db 2) found h.base.versions.rowids f.finds r.0 r.1 in
+        let stood = left_fails named rest (db 2) found (h.shows TableName.Versions).rowids f.finds r.0 r.1 in
         let tie = subst (λ v. value_cmp (rowid r.0) v ≡ Equal) (place_of x it) (equal_of _ r.2) in
-        let same : r.0 ≡ it.was = same_if_tied (db 2) r.0 it.was h.base.versions.rowids stood.0 it.there tie in
+        let same : r.0 ≡ it.was = same_if_tied (db 2) r.0 it.was (h.shows TableName.Versions).rowids stood.0 it.there tie in
         both_ways _ stood.1 (ap named same ∙ it.passing)
 
     fresh : are_fresh left edit.news ≡ true
@@ -173,12 +171,12 @@ module _ (tables : List Table) (indexes : List Index) (s : IsSettled tables inde
         elim (came r there) [
           | inl also ↦
               let that = is_new r also in
-              let same : that.was ≡ it.was = h.base.versions.once that.was it.was that.there it.there (that.entry.0 ∙ sym it.entry.0) in
+              let same : that.was ≡ it.was = (h.shows TableName.Versions).once that.was it.was that.there it.there (that.entry.0 ∙ sym it.entry.0) in
               let place : rowid r ≡ rowid fresh = place_of r that ∙ ap (λ (x : Row). rowid x) same ∙ sym (place_of fresh it) in
               both_ways _ (differ_itself (rowid fresh)) (subst (λ v. differ v (rowid fresh) ≡ true) place differs)
           | inr stays ↦
-              let stood = left_fails named rest (db 2) found h.base.versions.rowids f.finds r stays in
-              let entry = h.base.versions.sound r stood.0 in
+              let stood = left_fails named rest (db 2) found (h.shows TableName.Versions).rowids f.finds r stays in
+              let entry = (h.shows TableName.Versions).sound r stood.0 in
               let same : entry.0 ≡ key =
               version_keys (Int (id_in (rowid it.was))) (Int (pos it.version.id) ∷ Int (pos 1) ∷ []) r entry.0 key entry.3.0
               (subst (λ x. agree (record { digits = 0 }) (1 ∷ 2 ∷ []) r (1 ∷ 2 ∷ []) x ≡ true) it.is agrees) in
@@ -189,7 +187,7 @@ module _ (tables : List Table) (indexes : List Index) (s : IsSettled tables inde
     unique =
         stays_unique layout db after versions edit.news s.apart (has_got layout.tables 1 versions refl) (λ t known other. with_tree_elsewhere db 2 (edited db edit) t.tree other)
         (λ r there. elim (came r there) [ inl new ↦ inl new | inr stays ↦ inr (without_all_has (ids_of found) (db 2) r stays) ])
-        (λ i known on r fresh there new agrees differs. apart r fresh there new (on_columns indexes versions (1 ∷ 2 ∷ []) s.versions_on i known on r fresh agrees) differs)
+        (λ i known on r fresh there new agrees differs. apart r fresh there new (on_columns indexes versions (1 ∷ 2 ∷ []) (s.on TableName.Versions) i known on r fresh agrees) differs)
         (obeys.rules Unique)
 
     -- a version that was there has a row of its key still
@@ -208,14 +206,14 @@ module _ (tables : List Table) (indexes : List Index) (s : IsSettled tables inde
             subst (λ l. Has l x.0) (sym applies.rows) (put_all_adds edit.news left x.0 fresh x.1),
             same_agreement r x.0 was (ap (λ (y : Row). column y 1) it.is ∙ sym subject) (ap (λ (y : Row). column y 2) it.is ∙ sym number) ∙ agrees,
           )
-      | inr other ↦ (was, subst (λ l. Has l was) (sym applies.rows) (put_all_keeps edit.news left was fresh (fails_left named rest (db 2) found h.base.versions.rowids f.finds was there other)), agrees)
+      | inr other ↦ (was, subst (λ l. Has l was) (sym applies.rows) (put_all_keeps edit.news left was fresh (fails_left named rest (db 2) found (h.shows TableName.Versions).rowids f.finds was there other)), agrees)
     ]
 
     -- the row keeps its id and its key, so it has its text still, and its evidence has it
     refers : (next : Trees) → Applies layout Enforced db edit next → Refers All layout next
     refers next applies =
         let texts_same : next 0 ≡ db 0 = applies.tables.0 (λ e. omega (arith, e)) in
-        s.refers versions.tree (lit≤ tt) db next applies.tables (λ place row had. subst (λ l. has_text_at place l row ≡ true) (sym texts_same) had) (λ row had. more_versions (db 2) (next 2) row (still next applies row) had)
+        kept_refers first indexes versions.tree high (lit≤ tt) db next applies.tables (λ place row had. subst (λ l. has_text_at place l row ≡ true) (sym texts_same) had) (λ row had. more_versions (db 2) (next 2) row (still next applies row) had)
         (λ had row there. subst (λ l. has_text_at 3 l row ≡ true) (sym texts_same) (elim (put_all_has edit.news left row (subst (λ l. Has l row) applies.rows there)) [
           | inl new ↦
               let it = is_new row new in
@@ -235,18 +233,18 @@ module _ (tables : List Table) (indexes : List Index) (s : IsSettled tables inde
     allowed (Violates ForeignKey) r = absurd r
     allowed Mismatch r = absurd (each _ (λ place id. refl) r)
     allowed NoRowid r = refl
-    allowed BadReference r = absurd (both_ways _ r (s.versions_at.keys _ _))
+    allowed BadReference r = absurd (both_ways _ r ((s.at TableName.Versions).keys _ _))
     allowed TooDeep r = absurd r
 
   pub mark_version_fails : ExecutesInside 0 mark_version params old new (Err e) → IsInsertFault old new e
   unfolding understood everything
   mark_version_fails ran =
-      elim (refused_by mark_version params old new layout h.base.declared (Update 1 marking) (mark_version_is tables indexes) (lit≤ tt, refl) (record { silent = refl; stays = refl }) e ran) [
+      elim (refused_by mark_version params old new layout h.declared (Update 1 marking) (mark_version_is (added first) indexes) (lit≤ tt, refl) (record { silent = refl; stays = refl }) e ran) [
         | inl fault ↦ inl (inl (inl fault))
         | inr rest ↦ elim rest [
           | inl large ↦ inl (inr large.0)
           | inr does ↦ elim (update_refused layout 1 versions refl old new (statement_of mark_version (understood layout mark_version)) params e marking refl (plain_fits db params 2 by_version (col 1 0 ∷ with_flag))
-              (s.steady db) (λ found next asked applies. refers found (found_as found asked) next applies) does) [
+              (steady first indexes db) (λ found next asked applies. refers found (found_as found asked) next applies) does) [
                 | inl fault ↦ inl (inl (inl fault))
                 | inr r ↦ inr (inl (r.4 ∙ ap edit_error (allowed r.0 (found_as r.0 r.2) r.1 r.3)))
               ]

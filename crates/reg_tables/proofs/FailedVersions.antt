@@ -1,9 +1,8 @@
 -- How the statements that write texts and versions fail.
-use Rattle.std.proofs.Common.{arith, ◌≡◌, ◌/◌, not, length, ◌<◌, ◌^◌, inl, inr, ℕ, pos, List, [], ◌∷◌, lit≤, true, false, Bool, ◌&&◌, None, Some, Err, Option, refl, sym, ap, subst, ◌∙◌}
-use Rattle.std.specs.Prelude.{IsSome}
+use Rattle.std.proofs.Common.{arith, ◌≡◌, ◌≤◌, ◌/◌, not, length, ◌<◌, ◌^◌, inl, inr, ℕ, pos, List, [], ◌∷◌, lit≤, true, false, Bool, ◌&&◌, None, Some, Err, Option, refl, sym, ap, subst, ◌∙◌}
 use Rattle.std.specs.FinMap.{get, int_cmp-IsAntisymmetric}
-use Rattle.std.specs.Ordering.{is_eq, int_cmp, nat_cmp}
-use Rattle.std.proofs.lemmas.Bool.{both_ways, or_right, lt-ltb}
+use Rattle.std.specs.Ordering.{is_eq, int_cmp}
+use Rattle.std.proofs.lemmas.Bool.{both_ways, lt-ltb}
 use Rattle.std.proofs.lemmas.Cmp.{int_cmp_total}
 use Rattle.sqlite.specs.declared.types.Value.{Value}
 use Rattle.sqlite.specs.declared.types.Value.TheVariants.{Null, Int, Text}
@@ -20,25 +19,23 @@ use Rattle.sqlite.specs.State.{State, ExecutesInside}
 use Rattle.sqlite.specs.Listing.{understood}
 use Rattle.sqlite.specs.declared.error.Error.{Error}
 use Rattle.sqlite_rules.specs.Lists.{Has}
-use Rattle.sqlite_rules.proofs.ListLemmas.{some_has, some_from, all_from}
+use Rattle.sqlite_rules.proofs.ListLemmas.{some_has, all_from}
 use Rattle.sqlite_rules.proofs.TableLemmas.{put_all_keeps}
-use Rattle.sqlite.specs.Table.{Table}
 use Rattle.sqlite.specs.Schema.{Schema}
 use Rattle.sqlite_schema.specs.declared.schema.Index.{Index}
 use Rattle.sqlite_schema.specs.Rules.{agree}
 use Rattle.sqlite_sql.specs.Ops.{binary, is_true, is_false, from_truth}
 use Rattle.sqlite_value.proofs.OrderLemmas.{value_cmp-Text, value_cmp-Int}
-use Rattle.sqlite_value.specs.Keys.{plain, first_key}
+use Rattle.sqlite_value.specs.Keys.{first_key}
 use Rattle.sqlite_tied.specs.Compute.{everything}
-use Rattle.reg_tables.specs.Layout.{begins, texts}
-use Rattle.reg_tables.specs.Contents.{text_cmp, version_cmp, version_key_cells, number_cells, flag_cell}
-use Rattle.reg_tables.specs.SecondContents.{SecondContents, HoldsAllIn}
+use Rattle.reg_tables.specs.Layout.{begins, added, texts}
+use Rattle.reg_tables.specs.Contents.{text_cmp, version_cmp, version_key_cells, flag_cell, Contents, HoldsIn, TableName}
 use Rattle.reg_tables.specs.FailedCalls.{IsPutFault}
 use Rattle.reg_tables.specs.Inside.KeyedLaws.{IsKeyOrder}
-use Rattle.reg_tables.proofs.MapLemmas.{same_key, tied_key}
-use Rattle.reg_tables.proofs.KeyedTables.{text_order, number_order, version_order, by_id_test, by_version_test, cast-Null, cast-Int}
+use Rattle.reg_tables.proofs.MapLemmas.{same_key}
+use Rattle.reg_tables.proofs.KeyedTables.{text_order, version_order, by_version_test, cast-Null, cast-Int}
 use Rattle.reg_tables.proofs.Statements.{text_terms, put_text, put_text_is}
-use Rattle.reg_tables.proofs.SecondReferences.{has_text_at, has_version, more_texts}
+use Rattle.reg_tables.proofs.ForeignKeys.{has_version, more_texts, kept_refers}
 use Rattle.reg_tables.proofs.Settled.{IsSettled}
 use Rattle.reg_tables.proofs.UniqueLemmas.{on_columns}
 use Rattle.reg_tables.proofs.TableFaults.{IsFree, insert_fails}
@@ -58,32 +55,21 @@ pub version_keys : (first : Value) (rest r : Row) (q k : List ℕ × ℕ) → co
 unfolding first_key
 version_keys first rest r q k is same = same_key version_cmp version_order q k (sym (by_version_test r k q is) ∙ same)
 
--- the row of an id is the text of a version that names it
-pub text_of_version : (texts : List Row) (text row : Row) (id : ℕ) → Has texts text → column text 0 ∷ [] ≡ number_cells id → column row 3 ≡ Int (pos id) → has_text_at 3 texts row ≡ true
-unfolding first_key
-text_of_version texts text row id there is its =
-    let same : agree plain (0 ∷ []) text (3 ∷ []) row ≡ true = rw its (by_id_test text id id is ∙ tied_key nat_cmp number_order id id refl) in
-    or_right _ _ (some_from (λ parent. agree plain (0 ∷ []) parent (3 ∷ []) row) texts text there same)
-
 -- a flag is 0 or 1
 pub flag_passes : (b : Bool) → (not (is_false (binary Or (binary (Compare Eq Binary) (flag_cell b) (Int (pos 0))) (binary (Compare Eq Binary) (flag_cell b) (Int (pos 1))))) && true) ≡ true
 unfolding binary value_cmp lib.Ieee.is_nan lib.Ieee.lt
 flag_passes true = refl
 flag_passes false = refl
 
-pub value_of : {X : Type 0} (o : Option X) → IsSome o → (x : X) × (o ≡ Some x)
-value_of None h = absurd (cc)
-value_of (Some x) h = (x, refl)
-
 numbers_apart : IsKeyOrder int_cmp
 numbers_apart = record { total = int_cmp_total; antisymmetric = int_cmp-IsAntisymmetric }
 
-module _ (tables : List Table) (indexes : List Index) (s : IsSettled tables indexes) (old new : State) (contents : SecondContents) (h : HoldsAllIn (begins tables indexes) old.now contents) (e : Error) where
+module _ (first : ℕ) (indexes : List Index) (high : 10 ≤ first) (s : IsSettled (begins (added first) indexes)) (old new : State) (contents : Contents) (h : HoldsIn (begins (added first) indexes) old.now contents) (e : Error) where
   abbrev here : Schema
-  here = begins tables indexes
+  here = begins (added first) indexes
 
   -- the rowid is the id, which is free
-  pub put_text_fails : (id : ℕ) (text : List ℕ) → id < 2 ^ 32 → get contents.base.texts id ≡ None → ((other : ℕ) → get contents.base.texts other ≡ Some text → ⊥)
+  pub put_text_fails : (id : ℕ) (text : List ℕ) → id < 2 ^ 32 → get contents.texts id ≡ None → ((other : ℕ) → get contents.texts other ≡ Some text → ⊥)
       → ExecutesInside 0 put_text (Int (pos id) ∷ Text text ∷ []) old new (Err e) → IsPutFault old new e
   unfolding understood everything
   put_text_fails id text low none unheld ran =
@@ -91,19 +77,19 @@ module _ (tables : List Table) (indexes : List Index) (s : IsSettled tables inde
       let row : Row = Int (pos id) ∷ Null ∷ Text text ∷ [] in
       let put : Edit = edit_of old.now.trees texts [] Chosen 0 (value_rows (stamped texts params) 3 (length text_terms / 3) text_terms) in
       let news : put.news ≡ row ∷ [] = rw (cast-Null, cast-Int (pos id)) in
-      elim (insert_fails here s.apart 0 texts s.texts_at old new h.base.declared h.base.sound text_terms 3 params row put_text refl (put_text_is tables indexes) (lit≤ tt, refl) refl news (record {
+      elim (insert_fails here s.apart 0 texts (s.at TableName.Texts) old new h.declared h.sound text_terms 3 params row put_text refl (put_text_is (added first) indexes) (lit≤ tt, refl) refl news (record {
         keyed = refl;
         typed = refl;
         present = refl;
         checked = refl;
         free = all_from (IsFree texts (old.now.trees 0) row) indexes (λ i known on r was same.
-            let entry = h.base.texts.sound r was in
+            let entry = (h.shows TableName.Texts).sound r was in
             let its : column r 2 ≡ Text entry.1 = (let v = entry.3.1 in cc) in
-            unheld entry.0 (entry.2 ∙ ap Some (text_agrees 2 row r entry.1 text refl its (on_columns indexes texts (2 ∷ []) s.texts_on i known on r row same))));
+            unheld entry.0 (entry.2 ∙ ap Some (text_agrees 2 row r entry.1 text refl its (on_columns indexes texts (2 ∷ []) (s.on TableName.Texts) i known on r row same))));
       }) (λ next applies.
       let kept : (x : Row) → Has (old.now.trees 0) x → Has (next 0) x = λ x was. subst (λ l. Has l x) (sym applies.rows) (put_all_keeps put.news (old.now.trees 0) x applies.fresh was) in
       let versions_same : next 2 ≡ old.now.trees 2 = applies.tables.1.0 (λ e. omega (arith, e)) in
-      s.refers texts.tree (lit≤ tt) old.now.trees next applies.tables (more_texts (old.now.trees 0) (next 0) kept) (λ r had. subst (λ l. has_version l r ≡ true) (sym versions_same) had)
+      kept_refers first indexes texts.tree high (lit≤ tt) old.now.trees next applies.tables (more_texts (old.now.trees 0) (next 0) kept) (λ r had. subst (λ l. has_version l r ≡ true) (sym versions_same) had)
       (λ had r there. more_texts (old.now.trees 0) (next 0) kept 3 r (had r (subst (λ l. Has l r) versions_same there)))) e ran) [
         | inl fault ↦ inl (inl fault)
         | inr (inl large) ↦ inr large.0
@@ -111,12 +97,12 @@ module _ (tables : List Table) (indexes : List Index) (s : IsSettled tables inde
           | inl high ↦ both_ways _ high.1 (lt-ltb id (2 ^ 63) (omega arith))
           | inr taken ↦
               let r = some_has (λ x. is_eq (value_cmp (rowid x) (Int (pos id)))) (old.now.trees 0) taken.1 in
-              let entry = h.base.texts.sound r.0 r.1 in
+              let entry = (h.shows TableName.Texts).sound r.0 r.1 in
               let its : rowid r.0 ≡ Int (pos entry.0) = (let k = entry.3.0 in cc) in
               let tie : is_eq (int_cmp (pos entry.0) (pos id)) ≡ true = rw (its, value_cmp-Int (pos entry.0) (pos id)) at r.2 in
               let one : pos entry.0 ≡ pos id = same_key int_cmp numbers_apart (pos entry.0) (pos id) tie in
               let same : entry.0 ≡ id = cc in
-              let both : ◌≡◌ {A = Option (List ℕ)} None (Some entry.1) = sym none ∙ ap (get contents.base.texts) (sym same) ∙ entry.2 in
+              let both : ◌≡◌ {A = Option (List ℕ)} None (Some entry.1) = sym none ∙ ap (get contents.texts) (sym same) ∙ entry.2 in
               cc
         ])
       ]

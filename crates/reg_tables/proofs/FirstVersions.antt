@@ -17,7 +17,7 @@ use Rattle.sqlite_rules.proofs.ListLemmas.{has_filtered, has_kept}
 use Rattle.sqlite_sql.specs.Ops.{binary, is_true, from_truth}
 use Rattle.sqlite_trees.proofs.ListLemmas.{ascending-filter, ascending_weaker}
 use Rattle.sqlite_value.proofs.OrderLemmas.{value_cmp-Int, value_cmp-Text}
-use Rattle.reg_tables.specs.Layout.{HasTablesFirst}
+use Rattle.reg_tables.specs.Layout.{HasFiveTables}
 use Rattle.reg_tables.specs.TableMaps.{IsEntry, ShowsMap}
 use Rattle.reg_tables.specs.Contents.{text_cmp, version_cmp, version_key_cells, version_form, Contents, AreReadable, HoldsIn}
 use Rattle.reg_tables.specs.Entries.{NumberedVersion, numbered, numbered_cells, subject_versions, IsReadableNumbered, keyed, keyed_cells, IsReadableKeyed}
@@ -30,7 +30,8 @@ use Rattle.reg_tables.proofs.LastVersions.{first_taken, map_twice, same_shown, e
 use Rattle.reg_tables.proofs.ListMembers.{has_mapped, has_taken}
 use Rattle.reg_tables.proofs.OrderedQueries.{entries_rise, entry_got, got_entry, in_order_as}
 use Rattle.reg_tables.proofs.Queries.{passes}
-use Rattle.reg_tables.proofs.Statements.{in_order, first_row, laid_out, by_later_subject, find_behind, find_behind_is, by_later_number, find_next, find_next_is}
+use Rattle.reg_tables.proofs.Tables.{five}
+use Rattle.reg_tables.proofs.Statements.{in_order, first_row, laid_out, by_later_subject, find_behind, asks_behind, by_later_number, find_next, asks_next}
 use Rattle.reg_tables.proofs.TableLines.{all_if_each}
 use Rattle.reg_tables.proofs.VersionLists.{Entry, ranks, distinct_numbered, same_text, entry_cells, entry_shown, readable_entry}
 
@@ -112,30 +113,30 @@ by_next subject number row e is =
 abbrev keyed_columns : Row → Row
 keyed_columns row = column row 0 ∷ column row 1 ∷ column row 2 ∷ column row 3 ∷ []
 
-module _ (old new : State) (schema : Schema) (contents : Contents) (h : HoldsIn schema old.now contents) (first : HasTablesFirst schema) (subject : List ℕ) (found : List Row) where
+module _ (old new : State) (schema : Schema) (contents : Contents) (h : HoldsIn schema old.now contents) (first : HasFiveTables schema) (subject : List ℕ) (found : List Row) where
   module _ (shown : Shown find_behind.sql (Text subject ∷ []) old new found) where
     abbrev is_behind : Entry → Bool
     is_behind e = is_gt (text_cmp e.0.0 subject)
 
     its : IsQuery find_behind old.now.schema
-    its = find_behind_is old.now.schema (laid_out h first)
+    its = (asks_behind subject).is old.now.schema (laid_out h first)
 
     pub line_behind : (line : Option ListedVersion) → option_map keyed_columns (slice_get found 0) ≡ option_map (λ (line : ListedVersion). keyed_cells (keyed line)) line
         → option_map keyed line ≡ find is_behind (entries contents.versions)
     line_behind line read =
-        let first = shows_first find_behind refl (Text subject ∷ []) old new its found shown contents h.versions is_behind (by_behind subject) keyed_cells keyed_shown in
+        let first = shows_first find_behind refl (Text subject ∷ []) old new its found shown contents (five h first).versions is_behind (by_behind subject) keyed_cells keyed_shown in
         same_shown keyed_cells distinct_keyed (option_map keyed line) (find is_behind (entries contents.versions))
         (map_twice keyed_cells keyed line ∙ sym read ∙ ap (option_map keyed_columns) first ∙ map_twice keyed_columns keyed_cells (find is_behind (entries contents.versions)))
 
     pub readable_behind : AreReadable contents → All IsReadableKeyed found
-    readable_behind = readable_first find_behind refl (Text subject ∷ []) old new its found shown contents h.versions is_behind (by_behind subject) keyed_cells keyed_shown IsReadableKeyed can_be_held
+    readable_behind = readable_first find_behind refl (Text subject ∷ []) old new its found shown contents (five h first).versions is_behind (by_behind subject) keyed_cells keyed_shown IsReadableKeyed can_be_held
 
   module _ (number : ℕ) (shown : Shown find_next.sql (Text subject ∷ Int (pos number) ∷ []) old new found) where
     abbrev is_next : Entry → Bool
     is_next e = bytes_eq e.0.0 subject && is_gt (nat_cmp e.0.1 number)
 
     it : IsQuery find_next old.now.schema
-    it = find_next_is old.now.schema (laid_out h first)
+    it = (asks_next subject number).is old.now.schema (laid_out h first)
 
     next_entry : find (λ (version : NumberedVersion). is_gt (nat_cmp version.0 number)) (subject_versions subject contents) ≡ option_map entry_version (find is_next (entries contents.versions))
     next_entry =
@@ -145,10 +146,10 @@ module _ (old new : State) (schema : Schema) (contents : Contents) (h : HoldsIn 
     pub next_line : (line : Option SubjectVersion) → option_map line_columns (slice_get found 0) ≡ option_map (λ (line : SubjectVersion). numbered_cells (numbered line)) line
         → option_map numbered line ≡ find (λ (version : NumberedVersion). is_gt (nat_cmp version.0 number)) (subject_versions subject contents)
     next_line line read =
-        let first = shows_first find_next refl (Text subject ∷ Int (pos number) ∷ []) old new it found shown contents h.versions is_next (by_next subject number) entry_cells entry_shown in
+        let first = shows_first find_next refl (Text subject ∷ Int (pos number) ∷ []) old new it found shown contents (five h first).versions is_next (by_next subject number) entry_cells entry_shown in
         same_shown numbered_cells distinct_numbered (option_map numbered line) (option_map entry_version (find is_next (entries contents.versions)))
         (map_twice numbered_cells numbered line ∙ sym read ∙ ap (option_map line_columns) first ∙ map_twice line_columns entry_cells (find is_next (entries contents.versions))
         ∙ sym (map_twice numbered_cells entry_version (find is_next (entries contents.versions)))) ∙ sym next_entry
 
     pub readable_next : AreReadable contents → All IsReadableNumbered found
-    readable_next = readable_first find_next refl (Text subject ∷ Int (pos number) ∷ []) old new it found shown contents h.versions is_next (by_next subject number) entry_cells entry_shown IsReadableNumbered readable_entry
+    readable_next = readable_first find_next refl (Text subject ∷ Int (pos number) ∷ []) old new it found shown contents (five h first).versions is_next (by_next subject number) entry_cells entry_shown IsReadableNumbered readable_entry

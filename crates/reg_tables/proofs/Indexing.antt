@@ -1,5 +1,5 @@
 -- What the making of the index leaves, and why it is not made.
-use Rattle.std.proofs.Common.{◌≡◌, inl, inr, ℕ, pos, ◌+◌, ◌<◌, ◌^◌, List, [], ◌∷◌, ◌++◌, ◌&&◌, not, length, lit<, lit≤, codes, Some, None, Ok, Err, Option, false, true, refl, sym, ap, subst, ◌∙◌, arith}
+use Rattle.std.proofs.Common.{◌≡◌, inl, inr, ℕ, pos, ◌+◌, ◌<◌, ◌^◌, List, [], ◌∷◌, ◌++◌, ◌&&◌, not, length, lit<, lit≤, codes, Some, None, Ok, Err, Option, false, true, refl, sym, ap, subst, subst₂, ◌∙◌, arith}
 use Rattle.std.specs.Prelude.{IsUtf8, IsTrue}
 use Rattle.std.proofs.lemmas.Bool.{both_ways}
 use Rattle.sqlite.specs.declared.types.Value.{Value}
@@ -32,13 +32,11 @@ use Rattle.sqlite_rules.proofs.RuleLemmas.{keeps_at, keeps_from}
 use Rattle.sqlite_trees.specs.View.{is_int, IsStorable}
 use Rattle.sqlite_trees.specs.Sound.{same_name as same_word, begins as begins_with, is_free_name, fits_kind}
 use Rattle.sqlite_tied.specs.Compute.{everything}
-use Rattle.reg_tables.specs.Layout.{begins, unindexed, versions, versions_of_id}
-use Rattle.reg_tables.specs.SecondLayout.{added, second_unindexed, second_indexed_last}
-use Rattle.reg_tables.specs.Contents.{pair_form, Contents, HoldsIn, Holds}
-use Rattle.reg_tables.specs.SecondContents.{evidence_form, against_form, SecondContents, HoldsAllIn}
+use Rattle.reg_tables.specs.Layout.{begins, layout_one_unindexed, versions, versions_of_id, added, layout_two_unindexed, GetsIndex}
+use Rattle.reg_tables.specs.Contents.{Contents, HoldsIn, TableName}
 use Rattle.reg_tables.specs.FailedCalls.{IsFault}
 use Rattle.reg_tables.specs.Inside.Statements.{IsCommand, IsWhole}
-use Rattle.reg_tables.proofs.RowLemmas.{same_rows}
+use Rattle.reg_tables.proofs.Tables.{all_still}
 use Rattle.reg_tables.proofs.StoredRows.{storable}
 use Rattle.reg_tables.proofs.WriteFaults.{refused_by}
 use Rattle.reg_tables.proofs.Writes.{went, same_value}
@@ -66,13 +64,13 @@ record MakesIndex (tables : List Table) (indexes : List Index) (tree : ℕ) : Ty
   room : next_tree (begins tables indexes) < 65536
   unused : is_used (begins tables indexes) versions_of_id.name ≡ false
 
-first_makes : MakesIndex [] unindexed.indexes 10
+first_makes : MakesIndex [] layout_one_unindexed.indexes 10
 unfolding understood everything same_name same_word begins_with
 first_makes = record { command = record { is = refl; plain = (refl, refl) }; text = refl; is = refl; whole = (lit≤ tt, refl); room = lit< tt; unused = refl }
 
-second_makes : MakesIndex (added 10) second_unindexed.indexes 16
+two_makes : MakesIndex (added 10) layout_two_unindexed.indexes 16
 unfolding understood everything same_name same_word begins_with
-second_makes = record { command = record { is = refl; plain = (refl, refl) }; text = refl; is = refl; whole = (lit≤ tt, refl); room = lit< tt; unused = refl }
+two_makes = record { command = record { is = refl; plain = (refl, refl) }; text = refl; is = refl; whole = (lit≤ tt, refl); room = lit< tt; unused = refl }
 
 -- what SQLite asks whatever the tables
 record CanBeIndexed : Type 0 where
@@ -108,11 +106,11 @@ two_numbers (Text x) b first second = absurd (cc)
 two_numbers (Blob x) b first second = absurd (cc)
 
 -- the ids and the rowids of versions are numbers
-storable_if_held : (schema : Schema) (db : Database) (contents : Contents) → HoldsIn schema db contents → AreStorable db.trees
-storable_if_held schema db contents holds = λ row there.
-    let it = holds.versions.sound row there in
+storable_if_held : (tables : List Table) (indexes : List Index) (db : Database) (contents : Contents) → HoldsIn (begins tables indexes) db contents → AreStorable db.trees
+storable_if_held tables indexes db contents holds = λ row there.
+    let it = (holds.shows TableName.Versions).sound row there in
     let id : column row 3 ≡ Int (pos it.1.id) = (let v = it.3.1 in cc) in
-    two_numbers (column row 3) (rowid row) (ap is_int id) (all_has (λ r. IsTrue (is_int (rowid r))) (db.trees versions.tree) row holds.versions.rowids.1 there)
+    two_numbers (column row 3) (rowid row) (ap is_int id) (all_has (λ r. IsTrue (is_int (rowid r))) (db.trees versions.tree) row (holds.shows TableName.Versions).rowids.1 there)
 
 -- the index is there too, and each table has the rows that it had
 record IsIndexed (tables : List Table) (indexes : List Index) (tree : ℕ) (old new : Database) : Type 0 where
@@ -140,17 +138,11 @@ module _ (tables : List Table) (indexes : List Index) (tree : ℕ) (m : MakesInd
         rows = subst (λ (d : Database). KeepsRows before.tables old.now.trees d.trees) (sym now) made.rows;
       }
 
-  -- the five tables hold what they held
-  base_indexed : (old new : Database) (contents : Contents) → IsIndexed tables indexes tree old new → HoldsIn before old contents → HoldsIn after new contents
-  base_indexed old new contents it holds = record {
-    declared = it.declared;
-    sound = it.sound;
-    texts = same_rows it.rows.0 holds.texts;
-    versions = same_rows it.rows.1.0 holds.versions;
-    levels = same_rows it.rows.1.1.0 holds.levels;
-    kept = same_rows it.rows.1.1.1.0 holds.kept;
-    meta = same_rows it.rows.1.1.1.1.0 holds.meta;
-  }
+  -- the tables hold what they held
+  holds_indexed : (old new : State) (count : ℕ) (contents : Contents) → HoldsIn before old.now contents → Executes make_versions_of_id [] old new (Ok count) → HoldsIn after new.now contents
+  holds_indexed old new count contents holds ran =
+      let it = is_indexed old new count holds.declared ran in
+      record { declared = it.declared; sound = it.sound; shows = all_still before.tables old.now.trees new.now.trees contents it.rows holds.shows }
 
   -- an index that is not unique asks nothing of the rows
   unique_with_index : (db : Trees) → Keeps Unique before db → Keeps Unique after db
@@ -214,25 +206,29 @@ module _ (tables : List Table) (indexes : List Index) (tree : ℕ) (m : MakesInd
   fails_if_sound : (old new : State) (contents : Contents) → HoldsIn before old.now contents → (e : Error) → ExecutesInside 0 make_versions_of_id [] old new (Err e) → IsFault old new e
   fails_if_sound old new contents holds e =
       let obeys = (subst (λ s. IsDatabase (record { schema = s; trees = old.now.trees })) holds.declared holds.sound).obeys in
-      index_fails old new holds.declared (unique_with_index old.now.trees (obeys.rules Unique)) (storable_if_held before old.now contents holds) e
+      index_fails old new holds.declared (unique_with_index old.now.trees (obeys.rules Unique)) (storable_if_held tables indexes old.now contents holds) e
 
 -- ---- the layouts
 
-pub indexes_first : (old new : State) (count : ℕ) (contents : Contents) → HoldsIn unindexed old.now contents → Executes make_versions_of_id [] old new (Ok count) → Holds new.now contents
-indexes_first old new count contents holds h = base_indexed [] unindexed.indexes 10 first_makes old.now new.now contents (is_indexed [] unindexed.indexes 10 first_makes old new count holds.declared h) holds
+-- tables that lack the index, and the index that they get
+record IsUnindexed (before after : Schema) : Type 0 where
+  tables : List Table
+  indexes : List Index
+  tree : ℕ
+  makes : MakesIndex tables indexes tree
+  was : before ≡ begins tables indexes
+  is : after ≡ begins tables (indexes ++ in_tree tree ∷ [])
 
-pub indexes_second : (old new : State) (count : ℕ) (contents : SecondContents) → HoldsAllIn second_unindexed old.now contents → Executes make_versions_of_id [] old new (Ok count) → HoldsAllIn second_indexed_last new.now contents
-indexes_second old new count contents holds h =
-    let it = is_indexed (added 10) second_unindexed.indexes 16 second_makes old new count holds.base.declared h in
-    record {
-      base = base_indexed (added 10) second_unindexed.indexes 16 second_makes old.now new.now contents.base it holds.base;
-      modes = same_rows {form = pair_form} it.rows.1.1.1.1.1.0 holds.modes;
-      evidence = same_rows {form = evidence_form} it.rows.1.1.1.1.1.1.0 holds.evidence;
-      against = same_rows {form = against_form} it.rows.1.1.1.1.1.1.1.0 holds.against;
-    }
+is_unindexed_one : (before after : Schema) → GetsIndex before after → IsUnindexed before after
+is_unindexed_one _ _ (inl first) = record { tables = []; indexes = layout_one_unindexed.indexes; tree = 10; makes = first_makes; was = first.0; is = first.1 }
+is_unindexed_one _ _ (inr second) = record { tables = added 10; indexes = layout_two_unindexed.indexes; tree = 16; makes = two_makes; was = second.0; is = second.1 }
 
-pub index_fails_first : (old new : State) (contents : Contents) → HoldsIn unindexed old.now contents → (e : Error) → ExecutesInside 0 make_versions_of_id [] old new (Err e) → IsFault old new e
-index_fails_first = fails_if_sound [] unindexed.indexes 10 first_makes
+pub indexes_versions : (old new : State) (count : ℕ) → Executes make_versions_of_id [] old new (Ok count) → (before after : Schema) → GetsIndex before after → (contents : Contents) → HoldsIn before old.now contents → HoldsIn after new.now contents
+indexes_versions old new count ran before after known contents =
+    let it = is_unindexed_one before after known in
+    subst₂ (λ b a. HoldsIn b old.now contents → HoldsIn a new.now contents) (sym it.was) (sym it.is) (λ holds. holds_indexed it.tables it.indexes it.tree it.makes old new count contents holds ran)
 
-pub index_fails_second : (old new : State) (contents : SecondContents) → HoldsAllIn second_unindexed old.now contents → (e : Error) → ExecutesInside 0 make_versions_of_id [] old new (Err e) → IsFault old new e
-index_fails_second old new contents holds = fails_if_sound (added 10) second_unindexed.indexes 16 second_makes old new contents.base holds.base
+pub index_versions_fails : (old new : State) (e : Error) → ExecutesInside 0 make_versions_of_id [] old new (Err e) → (before after : Schema) → GetsIndex before after → (contents : Contents) → HoldsIn before old.now contents → IsFault old new e
+index_versions_fails old new e ran before after known contents =
+    let it = is_unindexed_one before after known in
+    subst (λ b. HoldsIn b old.now contents → IsFault old new e) (sym it.was) (λ holds. fails_if_sound it.tables it.indexes it.tree it.makes old new contents holds e ran)

@@ -18,7 +18,7 @@ use Rattle.sqlite_rules.proofs.ListLemmas.{contains_had, has_contained, has_filt
 use Rattle.sqlite_sql.specs.Ops.{binary, is_true, from_truth}
 use Rattle.sqlite_trees.proofs.ListLemmas.{all_of, filter_all}
 use Rattle.sqlite_value.proofs.OrderLemmas.{value_cmp-Int}
-use Rattle.reg_tables.specs.Layout.{HasTablesFirst}
+use Rattle.reg_tables.specs.Layout.{HasFiveTables}
 use Rattle.reg_tables.specs.TableMaps.{IsEntry}
 use Rattle.reg_tables.specs.Contents.{VersionRow, version_cells, version_cmp, version_form, Contents, AreReadable, HoldsIn}
 use Rattle.reg_tables.specs.Entries.{KeyedVersion, keyed, keyed_cells, id_versions, most, AreOfId, IsReadableKeyed}
@@ -27,10 +27,11 @@ use Rattle.reg_tables.specs.Inside.Statements.{IsQuery, body_of}
 use Rattle.reg_tables.proofs.KeyedTables.{number_order, version_order, same_pos, with_nothing, answered}
 use Rattle.reg_tables.proofs.MapLemmas.{same_key, tied_key}
 use Rattle.reg_tables.proofs.ListMembers.{has_mapped, maps_had, has_taken, all_taken, takes_one}
-use Rattle.reg_tables.proofs.Opening.{distinct_version_rows}
+use Rattle.reg_tables.proofs.Keys.{distinct_version_rows}
 use Rattle.reg_tables.proofs.OrderedQueries.{entry_got, got_entry}
 use Rattle.reg_tables.proofs.Queries.{passes, ordered_has, has_ordered}
-use Rattle.reg_tables.proofs.Statements.{first_row, first_rows, by_its_id, laid_out, find_of_id, find_of_id_is, find_one_of_id, find_one_of_id_is, find_some_of_id, find_some_of_id_is, list_versions, list_versions_is}
+use Rattle.reg_tables.proofs.Tables.{five}
+use Rattle.reg_tables.proofs.Statements.{first_row, first_rows, by_its_id, laid_out, find_of_id, asks_of_id, find_one_of_id, asks_one_of_id, find_some_of_id, asks_some_of_id, list_versions, asks_list}
 use Rattle.reg_tables.proofs.TableLines.{all_if_each}
 use Rattle.reg_tables.proofs.TableReads.{first_shown}
 use Rattle.reg_tables.proofs.VersionLists.{same_cells, lists_versions, readable_versions}
@@ -77,34 +78,34 @@ by_its_id_test row id its is = rw (is, value_cmp-Int (pos its) (pos id), same_po
 by_entry_id : (id : ℕ) (row : Row) (e : KeyedVersion) → IsEntry version_form row e.0 e.1 → passes by_its_id (Int (pos id) ∷ []) row ≡ (e.1.id == id)
 by_entry_id id row e is = by_its_id_test row id e.1.id (let v = is.1 in cc)
 
-module _ (old new : State) (schema : Schema) (contents : Contents) (h : HoldsIn schema old.now contents) (first : HasTablesFirst schema) (found : List Row) where
+module _ (old new : State) (schema : Schema) (contents : Contents) (h : HoldsIn schema old.now contents) (first : HasFiveTables schema) (found : List Row) where
   module _ (id : ℕ) (shown : Shown find_of_id.sql (Int (pos id) ∷ []) old new found) where
     its : IsQuery find_of_id old.now.schema
-    its = find_of_id_is old.now.schema (laid_out h first)
+    its = (asks_of_id id).is old.now.schema (laid_out h first)
 
     pub lines_of_id : (lines : List ListedVersion) → map (λ (row : Row). column row 0 ∷ column row 1 ∷ column row 2 ∷ column row 3 ∷ []) found ≡ map (λ (line : ListedVersion). keyed_cells (keyed line)) lines → map keyed lines ≡ id_versions id contents
-    lines_of_id = keyed_lines (id_versions id contents) found (lists_versions find_of_id refl (Int (pos id) ∷ []) old new its found shown contents h.versions (λ e. e.1.id == id) (by_entry_id id) keyed_cells whole)
+    lines_of_id = keyed_lines (id_versions id contents) found (lists_versions find_of_id refl (Int (pos id) ∷ []) old new its found shown contents (five h first).versions (λ e. e.1.id == id) (by_entry_id id) keyed_cells whole)
 
     pub readable_of_id : AreReadable contents → All IsReadableKeyed found
-    readable_of_id = readable_versions find_of_id refl (Int (pos id) ∷ []) old new its found shown contents h.versions (λ e. e.1.id == id) (by_entry_id id) keyed_cells whole IsReadableKeyed can_be_held
+    readable_of_id = readable_versions find_of_id refl (Int (pos id) ∷ []) old new its found shown contents (five h first).versions (λ e. e.1.id == id) (by_entry_id id) keyed_cells whole IsReadableKeyed can_be_held
 
   module _ (shown : Shown list_versions.sql [] old new found) where
     it : IsQuery list_versions old.now.schema
-    it = list_versions_is old.now.schema (laid_out h first)
+    it = asks_list.is old.now.schema (laid_out h first)
 
     pub all_lines : (lines : List ListedVersion) → map (λ (row : Row). column row 0 ∷ column row 1 ∷ column row 2 ∷ column row 3 ∷ []) found ≡ map (λ (line : ListedVersion). keyed_cells (keyed line)) lines → map keyed lines ≡ entries contents.versions
     all_lines = keyed_lines (entries contents.versions) found
-        (lists_versions list_versions refl [] old new it found shown contents h.versions (λ e. true) (λ row e is. refl) keyed_cells whole
+        (lists_versions list_versions refl [] old new it found shown contents (five h first).versions (λ e. true) (λ row e is. refl) keyed_cells whole
         ∙ ap (map keyed_cells) (filter_all (λ (e : KeyedVersion). true) (entries contents.versions) (all_of (λ (e : KeyedVersion). true ≡ true) (λ e. refl) (entries contents.versions))))
 
     pub all_readable : AreReadable contents → All IsReadableKeyed found
-    all_readable = readable_versions list_versions refl [] old new it found shown contents h.versions (λ e. true) (λ row e is. refl) keyed_cells whole IsReadableKeyed can_be_held
+    all_readable = readable_versions list_versions refl [] old new it found shown contents (five h first).versions (λ e. true) (λ row e is. refl) keyed_cells whole IsReadableKeyed can_be_held
 
 -- ---- one of the id
 
-module _ (old new : State) (schema : Schema) (contents : Contents) (h : HoldsIn schema old.now contents) (first : HasTablesFirst schema) (found : List Row) (id : ℕ) (shown : Shown find_one_of_id.sql (Int (pos id) ∷ []) old new found) where
+module _ (old new : State) (schema : Schema) (contents : Contents) (h : HoldsIn schema old.now contents) (first : HasFiveTables schema) (found : List Row) (id : ℕ) (shown : Shown find_one_of_id.sql (Int (pos id) ∷ []) old new found) where
   answer : IsAnswer (body_of find_one_of_id) (overlay old.now.trees []) (Int (pos id) ∷ []) found
-  answer = answered find_one_of_id (Int (pos id) ∷ []) old new (find_one_of_id_is old.now.schema (laid_out h first)) found shown
+  answer = answered find_one_of_id (Int (pos id) ∷ []) old new ((asks_one_of_id id).is old.now.schema (laid_out h first)) found shown
 
   abbrev IsOf : Row → Type 0
   IsOf row = (e : KeyedVersion) × (get contents.versions e.0 ≡ Some e.1) × (e.1.id ≡ id) × (row ≡ keyed_cells e)
@@ -116,12 +117,12 @@ module _ (old new : State) (schema : Schema) (contents : Contents) (h : HoldsIn 
   is_of row there =
       let o = has_mapped (λ (o : Output). o.1) answer.ordered row (has_taken 1 (map (λ (o : Output). o.1) answer.ordered) row (subst (λ l. Has l row) answer.shown there)) in
       let r = ordered_has by_its_id (Int (pos id) ∷ []) 2 find_one_of_id.shown [] first_row (overlay old.now.trees []) found answer o.0 o.1 in
-      let e = h.versions.sound r.0 (subst (λ l. Has l r.0) (with_nothing old.now.trees 2) r.1) in
+      let e = (five h first).versions.sound r.0 (subst (λ l. Has l r.0) (with_nothing old.now.trees 2) r.1) in
       ((e.0, e.1), e.2, (unsigned_Decides e.1.id id).0 (sym (by_entry_id id r.0 (e.0, e.1) e.3) ∙ r.2), o.2 ∙ ap (λ (p : Output). p.1) r.3 ∙ whole r.0 (e.0, e.1) e.3)
 
   none_of_id : ((row : Row) → Has found row → ⊥) → HasNone
   none_of_id none key version got same =
-      let r = h.versions.complete key version got in
+      let r = (five h first).versions.complete key version got in
       let on = by_entry_id id r.0 (key, version) r.2 ∙ (unsigned_Decides version.id id).1 same in
       let there = has_ordered by_its_id (Int (pos id) ∷ []) 2 find_one_of_id.shown [] first_row (overlay old.now.trees []) found answer r.0 (subst (λ l. Has l r.0) (sym (with_nothing old.now.trees 2)) r.1) on in
       let row = takes_one (map (λ (o : Output). o.1) answer.ordered) _ (maps_had (λ (o : Output). o.1) answer.ordered _ there) in
@@ -146,9 +147,9 @@ module _ (old new : State) (schema : Schema) (contents : Contents) (h : HoldsIn 
 
 -- ---- some of the id, and all where they are few
 
-module _ (old new : State) (schema : Schema) (contents : Contents) (h : HoldsIn schema old.now contents) (first : HasTablesFirst schema) (found : List Row) (id : ℕ) (shown : Shown find_some_of_id.sql (Int (pos id) ∷ []) old new found) where
+module _ (old new : State) (schema : Schema) (contents : Contents) (h : HoldsIn schema old.now contents) (first : HasFiveTables schema) (found : List Row) (id : ℕ) (shown : Shown find_some_of_id.sql (Int (pos id) ∷ []) old new found) where
   some_answer : IsAnswer (body_of find_some_of_id) (overlay old.now.trees []) (Int (pos id) ∷ []) found
-  some_answer = answered find_some_of_id (Int (pos id) ∷ []) old new (find_some_of_id_is old.now.schema (laid_out h first)) found shown
+  some_answer = answered find_some_of_id (Int (pos id) ∷ []) old new ((asks_some_of_id id).is old.now.schema (laid_out h first)) found shown
 
   abbrev all_shown : List Row
   all_shown = map (λ (o : Output). o.1) some_answer.ordered
@@ -160,7 +161,7 @@ module _ (old new : State) (schema : Schema) (contents : Contents) (h : HoldsIn 
   some_is_of row there =
       let o = has_mapped (λ (o : Output). o.1) some_answer.ordered row (has_taken 33 all_shown row (subst (λ l. Has l row) some_answer.shown there)) in
       let r = ordered_has by_its_id (Int (pos id) ∷ []) 2 find_some_of_id.shown [] first_rows (overlay old.now.trees []) found some_answer o.0 o.1 in
-      let e = h.versions.sound r.0 (subst (λ l. Has l r.0) (with_nothing old.now.trees 2) r.1) in (
+      let e = (five h first).versions.sound r.0 (subst (λ l. Has l r.0) (with_nothing old.now.trees 2) r.1) in (
         (e.0, e.1),
         has_kept has_id (entries contents.versions) (e.0, e.1) (got_entry version_cmp version_order contents.versions e.0 e.1 e.2) (sym (by_entry_id id r.0 (e.0, e.1) e.3) ∙ r.2),
         o.2 ∙ ap (λ (p : Output). p.1) r.3 ∙ whole r.0 (e.0, e.1) e.3,
@@ -169,7 +170,7 @@ module _ (old new : State) (schema : Schema) (contents : Contents) (h : HoldsIn 
   few_are_all : length found < most → (e : KeyedVersion) → Has (id_versions id contents) e → Has found (keyed_cells e)
   few_are_all few e there =
       let kept = has_filtered has_id (entries contents.versions) e there in
-      let r = h.versions.complete e.0 e.1 (entry_got version_cmp version_order contents.versions e kept.0) in
+      let r = (five h first).versions.complete e.0 e.1 (entry_got version_cmp version_order contents.versions e kept.0) in
       let o = has_ordered by_its_id (Int (pos id) ∷ []) 2 find_some_of_id.shown [] first_rows (overlay old.now.trees []) found some_answer r.0 (subst (λ l. Has l r.0) (sym (with_nothing old.now.trees 2)) r.1) (by_entry_id id r.0 e r.2 ∙ kept.1) in
       let all : found ≡ all_shown = some_answer.shown ∙ all_taken 33 all_shown (subst (λ (l : List Row). length l < most) some_answer.shown few) in
       let made : Row = column r.0 1 ∷ column r.0 2 ∷ column r.0 3 ∷ column r.0 4 ∷ [] in

@@ -17,21 +17,22 @@ use Rattle.sqlite_rules.specs.Lists.{Has}
 use Rattle.sqlite_rules.proofs.ListLemmas.{all_has}
 use Rattle.sqlite_value.specs.declared.keys.Key.{Key}
 use Rattle.sqlite_value.proofs.OrderLemmas.{value_cmp-Int}
-use Rattle.reg_tables.specs.Layout.{HasTablesFirst}
+use Rattle.reg_tables.specs.Layout.{HasFiveTables}
 use Rattle.reg_tables.specs.Contents.{number_cells, Contents, HoldsIn}
 use Rattle.reg_tables.specs.Inside.Statements.{body_of}
-use Rattle.reg_tables.proofs.FailedVersions.{value_of}
+use Rattle.reg_tables.proofs.LayoutTables.{value_of}
 use Rattle.reg_tables.proofs.KeyedTables.{int_order, with_nothing, answered, none_of}
 use Rattle.reg_tables.proofs.OrderedQueries.{at_most, key_cmp_total}
 use Rattle.reg_tables.proofs.Queries.{ordered_has, has_ordered}
-use Rattle.reg_tables.proofs.Statements.{laid_out, find_last, find_last_is}
+use Rattle.reg_tables.proofs.Tables.{five}
+use Rattle.reg_tables.proofs.Statements.{laid_out, find_last, asks_last}
 
-module _ (old new : State) (schema : Schema) (contents : Contents) (h : HoldsIn schema old.now contents) (first : HasTablesFirst schema) (found : List Row) (shown : Shown find_last.sql [] old new found) where
+module _ (old new : State) (schema : Schema) (contents : Contents) (h : HoldsIn schema old.now contents) (first : HasFiveTables schema) (found : List Row) (shown : Shown find_last.sql [] old new found) where
   abbrev cmp : Output → Output → Ordering
   cmp = output_cmp (body_of find_last)
 
   answer : IsAnswer (body_of find_last) (overlay old.now.trees []) [] found
-  answer = answered find_last [] old new (find_last_is old.now.schema (laid_out h first)) found shown
+  answer = answered find_last [] old new (asks_last.is old.now.schema (laid_out h first)) found shown
 
   abbrev out : ℕ → Output
   out id = (number_cells id, number_cells id)
@@ -40,13 +41,13 @@ module _ (old new : State) (schema : Schema) (contents : Contents) (h : HoldsIn 
   is_id : (o : Output) → Has answer.ordered o → (id : ℕ) × IsSome (get contents.texts id) × (o ≡ out id)
   is_id o there =
       let r = ordered_has [] [] 0 find_last.shown find_last.order find_last.limit (overlay old.now.trees []) found answer o there in
-      let e = h.texts.sound r.0 (subst (λ l. Has l r.0) (with_nothing old.now.trees 0) r.1) in
+      let e = (five h first).texts.sound r.0 (subst (λ l. Has l r.0) (with_nothing old.now.trees 0) r.1) in
       (e.0, subst IsSome (sym e.2) refl, r.3 ∙ (λ i. (e.3.0 i, e.3.0 i)))
 
   has_id : (id : ℕ) → IsSome (get contents.texts id) → Has answer.ordered (out id)
   has_id id some =
       let text = value_of (get contents.texts id) some in
-      let r = h.texts.complete id text.0 text.1 in
+      let r = (five h first).texts.complete id text.0 text.1 in
       subst (Has answer.ordered) (λ i. (r.2.0 i, r.2.0 i))
       (has_ordered [] [] 0 find_last.shown find_last.order find_last.limit (overlay old.now.trees []) found answer r.0 (subst (λ l. Has l r.0) (sym (with_nothing old.now.trees 0)) r.1) refl)
 

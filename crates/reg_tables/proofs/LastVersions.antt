@@ -21,7 +21,7 @@ use Rattle.sqlite_sql.specs.Ops.{binary, is_true, from_truth}
 use Rattle.sqlite_trees.proofs.ListLemmas.{all_of, all_both, ascending-filter, ascending_weaker, filter-map}
 use Rattle.sqlite_value.specs.declared.keys.Key.{Key}
 use Rattle.sqlite_value.proofs.OrderLemmas.{value_cmp-Int, value_cmp-Text}
-use Rattle.reg_tables.specs.Layout.{HasTablesFirst}
+use Rattle.reg_tables.specs.Layout.{HasFiveTables}
 use Rattle.reg_tables.specs.TableMaps.{IsEntry, ShowsMap}
 use Rattle.reg_tables.specs.Contents.{text_cmp, version_cmp, version_key_cells, version_form, flag_cell, Contents, AreReadable, HoldsIn}
 use Rattle.reg_tables.specs.Entries.{NumberedVersion, numbered, numbered_cells, subject_versions, IsReadableNumbered}
@@ -32,7 +32,8 @@ use Rattle.reg_tables.proofs.KeyedLists.{same_id}
 use Rattle.reg_tables.proofs.ListMembers.{has_mapped, has_reversed, reversed_has, has_taken}
 use Rattle.reg_tables.proofs.OrderedQueries.{entries_rise, entry_got, got_entry, in_order_as}
 use Rattle.reg_tables.proofs.Queries.{passes}
-use Rattle.reg_tables.proofs.Statements.{from_greatest, first_row, laid_out, by_live_key, find_last_version, find_last_version_is, find_last_live, find_last_live_is, by_shown_id, find_last_with_id, find_last_with_id_is}
+use Rattle.reg_tables.proofs.Tables.{five}
+use Rattle.reg_tables.proofs.Statements.{from_greatest, first_row, laid_out, by_live_key, find_last_version, asks_last_version, find_last_live, asks_last_live, by_shown_id, find_last_with_id, asks_last_with_id}
 use Rattle.reg_tables.proofs.TableLines.{all_if_each}
 use Rattle.reg_tables.proofs.VersionLists.{Entry, ranks, distinct_numbered, same_text, entry_cells, by_subject, entry_shown, readable_entry}
 
@@ -171,27 +172,27 @@ by_shown_subject subject id deleted row e is =
     truth true true false true = refl
     truth true true false false = refl
 
-module _ (old new : State) (schema : Schema) (contents : Contents) (h : HoldsIn schema old.now contents) (first : HasTablesFirst schema) (subject : List ℕ) (found : List Row) where
+module _ (old new : State) (schema : Schema) (contents : Contents) (h : HoldsIn schema old.now contents) (first : HasFiveTables schema) (subject : List ℕ) (found : List Row) where
   abbrev of_subject : Entry → Bool
   of_subject e = bytes_eq e.0.0 subject
 
   module _ (shown : Shown find_last_version.sql (Text subject ∷ []) old new found) where
     its : IsQuery find_last_version old.now.schema
-    its = find_last_version_is old.now.schema (laid_out h first)
+    its = (asks_last_version subject).is old.now.schema (laid_out h first)
 
     pub last_line : (line : Option SubjectVersion) → option_map line_columns (slice_get found 0) ≡ option_map (λ (line : SubjectVersion). numbered_cells (numbered line)) line
         → option_map numbered line ≡ last_or None (subject_versions subject contents)
-    last_line = numbered_line (filter of_subject (entries contents.versions)) found (shows_last find_last_version refl (Text subject ∷ []) old new its found shown contents h.versions of_subject (by_subject subject) entry_cells entry_shown)
+    last_line = numbered_line (filter of_subject (entries contents.versions)) found (shows_last find_last_version refl (Text subject ∷ []) old new its found shown contents (five h first).versions of_subject (by_subject subject) entry_cells entry_shown)
 
     pub readable_last_line : AreReadable contents → All IsReadableNumbered found
-    readable_last_line = readable_last find_last_version refl (Text subject ∷ []) old new its found shown contents h.versions of_subject (by_subject subject) entry_cells entry_shown IsReadableNumbered readable_entry
+    readable_last_line = readable_last find_last_version refl (Text subject ∷ []) old new its found shown contents (five h first).versions of_subject (by_subject subject) entry_cells entry_shown IsReadableNumbered readable_entry
 
   module _ (shown : Shown find_last_live.sql (Text subject ∷ []) old new found) where
     abbrev of_live : Entry → Bool
     of_live e = of_subject e && not e.1.deleted
 
     it : IsQuery find_last_live old.now.schema
-    it = find_last_live_is old.now.schema (laid_out h first)
+    it = (asks_last_live subject).is old.now.schema (laid_out h first)
 
     live_entries : filter (λ (version : NumberedVersion). not version.1.deleted) (subject_versions subject contents) ≡ map entry_version (filter of_live (entries contents.versions))
     live_entries =
@@ -201,11 +202,11 @@ module _ (old new : State) (schema : Schema) (contents : Contents) (h : HoldsIn 
     pub last_live_line : (line : Option SubjectVersion) → option_map line_columns (slice_get found 0) ≡ option_map (λ (line : SubjectVersion). numbered_cells (numbered line)) line
         → option_map numbered line ≡ last_or None (filter (λ (version : NumberedVersion). not version.1.deleted) (subject_versions subject contents))
     last_live_line line read =
-        numbered_line (filter of_live (entries contents.versions)) found (shows_last find_last_live refl (Text subject ∷ []) old new it found shown contents h.versions of_live (by_live_subject subject) entry_cells entry_shown) line read
+        numbered_line (filter of_live (entries contents.versions)) found (shows_last find_last_live refl (Text subject ∷ []) old new it found shown contents (five h first).versions of_live (by_live_subject subject) entry_cells entry_shown) line read
         ∙ ap (last_or None) (sym live_entries)
 
     pub readable_last_live : AreReadable contents → All IsReadableNumbered found
-    readable_last_live = readable_last find_last_live refl (Text subject ∷ []) old new it found shown contents h.versions of_live (by_live_subject subject) entry_cells entry_shown IsReadableNumbered readable_entry
+    readable_last_live = readable_last find_last_live refl (Text subject ∷ []) old new it found shown contents (five h first).versions of_live (by_live_subject subject) entry_cells entry_shown IsReadableNumbered readable_entry
 
   module _ (id : ℕ) (deleted : Bool) (shown : Shown find_last_with_id.sql (Text subject ∷ Int (pos id) ∷ flag_cell deleted ∷ []) old new found) where
     abbrev has_it : NumberedVersion → Bool
@@ -215,7 +216,7 @@ module _ (old new : State) (schema : Schema) (contents : Contents) (h : HoldsIn 
     of_it e = of_subject e && has_it (entry_version e)
 
     that : IsQuery find_last_with_id old.now.schema
-    that = find_last_with_id_is old.now.schema (laid_out h first)
+    that = (asks_last_with_id subject id deleted).is old.now.schema (laid_out h first)
 
     its_entries : filter has_it (subject_versions subject contents) ≡ map entry_version (filter of_it (entries contents.versions))
     its_entries = filter-map has_it entry_version (filter of_subject (entries contents.versions)) ∙ ap (map entry_version) (filter_both (λ (e : Entry). has_it (entry_version e)) of_subject (entries contents.versions))
@@ -224,8 +225,8 @@ module _ (old new : State) (schema : Schema) (contents : Contents) (h : HoldsIn 
         → option_map numbered line ≡ last_or None (filter has_it (subject_versions subject contents))
     last_line_with_id line read =
         numbered_line (filter of_it (entries contents.versions)) found
-        (shows_last find_last_with_id refl (Text subject ∷ Int (pos id) ∷ flag_cell deleted ∷ []) old new that found shown contents h.versions of_it (by_shown_subject subject id deleted) entry_cells entry_shown) line read
+        (shows_last find_last_with_id refl (Text subject ∷ Int (pos id) ∷ flag_cell deleted ∷ []) old new that found shown contents (five h first).versions of_it (by_shown_subject subject id deleted) entry_cells entry_shown) line read
         ∙ ap (last_or None) (sym its_entries)
 
     pub readable_last_with_id : AreReadable contents → All IsReadableNumbered found
-    readable_last_with_id = readable_last find_last_with_id refl (Text subject ∷ Int (pos id) ∷ flag_cell deleted ∷ []) old new that found shown contents h.versions of_it (by_shown_subject subject id deleted) entry_cells entry_shown IsReadableNumbered readable_entry
+    readable_last_with_id = readable_last find_last_with_id refl (Text subject ∷ Int (pos id) ∷ flag_cell deleted ∷ []) old new that found shown contents (five h first).versions of_it (by_shown_subject subject id deleted) entry_cells entry_shown IsReadableNumbered readable_entry

@@ -1,151 +1,207 @@
--- The five tables that come first, each of which has one row for each key.
-use Rattle.std.proofs.Common.{◌≡◌, inl, inr, ℕ, pos, List, [], ◌∷◌, refl, sym, ap, subst, arith, true, lit≤, ◌∙◌}
-use Rattle.std.specs.Prelude.{String, string_bytes}
+-- The tables that rows are put into: those of layout 2, and `meta` of layout 1, as it is made.
+use Rattle.std.proofs.Common.{◌≡◌, ◌≤◌, ◌+◌, inl, inr, ℕ, pos, List, [], ◌∷◌, ◌&&◌, ◌==◌, length, Bool, true, false, cond, Option, None, Some, refl, sym, ap, subst, subst₂, arith, lit≤, ◌∙◌}
+use Rattle.std.specs.Prelude.{String, string_bytes, IsSome, is_some}
 use Rattle.std.specs.declared.alloc.Global.{Global}
 use Rattle.std.specs.FinMap.{get}
+use Rattle.std.specs.List.{AllByRecursion}
+use Rattle.std.specs.Ordering.{nat_cmp}
+use Rattle.std.proofs.lemmas.Bool.{and_parts, or_right}
 use Rattle.sqlite.specs.declared.types.Value.TheVariants.{Text, Int}
 use Rattle.sqlite.specs.Order.{Row, column}
+use Rattle.sqlite.specs.Tree.{Trees}
 use Rattle.sqlite.specs.Schema.{Schema}
-use Rattle.sqlite.specs.Table.{Table}
+use Rattle.sqlite_schema.specs.declared.schema.Among.TheVariants.{All}
+use Rattle.sqlite_schema.specs.declared.schema.Action.TheVariants.{NoAction}
 use Rattle.sqlite_schema.specs.declared.schema.Index.{Index}
-use Rattle.sqlite_schema.specs.Rules.{agree}
-use Rattle.sqlite_value.specs.Keys.{first_key}
+use Rattle.sqlite_schema.specs.Names.{same_name}
+use Rattle.sqlite_schema.specs.Rules.{agree, Refers}
+use Rattle.sqlite_value.specs.Keys.{plain, joined, first_key}
+use Rattle.sqlite_rules.specs.Lists.{Has}
+use Rattle.sqlite_rules.proofs.ListLemmas.{some_from}
 use Rattle.reg_tables.specs.declared.kept.KeptReply.{KeptReply}
 use Rattle.reg_tables.specs.declared.versions.VersionEntry.{VersionEntry}
-use Rattle.reg_tables.specs.Layout.{begins, versions, levels, kept, meta}
-use Rattle.reg_tables.specs.SecondContents.{SecondContents}
-use Rattle.reg_tables.specs.Writing.{HoldsBeside}
-use Rattle.reg_tables.specs.Contents.{text_cmp, version_cmp, text_cells, VersionRow, version_key_cells, version_cells, KeptRow, kept_cells}
+use Rattle.reg_tables.specs.Layout.{begins, layout_one, meta, added, IsLayoutTwo, TakesMeta}
+use Rattle.reg_tables.specs.Contents.{text_cells, number_cells, version_key_cells, place_cells, VersionRow, version_cells, KeptRow, kept_cells, against_form, PlaceKey, TableName, Versions, Levels, Kept, Meta, Modes, Evidence, Against}
 use Rattle.reg_tables.specs.KeptRows.{kept_row}
 use Rattle.reg_tables.specs.Entries.{version_row}
-use Rattle.reg_tables.specs.Inside.Keyed.{texts_table, versions_table, levels_table, kept_table, meta_table}
-use Rattle.reg_tables.specs.Inside.KeyedLaws.{HasKey, IsKeyed}
-use Rattle.reg_tables.proofs.Opening.{distinct_version_rows, distinct_kept_rows}
-use Rattle.reg_tables.proofs.SecondReferences.{has_text_at, more_versions}
-use Rattle.reg_tables.proofs.Settled.{IsSettled, beside_both}
-use Rattle.reg_tables.proofs.MapLemmas.{same_key}
-use Rattle.reg_tables.proofs.KeyedTables.{text_order, distinct_texts, by_key_test, number_order, distinct_numbers, by_id_test, version_order, distinct_versions, by_version_test}
-use Rattle.reg_tables.proofs.TableWrites.{all_turned}
-use Rattle.reg_tables.proofs.FailedVersions.{text_of_version, value_of}
+use Rattle.reg_tables.specs.Inside.KeyedLaws.{IsKeyed, PutRefers, KeepsOthers, IsAt, IsIdle}
+use Rattle.reg_tables.proofs.KeyedTables.{by_id_test, number_order}
+use Rattle.reg_tables.proofs.Keys.{distinct_version_rows, distinct_kept_rows, keys_agree, one_key}
+use Rattle.reg_tables.proofs.MapLemmas.{tied_key}
+use Rattle.reg_tables.proofs.ForeignKeys.{has_text_at, has_version, more_versions, refer_if, refers_if, kept_refers, beside_refers}
+use Rattle.reg_tables.proofs.Settled.{IsSettled, in_layout_two, keyed_if, all_keys, are_apart, is_apart_from, apart_if}
 
--- ---- keys
+pub value_of : {X : Type 0} (o : Option X) → IsSome o → (x : X) × (o ≡ Some x)
+value_of None h = absurd (cc)
+value_of (Some x) h = (x, refl)
 
-pub levels_key : HasKey levels_table
-levels_key = record { order = text_order; distinct = distinct_texts; test = λ row k q is. by_key_test row k q is }
+-- a row of the version's key is its parent
+pub version_there : (parents : List Row) (s row : Row) (key : List ℕ × ℕ) → Has parents s → column s 1 ∷ column s 2 ∷ [] ≡ version_key_cells key → column row 1 ∷ column row 2 ∷ [] ≡ version_key_cells key → has_version parents row ≡ true
+version_there parents s row key there is its = or_right _ _ (some_from (λ parent. agree plain (1 ∷ 2 ∷ []) parent (1 ∷ 2 ∷ []) row) parents s there (keys_agree Versions s row key is its))
 
-pub kept_key : HasKey kept_table
-kept_key = record { order = text_order; distinct = distinct_texts; test = λ row k q is. by_key_test row k q is }
-
-pub meta_key : HasKey meta_table
-meta_key = record { order = text_order; distinct = distinct_texts; test = λ row k q is. by_key_test row k q is }
-
-pub texts_key : HasKey texts_table
-texts_key = record { order = number_order; distinct = distinct_numbers; test = λ row k q is. by_id_test row k q is }
-
-pub versions_key : HasKey versions_table
-versions_key = record { order = version_order; distinct = distinct_versions; test = λ row k q is. by_version_test row k q is }
-
--- rows that agree in their first columns have one text key
-pub texts_agree : (a b : Row) (q k : List ℕ) → column a 1 ∷ [] ≡ text_cells q → column b 1 ∷ [] ≡ text_cells k → agree (record { digits = 0 }) (1 ∷ []) a (1 ∷ []) b ≡ true → q ≡ k
+-- the row of an id is the text of a row that names it
+pub text_there : (place : ℕ) (texts : List Row) (text row : Row) (id : ℕ) → Has texts text → column text 0 ∷ [] ≡ number_cells id → column row place ≡ Int (pos id) → has_text_at place texts row ≡ true
 unfolding first_key
-texts_agree a b q k of_a of_b same = let its : column b 1 ≡ Text k = cc in same_key text_cmp text_order q k (sym (by_key_test a k q of_a) ∙ (rw its at same))
+text_there place texts text row id there is its =
+    let same : agree plain (0 ∷ []) text (place ∷ []) row ≡ true = rw its (by_id_test text id id is ∙ tied_key nat_cmp number_order id id refl) in
+    or_right _ _ (some_from (λ parent. agree plain (0 ∷ []) parent (place ∷ []) row) texts text there same)
 
--- rows that agree in their first two columns have one version's key
-pub versions_agree : (a b : Row) (q k : List ℕ × ℕ) → column a 1 ∷ column a 2 ∷ [] ≡ version_key_cells q → column b 1 ∷ column b 2 ∷ [] ≡ version_key_cells k → agree (record { digits = 0 }) (1 ∷ 2 ∷ []) a (1 ∷ 2 ∷ []) b ≡ true → q ≡ k
-unfolding first_key
-versions_agree a b q k of_a of_b same =
-    let subject : column b 1 ≡ Text k.0 = cc in
-    let number : column b 2 ≡ Int (pos k.1) = cc in
-    same_key version_cmp version_order q k (sym (by_version_test a k q of_a) ∙ (rw (subject, number) at same))
+pub place_version : (row : Row) (key : PlaceKey) → against_form.key_of row ≡ place_cells key → column row 1 ∷ column row 2 ∷ [] ≡ version_key_cells key.0
+place_version row key is =
+    let subject : column row 1 ≡ Text key.0.0 = cc in
+    let number : column row 2 ≡ Int (pos key.0.1) = cc in
+    λ i. subject i ∷ number i ∷ []
 
--- ---- where the contents are
+-- ---- layout 2
 
-module _ (tables : List Table) (indexes : List Index) (s : IsSettled tables indexes) (rest : SecondContents) where
+module _ (first : ℕ) (indexes : List Index) (high : 10 ≤ first) where
   abbrev here : Schema
-  here = begins tables indexes
+  here = begins (added first) indexes
 
   -- a version refers to its text
-  pub versions_keyed_in : IsKeyed here (HoldsBeside here rest) versions_table
-  versions_keyed_in = record {
-    apart = s.apart;
-    is_at = s.versions_at;
-    uncounted = refl;
-    key = versions_key;
-    guarded = s.versions_on;
-    agrees = λ a b q k of_a of_b same. versions_agree a b q k of_a of_b same;
-    declared = λ db contents h. h.base.declared;
-    sound = λ db contents h. h.base.sound;
-    shows = λ db contents h. h.base.versions;
-    turned = λ old new contents h later t. s.beside versions.tree (lit≤ tt) old new t.others (record rest { base = contents }) h (record contents { versions = later })
-        (all_turned tables indexes versions.tree old new t.others contents (record contents { versions = later }) h.base t.declared t.sound (inr (λ e. omega (arith, e), refl)) (inl t.rows) (inr (λ e. omega (arith, e), refl)) (inr (λ e. omega (arith, e), refl)) (inr (λ e. omega (arith, e), refl)));
-    put_refers = λ db contents h key version refers row is next others came stays.
-        (let known = value_of (get contents.texts version.id) refers in
-        let its = h.base.texts.complete version.id known.0 known.1 in
-        let id : column row 3 ≡ Int (pos version.id) = (let cells = is.1 in cc) in
-        let same : next 0 ≡ db.trees 0 = others.0 (λ e. omega (arith, e)) in
-        s.refers versions.tree (lit≤ tt) db.trees next others (λ place r had. subst (λ l. has_text_at place l r ≡ true) (sym same) had)
-        (λ r had. more_versions (db.trees 2) (next 2) r (λ parent was agrees. (parent, stays parent was, agrees)) had)
-        (λ had r there. subst (λ l. has_text_at 3 l r ≡ true) (sym same) (elim (came r there) [
-          | inl same ↦ text_of_version (db.trees 0) its.0 r version.id its.1 its.2.0 (ap (λ (x : Row). column x 3) same ∙ id)
-          | inr was ↦ had r was
-        ])));
-    map_is = λ contents map. refl;
-    last_map = λ contents first last. refl;
-  }
+  versions_refer : PutRefers here Versions
+  versions_refer db contents h key version refers row is next others came stays =
+      let known = value_of (get contents.texts version.id) refers in
+      let its = (h.shows TableName.Texts).complete version.id known.0 known.1 in
+      let id : column row 3 ≡ Int (pos version.id) = (let cells = is.1 in cc) in
+      let same : next 0 ≡ db.trees 0 = others.0 (λ e. omega (arith, e)) in
+      kept_refers first indexes 2 high (lit≤ tt) db.trees next others (λ place r had. subst (λ l. has_text_at place l r ≡ true) (sym same) had)
+      (λ r had. more_versions (db.trees 2) (next 2) r (λ parent was agrees. (parent, stays parent was, agrees)) had)
+      (λ had r there. subst (λ l. has_text_at 3 l r ≡ true) (sym same) (elim (came r there) [
+        | inl same ↦ text_there 3 (db.trees 0) its.0 r version.id its.1 its.2.0 (ap (λ (x : Row). column x 3) same ∙ id)
+        | inr was ↦ had r was
+      ]))
 
-  pub levels_keyed_in : IsKeyed here (HoldsBeside here rest) levels_table
-  levels_keyed_in = record {
-    apart = s.apart;
-    is_at = s.levels_at;
-    uncounted = refl;
-    key = levels_key;
-    guarded = s.levels_on;
-    agrees = λ a b q k of_a of_b same. texts_agree a b q k of_a of_b same;
-    declared = λ db contents h. h.base.declared;
-    sound = λ db contents h. h.base.sound;
-    shows = λ db contents h. h.base.levels;
-    turned = λ old new contents h later t. s.beside levels.tree (lit≤ tt) old new t.others (record rest { base = contents }) h (record contents { levels = later })
-        (all_turned tables indexes levels.tree old new t.others contents (record contents { levels = later }) h.base t.declared t.sound (inr (λ e. omega (arith, e), refl)) (inr (λ e. omega (arith, e), refl)) (inl t.rows) (inr (λ e. omega (arith, e), refl)) (inr (λ e. omega (arith, e), refl)));
-    put_refers = λ db contents h key value refers row is next others came stays. beside_both tables indexes s levels.tree (lit≤ tt) (λ e. omega (arith, e)) (λ e. omega (arith, e)) db.trees next others;
-    map_is = λ contents map. refl;
-    last_map = λ contents first last. refl;
-  }
+  evidence_refers : PutRefers here Evidence
+  evidence_refers db contents h key level refers row is next others came stays held =
+      let had = refer_if first indexes db.trees held in
+      let texts : next 0 ≡ db.trees 0 = others.0 (λ e. omega (arith, e, high)) in
+      let versions : next 2 ≡ db.trees 2 = others.1.0 (λ e. omega (arith, e, high)) in
+      let against : next (first + 4) ≡ db.trees (first + 4) = others.1.1.1.1.1.1.1.0 (λ e. omega (arith, e)) in
+      let known = value_of (get contents.versions key) refers in
+      let its = (h.shows Versions).complete key known.0 known.1 in
+      refers_if first indexes next (record {
+        versions = λ r there. subst (λ l. has_text_at 3 l r ≡ true) (sym texts) (had.versions r (subst (λ l. Has l r) versions there));
+        evidence = λ r there. subst (λ l. has_version l r ≡ true) (sym versions) (elim (came r there) [
+          | inl same ↦ version_there (db.trees 2) its.0 r key its.1 its.2.0 (ap (λ (x : Row). column x 1 ∷ column x 2 ∷ []) same ∙ is.0)
+          | inr was ↦ had.evidence r was
+        ]);
+        places = λ r there. subst (λ l. has_version l r ≡ true) (sym versions) (had.places r (subst (λ l. Has l r) against there));
+        seen = λ r there. subst (λ l. has_text_at 4 l r ≡ true) (sym texts) (had.seen r (subst (λ l. Has l r) against there));
+      })
 
-  pub kept_keyed_in : IsKeyed here (HoldsBeside here rest) kept_table
-  kept_keyed_in = record {
-    apart = s.apart;
-    is_at = s.kept_at;
-    uncounted = refl;
-    key = kept_key;
-    guarded = s.kept_on;
-    agrees = λ a b q k of_a of_b same. texts_agree a b q k of_a of_b same;
-    declared = λ db contents h. h.base.declared;
-    sound = λ db contents h. h.base.sound;
-    shows = λ db contents h. h.base.kept;
-    turned = λ old new contents h later t. s.beside kept.tree (lit≤ tt) old new t.others (record rest { base = contents }) h (record contents { kept = later })
-        (all_turned tables indexes kept.tree old new t.others contents (record contents { kept = later }) h.base t.declared t.sound (inr (λ e. omega (arith, e), refl)) (inr (λ e. omega (arith, e), refl)) (inr (λ e. omega (arith, e), refl)) (inl t.rows) (inr (λ e. omega (arith, e), refl)));
-    put_refers = λ db contents h key value refers row is next others came stays. beside_both tables indexes s kept.tree (lit≤ tt) (λ e. omega (arith, e)) (λ e. omega (arith, e)) db.trees next others;
-    map_is = λ contents map. refl;
-    last_map = λ contents first last. refl;
-  }
+  against_refers : PutRefers here Against
+  against_refers db contents h key id refers row is next others came stays held =
+      let had = refer_if first indexes db.trees held in
+      let texts : next 0 ≡ db.trees 0 = others.0 (λ e. omega (arith, e, high)) in
+      let versions : next 2 ≡ db.trees 2 = others.1.0 (λ e. omega (arith, e, high)) in
+      let evidence : next (first + 2) ≡ db.trees (first + 2) = others.1.1.1.1.1.1.0 (λ e. omega (arith, e)) in
+      let both = and_parts (is_some (get contents.versions key.0)) (is_some (get contents.texts id)) refers in
+      let known = value_of (get contents.versions key.0) both.0 in
+      let its = (h.shows Versions).complete key.0 known.0 known.1 in
+      let text = value_of (get contents.texts id) both.1 in
+      let its_text = (h.shows TableName.Texts).complete id text.0 text.1 in
+      let named : column row 4 ≡ Int (pos id) = (let cells = is.1 in cc) in
+      refers_if first indexes next (record {
+        versions = λ r there. subst (λ l. has_text_at 3 l r ≡ true) (sym texts) (had.versions r (subst (λ l. Has l r) versions there));
+        evidence = λ r there. subst (λ l. has_version l r ≡ true) (sym versions) (had.evidence r (subst (λ l. Has l r) evidence there));
+        places = λ r there. subst (λ l. has_version l r ≡ true) (sym versions) (elim (came r there) [
+          | inl same ↦ version_there (db.trees 2) its.0 r key.0 its.1 its.2.0 (ap (λ (x : Row). column x 1 ∷ column x 2 ∷ []) same ∙ place_version row key is.0)
+          | inr was ↦ had.places r was
+        ]);
+        seen = λ r there. subst (λ l. has_text_at 4 l r ≡ true) (sym texts) (elim (came r there) [
+          | inl same ↦ text_there 4 (db.trees 0) its_text.0 r id its_text.1 its_text.2.0 (ap (λ (x : Row). column x 4) same ∙ named)
+          | inr was ↦ had.seen r was
+        ]);
+      })
 
-  pub meta_keyed_in : IsKeyed here (HoldsBeside here rest) meta_table
-  meta_keyed_in = record {
-    apart = s.apart;
-    is_at = s.meta_at;
-    uncounted = refl;
-    key = meta_key;
-    guarded = s.meta_on;
-    agrees = λ a b q k of_a of_b same. texts_agree a b q k of_a of_b same;
-    declared = λ db contents h. h.base.declared;
-    sound = λ db contents h. h.base.sound;
-    shows = λ db contents h. h.base.meta;
-    turned = λ old new contents h later t. s.beside meta.tree (lit≤ tt) old new t.others (record rest { base = contents }) h (record contents { meta = later })
-        (all_turned tables indexes meta.tree old new t.others contents (record contents { meta = later }) h.base t.declared t.sound (inr (λ e. omega (arith, e), refl)) (inr (λ e. omega (arith, e), refl)) (inr (λ e. omega (arith, e), refl)) (inr (λ e. omega (arith, e), refl)) (inl t.rows));
-    put_refers = λ db contents h key value refers row is next others came stays. beside_both tables indexes s meta.tree (lit≤ tt) (λ e. omega (arith, e)) (λ e. omega (arith, e)) db.trees next others;
-    map_is = λ contents map. refl;
-    last_map = λ contents first last. refl;
-  }
+  module _ (s : IsSettled here) where
+    versions_in : IsKeyed here Versions
+    versions_in = keyed_if here s Versions refl refl refl versions_refer
+
+    levels_in : IsKeyed here Levels
+    levels_in = keyed_if here s Levels refl refl refl (λ db contents h key value refers row is next others came stays. beside_refers first indexes 4 (λ e. omega (arith, e)) (λ e. omega (arith, e)) (λ e. omega (arith, e, high)) (λ e. omega (arith, e, high)) db.trees next others)
+
+    kept_in : IsKeyed here Kept
+    kept_in = keyed_if here s Kept refl refl refl (λ db contents h key value refers row is next others came stays. beside_refers first indexes 6 (λ e. omega (arith, e)) (λ e. omega (arith, e)) (λ e. omega (arith, e, high)) (λ e. omega (arith, e, high)) db.trees next others)
+
+    meta_in : IsKeyed here Meta
+    meta_in = keyed_if here s Meta refl refl refl (λ db contents h key value refers row is next others came stays. beside_refers first indexes 8 (λ e. omega (arith, e)) (λ e. omega (arith, e)) (λ e. omega (arith, e, high)) (λ e. omega (arith, e, high)) db.trees next others)
+
+    modes_in : IsKeyed here Modes
+    modes_in = keyed_if here s Modes refl refl refl (λ db contents h key value refers row is next others came stays. beside_refers first indexes first (λ e. omega (arith, e, high)) (λ e. omega (arith, e, high)) (λ e. omega (arith, e)) (λ e. omega (arith, e)) db.trees next others)
+
+    evidence_in : IsKeyed here Evidence
+    evidence_in = keyed_if here s Evidence refl refl refl evidence_refers
+
+    against_in : IsKeyed here Against
+    against_in = keyed_if here s Against refl refl refl against_refers
+
+pub versions_keyed : (schema : Schema) → IsLayoutTwo schema → IsKeyed schema Versions
+versions_keyed = in_layout_two (λ schema. IsKeyed schema Versions) versions_in
+
+pub levels_keyed : (schema : Schema) → IsLayoutTwo schema → IsKeyed schema Levels
+levels_keyed = in_layout_two (λ schema. IsKeyed schema Levels) levels_in
+
+pub kept_keyed : (schema : Schema) → IsLayoutTwo schema → IsKeyed schema Kept
+kept_keyed = in_layout_two (λ schema. IsKeyed schema Kept) kept_in
+
+pub modes_keyed : (schema : Schema) → IsLayoutTwo schema → IsKeyed schema Modes
+modes_keyed = in_layout_two (λ schema. IsKeyed schema Modes) modes_in
+
+pub evidence_keyed : (schema : Schema) → IsLayoutTwo schema → IsKeyed schema Evidence
+evidence_keyed = in_layout_two (λ schema. IsKeyed schema Evidence) evidence_in
+
+pub against_keyed : (schema : Schema) → IsLayoutTwo schema → IsKeyed schema Against
+against_keyed = in_layout_two (λ schema. IsKeyed schema Against) against_in
+
+-- ---- `meta`, in layout 1 too
+
+abbrev VersionsRefer : List Row → List Row → Type 0
+VersionsRefer texts rows = AllByRecursion (λ row. (has_text_at 3 texts row && true) ≡ true) rows
+
+-- a write to `meta` breaks no reference
+pub one_refers : (old new : Trees) → KeepsOthers layout_one meta.tree old new → Refers All layout_one old → Refers All layout_one new
+unfolding same_name joined
+one_refers old new others h =
+    let texts : new 0 ≡ old 0 = others.0 (λ e. omega (arith, e)) in
+    let versions : new 2 ≡ old 2 = others.1.0 (λ e. omega (arith, e)) in
+    let had : VersionsRefer (old 0) (old 2) = h.1.0 in
+    let has : VersionsRefer (new 0) (new 2) = subst₂ VersionsRefer (sym texts) (sym versions) had in
+    (each (new 0), (has, (each (new 4), (each (new 6), (each (new 8), tt)))))
+  where
+    each : (rows : List Row) → AllByRecursion (λ (row : Row). true ≡ true) rows
+    each [] = tt
+    each (row ∷ rows) = (refl, each rows)
+
+first_at : IsAt layout_one 4 meta
+unfolding same_name joined
+first_at = record { there = refl; keys = all_keys layout_one meta refl refl refl refl }
+
+one_keyed : IsKeyed layout_one Meta
+unfolding are_apart is_apart_from
+one_keyed = record {
+  apart = apart_if layout_one.tables refl;
+  is_at = first_at;
+  uncounted = refl;
+  guarded = refl;
+  agrees = one_key Meta;
+  put_refers = λ db contents h key value refers row is next others came stays. one_refers db.trees next others;
+}
+
+pub one_idle : (tree : ℕ) → IsIdle layout_one tree
+one_idle tree olds news = rw (no_action (length news == 0)) refl
+  where
+    no_action : (b : Bool) → cond b NoAction NoAction ≡ NoAction
+    no_action true = refl
+    no_action false = refl
+
+pub in_both : (P : Schema → Type 0) → P layout_one → ((first : ℕ) (indexes : List Index) → 10 ≤ first → IsSettled (begins (added first) indexes) → P (begins (added first) indexes)) → (schema : Schema) → TakesMeta schema → P schema
+in_both P first each schema (inl is) = subst P (sym is) first
+in_both P first each schema (inr second) = in_layout_two P each schema second
+
+pub meta_keyed : (schema : Schema) → TakesMeta schema → IsKeyed schema Meta
+meta_keyed = in_both (λ schema. IsKeyed schema Meta) one_keyed meta_in
 
 -- ---- the lines that hold a value's columns
 

@@ -1,60 +1,116 @@
--- The lists of the five tables say what the database holds.
-use Rattle.std.proofs.Common.{◌≡◌, map, Bool, true, false, refl}
-use Rattle.std.specs.Ordering.{nat_cmp}
+-- The lists of the tables say what the database holds.
+use Rattle.std.proofs.Common.{◌≡◌, inl, inr, ℕ, ℤ, List, [], map, Option, None, Some, slice_get, refl, sym, ap, subst, ◌∙◌}
+use Rattle.std.specs.FinMap.{from_entries, empty}
+use Rattle.std.specs.Prelude.{IsSome, unwrap_or}
+use Rattle.std.specs.List.{IsDistinct}
 use Rattle.sqlite.specs.Schema.{Schema}
+use Rattle.sqlite.specs.Table.{Table}
+use Rattle.sqlite.specs.Tree.{Trees}
 use Rattle.sqlite.specs.Effect.{Database, IsDatabase}
-use Rattle.reg_tables.specs.Layout.{texts, versions, levels, kept, meta}
-use Rattle.reg_tables.specs.Contents.{text_cmp, version_cmp, Contents, VersionRow, KeptRow, flag_cell, version_cells, kept_cells, text_form, version_form, pair_form, kept_form, HoldsIn}
-use Rattle.reg_tables.specs.Listings.{text_entry, version_entry, level_entry, kept_entry, meta_entry}
-use Rattle.reg_tables.specs.Inside.AllLines.{Lines, ListsAll, HaveNoTwins, contents_of}
-use Rattle.reg_tables.proofs.KeyedTables.{text_order, distinct_texts, number_order, distinct_numbers, version_order, distinct_versions}
+use Rattle.reg_tables.specs.Layout.{begins, texts, versions, levels, kept, meta, IsLayoutOne, HasFiveTables}
+use Rattle.reg_tables.specs.Contents.{text_form, version_form, pair_form, kept_form, evidence_form, against_form, TableName, Texts, Versions, Levels, Kept, Meta, Modes, Evidence, Against, place_of, KeyOf, ValueOf, cmp_of, form_of, MapOf, map_of, Contents, ShowsIn, ShowsAll, HoldsIn}
+use Rattle.reg_tables.specs.TableMaps.{Form}
+use Rattle.reg_tables.specs.Listings.{HasNoTwins, Lists, without_rowid, text_entry, version_entry, level_entry, kept_entry, meta_entry, mode_entry, evidence_entry, against_entry}
+use Rattle.reg_tables.specs.Inside.AllLines.{entry_of, Lines, ListsIn, ListsAll, HaveNoTwins, map_in, contents_of}
+use Rattle.reg_tables.proofs.Keys.{key_laws}
 use Rattle.reg_tables.proofs.ListingLemmas.{shows_if_listed, listed_if_shown}
 
--- ---- keys and values are told apart by their cells
+map_of_lines : (name : TableName) (lines : Lines) → map_of name (contents_of lines) ≡ map_in name lines
+map_of_lines Texts lines = refl
+map_of_lines Versions lines = refl
+map_of_lines Levels lines = refl
+map_of_lines Kept lines = refl
+map_of_lines Meta lines = refl
+map_of_lines Modes lines = refl
+map_of_lines Evidence lines = refl
+map_of_lines Against lines = refl
 
-distinct_flags : (a b : Bool) → flag_cell a ≡ flag_cell b → a ≡ b
-distinct_flags true true h = refl
-distinct_flags true false h = absurd (cc)
-distinct_flags false true h = absurd (cc)
-distinct_flags false false h = refl
+module _ (name : TableName) (trees : Trees) (entries : List (ℤ × KeyOf name × ValueOf name)) where
+  -- entries in which no rowid and no key comes twice are those of the map that they spell
+  shows_listed : HasNoTwins (cmp_of name) entries → (table : Option Table) → ListsIn (form_of name) trees table entries → ShowsIn (form_of name) trees table (from_entries {R = cmp_of name} (map without_rowid entries))
+  shows_listed apart None none = ap (λ (es : List (ℤ × KeyOf name × ValueOf name)). from_entries {R = cmp_of name} (map without_rowid es)) none
+  shows_listed apart (Some table) lists = shows_if_listed (form_of name) (cmp_of name) (key_laws name).order (key_laws name).distinct (trees table.tree) entries lists apart
 
-pub distinct_version_rows : (a b : VersionRow) → version_cells a ≡ version_cells b → a ≡ b
-distinct_version_rows a b h =
-    let id : a.id ≡ b.id = cc in
-    let deleted : flag_cell a.deleted ≡ flag_cell b.deleted = cc in
-    let same = distinct_flags a.deleted b.deleted deleted in
-    λ i. record { id = id i; deleted = same i }
+  -- the entries of a table are such a list, and spell the map that it shows
+  pub record AreOf (held : MapOf name) : Type 0 where
+    pub apart : HasNoTwins (cmp_of name) entries
+    pub is : held ≡ from_entries (map without_rowid entries)
 
-pub distinct_kept_rows : (a b : KeptRow) → kept_cells a ≡ kept_cells b → a ≡ b
-distinct_kept_rows a b h =
-    let command : a.command ≡ b.command = cc in
-    let status : a.status ≡ b.status = cc in
-    let body : a.body ≡ b.body = cc in
-    λ i. record { command = command i; status = status i; body = body i }
+  pub listed_shown : (held : MapOf name) (table : Option Table) → ListsIn (form_of name) trees table entries → ShowsIn (form_of name) trees table held → AreOf held
+  unfolding IsDistinct
+  listed_shown held None none empty = record {
+    apart = subst (HasNoTwins (cmp_of name)) (sym none) (record { rowids = tt; keys = tt });
+    is = empty ∙ sym (ap (λ (es : List (ℤ × KeyOf name × ValueOf name)). from_entries {R = cmp_of name} (map without_rowid es)) none);
+  }
+  listed_shown held (Some table) lists shows =
+      let it = listed_if_shown (form_of name) (cmp_of name) (key_laws name).order (key_laws name).distinct (trees table.tree) entries lists held (key_laws name).distinct_values shows in
+      record { apart = it.apart; is = it.is }
 
--- ---- the tables
-
-module _ (schema : Schema) (db : Database) (lines : Lines) (declared : db.schema ≡ schema) (lists : ListsAll db lines) where
+module _ (schema : Schema) (db : Database) (lines : Lines) (lists : ListsAll schema db.trees lines) where
   -- lists in which no rowid and no key comes twice are those of the contents that they spell
-  pub holds_if_listed : IsDatabase db → HaveNoTwins lines → HoldsIn schema db (contents_of lines)
-  holds_if_listed sound apart = record {
+  pub holds_if_listed : db.schema ≡ schema → IsDatabase db → HaveNoTwins lines → HoldsIn schema db (contents_of lines)
+  holds_if_listed declared sound apart = record {
     declared = declared;
     sound = sound;
-    texts = shows_if_listed text_form nat_cmp number_order distinct_numbers (db.trees texts.tree) (map text_entry lines.texts) lists.texts apart.texts;
-    versions = shows_if_listed version_form version_cmp version_order distinct_versions (db.trees versions.tree) (map version_entry lines.versions) lists.versions apart.versions;
-    levels = shows_if_listed pair_form text_cmp text_order distinct_texts (db.trees levels.tree) (map level_entry lines.levels) lists.levels apart.levels;
-    kept = shows_if_listed kept_form text_cmp text_order distinct_texts (db.trees kept.tree) (map kept_entry lines.kept) lists.kept apart.kept;
-    meta = shows_if_listed pair_form text_cmp text_order distinct_texts (db.trees meta.tree) (map meta_entry lines.meta) lists.meta apart.meta;
+    shows = λ name. subst (λ m. ShowsIn (form_of name) db.trees (slice_get schema.tables (place_of name)) m) (sym (map_of_lines name lines))
+        (shows_listed name db.trees (map (entry_of name) (lines name)) (apart name) (slice_get schema.tables (place_of name)) (lists name));
   }
 
   -- the lists of what the database holds are such lists, and spell just that
-  pub listed_if_holds : (contents : Contents) → HoldsIn schema db contents → HaveNoTwins lines × (contents ≡ contents_of lines)
-  listed_if_holds contents h =
-      let of_texts = listed_if_shown text_form nat_cmp number_order distinct_numbers (db.trees texts.tree) (map text_entry lines.texts) lists.texts contents.texts distinct_texts h.texts in
-      let of_versions = listed_if_shown version_form version_cmp version_order distinct_versions (db.trees versions.tree) (map version_entry lines.versions) lists.versions contents.versions distinct_version_rows h.versions in
-      let of_levels = listed_if_shown pair_form text_cmp text_order distinct_texts (db.trees levels.tree) (map level_entry lines.levels) lists.levels contents.levels distinct_texts h.levels in
-      let of_kept = listed_if_shown kept_form text_cmp text_order distinct_texts (db.trees kept.tree) (map kept_entry lines.kept) lists.kept contents.kept distinct_kept_rows h.kept in
-      let of_meta = listed_if_shown pair_form text_cmp text_order distinct_texts (db.trees meta.tree) (map meta_entry lines.meta) lists.meta contents.meta distinct_texts h.meta in (
-        record { texts = of_texts.apart; versions = of_versions.apart; levels = of_levels.apart; kept = of_kept.apart; meta = of_meta.apart },
-        λ i. record { texts = of_texts.is i; versions = of_versions.is i; levels = of_levels.is i; kept = of_kept.is i; meta = of_meta.is i },
-      )
+  module _ (contents : Contents) (h : HoldsIn schema db contents) where
+    of_table : (name : TableName) → AreOf name db.trees (map (entry_of name) (lines name)) (map_of name contents)
+    of_table name = listed_shown name db.trees (map (entry_of name) (lines name)) (map_of name contents) (slice_get schema.tables (place_of name)) (lists name) (h.shows name)
+
+    pub listed_if_holds : HaveNoTwins lines × (contents ≡ contents_of lines)
+    listed_if_holds = (
+      λ name. (of_table name).apart,
+      λ i. record {
+        texts = (of_table Texts).is i;
+        versions = (of_table Versions).is i;
+        levels = (of_table Levels).is i;
+        kept = (of_table Kept).is i;
+        meta = (of_table Meta).is i;
+        modes = (of_table Modes).is i;
+        evidence = (of_table Evidence).is i;
+        against = (of_table Against).is i;
+      },
+    )
+
+-- ---- the lists of each table by name
+
+-- where there is a table, its list is one of its rows
+pub listed_in : {K V : Type 0} (form : Form K V) (trees : Trees) (other : Table) (table : Option Table) (entries : List (ℤ × K × V)) → IsSome table → Lists form (trees (unwrap_or table other).tree) entries → ListsIn form trees table entries
+listed_in form trees other None entries there lists = absurd (cc)
+listed_in form trees other (Some table) entries there lists = lists
+
+-- layout 1 has no list of the tables that layout 2 adds
+abbrev pub ListsNoMore : Trees → Schema → Type 0
+ListsNoMore trees schema = ListsIn pair_form trees (slice_get schema.tables 5) [] × ListsIn evidence_form trees (slice_get schema.tables 6) [] × ListsIn against_form trees (slice_get schema.tables 7) []
+
+pub nothing_listed : (schema : Schema) → IsLayoutOne schema → (trees : Trees) → ListsNoMore trees schema
+nothing_listed schema (inl is) trees = subst (ListsNoMore trees) (sym is) (refl, refl, refl)
+nothing_listed schema (inr is) trees = subst (ListsNoMore trees) (sym is) (refl, refl, refl)
+
+-- and holds nothing in them
+pub nothing_held : (schema : Schema) → IsLayoutOne schema → (trees : Trees) (contents : Contents) → ShowsAll schema trees contents → (contents.modes ≡ empty) × (contents.evidence ≡ empty) × (contents.against ≡ empty)
+nothing_held schema (inl is) trees contents shows = let it = subst (λ s. ShowsAll s trees contents) is shows in (it Modes, it Evidence, it Against)
+nothing_held schema (inr is) trees contents shows = let it = subst (λ s. ShowsAll s trees contents) is shows in (it Modes, it Evidence, it Against)
+
+module _ (schema : Schema) (first : HasFiveTables schema) (trees : Trees) (lines : Lines) where
+  pub lists_by_name : Lists text_form (trees texts.tree) (map text_entry (lines Texts)) → Lists version_form (trees versions.tree) (map version_entry (lines Versions)) → Lists pair_form (trees levels.tree) (map level_entry (lines Levels))
+      → Lists kept_form (trees kept.tree) (map kept_entry (lines Kept)) → Lists pair_form (trees meta.tree) (map meta_entry (lines Meta)) → ListsIn pair_form trees (slice_get schema.tables 5) (map mode_entry (lines Modes))
+      → ListsIn evidence_form trees (slice_get schema.tables 6) (map evidence_entry (lines Evidence)) → ListsIn against_form trees (slice_get schema.tables 7) (map against_entry (lines Against)) → ListsAll schema trees lines
+  lists_by_name of_texts of_versions of_levels of_kept of_meta of_modes of_evidence of_against = each
+    where
+      at_first : (P : Option Table → Type 0) (at : ℕ) → P (slice_get (begins first.tables first.indexes).tables at) → P (slice_get schema.tables at)
+      at_first P at = subst (λ (s : Schema). P (slice_get s.tables at)) (sym first.is)
+
+      each : (name : TableName) → ListsIn (form_of name) trees (slice_get schema.tables (place_of name)) (map (entry_of name) (lines name))
+      each Texts = at_first (λ o. ListsIn text_form trees o (map text_entry (lines Texts))) 0 of_texts
+      each Versions = at_first (λ o. ListsIn version_form trees o (map version_entry (lines Versions))) 1 of_versions
+      each Levels = at_first (λ o. ListsIn pair_form trees o (map level_entry (lines Levels))) 2 of_levels
+      each Kept = at_first (λ o. ListsIn kept_form trees o (map kept_entry (lines Kept))) 3 of_kept
+      each Meta = at_first (λ o. ListsIn pair_form trees o (map meta_entry (lines Meta))) 4 of_meta
+      each Modes = of_modes
+      each Evidence = of_evidence
+      each Against = of_against

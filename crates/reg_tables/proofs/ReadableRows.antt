@@ -13,6 +13,7 @@ use Rattle.reg_tables.specs.Layout.{texts, versions, levels, kept, meta}
 use Rattle.reg_tables.specs.Reads.{HoldsReadable, HoldsMeta}
 use Rattle.reg_tables.specs.TableMaps.{Form, IsEntry, ShowsMap}
 use Rattle.reg_tables.specs.Contents.{version_cells, text_form, version_form, pair_form, kept_form}
+use Rattle.reg_tables.proofs.Tables.{five}
 use Rattle.reg_tables.specs.Inside.ReadableRows.{IsReadableText, IsReadableVersion, IsReadablePair, IsReadableKept}
 
 -- what follows of a row's entry
@@ -33,10 +34,10 @@ readable_meta db there row has = by_entry pair_form (db.trees meta.tree) (get th
     record { rowid = id_in (rowid row); key = key; value = value; is = pair_is row key value rowid_is is; key_utf8 = can.0; value_utf8 = can.1 })
 
 module _ (db : Database) (there : HoldsReadable db) (row : Row) where
-  open there use {contents, holds, readable}
+  open there use {known, contents, holds, readable}
 
   pub readable_text : Has (db.trees texts.tree) row → IsReadableText (column row 0 ∷ column row 0 ∷ column row 2 ∷ [])
-  readable_text has = by_entry text_form (db.trees texts.tree) (get contents.texts) holds.texts row has (IsReadableText (column row 0 ∷ column row 0 ∷ column row 2 ∷ []))
+  readable_text has = by_entry text_form (db.trees texts.tree) (get contents.texts) (five holds known).texts row has (IsReadableText (column row 0 ∷ column row 0 ∷ column row 2 ∷ []))
       (λ id text rowid_is there is.
       let key : column row 0 ≡ Int (pos id) = cc in
       let value : column row 2 ≡ Text text = cc in
@@ -44,7 +45,7 @@ module _ (db : Database) (there : HoldsReadable db) (row : Row) where
       record { id = id; text = text; is = rw (key, value); low = can.0; utf8 = can.1 })
 
   pub readable_version : Has (db.trees versions.tree) row → IsReadableVersion (column row 0 ∷ column row 1 ∷ column row 2 ∷ column row 3 ∷ column row 4 ∷ [])
-  readable_version has = by_entry version_form (db.trees versions.tree) (get contents.versions) holds.versions row has (IsReadableVersion (column row 0 ∷ column row 1 ∷ column row 2 ∷ column row 3 ∷ column row 4 ∷ []))
+  readable_version has = by_entry version_form (db.trees versions.tree) (get contents.versions) (five holds known).versions row has (IsReadableVersion (column row 0 ∷ column row 1 ∷ column row 2 ∷ column row 3 ∷ column row 4 ∷ []))
       (λ key version rowid_is there is.
       let can = readable.versions key version there in
       record {
@@ -59,13 +60,13 @@ module _ (db : Database) (there : HoldsReadable db) (row : Row) where
       })
 
   pub readable_level : Has (db.trees levels.tree) row → IsReadablePair (column row 0 ∷ column row 1 ∷ column row 2 ∷ [])
-  readable_level has = by_entry pair_form (db.trees levels.tree) (get contents.levels) holds.levels row has (IsReadablePair (column row 0 ∷ column row 1 ∷ column row 2 ∷ []))
+  readable_level has = by_entry pair_form (db.trees levels.tree) (get contents.levels) (five holds known).levels row has (IsReadablePair (column row 0 ∷ column row 1 ∷ column row 2 ∷ []))
       (λ key value rowid_is there is.
       let can = readable.levels key value there in
       record { rowid = id_in (rowid row); key = key; value = value; is = pair_is row key value rowid_is is; key_utf8 = can.0; value_utf8 = can.1 })
 
   pub readable_kept : Has (db.trees kept.tree) row → IsReadableKept (column row 0 ∷ column row 1 ∷ column row 2 ∷ column row 3 ∷ column row 4 ∷ [])
-  readable_kept has = by_entry kept_form (db.trees kept.tree) (get contents.kept) holds.kept row has (IsReadableKept (column row 0 ∷ column row 1 ∷ column row 2 ∷ column row 3 ∷ column row 4 ∷ []))
+  readable_kept has = by_entry kept_form (db.trees kept.tree) (get contents.kept) (five holds known).kept row has (IsReadableKept (column row 0 ∷ column row 1 ∷ column row 2 ∷ column row 3 ∷ column row 4 ∷ []))
       (λ key reply rowid_is there is.
       let can = readable.kept key reply there in
       record {

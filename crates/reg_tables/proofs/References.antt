@@ -1,9 +1,9 @@
--- What the UNIQUE and the foreign key of the layouts say of the contents: a text has one id, and the id of each version a text.
+-- What the UNIQUE and the foreign keys of the layouts say of the contents: a text has one id, the id of each version is a text, what has evidence is a version, and what it was tested against a text.
 use Rattle.std.proofs.Common.{◌≡◌, ℕ, pos, List, [], ◌∷◌, ◌++◌, inl, inr, Some, true, codes, refl, sym, ap, subst, ◌∙◌}
 use Rattle.std.specs.FinMap.{get}
 use Rattle.std.specs.List.{list_any}
 use Rattle.std.specs.Ordering.{nat_cmp}
-use Rattle.std.proofs.lemmas.Bool.{or_cases}
+use Rattle.std.proofs.lemmas.Bool.{or_cases, both_ways}
 use Rattle.sqlite.specs.declared.types.Value.TheVariants.{Int, Text}
 use Rattle.sqlite.specs.Order.{Row, column}
 use Rattle.sqlite.specs.Tree.{Trees, rowid}
@@ -12,19 +12,26 @@ use Rattle.sqlite.specs.Effect.{Database}
 use Rattle.sqlite_sql.specs.Ops.{binary}
 use Rattle.sqlite_schema.specs.declared.schema.Constraint.TheVariants.{ForeignKey}
 use Rattle.sqlite_schema.specs.Names.{same_name}
-use Rattle.sqlite_schema.specs.Rules.{agree, has_null, has_parent}
+use Rattle.sqlite_schema.specs.Rules.{agree, has_null, has_parent, Refers}
 use Rattle.sqlite_value.specs.Keys.{plain, first_key, joined}
 use Rattle.sqlite_value.proofs.OrderLemmas.{value_cmp-Text}
 use Rattle.sqlite_rules.specs.Lists.{Has}
 use Rattle.sqlite_rules.proofs.ListLemmas.{test_has, some_has}
 use Rattle.sqlite_rules.proofs.RuleLemmas.{keeps_at}
-use Rattle.reg_tables.specs.Layout.{automatic_index, unindexed, begins, texts, versions, to_texts}
-use Rattle.reg_tables.specs.Contents.{text_cmp, text_cells, number_cells, VersionRow, Contents, HoldsIn}
+use Rattle.reg_tables.specs.Layout.{automatic_index, layout_one_unindexed, begins, texts, versions, to_texts, added, HasEightTables}
+use Rattle.reg_tables.specs.Contents.{text_cmp, text_cells, number_cells, VersionRow, Contents, HoldsIn, version_cmp, PlaceKey, TableName}
 use Rattle.reg_tables.specs.Inside.Statements.{by_id}
 use Rattle.reg_tables.proofs.MapLemmas.{same_key, tied_key}
-use Rattle.reg_tables.proofs.KeyedTables.{text_order, number_order, by_id_test}
+use Rattle.reg_tables.proofs.KeyedTables.{text_order, number_order, by_id_test, version_order}
 use Rattle.reg_tables.proofs.Queries.{passes}
-use Rattle.reg_tables.proofs.UniqueKeys.{same_number, one_rowid, HasKeysFirst, has_table, has_index}
+use Rattle.reg_tables.proofs.Tables.{ShowsFive, five}
+use Rattle.reg_tables.proofs.UniqueKeys.{one_keys, same_number, one_rowid, HasFiveKeys, has_table, has_index}
+use Rattle.std.specs.Prelude.{IsSome, is_some}
+use Rattle.sqlite_schema.specs.declared.schema.Among.TheVariants.{All}
+use Rattle.sqlite_schema.specs.declared.schema.Index.{Index}
+use Rattle.reg_tables.proofs.Drops.{HasVersionKey, not_null}
+use Rattle.reg_tables.proofs.Keys.{versions_tied}
+use Rattle.reg_tables.proofs.ForeignKeys.{Refer, refer_if}
 
 -- rows of one text agree on it
 texts_agree : (a b : Row) (text : List ℕ) → column a 2 ∷ [] ≡ text_cells text → column b 2 ∷ [] ≡ text_cells text → agree (record { digits = 0 }) (2 ∷ []) a (2 ∷ []) b ≡ true
@@ -35,11 +42,11 @@ texts_agree a b text here there =
     rw (of_a, of_b, value_cmp-Text text text, tied_key text_cmp text_order text text refl) refl
 
 -- the reference of a version is to the rowid of `texts`
-parent_is : (db : Trees) (schema : Schema) → HasKeysFirst schema → (row : Row) (id : ℕ) → column row 3 ≡ Int (pos id) → has_parent schema.tables db row to_texts ≡ true
+parent_is : (db : Trees) (schema : Schema) → HasFiveKeys schema → (row : Row) (id : ℕ) → column row 3 ≡ Int (pos id) → has_parent schema.tables db row to_texts ≡ true
     → (parent : Row) × Has (db texts.tree) parent × (agree plain (0 ∷ []) parent (3 ∷ []) row ≡ true)
 unfolding same_name joined
 parent_is db schema known row id its held =
-    let here : has_parent (begins known.tables (unindexed.indexes ++ known.indexes)).tables db row to_texts ≡ true = subst (λ (s : Schema). has_parent s.tables db row to_texts ≡ true) known.is held in
+    let here : has_parent (begins known.tables (layout_one_unindexed.indexes ++ known.indexes)).tables db row to_texts ≡ true = subst (λ (s : Schema). has_parent s.tables db row to_texts ≡ true) known.is held in
     elim (or_cases (has_null (3 ∷ []) row) (list_any (λ parent. agree plain (0 ∷ []) parent (3 ∷ []) row) (db texts.tree)) here) [ inl null ↦ absurd (let none = rw its at null in cc) | inr some ↦ some_has (λ parent. agree plain (0 ∷ []) parent (3 ∷ []) row) (db texts.tree) some ]
 
 -- the parent has the id that the row names in this column
@@ -49,16 +56,19 @@ id_named place parent row id named is its same =
     let tie : passes by_id (Int (pos named) ∷ []) parent ≡ true = rw its at same in
     same_key nat_cmp number_order id named (sym (by_id_test parent named id is) ∙ tie)
 
-module _ (schema : Schema) (db : Database) (contents : Contents) (known : HasKeysFirst schema) (holds : HoldsIn schema db contents) where
-  laid : HasKeysFirst db.schema
-  laid = subst HasKeysFirst (sym holds.declared) known
+module _ (schema : Schema) (db : Database) (contents : Contents) (known : HasFiveKeys schema) (holds : HoldsIn schema db contents) where
+  shows : ShowsFive db contents
+  shows = five holds (one_keys schema known)
+
+  laid : HasFiveKeys db.schema
+  laid = subst HasFiveKeys (sym holds.declared) known
 
   -- UNIQUE of texts.text
   pub one_id : (i j : ℕ) (text : List ℕ) → get contents.texts i ≡ Some text → get contents.texts j ≡ Some text → i ≡ j
   one_id i j text here there =
       let index = automatic_index (codes "sqlite_autoindex_texts_1") 0 (2 ∷ []) in
-      let a = holds.texts.complete i text here in
-      let b = holds.texts.complete j text there in
+      let a = shows.texts.complete i text here in
+      let b = shows.texts.complete j text there in
       let of_a : rowid a.0 ≡ Int (pos i) = (let e = a.2.0 in cc) in
       let of_b : rowid b.0 ≡ Int (pos j) = (let e = b.2.0 in cc) in
       let one = one_rowid db.schema db.trees holds.sound.obeys texts index (has_table db laid holds.sound texts (inl refl)) (has_index db laid holds.sound index (inl refl)) refl a.0 b.0 a.1 b.1 (texts_agree a.0 b.0 text a.2.1 b.2.1) in
@@ -68,9 +78,49 @@ module _ (schema : Schema) (db : Database) (contents : Contents) (known : HasKey
   -- the foreign key of versions.id
   pub has_text : (key : List ℕ × ℕ) (version : VersionRow) → get contents.versions key ≡ Some version → (text : List ℕ) × (get contents.texts version.id ≡ Some text)
   has_text key version there =
-      let row = holds.versions.complete key version there in
+      let row = shows.versions.complete key version there in
       let its : column row.0 3 ≡ Int (pos version.id) = (let e = row.2.1 in cc) in
       let passed = keeps_at ForeignKey db.schema db.trees versions row.0 (holds.sound.obeys.rules ForeignKey) (has_table db laid holds.sound versions (inr (inl refl))) row.1 in
       let parent = parent_is db.trees db.schema laid row.0 version.id its (test_has (has_parent db.schema.tables db.trees row.0) versions.references to_texts passed (inl refl)) in
-      let entry = holds.texts.sound parent.0 parent.1 in
+      let entry = shows.texts.sound parent.0 parent.1 in
       (entry.1, ap (get contents.texts) (sym (id_named 3 parent.0 row.0 entry.0 version.id entry.3.0 its parent.2)) ∙ entry.2)
+
+-- ---- evidence
+
+module _ (first : ℕ) (indexes : List Index) (db : Database) (contents : Contents) (holds : HoldsIn (begins (added first) indexes) db contents) where
+  refer : Refer first db.trees
+  refer = refer_if first indexes db.trees (subst (λ (s : Schema). Refers All s db.trees) holds.declared (holds.sound.obeys.rules ForeignKey))
+
+  version_there : (key : List ℕ × ℕ) (level : List ℕ) → get contents.evidence key ≡ Some level → IsSome (get contents.versions key)
+  version_there key level there =
+      let row = (holds.shows TableName.Evidence).complete key level there in
+      let its : HasVersionKey row.0 key = row.2.0 in
+      elim (or_cases (has_null (1 ∷ 2 ∷ []) row.0) (list_any (λ parent. agree plain (1 ∷ 2 ∷ []) parent (1 ∷ 2 ∷ []) row.0) (db.trees 2)) (refer.evidence row.0 row.1)) [
+        | inl null ↦ absurd (both_ways _ (not_null row.0 key its) null)
+        | inr some ↦
+            let parent = some_has (λ parent. agree plain (1 ∷ 2 ∷ []) parent (1 ∷ 2 ∷ []) row.0) (db.trees 2) some in
+            let entry = (holds.shows TableName.Versions).sound parent.0 parent.1 in
+            let same : entry.0 ≡ key = same_key version_cmp version_order entry.0 key (sym (versions_tied parent.0 row.0 entry.0 key entry.3.0 its) ∙ parent.2) in
+            ap is_some (ap (get contents.versions) (sym same) ∙ entry.2)
+      ]
+
+  text_there : (place : PlaceKey) (id : ℕ) → get contents.against place ≡ Some id → IsSome (get contents.texts id)
+  text_there place id there =
+      let row = (holds.shows TableName.Against).complete place id there in
+      let its : column row.0 4 ≡ Int (pos id) = (let e = row.2.1 in cc) in
+      elim (or_cases (has_null (4 ∷ []) row.0) (list_any (λ parent. agree plain (0 ∷ []) parent (4 ∷ []) row.0) (db.trees 0)) (refer.seen row.0 row.1)) [
+        | inl null ↦ absurd (let none = rw its at null in cc)
+        | inr some ↦
+            let parent = some_has (λ parent. agree plain (0 ∷ []) parent (4 ∷ []) row.0) (db.trees 0) some in
+            let entry = (holds.shows TableName.Texts).sound parent.0 parent.1 in
+            ap is_some (ap (get contents.texts) (sym (id_named 4 parent.0 row.0 entry.0 id entry.3.0 its parent.2)) ∙ entry.2)
+      ]
+
+-- the foreign key of evidence
+pub has_evidence_version : (schema : Schema) (db : Database) (contents : Contents) → HasEightTables schema → HoldsIn schema db contents → (key : List ℕ × ℕ) (level : List ℕ) → get contents.evidence key ≡ Some level
+    → IsSome (get contents.versions key)
+has_evidence_version schema db contents known = subst (λ s. HoldsIn s db contents → (key : List ℕ × ℕ) (level : List ℕ) → get contents.evidence key ≡ Some level → IsSome (get contents.versions key)) (sym known.is) (version_there known.first known.indexes db contents)
+
+-- the foreign key of against.id
+pub has_against_text : (schema : Schema) (db : Database) (contents : Contents) → HasEightTables schema → HoldsIn schema db contents → (place : PlaceKey) (id : ℕ) → get contents.against place ≡ Some id → IsSome (get contents.texts id)
+has_against_text schema db contents known = subst (λ s. HoldsIn s db contents → (place : PlaceKey) (id : ℕ) → get contents.against place ≡ Some id → IsSome (get contents.texts id)) (sym known.is) (text_there known.first known.indexes db contents)

@@ -1,22 +1,25 @@
--- What the writes need of a schema.
-use Rattle.std.proofs.Common.{◌≡◌, ◌≢◌, ◌≤◌, ◌||◌, ◌==◌, ℕ, length, List, [], ◌∷◌, Bool, true, false, not, ◌&&◌, cond, refl, sym, subst}
-use Rattle.std.specs.List.{AllByRecursion, list_all}
-use Rattle.std.proofs.lemmas.Bool.{and_parts, both_ways, not-true, eq-eqb}
+-- How the schemas of layout 2 are made.
+use Rattle.std.proofs.Common.{◌≡◌, ◌≢◌, ◌≤◌, ◌==◌, ℕ, inl, inr, length, List, [], ◌∷◌, Bool, true, false, not, ◌&&◌, cond, lit≤, refl, sym, ap, subst, arith}
+use Rattle.std.specs.List.{AllByRecursion, flat_map, filter_map}
+use Rattle.std.proofs.lemmas.Bool.{and_parts, both_ways, not-true, eq-eqb, ne_eqb}
 use Rattle.sqlite.specs.Order.{Row}
-use Rattle.sqlite.specs.Tree.{Trees, IsAscending}
+use Rattle.sqlite.specs.Tree.{IsAscending}
 use Rattle.sqlite.specs.Table.{Table}
 use Rattle.sqlite.specs.Schema.{Schema}
-use Rattle.sqlite.specs.Effect.{Database}
-use Rattle.sqlite_schema.specs.declared.schema.Among.TheVariants.{All}
+use Rattle.sqlite.specs.Edit.{edit_of, taken_by}
+use Rattle.sqlite.specs.Rowids.TheVariants.{Given}
+use Rattle.sqlite_schema.specs.declared.schema.Keys.TheVariants.{Enforced}
 use Rattle.sqlite_schema.specs.declared.schema.Index.{Index}
-use Rattle.sqlite_schema.specs.Rules.{guards, Refers, references_fit}
-use Rattle.sqlite_rules.specs.Lists.{Has}
-use Rattle.sqlite_schema.specs.declared.schema.Action.TheVariants.{NoAction}
-use Rattle.reg_tables.specs.Layout.{layout, begins, texts, versions, levels, kept, meta}
-use Rattle.reg_tables.specs.Contents.{Contents, HoldsIn}
-use Rattle.reg_tables.specs.SecondContents.{SecondContents, HoldsAllIn}
-use Rattle.reg_tables.specs.Inside.KeyedLaws.{AreApart, IsIdle, IsSteady, IsAt, HasKeys, KeepsOthers, is_on}
-use Rattle.reg_tables.proofs.SecondReferences.{has_text_at, has_version}
+use Rattle.sqlite_schema.specs.Names.{same_name}
+use Rattle.sqlite_schema.specs.Rules.{agree, parent_key, references_fit}
+use Rattle.sqlite_rules.specs.Action.{Work, works, work_by, deed_of, pairs}
+use Rattle.sqlite_rules.specs.Calls.{ids_of}
+use Rattle.sqlite_rules.proofs.ActionLemmas.{no_works}
+use Rattle.sqlite_value.specs.Keys.{joined}
+use Rattle.reg_tables.specs.Layout.{begins, versions, added, layout_two, layout_two_indexed_last, IsLayoutTwo}
+use Rattle.reg_tables.specs.Contents.{TableName, Texts, Versions, Levels, Kept, Meta, Modes, Evidence, Against, place_of, table_in, KeyOf, form_of}
+use Rattle.reg_tables.specs.Inside.KeyedLaws.{AreApart, IsIdle, IsSteady, IsAt, HasKeys, PutRefers, IsKeyed, AreOn}
+use Rattle.reg_tables.proofs.Keys.{key_columns, one_key}
 
 unfoldable pub is_apart_from : ℕ → List Table → Bool
 is_apart_from tree [] = true
@@ -35,17 +38,6 @@ apart_if (t ∷ tables) h = let parts = and_parts (is_apart_from t.tree tables) 
     each [] h = tt
     each (b ∷ later) h = let parts = and_parts (not (b.tree == t.tree)) (is_apart_from t.tree later) h in (λ e. both_ways _ (not-true _ parts.0) (eq-eqb b.tree t.tree (sym e)), each later parts.1)
 
-pub layout_apart : AreApart layout
-unfolding are_apart is_apart_from
-layout_apart = apart_if layout.tables refl
-
-pub layout_idle : (tree : ℕ) → IsIdle layout tree
-layout_idle tree olds news = rw (no_action (length news == 0)) refl
-  where
-    no_action : (b : Bool) → cond b NoAction NoAction ≡ NoAction
-    no_action true = refl
-    no_action false = refl
-
 -- in each case
 pub all_keys : (schema : Schema) (table : Table) → references_fit schema table true true ≡ true → references_fit schema table true false ≡ true → references_fit schema table false true ≡ true → references_fit schema table false false ≡ true → HasKeys schema table
 all_keys schema table a b c d true true = a
@@ -53,40 +45,121 @@ all_keys schema table a b c d true false = b
 all_keys schema table a b c d false true = c
 all_keys schema table a b c d false false = d
 
--- an index that guards the table is on these columns
-abbrev pub AreOn : List ℕ → Table → List Index → Type 0
-AreOn columns table indexes = list_all (λ i. not (guards i table) || is_on columns i) indexes ≡ true
+-- the columns of the one index of each table: its key's, or that of a text
+abbrev pub index_columns : TableName → List ℕ
+index_columns Texts = 2 ∷ []
+index_columns name = key_columns name
 
--- what the writes of the five tables need of a schema in which these come first
-pub record IsSettled (tables : List Table) (indexes : List Index) : Type 0 where
-  pub apart : AreApart (begins tables indexes)
-  pub texts_at : IsAt (begins tables indexes) 0 texts
-  pub versions_at : IsAt (begins tables indexes) 1 versions
-  pub levels_at : IsAt (begins tables indexes) 2 levels
-  pub kept_at : IsAt (begins tables indexes) 3 kept
-  pub meta_at : IsAt (begins tables indexes) 4 meta
-  pub texts_on : AreOn (2 ∷ []) texts indexes
-  pub versions_on : AreOn (1 ∷ 2 ∷ []) versions indexes
-  pub levels_on : AreOn (1 ∷ []) levels indexes
-  pub kept_on : AreOn (1 ∷ []) kept indexes
-  pub meta_on : AreOn (1 ∷ []) meta indexes
-  pub idle : (tree : ℕ) → versions.tree ≢ tree → IsIdle (begins tables indexes) tree
-  pub steady : IsSteady (begins tables indexes) versions
-  -- a write to one of the five leaves the other tables as they are
-  pub beside : (tree : ℕ) → tree ≤ 9 → (old new : Database) → KeepsOthers (begins tables indexes) tree old.trees new.trees → (contents : SecondContents) → HoldsAllIn (begins tables indexes) old contents
-      → (base : Contents) → HoldsIn (begins tables indexes) new base → HoldsAllIn (begins tables indexes) new (record contents { base = base })
-  -- and breaks no reference if what was a reference's parent has one in its place
-  pub refers : (tree : ℕ) → tree ≤ 9 → (old new : Trees) → KeepsOthers (begins tables indexes) tree old new
-      → ((place : ℕ) (row : Row) → has_text_at place (old 0) row ≡ true → has_text_at place (new 0) row ≡ true)
-      → ((row : Row) → has_version (old 2) row ≡ true → has_version (new 2) row ≡ true)
-      → (((row : Row) → Has (old 2) row → has_text_at 3 (old 0) row ≡ true) → (row : Row) → Has (new 2) row → has_text_at 3 (new 0) row ≡ true)
-      → Refers All (begins tables indexes) old → Refers All (begins tables indexes) new
+-- the tables have trees of their own, their references fit, and what an index guards of each is told
+pub record IsSettled (schema : Schema) : Type 0 where
+  pub apart : AreApart schema
+  pub at : (name : TableName) → IsAt schema (place_of name) (table_in schema name)
+  pub on : (name : TableName) → AreOn (index_columns name) (table_in schema name) schema.indexes
 
--- a write to another table than `texts` and `versions` breaks none
-pub beside_both : (tables : List Table) (indexes : List Index) → IsSettled tables indexes → (tree : ℕ) → tree ≤ 9 → 0 ≢ tree → 2 ≢ tree → (old new : Trees) → KeepsOthers (begins tables indexes) tree old new
-    → Refers All (begins tables indexes) old → Refers All (begins tables indexes) new
-beside_both tables indexes s tree low not_texts not_versions old new others =
-    let texts_same : new 0 ≡ old 0 = others.0 not_texts in
-    let versions_same : new 2 ≡ old 2 = others.1.0 not_versions in
-    s.refers tree low old new others (λ place row had. subst (λ l. has_text_at place l row ≡ true) (sym texts_same) had) (λ row had. subst (λ l. has_version l row ≡ true) (sym versions_same) had)
-    (λ had row there. subst (λ l. has_text_at 3 l row ≡ true) (sym texts_same) (had row (subst (λ l. Has l row) versions_same there)))
+two_at : (name : TableName) → IsAt layout_two (place_of name) (table_in layout_two name)
+unfolding same_name joined
+two_at Texts = record { there = refl; keys = all_keys layout_two (table_in layout_two Texts) refl refl refl refl }
+two_at Versions = record { there = refl; keys = all_keys layout_two (table_in layout_two Versions) refl refl refl refl }
+two_at Levels = record { there = refl; keys = all_keys layout_two (table_in layout_two Levels) refl refl refl refl }
+two_at Kept = record { there = refl; keys = all_keys layout_two (table_in layout_two Kept) refl refl refl refl }
+two_at Meta = record { there = refl; keys = all_keys layout_two (table_in layout_two Meta) refl refl refl refl }
+two_at Modes = record { there = refl; keys = all_keys layout_two (table_in layout_two Modes) refl refl refl refl }
+two_at Evidence = record { there = refl; keys = all_keys layout_two (table_in layout_two Evidence) refl refl refl refl }
+two_at Against = record { there = refl; keys = all_keys layout_two (table_in layout_two Against) refl refl refl refl }
+
+two_on : (name : TableName) → AreOn (index_columns name) (table_in layout_two name) layout_two.indexes
+two_on Texts = refl
+two_on Versions = refl
+two_on Levels = refl
+two_on Kept = refl
+two_on Meta = refl
+two_on Modes = refl
+two_on Evidence = refl
+two_on Against = refl
+
+two_settled : IsSettled layout_two
+unfolding are_apart is_apart_from
+two_settled = record { apart = apart_if layout_two.tables refl; at = two_at; on = two_on }
+
+last_at : (name : TableName) → IsAt layout_two_indexed_last (place_of name) (table_in layout_two_indexed_last name)
+unfolding same_name joined
+last_at Texts = record { there = refl; keys = all_keys layout_two_indexed_last (table_in layout_two_indexed_last Texts) refl refl refl refl }
+last_at Versions = record { there = refl; keys = all_keys layout_two_indexed_last (table_in layout_two_indexed_last Versions) refl refl refl refl }
+last_at Levels = record { there = refl; keys = all_keys layout_two_indexed_last (table_in layout_two_indexed_last Levels) refl refl refl refl }
+last_at Kept = record { there = refl; keys = all_keys layout_two_indexed_last (table_in layout_two_indexed_last Kept) refl refl refl refl }
+last_at Meta = record { there = refl; keys = all_keys layout_two_indexed_last (table_in layout_two_indexed_last Meta) refl refl refl refl }
+last_at Modes = record { there = refl; keys = all_keys layout_two_indexed_last (table_in layout_two_indexed_last Modes) refl refl refl refl }
+last_at Evidence = record { there = refl; keys = all_keys layout_two_indexed_last (table_in layout_two_indexed_last Evidence) refl refl refl refl }
+last_at Against = record { there = refl; keys = all_keys layout_two_indexed_last (table_in layout_two_indexed_last Against) refl refl refl refl }
+
+last_on : (name : TableName) → AreOn (index_columns name) (table_in layout_two_indexed_last name) layout_two_indexed_last.indexes
+last_on Texts = refl
+last_on Versions = refl
+last_on Levels = refl
+last_on Kept = refl
+last_on Meta = refl
+last_on Modes = refl
+last_on Evidence = refl
+last_on Against = refl
+
+last_settled : IsSettled layout_two_indexed_last
+unfolding are_apart is_apart_from
+last_settled = record { apart = apart_if layout_two_indexed_last.tables refl; at = last_at; on = last_on }
+
+-- what is so of each layout 2, by the first of its new trees
+pub in_layout_two : (P : Schema → Type 0) → ((first : ℕ) (indexes : List Index) → 10 ≤ first → IsSettled (begins (added first) indexes) → P (begins (added first) indexes)) → (schema : Schema) → IsLayoutTwo schema → P schema
+in_layout_two P each schema (inl is) = subst P (sym is) (each 11 layout_two.indexes (lit≤ tt) two_settled)
+in_layout_two P each schema (inr is) = subst P (sym is) (each 10 layout_two_indexed_last.indexes (lit≤ tt) last_settled)
+
+-- the same, where the trees have to be numbers
+pub at_layout_two : (P : Schema → Type 0) → P layout_two → P layout_two_indexed_last → (schema : Schema) → IsLayoutTwo schema → P schema
+at_layout_two P here there schema (inl is) = subst P (sym is) here
+at_layout_two P here there schema (inr is) = subst P (sym is) there
+
+-- rows that agree in these columns have one key
+abbrev AgreesBy : TableName → List ℕ → Type 0
+AgreesBy name columns = (a b : Row) (q k : KeyOf name) → (form_of name).key_of a ≡ (form_of name).key_cells q → (form_of name).key_of b ≡ (form_of name).key_cells k → agree (record { digits = 0 }) columns a columns b ≡ true → q ≡ k
+
+-- rows may be put into a table whose one index is that of its key
+pub keyed_if : (schema : Schema) → IsSettled schema → (name : TableName) → (table_in schema name).is_counted ≡ false → index_columns name ≡ key_columns name → (table_in schema name).primary ≡ key_columns name → PutRefers schema name → IsKeyed schema name
+keyed_if schema s name uncounted indexed primary refers = record {
+  apart = s.apart;
+  is_at = s.at name;
+  uncounted = uncounted;
+  guarded = subst (λ columns. AreOn columns (table_in schema name) schema.indexes) (sym primary) (subst (λ columns. AreOn columns (table_in schema name) schema.indexes) indexed (s.on name));
+  agrees = subst (AgreesBy name) (sym primary) (one_key name);
+  put_refers = refers;
+}
+
+-- ---- actions
+
+-- those of the foreign keys on a table, where rows are taken out, or else change
+abbrev pub works_if : Schema → ℕ → ℕ → List (Row × Row) → Bool → List Work
+works_if schema depth tree moves deletes = flat_map (λ child. filter_map (λ ref. work_by depth tree moves child ref (deed_of Enforced deletes (cond deletes ref.on_delete ref.on_update)) (parent_key schema.tables ref)) child.references) schema.tables
+
+-- the rows of versions alone take others with them
+pub two_quiet : (first : ℕ) (indexes : List Index) (depth tree : ℕ) → versions.tree ≢ tree → (olds news : List Row) → works (begins (added first) indexes) Enforced depth tree olds news ≡ []
+unfolding same_name joined
+two_quiet first indexes depth tree other olds news = go (pairs olds news) (length news == 0)
+  where
+    go : (moves : List (Row × Row)) (deletes : Bool) → works_if (begins (added first) indexes) depth tree moves deletes ≡ []
+    go moves true = rw (ne_eqb versions.tree tree other) refl
+    go moves false = refl
+
+pub two_idle : (first : ℕ) (indexes : List Index) (tree : ℕ) → versions.tree ≢ tree → IsIdle (begins (added first) indexes) tree
+two_idle first indexes tree other olds news = two_quiet first indexes 0 tree other olds news
+
+-- no action follows where rows take the place of rows
+module _ (first : ℕ) (indexes : List Index) where
+  abbrev here : Schema
+  here = begins (added first) indexes
+
+  replaced : (olds news : List Row) → (length news == 0) ≡ false → works here Enforced 0 versions.tree olds news ≡ []
+  unfolding same_name joined
+  replaced olds news some = ap (works_if here 0 versions.tree (pairs olds news)) some
+
+  pub steady : IsSteady here versions
+  steady db [] = no_works here Enforced 0 versions.tree []
+  steady db (x ∷ found) =
+      let edit = edit_of db versions (ids_of (x ∷ found)) Given 1 (x ∷ found) in
+      replaced (taken_by db edit) edit.news (ne_eqb _ 0 (λ e. omega (arith, e)))

@@ -1,6 +1,6 @@
 -- What the text of each statement means in a database that is laid out so.
-use Rattle.std.proofs.Common.{◌≡◌, inl, inr, sym, subst, pos, ℕ, List, [], ◌∷◌, codes, true, false, Ok, refl}
-use Rattle.sqlite.specs.declared.types.Value.TheVariants.{Null, Int}
+use Rattle.std.proofs.Common.{◌≡◌, inl, inr, sym, subst, pos, ℕ, List, [], ◌∷◌, codes, Bool, true, false, Ok, lit≤, refl}
+use Rattle.sqlite.specs.declared.types.Value.TheVariants.{Null, Int, Text}
 use Rattle.sqlite_value.specs.declared.keys.Key.{Key}
 use Rattle.sqlite.specs.Term.{Term, lit, col, op2}
 use Rattle.sqlite.specs.Collation.TheVariants.{Binary}
@@ -10,17 +10,17 @@ use Rattle.sqlite.specs.Compile.{table_defined_by}
 use Rattle.sqlite.specs.Change.{created}
 use Rattle.sqlite.specs.Does.{lacks_sequence}
 use Rattle.sqlite.specs.Table.{Table}
+use Rattle.sqlite.specs.Order.{Row}
 use Rattle.sqlite.specs.Schema.{Schema}
 use Rattle.sqlite.specs.Effect.{Database}
-use Rattle.reg_tables.specs.Contents.{Contents, HoldsIn}
+use Rattle.reg_tables.specs.Contents.{flag_cell, Contents, HoldsIn}
 use Rattle.sqlite.specs.Listing.{understood}
 use Rattle.sqlite.proofs.Callers.{statement_of}
 use Rattle.sqlite_sql.specs.declared.ops.BinaryOp.TheVariants.{Compare}
 use Rattle.sqlite_sql.specs.declared.ops.CompareOp.TheVariants.{Eq, Gt, Ge, Le}
 use Rattle.sqlite_tied.specs.Compute.{everything}
-use Rattle.reg_tables.specs.SecondLayout.{added, second, second_indexed_last, IsSecond}
-use Rattle.reg_tables.specs.Layout.{no_schema, begun, begins, layout, unindexed, HasTablesFirst, IsLayout, texts, versions, levels, kept, meta}
-use Rattle.reg_tables.specs.Inside.Statements.{by_key, by_version, IsCommand, TableQuery, IsQuery, all_rows, plain_query}
+use Rattle.reg_tables.specs.Layout.{no_schema, begun, begins, layout_one, layout_one_unindexed, HasFiveTables, IsLayoutOne, texts, versions, levels, kept, meta, modes, evidence, against, extended}
+use Rattle.reg_tables.specs.Inside.Statements.{by_key, by_version, IsCommand, TableQuery, IsQuery, Takes, all_rows, plain_query}
 use Rattle.sqlite_schema.specs.declared.schema.Index.{Index}
 
 -- ---- the tables are made in this order
@@ -67,6 +67,27 @@ make_meta = codes "CREATE TABLE meta (name TEXT NOT NULL PRIMARY KEY, value TEXT
 pub makes_meta : MakesTable make_meta (begun 4) (record meta { tree = 0 }) (begun 5)
 unfolding understood everything
 makes_meta = record { command = record { is = refl; plain = (refl, refl) }; text = refl; defined = refl; is = refl; whole = refl }
+
+abbrev pub make_modes : List ℕ
+make_modes = codes "CREATE TABLE modes (subject TEXT NOT NULL PRIMARY KEY, mode TEXT NOT NULL) STRICT"
+
+pub makes_modes : MakesTable make_modes (extended 0) (record (modes 11) { tree = 0 }) (extended 1)
+unfolding understood everything
+makes_modes = record { command = record { is = refl; plain = (refl, refl) }; text = refl; defined = refl; is = refl; whole = refl }
+
+abbrev pub make_evidence : List ℕ
+make_evidence = codes "CREATE TABLE evidence (subject TEXT NOT NULL, version INTEGER NOT NULL, level TEXT NOT NULL, PRIMARY KEY (subject, version), FOREIGN KEY (subject, version) REFERENCES versions (subject, version) ON DELETE CASCADE) STRICT"
+
+pub makes_evidence : MakesTable make_evidence (extended 1) (record (evidence 13) { tree = 0 }) (extended 2)
+unfolding understood everything
+makes_evidence = record { command = record { is = refl; plain = (refl, refl) }; text = refl; defined = refl; is = refl; whole = refl }
+
+abbrev pub make_against : List ℕ
+make_against = codes "CREATE TABLE against (subject TEXT NOT NULL, version INTEGER NOT NULL, position INTEGER NOT NULL, id INTEGER NOT NULL REFERENCES texts (id), PRIMARY KEY (subject, version, position), FOREIGN KEY (subject, version) REFERENCES versions (subject, version) ON DELETE CASCADE) STRICT"
+
+pub makes_against : MakesTable make_against (extended 2) (record (against 15) { tree = 0 }) (extended 3)
+unfolding understood everything
+makes_against = record { command = record { is = refl; plain = (refl, refl) }; text = refl; defined = refl; is = refl; whole = refl }
 
 -- ---- rows that go in and out by a text key
 
@@ -117,27 +138,31 @@ by_text = op2 (Compare Eq Binary) (col 1 2) (col 0 0) ∷ []
 
 -- ---- queries
 
-pub laid_out : {schema : Schema} {db : Database} {contents : Contents} → HoldsIn schema db contents → HasTablesFirst schema → HasTablesFirst db.schema
-laid_out holds first = subst HasTablesFirst (sym holds.declared) first
+pub laid_out : {schema : Schema} {db : Database} {contents : Contents} → HoldsIn schema db contents → HasFiveTables schema → HasFiveTables db.schema
+laid_out holds first = subst HasFiveTables (sym holds.declared) first
 
-pub has_tables_first : (schema : Schema) → IsLayout schema → HasTablesFirst schema
-has_tables_first schema (inl is) = record { tables = []; indexes = layout.indexes; is = is }
-has_tables_first schema (inr is) = record { tables = []; indexes = unindexed.indexes; is = is }
+pub one_has_five : (schema : Schema) → IsLayoutOne schema → HasFiveTables schema
+one_has_five schema (inl is) = record { tables = []; indexes = layout_one.indexes; is = is }
+one_has_five schema (inr is) = record { tables = []; indexes = layout_one_unindexed.indexes; is = is }
 
-pub second_tables_first : (schema : Schema) → IsSecond schema → HasTablesFirst schema
-second_tables_first schema (inl is) = record { tables = added 11; indexes = second.indexes; is = is }
-second_tables_first schema (inr is) = record { tables = added 10; indexes = second_indexed_last.indexes; is = is }
-
--- what is so whatever tables and indexes are there beside the five tables
-pub behind_tables : (P : Schema → Type 0) → ((tables : List Table) (indexes : List Index) → P (begins tables indexes)) → (schema : Schema) → HasTablesFirst schema → P schema
+-- what is so whatever tables and indexes are there beside the five tables, and so in layout 2 too
+pub behind_tables : (P : Schema → Type 0) → ((tables : List Table) (indexes : List Index) → P (begins tables indexes)) → (schema : Schema) → HasFiveTables schema → P schema
 behind_tables P all schema first = subst P (sym first.is) (all first.tables first.indexes)
+
+-- whatever tables follow the five, the text is this query, and takes these parameters
+pub record IsAsked (q : TableQuery) (params : Row) : Type 0 where
+  pub is : (schema : Schema) → HasFiveTables schema → IsQuery q schema
+  pub takes : (schema : Schema) → HasFiveTables schema → Takes q params schema
+
+asked : {q : TableQuery} {params : Row} → ((tables : List Table) (indexes : List Index) → IsQuery q (begins tables indexes) × Takes q params (begins tables indexes)) → IsAsked q params
+asked {q} {params} each = record { is = λ schema first. (behind_tables (λ s. IsQuery q s × Takes q params s) each schema first).0; takes = λ schema first. (behind_tables (λ s. IsQuery q s × Takes q params s) each schema first).1 }
 
 abbrev pub find_id : TableQuery
 find_id = record { sql = codes "SELECT id FROM texts WHERE text = ?1"; tree = 0; tests = by_text; shown = col 1 0 ∷ []; names = codes "id" ∷ []; order = []; limit = all_rows }
 
-pub find_id_is : (schema : Schema) → HasTablesFirst schema → IsQuery find_id schema
+pub asks_id : (text : List ℕ) → IsAsked find_id (Text text ∷ [])
 unfolding understood everything
-find_id_is = behind_tables (IsQuery find_id) (λ tables indexes. record { command = record { is = refl; plain = (refl, refl) }; unlisted = refl })
+asks_id text = asked (λ tables indexes. (record { command = record { is = refl; plain = (refl, refl) }; unlisted = refl }, record { whole = (lit≤ tt, refl); typed = refl }))
 
 -- LIMIT 1
 abbrev pub first_row : Term
@@ -150,174 +175,126 @@ from_last = (col 1 0, record { collation = Binary; descending = true }) ∷ []
 abbrev pub find_last : TableQuery
 find_last = record { sql = codes "SELECT id FROM texts ORDER BY id DESC LIMIT 1"; tree = 0; tests = []; shown = col 1 0 ∷ []; names = codes "id" ∷ []; order = from_last; limit = first_row }
 
-pub find_last_is : (schema : Schema) → HasTablesFirst schema → IsQuery find_last schema
+pub asks_last : IsAsked find_last []
 unfolding understood everything
-find_last_is = behind_tables (IsQuery find_last) (λ tables indexes. record { command = record { is = refl; plain = (refl, refl) }; unlisted = refl })
+asks_last = asked (λ tables indexes. (record { command = record { is = refl; plain = (refl, refl) }; unlisted = refl }, record { whole = (lit≤ tt, refl); typed = refl }))
 
 -- by subject and number
 abbrev pub in_order : List (Term × Key)
 in_order = (col 1 1, record { collation = Binary; descending = false }) ∷ (col 1 2, record { collation = Binary; descending = false }) ∷ []
 
-abbrev pub find_versions : TableQuery
-find_versions = record { sql = codes "SELECT version, id, deleted FROM versions WHERE subject = ?1 ORDER BY subject, version"; tree = 2; tests = by_key; shown = col 1 2 ∷ col 1 3 ∷ col 1 4 ∷ []; names = codes "version" ∷ codes "id" ∷ codes "deleted" ∷ []; order = in_order; limit = all_rows }
+-- the versions of a subject, by number
+abbrev pub numbers_query : List ℕ → List Term → List (Term × Key) → Term → TableQuery
+numbers_query sql tests order limit = record { sql = sql; tree = 2; tests = tests; shown = col 1 2 ∷ col 1 3 ∷ col 1 4 ∷ []; names = codes "version" ∷ codes "id" ∷ codes "deleted" ∷ []; order = order; limit = limit }
 
-pub find_versions_is : (schema : Schema) → HasTablesFirst schema → IsQuery find_versions schema
+-- versions, by subject and number
+abbrev pub versions_query : List ℕ → List Term → List (Term × Key) → Term → TableQuery
+versions_query sql tests order limit = record { sql = sql; tree = 2; tests = tests; shown = col 1 1 ∷ col 1 2 ∷ col 1 3 ∷ col 1 4 ∷ []; names = codes "subject" ∷ codes "version" ∷ codes "id" ∷ codes "deleted" ∷ []; order = order; limit = limit }
+
+abbrev pub find_versions : TableQuery
+find_versions = numbers_query (codes "SELECT version, id, deleted FROM versions WHERE subject = ?1 ORDER BY subject, version") by_key in_order all_rows
+
+pub asks_versions : (subject : List ℕ) → IsAsked find_versions (Text subject ∷ [])
 unfolding understood everything
-find_versions_is = behind_tables (IsQuery find_versions) (λ tables indexes. record { command = record { is = refl; plain = (refl, refl) }; unlisted = refl })
+asks_versions subject = asked (λ tables indexes. (record { command = record { is = refl; plain = (refl, refl) }; unlisted = refl }, record { whole = (lit≤ tt, refl); typed = refl }))
 
 -- by subject and number, from the greatest
 abbrev pub from_greatest : List (Term × Key)
 from_greatest = (col 1 1, record { collation = Binary; descending = true }) ∷ (col 1 2, record { collation = Binary; descending = true }) ∷ []
 
 abbrev pub find_last_version : TableQuery
-find_last_version = record {
-  sql = codes "SELECT version, id, deleted FROM versions WHERE subject = ?1 ORDER BY subject DESC, version DESC LIMIT 1";
-  tree = 2;
-  tests = by_key;
-  shown = col 1 2 ∷ col 1 3 ∷ col 1 4 ∷ [];
-  names = codes "version" ∷ codes "id" ∷ codes "deleted" ∷ [];
-  order = from_greatest;
-  limit = first_row;
-}
+find_last_version = numbers_query (codes "SELECT version, id, deleted FROM versions WHERE subject = ?1 ORDER BY subject DESC, version DESC LIMIT 1") by_key from_greatest first_row
 
-pub find_last_version_is : (schema : Schema) → HasTablesFirst schema → IsQuery find_last_version schema
+pub asks_last_version : (subject : List ℕ) → IsAsked find_last_version (Text subject ∷ [])
 unfolding understood everything
-find_last_version_is = behind_tables (IsQuery find_last_version) (λ tables indexes. record { command = record { is = refl; plain = (refl, refl) }; unlisted = refl })
+asks_last_version subject = asked (λ tables indexes. (record { command = record { is = refl; plain = (refl, refl) }; unlisted = refl }, record { whole = (lit≤ tt, refl); typed = refl }))
 
 -- the subject is the parameter, and the version is not marked as deleted
 abbrev pub by_live_key : List Term
 by_live_key = op2 (Compare Eq Binary) (col 1 1) (col 0 0) ∷ op2 (Compare Eq Binary) (col 1 4) (lit (Int (pos 0))) ∷ []
 
 abbrev pub find_last_live : TableQuery
-find_last_live = record {
-  sql = codes "SELECT version, id, deleted FROM versions WHERE subject = ?1 AND deleted = 0 ORDER BY subject DESC, version DESC LIMIT 1";
-  tree = 2;
-  tests = by_live_key;
-  shown = col 1 2 ∷ col 1 3 ∷ col 1 4 ∷ [];
-  names = codes "version" ∷ codes "id" ∷ codes "deleted" ∷ [];
-  order = from_greatest;
-  limit = first_row;
-}
+find_last_live = numbers_query (codes "SELECT version, id, deleted FROM versions WHERE subject = ?1 AND deleted = 0 ORDER BY subject DESC, version DESC LIMIT 1") by_live_key from_greatest first_row
 
-pub find_last_live_is : (schema : Schema) → HasTablesFirst schema → IsQuery find_last_live schema
+pub asks_last_live : (subject : List ℕ) → IsAsked find_last_live (Text subject ∷ [])
 unfolding understood everything
-find_last_live_is = behind_tables (IsQuery find_last_live) (λ tables indexes. record { command = record { is = refl; plain = (refl, refl) }; unlisted = refl })
+asks_last_live subject = asked (λ tables indexes. (record { command = record { is = refl; plain = (refl, refl) }; unlisted = refl }, record { whole = (lit≤ tt, refl); typed = refl }))
 
 -- the subject is behind the parameter
 abbrev pub by_later_subject : List Term
 by_later_subject = op2 (Compare Gt Binary) (col 1 1) (col 0 0) ∷ []
 
 abbrev pub find_behind : TableQuery
-find_behind = record {
-  sql = codes "SELECT subject, version, id, deleted FROM versions WHERE subject > ?1 ORDER BY subject, version LIMIT 1";
-  tree = 2;
-  tests = by_later_subject;
-  shown = col 1 1 ∷ col 1 2 ∷ col 1 3 ∷ col 1 4 ∷ [];
-  names = codes "subject" ∷ codes "version" ∷ codes "id" ∷ codes "deleted" ∷ [];
-  order = in_order;
-  limit = first_row;
-}
+find_behind = versions_query (codes "SELECT subject, version, id, deleted FROM versions WHERE subject > ?1 ORDER BY subject, version LIMIT 1") by_later_subject in_order first_row
 
-pub find_behind_is : (schema : Schema) → HasTablesFirst schema → IsQuery find_behind schema
+pub asks_behind : (subject : List ℕ) → IsAsked find_behind (Text subject ∷ [])
 unfolding understood everything
-find_behind_is = behind_tables (IsQuery find_behind) (λ tables indexes. record { command = record { is = refl; plain = (refl, refl) }; unlisted = refl })
+asks_behind subject = asked (λ tables indexes. (record { command = record { is = refl; plain = (refl, refl) }; unlisted = refl }, record { whole = (lit≤ tt, refl); typed = refl }))
 
 -- the subject is the first parameter, and the number is above the second
 abbrev pub by_later_number : List Term
 by_later_number = op2 (Compare Eq Binary) (col 1 1) (col 0 0) ∷ op2 (Compare Gt Binary) (col 1 2) (col 0 1) ∷ []
 
 abbrev pub find_next : TableQuery
-find_next = record {
-  sql = codes "SELECT version, id, deleted FROM versions WHERE subject = ?1 AND version > ?2 ORDER BY subject, version LIMIT 1";
-  tree = 2;
-  tests = by_later_number;
-  shown = col 1 2 ∷ col 1 3 ∷ col 1 4 ∷ [];
-  names = codes "version" ∷ codes "id" ∷ codes "deleted" ∷ [];
-  order = in_order;
-  limit = first_row;
-}
+find_next = numbers_query (codes "SELECT version, id, deleted FROM versions WHERE subject = ?1 AND version > ?2 ORDER BY subject, version LIMIT 1") by_later_number in_order first_row
 
-pub find_next_is : (schema : Schema) → HasTablesFirst schema → IsQuery find_next schema
+pub asks_next : (subject : List ℕ) (number : ℕ) → IsAsked find_next (Text subject ∷ Int (pos number) ∷ [])
 unfolding understood everything
-find_next_is = behind_tables (IsQuery find_next) (λ tables indexes. record { command = record { is = refl; plain = (refl, refl) }; unlisted = refl })
+asks_next subject number = asked (λ tables indexes. (record { command = record { is = refl; plain = (refl, refl) }; unlisted = refl }, record { whole = (lit≤ tt, refl); typed = refl }))
 
 -- the id of the version is the parameter
 abbrev pub by_its_id : List Term
 by_its_id = op2 (Compare Eq Binary) (col 1 3) (col 0 0) ∷ []
 
 abbrev pub find_of_id : TableQuery
-find_of_id = record { sql = codes "SELECT subject, version, id, deleted FROM versions WHERE id = ?1 ORDER BY subject, version"; tree = 2; tests = by_its_id; shown = col 1 1 ∷ col 1 2 ∷ col 1 3 ∷ col 1 4 ∷ []; names = codes "subject" ∷ codes "version" ∷ codes "id" ∷ codes "deleted" ∷ []; order = in_order; limit = all_rows }
+find_of_id = versions_query (codes "SELECT subject, version, id, deleted FROM versions WHERE id = ?1 ORDER BY subject, version") by_its_id in_order all_rows
 
-pub find_of_id_is : (schema : Schema) → HasTablesFirst schema → IsQuery find_of_id schema
+pub asks_of_id : (id : ℕ) → IsAsked find_of_id (Int (pos id) ∷ [])
 unfolding understood everything
-find_of_id_is = behind_tables (IsQuery find_of_id) (λ tables indexes. record { command = record { is = refl; plain = (refl, refl) }; unlisted = refl })
+asks_of_id id = asked (λ tables indexes. (record { command = record { is = refl; plain = (refl, refl) }; unlisted = refl }, record { whole = (lit≤ tt, refl); typed = refl }))
 
 abbrev pub find_one_of_id : TableQuery
-find_one_of_id = record {
-  sql = codes "SELECT subject, version, id, deleted FROM versions WHERE id = ?1 LIMIT 1";
-  tree = 2;
-  tests = by_its_id;
-  shown = col 1 1 ∷ col 1 2 ∷ col 1 3 ∷ col 1 4 ∷ [];
-  names = codes "subject" ∷ codes "version" ∷ codes "id" ∷ codes "deleted" ∷ [];
-  order = [];
-  limit = first_row;
-}
+find_one_of_id = versions_query (codes "SELECT subject, version, id, deleted FROM versions WHERE id = ?1 LIMIT 1") by_its_id [] first_row
 
-pub find_one_of_id_is : (schema : Schema) → HasTablesFirst schema → IsQuery find_one_of_id schema
+pub asks_one_of_id : (id : ℕ) → IsAsked find_one_of_id (Int (pos id) ∷ [])
 unfolding understood everything
-find_one_of_id_is = behind_tables (IsQuery find_one_of_id) (λ tables indexes. record { command = record { is = refl; plain = (refl, refl) }; unlisted = refl })
+asks_one_of_id id = asked (λ tables indexes. (record { command = record { is = refl; plain = (refl, refl) }; unlisted = refl }, record { whole = (lit≤ tt, refl); typed = refl }))
 
 -- LIMIT 33
 abbrev pub first_rows : Term
 first_rows = lit (Int (pos 33))
 
 abbrev pub find_some_of_id : TableQuery
-find_some_of_id = record {
-  sql = codes "SELECT subject, version, id, deleted FROM versions WHERE id = ?1 LIMIT 33";
-  tree = 2;
-  tests = by_its_id;
-  shown = col 1 1 ∷ col 1 2 ∷ col 1 3 ∷ col 1 4 ∷ [];
-  names = codes "subject" ∷ codes "version" ∷ codes "id" ∷ codes "deleted" ∷ [];
-  order = [];
-  limit = first_rows;
-}
+find_some_of_id = versions_query (codes "SELECT subject, version, id, deleted FROM versions WHERE id = ?1 LIMIT 33") by_its_id [] first_rows
 
-pub find_some_of_id_is : (schema : Schema) → HasTablesFirst schema → IsQuery find_some_of_id schema
+pub asks_some_of_id : (id : ℕ) → IsAsked find_some_of_id (Int (pos id) ∷ [])
 unfolding understood everything
-find_some_of_id_is = behind_tables (IsQuery find_some_of_id) (λ tables indexes. record { command = record { is = refl; plain = (refl, refl) }; unlisted = refl })
+asks_some_of_id id = asked (λ tables indexes. (record { command = record { is = refl; plain = (refl, refl) }; unlisted = refl }, record { whole = (lit≤ tt, refl); typed = refl }))
 
 -- the subject and the id are the first two parameters, and the mark is no greater than the third
 abbrev pub by_shown_id : List Term
 by_shown_id = op2 (Compare Eq Binary) (col 1 1) (col 0 0) ∷ op2 (Compare Eq Binary) (col 1 3) (col 0 1) ∷ op2 (Compare Le Binary) (col 1 4) (col 0 2) ∷ []
 
 abbrev pub find_last_with_id : TableQuery
-find_last_with_id = record {
-  sql = codes "SELECT version, id, deleted FROM versions WHERE subject = ?1 AND id = ?2 AND deleted <= ?3 ORDER BY subject DESC, version DESC LIMIT 1";
-  tree = 2;
-  tests = by_shown_id;
-  shown = col 1 2 ∷ col 1 3 ∷ col 1 4 ∷ [];
-  names = codes "version" ∷ codes "id" ∷ codes "deleted" ∷ [];
-  order = from_greatest;
-  limit = first_row;
-}
+find_last_with_id = numbers_query (codes "SELECT version, id, deleted FROM versions WHERE subject = ?1 AND id = ?2 AND deleted <= ?3 ORDER BY subject DESC, version DESC LIMIT 1") by_shown_id from_greatest first_row
 
-pub find_last_with_id_is : (schema : Schema) → HasTablesFirst schema → IsQuery find_last_with_id schema
+pub asks_last_with_id : (subject : List ℕ) (id : ℕ) (deleted : Bool) → IsAsked find_last_with_id (Text subject ∷ Int (pos id) ∷ flag_cell deleted ∷ [])
 unfolding understood everything
-find_last_with_id_is = behind_tables (IsQuery find_last_with_id) (λ tables indexes. record { command = record { is = refl; plain = (refl, refl) }; unlisted = refl })
+asks_last_with_id subject id deleted = asked (λ tables indexes. (record { command = record { is = refl; plain = (refl, refl) }; unlisted = refl }, record { whole = (lit≤ tt, refl); typed = refl }))
 
 abbrev pub list_versions : TableQuery
-list_versions = record { sql = codes "SELECT subject, version, id, deleted FROM versions ORDER BY subject, version"; tree = 2; tests = []; shown = col 1 1 ∷ col 1 2 ∷ col 1 3 ∷ col 1 4 ∷ []; names = codes "subject" ∷ codes "version" ∷ codes "id" ∷ codes "deleted" ∷ []; order = in_order; limit = all_rows }
+list_versions = versions_query (codes "SELECT subject, version, id, deleted FROM versions ORDER BY subject, version") [] in_order all_rows
 
-pub list_versions_is : (schema : Schema) → HasTablesFirst schema → IsQuery list_versions schema
+pub asks_list : IsAsked list_versions []
 unfolding understood everything
-list_versions_is = behind_tables (IsQuery list_versions) (λ tables indexes. record { command = record { is = refl; plain = (refl, refl) }; unlisted = refl })
+asks_list = asked (λ tables indexes. (record { command = record { is = refl; plain = (refl, refl) }; unlisted = refl }, record { whole = (lit≤ tt, refl); typed = refl }))
 
 abbrev pub all_ids : TableQuery
 all_ids = record { sql = codes "SELECT id FROM texts"; tree = 0; tests = []; shown = col 1 0 ∷ []; names = codes "id" ∷ []; order = []; limit = all_rows }
 
-pub all_ids_is : (schema : Schema) → HasTablesFirst schema → IsQuery all_ids schema
+pub asks_all_ids : IsAsked all_ids []
 unfolding understood everything
-all_ids_is = behind_tables (IsQuery all_ids) (λ tables indexes. record { command = record { is = refl; plain = (refl, refl) }; unlisted = refl })
+asks_all_ids = asked (λ tables indexes. (record { command = record { is = refl; plain = (refl, refl) }; unlisted = refl }, record { whole = (lit≤ tt, refl); typed = refl }))
 
 -- the rowid is no less than the first parameter, and no greater than the second
 abbrev pub by_range : List Term
@@ -334,34 +311,34 @@ texts_between = record {
   limit = all_rows;
 }
 
-pub texts_between_is : (schema : Schema) → HasTablesFirst schema → IsQuery texts_between schema
+pub asks_between : (low high : ℕ) → IsAsked texts_between (Int (pos low) ∷ Int (pos high) ∷ [])
 unfolding understood everything
-texts_between_is = behind_tables (IsQuery texts_between) (λ tables indexes. record { command = record { is = refl; plain = (refl, refl) }; unlisted = refl })
+asks_between low high = asked (λ tables indexes. (record { command = record { is = refl; plain = (refl, refl) }; unlisted = refl }, record { whole = (lit≤ tt, refl); typed = refl }))
 
 abbrev pub all_versions : TableQuery
 all_versions = record { sql = codes "SELECT rowid, subject, version, id, deleted FROM versions"; tree = 2; tests = []; shown = col 1 0 ∷ col 1 1 ∷ col 1 2 ∷ col 1 3 ∷ col 1 4 ∷ []; names = codes "rowid" ∷ codes "subject" ∷ codes "version" ∷ codes "id" ∷ codes "deleted" ∷ []; order = []; limit = all_rows }
 
-pub all_versions_is : (schema : Schema) → HasTablesFirst schema → IsQuery all_versions schema
+pub asks_all_versions : IsAsked all_versions []
 unfolding understood everything
-all_versions_is = behind_tables (IsQuery all_versions) (λ tables indexes. record { command = record { is = refl; plain = (refl, refl) }; unlisted = refl })
+asks_all_versions = asked (λ tables indexes. (record { command = record { is = refl; plain = (refl, refl) }; unlisted = refl }, record { whole = (lit≤ tt, refl); typed = refl }))
 
 abbrev pub all_levels : TableQuery
 all_levels = record { sql = codes "SELECT rowid, subject, level FROM levels"; tree = 4; tests = []; shown = col 1 0 ∷ col 1 1 ∷ col 1 2 ∷ []; names = codes "rowid" ∷ codes "subject" ∷ codes "level" ∷ []; order = []; limit = all_rows }
 
-pub all_levels_is : (schema : Schema) → HasTablesFirst schema → IsQuery all_levels schema
+pub asks_all_levels : IsAsked all_levels []
 unfolding understood everything
-all_levels_is = behind_tables (IsQuery all_levels) (λ tables indexes. record { command = record { is = refl; plain = (refl, refl) }; unlisted = refl })
+asks_all_levels = asked (λ tables indexes. (record { command = record { is = refl; plain = (refl, refl) }; unlisted = refl }, record { whole = (lit≤ tt, refl); typed = refl }))
 
 abbrev pub all_kept : TableQuery
 all_kept = record { sql = codes "SELECT rowid, key, command, status, body FROM kept"; tree = 6; tests = []; shown = col 1 0 ∷ col 1 1 ∷ col 1 2 ∷ col 1 3 ∷ col 1 4 ∷ []; names = codes "rowid" ∷ codes "key" ∷ codes "command" ∷ codes "status" ∷ codes "body" ∷ []; order = []; limit = all_rows }
 
-pub all_kept_is : (schema : Schema) → HasTablesFirst schema → IsQuery all_kept schema
+pub asks_all_kept : IsAsked all_kept []
 unfolding understood everything
-all_kept_is = behind_tables (IsQuery all_kept) (λ tables indexes. record { command = record { is = refl; plain = (refl, refl) }; unlisted = refl })
+asks_all_kept = asked (λ tables indexes. (record { command = record { is = refl; plain = (refl, refl) }; unlisted = refl }, record { whole = (lit≤ tt, refl); typed = refl }))
 
 abbrev pub all_meta : TableQuery
 all_meta = record { sql = codes "SELECT rowid, name, value FROM meta"; tree = 8; tests = []; shown = col 1 0 ∷ col 1 1 ∷ col 1 2 ∷ []; names = codes "rowid" ∷ codes "name" ∷ codes "value" ∷ []; order = []; limit = all_rows }
 
-pub all_meta_is : (schema : Schema) → HasTablesFirst schema → IsQuery all_meta schema
+pub asks_all_meta : IsAsked all_meta []
 unfolding understood everything
-all_meta_is = behind_tables (IsQuery all_meta) (λ tables indexes. record { command = record { is = refl; plain = (refl, refl) }; unlisted = refl })
+asks_all_meta = asked (λ tables indexes. (record { command = record { is = refl; plain = (refl, refl) }; unlisted = refl }, record { whole = (lit≤ tt, refl); typed = refl }))

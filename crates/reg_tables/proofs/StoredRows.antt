@@ -15,7 +15,7 @@ use Rattle.sqlite_sql.specs.Catalog.{entry_of}
 use Rattle.sqlite_trees.specs.View.{IsStorable}
 use Rattle.sqlite_rules.specs.Lists.{Has}
 use Rattle.sqlite_rules.proofs.ListLemmas.{all_has}
-use Rattle.reg_tables.specs.Layout.{layout, meta}
+use Rattle.reg_tables.specs.Layout.{layout_one, meta}
 use Rattle.reg_tables.specs.Rooms.{CanBeStored}
 
 -- the value is no float
@@ -53,12 +53,12 @@ storable row plain some few short = record {
 -- a table with no REAL column, whose one index is of its first column
 pub record IsKeyedTable (table : Table) : Type 0 where
   pub reals : table_reals table ≡ 0
-  pub key : (i : Index) → Has layout.indexes i → i.table ≡ table.tree → i.columns ≡ 1 ∷ []
+  pub key : (i : Index) → Has layout_one.indexes i → i.table ≡ table.tree → i.columns ≡ 1 ∷ []
 
 pub meta_is_keyed : IsKeyedTable meta
 meta_is_keyed = record {
   reals = refl;
-  key = λ i there. all_has (λ (i : Index). i.table ≡ meta.tree → i.columns ≡ 1 ∷ []) layout.indexes i
+  key = λ i there. all_has (λ (i : Index). i.table ≡ meta.tree → i.columns ≡ 1 ∷ []) layout_one.indexes i
       (λ no. absurd (omega (arith, no)), (λ no. absurd (omega (arith, no)), (λ no. absurd (omega (arith, no)), (λ no. absurd (omega (arith, no)), (λ is. refl, (λ no. absurd (omega (arith, no)), tt)))))) there;
 }
 

@@ -1,124 +1,255 @@
 -- What a query of all rows of a table lists, and how a list of rows fails.
-use Rattle.std.proofs.Common.{◌≡◌, ◌⊎◌, inl, inr, ℕ, ℤ, zero, suc, List, [], ◌∷◌, map, All, IsTrue, refl, sym, subst, ◌∙◌, arith}
+use Rattle.std.proofs.Common.{◌≡◌, ◌⊎◌, inl, inr, ℕ, ℤ, zero, suc, List, [], ◌∷◌, map, All, IsTrue, refl, sym, subst, ◌∙◌, arith, pos, lit≤, codes, ap}
+use Rattle.std.specs.Prelude.{Result, IfOk, IfErr}
 use Rattle.std.specs.List.Sorted.{IsPermutation}
 use Rattle.std.proofs.lemmas.List.Sorted.{IsPermutation-map}
 use Rattle.std.proofs.lemmas.Simd.{map-map}
 use Rattle.sqlite.specs.declared.error.Error.{Error}
-use Rattle.sqlite.specs.Order.{Row}
-use Rattle.sqlite.specs.Term.{eval_all}
+use Rattle.sqlite.specs.Held.{Held, state}
+use Rattle.sqlite_trees.specs.declared.store.Store.{Ghosts}
+use Rattle.sqlite.specs.Order.{Row, column}
+use Rattle.sqlite.specs.Term.{Term, eval_all, col}
 use Rattle.sqlite.specs.Schema.{Schema}
 use Rattle.sqlite.specs.Effect.{Database}
-use Rattle.sqlite.specs.Query.{Query, IsAnswer}
-use Rattle.sqlite.specs.Tree.{Trees}
-use Rattle.sqlite_sql.specs.Program.{ProgramOverflows}
+use Rattle.sqlite.specs.Query.{IsAnswer}
 use Rattle.sqlite.specs.Program.{overlay}
-use Rattle.sqlite.specs.State.{State, Shown}
+use Rattle.sqlite.specs.State.{State, Shown, HasCleanDisk}
 use Rattle.sqlite_rules.specs.Lists.{Has}
-use Rattle.reg_tables.specs.Layout.{HasTablesFirst}
-use Rattle.reg_tables.specs.Reads.{HoldsReadable, CanBeRead, HoldsMeta}
+use Rattle.reg_tables.specs.declared.idle.Idle.{Idle}
+use Rattle.reg_tables.specs.Frames.{once_begun, StaysIdle}
+use Rattle.reg_tables.specs.Lookups.{Finds}
+use Rattle.reg_tables.specs.Layout.{HasFiveTables, no_schema, HasEightTables}
+use Rattle.reg_tables.specs.Reads.{HoldsReadable, CanBeRead, HoldsMeta, HasLayout, HoldsSome}
 use Rattle.reg_tables.specs.FailedCalls.{IsFault, IsUnreadable}
-use Rattle.reg_tables.specs.TableMaps.{Form}
-use Rattle.reg_tables.specs.Contents.{version_form, pair_form, kept_form}
+use Rattle.reg_tables.specs.TableMaps.{Form, IsEntry, ShowsMap}
+use Rattle.reg_tables.specs.Contents.{version_form, pair_form, kept_form, PlaceKey, evidence_form, against_form, TableName, Versions, Modes, Evidence, Against, Contents, AreReadable, HoldsIn, table_in, HasTable, form_of, map_of}
 use Rattle.reg_tables.specs.Listings.{parts_of, entry_parts, Lists}
-use Rattle.reg_tables.specs.Inside.ReadableRows.{IsReadableVersion, IsReadablePair, IsReadableKept}
+use Rattle.reg_tables.specs.Inside.ReadableRows.{IsReadableVersion, IsReadablePair, IsReadableKept, IsReadableEvidence, IsReadableAgainst}
 use Rattle.reg_tables.specs.Inside.FailedLists.{FailsToList}
-use Rattle.reg_tables.specs.Inside.Statements.{plain_query, TableQuery, body_of, IsSelect, TakesSelect, IsQuery, Takes}
+use Rattle.reg_tables.specs.Inside.Statements.{all_rows, plain_query, TableQuery, IsQuery, Takes}
 use Rattle.reg_tables.proofs.Queries.{answer_has, answer_all}
 use Rattle.reg_tables.proofs.KeyedTables.{with_nothing, answered}
-use Rattle.reg_tables.proofs.Statements.{laid_out, all_versions, all_versions_is, all_levels, all_levels_is, all_kept, all_kept_is, all_meta, all_meta_is}
-use Rattle.reg_tables.proofs.Faults.{takes_all_versions, takes_all_levels, takes_all_kept, takes_all_meta, sums_nothing, select_faults, read_fault_until, memory_is_fault}
-use Rattle.reg_tables.proofs.Transactions.{shown_open}
-use Rattle.reg_tables.proofs.ReadableRows.{readable_version, readable_level, readable_kept, readable_meta}
+use Rattle.reg_tables.proofs.Statements.{IsAsked, laid_out, all_versions, asks_all_versions, all_levels, asks_all_levels, all_kept, asks_all_kept, all_meta, asks_all_meta}
+use Rattle.reg_tables.proofs.Faults.{Asks, asks, asks_five, query_faults, read_fault_until, memory_is_fault}
+use Rattle.reg_tables.proofs.Transactions.{shown_open, if_ok, if_err}
+use Rattle.reg_tables.proofs.ReadableRows.{readable_version, readable_level, readable_kept, readable_meta, by_entry, pair_is}
+use Rattle.std.specs.FinMap.{get}
+use Rattle.sqlite.specs.declared.types.Value.TheVariants.{Int, Text}
+use Rattle.sqlite.specs.Edit.{id_in}
+use Rattle.sqlite.specs.Tree.{rowid}
+use Rattle.sqlite.specs.Listing.{understood}
+use Rattle.sqlite_tied.specs.Compute.{everything}
+use Rattle.reg_tables.proofs.Tables.{at_both, shown_by}
 
--- in each schema that is known the query shows all rows of its table, each with its parts in the same places
-pub record ShowsTable {K V : Type 0} (Known : Schema → Type 0) (Holds : Database → Type 0) (form : Form K V) (is_readable : Row → Type 0) (q : TableQuery) : Type 0 where
-  pub is : (schema : Schema) → Known schema → IsQuery q schema
-  pub takes : (schema : Schema) → Known schema → Takes q [] schema
-  pub untested : body_of q ≡ plain_query q.tree [] q.shown
-  pub whole : (row : Row) → parts_of form (eval_all q.shown ([] ∷ row ∷ [])) ≡ parts_of form row
-  pub known : (db : Database) → Holds db → Known db.schema
-  pub readable : (db : Database) → Holds db → (row : Row) → Has (db.trees q.tree) row → is_readable (eval_all q.shown ([] ∷ row ∷ []))
+-- the query of all rows of a table, which shows these terms
+abbrev pub all_of : List ℕ → ℕ → List Term → List (List ℕ) → TableQuery
+all_of sql tree shown names = record { sql = sql; tree = tree; tests = []; shown = shown; names = names; order = []; limit = all_rows }
 
-of_layout : (db : Database) → HoldsReadable db → HasTablesFirst db.schema
+-- ---- how a query of rows fails
+
+-- over this state it shows what can be read
+abbrev pub ReadsBy : List ℕ → Row → (Row → Type 0) → State → State → Type 0
+ReadsBy sql params is_readable old new = Asks sql params old.now.schema × ((found : List Row) → Shown sql params old new found → All is_readable found)
+
+module _ (sql : List ℕ) (old new end : State) (is_readable : Row → Type 0) (e : Error) (params : Row) (why : FailsToList is_readable sql params old new end e) where
+  -- where it shows what can be read, its rows fail with a fault alone
+  pub asked_fault : (IsTrue old.is_open → ReadsBy sql params is_readable old new) → IsFault old end e
+  asked_fault can = elim why [
+    | inl failed ↦ read_fault_until old new end failed.0 e (query_faults sql params old new (λ is_open. (can is_open).0) e failed.1)
+    | inr read ↦ memory_is_fault old end e (read.2 ((can (shown_open sql params old new read.0 read.1)).1 read.0 read.1))
+  ]
+
+  -- and whatever it shows, with a fault or where a row can't be read
+  pub asked_told : (IsTrue old.is_open → Asks sql params old.now.schema) → IsFault old end e ⊎ IsUnreadable e
+  asked_told known = elim why [
+    | inl failed ↦ inl (read_fault_until old new end failed.0 e (query_faults sql params old new known e failed.1))
+    | inr read ↦ elim read.3 [ inl memory ↦ inl (memory_is_fault old end e memory) | inr unreadable ↦ inr unreadable ]
+  ]
+
+pub of_layout : (db : Database) → HoldsReadable db → HasFiveTables db.schema
 of_layout db there = laid_out there.holds there.known
 
-pub shows_versions : ShowsTable HasTablesFirst HoldsReadable version_form IsReadableVersion all_versions
-shows_versions = record { is = all_versions_is; takes = takes_all_versions; untested = refl; whole = λ row. refl; known = of_layout; readable = readable_version }
+-- the same of queries of one of the five tables
+module _ {q : TableQuery} {params : Row} (it : IsAsked q params) (is_readable : Row → Type 0) (old new end : State) where
+  pub list_fault : ((found : List Row) → Shown q.sql params old new found → HoldsReadable old.now → All is_readable found) → (e : Error) → FailsToList is_readable q.sql params old new end e → CanBeRead old → IsFault old end e
+  list_fault readable e why can = asked_fault q.sql old new end is_readable e params why (λ is_open. let there = can is_open in (asks_five it old.now.schema (of_layout old.now there), λ found shown. readable found shown there))
 
-pub shows_levels : ShowsTable HasTablesFirst HoldsReadable pair_form IsReadablePair all_levels
-shows_levels = record { is = all_levels_is; takes = takes_all_levels; untested = refl; whole = λ row. refl; known = of_layout; readable = readable_level }
+  pub list_told : (e : Error) → FailsToList is_readable q.sql params old new end e → HasLayout old → IsFault old end e ⊎ IsUnreadable e
+  list_told e why known = asked_told q.sql old new end is_readable e params why (λ is_open. asks_five it old.now.schema (known is_open))
 
-pub shows_kept : ShowsTable HasTablesFirst HoldsReadable kept_form IsReadableKept all_kept
-shows_kept = record { is = all_kept_is; takes = takes_all_kept; untested = refl; whole = λ row. refl; known = of_layout; readable = readable_kept }
+-- a look-up of versions by such a query
+module _ {S X : Type 0} {g : Ghosts S} {q : TableQuery} {params : Row} (asked : IsAsked q params) {Tells : Contents → X → Type 0} (is_readable : Row → Type 0) (Reads : X → List Row → Type 0) (old new : Idle S g) (r : Result X Error) (frame : StaysIdle g old.conn new.conn r)
+    (read : HasCleanDisk (state g new.conn) → IfOk r (λ x. (last : Held S) × (found : List Row) × Shown q.sql params (once_begun g old.conn) (state g last) found × Reads x found))
+    (failed : HasCleanDisk (state g new.conn) → IfErr r (λ e. (last : Held S) × FailsToList is_readable q.sql params (once_begun g old.conn) (state g last) (state g new.conn) e)) where
+  pub finds_versions : ((last : State) (schema : Schema) (contents : Contents) → HoldsIn schema (once_begun g old.conn).now contents → HasFiveTables schema → (found : List Row) → Shown q.sql params (once_begun g old.conn) last found
+      → ((x : X) → Reads x found → Tells contents x) × (AreReadable contents → All is_readable found)) → Finds Versions old new r Tells
+  finds_versions each = record {
+    frame = frame;
+    found = λ clean. if_ok r (λ x its schema known contents holds. (each (state g its.0) schema contents holds known its.1 its.2).0 x its.3) (read clean);
+    fault = λ clean. if_err r
+        (λ e why. list_fault asked is_readable (once_begun g old.conn) (state g why.0) (state g new.conn) (λ found shows there. (each (state g why.0) there.schema there.contents there.holds there.known found shows).1 there.readable) e why.1)
+        (failed clean);
+  }
 
-pub shows_meta : ShowsTable HasTablesFirst HoldsMeta pair_form IsReadablePair all_meta
-shows_meta = record { is = all_meta_is; takes = takes_all_meta; untested = refl; whole = λ row. refl; known = λ db there. there.first; readable = readable_meta }
+-- ---- all rows of a table
+
+-- in each schema that is known the text shows all rows of its table, each with its parts in the same places
+pub record ShowsTable {K V : Type 0} (Known : Schema → Type 0) (Holds : Database → Type 0) (form : Form K V) (is_readable : Row → Type 0) (sql : List ℕ) (tree : Schema → ℕ) : Type 0 where
+  pub shown : List Term
+  pub names : List (List ℕ)
+  pub is : (schema : Schema) → Known schema → IsQuery (all_of sql (tree schema) shown names) schema
+  pub takes : (schema : Schema) → Known schema → Takes (all_of sql (tree schema) shown names) [] schema
+  pub whole : (row : Row) → parts_of form (eval_all shown ([] ∷ row ∷ [])) ≡ parts_of form row
+  pub known : (db : Database) → Holds db → Known db.schema
+  pub readable : (db : Database) → Holds db → (row : Row) → Has (db.trees (tree db.schema)) row → is_readable (eval_all shown ([] ∷ row ∷ []))
+
+abbrev ShowsInFive : {K V : Type 0} → (Database → Type 0) → Form K V → (Row → Type 0) → TableQuery → Type 0
+ShowsInFive Holds form is_readable q = ShowsTable HasFiveTables Holds form is_readable q.sql (λ schema. q.tree)
+
+pub shows_versions : ShowsInFive HoldsReadable version_form IsReadableVersion all_versions
+shows_versions = record { shown = all_versions.shown; names = all_versions.names; is = asks_all_versions.is; takes = asks_all_versions.takes; whole = λ row. refl; known = of_layout; readable = readable_version }
+
+pub shows_levels : ShowsInFive HoldsReadable pair_form IsReadablePair all_levels
+shows_levels = record { shown = all_levels.shown; names = all_levels.names; is = asks_all_levels.is; takes = asks_all_levels.takes; whole = λ row. refl; known = of_layout; readable = readable_level }
+
+pub shows_kept : ShowsInFive HoldsReadable kept_form IsReadableKept all_kept
+shows_kept = record { shown = all_kept.shown; names = all_kept.names; is = asks_all_kept.is; takes = asks_all_kept.takes; whole = λ row. refl; known = of_layout; readable = readable_kept }
+
+pub shows_meta : ShowsInFive HoldsMeta pair_form IsReadablePair all_meta
+shows_meta = record { shown = all_meta.shown; names = all_meta.names; is = asks_all_meta.is; takes = asks_all_meta.takes; whole = λ row. refl; known = λ db there. there.first; readable = readable_meta }
 
 pub all_if_each : {X : Type 0} (P : X → Type 0) (xs : List X) → ((x : X) → Has xs x → P x) → All P xs
 all_if_each P [] each k d low = absurd (omega arith)
 all_if_each P (x ∷ xs) each zero d low = each x (inl refl)
 all_if_each P (x ∷ xs) each (suc k) d low = all_if_each P xs (λ y h. each y (inr h)) k d (omega (arith, low))
 
--- a query that shows what can be read fails with a fault alone
-module _ {Known : Schema → Type 0} {Holds : Database → Type 0} (known : (db : Database) → Holds db → Known db.schema) (sql : List ℕ) (names : List (List ℕ)) (body : Query)
-    (never : (db : Trees) (params : Row) → ProgramOverflows db params [] [] body → ⊥) (params : Row) (is : (schema : Schema) → Known schema → IsSelect sql names body schema)
-    (takes : (schema : Schema) → Known schema → TakesSelect sql body params schema) (is_readable : Row → Type 0) where
-  pub select_fault : (old new end : State) → ((found : List Row) → Shown sql params old new found → Holds old.now → All is_readable found) → (e : Error)
-      → FailsToList is_readable sql params old new end e
-      → (IsTrue old.is_open → Holds old.now) → IsFault old end e
-  select_fault old new end readable e (inl failed) can = read_fault_until old new end failed.0 e (select_faults sql names body never is params takes old new (λ is_open. known old.now (can is_open)) e failed.1)
-  select_fault old new end readable e (inr read) can = memory_is_fault old end e (read.2 (readable read.0 read.1 (can (shown_open sql params old new read.0 read.1))))
+module _ {K V : Type 0} {Known : Schema → Type 0} {Holds : Database → Type 0} {form : Form K V} {is_readable : Row → Type 0} {sql : List ℕ} {tree : Schema → ℕ} (table : ShowsTable Known Holds form is_readable sql tree) (old new : State) where
+  abbrev place : ℕ
+  place = tree old.now.schema
 
--- and of any contents with a fault, or where a row can't be read
-module _ {Known : Schema → Type 0} (sql : List ℕ) (names : List (List ℕ)) (body : Query) (never : (db : Trees) (params : Row) → ProgramOverflows db params [] [] body → ⊥) (params : Row)
-    (is : (schema : Schema) → Known schema → IsSelect sql names body schema) (takes : (schema : Schema) → Known schema → TakesSelect sql body params schema) (is_readable : Row → Type 0) where
-  pub select_told : (old new end : State) (e : Error) → FailsToList is_readable sql params old new end e → (IsTrue old.is_open → Known old.now.schema) → IsFault old end e ⊎ IsUnreadable e
-  select_told old new end e (inl failed) known = inl (read_fault_until old new end failed.0 e (select_faults sql names body never is params takes old new known e failed.1))
-  select_told old new end e (inr read) known = elim read.3 [ inl memory ↦ inl (memory_is_fault old end e memory) | inr unread ↦ inr unread ]
+  abbrev its : TableQuery
+  its = all_of sql place table.shown table.names
 
--- the same of queries of one table
-module _ {Known : Schema → Type 0} {Holds : Database → Type 0} (known : (db : Database) → Holds db → Known db.schema) (q : TableQuery) (params : Row) (is : (schema : Schema) → Known schema → IsQuery q schema)
-    (takes : (schema : Schema) → Known schema → Takes q params schema) (is_readable : Row → Type 0) where
-  pub known_list_fault : (old new end : State) → ((found : List Row) → Shown q.sql params old new found → Holds old.now → All is_readable found) → (e : Error) → FailsToList is_readable q.sql params old new end e
-      → (IsTrue old.is_open → Holds old.now) → IsFault old end e
-  known_list_fault = select_fault known q.sql q.names (body_of q) (sums_nothing q) params is takes is_readable
+  its_asks : Known old.now.schema → Asks sql [] old.now.schema
+  its_asks laid = asks its [] old.now.schema (table.is old.now.schema laid) (table.takes old.now.schema laid)
 
-module _ {Known : Schema → Type 0} (q : TableQuery) (params : Row) (is : (schema : Schema) → Known schema → IsQuery q schema) (takes : (schema : Schema) → Known schema → Takes q params schema) (is_readable : Row → Type 0) where
-  pub list_told : (old new end : State) (e : Error) → FailsToList is_readable q.sql params old new end e → (IsTrue old.is_open → Known old.now.schema) → IsFault old end e ⊎ IsUnreadable e
-  list_told = select_told q.sql q.names (body_of q) (sums_nothing q) params is takes is_readable
+  module _ (laid : Known old.now.schema) (found : List Row) (h : Shown sql [] old new found) where
+    answer : IsAnswer (plain_query place [] table.shown) (overlay old.now.trees []) [] found
+    answer = answered its [] old new (table.is old.now.schema laid) found h
 
--- where the five tables come first it fails with a fault alone
-module _ (q : TableQuery) (params : Row) (is : (schema : Schema) → HasTablesFirst schema → IsQuery q schema) (takes : (schema : Schema) → HasTablesFirst schema → Takes q params schema) (is_readable : Row → Type 0) where
-  pub list_fault : (old new end : State) → ((found : List Row) → Shown q.sql params old new found → HoldsReadable old.now → All is_readable found) → (e : Error)
-      → FailsToList is_readable q.sql params old new end e → CanBeRead old → IsFault old end e
-  list_fault = known_list_fault of_layout q params is takes is_readable
-
-module _ {K V : Type 0} {Known : Schema → Type 0} {Holds : Database → Type 0} {form : Form K V} {is_readable : Row → Type 0} {q : TableQuery} (table : ShowsTable Known Holds form is_readable q) (old new : State) where
-  module _ (laid : Known old.now.schema) (found : List Row) (h : Shown q.sql [] old new found) where
-    answer : IsAnswer (plain_query q.tree [] q.shown) (overlay old.now.trees []) [] found
-    answer = subst (λ b. IsAnswer b (overlay old.now.trees []) [] found) table.untested (answered q [] old new (table.is old.now.schema laid) found h)
-
-    shown_parts : IsPermutation (map (parts_of form) (old.now.trees q.tree)) (map (parts_of form) found)
+    shown_parts : IsPermutation (map (parts_of form) (old.now.trees place)) (map (parts_of form) found)
     shown_parts =
-        let show = λ (row : Row). eval_all q.shown ([] ∷ row ∷ []) in
-        let rows = old.now.trees q.tree in
-        let all : IsPermutation (map show rows) found = subst (λ l. IsPermutation (map show l) found) (with_nothing old.now.trees q.tree) (answer_all [] q.tree q.shown (overlay old.now.trees []) found answer) in
+        let show = λ (row : Row). eval_all table.shown ([] ∷ row ∷ []) in
+        let rows = old.now.trees place in
+        let all : IsPermutation (map show rows) found = subst (λ l. IsPermutation (map show l) found) (with_nothing old.now.trees place) (answer_all [] place table.shown (overlay old.now.trees []) found answer) in
         let same : map (parts_of form) (map show rows) ≡ map (parts_of form) rows = map-map (parts_of form) show rows ∙ (λ i. map (λ (row : Row). table.whole row i) rows) in
         subst (λ l. IsPermutation l (map (parts_of form) found)) same (IsPermutation-map (parts_of form) (map show rows) found all)
 
-    pub shown_readable : Holds old.now → All is_readable found
+    shown_readable : Holds old.now → All is_readable found
     shown_readable there = all_if_each is_readable found (λ x has.
-        let r = answer_has [] [] q.tree q.shown (overlay old.now.trees []) found answer x has in
-        subst is_readable (sym r.3) (table.readable old.now there r.0 (subst (λ l. Has l r.0) (with_nothing old.now.trees q.tree) r.1)))
+        let r = answer_has [] [] place table.shown (overlay old.now.trees []) found answer x has in
+        subst is_readable (sym r.3) (table.readable old.now there r.0 (subst (λ l. Has l r.0) (with_nothing old.now.trees place) r.1)))
 
   -- the lines that were read from what is shown list the table
-  pub lists_lines : {L : Type 0} (entry : L → ℤ × K × V) (lines : List L) (found : List Row) → Shown q.sql [] old new found → map (parts_of form) found ≡ map (λ line. entry_parts form (entry line)) lines → Known old.now.schema → Lists form (old.now.trees q.tree) (map entry lines)
-  lists_lines entry lines found h read laid = subst (IsPermutation (map (parts_of form) (old.now.trees q.tree))) (read ∙ sym (map-map (entry_parts form) entry lines)) (shown_parts laid found h)
+  pub lists_lines : {L : Type 0} (entry : L → ℤ × K × V) (lines : List L) (found : List Row) → Shown sql [] old new found → map (parts_of form) found ≡ map (λ line. entry_parts form (entry line)) lines → Known old.now.schema → Lists form (old.now.trees place) (map entry lines)
+  lists_lines entry lines found h read laid = subst (IsPermutation (map (parts_of form) (old.now.trees place))) (read ∙ sym (map-map (entry_parts form) entry lines)) (shown_parts laid found h)
 
   -- of readable contents the lines fail with a fault alone
-  pub lines_fault : (end : State) (e : Error) → FailsToList is_readable q.sql [] old new end e → (IsTrue old.is_open → Holds old.now) → IsFault old end e
-  lines_fault end = known_list_fault table.known q [] table.is table.takes is_readable old new end (λ found h there. shown_readable (table.known old.now there) found h there)
+  pub lines_fault : (end : State) (e : Error) → FailsToList is_readable sql [] old new end e → (IsTrue old.is_open → Holds old.now) → IsFault old end e
+  lines_fault end e why can = asked_fault sql old new end is_readable e [] why (λ is_open. let there = can is_open in let laid = table.known old.now there in (its_asks laid, λ found h. shown_readable laid found h there))
 
   -- of any contents they fail with a fault, or where a row can't be read
-  pub lines_told : (end : State) (e : Error) → FailsToList is_readable q.sql [] old new end e → (IsTrue old.is_open → Known old.now.schema) → IsFault old end e ⊎ IsUnreadable e
-  lines_told end = list_told q [] table.is table.takes is_readable old new end
+  pub lines_told : (end : State) (e : Error) → FailsToList is_readable sql [] old new end e → (IsTrue old.is_open → Known old.now.schema) → IsFault old end e ⊎ IsUnreadable e
+  lines_told end e why known = asked_told sql old new end is_readable e [] why (λ is_open. its_asks (known is_open))
+
+-- ---- the tables that layout 2 adds
+
+-- the database has the eight tables, and holds what can be read
+abbrev HoldsEight : Database → Type 0
+HoldsEight = HoldsSome HasEightTables
+
+pub of_eight : (db : Database) → HoldsEight db → HasEightTables db.schema
+of_eight db there = subst HasEightTables (sym there.holds.declared) there.known
+
+abbrev pub tree_of : TableName → Schema → ℕ
+tree_of name schema = (table_in schema name).tree
+
+shows_here : (db : Database) (name : TableName) (there : HoldsSome (HasTable name) db) → ShowsMap (form_of name) (db.trees (tree_of name db.schema)) (get (map_of name there.contents))
+shows_here db name there = subst (λ s. ShowsMap (form_of name) (db.trees (tree_of name s)) (get (map_of name there.contents))) (sym there.holds.declared) (shown_by there.holds name there.known)
+
+-- ---- modes
+
+abbrev modes_sql : List ℕ
+modes_sql = codes "SELECT rowid, subject, mode FROM modes"
+
+abbrev modes_query : Schema → TableQuery
+modes_query schema = all_of modes_sql (tree_of Modes schema) (col 1 0 ∷ col 1 1 ∷ col 1 2 ∷ []) (codes "rowid" ∷ codes "subject" ∷ codes "mode" ∷ [])
+
+modes_is : (schema : Schema) → HasEightTables schema → IsQuery (modes_query schema) schema
+unfolding understood everything
+modes_is = at_both (λ s. IsQuery (modes_query s) s) (λ indexes. record { command = record { is = refl; plain = (refl, refl) }; unlisted = refl }) (λ indexes. record { command = record { is = refl; plain = (refl, refl) }; unlisted = refl })
+
+modes_takes : (schema : Schema) → HasEightTables schema → Takes (modes_query schema) [] schema
+unfolding understood everything
+modes_takes = at_both (λ s. Takes (modes_query s) [] s) (λ indexes. record { whole = (lit≤ tt, refl); typed = refl }) (λ indexes. record { whole = (lit≤ tt, refl); typed = refl })
+
+readable_mode : (db : Database) → HoldsEight db → (row : Row) → Has (db.trees (tree_of Modes db.schema)) row → IsReadablePair (column row 0 ∷ column row 1 ∷ column row 2 ∷ [])
+readable_mode db there row has = by_entry pair_form (db.trees (tree_of Modes db.schema)) (get there.contents.modes) (shows_here db Modes there) row has (IsReadablePair (column row 0 ∷ column row 1 ∷ column row 2 ∷ []))
+    (λ key value rowid_is held is.
+    let can = there.readable.modes key value held in
+    record { rowid = id_in (rowid row); key = key; value = value; is = pair_is row key value rowid_is is; key_utf8 = can.0; value_utf8 = can.1 })
+
+pub shows_modes : ShowsTable HasEightTables HoldsEight pair_form IsReadablePair modes_sql (tree_of Modes)
+shows_modes = record { shown = (modes_query no_schema).shown; names = (modes_query no_schema).names; is = modes_is; takes = modes_takes; whole = λ row. refl; known = of_eight; readable = readable_mode }
+
+-- ---- evidence
+
+abbrev evidence_sql : List ℕ
+evidence_sql = codes "SELECT rowid, subject, version, level FROM evidence"
+
+abbrev evidence_query : Schema → TableQuery
+evidence_query schema = all_of evidence_sql (tree_of Evidence schema) (col 1 0 ∷ col 1 1 ∷ col 1 2 ∷ col 1 3 ∷ []) (codes "rowid" ∷ codes "subject" ∷ codes "version" ∷ codes "level" ∷ [])
+
+evidence_is : (schema : Schema) → HasEightTables schema → IsQuery (evidence_query schema) schema
+unfolding understood everything
+evidence_is = at_both (λ s. IsQuery (evidence_query s) s) (λ indexes. record { command = record { is = refl; plain = (refl, refl) }; unlisted = refl }) (λ indexes. record { command = record { is = refl; plain = (refl, refl) }; unlisted = refl })
+
+evidence_takes : (schema : Schema) → HasEightTables schema → Takes (evidence_query schema) [] schema
+unfolding understood everything
+evidence_takes = at_both (λ s. Takes (evidence_query s) [] s) (λ indexes. record { whole = (lit≤ tt, refl); typed = refl }) (λ indexes. record { whole = (lit≤ tt, refl); typed = refl })
+
+evidence_row : (row : Row) (key : List ℕ × ℕ) (level : List ℕ) → rowid row ≡ Int (id_in (rowid row)) → IsEntry evidence_form row key level
+    → rowid row ∷ column row 1 ∷ column row 2 ∷ column row 3 ∷ [] ≡ Int (id_in (rowid row)) ∷ Text key.0 ∷ Int (pos key.1) ∷ Text level ∷ []
+evidence_row row key level rowid_is is =
+    ap (λ (r : Row). rowid row ∷ column row 1 ∷ column row 2 ∷ r) is.1 ∙ ap (λ (r : Row). rowid row ∷ column r 0 ∷ column r 1 ∷ Text level ∷ []) is.0 ∙ ap (λ v. v ∷ Text key.0 ∷ Int (pos key.1) ∷ Text level ∷ []) rowid_is
+
+readable_evidence : (db : Database) → HoldsEight db → (row : Row) → Has (db.trees (tree_of Evidence db.schema)) row → IsReadableEvidence (column row 0 ∷ column row 1 ∷ column row 2 ∷ column row 3 ∷ [])
+readable_evidence db there row has =
+    by_entry evidence_form (db.trees (tree_of Evidence db.schema)) (get there.contents.evidence) (shows_here db Evidence there) row has (IsReadableEvidence (column row 0 ∷ column row 1 ∷ column row 2 ∷ column row 3 ∷ []))
+    (λ key level rowid_is held is.
+    let can = there.readable.evidence key level held in
+    record { rowid = id_in (rowid row); subject = key.0; number = key.1; level = level; is = evidence_row row key level rowid_is is; utf8 = can.0; low = can.1; level_utf8 = can.2 })
+
+pub shows_evidence : ShowsTable HasEightTables HoldsEight evidence_form IsReadableEvidence evidence_sql (tree_of Evidence)
+shows_evidence = record { shown = (evidence_query no_schema).shown; names = (evidence_query no_schema).names; is = evidence_is; takes = evidence_takes; whole = λ row. refl; known = of_eight; readable = readable_evidence }
+
+-- ---- against
+
+abbrev pub against_shown : List Term
+against_shown = col 1 0 ∷ col 1 1 ∷ col 1 2 ∷ col 1 3 ∷ col 1 4 ∷ []
+
+abbrev pub against_names : List (List ℕ)
+against_names = codes "rowid" ∷ codes "subject" ∷ codes "version" ∷ codes "position" ∷ codes "id" ∷ []
+
+against_row : (row : Row) (key : PlaceKey) (id : ℕ) → rowid row ≡ Int (id_in (rowid row)) → IsEntry against_form row key id
+    → rowid row ∷ column row 1 ∷ column row 2 ∷ column row 3 ∷ column row 4 ∷ [] ≡ Int (id_in (rowid row)) ∷ Text key.0.0 ∷ Int (pos key.0.1) ∷ Int (pos key.1) ∷ Int (pos id) ∷ []
+against_row row key id rowid_is is =
+    ap (λ (r : Row). rowid row ∷ column row 1 ∷ column row 2 ∷ column row 3 ∷ r) is.1 ∙ ap (λ (r : Row). rowid row ∷ column r 0 ∷ column r 1 ∷ column r 2 ∷ Int (pos id) ∷ []) is.0
+    ∙ ap (λ v. v ∷ Text key.0.0 ∷ Int (pos key.0.1) ∷ Int (pos key.1) ∷ Int (pos id) ∷ []) rowid_is
+
+pub readable_against : (db : Database) → HoldsEight db → (row : Row) → Has (db.trees (tree_of Against db.schema)) row → IsReadableAgainst (column row 0 ∷ column row 1 ∷ column row 2 ∷ column row 3 ∷ column row 4 ∷ [])
+readable_against db there row has =
+    by_entry against_form (db.trees (tree_of Against db.schema)) (get there.contents.against) (shows_here db Against there) row has (IsReadableAgainst (column row 0 ∷ column row 1 ∷ column row 2 ∷ column row 3 ∷ column row 4 ∷ []))
+    (λ key id rowid_is held is.
+    let can = there.readable.against key id held in
+    record { rowid = id_in (rowid row); subject = key.0.0; number = key.0.1; position = key.1; id = id; is = against_row row key id rowid_is is; utf8 = can.0; low = can.1; low_position = can.2; low_id = can.3 })

@@ -15,8 +15,8 @@ use Rattle.sqlite.specs.State.{State, Shown}
 use Rattle.sqlite_rules.specs.Lists.{Has}
 use Rattle.sqlite_sql.specs.Ops.{binary, is_true, from_truth}
 use Rattle.sqlite_value.proofs.OrderLemmas.{value_cmp-Int}
-use Rattle.reg_tables.specs.declared.lines.TextLine.{TextLine}
-use Rattle.reg_tables.specs.Layout.{HasTablesFirst}
+use Rattle.reg_tables.specs.declared.text_lines.TextLine.{TextLine}
+use Rattle.reg_tables.specs.Layout.{HasFiveTables}
 use Rattle.reg_tables.specs.Reads.{HoldsReadable}
 use Rattle.reg_tables.specs.Contents.{text_form}
 use Rattle.reg_tables.specs.Listings.{parts_of, entry_parts, text_entry, ListsIds, ListsTextsBetween, is_between}
@@ -24,7 +24,7 @@ use Rattle.reg_tables.specs.Inside.ReadableRows.{IsReadableId, IsReadableText}
 use Rattle.reg_tables.specs.Inside.Statements.{plain_query}
 use Rattle.reg_tables.proofs.Queries.{passes, answer_has, answer_all, answer_passing}
 use Rattle.reg_tables.proofs.KeyedTables.{int_order, with_nothing, answered}
-use Rattle.reg_tables.proofs.Statements.{laid_out, all_ids, all_ids_is, by_range, texts_between, texts_between_is}
+use Rattle.reg_tables.proofs.Statements.{laid_out, all_ids, asks_all_ids, by_range, texts_between, asks_between}
 use Rattle.reg_tables.proofs.ReadableRows.{readable_text}
 use Rattle.reg_tables.proofs.TableLines.{all_if_each}
 
@@ -36,10 +36,10 @@ module _ (old new : State) (found : List Row) where
   -- ---- all ids
 
   module _ (h : Shown all_ids.sql [] old new found) where
-    ids_answer : HasTablesFirst old.now.schema → IsAnswer (plain_query 0 [] all_ids.shown) (overlay old.now.trees []) [] found
-    ids_answer laid = answered all_ids [] old new (all_ids_is old.now.schema laid) found h
+    ids_answer : HasFiveTables old.now.schema → IsAnswer (plain_query 0 [] all_ids.shown) (overlay old.now.trees []) [] found
+    ids_answer laid = answered all_ids [] old new (asks_all_ids.is old.now.schema laid) found h
 
-    pub lists_ids : (ids : List ℕ) → map (λ (row : Row). column row 0) found ≡ map (λ id. Int (pos id)) ids → HasTablesFirst old.now.schema → ListsIds old.now ids
+    pub lists_ids : (ids : List ℕ) → map (λ (row : Row). column row 0) found ≡ map (λ id. Int (pos id)) ids → HasFiveTables old.now.schema → ListsIds old.now ids
     lists_ids ids read laid =
         let show = λ (row : Row). eval_all all_ids.shown ([] ∷ row ∷ []) in
         let rows = old.now.trees 0 in
@@ -89,10 +89,10 @@ module _ (old new : State) (found : List Row) where
         by_value (Blob b) = both_tests (Blob b)
 
     module _ (h : Shown texts_between.sql range old new found) where
-      between_answer : HasTablesFirst old.now.schema → IsAnswer (plain_query 0 by_range texts_between.shown) (overlay old.now.trees []) range found
-      between_answer laid = answered texts_between range old new (texts_between_is old.now.schema laid) found h
+      between_answer : HasFiveTables old.now.schema → IsAnswer (plain_query 0 by_range texts_between.shown) (overlay old.now.trees []) range found
+      between_answer laid = answered texts_between range old new ((asks_between low high).is old.now.schema laid) found h
 
-      pub lists_between : (lines : List TextLine) → map (parts_of text_form) found ≡ map (λ line. entry_parts text_form (text_entry line)) lines → HasTablesFirst old.now.schema → ListsTextsBetween low high old.now lines
+      pub lists_between : (lines : List TextLine) → map (parts_of text_form) found ≡ map (λ line. entry_parts text_form (text_entry line)) lines → HasFiveTables old.now.schema → ListsTextsBetween low high old.now lines
       lists_between lines read laid =
           let show = λ (row : Row). eval_all texts_between.shown (range ∷ row ∷ []) in
           let rows = old.now.trees 0 in

@@ -1,5 +1,5 @@
 -- What the query of the ids of a version lists.
-use Rattle.std.proofs.Common.{◌≡◌, ◌&&◌, ℕ, ◌+◌, pos, List, [], ◌∷◌, map, filter, lit≤, codes, Bool, true, false, Some, refl, sym, ap, subst, ◌∙◌}
+use Rattle.std.proofs.Common.{◌≡◌, ◌&&◌, ℕ, pos, List, [], ◌∷◌, map, filter, lit≤, codes, Bool, true, false, Some, refl, sym, ap, subst, ◌∙◌}
 use Rattle.std.specs.Ordering.{is_eq}
 use Rattle.std.specs.List.Sorted.{IsPermutation}
 use Rattle.std.proofs.lemmas.List.Sorted.{IsPermutation-map}
@@ -14,43 +14,39 @@ use Rattle.sqlite.specs.State.{State, Shown}
 use Rattle.sqlite.specs.Listing.{understood}
 use Rattle.sqlite_tied.specs.Compute.{everything}
 use Rattle.sqlite_rules.specs.Lists.{Has}
-use Rattle.sqlite_schema.specs.declared.schema.Index.{Index}
+use Rattle.sqlite.specs.Schema.{Schema}
 use Rattle.sqlite_sql.specs.Ops.{binary, is_true, from_truth}
 use Rattle.sqlite_sql.specs.declared.ops.BinaryOp.TheVariants.{Compare}
 use Rattle.sqlite_sql.specs.declared.ops.CompareOp.TheVariants.{Eq}
-use Rattle.reg_tables.specs.Layout.{begins}
-use Rattle.reg_tables.specs.SecondLayout.{added, HasSecondTables, table_at}
-use Rattle.reg_tables.specs.Contents.{version_cmp, version_key_cells}
-use Rattle.reg_tables.specs.SecondContents.{against_form}
-use Rattle.reg_tables.specs.SecondListings.{against_entry, is_of, ListsAgainstOf}
-use Rattle.reg_tables.specs.Listings.{parts_of, entry_parts}
-use Rattle.reg_tables.specs.declared.second_lines.AgainstLine.{AgainstLine}
+use Rattle.reg_tables.specs.Layout.{HasEightTables}
+use Rattle.reg_tables.specs.Contents.{version_cmp, version_key_cells, against_form, Against}
+use Rattle.reg_tables.specs.Reads.{HoldsSome}
+use Rattle.reg_tables.specs.Listings.{against_entry, is_of, ListsAgainstOf, parts_of, entry_parts}
+use Rattle.reg_tables.specs.declared.evidence.AgainstLine.{AgainstLine}
 use Rattle.reg_tables.specs.Inside.ReadableRows.{IsReadableAgainst}
-use Rattle.reg_tables.specs.Inside.Statements.{by_version, all_rows, TableQuery, body_of, IsQuery, Takes}
-use Rattle.reg_tables.proofs.Faults.{sums_nothing}
+use Rattle.reg_tables.specs.Inside.Statements.{by_version, all_rows, TableQuery, IsQuery, Takes}
 use Rattle.reg_tables.proofs.KeyedTables.{by_version_test, with_nothing, answered}
 use Rattle.reg_tables.proofs.Queries.{passes, answer_has, answer_passing}
-use Rattle.reg_tables.proofs.SecondLines.{IsPlace, at_places, stands_at, AsksAdded, against_shown, against_names, readable_against}
-use Rattle.reg_tables.proofs.TableLines.{all_if_each}
+use Rattle.reg_tables.proofs.Faults.{Asks, asks}
+use Rattle.reg_tables.proofs.TableLines.{tree_of, of_eight, against_shown, against_names, readable_against, ReadsBy, all_if_each}
+use Rattle.reg_tables.proofs.Tables.{at_both}
 
 abbrev pub ids_sql : List ℕ
 ids_sql = codes "SELECT rowid, subject, version, position, id FROM against WHERE subject = ?1 AND version = ?2"
 
-abbrev ids_query : ℕ → TableQuery
-ids_query first = record { sql = ids_sql; tree = first + 4; tests = by_version; shown = against_shown; names = against_names; order = []; limit = all_rows }
+abbrev ids_query : Schema → TableQuery
+ids_query schema = record { sql = ids_sql; tree = tree_of Against schema; tests = by_version; shown = against_shown; names = against_names; order = []; limit = all_rows }
 
 abbrev pub of_version : List ℕ × ℕ → Row
 of_version version = Text version.0 ∷ Int (pos version.1) ∷ []
 
-ids_is : (first : ℕ) → IsPlace first → (indexes : List Index) → IsQuery (ids_query first) (begins (added first) indexes)
+ids_is : (schema : Schema) → HasEightTables schema → IsQuery (ids_query schema) schema
 unfolding understood everything
-ids_is = at_places (λ n. (indexes : List Index) → IsQuery (ids_query n) (begins (added n) indexes)) (λ indexes. record { command = record { is = refl; plain = (refl, refl) }; unlisted = refl })
-    (λ indexes. record { command = record { is = refl; plain = (refl, refl) }; unlisted = refl })
+ids_is = at_both (λ s. IsQuery (ids_query s) s) (λ indexes. record { command = record { is = refl; plain = (refl, refl) }; unlisted = refl }) (λ indexes. record { command = record { is = refl; plain = (refl, refl) }; unlisted = refl })
 
-ids_takes : (version : List ℕ × ℕ) → (first : ℕ) → IsPlace first → (indexes : List Index) → Takes (ids_query first) (of_version version) (begins (added first) indexes)
+ids_takes : (version : List ℕ × ℕ) → (schema : Schema) → HasEightTables schema → Takes (ids_query schema) (of_version version) schema
 unfolding understood everything
-ids_takes version = at_places (λ n. (indexes : List Index) → Takes (ids_query n) (of_version version) (begins (added n) indexes)) (λ indexes. record { whole = (lit≤ tt, refl); typed = refl })
-    (λ indexes. record { whole = (lit≤ tt, refl); typed = refl })
+ids_takes version = at_both (λ s. Takes (ids_query s) (of_version version) s) (λ indexes. record { whole = (lit≤ tt, refl); typed = refl }) (λ indexes. record { whole = (lit≤ tt, refl); typed = refl })
 
 -- ---- a row passes by its subject and its number, whatever they are
 
@@ -87,35 +83,29 @@ module _ (version : List ℕ × ℕ) where
   pub is_of_told : (row : Row) (other : List ℕ × ℕ) → column row 1 ∷ column row 2 ∷ [] ≡ version_key_cells other → is_of version row ≡ is_eq (version_cmp other version)
   is_of_told row other is = sym (by_columns row) ∙ by_version_test row version other is
 
-  pub asks_ids : AsksAdded ids_sql (of_version version) IsReadableAgainst
-  asks_ids = record {
-    names = against_names;
-    body = λ first. body_of (ids_query first);
-    never = λ first. sums_nothing (ids_query first);
-    is = ids_is;
-    takes = ids_takes version;
-    readable = λ first place indexes old new same there found h.
-        (let it = subst (IsQuery (ids_query first)) (sym same) (ids_is first place indexes) in
-        all_if_each IsReadableAgainst found (λ x has.
-        let r = answer_has by_version (of_version version) (first + 4) against_shown (overlay old.now.trees []) found (answered (ids_query first) (of_version version) old new it found h) x has in
-        subst IsReadableAgainst (sym r.3) (readable_against first indexes old.now there r.0 (subst (λ l. Has l r.0) (with_nothing old.now.trees (first + 4)) r.1))));
-  }
+  pub asks_ids : (schema : Schema) → HasEightTables schema → Asks ids_sql (of_version version) schema
+  asks_ids schema known = asks (ids_query schema) (of_version version) schema (ids_is schema known) (ids_takes version schema known)
+
+  pub reads_ids : (old new : State) → HoldsSome HasEightTables old.now → ReadsBy ids_sql (of_version version) IsReadableAgainst old new
+  reads_ids old new there =
+      let known = of_eight old.now there in
+      let tree = tree_of Against old.now.schema in (
+        asks_ids old.now.schema known,
+        λ found h. all_if_each IsReadableAgainst found (λ x has.
+            let r = answer_has by_version (of_version version) tree against_shown (overlay old.now.trees []) found (answered (ids_query old.now.schema) (of_version version) old new (ids_is old.now.schema known) found h) x has in
+            subst IsReadableAgainst (sym r.3) (readable_against old.now there r.0 (subst (λ l. Has l r.0) (with_nothing old.now.trees tree) r.1))),
+      )
 
   pub lists_ids : (old new : State) (lines : List AgainstLine) (found : List Row) → Shown ids_sql (of_version version) old new found → map (parts_of against_form) found ≡ map (λ line. entry_parts against_form (against_entry line)) lines
-      → HasSecondTables old.now.schema → ListsAgainstOf version old.now lines
+      → HasEightTables old.now.schema → ListsAgainstOf version old.now lines
   lists_ids old new lines found h read known =
-      let here = stands_at old.now.schema known in
-      let tree = here.first + 4 in
+      let tree = tree_of Against old.now.schema in
       let params = of_version version in
-      let it = subst (IsQuery (ids_query here.first)) (sym here.is) (ids_is here.first here.place here.indexes) in
       let show = λ (row : Row). eval_all against_shown (params ∷ row ∷ []) in
       let parts = parts_of against_form in
       let rows = old.now.trees tree in
       let some : IsPermutation (map show (filter (passes by_version params) rows)) found =
-      subst (λ l. IsPermutation (map show (filter (passes by_version params) l)) found) (with_nothing old.now.trees tree) (answer_passing by_version params tree against_shown (overlay old.now.trees []) found (answered (ids_query here.first) params old new it found h)) in
+      subst (λ l. IsPermutation (map show (filter (passes by_version params) l)) found) (with_nothing old.now.trees tree) (answer_passing by_version params tree against_shown (overlay old.now.trees []) found (answered (ids_query old.now.schema) params old new (ids_is old.now.schema known) found h)) in
       let its : IsPermutation (map show (filter (is_of version) rows)) found = subst (λ (p : Row → Bool). IsPermutation (map show (filter p rows)) found) (λ i row. by_columns row i) some in
-      let listed : IsPermutation (map parts (filter (is_of version) rows)) (map (entry_parts against_form) (map against_entry lines)) =
       subst (IsPermutation (map parts (filter (is_of version) rows))) (read ∙ sym (map-map (entry_parts against_form) against_entry lines))
-      (subst (λ l. IsPermutation l (map parts found)) (map-map parts show (filter (is_of version) rows)) (IsPermutation-map parts (map show (filter (is_of version) rows)) found its)) in
-      let place : tree ≡ (table_at old.now.schema 7).tree = ap (λ s. (table_at s 7).tree) (sym here.is) in
-      subst (λ t. IsPermutation (map parts (filter (is_of version) (old.now.trees t))) (map (entry_parts against_form) (map against_entry lines))) place listed
+      (subst (λ l. IsPermutation l (map parts found)) (map-map parts show (filter (is_of version) rows)) (IsPermutation-map parts (map show (filter (is_of version) rows)) found its))

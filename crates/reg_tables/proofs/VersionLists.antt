@@ -15,7 +15,7 @@ use Rattle.sqlite_rules.proofs.ListLemmas.{has_filtered, has_kept}
 use Rattle.sqlite_trees.proofs.ListLemmas.{ascending-filter, ascending_weaker}
 use Rattle.sqlite_value.specs.declared.keys.Key.{Key}
 use Rattle.sqlite_value.proofs.OrderLemmas.{value_cmp-Int, value_cmp-Text}
-use Rattle.reg_tables.specs.Layout.{HasTablesFirst}
+use Rattle.reg_tables.specs.Layout.{HasFiveTables}
 use Rattle.reg_tables.specs.TableMaps.{IsEntry, ShowsMap}
 use Rattle.reg_tables.specs.Contents.{version_cmp, VersionRow, version_cells, version_key_cells, version_form, text_cmp, Contents, AreReadable, HoldsIn}
 use Rattle.reg_tables.specs.Entries.{NumberedVersion, numbered, numbered_cells, subject_versions, IsReadableNumbered}
@@ -24,10 +24,11 @@ use Rattle.reg_tables.specs.Inside.Statements.{all_rows, ordered_query, TableQue
 use Rattle.reg_tables.proofs.KeyedTables.{int_order, text_order, version_order, by_key_test, with_nothing, answered}
 use Rattle.reg_tables.proofs.ListMembers.{has_mapped}
 use Rattle.reg_tables.proofs.MapLemmas.{same_key, tied_key}
-use Rattle.reg_tables.proofs.Opening.{distinct_version_rows}
+use Rattle.reg_tables.proofs.Keys.{distinct_version_rows}
 use Rattle.reg_tables.proofs.OrderedQueries.{entries_rise, entry_got, got_entry, in_order_as}
 use Rattle.reg_tables.proofs.Queries.{passes}
-use Rattle.reg_tables.proofs.Statements.{in_order, laid_out, find_versions, find_versions_is}
+use Rattle.reg_tables.proofs.Tables.{five}
+use Rattle.reg_tables.proofs.Statements.{in_order, laid_out, find_versions, asks_versions}
 use Rattle.reg_tables.proofs.TableLines.{all_if_each}
 use Rattle.std.proofs.lemmas.Bool.{cases_Bool, both_ways, false_from_ne_true}
 use Rattle.std.proofs.lemmas.Slice.Eq.{bytes_eq-Decides}
@@ -115,13 +116,13 @@ entry_shown row e is =
 pub readable_entry : (e : Entry) → IsUtf8 e.0.0 × (e.0.1 < 2 ^ 32) × (e.1.id < 2 ^ 32) → IsReadableNumbered (entry_cells e)
 readable_entry e can = record { number = e.0.1; version = e.1; is = refl; low = can.1; low_id = can.2 }
 
-module _ (old new : State) (schema : Schema) (contents : Contents) (h : HoldsIn schema old.now contents) (first : HasTablesFirst schema) (subject : List ℕ) (found : List Row) (shown : Shown find_versions.sql (Text subject ∷ []) old new found) where
+module _ (old new : State) (schema : Schema) (contents : Contents) (h : HoldsIn schema old.now contents) (first : HasFiveTables schema) (subject : List ℕ) (found : List Row) (shown : Shown find_versions.sql (Text subject ∷ []) old new found) where
   its : IsQuery find_versions old.now.schema
-  its = find_versions_is old.now.schema (laid_out h first)
+  its = (asks_versions subject).is old.now.schema (laid_out h first)
 
   pub finds_versions : found ≡ map numbered_cells (subject_versions subject contents)
   finds_versions =
-      lists_versions find_versions refl (Text subject ∷ []) old new its found shown contents h.versions (λ e. bytes_eq e.0.0 subject) (by_subject subject) entry_cells entry_shown
+      lists_versions find_versions refl (Text subject ∷ []) old new its found shown contents (five h first).versions (λ e. bytes_eq e.0.0 subject) (by_subject subject) entry_cells entry_shown
       ∙ sym (map-map numbered_cells (λ (e : Entry). (e.0.1, e.1)) (filter (λ (e : Entry). bytes_eq e.0.0 subject) (entries contents.versions)))
 
   pub numbered_lines : (lines : List SubjectVersion) → map (λ (row : Row). column row 0 ∷ column row 1 ∷ column row 2 ∷ []) found ≡ map (λ (line : SubjectVersion). numbered_cells (numbered line)) lines → map numbered lines ≡ subject_versions subject contents
@@ -130,4 +131,4 @@ module _ (old new : State) (schema : Schema) (contents : Contents) (h : HoldsIn 
       ∙ map-map (λ (row : Row). column row 0 ∷ column row 1 ∷ column row 2 ∷ []) numbered_cells (subject_versions subject contents))
 
   pub readable_numbered : AreReadable contents → All IsReadableNumbered found
-  readable_numbered = readable_versions find_versions refl (Text subject ∷ []) old new its found shown contents h.versions (λ e. bytes_eq e.0.0 subject) (by_subject subject) entry_cells entry_shown IsReadableNumbered readable_entry
+  readable_numbered = readable_versions find_versions refl (Text subject ∷ []) old new its found shown contents (five h first).versions (λ e. bytes_eq e.0.0 subject) (by_subject subject) entry_cells entry_shown IsReadableNumbered readable_entry

@@ -1,8 +1,9 @@
 -- What the statements make of the contents.
-use Rattle.std.specs.Prelude.{ℕ, true, List, option_map, unwrap_or, codes}
+use Rattle.std.specs.Prelude.{ℕ, true, not, List, option_map, unwrap_or, codes}
 use Rattle.std.specs.declared.cmp.Ordering.{Ordering}
-use Rattle.std.specs.FinMap.{FinMap, get, insert, remove, empty}
-use Rattle.reg_tables.specs.Contents.{TextMap, VersionRow, KeptRow, Contents}
+use Rattle.std.specs.Ordering.{is_eq}
+use Rattle.std.specs.FinMap.{FinMap, get, insert, remove, retain_keys, empty}
+use Rattle.reg_tables.specs.Contents.{version_cmp, PlaceKey, place_cmp, TextMap, VersionRow, KeptRow, Contents}
 
 abbrev pub with_meta : List ℕ → List ℕ → Contents → Contents
 with_meta name value contents = record contents { meta = insert contents.meta name value }
@@ -17,8 +18,8 @@ abbrev pub with_global_mode : List ℕ → Contents → Contents
 with_global_mode mode = with_meta (codes "mode") mode
 
 -- layout 2 by its number; a registry of layout 1 is READWRITE
-abbrev pub numbered_second : Contents → Contents
-numbered_second contents = with_global_mode (codes "READWRITE") (with_meta (codes "layout") (codes "2") contents)
+abbrev pub numbered_layout_two : Contents → Contents
+numbered_layout_two contents = with_global_mode (codes "READWRITE") (with_meta (codes "layout") (codes "2") contents)
 
 abbrev pub with_level : List ℕ → List ℕ → Contents → Contents
 with_level subject level contents = record contents { levels = insert contents.levels subject level }
@@ -35,8 +36,29 @@ with_text id text contents = record contents { texts = insert contents.texts id 
 abbrev pub with_version : List ℕ × ℕ → VersionRow → Contents → Contents
 with_version key version contents = record contents { versions = insert contents.versions key version }
 
+-- no place of the version
+abbrev pub without_places : FinMap place_cmp ℕ → List ℕ × ℕ → FinMap place_cmp ℕ
+without_places places key = retain_keys places (λ place. not (is_eq (version_cmp place.0 key)))
+
+-- the version goes, and its evidence with it
 abbrev pub without_version : List ℕ × ℕ → Contents → Contents
-without_version key contents = record contents { versions = remove contents.versions key }
+without_version key contents = record contents {
+  versions = remove contents.versions key;
+  evidence = remove contents.evidence key;
+  against = without_places contents.against key;
+}
+
+abbrev pub with_evidence : List ℕ × ℕ → List ℕ → Contents → Contents
+with_evidence key level contents = record contents { evidence = insert contents.evidence key level }
+
+abbrev pub with_against : PlaceKey → ℕ → Contents → Contents
+with_against key id contents = record contents { against = insert contents.against key id }
+
+abbrev pub with_mode : List ℕ → List ℕ → Contents → Contents
+with_mode subject mode contents = record contents { modes = insert contents.modes subject mode }
+
+abbrev pub without_mode : List ℕ → Contents → Contents
+without_mode subject contents = record contents { modes = remove contents.modes subject }
 
 -- the map with another value in place of the key's, if it has one
 abbrev pub altered : {K V : Type 0} {R : K → K → Ordering} → FinMap R V → K → (V → V) → FinMap R V
@@ -53,7 +75,7 @@ with_deleted key contents = record contents { versions = altered contents.versio
 -- ---- a new registry
 
 abbrev pub no_contents : Contents
-no_contents = record { texts = empty; versions = empty; levels = empty; kept = empty; meta = empty }
+no_contents = record { texts = empty; versions = empty; levels = empty; kept = empty; meta = empty; modes = empty; evidence = empty; against = empty }
 
 -- the format and the layout's number
 abbrev pub numbered_meta : List ℕ → TextMap (List ℕ)
@@ -74,5 +96,9 @@ numbered_contents number = record no_contents { meta = numbered_meta number }
 abbrev pub contents_as : List ℕ → Contents
 contents_as number = record no_contents { meta = meta_as number (codes "BACKWARD") }
 
-abbrev pub new_contents : Contents
-new_contents = contents_as (codes "1")
+abbrev pub new_contents_one : Contents
+new_contents_one = contents_as (codes "1")
+
+-- a new registry in layout 2: its level is BACKWARD, and its mode READWRITE
+abbrev pub new_contents_two : Contents
+new_contents_two = with_global_mode (codes "READWRITE") (contents_as (codes "2"))

@@ -1,15 +1,17 @@
 -- What the tables hold, as finite maps. Texts are lists of bytes.
-use Rattle.std.specs.Prelude.{◌≡◌, ℕ, ◌<◌, ◌^◌, pos, Bool, if◌then◌else◌, List, [], ◌∷◌, Some, IsUtf8}
+use Rattle.std.specs.Prelude.{◌≡◌, ℕ, ◌<◌, ◌^◌, pos, Bool, if◌then◌else◌, List, [], ◌∷◌, Option, None, Some, slice_get, IsUtf8}
 use Rattle.std.specs.declared.cmp.Ordering.{Ordering}
 use Rattle.std.specs.Ordering.{nat_cmp, on, then_cmp}
 use Rattle.std.specs.Cmp.Lexicographic.{slice_cmp}
-use Rattle.std.specs.FinMap.{FinMap, get}
+use Rattle.std.specs.FinMap.{FinMap, get, empty}
 use Rattle.sqlite.specs.declared.types.Value.{Value}
 use Rattle.sqlite.specs.declared.types.Value.TheVariants.{Null, Int, Text}
 use Rattle.sqlite.specs.Order.{Row, column}
+use Rattle.sqlite.specs.Table.{Table}
 use Rattle.sqlite.specs.Schema.{Schema}
+use Rattle.sqlite.specs.Tree.{Trees}
 use Rattle.sqlite.specs.Effect.{Database, IsDatabase}
-use Rattle.reg_tables.specs.Layout.{layout, texts, versions, levels, kept, meta}
+use Rattle.reg_tables.specs.Layout.{layout_one, table_at, HasFiveTables, HasEightTables}
 use Rattle.reg_tables.specs.TableMaps.{Form, ShowsMap}
 
 abbrev pub text_cmp : List ℕ → List ℕ → Ordering
@@ -18,6 +20,13 @@ text_cmp = slice_cmp nat_cmp
 -- a version is known by its subject and its number
 abbrev pub version_cmp : List ℕ × ℕ → List ℕ × ℕ → Ordering
 version_cmp = then_cmp (on (λ (key : List ℕ × ℕ). key.0) text_cmp) (on (λ (key : List ℕ × ℕ). key.1) nat_cmp)
+
+-- a place among the ids that a version was tested against
+abbrev pub PlaceKey : Type 0
+PlaceKey = (List ℕ × ℕ) × ℕ
+
+abbrev pub place_cmp : PlaceKey → PlaceKey → Ordering
+place_cmp = then_cmp (on (λ (key : PlaceKey). key.0) version_cmp) (on (λ (key : PlaceKey). key.1) nat_cmp)
 
 abbrev pub TextMap : Type 0 → Type 0
 TextMap V = FinMap text_cmp V
@@ -42,6 +51,12 @@ pub record Contents : Type 0 where
   -- what is kept under each retry key
   pub kept : TextMap KeptRow
   pub meta : TextMap (List ℕ)
+  -- the own mode of each subject that has one
+  pub modes : TextMap (List ℕ)
+  -- the level of each version that has evidence
+  pub evidence : FinMap version_cmp (List ℕ)
+  -- the ids that a version was tested against, by position
+  pub against : FinMap place_cmp ℕ
 
 -- ---- the rows
 
@@ -63,6 +78,9 @@ version_cells version = Int (pos version.id) ∷ flag_cell version.deleted ∷ [
 abbrev pub kept_cells : KeptRow → Row
 kept_cells reply = Text reply.command ∷ Int (pos reply.status) ∷ Text reply.body ∷ []
 
+abbrev pub place_cells : PlaceKey → Row
+place_cells key = Text key.0.0 ∷ Int (pos key.0.1) ∷ Int (pos key.1) ∷ []
+
 -- a row of `texts` after its rowid, which stands for the id
 abbrev pub text_row_cells : List ℕ → Row
 text_row_cells text = Null ∷ text_cells text
@@ -83,29 +101,144 @@ version_form = record {
 abbrev pub keyed_by_text : {V : Type 0} → (Row → Row) → (V → Row) → Form (List ℕ) V
 keyed_by_text value_of value_cells = record { key_of = λ row. column row 1 ∷ []; value_of = value_of; key_cells = text_cells; value_cells = value_cells }
 
--- that of `levels` and `meta`
+-- that of `levels`, `meta` and `modes`
 abbrev pub pair_form : Form (List ℕ) (List ℕ)
 pair_form = keyed_by_text (λ row. column row 2 ∷ []) text_cells
 
 abbrev pub kept_form : Form (List ℕ) KeptRow
 kept_form = keyed_by_text (λ row. column row 2 ∷ column row 3 ∷ column row 4 ∷ []) kept_cells
 
--- ---- the tables
+abbrev pub evidence_form : Form (List ℕ × ℕ) (List ℕ)
+evidence_form = record {
+  key_of = λ row. column row 1 ∷ column row 2 ∷ [];
+  value_of = λ row. column row 3 ∷ [];
+  key_cells = version_key_cells;
+  value_cells = text_cells;
+}
 
--- the database has this schema, and its five tables hold the contents
+abbrev pub against_form : Form PlaceKey ℕ
+against_form = record {
+  key_of = λ row. column row 1 ∷ column row 2 ∷ column row 3 ∷ [];
+  value_of = λ row. column row 4 ∷ [];
+  key_cells = place_cells;
+  value_cells = number_cells;
+}
+
+-- ---- the tables, by name
+
+pub data TableName : Type 0 where
+  Texts Versions Levels Kept Meta Modes Evidence Against : TableName
+
+-- its place among the tables of a schema
+abbrev pub place_of : TableName → ℕ
+place_of Texts = 0
+place_of Versions = 1
+place_of Levels = 2
+place_of Kept = 3
+place_of Meta = 4
+place_of Modes = 5
+place_of Evidence = 6
+place_of Against = 7
+
+abbrev pub table_in : Schema → TableName → Table
+table_in schema name = table_at schema (place_of name)
+
+-- a database with this schema has the table, after those that are declared before it
+abbrev pub HasTable : TableName → Schema → Type 0
+HasTable Texts = HasFiveTables
+HasTable Versions = HasFiveTables
+HasTable Levels = HasFiveTables
+HasTable Kept = HasFiveTables
+HasTable Meta = HasFiveTables
+HasTable Modes = HasEightTables
+HasTable Evidence = HasEightTables
+HasTable Against = HasEightTables
+
+abbrev pub KeyOf : TableName → Type 0
+KeyOf Texts = ℕ
+KeyOf Versions = List ℕ × ℕ
+KeyOf Levels = List ℕ
+KeyOf Kept = List ℕ
+KeyOf Meta = List ℕ
+KeyOf Modes = List ℕ
+KeyOf Evidence = List ℕ × ℕ
+KeyOf Against = PlaceKey
+
+abbrev pub ValueOf : TableName → Type 0
+ValueOf Texts = List ℕ
+ValueOf Versions = VersionRow
+ValueOf Levels = List ℕ
+ValueOf Kept = KeptRow
+ValueOf Meta = List ℕ
+ValueOf Modes = List ℕ
+ValueOf Evidence = List ℕ
+ValueOf Against = ℕ
+
+abbrev pub cmp_of : (name : TableName) → KeyOf name → KeyOf name → Ordering
+cmp_of Texts = nat_cmp
+cmp_of Versions = version_cmp
+cmp_of Levels = text_cmp
+cmp_of Kept = text_cmp
+cmp_of Meta = text_cmp
+cmp_of Modes = text_cmp
+cmp_of Evidence = version_cmp
+cmp_of Against = place_cmp
+
+abbrev pub form_of : (name : TableName) → Form (KeyOf name) (ValueOf name)
+form_of Texts = text_form
+form_of Versions = version_form
+form_of Levels = pair_form
+form_of Kept = kept_form
+form_of Meta = pair_form
+form_of Modes = pair_form
+form_of Evidence = evidence_form
+form_of Against = against_form
+
+abbrev pub MapOf : TableName → Type 0
+MapOf name = FinMap (cmp_of name) (ValueOf name)
+
+abbrev pub map_of : (name : TableName) → Contents → MapOf name
+map_of Texts contents = contents.texts
+map_of Versions contents = contents.versions
+map_of Levels contents = contents.levels
+map_of Kept contents = contents.kept
+map_of Meta contents = contents.meta
+map_of Modes contents = contents.modes
+map_of Evidence contents = contents.evidence
+map_of Against contents = contents.against
+
+-- the contents with another map in the table's place
+abbrev pub with_map : (name : TableName) → MapOf name → Contents → Contents
+with_map Texts map contents = record contents { texts = map }
+with_map Versions map contents = record contents { versions = map }
+with_map Levels map contents = record contents { levels = map }
+with_map Kept map contents = record contents { kept = map }
+with_map Meta map contents = record contents { meta = map }
+with_map Modes map contents = record contents { modes = map }
+with_map Evidence map contents = record contents { evidence = map }
+with_map Against map contents = record contents { against = map }
+
+-- ---- what they hold
+
+-- the table shows the map; where there is no table, the map is empty
+abbrev pub ShowsIn : {K V : Type 0} {R : K → K → Ordering} → Form K V → Trees → Option Table → FinMap R V → Type 0
+ShowsIn form trees (Some table) map = ShowsMap form (trees table.tree) (get map)
+ShowsIn form trees None map = map ≡ empty
+
+-- each table of the schema shows its map; those that layout 1 lacks have none
+abbrev pub ShowsAll : Schema → Trees → Contents → Type 0
+ShowsAll schema trees contents = (name : TableName) → ShowsIn (form_of name) trees (slice_get schema.tables (place_of name)) (map_of name contents)
+
+-- the database has this schema, and its tables hold the contents
 pub record HoldsIn (schema : Schema) (db : Database) (contents : Contents) : Type 0 where
   pub declared : db.schema ≡ schema
   -- the database lists its schema, which an open of it finds, and obeys it
   pub sound : IsDatabase db
-  pub texts : ShowsMap text_form (db.trees texts.tree) (get contents.texts)
-  pub versions : ShowsMap version_form (db.trees versions.tree) (get contents.versions)
-  pub levels : ShowsMap pair_form (db.trees levels.tree) (get contents.levels)
-  pub kept : ShowsMap kept_form (db.trees kept.tree) (get contents.kept)
-  pub meta : ShowsMap pair_form (db.trees meta.tree) (get contents.meta)
+  pub shows : ShowsAll schema db.trees contents
 
 -- the database has the five tables and the index as layout 1 declares them, and these hold the contents
 abbrev pub Holds : Database → Contents → Type 0
-Holds = HoldsIn layout
+Holds = HoldsIn layout_one
 
 -- texts are UTF-8, and the status is below 2^32
 pub record IsReadableReply (reply : KeptRow) : Type 0 where
@@ -120,3 +253,6 @@ pub record AreReadable (contents : Contents) : Type 0 where
   pub levels : (subject level : List ℕ) → get contents.levels subject ≡ Some level → IsUtf8 subject × IsUtf8 level
   pub kept : (key : List ℕ) (reply : KeptRow) → get contents.kept key ≡ Some reply → IsUtf8 key × IsReadableReply reply
   pub meta : (name value : List ℕ) → get contents.meta name ≡ Some value → IsUtf8 name × IsUtf8 value
+  pub modes : (subject mode : List ℕ) → get contents.modes subject ≡ Some mode → IsUtf8 subject × IsUtf8 mode
+  pub evidence : (key : List ℕ × ℕ) (level : List ℕ) → get contents.evidence key ≡ Some level → IsUtf8 key.0 × (key.1 < 2 ^ 32) × IsUtf8 level
+  pub against : (key : PlaceKey) (id : ℕ) → get contents.against key ≡ Some id → IsUtf8 key.0.0 × (key.0.1 < 2 ^ 32) × (key.1 < 2 ^ 32) × (id < 2 ^ 32)

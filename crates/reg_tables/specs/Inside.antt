@@ -1,10 +1,8 @@
 pub mod ReadableRows
 pub mod AllLines
-pub mod AllSecondLines
 pub mod Forms
 pub mod Checks
 pub mod Keyed
 pub mod Statements
 pub mod FailedLists
 pub mod KeyedLaws
-pub mod SecondKeyed

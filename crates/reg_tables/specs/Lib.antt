@@ -10,10 +10,6 @@ pub mod Listings
 pub mod Frames
 pub mod Lookups
 pub mod Rooms
-pub mod SecondLayout
-pub mod SecondContents
 pub mod Writing
-pub mod SecondListings
-pub mod SecondLookups
 pub mod Selects
 pub mod Inside

@@ -1,21 +1,24 @@
 -- When a list has each row of a table once, in any order.
-use Rattle.std.specs.Prelude.{ℕ, ℤ, pos, Bool, not, ◌&&◌, List, map, filter, string_bytes, IsPermutation}
+use Rattle.std.specs.Prelude.{◌≡◌, ℕ, ℤ, pos, min, Bool, not, ◌&&◌, List, map, filter, length, string_bytes, IsPermutation}
 use Rattle.std.specs.declared.cmp.Ordering.{Ordering}
-use Rattle.std.specs.Ordering.{is_lt, is_gt, int_cmp, eq_by_cmp}
+use Rattle.std.specs.Ordering.{is_eq, is_lt, is_gt, int_cmp, eq_by_cmp}
 use Rattle.std.specs.List.{IsDistinct}
 use Rattle.sqlite.specs.declared.types.Value.{Value}
-use Rattle.sqlite.specs.declared.types.Value.TheVariants.{Int}
-use Rattle.sqlite.specs.Order.{Row, value_cmp}
+use Rattle.sqlite.specs.declared.types.Value.TheVariants.{Int, Text}
+use Rattle.sqlite.specs.Order.{Row, column, value_cmp}
 use Rattle.sqlite.specs.Tree.{rowid}
 use Rattle.sqlite.specs.Effect.{Database}
-use Rattle.reg_tables.specs.declared.lines.TextLine.{TextLine}
-use Rattle.reg_tables.specs.declared.lines.VersionLine.{VersionLine}
-use Rattle.reg_tables.specs.declared.lines.LevelLine.{LevelLine}
-use Rattle.reg_tables.specs.declared.lines.KeptLine.{KeptLine}
-use Rattle.reg_tables.specs.declared.lines.MetaLine.{MetaLine}
-use Rattle.reg_tables.specs.Layout.{texts, versions, levels, kept, meta}
+use Rattle.reg_tables.specs.declared.text_lines.TextLine.{TextLine}
+use Rattle.reg_tables.specs.declared.versions.VersionLine.{VersionLine}
+use Rattle.reg_tables.specs.declared.levels.LevelLine.{LevelLine}
+use Rattle.reg_tables.specs.declared.kept.KeptLine.{KeptLine}
+use Rattle.reg_tables.specs.declared.meta.MetaLine.{MetaLine}
+use Rattle.reg_tables.specs.declared.modes.ModeLine.{ModeLine}
+use Rattle.reg_tables.specs.declared.evidence.EvidenceLine.{EvidenceLine}
+use Rattle.reg_tables.specs.declared.evidence.AgainstLine.{AgainstLine}
+use Rattle.reg_tables.specs.Layout.{texts, versions, levels, kept, meta, table_at}
 use Rattle.reg_tables.specs.TableMaps.{Form}
-use Rattle.reg_tables.specs.Contents.{VersionRow, KeptRow, text_form, version_form, pair_form, kept_form}
+use Rattle.reg_tables.specs.Contents.{PlaceKey, VersionRow, KeptRow, text_form, version_form, pair_form, kept_form, evidence_form, against_form}
 use Rattle.reg_tables.specs.KeptRows.{kept_row}
 
 -- a rowid, and the columns of a key and of a value
@@ -40,7 +43,7 @@ pub record HasNoTwins {K V : Type 0} (R : K → K → Ordering) (entries : List 
 abbrev pub without_rowid : {K V : Type 0} → ℤ × K × V → K × V
 without_rowid entry = (entry.1, entry.2)
 
--- ---- the lines of the five tables
+-- ---- the lines of the tables
 
 abbrev pub text_entry : TextLine → ℤ × ℕ × List ℕ
 text_entry line = (pos line.id, line.id, string_bytes line.text)
@@ -72,6 +75,24 @@ ListsKept db lines = Lists kept_form (db.trees kept.tree) (map kept_entry lines)
 abbrev pub ListsMeta : Database → List MetaLine → Type 0
 ListsMeta db lines = Lists pair_form (db.trees meta.tree) (map meta_entry lines)
 
+abbrev pub mode_entry : ModeLine → ℤ × List ℕ × List ℕ
+mode_entry line = (line.rowid, string_bytes line.subject, string_bytes line.mode)
+
+abbrev pub ListsModes : Database → List ModeLine → Type 0
+ListsModes db lines = Lists pair_form (db.trees (table_at db.schema 5).tree) (map mode_entry lines)
+
+abbrev pub evidence_entry : EvidenceLine → ℤ × (List ℕ × ℕ) × List ℕ
+evidence_entry line = (line.rowid, (string_bytes line.subject, line.version), string_bytes line.level)
+
+abbrev pub against_entry : AgainstLine → ℤ × PlaceKey × ℕ
+against_entry line = (line.rowid, ((string_bytes line.subject, line.version), line.position), line.id)
+
+abbrev pub ListsEvidence : Database → List EvidenceLine → Type 0
+ListsEvidence db lines = Lists evidence_form (db.trees (table_at db.schema 6).tree) (map evidence_entry lines)
+
+abbrev pub ListsAgainst : Database → List AgainstLine → Type 0
+ListsAgainst db lines = Lists against_form (db.trees (table_at db.schema 7).tree) (map against_entry lines)
+
 -- ---- parts of `texts`
 
 -- the ids of all rows, which are their rowids
@@ -85,3 +106,24 @@ is_between low high row = not (is_lt (value_cmp (rowid row) (Int (pos low)))) &&
 -- the rows whose ids lie between two, both counted
 abbrev pub ListsTextsBetween : ℕ → ℕ → Database → List TextLine → Type 0
 ListsTextsBetween low high db lines = Lists text_form (filter (is_between low high) (db.trees texts.tree)) (map text_entry lines)
+
+-- ---- parts of `against`
+
+abbrev pub against_rows : Database → List Row
+against_rows db = db.trees (table_at db.schema 7).tree
+
+-- the row has this subject and this number
+abbrev pub is_of : List ℕ × ℕ → Row → Bool
+is_of version row = is_eq (value_cmp (column row 1) (Text version.0)) && is_eq (value_cmp (column row 2) (Int (pos version.1)))
+
+-- the rows of a version
+abbrev pub ListsAgainstOf : List ℕ × ℕ → Database → List AgainstLine → Type 0
+ListsAgainstOf version db lines = Lists against_form (filter (is_of version) (against_rows db)) (map against_entry lines)
+
+-- SQLite, Datatypes: the greatest integer
+abbrev pub greatest_integer : ℕ
+greatest_integer = 9223372036854775807
+
+-- SQLite, count(*): as many rows as there are, or the greatest integer where there are more
+abbrev pub HasAgainstRows : Database → ℕ → Type 0
+HasAgainstRows db count = count ≡ min (length (against_rows db)) greatest_integer

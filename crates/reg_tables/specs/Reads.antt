@@ -4,9 +4,9 @@ use Rattle.std.specs.FinMap.{get}
 use Rattle.sqlite.specs.State.{State, KeepsCommit}
 use Rattle.sqlite.specs.Schema.{Schema}
 use Rattle.sqlite.specs.Effect.{Database}
-use Rattle.reg_tables.specs.Layout.{HasTablesFirst, meta}
+use Rattle.reg_tables.specs.Layout.{HasFiveTables, HasEightTables, meta}
 use Rattle.reg_tables.specs.TableMaps.{ShowsMap}
-use Rattle.reg_tables.specs.Contents.{TextMap, pair_form, AreReadable, HoldsIn}
+use Rattle.reg_tables.specs.Contents.{TextMap, pair_form, Contents, AreReadable, HoldsIn}
 
 -- nothing is committed, and while the connection is open it shows the last commit
 pub record OnlyReads (old new : State) : Type 0 where
@@ -14,24 +14,28 @@ pub record OnlyReads (old new : State) : Type 0 where
   pub settled : IsTrue new.is_open → new.now ≡ new.committed
 
 -- the database has one of these schemas, and holds what can be read
-pub record HoldsSome {C : Type 0} (Known : Schema → Type 0) (Holds : Schema → Database → C → Type 0) (Readable : C → Type 0) (db : Database) : Type 0 where
+pub record HoldsSome (Known : Schema → Type 0) (db : Database) : Type 0 where
   pub schema : Schema
   pub known : Known schema
-  pub contents : C
-  pub holds : Holds schema db contents
-  pub readable : Readable contents
+  pub contents : Contents
+  pub holds : HoldsIn schema db contents
+  pub readable : AreReadable contents
+
+-- while the connection is open, the database has one of these schemas, and holds what can be read
+abbrev pub CanBeReadIn : (Schema → Type 0) → State → Type 0
+CanBeReadIn Known s = IsTrue s.is_open → HoldsSome Known s.now
 
 -- the five tables come first, whatever else is there, and hold what can be read
 abbrev pub HoldsReadable : Database → Type 0
-HoldsReadable = HoldsSome HasTablesFirst HoldsIn AreReadable
+HoldsReadable = HoldsSome HasFiveTables
 
 -- while the connection is open, its tables hold what can be read
 abbrev pub CanBeRead : State → Type 0
-CanBeRead s = IsTrue s.is_open → HoldsReadable s.now
+CanBeRead = CanBeReadIn HasFiveTables
 
 -- the five tables come first, and the rows of `meta` are these names and values, which can be read
 pub record HoldsMeta (db : Database) : Type 0 where
-  pub first : HasTablesFirst db.schema
+  pub first : HasFiveTables db.schema
   pub names : TextMap (List ℕ)
   pub shows : ShowsMap pair_form (db.trees meta.tree) (get names)
   pub readable : (name value : List ℕ) → get names name ≡ Some value → IsUtf8 name × IsUtf8 value
@@ -40,6 +44,10 @@ pub record HoldsMeta (db : Database) : Type 0 where
 abbrev pub CanTellMeta : State → Type 0
 CanTellMeta s = IsTrue s.is_open → HoldsMeta s.now
 
--- while the connection is open, its first tables are the five that each layout has, whatever rows they have
+-- while the connection is open, its tables are declared so, whatever rows they have
+abbrev pub HasTablesIn : (Schema → Type 0) → State → Type 0
+HasTablesIn Known s = IsTrue s.is_open → Known s.now.schema
+
+-- its first tables are the five that each layout has
 abbrev pub HasLayout : State → Type 0
-HasLayout s = IsTrue s.is_open → HasTablesFirst s.now.schema
+HasLayout = HasTablesIn HasFiveTables

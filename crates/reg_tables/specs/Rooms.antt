@@ -7,14 +7,14 @@ use Rattle.sqlite.specs.Edit.{next_rowid}
 use Rattle.sqlite.specs.Table.{Table}
 use Rattle.sqlite.specs.Schema.{Schema}
 use Rattle.sqlite_rules.specs.Edit.{IsOversized}
-use Rattle.reg_tables.specs.Layout.{layout}
+use Rattle.reg_tables.specs.Layout.{layout_one}
 
 -- a row with these cells can be stored, whatever its rowid
 abbrev pub CanBeStoredIn : Schema → Table → Row → Type 0
 CanBeStoredIn schema table cells = (id : ℤ) → ¬ IsOversized schema table (Int id ∷ cells)
 
 abbrev pub CanBeStored : Table → Row → Type 0
-CanBeStored = CanBeStoredIn layout
+CanBeStored = CanBeStoredIn layout_one
 
 -- the rows stand in the order of their rowids, which are at least this
 abbrev pub Ascends : ℕ → List Row → Type 0

@@ -5,7 +5,7 @@ use Rattle.sqlite.specs.Clock.{timed}
 use Rattle.sqlite.specs.Effect.{Database, Reads}
 use Rattle.sqlite.specs.Listing.{understood, reads_listing, IsSourceOf}
 use Rattle.sqlite_resolve.specs.declared.compiled.Compiled.{Compiled}
-use Rattle.reg_tables.specs.declared.lines.MetaLine.{MetaLine}
+use Rattle.reg_tables.specs.declared.meta.MetaLine.{MetaLine}
 use Rattle.reg_tables.specs.Contents.{pair_form}
 use Rattle.reg_tables.specs.Listings.{parts_of, entry_parts, meta_entry}
 

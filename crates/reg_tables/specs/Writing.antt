@@ -1,27 +1,47 @@
--- What a call that writes makes of the tables, in whichever layout they are.
+-- What a call that writes makes of the tables.
+use Rattle.std.specs.Prelude.{◌≡◌, Result, OnOk, IfErr}
 use Rattle.sqlite.specs.Schema.{Schema}
-use Rattle.sqlite.specs.State.{State}
+use Rattle.sqlite.specs.State.{State, HasCleanDisk}
 use Rattle.sqlite.specs.Effect.{Database}
-use Rattle.reg_tables.specs.Contents.{Contents}
-use Rattle.reg_tables.specs.SecondLayout.{IsWritten}
-use Rattle.reg_tables.specs.SecondContents.{SecondContents, HoldsAllIn}
+use Rattle.sqlite.specs.declared.error.Error.{Error}
+use Rattle.sqlite.specs.declared.transaction.Transaction.{Transaction}
+use Rattle.sqlite_trees.specs.declared.store.Store.{Ghosts}
+use Rattle.reg_tables.specs.Layout.{no_schema, IsLayoutTwo}
+use Rattle.reg_tables.specs.Contents.{Contents, HoldsIn}
+use Rattle.reg_tables.specs.Frames.{state_in, StaysInside}
 
--- the five tables hold these contents, and the others what they hold here
-abbrev pub HoldsBeside : Schema → SecondContents → Database → Contents → Type 0
-HoldsBeside schema others db base = HoldsAllIn schema db (record others { base = base })
+-- ---- in layout 2
 
--- this is so of what the five tables hold, in whichever layout that is written
+-- this is so of what the tables hold
 abbrev pub WhereHeld : State → (Contents → Type 0) → Type 0
-WhereHeld s P = (schema : Schema) → IsWritten schema → (contents : SecondContents) → HoldsAllIn schema s.now contents → P contents.base
+WhereHeld s P = (schema : Schema) → IsLayoutTwo schema → (contents : Contents) → HoldsIn schema s.now contents → P contents
 
--- the tables held some contents, and now hold what the change makes of them, in the same schema
-abbrev pub ChangesAll : State → State → (SecondContents → SecondContents) → Type 0
-ChangesAll old new change = (schema : Schema) → IsWritten schema → (contents : SecondContents) → HoldsAllIn schema old.now contents → HoldsAllIn schema new.now (change contents)
-
--- the same, where what the five tables hold changes alone
-abbrev pub Changes : State → State → (Contents → Contents) → Type 0
-Changes old new change = ChangesAll old new (λ contents. record contents { base = change contents.base })
-
--- the same, where what they held was so
+-- where what the tables held was so, they now hold what the change makes of it, in the same schema
 abbrev pub ChangesIf : State → State → (Contents → Type 0) → (Contents → Contents) → Type 0
-ChangesIf old new Was change = (schema : Schema) → IsWritten schema → (contents : SecondContents) → HoldsAllIn schema old.now contents → Was contents.base → HoldsBeside schema contents new.now (change contents.base)
+ChangesIf old new Was change = (schema : Schema) → IsLayoutTwo schema → (contents : Contents) → HoldsIn schema old.now contents → Was contents → HoldsIn schema new.now (change contents)
+
+-- the same, whatever they held
+abbrev pub Changes : State → State → (Contents → Contents) → Type 0
+Changes old new change = (schema : Schema) → IsLayoutTwo schema → (contents : Contents) → HoldsIn schema old.now contents → HoldsIn schema new.now (change contents)
+
+-- A call inside a transaction. After an Ok the contents are as the change makes them, and an Err is a failure of this kind.
+pub record Alters {S X : Type 0} (IsFailure : State → State → Error → Type 0) (g : Ghosts S) (old new : Transaction S) (result : Result X Error) (change : Contents → Contents) : Type 0 where
+  pub frame : StaysInside g old new result
+  pub changed : HasCleanDisk (state_in g new) → OnOk result (Changes (state_in g old) (state_in g new) change)
+  pub fault : HasCleanDisk (state_in g new) → IfErr result (λ e. WhereHeld (state_in g old) (λ contents. IsFailure (state_in g old) (state_in g new) e))
+
+-- ---- in any database
+
+-- A call inside a transaction. If the database was as `From` says, it is as `To` says after an Ok, and an Err is a failure of this kind.
+pub record Turns {S X I : Type 0} (IsFailure : State → State → Error → Type 0) (g : Ghosts S) (old new : Transaction S) (result : Result X Error) (From To : I → Database → Type 0) : Type 0 where
+  pub frame : StaysInside g old new result
+  pub made : HasCleanDisk (state_in g new) → OnOk result ((about : I) → From about (state_in g old).now → To about (state_in g new).now)
+  pub fault : HasCleanDisk (state_in g new) → IfErr result (λ e. (about : I) → From about (state_in g old).now → IsFailure (state_in g old) (state_in g new) e)
+
+-- the database has no table
+abbrev pub IsEmpty : Unit {0} → Database → Type 0
+IsEmpty _ db = db.schema ≡ no_schema
+
+-- the tables of this schema hold the contents
+abbrev pub Holding : Schema → Contents → Database → Type 0
+Holding schema contents db = HoldsIn schema db contents

@@ -2,8 +2,7 @@
 
 ghost use Rattle.std.specs.Prelude.{◌≡◌, ◌↔◌, IsTrue};
 ghost use Rattle.sqlite.specs.Held.{state};
-ghost use Rattle.reg_tables.specs.Layout.{layout, unindexed, no_schema};
-ghost use Rattle.reg_tables.specs.SecondLayout.{second_unindexed, IsSecond};
+ghost use Rattle.reg_tables.specs.Layout.{layout_one, layout_one_unindexed, no_schema, layout_two_unindexed, IsLayoutTwo};
 ghost use Rattle.reg_tables.specs.Inside.Forms.{schema_of};
 
 use crate::declared::listed_forms::are_declared;
@@ -23,32 +22,32 @@ mod schemas;
 mod tables;
 
 /// Whether the tables of the database are those of layout 1, declared as `create` declares them.
-pub fn has_layout<S: Alter>(conn: &Connection<S>) -> bool
-    ensures { IsTrue result ↔ ((state S.Store conn.now).now.schema ≡ layout) }
+pub fn has_layout_one<S: Alter>(conn: &Connection<S>) -> bool
+    ensures { IsTrue result ↔ ((state S.Store conn.now).now.schema ≡ layout_one) }
 {
     is_schema(conn.schema(), &FIRST)
 }
 
 /// Whether the tables of the database are those of layout 1, and its one index beside SQLite's own
 /// is not there, as `index_versions` asks.
-pub fn is_unindexed<S: Alter>(conn: &Connection<S>) -> bool
-    ensures { IsTrue result ↔ ((state S.Store conn.now).now.schema ≡ unindexed) }
+pub fn is_unindexed_one<S: Alter>(conn: &Connection<S>) -> bool
+    ensures { IsTrue result ↔ ((state S.Store conn.now).now.schema ≡ layout_one_unindexed) }
 {
     is_schema(conn.schema(), &FIRST_UNINDEXED)
 }
 
-/// Whether the tables of the database are those of layout 2, declared as `create_second` declares
+/// Whether the tables of the database are those of layout 2, declared as `create_layout_two` declares
 /// them, with the index before the new tables or behind them.
-pub fn has_second_layout<S: Alter>(conn: &Connection<S>) -> bool
-    ensures { IsTrue result ↔ IsSecond (state S.Store conn.now).now.schema }
+pub fn has_layout_two<S: Alter>(conn: &Connection<S>) -> bool
+    ensures { IsTrue result ↔ IsLayoutTwo (state S.Store conn.now).now.schema }
 {
-    is_second(conn.schema())
+    is_layout_two(conn.schema())
 }
 
 /// Whether the tables of the database are those of layout 2, and its one index beside SQLite's own
 /// is not there, as `index_versions` asks.
-pub fn is_second_unindexed<S: Alter>(conn: &Connection<S>) -> bool
-    ensures { IsTrue result ↔ ((state S.Store conn.now).now.schema ≡ second_unindexed) }
+pub fn is_unindexed_two<S: Alter>(conn: &Connection<S>) -> bool
+    ensures { IsTrue result ↔ ((state S.Store conn.now).now.schema ≡ layout_two_unindexed) }
 {
     is_schema(conn.schema(), &SECOND_UNINDEXED)
 }
@@ -68,8 +67,8 @@ fn is_empty(schema: &Schema) -> bool
         && schema.views.as_slice().is_empty()
 }
 
-fn is_second(schema: &Schema) -> bool
-    ensures { IsTrue result ↔ IsSecond schema.now }
+fn is_layout_two(schema: &Schema) -> bool
+    ensures { IsTrue result ↔ IsLayoutTwo schema.now }
 {
     is_schema(schema, &SECOND) || is_schema(schema, &SECOND_INDEXED_LAST)
 }

@@ -1,21 +1,28 @@
 //! The evidence of versions, which layout 2 has: the level that each was tested by when it was
 //! registered, and the ids of the texts that it was tested against.
 
-ghost use Rattle.std.specs.Prelude.{◌≡◌, ⊤, ℕ, List, None, IsSome, OnOk, IfErr, option_map, string_bytes};
+ghost use Rattle.std.specs.Prelude.{◌≡◌, None, IsSome, OnOk, IfErr, option_map, string_bytes, ◌⊎◌, pos, IfOk};
 ghost use Rattle.std.specs.FinMap.{get};
-ghost use Rattle.sqlite.specs.Schema.{Schema};
 ghost use Rattle.sqlite.specs.State.{HasCleanDisk};
-ghost use Rattle.reg_tables.specs.Frames.{state_in, StaysInside};
-ghost use Rattle.reg_tables.specs.SecondLayout.{IsSecond, HasSecondTables};
-ghost use Rattle.reg_tables.specs.SecondContents.{SecondContents, PlaceKey, HoldsAllIn, AreAllReadable, with_evidence, with_against};
-ghost use Rattle.reg_tables.specs.SecondLookups.{FindsSecond};
-ghost use Rattle.reg_tables.specs.FailedCalls.{IsInsertFault};
-ghost use Rattle.reg_tables.specs.Inside.SecondKeyed.{evidence_table, against_table};
+ghost use Rattle.reg_tables.specs.Frames.{state_in, StaysInside, shown, StaysIdle};
+ghost use Rattle.reg_tables.specs.Layout.{IsLayoutTwo, HasEightTables};
+ghost use Rattle.reg_tables.specs.Changes.{with_evidence, with_against};
+ghost use Rattle.reg_tables.specs.Lookups.{Finds, Lists};
+ghost use Rattle.reg_tables.specs.FailedCalls.{IsInsertFault, IsFault, IsUnreadable};
+ghost use Rattle.reg_tables.specs.Contents.{TableName, evidence_form, against_form};
+ghost use Rattle.reg_tables.specs.Writing.{ChangesIf, WhereHeld};
+ghost use Rattle.sqlite.specs.declared.types.Value.{Value};
+ghost use Rattle.sqlite.specs.declared.types.Value.TheVariants.{Int};
+ghost use Rattle.sqlite.specs.Order.{column};
+ghost use Rattle.reg_tables.specs.Listings.{RowParts, parts_of, entry_parts, evidence_entry, against_entry, ListsEvidence, ListsAgainstOf, HasAgainstRows};
+ghost use Rattle.reg_tables.specs.Reads.{CanBeReadIn, HasTablesIn};
+ghost use Rattle.reg_tables.specs.Inside.ReadableRows.{IsReadableEvidence, IsReadableAgainst, IsReadableCount};
 
 use crate::idle::Idle;
-use crate::keyed::{KeyedTable, find};
-use crate::statement::run;
-use sqlite::{Alter, Error, Transaction, params};
+use crate::keyed::{FilledTable, KeyedTable, find, put};
+use crate::statement::{Line, first, list};
+use sqlite::{Alter, Error, Row, Transaction, params};
+use std::alloc::Global;
 
 /// The table `evidence`.
 struct Evidence;
@@ -23,28 +30,20 @@ struct Evidence;
 impl KeyedTable for Evidence {
     type Found = String;
 
-    ghost Tables = { SecondContents };
-
-    ghost Key = { List ℕ × ℕ };
-
-    ghost Value = { List ℕ };
-
-    ghost Holds = { HoldsAllIn };
-
-    ghost Others = { ⊤ };
-
-    ghost HoldsWith = { λ schema others. HoldsAllIn schema };
-
-    ghost Known = { HasSecondTables };
-
-    ghost Readable = { AreAllReadable };
-
-    ghost table = { evidence_table };
+    ghost name = { TableName.Evidence };
 
     ghost value_of = { string_bytes };
 
     fn find_sql() -> &'static str {
         "SELECT level FROM evidence WHERE subject = ?1 AND version = ?2"
+    }
+}
+
+impl FilledTable for Evidence {
+    ghost Written = { IsLayoutTwo };
+
+    fn put_sql() -> &'static str {
+        "INSERT INTO evidence (subject, version, level) VALUES (?1, ?2, ?3)"
     }
 }
 
@@ -54,28 +53,93 @@ struct Against;
 impl KeyedTable for Against {
     type Found = u32;
 
-    ghost Tables = { SecondContents };
-
-    ghost Key = { PlaceKey };
-
-    ghost Value = { ℕ };
-
-    ghost Holds = { HoldsAllIn };
-
-    ghost Others = { ⊤ };
-
-    ghost HoldsWith = { λ schema others. HoldsAllIn schema };
-
-    ghost Known = { HasSecondTables };
-
-    ghost Readable = { AreAllReadable };
-
-    ghost table = { against_table };
+    ghost name = { TableName.Against };
 
     ghost value_of = { λ id. id };
 
     fn find_sql() -> &'static str {
         "SELECT id FROM against WHERE subject = ?1 AND version = ?2 AND position = ?3"
+    }
+}
+
+impl FilledTable for Against {
+    ghost Written = { IsLayoutTwo };
+
+    fn put_sql() -> &'static str {
+        "INSERT INTO against (subject, version, position, id) VALUES (?1, ?2, ?3, ?4)"
+    }
+}
+
+/// A row of `evidence`.
+#[derive(Debug, Drop)]
+pub struct EvidenceLine {
+    pub rowid: i64,
+    pub subject: String,
+    pub version: u32,
+    pub level: String,
+}
+
+/// A row of `against`.
+#[derive(Debug, Drop)]
+pub struct AgainstLine {
+    pub rowid: i64,
+    pub subject: String,
+    pub version: u32,
+    pub position: u32,
+    pub id: u32,
+}
+
+/// A count.
+impl Line for u64 {
+    ghost Cells = { Value };
+
+    ghost shown = { λ row. column row 0 };
+
+    ghost cells = { λ count. Int (pos count) };
+
+    ghost is_readable = { IsReadableCount };
+
+    fn read(row: &Row) -> Result<u64, Error> {
+        row.get(0)
+    }
+}
+
+impl Line for EvidenceLine {
+    ghost Cells = { RowParts };
+
+    ghost shown = { parts_of evidence_form };
+
+    ghost cells = { λ line. entry_parts evidence_form (evidence_entry line) };
+
+    ghost is_readable = { IsReadableEvidence };
+
+    fn read(row: &Row) -> Result<EvidenceLine, Error> {
+        Ok(EvidenceLine {
+            rowid: row.get(0)?,
+            subject: row.get(1)?,
+            version: row.get(2)?,
+            level: row.get(3)?,
+        })
+    }
+}
+
+impl Line for AgainstLine {
+    ghost Cells = { RowParts };
+
+    ghost shown = { parts_of against_form };
+
+    ghost cells = { λ line. entry_parts against_form (against_entry line) };
+
+    ghost is_readable = { IsReadableAgainst };
+
+    fn read(row: &Row) -> Result<AgainstLine, Error> {
+        Ok(AgainstLine {
+            rowid: row.get(0)?,
+            subject: row.get(1)?,
+            version: row.get(2)?,
+            position: row.get(3)?,
+            id: row.get(4)?,
+        })
     }
 }
 
@@ -96,21 +160,14 @@ pub fn put_evidence<S: Alter>(
     level: &str,
 ) -> Result<(), Error>
     ensures frame { StaysInside S.Store tx.old tx.new result }
-    ensures put { HasCleanDisk (state_in S.Store tx.new) → OnOk result ((schema : Schema) → IsSecond schema
-        → (contents : SecondContents) → HoldsAllIn schema (state_in S.Store tx.old).now contents
-        → get contents.evidence (subject.now, number) ≡ None
-        → HoldsAllIn schema (state_in S.Store tx.new).now (with_evidence (subject.now, number) level.now contents)) }
-    ensures fault { HasCleanDisk (state_in S.Store tx.new) → IfErr result (λ e. (schema : Schema) → IsSecond schema
-        → (contents : SecondContents) → HoldsAllIn schema (state_in S.Store tx.old).now contents
-        → get contents.evidence (subject.now, number) ≡ None
-        → IsSome (get contents.base.versions (subject.now, number))
-        → IsInsertFault (state_in S.Store tx.old) (state_in S.Store tx.new) e) }
+    ensures put { HasCleanDisk (state_in S.Store tx.new) → OnOk result (ChangesIf (state_in S.Store tx.old) (state_in S.Store tx.new)
+        (λ contents. get contents.evidence (subject.now, number) ≡ None) (with_evidence (subject.now, number) level.now)) }
+    ensures fault { HasCleanDisk (state_in S.Store tx.new) → IfErr result (λ e. WhereHeld (state_in S.Store tx.old) (λ contents.
+        get contents.evidence (subject.now, number) ≡ None
+        → IsSome (get contents.versions (subject.now, number))
+        → IsInsertFault (state_in S.Store tx.old) (state_in S.Store tx.new) e)) }
 {
-    run(
-        tx,
-        "INSERT INTO evidence (subject, version, level) VALUES (?1, ?2, ?3)",
-        params![subject, number, level],
-    )
+    put::<S, Evidence>(tx, params![subject, number, level])
 }
 
 /// Puts the id of a text that a version was tested against, at a position that the caller has seen
@@ -127,21 +184,14 @@ pub fn put_against<S: Alter>(
     id: u32,
 ) -> Result<(), Error>
     ensures frame { StaysInside S.Store tx.old tx.new result }
-    ensures put { HasCleanDisk (state_in S.Store tx.new) → OnOk result ((schema : Schema) → IsSecond schema
-        → (contents : SecondContents) → HoldsAllIn schema (state_in S.Store tx.old).now contents
-        → get contents.against ((subject.now, number), position) ≡ None
-        → HoldsAllIn schema (state_in S.Store tx.new).now (with_against ((subject.now, number), position) id contents)) }
-    ensures fault { HasCleanDisk (state_in S.Store tx.new) → IfErr result (λ e. (schema : Schema) → IsSecond schema
-        → (contents : SecondContents) → HoldsAllIn schema (state_in S.Store tx.old).now contents
-        → get contents.against ((subject.now, number), position) ≡ None
-        → IsSome (get contents.base.versions (subject.now, number)) → IsSome (get contents.base.texts id)
-        → IsInsertFault (state_in S.Store tx.old) (state_in S.Store tx.new) e) }
+    ensures put { HasCleanDisk (state_in S.Store tx.new) → OnOk result (ChangesIf (state_in S.Store tx.old) (state_in S.Store tx.new)
+        (λ contents. get contents.against ((subject.now, number), position) ≡ None) (with_against ((subject.now, number), position) id)) }
+    ensures fault { HasCleanDisk (state_in S.Store tx.new) → IfErr result (λ e. WhereHeld (state_in S.Store tx.old) (λ contents.
+        get contents.against ((subject.now, number), position) ≡ None
+        → IsSome (get contents.versions (subject.now, number)) → IsSome (get contents.texts id)
+        → IsInsertFault (state_in S.Store tx.old) (state_in S.Store tx.new) e)) }
 {
-    run(
-        tx,
-        "INSERT INTO against (subject, version, position, id) VALUES (?1, ?2, ?3, ?4)",
-        params![subject, number, position, id],
-    )
+    put::<S, Against>(tx, params![subject, number, position, id])
 }
 
 /// The level of a version's evidence, if it has some.
@@ -155,7 +205,7 @@ pub fn evidence_of<S: Alter>(
     subject: &str,
     number: u32,
 ) -> Result<Option<String>, Error>
-    ensures { FindsSecond db.old db.new result (λ contents found.
+    ensures { Finds TableName.Evidence db.old db.new result (λ contents found.
         option_map string_bytes found ≡ get contents.evidence (subject.now, number)) }
 {
     find::<S, Evidence>(db, params![subject, number])
@@ -173,8 +223,69 @@ pub fn against_at<S: Alter>(
     number: u32,
     position: u32,
 ) -> Result<Option<u32>, Error>
-    ensures { FindsSecond db.old db.new result (λ contents found.
+    ensures { Finds TableName.Against db.old db.new result (λ contents found.
         found ≡ get contents.against ((subject.now, number), position)) }
 {
     find::<S, Against>(db, params![subject, number, position])
+}
+
+/// All rows of `evidence`, in any order.
+///
+/// # Errors
+///
+/// `OutOfMemory`, a fault of the disk, or `OperationInterrupted` at the limit on steps; another
+/// where a row holds what the line can't. Nothing is changed.
+pub fn evidence_lines<S: Alter>(alloc: Global, db: &mut Idle<S>) -> Result<Vec<EvidenceLine>, Error>
+    ensures { Lists db.old db.new result HasEightTables (CanBeReadIn HasEightTables) ListsEvidence }
+{
+    list(
+        alloc,
+        db,
+        "SELECT rowid, subject, version, level FROM evidence",
+        &[],
+    )
+}
+
+/// The rows of `against` that a version has, in any order.
+///
+/// # Errors
+///
+/// `OutOfMemory`, a fault of the disk, or `OperationInterrupted` at the limit on steps; another
+/// where a row holds what the line can't. Nothing is changed.
+pub fn against_of<S: Alter>(
+    alloc: Global,
+    db: &mut Idle<S>,
+    subject: &str,
+    number: u32,
+) -> Result<Vec<AgainstLine>, Error>
+    ensures { Lists db.old db.new result HasEightTables (CanBeReadIn HasEightTables) (ListsAgainstOf (subject.now, number)) }
+{
+    list(
+        alloc,
+        db,
+        "SELECT rowid, subject, version, position, id FROM against WHERE subject = ?1 AND version = ?2",
+        params![subject, number],
+    )
+}
+
+/// How many rows `against` has.
+///
+/// # Errors
+///
+/// `OutOfMemory`, a fault of the disk, or `OperationInterrupted` at the limit on steps. Nothing is
+/// changed.
+pub fn against_count<S: Alter>(db: &mut Idle<S>) -> Result<u64, Error>
+    ensures frame { StaysIdle S.Store db.old.conn db.new.conn result }
+    ensures counted { HasCleanDisk (shown db.new) → IfOk result (λ count.
+        HasEightTables (shown db.old).now.schema
+        → HasAgainstRows (shown db.old).now count) }
+    ensures fault { HasCleanDisk (shown db.new) → IfErr result (λ e.
+        CanBeReadIn HasEightTables (shown db.old)
+        → IsFault (shown db.old) (shown db.new) e) }
+    ensures told { HasCleanDisk (shown db.new) → IfErr result (λ e.
+        HasTablesIn HasEightTables (shown db.old)
+        → IsFault (shown db.old) (shown db.new) e ⊎ IsUnreadable e) }
+{
+    let found: Option<u64> = first(db, "SELECT count(*) FROM against", &[])?;
+    Ok(found.unwrap_or(0))
 }

@@ -1,25 +1,26 @@
 //! What is kept under retry keys.
 
-ghost use Rattle.std.specs.Prelude.{◌≡◌, None, Some, OnOk, IfErr, MatchOption, ℕ, List, [], ◌∷◌};
+ghost use Rattle.std.specs.Prelude.{◌≡◌, None, Some, OnOk, IfErr, MatchOption, [], ◌∷◌};
 ghost use Rattle.std.specs.FinMap.{get};
 ghost use Rattle.sqlite.specs.Order.{column};
 ghost use Rattle.reg_tables.specs.Frames.{state_in, StaysInside};
 ghost use Rattle.sqlite.specs.State.{HasCleanDisk};
-ghost use Rattle.reg_tables.specs.Contents.{KeptRow, Contents, kept_cells, IsReadableReply, AreReadable, HoldsIn};
-ghost use Rattle.reg_tables.specs.Lookups.{Finds};
-ghost use Rattle.reg_tables.specs.Layout.{HasTablesFirst};
-ghost use Rattle.reg_tables.specs.SecondLayout.{IsWritten};
-ghost use Rattle.reg_tables.specs.SecondContents.{SecondContents};
+ghost use Rattle.reg_tables.specs.Contents.{KeptRow, kept_cells, IsReadableReply, TableName, kept_form};
+ghost use Rattle.reg_tables.specs.Lookups.{Finds, Lists};
 ghost use Rattle.reg_tables.specs.Changes.{with_kept};
-ghost use Rattle.reg_tables.specs.Writing.{HoldsBeside, WhereHeld, ChangesIf};
+ghost use Rattle.reg_tables.specs.Writing.{WhereHeld, ChangesIf};
 ghost use Rattle.reg_tables.specs.FailedCalls.{IsInsertFault};
 ghost use Rattle.reg_tables.specs.KeptRows.{kept_row};
-ghost use Rattle.reg_tables.specs.Inside.Keyed.{kept_table};
+ghost use Rattle.reg_tables.specs.Layout.{IsLayoutTwo, HasFiveTables};
+ghost use Rattle.reg_tables.specs.Listings.{RowParts, parts_of, entry_parts, kept_entry, ListsKept};
+ghost use Rattle.reg_tables.specs.Inside.ReadableRows.{IsReadableKept};
+ghost use Rattle.reg_tables.specs.Reads.{CanBeRead};
 
 use crate::idle::Idle;
 use crate::keyed::{FilledTable, KeyedTable, find, put};
-use crate::statement::Line;
-use sqlite::{Alter, Error, ErrorCode, Row, Transaction, params};
+use crate::statement::{Line, list};
+use sqlite::{Alter, Error, Row, Transaction, params};
+use std::alloc::Global;
 
 /// A command's text and its reply, as they are kept under a retry key.
 #[derive(Debug, Drop)]
@@ -52,23 +53,7 @@ struct Kept;
 impl KeyedTable for Kept {
     type Found = KeptReply;
 
-    ghost Tables = { Contents };
-
-    ghost Key = { List ℕ };
-
-    ghost Value = { KeptRow };
-
-    ghost Holds = { HoldsIn };
-
-    ghost Others = { SecondContents };
-
-    ghost HoldsWith = { HoldsBeside };
-
-    ghost Known = { HasTablesFirst };
-
-    ghost Readable = { AreReadable };
-
-    ghost table = { λ schema. kept_table };
+    ghost name = { TableName.Kept };
 
     ghost value_of = { kept_row };
 
@@ -78,10 +63,40 @@ impl KeyedTable for Kept {
 }
 
 impl FilledTable for Kept {
-    ghost Written = { IsWritten };
+    ghost Written = { IsLayoutTwo };
 
     fn put_sql() -> &'static str {
         "INSERT INTO kept (key, command, status, body) VALUES (?1, ?2, ?3, ?4)"
+    }
+}
+
+/// A row of `kept`.
+#[derive(Debug, Drop)]
+pub struct KeptLine {
+    pub rowid: i64,
+    pub key: String,
+    pub reply: KeptReply,
+}
+
+impl Line for KeptLine {
+    ghost Cells = { RowParts };
+
+    ghost shown = { parts_of kept_form };
+
+    ghost cells = { λ line. entry_parts kept_form (kept_entry line) };
+
+    ghost is_readable = { IsReadableKept };
+
+    fn read(row: &Row) -> Result<KeptLine, Error> {
+        Ok(KeptLine {
+            rowid: row.get(0)?,
+            key: row.get(1)?,
+            reply: KeptReply {
+                command: row.get(2)?,
+                status: row.get(3)?,
+                body: row.get(4)?,
+            },
+        })
     }
 }
 
@@ -119,9 +134,26 @@ pub fn keep_reply<S: Alter>(
 /// `OutOfMemory`, a fault of the disk, or `OperationInterrupted` at the limit on steps; where the
 /// tables can't be read, another error too. Nothing is changed.
 pub fn kept_reply<S: Alter>(db: &mut Idle<S>, key: &str) -> Result<Option<KeptReply>, Error>
-    ensures { Finds db.old db.new result (λ contents found.
+    ensures { Finds TableName.Kept db.old db.new result (λ contents found.
         MatchOption found (get contents.kept key.now ≡ None)
         (λ reply. get contents.kept key.now ≡ Some (kept_row reply))) }
 {
     find::<S, Kept>(db, params![key])
+}
+
+/// All rows of `kept`, in any order.
+///
+/// # Errors
+///
+/// `OutOfMemory`, a fault of the disk, or `OperationInterrupted` at the limit on steps; another
+/// where a row holds what the line can't. Nothing is changed.
+pub fn kept_lines<S: Alter>(alloc: Global, db: &mut Idle<S>) -> Result<Vec<KeptLine>, Error>
+    ensures { Lists db.old db.new result HasFiveTables CanBeRead ListsKept }
+{
+    list(
+        alloc,
+        db,
+        "SELECT rowid, key, command, status, body FROM kept",
+        &[],
+    )
 }

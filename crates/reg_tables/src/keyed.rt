@@ -6,13 +6,12 @@ ghost use Rattle.sqlite.specs.Order.{column};
 ghost use Rattle.sqlite.specs.State.{HasCleanDisk};
 ghost use Rattle.sqlite.specs.Values.{bound};
 ghost use Rattle.reg_tables.specs.Frames.{shown, state_in, StaysInside, StaysIdle};
-ghost use Rattle.reg_tables.specs.Contents.{text_cells};
+ghost use Rattle.reg_tables.specs.Contents.{text_cells, TableName, HasTable, KeyOf, ValueOf, form_of, map_of, table_in, Contents, HoldsIn, AreReadable};
 ghost use Rattle.reg_tables.specs.Rooms.{HasRoom, CanBeStoredIn};
 ghost use Rattle.sqlite.specs.Schema.{Schema};
-ghost use Rattle.sqlite.specs.Effect.{Database};
-ghost use Rattle.reg_tables.specs.Reads.{HoldsSome};
+ghost use Rattle.reg_tables.specs.Reads.{CanBeReadIn};
 ghost use Rattle.reg_tables.specs.FailedCalls.{IsFault, IsWriteFault, IsInsertFault};
-ghost use Rattle.reg_tables.specs.Inside.Keyed.{Keyed, cells_of, with_entry, without_entry, IsFreeKey};
+ghost use Rattle.reg_tables.specs.Inside.Keyed.{refers_to, cells_of, with_entry, without_entry, IsFreeKey};
 ghost use Rattle.reg_tables.specs.Inside.KeyedLaws.{IsKeyed, PutsRow, DropsRow, FindsRow};
 
 use crate::idle::Idle;
@@ -20,60 +19,40 @@ use crate::statement::{Line, first, run};
 use sqlite::types::ValueRef;
 use sqlite::{Alter, Error, ErrorCode, Row, Transaction};
 
-/// A table that has one row for each key, in the layouts that have it, and the line that its values
-/// are read as.
+/// A table that has one row for each key, and the line that its values are read as.
 pub(crate) trait KeyedTable {
     type Found: Line;
 
-    /// What the tables of a layout hold.
-    ghost Tables: { Type 0 };
+    ghost name: { TableName };
 
-    ghost Key: { Type 0 };
-
-    ghost Value: { Type 0 };
-
-    ghost Holds: { Schema → Database → Tables → Type 0 };
-
-    /// What tables hold that `Tables` lacks, where rows are written.
-    ghost Others: { Type 0 };
-
-    ghost HoldsWith: { Schema → Others → Database → Tables → Type 0 };
-
-    /// The schemas in which it is read.
-    ghost Known: { Schema → Type 0 };
-
-    ghost Readable: { Tables → Type 0 };
-
-    ghost table: { Schema → Keyed Tables Key Value };
-
-    ghost value_of: { Self.Found → Value };
+    ghost value_of: { Self.Found → ValueOf name };
 
     /// The SELECT of a value, by the columns of its key.
     fn find_sql() -> &'static str
-        ensures finds { (schema : Schema) → Known schema → FindsRow schema (Holds schema) (table schema) result.now }
-        ensures read { (schema : Schema) (found : Self.Found) (value : Value)
-            → Self.Found.shown ((table schema).form.value_cells value) ≡ Self.Found.cells found → value_of found ≡ value }
-        ensures readable { (schema : Schema) (tables : Tables) → Readable tables → (key : Key) (value : Value)
-            → get ((table schema).map_of tables) key ≡ Some value → Self.Found.is_readable ((table schema).form.value_cells value) };
+        ensures finds { (schema : Schema) → HasTable name schema → FindsRow schema name result.now }
+        ensures read { (found : Self.Found) (value : ValueOf name)
+            → Self.Found.shown ((form_of name).value_cells value) ≡ Self.Found.cells found → value_of found ≡ value }
+        ensures readable { (contents : Contents) → AreReadable contents → (key : KeyOf name) (value : ValueOf name)
+            → get (map_of name contents) key ≡ Some value → Self.Found.is_readable ((form_of name).value_cells value) };
 }
 
 /// A table that rows are put into.
 pub(crate) trait FilledTable: KeyedTable {
-    /// The schemas in which it is written.
+    /// The schemas in which they are.
     ghost Written: { Schema → Type 0 };
 
     /// The INSERT of a row, by the columns of its key and then of its value.
     fn put_sql() -> &'static str
-        ensures keyed { (schema : Schema) → Written schema → (others : Self.Others) → IsKeyed schema (Self.HoldsWith schema others) (Self.table schema) }
-        ensures puts { (schema : Schema) → Written schema → PutsRow schema (Self.table schema) result.now };
+        ensures keyed { (schema : Schema) → Written schema → IsKeyed schema Self.name }
+        ensures puts { (schema : Schema) → Written schema → PutsRow schema Self.name result.now };
 }
 
 /// One whose rows are dropped too, and no others with them.
 pub(crate) trait ChangedTable: FilledTable {
     /// The DELETE of a row, by the columns of its key.
     fn drop_sql() -> &'static str
-        ensures keyed { (schema : Schema) → Self.Written schema → (others : Self.Others) → IsKeyed schema (Self.HoldsWith schema others) (Self.table schema) }
-        ensures drops { (schema : Schema) → Self.Written schema → DropsRow schema (Self.table schema) result.now };
+        ensures keyed { (schema : Schema) → Self.Written schema → IsKeyed schema Self.name }
+        ensures drops { (schema : Schema) → Self.Written schema → DropsRow schema Self.name result.now };
 }
 
 impl Line for String {
@@ -95,27 +74,27 @@ pub(crate) fn put<S: Alter, T: FilledTable>(
 ) -> Result<(), Error>
     ensures frame { StaysInside S.Store tx.old tx.new result }
     ensures put { HasCleanDisk (state_in S.Store tx.new) → OnOk result ((schema : Schema) → T.Written schema
-        → (others : T.Others) (key : T.Key) (value : T.Value)
-        → bound values.now ≡ cells_of (T.table schema) key value
-        → (tables : T.Tables) → T.HoldsWith schema others (state_in S.Store tx.old).now tables → IsFreeKey (T.table schema) key tables
-        → T.HoldsWith schema others (state_in S.Store tx.new).now (with_entry (T.table schema) key value tables)) }
+        → (key : KeyOf T.name) (value : ValueOf T.name)
+        → bound values.now ≡ cells_of T.name key value
+        → (contents : Contents) → HoldsIn schema (state_in S.Store tx.old).now contents → IsFreeKey T.name key contents
+        → HoldsIn schema (state_in S.Store tx.new).now (with_entry T.name key value contents)) }
     ensures fault { HasCleanDisk (state_in S.Store tx.new) → IfErr result (λ e. (schema : Schema) → T.Written schema
-        → (others : T.Others) (key : T.Key) (value : T.Value)
-        → bound values.now ≡ cells_of (T.table schema) key value
-        → (tables : T.Tables) → T.HoldsWith schema others (state_in S.Store tx.old).now tables → IsFreeKey (T.table schema) key tables
-        → IsTrue ((T.table schema).refers tables key value)
+        → (key : KeyOf T.name) (value : ValueOf T.name)
+        → bound values.now ≡ cells_of T.name key value
+        → (contents : Contents) → HoldsIn schema (state_in S.Store tx.old).now contents → IsFreeKey T.name key contents
+        → IsTrue (refers_to T.name contents key value)
         → IsInsertFault (state_in S.Store tx.old) (state_in S.Store tx.new) e) }
     ensures room { HasCleanDisk (state_in S.Store tx.new) → OnOk result ((schema : Schema) → T.Written schema
-        → (others : T.Others) (key : T.Key) (value : T.Value)
-        → bound values.now ≡ cells_of (T.table schema) key value
-        → (tables : T.Tables) → T.HoldsWith schema others (state_in S.Store tx.old).now tables → IsFreeKey (T.table schema) key tables
-        → (n : ℕ) → HasRoom ((state_in S.Store tx.old).now.trees (T.table schema).table.tree) (n + 1) → HasRoom ((state_in S.Store tx.new).now.trees (T.table schema).table.tree) n) }
+        → (key : KeyOf T.name) (value : ValueOf T.name)
+        → bound values.now ≡ cells_of T.name key value
+        → (contents : Contents) → HoldsIn schema (state_in S.Store tx.old).now contents → IsFreeKey T.name key contents
+        → (n : ℕ) → HasRoom ((state_in S.Store tx.old).now.trees (table_in schema T.name).tree) (n + 1) → HasRoom ((state_in S.Store tx.new).now.trees (table_in schema T.name).tree) n) }
     ensures fits { HasCleanDisk (state_in S.Store tx.new) → IfErr result (λ e. (schema : Schema) → T.Written schema
-        → (others : T.Others) (key : T.Key) (value : T.Value)
-        → bound values.now ≡ cells_of (T.table schema) key value
-        → (tables : T.Tables) → T.HoldsWith schema others (state_in S.Store tx.old).now tables → IsFreeKey (T.table schema) key tables
-        → IsTrue ((T.table schema).refers tables key value) → (n : ℕ) → HasRoom ((state_in S.Store tx.old).now.trees (T.table schema).table.tree) (n + 1)
-        → CanBeStoredIn schema (T.table schema).table (cells_of (T.table schema) key value)
+        → (key : KeyOf T.name) (value : ValueOf T.name)
+        → bound values.now ≡ cells_of T.name key value
+        → (contents : Contents) → HoldsIn schema (state_in S.Store tx.old).now contents → IsFreeKey T.name key contents
+        → IsTrue (refers_to T.name contents key value) → (n : ℕ) → HasRoom ((state_in S.Store tx.old).now.trees (table_in schema T.name).tree) (n + 1)
+        → CanBeStoredIn schema (table_in schema T.name) (cells_of T.name key value)
         → IsWriteFault (state_in S.Store tx.old) (state_in S.Store tx.new) e) }
 {
     run(tx, T::put_sql(), values)
@@ -128,16 +107,13 @@ pub(crate) fn drop<S: Alter, T: ChangedTable>(
 ) -> Result<(), Error>
     ensures frame { StaysInside S.Store tx.old tx.new result }
     ensures dropped { HasCleanDisk (state_in S.Store tx.new) → OnOk result ((schema : Schema) → T.Written schema
-        → (others : T.Others) (key : T.Key)
-        → bound values.now ≡ (T.table schema).form.key_cells key
-        → (tables : T.Tables) → T.HoldsWith schema others (state_in S.Store tx.old).now tables
-        → T.HoldsWith schema others (state_in S.Store tx.new).now (without_entry (T.table schema) key tables)) }
+        → (key : KeyOf T.name) → bound values.now ≡ (form_of T.name).key_cells key
+        → (contents : Contents) → HoldsIn schema (state_in S.Store tx.old).now contents
+        → HoldsIn schema (state_in S.Store tx.new).now (without_entry T.name key contents)) }
     ensures fault { HasCleanDisk (state_in S.Store tx.new) → IfErr result (λ e. (schema : Schema) → T.Written schema
-        → (others : T.Others) (key : T.Key)
-        → bound values.now ≡ (T.table schema).form.key_cells key
-        → (tables : T.Tables) → T.HoldsWith schema others (state_in S.Store tx.old).now tables
+        → (key : KeyOf T.name) → bound values.now ≡ (form_of T.name).key_cells key
+        → (contents : Contents) → HoldsIn schema (state_in S.Store tx.old).now contents
         → IsWriteFault (state_in S.Store tx.old) (state_in S.Store tx.new) e) }
-    ensures keyed { (schema : Schema) → T.Written schema → (others : T.Others) → IsKeyed schema (T.HoldsWith schema others) (T.table schema) }
 {
     run(tx, T::drop_sql(), values)
 }
@@ -150,15 +126,15 @@ pub(crate) fn set<S: Alter, T: ChangedTable>(
 ) -> Result<(), Error>
     ensures frame { StaysInside S.Store tx.old tx.new result }
     ensures set { HasCleanDisk (state_in S.Store tx.new) → OnOk result ((schema : Schema) → T.Written schema
-        → (others : T.Others) (key : T.Key) (value : T.Value)
-        → bound key_values.now ≡ (T.table schema).form.key_cells key → bound values.now ≡ cells_of (T.table schema) key value
-        → (tables : T.Tables) → T.HoldsWith schema others (state_in S.Store tx.old).now tables
-        → T.HoldsWith schema others (state_in S.Store tx.new).now (with_entry (T.table schema) key value tables)) }
+        → (key : KeyOf T.name) (value : ValueOf T.name)
+        → bound key_values.now ≡ (form_of T.name).key_cells key → bound values.now ≡ cells_of T.name key value
+        → (contents : Contents) → HoldsIn schema (state_in S.Store tx.old).now contents
+        → HoldsIn schema (state_in S.Store tx.new).now (with_entry T.name key value contents)) }
     ensures fault { HasCleanDisk (state_in S.Store tx.new) → IfErr result (λ e. (schema : Schema) → T.Written schema
-        → (others : T.Others) (key : T.Key) (value : T.Value)
-        → bound key_values.now ≡ (T.table schema).form.key_cells key → bound values.now ≡ cells_of (T.table schema) key value
-        → (tables : T.Tables) → T.HoldsWith schema others (state_in S.Store tx.old).now tables
-        → IsTrue ((T.table schema).refers (without_entry (T.table schema) key tables) key value)
+        → (key : KeyOf T.name) (value : ValueOf T.name)
+        → bound key_values.now ≡ (form_of T.name).key_cells key → bound values.now ≡ cells_of T.name key value
+        → (contents : Contents) → HoldsIn schema (state_in S.Store tx.old).now contents
+        → IsTrue (refers_to T.name (without_entry T.name key contents) key value)
         → IsInsertFault (state_in S.Store tx.old) (state_in S.Store tx.new) e) }
 {
     drop::<S, T>(tx, key_values)?;
@@ -171,15 +147,13 @@ pub(crate) fn find<S: Alter, T: KeyedTable>(
     values: &[ValueRef<'_>],
 ) -> Result<Option<T::Found>, Error>
     ensures frame { StaysIdle S.Store db.old.conn db.new.conn result }
-    ensures found { HasCleanDisk (shown db.new) → IfOk result (λ found. (schema : Schema) → T.Known schema
-        → (key : T.Key)
-        → bound values.now ≡ (T.table schema).form.key_cells key
-        → (tables : T.Tables) → T.Holds schema (shown db.old).now tables
-        → MatchOption found (get ((T.table schema).map_of tables) key ≡ None)
-        (λ line. get ((T.table schema).map_of tables) key ≡ Some (T.value_of line))) }
-    ensures fault { HasCleanDisk (shown db.new) → IfErr result (λ e. (key : T.Key)
-        → ((schema : Schema) → T.Known schema → bound values.now ≡ (T.table schema).form.key_cells key)
-        → (IsTrue (shown db.old).is_open → HoldsSome T.Known T.Holds T.Readable (shown db.old).now)
+    ensures found { HasCleanDisk (shown db.new) → IfOk result (λ found. (schema : Schema) → HasTable T.name schema
+        → (key : KeyOf T.name) → bound values.now ≡ (form_of T.name).key_cells key
+        → (contents : Contents) → HoldsIn schema (shown db.old).now contents
+        → MatchOption found (get (map_of T.name contents) key ≡ None)
+        (λ line. get (map_of T.name contents) key ≡ Some (T.value_of line))) }
+    ensures fault { HasCleanDisk (shown db.new) → IfErr result (λ e. (key : KeyOf T.name)
+        → bound values.now ≡ (form_of T.name).key_cells key → CanBeReadIn (HasTable T.name) (shown db.old)
         → IsFault (shown db.old) (shown db.new) e) }
 {
     first(db, T::find_sql(), values)

@@ -1,22 +1,22 @@
 //! The own levels of subjects. (Schema Registry API reference, Config.)
 
-ghost use Rattle.std.specs.Prelude.{◌≡◌, ℕ, List, None, Some, OnOk, IfErr, MatchOption, string_bytes};
+ghost use Rattle.std.specs.Prelude.{◌≡◌, None, Some, MatchOption, string_bytes};
 ghost use Rattle.std.specs.FinMap.{get};
-ghost use Rattle.reg_tables.specs.Frames.{state_in, StaysInside};
-ghost use Rattle.sqlite.specs.State.{HasCleanDisk};
-ghost use Rattle.reg_tables.specs.Contents.{Contents, AreReadable, HoldsIn};
-ghost use Rattle.reg_tables.specs.Lookups.{Finds};
-ghost use Rattle.reg_tables.specs.Layout.{HasTablesFirst};
-ghost use Rattle.reg_tables.specs.SecondLayout.{IsWritten};
-ghost use Rattle.reg_tables.specs.SecondContents.{SecondContents};
+ghost use Rattle.reg_tables.specs.Lookups.{Finds, Lists};
 ghost use Rattle.reg_tables.specs.Changes.{with_level, without_level};
-ghost use Rattle.reg_tables.specs.Writing.{HoldsBeside, WhereHeld, Changes};
+ghost use Rattle.reg_tables.specs.Writing.{Alters};
 ghost use Rattle.reg_tables.specs.FailedCalls.{IsWriteFault, IsInsertFault};
-ghost use Rattle.reg_tables.specs.Inside.Keyed.{levels_table};
+ghost use Rattle.reg_tables.specs.Contents.{TableName, pair_form};
+ghost use Rattle.reg_tables.specs.Layout.{IsLayoutTwo, HasFiveTables};
+ghost use Rattle.reg_tables.specs.Listings.{RowParts, parts_of, entry_parts, level_entry, ListsLevels};
+ghost use Rattle.reg_tables.specs.Inside.ReadableRows.{IsReadablePair};
+ghost use Rattle.reg_tables.specs.Reads.{CanBeRead};
 
 use crate::idle::Idle;
 use crate::keyed::{ChangedTable, FilledTable, KeyedTable, drop, find, set};
-use sqlite::{Alter, Error, Transaction, params};
+use crate::statement::{Line, list};
+use sqlite::{Alter, Error, Row, Transaction, params};
+use std::alloc::Global;
 
 /// The table `levels`.
 struct Levels;
@@ -24,23 +24,7 @@ struct Levels;
 impl KeyedTable for Levels {
     type Found = String;
 
-    ghost Tables = { Contents };
-
-    ghost Key = { List ℕ };
-
-    ghost Value = { List ℕ };
-
-    ghost Holds = { HoldsIn };
-
-    ghost Others = { SecondContents };
-
-    ghost HoldsWith = { HoldsBeside };
-
-    ghost Known = { HasTablesFirst };
-
-    ghost Readable = { AreReadable };
-
-    ghost table = { λ schema. levels_table };
+    ghost name = { TableName.Levels };
 
     ghost value_of = { string_bytes };
 
@@ -50,7 +34,7 @@ impl KeyedTable for Levels {
 }
 
 impl FilledTable for Levels {
-    ghost Written = { IsWritten };
+    ghost Written = { IsLayoutTwo };
 
     fn put_sql() -> &'static str {
         "INSERT INTO levels (subject, level) VALUES (?1, ?2)"
@@ -63,6 +47,32 @@ impl ChangedTable for Levels {
     }
 }
 
+/// A row of `levels`.
+#[derive(Debug, Drop)]
+pub struct LevelLine {
+    pub rowid: i64,
+    pub subject: String,
+    pub level: String,
+}
+
+impl Line for LevelLine {
+    ghost Cells = { RowParts };
+
+    ghost shown = { parts_of pair_form };
+
+    ghost cells = { λ line. entry_parts pair_form (level_entry line) };
+
+    ghost is_readable = { IsReadablePair };
+
+    fn read(row: &Row) -> Result<LevelLine, Error> {
+        Ok(LevelLine {
+            rowid: row.get(0)?,
+            subject: row.get(1)?,
+            level: row.get(2)?,
+        })
+    }
+}
+
 /// Drops the own level of a subject, if it has one.
 ///
 /// # Errors
@@ -71,13 +81,7 @@ impl ChangedTable for Levels {
 /// `TransactionState` where a failure has ended the transaction; another where the tables aren't
 /// a layout's. Nothing is committed, and the transaction is to be rolled back.
 pub fn drop_level<S: Alter>(tx: &mut Transaction<'_, S>, subject: &str) -> Result<(), Error>
-    ensures frame { StaysInside S.Store tx.old tx.new result }
-    ensures dropped { HasCleanDisk (state_in S.Store tx.new)
-        → OnOk result (Changes (state_in S.Store tx.old) (state_in S.Store tx.new)
-        (without_level subject.now)) }
-    ensures fault { HasCleanDisk (state_in S.Store tx.new) → IfErr result (λ e.
-        WhereHeld (state_in S.Store tx.old) (λ contents.
-        IsWriteFault (state_in S.Store tx.old) (state_in S.Store tx.new) e)) }
+    ensures { Alters IsWriteFault S.Store tx.old tx.new result (without_level subject.now) }
 {
     drop::<S, Levels>(tx, params![subject])
 }
@@ -96,13 +100,7 @@ pub fn set_level<S: Alter>(
     subject: &str,
     level: &str,
 ) -> Result<(), Error>
-    ensures frame { StaysInside S.Store tx.old tx.new result }
-    ensures set { HasCleanDisk (state_in S.Store tx.new)
-        → OnOk result (Changes (state_in S.Store tx.old) (state_in S.Store tx.new)
-        (with_level subject.now level.now)) }
-    ensures fault { HasCleanDisk (state_in S.Store tx.new) → IfErr result (λ e.
-        WhereHeld (state_in S.Store tx.old) (λ contents.
-        IsInsertFault (state_in S.Store tx.old) (state_in S.Store tx.new) e)) }
+    ensures { Alters IsInsertFault S.Store tx.old tx.new result (with_level subject.now level.now) }
 {
     set::<S, Levels>(tx, params![subject], params![subject, level])
 }
@@ -114,9 +112,21 @@ pub fn set_level<S: Alter>(
 /// `OutOfMemory`, a fault of the disk, or `OperationInterrupted` at the limit on steps; where the
 /// tables can't be read, another error too. Nothing is changed.
 pub fn own_level<S: Alter>(db: &mut Idle<S>, subject: &str) -> Result<Option<String>, Error>
-    ensures { Finds db.old db.new result (λ contents found.
+    ensures { Finds TableName.Levels db.old db.new result (λ contents found.
         MatchOption found (get contents.levels subject.now ≡ None)
         (λ level. get contents.levels subject.now ≡ Some (string_bytes level))) }
 {
     find::<S, Levels>(db, params![subject])
+}
+
+/// All rows of `levels`, in any order.
+///
+/// # Errors
+///
+/// `OutOfMemory`, a fault of the disk, or `OperationInterrupted` at the limit on steps; another
+/// where a row holds what the line can't. Nothing is changed.
+pub fn level_lines<S: Alter>(alloc: Global, db: &mut Idle<S>) -> Result<Vec<LevelLine>, Error>
+    ensures { Lists db.old db.new result HasFiveTables CanBeRead ListsLevels }
+{
+    list(alloc, db, "SELECT rowid, subject, level FROM levels", &[])
 }

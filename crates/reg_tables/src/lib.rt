@@ -11,46 +11,44 @@
 
 #![tactic(auto)]
 
+mod creation;
 mod declared;
 mod evidence;
 mod idle;
 mod kept;
 mod keyed;
-mod layout;
 mod levels;
-mod lines;
 mod listed;
 mod meta;
 mod modes;
-mod second;
-mod second_lines;
 mod statement;
 mod text_lines;
 mod texts;
 mod versions;
 mod with_id;
 
+pub use creation::{add_tables, create_layout_one, create_layout_two, index_versions};
 pub use declared::{
-    has_layout, has_no_tables, has_second_layout, is_second_unindexed, is_unindexed,
+    has_layout_one, has_layout_two, has_no_tables, is_unindexed_one, is_unindexed_two,
 };
-pub use evidence::{against_at, evidence_of, put_against, put_evidence};
+pub use evidence::{
+    AgainstLine, EvidenceLine, against_at, against_count, against_of, evidence_lines, evidence_of,
+    put_against, put_evidence,
+};
 pub use idle::Idle;
-pub use kept::{KeptReply, keep_reply, kept_reply};
-pub use layout::{create, index_versions};
-pub use levels::{drop_level, own_level, set_level};
-pub use lines::{
-    KeptLine, LevelLine, MetaLine, TextLine, VersionLine, kept_lines, level_lines, meta_lines,
-    version_lines,
-};
+pub use kept::{KeptLine, KeptReply, keep_reply, kept_lines, kept_reply};
+pub use levels::{LevelLine, drop_level, level_lines, own_level, set_level};
 pub use listed::{
     ListedVersion, SubjectVersion, a_version_of_id, all_versions, first_version_behind,
     last_live_version_of, last_version_of, next_version_of, versions_of, versions_of_id,
 };
-pub use meta::{global_level, number_second, set_global, set_global_mode};
+pub use meta::{
+    MetaLine, global_level, meta_lines, number_layout_two, set_global, set_global_mode,
+};
 pub use modes::{ModeLine, drop_mode, mode_lines, own_mode, set_mode};
-pub use second::{add_tables, create_second};
-pub use second_lines::{AgainstLine, EvidenceLine, against_count, against_of, evidence_lines};
-pub use text_lines::{text_ids, texts_between};
+pub use text_lines::{TextLine, text_ids, texts_between};
 pub use texts::{id_of, last_id, put_text, text_of};
-pub use versions::{VersionEntry, drop_version, mark_deleted, put_version, version_of};
+pub use versions::{
+    VersionEntry, VersionLine, drop_version, mark_deleted, put_version, version_lines, version_of,
+};
 pub use with_id::{MOST, last_version_with_id, some_versions_of_id};

@@ -5,13 +5,13 @@ ghost use Rattle.std.specs.Ordering.{is_gt, nat_cmp};
 ghost use Rattle.std.specs.List.{last_or};
 ghost use Rattle.std.specs.FinMap.{entries, get};
 ghost use Rattle.sqlite.specs.Order.{column};
-ghost use Rattle.reg_tables.specs.Contents.{VersionRow, text_cmp};
+ghost use Rattle.reg_tables.specs.Contents.{VersionRow, TableName, text_cmp};
 ghost use Rattle.reg_tables.specs.Lookups.{Finds};
 ghost use Rattle.reg_tables.specs.Entries.{numbered, numbered_cells, subject_versions, IsReadableNumbered, keyed, keyed_cells, id_versions, IsReadableKeyed};
 
 use crate::idle::Idle;
-use crate::lines::flag_in;
 use crate::statement::{Line, first, list};
+use crate::versions::flag_in;
 use sqlite::{Alter, Error, Row, params};
 use std::alloc::Global;
 
@@ -76,7 +76,7 @@ pub fn versions_of<S: Alter>(
     db: &mut Idle<S>,
     subject: &str,
 ) -> Result<Vec<SubjectVersion>, Error>
-    ensures { Finds db.old db.new result (λ contents lines.
+    ensures { Finds TableName.Versions db.old db.new result (λ contents lines.
         map numbered lines.items ≡ subject_versions subject.now contents) }
 {
     list(
@@ -97,7 +97,7 @@ pub fn last_version_of<S: Alter>(
     db: &mut Idle<S>,
     subject: &str,
 ) -> Result<Option<SubjectVersion>, Error>
-    ensures { Finds db.old db.new result (λ contents found.
+    ensures { Finds TableName.Versions db.old db.new result (λ contents found.
         option_map numbered found ≡ last_or None (subject_versions subject.now contents)) }
 {
     first(
@@ -118,7 +118,7 @@ pub fn last_live_version_of<S: Alter>(
     db: &mut Idle<S>,
     subject: &str,
 ) -> Result<Option<SubjectVersion>, Error>
-    ensures { Finds db.old db.new result (λ contents found.
+    ensures { Finds TableName.Versions db.old db.new result (λ contents found.
         option_map numbered found
         ≡ last_or None (filter (λ version. not version.1.deleted) (subject_versions subject.now contents))) }
 {
@@ -140,7 +140,7 @@ pub fn next_version_of<S: Alter>(
     subject: &str,
     number: u32,
 ) -> Result<Option<SubjectVersion>, Error>
-    ensures { Finds db.old db.new result (λ contents found.
+    ensures { Finds TableName.Versions db.old db.new result (λ contents found.
         option_map numbered found
         ≡ find (λ version. is_gt (nat_cmp version.0 number)) (subject_versions subject.now contents)) }
 {
@@ -161,7 +161,7 @@ pub fn first_version_behind<S: Alter>(
     db: &mut Idle<S>,
     subject: &str,
 ) -> Result<Option<ListedVersion>, Error>
-    ensures { Finds db.old db.new result (λ contents found.
+    ensures { Finds TableName.Versions db.old db.new result (λ contents found.
         option_map keyed found
         ≡ find (λ entry. is_gt (text_cmp entry.0.0 subject.now)) (entries contents.versions)) }
 {
@@ -183,7 +183,7 @@ pub fn versions_of_id<S: Alter>(
     db: &mut Idle<S>,
     id: u32,
 ) -> Result<Vec<ListedVersion>, Error>
-    ensures { Finds db.old db.new result (λ contents lines.
+    ensures { Finds TableName.Versions db.old db.new result (λ contents lines.
         map keyed lines.items ≡ id_versions id contents) }
 {
     list(
@@ -201,7 +201,7 @@ pub fn versions_of_id<S: Alter>(
 /// `OutOfMemory`, a fault of the disk, or `OperationInterrupted` at the limit on steps; where the
 /// tables can't be read, another error too. Nothing is changed.
 pub fn a_version_of_id<S: Alter>(db: &mut Idle<S>, id: u32) -> Result<Option<ListedVersion>, Error>
-    ensures { Finds db.old db.new result (λ contents found.
+    ensures { Finds TableName.Versions db.old db.new result (λ contents found.
         MatchOption found ((key : List ℕ × ℕ) (version : VersionRow)
         → get contents.versions key ≡ Some version → version.id ≢ id)
         (λ line. (get contents.versions (keyed line).0 ≡ Some (keyed line).1) × (line.id ≡ id))) }
@@ -220,7 +220,7 @@ pub fn a_version_of_id<S: Alter>(db: &mut Idle<S>, id: u32) -> Result<Option<Lis
 /// `OutOfMemory`, a fault of the disk, or `OperationInterrupted` at the limit on steps; where the
 /// tables can't be read, another error too. Nothing is changed.
 pub fn all_versions<S: Alter>(alloc: Global, db: &mut Idle<S>) -> Result<Vec<ListedVersion>, Error>
-    ensures { Finds db.old db.new result (λ contents lines.
+    ensures { Finds TableName.Versions db.old db.new result (λ contents lines.
         map keyed lines.items ≡ entries contents.versions) }
 {
     list(

@@ -1,24 +1,27 @@
 //! What the database says of itself: its format, its layout, the global level and the global mode.
 
-ghost use Rattle.std.specs.Prelude.{◌≡◌, ◌+◌, ℕ, List, [], ◌∷◌, None, Some, OnOk, IfErr, MatchOption, codes, string_bytes};
+ghost use Rattle.std.specs.Prelude.{◌≡◌, ◌+◌, ℕ, [], ◌∷◌, None, Some, IfErr, MatchOption, codes, string_bytes, ◌⊎◌, IfOk};
 ghost use Rattle.std.specs.FinMap.{get};
-ghost use Rattle.reg_tables.specs.Frames.{state_in, StaysInside};
+ghost use Rattle.reg_tables.specs.Frames.{shown};
 ghost use Rattle.sqlite.specs.State.{HasCleanDisk};
 ghost use Rattle.sqlite.specs.declared.types.Value.TheVariants.{Text};
-ghost use Rattle.reg_tables.specs.Layout.{meta, HasTablesFirst};
-ghost use Rattle.reg_tables.specs.Lookups.{Finds};
+ghost use Rattle.reg_tables.specs.Layout.{meta, TakesMeta, HasFiveTables};
+ghost use Rattle.reg_tables.specs.Lookups.{Finds, Lists};
 ghost use Rattle.reg_tables.specs.Rooms.{HasRoom, CanBeStored};
-ghost use Rattle.reg_tables.specs.Contents.{Contents, Holds, AreReadable, HoldsIn};
-ghost use Rattle.reg_tables.specs.SecondLayout.{IsWritten};
-ghost use Rattle.reg_tables.specs.SecondContents.{SecondContents};
-ghost use Rattle.reg_tables.specs.Changes.{with_meta, with_global, with_global_mode, numbered_second};
-ghost use Rattle.reg_tables.specs.Writing.{HoldsBeside, WhereHeld, Changes};
-ghost use Rattle.reg_tables.specs.FailedCalls.{IsWriteFault, IsInsertFault};
-ghost use Rattle.reg_tables.specs.Inside.Keyed.{meta_table};
+ghost use Rattle.reg_tables.specs.Contents.{Contents, Holds, TableName, pair_form};
+ghost use Rattle.reg_tables.specs.Changes.{with_meta, with_global, with_global_mode, numbered_layout_two};
+ghost use Rattle.reg_tables.specs.Writing.{Alters, Turns};
+ghost use Rattle.reg_tables.specs.FailedCalls.{IsWriteFault, IsInsertFault, IsFault, IsRefused, IsUnreadable};
+ghost use Rattle.reg_tables.specs.Listings.{RowParts, parts_of, entry_parts, meta_entry, ListsMeta};
+ghost use Rattle.reg_tables.specs.Inside.ReadableRows.{IsReadablePair};
+ghost use Rattle.reg_tables.specs.Reads.{CanTellMeta};
+ghost use Rattle.reg_tables.specs.Selects.{ReadsMeta};
 
 use crate::idle::Idle;
 use crate::keyed::{ChangedTable, FilledTable, KeyedTable, find, put, set};
-use sqlite::{Alter, Error, Transaction, params};
+use crate::statement::{Line, list};
+use sqlite::{Alter, Error, Row, Transaction, params};
+use std::alloc::Global;
 
 /// The table `meta`.
 struct Meta;
@@ -26,23 +29,7 @@ struct Meta;
 impl KeyedTable for Meta {
     type Found = String;
 
-    ghost Tables = { Contents };
-
-    ghost Key = { List ℕ };
-
-    ghost Value = { List ℕ };
-
-    ghost Holds = { HoldsIn };
-
-    ghost Others = { SecondContents };
-
-    ghost HoldsWith = { HoldsBeside };
-
-    ghost Known = { HasTablesFirst };
-
-    ghost Readable = { AreReadable };
-
-    ghost table = { λ schema. meta_table };
+    ghost name = { TableName.Meta };
 
     ghost value_of = { string_bytes };
 
@@ -52,7 +39,7 @@ impl KeyedTable for Meta {
 }
 
 impl FilledTable for Meta {
-    ghost Written = { IsWritten };
+    ghost Written = { TakesMeta };
 
     fn put_sql() -> &'static str {
         "INSERT INTO meta (name, value) VALUES (?1, ?2)"
@@ -65,41 +52,49 @@ impl ChangedTable for Meta {
     }
 }
 
+/// A row of `meta`.
+#[derive(Debug, Drop)]
+pub struct MetaLine {
+    pub rowid: i64,
+    pub name: String,
+    pub value: String,
+}
+
+impl Line for MetaLine {
+    ghost Cells = { RowParts };
+
+    ghost shown = { parts_of pair_form };
+
+    ghost cells = { λ line. entry_parts pair_form (meta_entry line) };
+
+    ghost is_readable = { IsReadablePair };
+
+    fn read(row: &Row) -> Result<MetaLine, Error> {
+        Ok(MetaLine {
+            rowid: row.get(0)?,
+            name: row.get(1)?,
+            value: row.get(2)?,
+        })
+    }
+}
+
 /// Says a value under a name that has none.
 pub(crate) fn put_meta<S: Alter>(
     tx: &mut Transaction<'_, S>,
     name: &str,
     value: &str,
 ) -> Result<(), Error>
-    ensures frame { StaysInside S.Store tx.old tx.new result }
-    ensures put { HasCleanDisk (state_in S.Store tx.new) → OnOk result ((contents : Contents)
-        → Holds (state_in S.Store tx.old).now contents → get contents.meta name.now ≡ None
-        → Holds (state_in S.Store tx.new).now (with_meta name.now value.now contents)) }
-    ensures fault { HasCleanDisk (state_in S.Store tx.new) → IfErr result (λ e.
-        (contents : Contents) → Holds (state_in S.Store tx.old).now contents
-        → get contents.meta name.now ≡ None → IsInsertFault (state_in S.Store tx.old) (state_in S.Store tx.new) e) }
-    ensures room { HasCleanDisk (state_in S.Store tx.new) → OnOk result ((contents : Contents)
-        → Holds (state_in S.Store tx.old).now contents
-        → get contents.meta name.now ≡ None
-        → (n : ℕ) → HasRoom ((state_in S.Store tx.old).now.trees meta.tree) (n + 1) → HasRoom ((state_in S.Store tx.new).now.trees meta.tree) n) }
-    ensures fits { HasCleanDisk (state_in S.Store tx.new) → IfErr result (λ e. (contents : Contents)
-        → Holds (state_in S.Store tx.old).now contents
-        → get contents.meta name.now ≡ None
-        → (n : ℕ) → HasRoom ((state_in S.Store tx.old).now.trees meta.tree) (n + 1) → CanBeStored meta (Text name.now ∷ Text value.now ∷ [])
-        → IsWriteFault (state_in S.Store tx.old) (state_in S.Store tx.new) e) }
+    ensures { Turns IsWriteFault S.Store tx.old tx.new result
+        (λ (about : Contents × ℕ) db. Holds db about.0 × (get about.0.meta name.now ≡ None)
+        × HasRoom (db.trees meta.tree) (about.1 + 1) × CanBeStored meta (Text name.now ∷ Text value.now ∷ []))
+        (λ about db. Holds db (with_meta name.now value.now about.0) × HasRoom (db.trees meta.tree) about.1) }
 {
     put::<S, Meta>(tx, params![name, value])
 }
 
 /// Says a value under a name, in place of the one that it may have.
 fn set_meta<S: Alter>(tx: &mut Transaction<'_, S>, name: &str, value: &str) -> Result<(), Error>
-    ensures frame { StaysInside S.Store tx.old tx.new result }
-    ensures set { HasCleanDisk (state_in S.Store tx.new)
-        → OnOk result (Changes (state_in S.Store tx.old) (state_in S.Store tx.new)
-        (with_meta name.now value.now)) }
-    ensures fault { HasCleanDisk (state_in S.Store tx.new) → IfErr result (λ e.
-        WhereHeld (state_in S.Store tx.old) (λ contents.
-        IsInsertFault (state_in S.Store tx.old) (state_in S.Store tx.new) e)) }
+    ensures { Alters IsInsertFault S.Store tx.old tx.new result (with_meta name.now value.now) }
 {
     set::<S, Meta>(tx, params![name], params![name, value])
 }
@@ -114,13 +109,7 @@ fn set_meta<S: Alter>(tx: &mut Transaction<'_, S>, name: &str, value: &str) -> R
 /// row; another where the tables aren't a layout's. Nothing is committed, and the transaction is
 /// to be rolled back.
 pub fn set_global<S: Alter>(tx: &mut Transaction<'_, S>, level: &str) -> Result<(), Error>
-    ensures frame { StaysInside S.Store tx.old tx.new result }
-    ensures set { HasCleanDisk (state_in S.Store tx.new)
-        → OnOk result (Changes (state_in S.Store tx.old) (state_in S.Store tx.new)
-        (with_global level.now)) }
-    ensures fault { HasCleanDisk (state_in S.Store tx.new) → IfErr result (λ e.
-        WhereHeld (state_in S.Store tx.old) (λ contents.
-        IsInsertFault (state_in S.Store tx.old) (state_in S.Store tx.new) e)) }
+    ensures { Alters IsInsertFault S.Store tx.old tx.new result (with_global level.now) }
 {
     set_meta(tx, "global", level)
 }
@@ -131,30 +120,19 @@ pub fn set_global<S: Alter>(tx: &mut Transaction<'_, S>, level: &str) -> Result<
 ///
 /// As `set_global`.
 pub fn set_global_mode<S: Alter>(tx: &mut Transaction<'_, S>, mode: &str) -> Result<(), Error>
-    ensures frame { StaysInside S.Store tx.old tx.new result }
-    ensures set { HasCleanDisk (state_in S.Store tx.new)
-        → OnOk result (Changes (state_in S.Store tx.old) (state_in S.Store tx.new)
-        (with_global_mode mode.now)) }
-    ensures fault { HasCleanDisk (state_in S.Store tx.new) → IfErr result (λ e.
-        WhereHeld (state_in S.Store tx.old) (λ contents.
-        IsInsertFault (state_in S.Store tx.old) (state_in S.Store tx.new) e)) }
+    ensures { Alters IsInsertFault S.Store tx.old tx.new result (with_global_mode mode.now) }
 {
     set_meta(tx, "mode", mode)
 }
 
 /// Says that the layout is the second, and that the global mode is READWRITE, as a registry's of
-/// layout 1 is. The tables stay those that are there: `add_tables` makes the others.
+/// layout 1 is, once `add_tables` has made its tables.
 ///
 /// # Errors
 ///
 /// As `set_global`.
-pub fn number_second<S: Alter>(tx: &mut Transaction<'_, S>) -> Result<(), Error>
-    ensures frame { StaysInside S.Store tx.old tx.new result }
-    ensures numbered { HasCleanDisk (state_in S.Store tx.new)
-        → OnOk result (Changes (state_in S.Store tx.old) (state_in S.Store tx.new) numbered_second) }
-    ensures fault { HasCleanDisk (state_in S.Store tx.new) → IfErr result (λ e.
-        WhereHeld (state_in S.Store tx.old) (λ contents.
-        IsInsertFault (state_in S.Store tx.old) (state_in S.Store tx.new) e)) }
+pub fn number_layout_two<S: Alter>(tx: &mut Transaction<'_, S>) -> Result<(), Error>
+    ensures { Alters IsInsertFault S.Store tx.old tx.new result numbered_layout_two }
 {
     set_meta(tx, "layout", "2")?;
     set_global_mode(tx, "READWRITE")
@@ -167,9 +145,26 @@ pub fn number_second<S: Alter>(tx: &mut Transaction<'_, S>) -> Result<(), Error>
 /// `OutOfMemory`, a fault of the disk, or `OperationInterrupted` at the limit on steps; where the
 /// tables can't be read, another error too. Nothing is changed.
 pub fn global_level<S: Alter>(db: &mut Idle<S>) -> Result<Option<String>, Error>
-    ensures { Finds db.old db.new result (λ contents found.
+    ensures { Finds TableName.Meta db.old db.new result (λ contents found.
         MatchOption found (get contents.meta (codes "global") ≡ None)
         (λ level. get contents.meta (codes "global") ≡ Some (string_bytes level))) }
 {
     find::<S, Meta>(db, params!["global"])
+}
+
+/// All rows of `meta`, in any order, whatever tables follow the five. In a database that doesn't
+/// begin with the five tables, `meta` may be any table or view.
+///
+/// # Errors
+///
+/// `OutOfMemory`, a disk fault, or `OperationInterrupted` at the limit on steps; another error if
+/// SQLite rejects the statement or a row doesn't fit the line. Nothing is changed.
+pub fn meta_lines<S: Alter>(alloc: Global, db: &mut Idle<S>) -> Result<Vec<MetaLine>, Error>
+    ensures lists { Lists db.old db.new result HasFiveTables CanTellMeta ListsMeta }
+    ensures reads { HasCleanDisk (shown db.new)
+        → IfOk result (λ lines. ReadsMeta (shown db.old).now lines.items) }
+    ensures fails { HasCleanDisk (shown db.new) → IfErr result (λ e.
+        IsFault (shown db.old) (shown db.new) e ⊎ (IsRefused e ⊎ IsUnreadable e)) }
+{
+    list(alloc, db, "SELECT rowid, name, value FROM meta", &[])
 }

@@ -1,18 +1,18 @@
 //! The own modes of subjects, which layout 2 has.
 
-ghost use Rattle.std.specs.Prelude.{◌≡◌, ◌⊎◌, ⊤, ℕ, List, None, Some, OnOk, IfOk, IfErr, MatchOption, string_bytes};
+ghost use Rattle.std.specs.Prelude.{◌≡◌, ◌⊎◌, ⊤, ℕ, List, None, Some, MatchOption, string_bytes};
 ghost use Rattle.std.specs.FinMap.{get};
 ghost use Rattle.sqlite.specs.Schema.{Schema};
-ghost use Rattle.sqlite.specs.State.{HasCleanDisk};
-ghost use Rattle.reg_tables.specs.Frames.{shown, state_in, StaysInside, StaysIdle};
-ghost use Rattle.reg_tables.specs.Contents.{pair_form};
-ghost use Rattle.reg_tables.specs.Listings.{RowParts, parts_of, entry_parts};
-ghost use Rattle.reg_tables.specs.SecondLayout.{IsSecond, HasSecondTables};
-ghost use Rattle.reg_tables.specs.SecondContents.{SecondContents, HoldsAllIn, AreAllReadable, CanBeReadSecond, HasSecondLayout, ChangesSecond, with_mode, without_mode};
-ghost use Rattle.reg_tables.specs.SecondListings.{mode_entry, ListsModes};
-ghost use Rattle.reg_tables.specs.FailedCalls.{IsFault, IsWriteFault, IsInsertFault, IsUnreadable};
+ghost use Rattle.reg_tables.specs.Contents.{pair_form, TableName};
+ghost use Rattle.reg_tables.specs.Lookups.{Lists};
+ghost use Rattle.reg_tables.specs.Listings.{RowParts, parts_of, entry_parts, mode_entry, ListsModes};
+ghost use Rattle.reg_tables.specs.Layout.{IsLayoutTwo, HasEightTables};
+ghost use Rattle.reg_tables.specs.Reads.{CanBeReadIn};
+ghost use Rattle.reg_tables.specs.Writing.{Alters};
+ghost use Rattle.reg_tables.specs.Changes.{with_mode, without_mode};
+ghost use Rattle.reg_tables.specs.FailedCalls.{IsWriteFault, IsInsertFault};
 ghost use Rattle.reg_tables.specs.Inside.ReadableRows.{IsReadablePair};
-ghost use Rattle.reg_tables.specs.Inside.SecondKeyed.{modes_table};
+ghost use Rattle.reg_tables.specs.Lookups.{Finds};
 
 use crate::idle::Idle;
 use crate::keyed::{ChangedTable, FilledTable, KeyedTable, drop, find, set};
@@ -26,23 +26,7 @@ struct Modes;
 impl KeyedTable for Modes {
     type Found = String;
 
-    ghost Tables = { SecondContents };
-
-    ghost Key = { List ℕ };
-
-    ghost Value = { List ℕ };
-
-    ghost Holds = { HoldsAllIn };
-
-    ghost Others = { ⊤ };
-
-    ghost HoldsWith = { λ schema others. HoldsAllIn schema };
-
-    ghost Known = { HasSecondTables };
-
-    ghost Readable = { AreAllReadable };
-
-    ghost table = { modes_table };
+    ghost name = { TableName.Modes };
 
     ghost value_of = { string_bytes };
 
@@ -52,7 +36,7 @@ impl KeyedTable for Modes {
 }
 
 impl FilledTable for Modes {
-    ghost Written = { IsSecond };
+    ghost Written = { IsLayoutTwo };
 
     fn put_sql() -> &'static str {
         "INSERT INTO modes (subject, mode) VALUES (?1, ?2)"
@@ -99,14 +83,7 @@ impl Line for ModeLine {
 /// `TransactionState` where a failure has ended the transaction; another where the tables aren't
 /// the layout's. Nothing is committed, and the transaction is to be rolled back.
 pub fn drop_mode<S: Alter>(tx: &mut Transaction<'_, S>, subject: &str) -> Result<(), Error>
-    ensures frame { StaysInside S.Store tx.old tx.new result }
-    ensures dropped { HasCleanDisk (state_in S.Store tx.new)
-        → OnOk result (ChangesSecond (state_in S.Store tx.old) (state_in S.Store tx.new)
-        (without_mode subject.now)) }
-    ensures fault { HasCleanDisk (state_in S.Store tx.new) → IfErr result (λ e.
-        (schema : Schema) → IsSecond schema
-        → (contents : SecondContents) → HoldsAllIn schema (state_in S.Store tx.old).now contents
-        → IsWriteFault (state_in S.Store tx.old) (state_in S.Store tx.new) e) }
+    ensures { Alters IsWriteFault S.Store tx.old tx.new result (without_mode subject.now) }
 {
     drop::<S, Modes>(tx, params![subject])
 }
@@ -125,14 +102,7 @@ pub fn set_mode<S: Alter>(
     subject: &str,
     mode: &str,
 ) -> Result<(), Error>
-    ensures frame { StaysInside S.Store tx.old tx.new result }
-    ensures set { HasCleanDisk (state_in S.Store tx.new)
-        → OnOk result (ChangesSecond (state_in S.Store tx.old) (state_in S.Store tx.new)
-        (with_mode subject.now mode.now)) }
-    ensures fault { HasCleanDisk (state_in S.Store tx.new) → IfErr result (λ e.
-        (schema : Schema) → IsSecond schema
-        → (contents : SecondContents) → HoldsAllIn schema (state_in S.Store tx.old).now contents
-        → IsInsertFault (state_in S.Store tx.old) (state_in S.Store tx.new) e) }
+    ensures { Alters IsInsertFault S.Store tx.old tx.new result (with_mode subject.now mode.now) }
 {
     set::<S, Modes>(tx, params![subject], params![subject, mode])
 }
@@ -144,15 +114,9 @@ pub fn set_mode<S: Alter>(
 /// `OutOfMemory`, a fault of the disk, or `OperationInterrupted` at the limit on steps; where the
 /// tables can't be read, another error too. Nothing is changed.
 pub fn own_mode<S: Alter>(db: &mut Idle<S>, subject: &str) -> Result<Option<String>, Error>
-    ensures frame { StaysIdle S.Store db.old.conn db.new.conn result }
-    ensures found { HasCleanDisk (shown db.new) → IfOk result (λ found.
-        (schema : Schema) → HasSecondTables schema
-        → (contents : SecondContents) → HoldsAllIn schema (shown db.old).now contents
-        → MatchOption found (get contents.modes subject.now ≡ None)
+    ensures { Finds TableName.Modes db.old db.new result (λ contents found.
+        MatchOption found (get contents.modes subject.now ≡ None)
         (λ mode. get contents.modes subject.now ≡ Some (string_bytes mode))) }
-    ensures fault { HasCleanDisk (shown db.new) → IfErr result (λ e.
-        CanBeReadSecond (shown db.old)
-        → IsFault (shown db.old) (shown db.new) e) }
 {
     find::<S, Modes>(db, params![subject])
 }
@@ -164,16 +128,7 @@ pub fn own_mode<S: Alter>(db: &mut Idle<S>, subject: &str) -> Result<Option<Stri
 /// `OutOfMemory`, a fault of the disk, or `OperationInterrupted` at the limit on steps; another
 /// where a row holds what the line can't. Nothing is changed.
 pub fn mode_lines<S: Alter>(alloc: Global, db: &mut Idle<S>) -> Result<Vec<ModeLine>, Error>
-    ensures frame { StaysIdle S.Store db.old.conn db.new.conn result }
-    ensures listed { HasCleanDisk (shown db.new) → IfOk result (λ lines.
-        HasSecondTables (shown db.old).now.schema
-        → ListsModes (shown db.old).now lines.items) }
-    ensures fault { HasCleanDisk (shown db.new) → IfErr result (λ e.
-        CanBeReadSecond (shown db.old)
-        → IsFault (shown db.old) (shown db.new) e) }
-    ensures told { HasCleanDisk (shown db.new) → IfErr result (λ e.
-        HasSecondLayout (shown db.old)
-        → IsFault (shown db.old) (shown db.new) e ⊎ IsUnreadable e) }
+    ensures { Lists db.old db.new result HasEightTables (CanBeReadIn HasEightTables) ListsModes }
 {
     list(alloc, db, "SELECT rowid, subject, mode FROM modes", &[])
 }

@@ -4,14 +4,14 @@ ghost use Rattle.std.specs.Prelude.{pos};
 ghost use Rattle.sqlite.specs.declared.types.Value.{Value};
 ghost use Rattle.sqlite.specs.declared.types.Value.TheVariants.{Int};
 ghost use Rattle.sqlite.specs.Order.{column};
-ghost use Rattle.reg_tables.specs.Layout.{HasTablesFirst};
+ghost use Rattle.reg_tables.specs.Layout.{HasFiveTables};
 ghost use Rattle.reg_tables.specs.Lookups.{Lists};
-ghost use Rattle.reg_tables.specs.Listings.{ListsIds, ListsTextsBetween};
-ghost use Rattle.reg_tables.specs.Inside.ReadableRows.{IsReadableId};
+ghost use Rattle.reg_tables.specs.Listings.{ListsIds, ListsTextsBetween, RowParts, parts_of, entry_parts, text_entry};
+ghost use Rattle.reg_tables.specs.Inside.ReadableRows.{IsReadableId, IsReadableText};
 ghost use Rattle.reg_tables.specs.Reads.{CanBeRead};
+ghost use Rattle.reg_tables.specs.Contents.{text_form};
 
 use crate::idle::Idle;
-use crate::lines::TextLine;
 use crate::statement::{Line, list};
 use sqlite::{Alter, Error, Row, params};
 use std::alloc::Global;
@@ -31,6 +31,30 @@ impl Line for u32 {
     }
 }
 
+/// A row of `texts`.
+#[derive(Debug, Drop)]
+pub struct TextLine {
+    pub id: u32,
+    pub text: String,
+}
+
+impl Line for TextLine {
+    ghost Cells = { RowParts };
+
+    ghost shown = { parts_of text_form };
+
+    ghost cells = { λ line. entry_parts text_form (text_entry line) };
+
+    ghost is_readable = { IsReadableText };
+
+    fn read(row: &Row) -> Result<TextLine, Error> {
+        Ok(TextLine {
+            id: row.get(0)?,
+            text: row.get(2)?,
+        })
+    }
+}
+
 /// The ids of all rows of `texts`, in any order.
 ///
 /// # Errors
@@ -38,7 +62,7 @@ impl Line for u32 {
 /// `OutOfMemory`, a fault of the disk, or `OperationInterrupted` at the limit on steps; another
 /// where a rowid is no `u32`. Nothing is changed.
 pub fn text_ids<S: Alter>(alloc: Global, db: &mut Idle<S>) -> Result<Vec<u32>, Error>
-    ensures { Lists db.old db.new result HasTablesFirst CanBeRead ListsIds }
+    ensures { Lists db.old db.new result HasFiveTables CanBeRead ListsIds }
 {
     list(alloc, db, "SELECT id FROM texts", &[])
 }
@@ -55,7 +79,7 @@ pub fn texts_between<S: Alter>(
     low: u32,
     high: u32,
 ) -> Result<Vec<TextLine>, Error>
-    ensures { Lists db.old db.new result HasTablesFirst CanBeRead (ListsTextsBetween low high) }
+    ensures { Lists db.old db.new result HasFiveTables CanBeRead (ListsTextsBetween low high) }
 {
     list(
         alloc,

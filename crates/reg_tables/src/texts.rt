@@ -4,13 +4,11 @@ ghost use Rattle.std.specs.Prelude.{⊤, List, ◌≡◌, ◌≢◌, ◌≤◌, 
 ghost use Rattle.std.specs.FinMap.{get};
 ghost use Rattle.reg_tables.specs.Frames.{state_in, StaysInside};
 ghost use Rattle.sqlite.specs.State.{HasCleanDisk};
-ghost use Rattle.reg_tables.specs.Contents.{Contents, number_cells, AreReadable, HoldsIn};
+ghost use Rattle.reg_tables.specs.Contents.{number_cells, TableName};
 ghost use Rattle.reg_tables.specs.Lookups.{Finds};
-ghost use Rattle.reg_tables.specs.Layout.{HasTablesFirst};
 ghost use Rattle.reg_tables.specs.Changes.{with_text};
 ghost use Rattle.reg_tables.specs.Writing.{WhereHeld, ChangesIf};
 ghost use Rattle.reg_tables.specs.FailedCalls.{IsPutFault};
-ghost use Rattle.reg_tables.specs.Inside.Keyed.{texts_table};
 
 use crate::idle::Idle;
 use crate::keyed::{KeyedTable, find};
@@ -23,23 +21,7 @@ struct Texts;
 impl KeyedTable for Texts {
     type Found = String;
 
-    ghost Tables = { Contents };
-
-    ghost Key = { ℕ };
-
-    ghost Value = { List ℕ };
-
-    ghost Holds = { HoldsIn };
-
-    ghost Others = { ⊤ };
-
-    ghost HoldsWith = { λ schema others. HoldsIn schema };
-
-    ghost Known = { HasTablesFirst };
-
-    ghost Readable = { AreReadable };
-
-    ghost table = { λ schema. texts_table };
+    ghost name = { TableName.Texts };
 
     ghost value_of = { string_bytes };
 
@@ -79,7 +61,7 @@ pub fn put_text<S: Alter>(tx: &mut Transaction<'_, S>, id: u32, text: &str) -> R
 /// `OutOfMemory`, a fault of the disk, or `OperationInterrupted` at the limit on steps; where the
 /// tables can't be read, another error too. Nothing is changed.
 pub fn text_of<S: Alter>(db: &mut Idle<S>, id: u32) -> Result<Option<String>, Error>
-    ensures { Finds db.old db.new result (λ contents found.
+    ensures { Finds TableName.Texts db.old db.new result (λ contents found.
         MatchOption found (get contents.texts id ≡ None)
         (λ text. get contents.texts id ≡ Some (string_bytes text))) }
 {
@@ -102,7 +84,7 @@ fn number_in(row: &Row) -> Result<u32, Error>
 /// `OutOfMemory`, a fault of the disk, or `OperationInterrupted` at the limit on steps; where the
 /// tables can't be read, another error too. Nothing is changed.
 pub fn id_of<S: Alter>(db: &mut Idle<S>, text: &str) -> Result<Option<u32>, Error>
-    ensures { Finds db.old db.new result (λ contents found.
+    ensures { Finds TableName.Texts db.old db.new result (λ contents found.
         MatchOption found ((id : ℕ) → get contents.texts id ≢ Some text.now)
         (λ id. get contents.texts id ≡ Some text.now)) }
 {
@@ -120,7 +102,7 @@ pub fn id_of<S: Alter>(db: &mut Idle<S>, text: &str) -> Result<Option<u32>, Erro
 /// `OutOfMemory`, a fault of the disk, or `OperationInterrupted` at the limit on steps; where the
 /// tables can't be read, another error too. Nothing is changed.
 pub fn last_id<S: Alter>(db: &mut Idle<S>) -> Result<Option<u32>, Error>
-    ensures { Finds db.old db.new result (λ contents found.
+    ensures { Finds TableName.Texts db.old db.new result (λ contents found.
         MatchOption found ((id : ℕ) → get contents.texts id ≡ None)
         (λ id. IsSome (get contents.texts id)
         × ((other : ℕ) → IsSome (get contents.texts other) → other ≤ id))) }

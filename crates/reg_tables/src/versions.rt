@@ -1,26 +1,27 @@
 //! The versions of subjects: one is put, dropped, marked as deleted or found, by its subject and its number.
 
-ghost use Rattle.std.specs.Prelude.{List, [], ◌∷◌, ◌≡◌, ◌<◌, ◌^◌, ℕ, None, Some, IsSome, OnOk, IfErr, MatchOption};
+ghost use Rattle.std.specs.Prelude.{[], ◌∷◌, ◌≡◌, ◌<◌, ◌^◌, None, Some, IsSome, OnOk, IfErr, MatchOption, Bool, length, IfOk, false};
 ghost use Rattle.std.specs.FinMap.{get};
 ghost use Rattle.sqlite.specs.Order.{column};
 ghost use Rattle.reg_tables.specs.Frames.{state_in, StaysInside};
 ghost use Rattle.sqlite.specs.State.{HasCleanDisk};
-ghost use Rattle.reg_tables.specs.Contents.{VersionRow, Contents, version_cells, AreReadable, HoldsIn};
-ghost use Rattle.reg_tables.specs.Lookups.{Finds};
-ghost use Rattle.reg_tables.specs.Layout.{HasTablesFirst};
-ghost use Rattle.reg_tables.specs.SecondLayout.{IsWritten};
-ghost use Rattle.reg_tables.specs.SecondContents.{SecondContents, without_evidence};
-ghost use Rattle.reg_tables.specs.Changes.{with_version, with_deleted};
-ghost use Rattle.reg_tables.specs.Writing.{HoldsBeside, WhereHeld, Changes, ChangesIf, ChangesAll};
+ghost use Rattle.reg_tables.specs.Contents.{VersionRow, version_cells, TableName, flag_cell, version_form};
+ghost use Rattle.reg_tables.specs.Lookups.{Finds, Lists};
+ghost use Rattle.reg_tables.specs.Changes.{without_version, with_version, with_deleted};
+ghost use Rattle.reg_tables.specs.Writing.{Alters, WhereHeld, ChangesIf};
 ghost use Rattle.reg_tables.specs.FailedCalls.{IsWriteFault, IsInsertFault};
 ghost use Rattle.reg_tables.specs.Entries.{version_row};
-ghost use Rattle.reg_tables.specs.Inside.Keyed.{versions_table};
+ghost use Rattle.reg_tables.specs.Layout.{IsLayoutTwo, HasFiveTables};
+ghost use Rattle.reg_tables.specs.Listings.{RowParts, parts_of, entry_parts, version_entry, ListsVersions};
+ghost use Rattle.reg_tables.specs.Inside.ReadableRows.{IsReadableVersion};
+ghost use Rattle.reg_tables.specs.Reads.{CanBeRead};
+ghost use Rattle.reg_tables.specs.Inside.FailedLists.{IsReadingError};
 
 use crate::idle::Idle;
 use crate::keyed::{FilledTable, KeyedTable, find, put};
-use crate::lines::flag_in;
-use crate::statement::{Line, run};
+use crate::statement::{Line, list, run};
 use sqlite::{Alter, Error, ErrorCode, Row, Transaction, params};
+use std::alloc::Global;
 
 /// What a version of a subject is: the id of its text, and whether it is marked as deleted.
 #[derive(Debug, Clone, Copy)]
@@ -50,23 +51,7 @@ struct Versions;
 impl KeyedTable for Versions {
     type Found = VersionEntry;
 
-    ghost Tables = { Contents };
-
-    ghost Key = { List ℕ × ℕ };
-
-    ghost Value = { VersionRow };
-
-    ghost Holds = { HoldsIn };
-
-    ghost Others = { SecondContents };
-
-    ghost HoldsWith = { HoldsBeside };
-
-    ghost Known = { HasTablesFirst };
-
-    ghost Readable = { AreReadable };
-
-    ghost table = { λ schema. versions_table };
+    ghost name = { TableName.Versions };
 
     ghost value_of = { version_row };
 
@@ -76,10 +61,56 @@ impl KeyedTable for Versions {
 }
 
 impl FilledTable for Versions {
-    ghost Written = { IsWritten };
+    ghost Written = { IsLayoutTwo };
 
     fn put_sql() -> &'static str {
         "INSERT INTO versions (subject, version, id, deleted) VALUES (?1, ?2, ?3, ?4)"
+    }
+}
+
+/// A row of `versions`.
+#[derive(Debug, Drop)]
+pub struct VersionLine {
+    pub rowid: i64,
+    pub subject: String,
+    pub version: u32,
+    pub id: u32,
+    pub deleted: bool,
+}
+
+impl Line for VersionLine {
+    ghost Cells = { RowParts };
+
+    ghost shown = { parts_of version_form };
+
+    ghost cells = { λ line. entry_parts version_form (version_entry line) };
+
+    ghost is_readable = { IsReadableVersion };
+
+    fn read(row: &Row) -> Result<VersionLine, Error> {
+        Ok(VersionLine {
+            rowid: row.get(0)?,
+            subject: row.get(1)?,
+            version: row.get(2)?,
+            id: row.get(3)?,
+            deleted: flag_in(row, 4)?,
+        })
+    }
+}
+
+/// Whether a column that is 0 or 1 is 1.
+pub(crate) fn flag_in(row: &Row, at: usize) -> Result<bool, Error>
+    ensures ok { IfOk result (λ flag. column row.now at ≡ flag_cell flag) }
+    ensures err { IfErr result (λ e. at < length row.now
+        → (flag : Bool) → column row.now at ≡ flag_cell flag
+        → e ≡ Error.SqliteFailure ErrorCode.OutOfMemory) }
+    ensures named { IfErr result IsReadingError }
+{
+    let number: u32 = row.get(at)?;
+    match number {
+        0 => Ok(false),
+        1 => Ok(true),
+        _ => Err(Error::IntegralValueOutOfRange(at)),
     }
 }
 
@@ -111,8 +142,7 @@ pub fn put_version<S: Alter>(
     put::<S, Versions>(tx, params![subject, number, id, deleted])
 }
 
-/// Drops the version of a subject that has the number, if there is one, and its evidence, which
-/// layout 2 has.
+/// Drops the version of a subject that has the number, if there is one, and its evidence.
 ///
 /// # Errors
 ///
@@ -124,13 +154,7 @@ pub fn drop_version<S: Alter>(
     subject: &str,
     number: u32,
 ) -> Result<(), Error>
-    ensures frame { StaysInside S.Store tx.old tx.new result }
-    ensures dropped { HasCleanDisk (state_in S.Store tx.new)
-        → OnOk result (ChangesAll (state_in S.Store tx.old) (state_in S.Store tx.new)
-        (without_evidence (subject.now, number))) }
-    ensures fault { HasCleanDisk (state_in S.Store tx.new) → IfErr result (λ e.
-        WhereHeld (state_in S.Store tx.old) (λ contents.
-        IsWriteFault (state_in S.Store tx.old) (state_in S.Store tx.new) e)) }
+    ensures { Alters IsWriteFault S.Store tx.old tx.new result (without_version (subject.now, number)) }
 {
     run(
         tx,
@@ -153,13 +177,7 @@ pub fn mark_deleted<S: Alter>(
     subject: &str,
     number: u32,
 ) -> Result<(), Error>
-    ensures frame { StaysInside S.Store tx.old tx.new result }
-    ensures marked { HasCleanDisk (state_in S.Store tx.new)
-        → OnOk result (Changes (state_in S.Store tx.old) (state_in S.Store tx.new)
-        (with_deleted (subject.now, number))) }
-    ensures fault { HasCleanDisk (state_in S.Store tx.new) → IfErr result (λ e.
-        WhereHeld (state_in S.Store tx.old) (λ contents.
-        IsInsertFault (state_in S.Store tx.old) (state_in S.Store tx.new) e)) }
+    ensures { Alters IsInsertFault S.Store tx.old tx.new result (with_deleted (subject.now, number)) }
 {
     run(
         tx,
@@ -179,9 +197,26 @@ pub fn version_of<S: Alter>(
     subject: &str,
     number: u32,
 ) -> Result<Option<VersionEntry>, Error>
-    ensures { Finds db.old db.new result (λ contents found.
+    ensures { Finds TableName.Versions db.old db.new result (λ contents found.
         MatchOption found (get contents.versions (subject.now, number) ≡ None)
         (λ entry. get contents.versions (subject.now, number) ≡ Some (version_row entry))) }
 {
     find::<S, Versions>(db, params![subject, number])
+}
+
+/// All rows of `versions`, in any order.
+///
+/// # Errors
+///
+/// `OutOfMemory`, a fault of the disk, or `OperationInterrupted` at the limit on steps; another
+/// where a row holds what the line can't. Nothing is changed.
+pub fn version_lines<S: Alter>(alloc: Global, db: &mut Idle<S>) -> Result<Vec<VersionLine>, Error>
+    ensures { Lists db.old db.new result HasFiveTables CanBeRead ListsVersions }
+{
+    list(
+        alloc,
+        db,
+        "SELECT rowid, subject, version, id, deleted FROM versions",
+        &[],
+    )
 }

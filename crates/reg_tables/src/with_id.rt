@@ -2,6 +2,7 @@
 
 ghost use Rattle.std.specs.Prelude.{◌≡◌, ◌==◌, ◌&&◌, ◌||◌, None, not, map, filter, option_map};
 ghost use Rattle.std.specs.List.{last_or};
+ghost use Rattle.reg_tables.specs.Contents.{TableName};
 ghost use Rattle.reg_tables.specs.Lookups.{Finds};
 ghost use Rattle.reg_tables.specs.Entries.{AreOfId, keyed, most, numbered, subject_versions};
 
@@ -26,7 +27,7 @@ pub fn some_versions_of_id<S: Alter>(
     db: &mut Idle<S>,
     id: u32,
 ) -> Result<Vec<ListedVersion>, Error>
-    ensures { Finds db.old db.new result (λ contents lines.
+    ensures { Finds TableName.Versions db.old db.new result (λ contents lines.
         AreOfId id contents (map keyed lines.items)) }
 {
     list(
@@ -51,7 +52,7 @@ pub fn last_version_with_id<S: Alter>(
     id: u32,
     deleted: bool,
 ) -> Result<Option<SubjectVersion>, Error>
-    ensures { Finds db.old db.new result (λ contents found.
+    ensures { Finds TableName.Versions db.old db.new result (λ contents found.
         option_map numbered found
         ≡ last_or None (filter (λ version. (deleted || not version.1.deleted) && (version.1.id == id))
         (subject_versions subject.now contents))) }

@@ -12,13 +12,14 @@ use Rattle.reg_core.specs.Levels.{level_text}
 use Rattle.reg_core.specs.Registry.{RowKey}
 use Rattle.reg_core.specs.Stored.{Stored, new_stored}
 use Rattle.reg_core.specs.Views.{ChangeFits, ChangesFit}
-use Rattle.reg_tables.specs.SecondLayout.{IsSecond, second_unindexed, second_indexed_last}
-use Rattle.reg_tables.specs.SecondContents.{SecondContents, HoldsAllIn, with_evidence, with_against}
+use Rattle.reg_tables.specs.Layout.{IsLayoutTwo, layout_two_unindexed, layout_two_indexed_last}
+use Rattle.reg_tables.specs.Contents.{Contents, HoldsIn}
+use Rattle.reg_tables.specs.Changes.{with_evidence, with_against}
 use Rattle.reg_tables.specs.FailedCalls.{IsInsertFault}
 use Rattle.reg_store.specs.declared.keep.Keep.{Keep}
 use Rattle.reg_store.specs.declared.layout.Layout.{Layout}
-use Rattle.reg_store.specs.declared.layout.Layout.TheVariants.{First, Second}
-use Rattle.reg_store.specs.Spells.{SpellsFirst, LeavesFirst, IsOpenOverFirst, Spells, Leaves, IsOpenOver}
+use Rattle.reg_store.specs.declared.layout.Layout.TheVariants.{One, Two}
+use Rattle.reg_store.specs.Spells.{SpellsLayoutOne, LeavesLayoutOne, IsOpenOverLayoutOne, Spells, Leaves, IsOpenOver}
 use Rattle.reg_store.specs.Changes.{IsNewTo, made_of, stored_after, SpellsInside}
 
 -- the tables spelled a registry that can have the change, and now spell what is stored after it
@@ -48,60 +49,60 @@ IsFaultOfReply old new keep e = (was : Stored) → SpellsInside old was → IsNe
 -- ---- the evidence of a new version
 
 -- the ids stand at the positions of the version from this one on
-abbrev pub with_ids : RowKey → ℕ → List ℕ → SecondContents → SecondContents
+abbrev pub with_ids : RowKey → ℕ → List ℕ → Contents → Contents
 with_ids key n [] contents = contents
 with_ids key n (id ∷ ids) contents = with_ids key (n + 1) ids (with_against (key, n) id contents)
 
 -- the version has this evidence
-abbrev pub with_own : RowKey → Evidence → SecondContents → SecondContents
+abbrev pub with_own : RowKey → Evidence → Contents → Contents
 with_own key own contents = with_ids key 1 own.against (with_evidence key (level_text own.level) contents)
 
 -- the version has no place
-abbrev pub HasNoPlace : SecondContents → RowKey → Type 0
+abbrev pub HasNoPlace : Contents → RowKey → Type 0
 HasNoPlace contents key = (position : ℕ) → get contents.against (key, position) ≡ None
 
 -- the version is there, and so are texts with these ids
-pub record HasTexts (contents : SecondContents) (key : RowKey) (ids : List ℕ) : Type 0 where
-  pub version : IsSome (get contents.base.versions key)
-  pub texts : All (λ id. IsSome (get contents.base.texts id)) ids
+pub record HasTexts (contents : Contents) (key : RowKey) (ids : List ℕ) : Type 0 where
+  pub version : IsSome (get contents.versions key)
+  pub texts : All (λ id. IsSome (get contents.texts id)) ids
 
 -- where the version had no place, the ids now stand at its positions from 1 on
 pub record PutsIds (old new : State) (key : RowKey) (ids : List ℕ) : Type 0 where
   pub few : length ids < 2 ^ 32
-  pub puts : (schema : Schema) → IsSecond schema → (contents : SecondContents) → HoldsAllIn schema old.now contents → HasNoPlace contents key → HoldsAllIn schema new.now (with_ids key 1 ids contents)
+  pub puts : (schema : Schema) → IsLayoutTwo schema → (contents : Contents) → HoldsIn schema old.now contents → HasNoPlace contents key → HoldsIn schema new.now (with_ids key 1 ids contents)
 
 -- so they can, but for a reason that each write has
 abbrev pub IsFaultOfIds : State → State → RowKey → List ℕ → Error → Type 0
-IsFaultOfIds old new key ids e = (schema : Schema) → IsSecond schema → (contents : SecondContents) → HoldsAllIn schema old.now contents → HasNoPlace contents key → HasTexts contents key ids → IsInsertFault old new e
+IsFaultOfIds old new key ids e = (schema : Schema) → IsLayoutTwo schema → (contents : Contents) → HoldsIn schema old.now contents → HasNoPlace contents key → HasTexts contents key ids → IsInsertFault old new e
 
 -- where the version had no evidence, it now has this
 pub record PutsOwn (old new : State) (key : RowKey) (own : Evidence) : Type 0 where
   pub few : length own.against < 2 ^ 32
-  pub puts : (schema : Schema) → IsSecond schema → (contents : SecondContents) → HoldsAllIn schema old.now contents → get contents.evidence key ≡ None → HasNoPlace contents key → HoldsAllIn schema new.now (with_own key own contents)
+  pub puts : (schema : Schema) → IsLayoutTwo schema → (contents : Contents) → HoldsIn schema old.now contents → get contents.evidence key ≡ None → HasNoPlace contents key → HoldsIn schema new.now (with_own key own contents)
 
 -- so it can, but for a reason that each write has
 abbrev pub IsFaultOfOwn : State → State → RowKey → Evidence → Error → Type 0
-IsFaultOfOwn old new key own e = (schema : Schema) → IsSecond schema → (contents : SecondContents) → HoldsAllIn schema old.now contents → get contents.evidence key ≡ None → HasNoPlace contents key → HasTexts contents key own.against → IsInsertFault old new e
+IsFaultOfOwn old new key own e = (schema : Schema) → IsLayoutTwo schema → (contents : Contents) → HoldsIn schema old.now contents → get contents.evidence key ≡ None → HasNoPlace contents key → HasTexts contents key own.against → IsInsertFault old new e
 
 -- ---- an index that is made
 
 -- the trees are those of these tables with the index, whatever contents they hold without it
 abbrev pub TakesIndex : Database → Trees → Type 0
-TakesIndex before db = (held : SecondContents) → HoldsAllIn second_unindexed before held → HoldsAllIn second_indexed_last (record { schema = second_indexed_last; trees = db }) held
+TakesIndex before db = (held : Contents) → HoldsIn layout_two_unindexed before held → HoldsIn layout_two_indexed_last (record { schema = layout_two_indexed_last; trees = db }) held
 
 -- ---- a new registry, in either layout
 
 -- the tables spell it
 abbrev pub SpellsNew : Layout → Database → Type 0
-SpellsNew First db = SpellsFirst db new_stored
-SpellsNew Second db = Spells db new_stored
+SpellsNew One db = SpellsLayoutOne db new_stored
+SpellsNew Two db = Spells db new_stored
 
 -- the connection is open over it
 abbrev pub IsNew : Layout → State → Type 0
-IsNew First s = IsOpenOverFirst s new_stored
-IsNew Second s = IsOpenOver s new_stored
+IsNew One s = IsOpenOverLayoutOne s new_stored
+IsNew Two s = IsOpenOver s new_stored
 
 -- a crash leaves it
 abbrev pub LeavesNew : Layout → Trees → Type 0
-LeavesNew First db = LeavesFirst db new_stored
-LeavesNew Second db = Leaves db new_stored
+LeavesNew One db = LeavesLayoutOne db new_stored
+LeavesNew Two db = Leaves db new_stored

@@ -8,7 +8,7 @@ use Rattle.sqlite_trees.specs.declared.store.Store.{Ghosts}
 use Rattle.reg_store.specs.declared.error.StoreError.{StoreError}
 use Rattle.reg_store.specs.declared.idle.Idle.{Idle}
 use Rattle.reg_core.specs.Stored.{Stored}
-use Rattle.reg_tables.specs.Layout.{HasTablesFirst}
+use Rattle.reg_tables.specs.Layout.{HasFiveTables}
 use Rattle.reg_tables.specs.Contents.{Contents, HoldsIn, AreReadable}
 use Rattle.reg_store.specs.Spells.{IsSpelled, SpellsWhileOpen}
 use Rattle.reg_store.specs.Failures.{IsFaultBy}
@@ -20,7 +20,7 @@ shown {S} {g} db = state g db.idle.conn
 -- the five tables that each layout has come first, hold what can be read, and spell a registry, but for its modes, and kept replies
 pub record SpellsBase (db : Database) (was : Stored) : Type 0 where
   pub schema : Schema
-  pub first : HasTablesFirst schema
+  pub first : HasFiveTables schema
   pub contents : Contents
   pub holds : HoldsIn schema db contents
   pub readable : AreReadable contents

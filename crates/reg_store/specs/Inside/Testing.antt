@@ -7,18 +7,16 @@ use Rattle.sqlite.specs.Effect.{Database}
 use Rattle.sqlite.specs.Held.{Held, state}
 use Rattle.sqlite.specs.State.{HasCleanDisk}
 use Rattle.sqlite_trees.specs.declared.store.Store.{Ghosts}
-use Rattle.reg_tables.specs.declared.lines.TextLine.{TextLine}
-use Rattle.reg_tables.specs.declared.lines.VersionLine.{VersionLine}
-use Rattle.reg_tables.specs.declared.lines.LevelLine.{LevelLine}
-use Rattle.reg_tables.specs.declared.lines.KeptLine.{KeptLine}
-use Rattle.reg_tables.specs.declared.lines.MetaLine.{MetaLine}
+use Rattle.reg_tables.specs.declared.text_lines.TextLine.{TextLine}
+use Rattle.reg_tables.specs.declared.versions.VersionLine.{VersionLine}
+use Rattle.reg_tables.specs.declared.levels.LevelLine.{LevelLine}
+use Rattle.reg_tables.specs.declared.kept.KeptLine.{KeptLine}
+use Rattle.reg_tables.specs.declared.meta.MetaLine.{MetaLine}
 use Rattle.reg_tables.specs.declared.modes.ModeLine.{ModeLine}
-use Rattle.reg_tables.specs.declared.second_lines.EvidenceLine.{EvidenceLine}
-use Rattle.reg_tables.specs.declared.second_lines.AgainstLine.{AgainstLine}
-use Rattle.reg_tables.specs.Layout.{HasTablesFirst}
-use Rattle.reg_tables.specs.SecondLayout.{HasSecondTables}
-use Rattle.reg_tables.specs.Listings.{ListsIds, ListsTexts, ListsVersions, ListsLevels, ListsKept, ListsMeta}
-use Rattle.reg_tables.specs.SecondListings.{ListsModes, ListsEvidence, ListsAgainst, ListsAgainstOf, HasAgainstRows}
+use Rattle.reg_tables.specs.declared.evidence.EvidenceLine.{EvidenceLine}
+use Rattle.reg_tables.specs.declared.evidence.AgainstLine.{AgainstLine}
+use Rattle.reg_tables.specs.Layout.{HasFiveTables, HasEightTables}
+use Rattle.reg_tables.specs.Listings.{ListsIds, ListsTexts, ListsVersions, ListsLevels, ListsKept, ListsMeta, ListsModes, ListsEvidence, ListsAgainst, ListsAgainstOf, HasAgainstRows}
 use Rattle.reg_tables.specs.Frames.{StaysIdle}
 use Rattle.reg_rows.specs.Spelling.{pair_of, IsIdentity, AreNumbered, AreTexts, FitsVersions, FitsLevels, FitsKept, FitsModes, FitsEvidence}
 use Rattle.reg_rows.specs.Meta.{Pair, is_meta, is_second_meta, layout_in}
@@ -28,10 +26,10 @@ use Rattle.reg_core.specs.Stored.{Stored}
 use Rattle.reg_store.specs.declared.error.StoreError.{StoreError}
 use Rattle.reg_store.specs.declared.error.StoreError.TheVariants.{Memory, Disk, NotARegistry, OldLayout, NewerLayout}
 use Rattle.reg_store.specs.declared.layout.Layout.{Layout}
-use Rattle.reg_store.specs.declared.layout.Layout.TheVariants.{First, Second}
+use Rattle.reg_store.specs.declared.layout.Layout.TheVariants.{One, Two}
 use Rattle.reg_store.specs.Failures.{IsFaultBy, IsTold}
 use Rattle.reg_store.specs.Opening.{text_shown, meta_shown}
-use Rattle.reg_store.specs.Spells.{SpellsFirst, SpellsUnopened}
+use Rattle.reg_store.specs.Spells.{SpellsLayoutOne, SpellsUnopened}
 use Rattle.reg_store.specs.Inside.Reads.{SpellsBase}
 
 -- no number comes twice
@@ -69,13 +67,13 @@ pairs_of lines = map pair_of (map meta_shown lines)
 
 -- the number of a layout
 abbrev pub number_of : Layout → ℕ
-number_of First = 1
-number_of Second = 2
+number_of One = 1
+number_of Two = 2
 
 -- whether these are the rows of `meta` in the layout
 abbrev pub is_meta_of : Layout → List Pair → Bool
-is_meta_of First = is_meta
-is_meta_of Second = is_second_meta
+is_meta_of One = is_meta
+is_meta_of Two = is_second_meta
 
 pub record MetaPass (layout : Layout) (db : Database) : Type 0 where
   pub lines : List MetaLine
@@ -102,7 +100,7 @@ pub record RestPasses (db : Database) : Type 0 where
   pub kept : KeptPass db
 
 -- the five tables of a layout
-pub record TablesPass (layout : Layout) (db : Database) : Type 0 where
+pub record FivePass (layout : Layout) (db : Database) : Type 0 where
   pub meta : MetaPass layout db
   pub rest : RestPasses db
 
@@ -152,8 +150,8 @@ pub record AddedPass (db : Database) : Type 0 where
   pub evidence : EvidencePasses db
 
 -- the eight tables of layout 2
-pub record SecondPasses (db : Database) : Type 0 where
-  pub base : TablesPass Second db
+pub record EightPass (db : Database) : Type 0 where
+  pub base : FivePass Two db
   pub added : AddedPass db
 
 -- ---- texts, of which some are held at a time
@@ -232,8 +230,8 @@ pub record SpellsSome (Spells : Database → Stored → Type 0) (db : Database) 
 
 -- the tables spell a registry in the layout
 abbrev pub SpellsAs : Layout → Database → Type 0
-SpellsAs First = SpellsSome SpellsFirst
-SpellsAs Second = SpellsSome SpellsUnopened
+SpellsAs One = SpellsSome SpellsLayoutOne
+SpellsAs Two = SpellsSome SpellsUnopened
 
 -- ---- a test
 
@@ -245,9 +243,9 @@ pub record Tests {S X : Type 0} (Declared : Schema → Type 0) (Spelled : Databa
   pub told : HasCleanDisk (state g new) → IfErr result (λ e. (IsTrue (state g old).is_open → Declared (state g old).now.schema) → IsTold (state g old) (state g new) e)
 
 -- a test of the five tables that each layout has
-abbrev pub TestsBase : {S X : Type 0} → Ghosts S → Held S → Held S → Result X StoreError → (X → Database → Type 0) → Type 0
-TestsBase = Tests HasTablesFirst (SpellsSome SpellsBase)
+abbrev pub TestsFive : {S X : Type 0} → Ghosts S → Held S → Held S → Result X StoreError → (X → Database → Type 0) → Type 0
+TestsFive = Tests HasFiveTables (SpellsSome SpellsBase)
 
 -- a test of the eight tables of layout 2
-abbrev pub TestsSecond : {S X : Type 0} → Ghosts S → Held S → Held S → Result X StoreError → (X → Database → Type 0) → Type 0
-TestsSecond = Tests HasSecondTables (SpellsAs Second)
+abbrev pub TestsEight : {S X : Type 0} → Ghosts S → Held S → Held S → Result X StoreError → (X → Database → Type 0) → Type 0
+TestsEight = Tests HasEightTables (SpellsAs Two)

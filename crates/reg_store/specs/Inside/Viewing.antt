@@ -13,7 +13,7 @@ use Rattle.reg_core.specs.Rows.{known_id, text_at}
 use Rattle.reg_core.specs.Machine.{subject_of, sends_schema, schema_sent}
 use Rattle.reg_core.specs.Needs.{AnswerAs, rows_asked, rows_needed, needs_levels, needs_modes, needs_count}
 use Rattle.reg_core.specs.Views.{level_of_view}
-use Rattle.reg_tables.specs.declared.lines.MetaLine.{MetaLine}
+use Rattle.reg_tables.specs.declared.meta.MetaLine.{MetaLine}
 use Rattle.reg_tables.specs.declared.listed.ListedVersion.{ListedVersion}
 use Rattle.reg_tables.specs.Contents.{VersionRow}
 use Rattle.reg_tables.specs.Entries.{NumberedVersion, KeyedVersion, most}

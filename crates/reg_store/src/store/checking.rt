@@ -4,12 +4,12 @@ ghost use Rattle.std.specs.Prelude.{◌≡◌, IfOk, IfErr, None, false};
 ghost use Rattle.sqlite.specs.Held.{state};
 ghost use Rattle.sqlite.specs.State.{HasCleanDisk};
 ghost use Rattle.reg_tables.specs.Frames.{StaysIdle};
-ghost use Rattle.reg_store.specs.Opening.{FindsFirst};
+ghost use Rattle.reg_store.specs.Opening.{FindsLayoutOne};
 ghost use Rattle.reg_store.specs.UnopenedFaults.{IsUnread};
 
 use crate::error::StoreError;
 use crate::idle::Idle;
-use crate::testing::test_first;
+use crate::testing::test_layout_one;
 use sqlite::{Alter, Connection};
 use std::alloc::Global;
 
@@ -30,7 +30,7 @@ pub fn check_first<S: Alter>(
     ensures unlimited { result.1.step_limit ≡ None }
     ensures frame { StaysIdle S.Store (record connection { step_limit = None }) result.1 result.0 }
     ensures found { HasCleanDisk (state S.Store result.1)
-        → IfOk result.0 (FindsFirst (state S.Store connection).now) }
+        → IfOk result.0 (FindsLayoutOne (state S.Store connection).now) }
     ensures fails { HasCleanDisk (state S.Store result.1)
         → IfErr result.0 (IsUnread (state S.Store connection) (state S.Store result.1)) }
 {
@@ -39,7 +39,7 @@ pub fn check_first<S: Alter>(
     let mut db = Idle {
         idle: reg_tables::Idle { conn: connection },
     };
-    let found = test_first(alloc, &mut db);
+    let found = test_layout_one(alloc, &mut db);
     let Idle { idle } = db;
     let reg_tables::Idle { conn } = idle;
     (found, conn)

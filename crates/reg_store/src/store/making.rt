@@ -6,9 +6,9 @@ ghost use Rattle.sqlite.specs.Held.{state};
 ghost use Rattle.sqlite.specs.State.{HasCleanDisk, Survives, KeepsCommit};
 ghost use Rattle.reg_core.specs.Stored.{new_stored};
 ghost use Rattle.reg_tables.specs.Layout.{no_schema};
-ghost use Rattle.reg_tables.specs.Frames.{state_in, StaysInside};
 ghost use Rattle.reg_tables.specs.FailedCalls.{IsWriteFault};
-ghost use Rattle.reg_store.specs.Spells.{LeavesFirst, IsOpenOverFirst, Leaves, IsOpenOver};
+ghost use Rattle.reg_tables.specs.Writing.{Turns, IsEmpty};
+ghost use Rattle.reg_store.specs.Spells.{LeavesLayoutOne, IsOpenOverLayoutOne, Leaves, IsOpenOver};
 ghost use Rattle.reg_store.specs.Failures.{failure_of, IsFaultBy};
 ghost use Rattle.reg_store.specs.Stores.{connection_of, state_of, has_failed, LeavesBefore, IsUnmade};
 ghost use Rattle.reg_store.specs.Inside.Making.{SpellsNew, IsNew, LeavesNew};
@@ -57,7 +57,7 @@ impl<S: Alter> Store<S> {
         let mut db = Idle {
             idle: reg_tables::Idle { conn: connection },
         };
-        let made = make_in(&mut db, Layout::Second);
+        let made = make_in(&mut db, Layout::Two);
         let _idle = db.idle.conn.is_autocommit();
         match made {
             Ok(()) => Ok(Store {
@@ -109,16 +109,16 @@ pub fn create_first<S: Alter>(
     requires { connection.in_transaction ≡ false }
     ensures idle { result.1.in_transaction ≡ false }
     ensures done { HasCleanDisk (state S.Store result.1)
-        → OnOk result.0 (IsOpenOverFirst (state S.Store result.1) new_stored) }
+        → OnOk result.0 (IsOpenOverLayoutOne (state S.Store result.1) new_stored) }
     ensures full { (state S.Store connection).now.schema ≢ no_schema
         → IsErrAnd result.0 (λ e. e ≡ StoreError.NotARegistry) }
 
-    ensures fails { IfErr result.0 (IsUnmade (λ db. LeavesFirst db new_stored)
+    ensures fails { IfErr result.0 (IsUnmade (λ db. LeavesLayoutOne db new_stored)
         (state S.Store connection) (state S.Store result.1)) }
 
     // A crash leaves the new registry.
     ensures crash_after { HasCleanDisk (state S.Store result.1) → OnOk result.0 ((db : Trees)
-        → (state S.Store result.1).may_leave db → LeavesFirst db new_stored) }
+        → (state S.Store result.1).may_leave db → LeavesLayoutOne db new_stored) }
 {
     connection.set_step_limit(None);
     if !has_no_tables(&connection) {
@@ -128,7 +128,7 @@ pub fn create_first<S: Alter>(
     let mut db = Idle {
         idle: reg_tables::Idle { conn: connection },
     };
-    let made = make_in(&mut db, Layout::First);
+    let made = make_in(&mut db, Layout::One);
     let _idle = db.idle.conn.is_autocommit();
     let Idle { idle } = db;
     let reg_tables::Idle { conn } = idle;
@@ -159,16 +159,10 @@ fn make_in<S: Alter>(db: &mut Idle<S>, layout: Layout) -> Result<(), Error>
 
 /// Makes the tables of a new registry.
 fn make_tables<S: Alter>(tx: &mut Transaction<'_, S>, layout: Layout) -> Result<(), Error>
-    ensures frame { StaysInside S.Store tx.old tx.new result }
-    ensures made { HasCleanDisk (state_in S.Store tx.new)
-        → OnOk result ((state_in S.Store tx.old).now.schema ≡ no_schema
-        → SpellsNew layout (state_in S.Store tx.new).now) }
-    ensures fault { HasCleanDisk (state_in S.Store tx.new) → IfErr result (λ e.
-        (state_in S.Store tx.old).now.schema ≡ no_schema
-        → IsWriteFault (state_in S.Store tx.old) (state_in S.Store tx.new) e) }
+    ensures { Turns IsWriteFault S.Store tx.old tx.new result IsEmpty (λ _. SpellsNew layout) }
 {
     match layout {
-        Layout::First => reg_tables::create(tx),
-        Layout::Second => reg_tables::create_second(tx),
+        Layout::One => reg_tables::create_layout_one(tx),
+        Layout::Two => reg_tables::create_layout_two(tx),
     }
 }

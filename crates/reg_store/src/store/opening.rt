@@ -4,8 +4,8 @@ ghost use Rattle.std.specs.Prelude.{◌≡◌, ◌⊎◌, IfOk, IfErr, OnOk, OnE
 ghost use Rattle.sqlite.specs.Tree.{Trees};
 ghost use Rattle.sqlite.specs.Held.{state};
 ghost use Rattle.sqlite.specs.State.{HasCleanDisk, Survives, KeepsCommit};
-ghost use Rattle.reg_tables.specs.SecondLayout.{second_unindexed, second_indexed_last};
-ghost use Rattle.reg_tables.specs.SecondContents.{SecondContents, HoldsAllIn};
+ghost use Rattle.reg_tables.specs.Layout.{layout_two_unindexed, layout_two_indexed_last};
+ghost use Rattle.reg_tables.specs.Contents.{Contents, HoldsIn};
 ghost use Rattle.reg_store.specs.Failures.{failure_of, IsFaultBy};
 ghost use Rattle.reg_store.specs.Opening.{OpensOver, IsIndexed, LosesNothing};
 ghost use Rattle.reg_store.specs.Stores.{state_of, has_failed, LeavesBefore, LeavesConnection};
@@ -17,8 +17,8 @@ use crate::error::StoreError;
 use crate::idle::Idle;
 use crate::open_connection::require_open;
 use crate::store::Store;
-use crate::testing::test_second;
-use reg_tables::{index_versions, is_second_unindexed};
+use crate::testing::test_layout_two;
+use reg_tables::{index_versions, is_unindexed_two};
 use sqlite::{Alter, Connection, Error};
 use std::alloc::Global;
 
@@ -90,8 +90,8 @@ fn make_ready<S: Alter>(alloc: Global, db: &mut Idle<S>) -> Result<(), StoreErro
 {
     let _live = db.idle.conn.schema();
     let _idle = db.idle.conn.is_autocommit();
-    test_second(alloc, db)?;
-    if !is_second_unindexed(&db.idle.conn) {
+    test_layout_two(alloc, db)?;
+    if !is_unindexed_two(&db.idle.conn) {
         return require_open(db);
     }
     let made = make_index(db);
@@ -104,11 +104,11 @@ fn make_index<S: Alter>(db: &mut Idle<S>) -> Result<(), Error>
     ensures done { HasCleanDisk (shown db.new) → OnOk result (
         IsTrue (shown db.old).is_open × IsTrue (shown db.new).is_open
         × ((shown db.new).committed ≡ (shown db.new).now)
-        × ((contents : SecondContents) → HoldsAllIn second_unindexed (shown db.old).now contents
-        → HoldsAllIn second_indexed_last (shown db.new).now contents)) }
+        × ((contents : Contents) → HoldsIn layout_two_unindexed (shown db.old).now contents
+        → HoldsIn layout_two_indexed_last (shown db.new).now contents)) }
     ensures fault { HasCleanDisk (shown db.new) → IfErr result (λ e.
         (IsTrue (shown db.old).is_open
-        → (contents : SecondContents) × HoldsAllIn second_unindexed (shown db.old).now contents)
+        → (contents : Contents) × HoldsIn layout_two_unindexed (shown db.old).now contents)
         → IsFaultBy (shown db.old) (shown db.new) (failure_of e)) }
     ensures nothing { HasCleanDisk (shown db.new)
         → OnErr result (KeepsCommit (shown db.old) (shown db.new)) }

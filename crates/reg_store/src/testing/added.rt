@@ -2,10 +2,10 @@
 
 ghost use Rattle.std.specs.Prelude.{◌≡◌, ◌↔◌, ◌<◌, ◌++◌, ℤ, List, map, length, IfOk, IfErr, OnOk, IsTrue};
 ghost use Rattle.std.specs.List.{AllByRecursion};
-ghost use Rattle.reg_tables.specs.SecondListings.{ListsEvidence, HasAgainstRows, greatest_integer};
+ghost use Rattle.reg_tables.specs.Listings.{ListsEvidence, HasAgainstRows, greatest_integer};
 ghost use Rattle.reg_rows.specs.Places.{place_in};
 ghost use Rattle.reg_store.specs.Failures.{IsNumberless};
-ghost use Rattle.reg_store.specs.Inside.Testing.{AreApart, mode_fits, evidence_fits, against_fits, version_at, place_at, StandInOrder, rowids_in, JudgesVersion, TellsIds, ModesPass, EvidencePasses, AddedPass, TestsSecond};
+ghost use Rattle.reg_store.specs.Inside.Testing.{AreApart, mode_fits, evidence_fits, against_fits, version_at, place_at, StandInOrder, rowids_in, JudgesVersion, TellsIds, ModesPass, EvidencePasses, AddedPass, TestsEight};
 
 use crate::error::StoreError;
 use crate::idle::Idle;
@@ -66,7 +66,7 @@ impl Tested for AgainstLine {
 
 /// Reads `modes`, and tests it.
 fn test_modes<S: Alter>(alloc: Global, db: &mut Idle<S>) -> Result<(), StoreError>
-    ensures tests { TestsSecond S.Store db.old.idle.conn db.new.idle.conn result (λ _. ModesPass) }
+    ensures tests { TestsEight S.Store db.old.idle.conn db.new.idle.conn result (λ _. ModesPass) }
     ensures plain { IfErr result IsNumberless }
 {
     let lines = mode_lines(alloc, &mut db.idle)?;
@@ -75,7 +75,7 @@ fn test_modes<S: Alter>(alloc: Global, db: &mut Idle<S>) -> Result<(), StoreErro
 
 /// The lines of `evidence`.
 fn read_evidence<S: Alter>(alloc: Global, db: &mut Idle<S>) -> Result<Vec<EvidenceLine>, StoreError>
-    ensures tests { TestsSecond S.Store db.old.idle.conn db.new.idle.conn result
+    ensures tests { TestsEight S.Store db.old.idle.conn db.new.idle.conn result
         (λ lines db. ListsEvidence db lines.items) }
     ensures plain { IfErr result IsNumberless }
 {
@@ -125,7 +125,7 @@ fn judge_version<S: Alter>(
     version: &EvidenceLine,
     rowids: &mut Vec<i64>,
 ) -> Result<bool, StoreError>
-    ensures tests { TestsSecond S.Store db.old.idle.conn db.new.idle.conn result
+    ensures tests { TestsEight S.Store db.old.idle.conn db.new.idle.conn result
         (λ fit db. (added : List ℤ) × (rowids.new.items ≡ rowids.old.items ++ added)
         × JudgesVersion (version_at version.now) db added fit) }
     ensures plain { IfErr result IsNumberless }
@@ -142,7 +142,7 @@ fn judge_version<S: Alter>(
 
 /// How many rows `against` has.
 fn count_against<S: Alter>(db: &mut Idle<S>) -> Result<u64, StoreError>
-    ensures tests { TestsSecond S.Store db.old.idle.conn db.new.idle.conn result
+    ensures tests { TestsEight S.Store db.old.idle.conn db.new.idle.conn result
         (λ count db. HasAgainstRows db count) }
     ensures plain { IfErr result IsNumberless }
 {
@@ -167,7 +167,7 @@ fn read_ids<S: Alter>(
     db: &mut Idle<S>,
     evidence: &[EvidenceLine],
 ) -> Result<Ids, StoreError>
-    ensures tests { TestsSecond S.Store db.old.idle.conn db.new.idle.conn result
+    ensures tests { TestsEight S.Store db.old.idle.conn db.new.idle.conn result
         (λ ids db. TellsIds (map version_at evidence.now) db ids.rowids.items ids.fit ids.count) }
     ensures plain { IfErr result IsNumberless }
 {
@@ -212,7 +212,7 @@ fn pass_evidence(alloc: Global, evidence: &[EvidenceLine], ids: Ids) -> Result<b
 
 /// Reads `evidence` and `against`, and tests them.
 fn test_evidence<S: Alter>(alloc: Global, db: &mut Idle<S>) -> Result<(), StoreError>
-    ensures tests { TestsSecond S.Store db.old.idle.conn db.new.idle.conn result (λ _. EvidencePasses) }
+    ensures tests { TestsEight S.Store db.old.idle.conn db.new.idle.conn result (λ _. EvidencePasses) }
     ensures plain { IfErr result IsNumberless }
 {
     let _idle = db.idle.conn.is_autocommit();
@@ -223,7 +223,7 @@ fn test_evidence<S: Alter>(alloc: Global, db: &mut Idle<S>) -> Result<(), StoreE
 
 /// Reads the tables that layout 2 adds, and tests them.
 pub(crate) fn test_added<S: Alter>(alloc: Global, db: &mut Idle<S>) -> Result<(), StoreError>
-    ensures tests { TestsSecond S.Store db.old.idle.conn db.new.idle.conn result (λ _. AddedPass) }
+    ensures tests { TestsEight S.Store db.old.idle.conn db.new.idle.conn result (λ _. AddedPass) }
     ensures plain { IfErr result IsNumberless }
 {
     let _idle = db.idle.conn.is_autocommit();

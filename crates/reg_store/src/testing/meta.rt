@@ -2,7 +2,7 @@
 
 ghost use Rattle.std.specs.Prelude.{◌≡◌, ◌↔◌, map, IfOk, IfErr, OnOk, IsTrue};
 ghost use Rattle.sqlite.specs.State.{HasCleanDisk};
-ghost use Rattle.reg_tables.specs.Layout.{HasTablesFirst};
+ghost use Rattle.reg_tables.specs.Layout.{HasFiveTables};
 ghost use Rattle.reg_store.specs.Failures.{IsTold};
 ghost use Rattle.reg_store.specs.Opening.{meta_shown, IsRefusedAs, TellsOther};
 ghost use Rattle.reg_rows.specs.Spelling.{pair_of};
@@ -39,8 +39,8 @@ fn number_of(layout: Layout) -> u32
     ensures { result ≡ number_of layout }
 {
     match layout {
-        Layout::First => 1,
-        Layout::Second => 2,
+        Layout::One => 1,
+        Layout::Two => 2,
     }
 }
 
@@ -49,8 +49,8 @@ fn is_meta_of(rows: &[(String, String)], layout: Layout) -> bool
     ensures { result ≡ is_meta_of layout (map pair_of rows.now) }
 {
     match layout {
-        Layout::First => is_meta(rows),
-        Layout::Second => is_second_meta(rows),
+        Layout::One => is_meta(rows),
+        Layout::Two => is_second_meta(rows),
     }
 }
 
@@ -98,7 +98,7 @@ pub(crate) fn test_meta<S: Alter>(
     db: &mut Idle<S>,
     layout: Layout,
 ) -> Result<(), StoreError>
-    ensures tests { Tests HasTablesFirst (SpellsAs layout)
+    ensures tests { Tests HasFiveTables (SpellsAs layout)
         S.Store db.old.idle.conn db.new.idle.conn result (λ _. MetaPass layout) }
     ensures told { HasCleanDisk (shown db.new) → IfErr result (IsTold (shown db.old) (shown db.new)) }
     ensures refused { HasCleanDisk (shown db.new)

@@ -2,12 +2,12 @@
 
 ghost use Rattle.std.specs.Prelude.{◌↔◌, ◌≤◌, IfOk, IfErr, IsTrue};
 ghost use Rattle.std.specs.List.{AllByRecursion};
-ghost use Rattle.reg_tables.specs.Layout.{HasTablesFirst};
+ghost use Rattle.reg_tables.specs.Layout.{HasFiveTables};
 ghost use Rattle.reg_tables.specs.Listings.{ListsTexts, ListsTextsBetween};
 ghost use Rattle.reg_tables.specs.Reads.{HoldsReadable};
 ghost use Rattle.reg_core.specs.Registry.{max_number};
 ghost use Rattle.reg_store.specs.Failures.{IsNumberless};
-ghost use Rattle.reg_store.specs.Inside.Testing.{text_fits, Judges, NumbersTexts, Tests, TestsBase, TextsPass};
+ghost use Rattle.reg_store.specs.Inside.Testing.{text_fits, Judges, NumbersTexts, Tests, TestsFive, TextsPass};
 
 use crate::error::StoreError;
 use crate::idle::Idle;
@@ -35,7 +35,7 @@ fn are_identities(alloc: Global, lines: &[TextLine]) -> Result<bool, OutOfMemory
 
 /// How many texts there are, if their ids are the numbers from 1 on.
 fn count_texts<S: Alter>(alloc: Global, db: &mut Idle<S>) -> Result<u32, StoreError>
-    ensures tests { TestsBase S.Store db.old.idle.conn db.new.idle.conn result
+    ensures tests { TestsFive S.Store db.old.idle.conn db.new.idle.conn result
         (λ count db. NumbersTexts db count) }
     ensures few { IfOk result (λ count. count ≤ max_number) }
     ensures plain { IfErr result IsNumberless }
@@ -54,7 +54,7 @@ fn judge_some<S: Alter>(
     first: u32,
     last: u32,
 ) -> Result<bool, StoreError>
-    ensures tests { Tests HasTablesFirst HoldsReadable S.Store db.old.idle.conn db.new.idle.conn
+    ensures tests { Tests HasFiveTables HoldsReadable S.Store db.old.idle.conn db.new.idle.conn
         result (λ fit db. Judges (ListsTextsBetween first last db) fit) }
     ensures plain { IfErr result IsNumberless }
 {
@@ -66,7 +66,7 @@ fn judge_some<S: Alter>(
 /// each is the identity text of a schema.
 fn judge_all<S: Alter>(alloc: Global, db: &mut Idle<S>, count: u32) -> Result<bool, StoreError>
     requires few { count ≤ max_number }
-    ensures tests { Tests HasTablesFirst HoldsReadable S.Store db.old.idle.conn db.new.idle.conn
+    ensures tests { Tests HasFiveTables HoldsReadable S.Store db.old.idle.conn db.new.idle.conn
         result (λ fit db. NumbersTexts db count → Judges (ListsTexts db) fit) }
     ensures plain { IfErr result IsNumberless }
 {
@@ -82,7 +82,7 @@ fn judge_all<S: Alter>(alloc: Global, db: &mut Idle<S>, count: u32) -> Result<bo
 
 /// Reads `texts`, and tests it.
 pub(crate) fn test_texts<S: Alter>(alloc: Global, db: &mut Idle<S>) -> Result<(), StoreError>
-    ensures tests { TestsBase S.Store db.old.idle.conn db.new.idle.conn result (λ _. TextsPass) }
+    ensures tests { TestsFive S.Store db.old.idle.conn db.new.idle.conn result (λ _. TextsPass) }
     ensures plain { IfErr result IsNumberless }
 {
     let _idle = db.idle.conn.is_autocommit();

@@ -15,8 +15,7 @@ use Rattle.reg_tables.specs.declared.declared.schemas.Placed.{Placed}
 use Rattle.reg_tables.specs.declared.declared.schemas.IndexForm.{IndexForm}
 use Rattle.reg_tables.specs.declared.declared.schemas.IndexForm.TheVariants.{OfKey, OfIds}
 use Rattle.reg_tables.specs.declared.declared.schemas.SchemaForm.{SchemaForm}
-use Rattle.reg_tables.specs.Layout.{column, required, keyed_table, to_texts, versions, versions_of_id, automatic_index}
-use Rattle.reg_tables.specs.SecondLayout.{to_versions}
+use Rattle.reg_tables.specs.Layout.{column, required, keyed_table, to_texts, to_versions, versions, versions_of_id, automatic_index}
 
 -- the column of a STRICT table
 abbrev pub column_of : ColumnForm → Column
@@ -32,9 +31,9 @@ abbrev pub checks_of : Bool → List Term
 checks_of true = versions.checks
 checks_of false = []
 
--- a table of this form, in the first tree
-abbrev pub form_of : TableForm → Table
-form_of form = record (keyed_table form.name.now 0 form.primary.now (map column_of form.columns.now)) {
+-- a table of this form, in no tree yet
+abbrev pub untreed : TableForm → Table
+untreed form = record (keyed_table form.name.now 0 form.primary.now (map column_of form.columns.now)) {
   key = form.key;
   uniques = form.unique.now ∷ [];
   checks = checks_of form.has_flag;
@@ -42,7 +41,7 @@ form_of form = record (keyed_table form.name.now 0 form.primary.now (map column_
 }
 
 abbrev pub table_of : Placed → Table
-table_of placed = record (form_of placed.form.now) { tree = placed.tree }
+table_of placed = record (untreed placed.form.now) { tree = placed.tree }
 
 -- the index that SQLite makes for its key
 abbrev pub key_index_of : Placed → Index

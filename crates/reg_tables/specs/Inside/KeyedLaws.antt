@@ -1,8 +1,7 @@
 -- What is asked of a table that has one row for each key.
 use Rattle.std.specs.Prelude.{◌≡◌, ◌≢◌, ◌⊎◌, ◌/◌, ◌&&◌, ◌||◌, ◌==◌, not, bytes_eq, ℕ, ℤ, Bool, IsTrue, Option, Some, slice_get, length, drop, List, [], ◌∷◌, true, false}
-use Rattle.std.specs.Ordering.{is_eq}
 use Rattle.std.specs.List.{AllByRecursion, list_all}
-use Rattle.std.specs.FinMap.{FinMap, get, IsAntisymmetric}
+use Rattle.std.specs.FinMap.{IsAntisymmetric}
 use Rattle.std.specs.declared.cmp.Ordering.{Ordering}
 use Rattle.std.specs.Cmp.{IsTotalOrder}
 use Rattle.sqlite.specs.declared.types.Value.TheVariants.{Int}
@@ -28,8 +27,9 @@ use Rattle.sqlite_rules.specs.Calls.{ids_of}
 use Rattle.sqlite_rules.specs.Lists.{Has}
 use Rattle.sqlite_typing.specs.Types.{accepts_program, accepts_terms}
 use Rattle.reg_tables.specs.TableMaps.{IsEntry, ShowsMap, Form}
-use Rattle.reg_tables.specs.Inside.Keyed.{Keyed, cells_of}
-use Rattle.reg_tables.specs.Inside.Statements.{IsCommand, IsWhole, TableQuery, IsQuery, Takes, all_rows, plain_query, passes_tests}
+use Rattle.reg_tables.specs.Contents.{TableName, place_of, table_in, KeyOf, ValueOf, form_of, Contents, HoldsIn}
+use Rattle.reg_tables.specs.Inside.Keyed.{tests_of, refers_to, cells_of}
+use Rattle.reg_tables.specs.Inside.Statements.{IsCommand, IsWhole, TableQuery, IsQuery, Takes, all_rows, plain_query}
 
 -- an order in which only equal keys tie
 pub record IsKeyOrder {K : Type 0} (R : K → K → Ordering) : Type 0 where
@@ -69,8 +69,8 @@ pub record IsAt (schema : Schema) (at : ℕ) (table : Table) : Type 0 where
   pub keys : HasKeys schema table
 
 -- the row that is put in for an entry, behind these
-abbrev pub new_row : {C K V : Type 0} → Keyed C K V → List Row → K → V → Row
-new_row t rows key value = Int (next_rowid rows) ∷ cells_of t key value
+abbrev pub new_row : (name : TableName) → List Row → KeyOf name → ValueOf name → Row
+new_row name rows key value = Int (next_rowid rows) ∷ cells_of name key value
 
 -- the row is of the table's types, and passes its checks
 pub record CanStand (table : Table) (row : Row) : Type 0 where
@@ -82,66 +82,58 @@ pub record CanStand (table : Table) (row : Row) : Type 0 where
 abbrev pub is_on : List ℕ → Index → Bool
 is_on columns i = (i.order.digits == 0) && bytes_eq i.columns columns
 
+-- what an index guards in the table is these columns
+abbrev pub AreOn : List ℕ → Table → List Index → Type 0
+AreOn columns table indexes = list_all (λ i. not (guards i table) || is_on columns i) indexes ≡ true
+
 -- the text is an INSERT of one row
-pub record PutsRow {C K V : Type 0} (schema : Schema) (t : Keyed C K V) (sql : List ℕ) : Type 0 where
+pub record PutsRow (schema : Schema) (name : TableName) (sql : List ℕ) : Type 0 where
   pub terms : List Term
   pub width : ℕ
-  pub is : IsCommand schema sql (Insert t.at (Values terms width))
-  pub whole : (key : K) (value : V) → IsWhole sql (length (cells_of t key value)) (understood schema sql)
-  pub typed : (key : K) (value : V) → accepts_terms terms (stamped t.table (cells_of t key value)) ≡ true
-  pub row : (trees : Trees) (key : K) (value : V)
-      → (edit_of trees t.table [] Chosen 0 (value_rows (stamped t.table (cells_of t key value)) width (length terms / width) terms)).news ≡ new_row t (trees t.table.tree) key value ∷ []
-  pub entry : (id : ℤ) (key : K) (value : V) → IsEntry t.form (Int id ∷ cells_of t key value) key value
-  pub stands : (id : ℤ) (key : K) (value : V) → CanStand t.table (Int id ∷ cells_of t key value)
+  pub is : IsCommand schema sql (Insert (place_of name) (Values terms width))
+  pub whole : (key : KeyOf name) (value : ValueOf name) → IsWhole sql (length (cells_of name key value)) (understood schema sql)
+  pub typed : (key : KeyOf name) (value : ValueOf name) → accepts_terms terms (stamped (table_in schema name) (cells_of name key value)) ≡ true
+  pub row : (trees : Trees) (key : KeyOf name) (value : ValueOf name)
+      → (edit_of trees (table_in schema name) [] Chosen 0 (value_rows (stamped (table_in schema name) (cells_of name key value)) width (length terms / width) terms)).news ≡ new_row name (trees (table_in schema name).tree) key value ∷ []
+  pub entry : (id : ℤ) (key : KeyOf name) (value : ValueOf name) → IsEntry (form_of name) (Int id ∷ cells_of name key value) key value
+  pub stands : (id : ℤ) (key : KeyOf name) (value : ValueOf name) → CanStand (table_in schema name) (Int id ∷ cells_of name key value)
 
-abbrev pub deleting : {C K V : Type 0} → Keyed C K V → Program
-deleting t = record { lets = []; body = plain_query t.table.tree t.tests (col 1 0 ∷ []) }
+abbrev pub deleting : Table → List Term → Program
+deleting table tests = record { lets = []; body = plain_query table.tree tests (col 1 0 ∷ []) }
 
 -- the text is a DELETE of the row of a key, to which no foreign key adds, and no other row refers to what goes
-pub record DropsRow {C K V : Type 0} (schema : Schema) (t : Keyed C K V) (sql : List ℕ) : Type 0 where
-  pub idle : IsIdle schema t.table.tree
-  pub refers : (old new : Trees) → KeepsOthers schema t.table.tree old new → ((r : Row) → Has (new t.table.tree) r → Has (old t.table.tree) r) → Refers All schema old → Refers All schema new
-  pub is : IsCommand schema sql (Delete t.at (deleting t))
-  pub whole : (key : K) → IsWhole sql (length (t.form.key_cells key)) (understood schema sql)
-  pub typed : (key : K) → accepts_program schema [] (plain_query t.table.tree t.tests (col 1 0 ∷ [])) (t.form.key_cells key) ≡ true
+pub record DropsRow (schema : Schema) (name : TableName) (sql : List ℕ) : Type 0 where
+  pub idle : IsIdle schema (table_in schema name).tree
+  pub refers : (old new : Trees) → KeepsOthers schema (table_in schema name).tree old new → Refers All schema old → Refers All schema new
+  pub is : IsCommand schema sql (Delete (place_of name) (deleting (table_in schema name) (tests_of name)))
+  pub whole : (key : KeyOf name) → IsWhole sql (length ((form_of name).key_cells key)) (understood schema sql)
+  pub typed : (key : KeyOf name) → accepts_program schema [] (plain_query (table_in schema name).tree (tests_of name) (col 1 0 ∷ [])) ((form_of name).key_cells key) ≡ true
 
--- the key's columns tell a row's key, which the tests test
-pub record HasKey {C K V : Type 0} (t : Keyed C K V) : Type 0 where
-  pub order : IsKeyOrder t.cmp
-  pub distinct : (a b : K) → t.form.key_cells a ≡ t.form.key_cells b → a ≡ b
-  pub test : (row : Row) (k q : K) → t.form.key_of row ≡ t.form.key_cells q → passes_tests t.tests (t.form.key_cells k) row ≡ is_eq (t.cmp q k)
+-- a row that refers to what is there, beside those that were there, breaks no reference
+abbrev pub PutRefers : Schema → TableName → Type 0
+PutRefers schema name = (db : Database) (contents : Contents) → HoldsIn schema db contents → (key : KeyOf name) (value : ValueOf name) → IsTrue (refers_to name contents key value) → (row : Row) → IsEntry (form_of name) row key value
+    → (next : Trees) → KeepsOthers schema (table_in schema name).tree db.trees next → ((r : Row) → Has (next (table_in schema name).tree) r → (r ≡ row) ⊎ Has (db.trees (table_in schema name).tree) r)
+    → ((r : Row) → Has (db.trees (table_in schema name).tree) r → Has (next (table_in schema name).tree) r) → Refers All schema db.trees → Refers All schema next
 
--- what the contents are in each database of this schema, and where a write leaves them
-pub record IsKeyed {C K V : Type 0} (schema : Schema) (Holds : Database → C → Type 0) (t : Keyed C K V) : Type 0 where
+-- rows may be put into the table: a new one breaks no rule, where its key is free and what it refers to is there
+pub record IsKeyed (schema : Schema) (name : TableName) : Type 0 where
   pub apart : AreApart schema
-  pub is_at : IsAt schema t.at t.table
-  pub uncounted : t.table.is_counted ≡ false
-  pub key : HasKey t
+  pub is_at : IsAt schema (place_of name) (table_in schema name)
+  pub uncounted : (table_in schema name).is_counted ≡ false
   -- what an index guards is the key
-  pub guarded : list_all (λ i. not (guards i t.table) || is_on t.table.primary i) schema.indexes ≡ true
-  pub agrees : (a b : Row) (q k : K) → t.form.key_of a ≡ t.form.key_cells q → t.form.key_of b ≡ t.form.key_cells k → agree (record { digits = 0 }) t.table.primary a t.table.primary b ≡ true → q ≡ k
-  pub declared : (db : Database) (contents : C) → Holds db contents → db.schema ≡ schema
-  pub sound : (db : Database) (contents : C) → Holds db contents → IsDatabase db
-  pub shows : (db : Database) (contents : C) → Holds db contents → ShowsMap t.form (db.trees t.table.tree) (get (t.map_of contents))
-  pub turned : (old new : Database) (contents : C) → Holds old contents → (later : FinMap t.cmp V) → TurnsTable schema t.form t.table.tree old new (get later) → Holds new (t.with_map contents later)
-  -- a row that refers to what is there, beside those that were there, breaks no reference
-  pub put_refers : (db : Database) (contents : C) → Holds db contents → (key : K) (value : V) → IsTrue (t.refers contents key value) → (row : Row) → IsEntry t.form row key value
-      → (next : Trees) → KeepsOthers schema t.table.tree db.trees next → ((r : Row) → Has (next t.table.tree) r → (r ≡ row) ⊎ Has (db.trees t.table.tree) r) → ((r : Row) → Has (db.trees t.table.tree) r → Has (next t.table.tree) r)
-      → Refers All schema db.trees → Refers All schema next
-  pub map_is : (contents : C) (map : FinMap t.cmp V) → t.map_of (t.with_map contents map) ≡ map
-  pub last_map : (contents : C) (first last : FinMap t.cmp V) → t.with_map (t.with_map contents first) last ≡ t.with_map contents last
+  pub guarded : AreOn (table_in schema name).primary (table_in schema name) schema.indexes
+  pub agrees : (a b : Row) (q k : KeyOf name) → (form_of name).key_of a ≡ (form_of name).key_cells q → (form_of name).key_of b ≡ (form_of name).key_cells k
+      → agree (record { digits = 0 }) (table_in schema name).primary a (table_in schema name).primary b ≡ true → q ≡ k
+  pub put_refers : PutRefers schema name
 
 -- the query of a key's value
-abbrev pub find_query : {C K V : Type 0} → Keyed C K V → List Term → List (List ℕ) → List ℕ → TableQuery
-find_query t shown names sql = record { sql = sql; tree = t.table.tree; tests = t.tests; shown = shown; names = names; order = []; limit = all_rows }
+abbrev pub find_query : Table → List Term → List Term → List (List ℕ) → List ℕ → TableQuery
+find_query table tests shown names sql = record { sql = sql; tree = table.tree; tests = tests; shown = shown; names = names; order = []; limit = all_rows }
 
 -- in this schema the text is a SELECT of the value of a key
-pub record FindsRow {C K V : Type 0} (schema : Schema) (Holds : Database → C → Type 0) (t : Keyed C K V) (sql : List ℕ) : Type 0 where
-  pub key : HasKey t
-  pub declared : (db : Database) (contents : C) → Holds db contents → db.schema ≡ schema
-  pub shows : (db : Database) (contents : C) → Holds db contents → ShowsMap t.form (db.trees t.table.tree) (get (t.map_of contents))
+pub record FindsRow (schema : Schema) (name : TableName) (sql : List ℕ) : Type 0 where
   pub shown : List Term
   pub names : List (List ℕ)
-  pub is : IsQuery (find_query t shown names sql) schema
-  pub takes : (key : K) → Takes (find_query t shown names sql) (t.form.key_cells key) schema
-  pub whole : (row : Row) (key : K) → eval_all shown (t.form.key_cells key ∷ row ∷ []) ≡ t.form.value_of row
+  pub is : IsQuery (find_query (table_in schema name) (tests_of name) shown names sql) schema
+  pub takes : (key : KeyOf name) → Takes (find_query (table_in schema name) (tests_of name) shown names sql) ((form_of name).key_cells key) schema
+  pub whole : (row : Row) (key : KeyOf name) → eval_all shown ((form_of name).key_cells key ∷ row ∷ []) ≡ (form_of name).value_of row

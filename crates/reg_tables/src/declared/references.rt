@@ -1,8 +1,7 @@
 //! Whether references are those of a form.
 
 ghost use Rattle.std.specs.Prelude.{◌≡◌, ◌↔◌, [], ◌∷◌, IsTrue};
-ghost use Rattle.reg_tables.specs.Layout.{to_texts};
-ghost use Rattle.reg_tables.specs.SecondLayout.{to_versions};
+ghost use Rattle.reg_tables.specs.Layout.{to_texts, to_versions};
 ghost use Rattle.reg_tables.specs.Inside.Forms.{reference_of};
 
 use crate::declared::forms::ReferenceForm;

@@ -3,7 +3,7 @@
 ghost use Rattle.std.specs.Prelude.{◌≡◌, ◌↔◌, [], ◌∷◌, IsTrue, true, false};
 ghost use Rattle.sqlite.specs.declared.types.Value.TheVariants.{Null};
 ghost use Rattle.sqlite.specs.Collation.TheVariants.{Binary};
-ghost use Rattle.reg_tables.specs.Inside.Forms.{checks_of, column_of, form_of, table_of};
+ghost use Rattle.reg_tables.specs.Inside.Forms.{checks_of, column_of, table_of, untreed};
 
 use crate::declared::checks::are_version_checks;
 use crate::declared::forms::{ColumnForm, TableForm};
@@ -51,7 +51,7 @@ fn are_checks(checks: &Terms, has_flag: bool) -> bool
 
 /// What a table has beside its tree, its checks and its references.
 fn has_form(table: &Table, form: &TableForm) -> bool
-    ensures { IsTrue result ↔ (table.now ≡ record (form_of form.now) {
+    ensures { IsTrue result ↔ (table.now ≡ record (untreed form.now) {
       tree = table.now.tree;
       checks = table.now.checks;
       references = table.now.references;

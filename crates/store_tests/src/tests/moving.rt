@@ -157,10 +157,10 @@ impl OldRegistry {
         let mut stop = Stop { is_moved: false };
         let (files, closed) = on_disk(alloc, fault.disk(alloc, &self.files, calls)?, &mut stop)?;
         let again = moved_again(alloc, fault.left(alloc, files)?)?;
-        let is_second = again.found.as_str() == self.whole.left.as_str();
+        let is_layout_two = again.found.as_str() == self.whole.left.as_str();
         let is_first = again.found.as_str() == self.whole.found.as_str();
         assert!(rt;
-            is_second || is_first && !stop.is_moved,
+            is_layout_two || is_first && !stop.is_moved,
             "after {calls} calls: {}",
             again.found
         );

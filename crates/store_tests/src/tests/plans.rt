@@ -1,7 +1,7 @@
 //! Lookups of versions take few steps, however many versions the subject and the id have.
 
 use reg_tables::{
-    Idle, create_second, last_live_version_of, last_version_of, last_version_with_id, put_text,
+    Idle, create_layout_two, last_live_version_of, last_version_of, last_version_with_id, put_text,
     put_version, some_versions_of_id, version_of, versions_of,
 };
 use sqlite::{Alter, Connection, Error, ErrorCode, Transaction};
@@ -50,7 +50,7 @@ fn fill<S: Alter>(alloc: Global, connection: &mut Connection<S>) -> Result<(), F
         return Err("a transaction is open".into());
     }
     let mut tx = connection.transaction();
-    create_second(&mut tx)?;
+    create_layout_two(&mut tx)?;
     add_texts(alloc, &mut tx)?;
     add_versions(&mut tx)?;
     add_subjects(alloc, &mut tx)?;

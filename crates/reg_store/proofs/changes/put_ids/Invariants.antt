@@ -2,8 +2,8 @@ use Rattle.std.proofs.Common.{◌≡◌, ◌<◌, ◌^◌, take}
 use Rattle.sqlite.specs.Held.{state}
 use Rattle.sqlite.specs.Schema.{Schema}
 use Rattle.sqlite.specs.State.{HasCleanDisk, Survives, KeepsCommit}
-use Rattle.reg_tables.specs.SecondLayout.{IsSecond}
-use Rattle.reg_tables.specs.SecondContents.{SecondContents, HoldsAllIn}
+use Rattle.reg_tables.specs.Layout.{IsLayoutTwo}
+use Rattle.reg_tables.specs.Contents.{Contents, HoldsIn}
 use Rattle.reg_store.specs.Changes.{GoesOn}
 use Rattle.reg_store.specs.Inside.Making.{HasNoPlace, with_ids}
 use Rattle.reg_store.proofs.changes.put_ids.Given as goal
@@ -16,7 +16,7 @@ invariant-loop-id g l =
       same : l.tx.conn.ghost_name ≡ l.initial.tx.conn.ghost_name;
       position : l.position ≡ l.id-index;
       few : l.id-index < 2 ^ 32;
-      puts : HasCleanDisk now → (schema : Schema) → IsSecond schema → (contents : SecondContents) → HoldsAllIn schema old.now contents → HasNoPlace contents (l.subject, l.number) → HoldsAllIn schema now.now (with_ids (l.subject, l.number) 1 (take l.id-index l.ids) contents);
+      puts : HasCleanDisk now → (schema : Schema) → IsLayoutTwo schema → (contents : Contents) → HoldsIn schema old.now contents → HasNoPlace contents (l.subject, l.number) → HoldsIn schema now.now (with_ids (l.subject, l.number) 1 (take l.id-index l.ids) contents);
       goes_on : HasCleanDisk now → GoesOn old now;
       commit_stays : HasCleanDisk now → KeepsCommit old now;
       survives : Survives old now (λ _. ⊥);

@@ -3,7 +3,7 @@ use Rattle.sqlite.specs.Held.{state}
 use Rattle.sqlite.specs.State.{HasCleanDisk}
 use Rattle.reg_core.specs.Levels.{level_text}
 use Rattle.reg_core.specs.Registry.{RowKey}
-use Rattle.reg_tables.specs.SecondContents.{with_evidence}
+use Rattle.reg_tables.specs.Changes.{with_evidence}
 use Rattle.reg_tables.proofs.Transactions.{on_ok, if_err}
 use Rattle.reg_tables.proofs.WriteFaults.{erred_with, insert_fault_later}
 use Rattle.reg_store.specs.Inside.Making.{PutsOwn, IsFaultOfOwn}

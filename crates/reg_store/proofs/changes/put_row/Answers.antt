@@ -1,4 +1,4 @@
-use Rattle.std.proofs.Common.{inr, arith}
+use Rattle.std.proofs.Common.{arith}
 use Rattle.sqlite.specs.Held.{state}
 use Rattle.sqlite.specs.State.{HasCleanDisk}
 use Rattle.reg_core.specs.declared.decision.Change.TheVariants.{AddRow}
@@ -20,7 +20,7 @@ returns-in_err-put_version-clause-fault g c clean =
     let fails = rw (c.as_str-subject.ensures.text, c.subject.ensures, c.version.ensures, c.id.ensures) at (c.in_err-put_version.ensures.fault clean) in
     erred_with c.from_residual.result e (IsFaultOfChange old new change) c.from_residual.ensures.1
     (fault_of_change old new e (c.in_err-put_version.ensures.frame.shut clean) change (λ was it fit.
-    fails it.schema (inr it.known) it.contents it.holds (number_is_free it.contents.base was.registry was.replies it.spelled.base row fit.0) (id_has_text it.contents.base was.registry was.replies it.spelled.base row fit.0)))
+    fails it.schema it.known it.contents it.holds (number_is_free it.contents was.registry was.replies it.spelled.base row fit.0) (id_has_text it.contents was.registry was.replies it.spelled.base row fit.0)))
 
 pub returns-clause-made : goal.returns-clause-made
 returns-clause-made g c clean =

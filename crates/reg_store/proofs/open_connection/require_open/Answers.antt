@@ -1,6 +1,6 @@
-use Rattle.std.proofs.Common.{IsTrue, rules, [], ◌≡◌}
+use Rattle.std.proofs.Common.{IsTrue, rules, []}
 use Rattle.sqlite.specs.Held.{state}
-use Rattle.sqlite.specs.State.{State, HasCleanDisk}
+use Rattle.sqlite.specs.State.{HasCleanDisk}
 use Rattle.reg_tables.proofs.Transactions.{on_ok}
 use Rattle.reg_store.proofs.Prepared.{Asked, asked_ok, asked_err}
 use Rattle.reg_store.proofs.open_connection.require_open.Goals as goal

@@ -2,7 +2,7 @@ use Rattle.std.proofs.Common.{List, map, sym, subst}
 use Rattle.std.specs.List.{AllByRecursion}
 use Rattle.std.proofs.lemmas.Bool.{both_ways}
 use Rattle.sqlite.specs.Held.{state}
-use Rattle.reg_tables.specs.declared.lines.KeptLine.{KeptLine}
+use Rattle.reg_tables.specs.declared.kept.KeptLine.{KeptLine}
 use Rattle.reg_tables.specs.Listings.{ListsKept}
 use Rattle.reg_store.specs.Inside.Testing.{AreApart, kept_fits}
 use Rattle.reg_store.specs.Failures.{IsNumberless}

@@ -2,7 +2,7 @@ use Rattle.std.proofs.Common.{List, map, sym, subst}
 use Rattle.std.specs.List.{AllByRecursion}
 use Rattle.std.proofs.lemmas.Bool.{both_ways}
 use Rattle.sqlite.specs.Held.{state}
-use Rattle.reg_tables.specs.declared.lines.LevelLine.{LevelLine}
+use Rattle.reg_tables.specs.declared.levels.LevelLine.{LevelLine}
 use Rattle.reg_tables.specs.Listings.{ListsLevels}
 use Rattle.reg_store.specs.Inside.Testing.{AreApart, level_fits}
 use Rattle.reg_store.specs.Failures.{IsNumberless}

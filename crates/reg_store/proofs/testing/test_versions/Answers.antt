@@ -2,7 +2,7 @@ use Rattle.std.proofs.Common.{◌∙◌, List, map, Err, sym, subst}
 use Rattle.std.specs.List.{AllByRecursion}
 use Rattle.std.proofs.lemmas.Bool.{both_ways}
 use Rattle.sqlite.specs.Held.{state}
-use Rattle.reg_tables.specs.declared.lines.VersionLine.{VersionLine}
+use Rattle.reg_tables.specs.declared.versions.VersionLine.{VersionLine}
 use Rattle.reg_tables.specs.Listings.{ListsVersions}
 use Rattle.reg_store.specs.Opening.{HasVersionRows}
 use Rattle.reg_store.specs.Inside.Testing.{AreApart, version_fits, VersionsPass}

@@ -8,5 +8,5 @@ pub returns : goal.returns
 returns g c = record {
   frame = c.find.ensures.frame;
   found = λ clean. if_ok c.find.result (λ found is schema known contents holds. sym (option_map_id found) ∙ mapped_if (λ id. id) found _ (is schema known ((c.args.subject.now, c.args.number), c.args.position) (rw (c.params-to_sql.ensures, c.params-to_sql-2.ensures, c.params-to_sql-3.ensures) refl) contents holds)) (c.find.ensures.found clean);
-  fault = λ clean. if_err c.find.result (λ e fault. fault ((c.args.subject.now, c.args.number), c.args.position) (λ schema known. rw (c.params-to_sql.ensures, c.params-to_sql-2.ensures, c.params-to_sql-3.ensures) refl)) (c.find.ensures.fault clean);
+  fault = λ clean. if_err c.find.result (λ e fault. fault ((c.args.subject.now, c.args.number), c.args.position) (rw (c.params-to_sql.ensures, c.params-to_sql-2.ensures, c.params-to_sql-3.ensures) refl)) (c.find.ensures.fault clean);
 }

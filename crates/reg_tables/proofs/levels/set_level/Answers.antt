@@ -2,10 +2,11 @@ use Rattle.std.proofs.Common.{refl}
 use Rattle.reg_tables.proofs.Transactions.{on_ok, if_err}
 use Rattle.reg_tables.proofs.levels.set_level.Goals as goal
 
-pub returns-clause-set : goal.returns-clause-set
-returns-clause-set g c clean =
-    on_ok c.set.result (λ set schema written contents. set schema written contents c.args.subject.now c.args.level.now (rw c.params-to_sql.ensures refl) (rw (c.params-to_sql-2.ensures, c.params-to_sql-3.ensures) refl) contents.base) (c.set.ensures.set clean)
-
-pub returns-clause-fault : goal.returns-clause-fault
-returns-clause-fault g c clean =
-    if_err c.set.result (λ e fault schema written contents holds. fault schema written contents c.args.subject.now c.args.level.now (rw c.params-to_sql.ensures refl) (rw (c.params-to_sql-2.ensures, c.params-to_sql-3.ensures) refl) contents.base holds refl) (c.set.ensures.fault clean)
+pub returns : goal.returns
+returns g c = record {
+  frame = c.set.ensures.frame;
+  changed = λ clean. on_ok c.set.result (λ set schema written. set schema written c.args.subject.now c.args.level.now (rw c.params-to_sql.ensures refl) (rw (c.params-to_sql-2.ensures, c.params-to_sql-3.ensures) refl)) (c.set.ensures.set clean);
+  fault = λ clean. if_err c.set.result
+      (λ e fault schema written contents holds. fault schema written c.args.subject.now c.args.level.now (rw c.params-to_sql.ensures refl) (rw (c.params-to_sql-2.ensures, c.params-to_sql-3.ensures) refl) contents holds refl)
+      (c.set.ensures.fault clean);
+}

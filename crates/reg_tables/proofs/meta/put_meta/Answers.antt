@@ -1,18 +1,16 @@
 use Rattle.std.proofs.Common.{inl, refl}
-use Rattle.reg_tables.specs.Layout.{layout}
-use Rattle.reg_tables.specs.SecondContents.{with_no_more}
-use Rattle.reg_tables.proofs.Written.{holds_first}
-use Rattle.reg_tables.proofs.Transactions.{on_ok, if_err}
+use Rattle.reg_tables.specs.Layout.{layout_one}
+use Rattle.reg_tables.proofs.Transactions.{on_both, if_err}
 use Rattle.reg_tables.proofs.meta.put_meta.Goals as goal
 
-pub returns-clause-put : goal.returns-clause-put
-returns-clause-put g c clean = on_ok c.put.result (λ put contents holds free. (put layout (inl refl) (with_no_more contents) c.args.name.now c.args.value.now (rw (c.params-to_sql.ensures, c.params-to_sql-2.ensures) refl) contents (holds_first _ contents holds) free).base) (c.put.ensures.put clean)
-
-pub returns-clause-fault : goal.returns-clause-fault
-returns-clause-fault g c clean = if_err c.put.result (λ e fault contents holds free. fault layout (inl refl) (with_no_more contents) c.args.name.now c.args.value.now (rw (c.params-to_sql.ensures, c.params-to_sql-2.ensures) refl) contents (holds_first _ contents holds) free refl) (c.put.ensures.fault clean)
-
-pub returns-clause-room : goal.returns-clause-room
-returns-clause-room g c clean = on_ok c.put.result (λ room contents holds free. room layout (inl refl) (with_no_more contents) c.args.name.now c.args.value.now (rw (c.params-to_sql.ensures, c.params-to_sql-2.ensures) refl) contents (holds_first _ contents holds) free) (c.put.ensures.room clean)
-
-pub returns-clause-fits : goal.returns-clause-fits
-returns-clause-fits g c clean = if_err c.put.result (λ e fits contents holds free. fits layout (inl refl) (with_no_more contents) c.args.name.now c.args.value.now (rw (c.params-to_sql.ensures, c.params-to_sql-2.ensures) refl) contents (holds_first _ contents holds) free refl) (c.put.ensures.fits clean)
+pub returns : goal.returns
+returns g c = record {
+  frame = c.put.ensures.frame;
+  made = λ clean. on_both c.put.result
+      (λ put room about from. (
+        put layout_one (inl refl) c.args.name.now c.args.value.now (rw (c.params-to_sql.ensures, c.params-to_sql-2.ensures) refl) about.0 from.0 from.1,
+        room layout_one (inl refl) c.args.name.now c.args.value.now (rw (c.params-to_sql.ensures, c.params-to_sql-2.ensures) refl) about.0 from.0 from.1 about.1 from.2,
+      ))
+      (c.put.ensures.put clean) (c.put.ensures.room clean);
+  fault = λ clean. if_err c.put.result (λ e fits about from. fits layout_one (inl refl) c.args.name.now c.args.value.now (rw (c.params-to_sql.ensures, c.params-to_sql-2.ensures) refl) about.0 from.0 from.1 refl about.1 from.2 from.3) (c.put.ensures.fits clean);
+}

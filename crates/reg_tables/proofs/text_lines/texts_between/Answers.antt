@@ -1,9 +1,6 @@
-use Rattle.std.proofs.Common.{[], ◌∷◌, pos}
 use Rattle.sqlite.specs.Held.{state}
-use Rattle.sqlite.specs.declared.types.Value.TheVariants.{Int}
 use Rattle.reg_tables.specs.Inside.ReadableRows.{IsReadableText}
-use Rattle.reg_tables.proofs.Faults.{takes_between}
-use Rattle.reg_tables.proofs.Statements.{texts_between, texts_between_is}
+use Rattle.reg_tables.proofs.Statements.{asks_between}
 use Rattle.reg_tables.proofs.TableLines.{list_fault, list_told}
 use Rattle.reg_tables.proofs.TextLines.{lists_between, readable_between}
 use Rattle.reg_tables.proofs.Transactions.{if_ok, if_err}
@@ -14,8 +11,8 @@ returns g c = record {
   frame = c.list.ensures.frame;
   listed = λ clean. if_ok c.list.result (λ lines read. lists_between _ _ read.1 c.args.low c.args.high (rw (c.params-to_sql.ensures, c.params-to_sql-2.ensures) at read.2) lines.items read.3) (c.list.ensures.read clean);
   fault = λ clean. if_err c.list.result (λ e why.
-      list_fault texts_between (Int (pos c.args.low) ∷ Int (pos c.args.high) ∷ []) texts_between_is (takes_between c.args.low c.args.high) IsReadableText _ _ (state g.S.Store c.list.new.db.conn)
+      list_fault (asks_between c.args.low c.args.high) IsReadableText _ _ (state g.S.Store c.list.new.db.conn)
       (λ found shown there. readable_between _ _ found c.args.low c.args.high shown there) e (rw (c.params-to_sql.ensures, c.params-to_sql-2.ensures) at why.1))
       (c.list.ensures.failed clean);
-  told = λ clean. if_err c.list.result (λ e why. list_told texts_between (Int (pos c.args.low) ∷ Int (pos c.args.high) ∷ []) texts_between_is (takes_between c.args.low c.args.high) IsReadableText _ _ (state g.S.Store c.list.new.db.conn) e (rw (c.params-to_sql.ensures, c.params-to_sql-2.ensures) at why.1)) (c.list.ensures.failed clean);
+  told = λ clean. if_err c.list.result (λ e why. list_told (asks_between c.args.low c.args.high) IsReadableText _ _ (state g.S.Store c.list.new.db.conn) e (rw (c.params-to_sql.ensures, c.params-to_sql-2.ensures) at why.1)) (c.list.ensures.failed clean);
 }

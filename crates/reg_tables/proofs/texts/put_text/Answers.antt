@@ -16,5 +16,5 @@ returns-clause-fault g c clean =
     let first = state g.S.Store c.args.tx.now.conn.now in
     let last = state g.S.Store c.run.new.tx.conn.now in
     let low : c.args.id < 2 ^ 32 = omega arith in
-    if_err c.run.result (λ e failed schema written contents holds none unheld. or_put_fault first last e (put_text_fails_in first last e c.args.id c.args.text.now low schema written contents holds none unheld)
+    if_err c.run.result (λ e failed schema written contents holds none unheld. or_put_fault first last e (λ ran. put_text_fails_in first last e c.args.id c.args.text.now low ran schema written contents holds none unheld)
     (rw (c.params-to_sql.ensures, c.params-to_sql-2.ensures) at failed)) (c.run.ensures.failed clean)

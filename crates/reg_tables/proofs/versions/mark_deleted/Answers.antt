@@ -4,15 +4,14 @@ use Rattle.reg_tables.proofs.WriteFaults.{or_insert_fault}
 use Rattle.reg_tables.proofs.Written.{marks_version_in, mark_version_fails_in}
 use Rattle.reg_tables.proofs.versions.mark_deleted.Goals as goal
 
-pub returns-clause-marked : goal.returns-clause-marked
-returns-clause-marked g c clean =
+pub returns : goal.returns
+returns g c =
     let first = state g.S.Store c.args.tx.now.conn.now in
     let last = state g.S.Store c.run.new.tx.conn.now in
-    on_ok c.run.result (λ ran. marks_version_in first last ran.0 (c.args.subject.now, c.args.number) (rw (c.params-to_sql.ensures, c.params-to_sql-2.ensures) at ran.1.0)) (c.run.ensures.runs clean)
-
-pub returns-clause-fault : goal.returns-clause-fault
-returns-clause-fault g c clean =
-    let first = state g.S.Store c.args.tx.now.conn.now in
-    let last = state g.S.Store c.run.new.tx.conn.now in
-    if_err c.run.result (λ e failed schema written contents holds. or_insert_fault first last e (mark_version_fails_in first last e (c.args.subject.now, c.args.number) schema written contents holds)
-    (rw (c.params-to_sql.ensures, c.params-to_sql-2.ensures) at failed)) (c.run.ensures.failed clean)
+    record {
+      frame = c.run.ensures.frame;
+      changed = λ clean. on_ok c.run.result (λ ran. marks_version_in first last ran.0 (c.args.subject.now, c.args.number) (rw (c.params-to_sql.ensures, c.params-to_sql-2.ensures) at ran.1.0)) (c.run.ensures.runs clean);
+      fault = λ clean. if_err c.run.result
+          (λ e failed schema written contents holds. or_insert_fault first last e (λ ran. mark_version_fails_in first last e (c.args.subject.now, c.args.number) ran schema written contents holds) (rw (c.params-to_sql.ensures, c.params-to_sql-2.ensures) at failed))
+          (c.run.ensures.failed clean);
+    }

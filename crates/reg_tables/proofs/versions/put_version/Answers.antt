@@ -3,7 +3,7 @@ use Rattle.reg_tables.proofs.Transactions.{on_ok, if_err}
 use Rattle.reg_tables.proofs.versions.put_version.Goals as goal
 
 pub returns-clause-put : goal.returns-clause-put
-returns-clause-put g c clean = on_ok c.put.result (λ put schema written contents. put schema written contents (c.args.subject.now, c.args.number) (record { id = c.args.id; deleted = c.args.deleted }) (rw (c.params-to_sql.ensures, c.params-to_sql-2.ensures, c.params-to_sql-3.ensures, c.params-to_sql-4.ensures) refl) contents.base) (c.put.ensures.put clean)
+returns-clause-put g c clean = on_ok c.put.result (λ put schema written. put schema written (c.args.subject.now, c.args.number) (record { id = c.args.id; deleted = c.args.deleted }) (rw (c.params-to_sql.ensures, c.params-to_sql-2.ensures, c.params-to_sql-3.ensures, c.params-to_sql-4.ensures) refl)) (c.put.ensures.put clean)
 
 pub returns-clause-fault : goal.returns-clause-fault
-returns-clause-fault g c clean = if_err c.put.result (λ e fault schema written contents. fault schema written contents (c.args.subject.now, c.args.number) (record { id = c.args.id; deleted = c.args.deleted }) (rw (c.params-to_sql.ensures, c.params-to_sql-2.ensures, c.params-to_sql-3.ensures, c.params-to_sql-4.ensures) refl) contents.base) (c.put.ensures.fault clean)
+returns-clause-fault g c clean = if_err c.put.result (λ e fault schema written. fault schema written (c.args.subject.now, c.args.number) (record { id = c.args.id; deleted = c.args.deleted }) (rw (c.params-to_sql.ensures, c.params-to_sql-2.ensures, c.params-to_sql-3.ensures, c.params-to_sql-4.ensures) refl)) (c.put.ensures.fault clean)

@@ -6,5 +6,5 @@ pub returns : goal.returns
 returns g c = record {
   frame = c.find.ensures.frame;
   found = λ clean. if_ok c.find.result (λ found is schema first. is schema first (c.args.subject.now, c.args.number) (rw (c.params-to_sql.ensures, c.params-to_sql-2.ensures) refl)) (c.find.ensures.found clean);
-  fault = λ clean. if_err c.find.result (λ e fault can. fault (c.args.subject.now, c.args.number) (λ schema known. (rw (c.params-to_sql.ensures, c.params-to_sql-2.ensures) refl)) can) (c.find.ensures.fault clean);
+  fault = λ clean. if_err c.find.result (λ e fault can. fault (c.args.subject.now, c.args.number) (rw (c.params-to_sql.ensures, c.params-to_sql-2.ensures) refl) can) (c.find.ensures.fault clean);
 }

@@ -6,7 +6,7 @@ use Rattle.reg_core.specs.Stored.{new_stored}
 use Rattle.reg_tables.specs.Layout.{no_schema}
 use Rattle.reg_store.specs.Failures.{IsFaultBy}
 use Rattle.reg_store.specs.Stores.{LeavesConnection}
-use Rattle.reg_store.proofs.Committing.{leaves_if_spelled}
+use Rattle.reg_store.proofs.Committing.{left_if_spelled}
 use Rattle.reg_store.proofs.OpenLemmas.{only_reads, leaves_unlimited, unmade_beside}
 use Rattle.reg_store.proofs.store.Store.create.Goals as goal
 
@@ -19,7 +19,7 @@ pub returns-in-Ok-clause-crash_after : goal.returns-in-Ok-clause-crash_after
 returns-in-Ok-clause-crash_after g c clean db it =
     let over = returns-in-Ok-clause-done g c clean in
     let last = state g.S.Store c.make_in-made.new.db.idle.conn in
-    leaves_if_spelled db last.now new_stored (g.met.S.Store.settled c.make_in-made.new.db.idle.conn.store db over.is_open it ∙ ap (λ (d : Database). d.trees) over.settled) over.spells
+    left_if_spelled db last.now new_stored (g.met.S.Store.settled c.make_in-made.new.db.idle.conn.store db over.is_open it ∙ ap (λ (d : Database). d.trees) over.settled) over.spells
 
 pub returns-in-Err-clause-fails : goal.returns-in-Err-clause-fails
 returns-in-Err-clause-fails g c =

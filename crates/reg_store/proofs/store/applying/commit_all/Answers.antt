@@ -14,7 +14,7 @@ use Rattle.reg_store.specs.Failures.{failure_of, is_fault}
 use Rattle.reg_store.specs.Stores.{LeavesBefore}
 use Rattle.reg_store.proofs.Failing.{fault_if_by}
 use Rattle.reg_store.proofs.Writing.{fault_later, is_fault_of_insert, fault_of_commit, begun_spells, still_inside}
-use Rattle.reg_store.proofs.Committing.{keeps_begin, keeps_if_failed, on_err, on_err_each, leaves_if_spelled, before_if_undone, before_if_failed}
+use Rattle.reg_store.proofs.Committing.{keeps_begin, keeps_if_failed, on_err, on_err_each, left_if_spelled, before_if_undone, before_if_failed}
 use Rattle.reg_store.proofs.TrueEvidence.{taken}
 use Rattle.reg_store.proofs.store.applying.commit_all.Goals as goal
 
@@ -59,7 +59,7 @@ returns-clause-survives g c =
     let spelled = subst (λ h. Spells (state g.S.Store h).now was) (sym c.transaction-tx.ensures.begun) (over was_open).spells in
     let made = c.in_ok-make_all.ensures.made clean_mid was spelled takes.fit in
     let put = c.in_ok-keep_reply.ensures.put clean_last (made_of c.args.changes.now was) made takes.fresh in
-    let left = leaves_if_spelled db last.now (stored_after c.args.changes.now c.args.keep was) is put in
+    let left = left_if_spelled db last.now (stored_after c.args.changes.now c.args.keep was) is put in
     taken c.args.changes.now c.args.keep was (Leaves db) spelled.spelled.base.registry takes.fit left in
     let whole = survives_then first last (state g.S.Store end) _ _ P (λ _ db none. absurd none) commits
     (survives_begin g.S.Store c.args.db.now.idle.conn last _ (rw c.transaction-tx.ensures.begun at inside)) c.commit.ensures.survives in

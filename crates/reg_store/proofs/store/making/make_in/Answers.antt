@@ -23,7 +23,7 @@ returns-clause-done g c clean =
     let late : HasCleanDisk (state g.S.Store end) = search rules in
     let clean_last : HasCleanDisk last = omega (arith, c.commit.ensures.survives.clean) in
     on_ok c.commit.result (λ done none.
-    let made = c.in_ok-make_tables.ensures.made clean_last (ap (λ (h : Held _). h.schema) c.transaction-tx.ensures.begun ∙ none) in
+    let made = c.in_ok-make_tables.ensures.made clean_last tt (ap (λ (h : Held _). h.schema) c.transaction-tx.ensures.begun ∙ none) in
     let spells = subst (SpellsNew c.args.layout) (sym done.1.now_is) made in
     is_new c.args.layout (state g.S.Store end) done.1.is_open (done.1.committed_is ∙ sym done.1.now_is) spells) (c.commit.ensures.ok late)
 
@@ -35,7 +35,7 @@ returns-clause-survives g c =
     let P = λ (db : Trees). first.now.schema ≡ no_schema → LeavesNew c.args.layout db in
     let commits = λ (clean : HasCleanDisk (state g.S.Store end)) (db : Trees) (is : db ≡ last.now.trees) (none : first.now.schema ≡ no_schema).
     let clean_last : HasCleanDisk last = omega (arith, c.commit.ensures.survives.clean) in
-    let made = c.in_ok-make_tables.ensures.made clean_last (ap (λ (h : Held _). h.schema) c.transaction-tx.ensures.begun ∙ none) in
+    let made = c.in_ok-make_tables.ensures.made clean_last tt (ap (λ (h : Held _). h.schema) c.transaction-tx.ensures.begun ∙ none) in
     leaves_new c.args.layout db last.now is made in
     survives_then first last (state g.S.Store end) _ _ P (λ _ db none. absurd none) commits
     (survives_begin g.S.Store c.args.db.now.idle.conn last _ (rw c.transaction-tx.ensures.begun at c.make_tables.ensures.frame.keeps.survives)) c.commit.ensures.survives
@@ -52,7 +52,7 @@ returns-in_err-make_tables-clause-fault g c clean =
     let clean_last : HasCleanDisk (state g.S.Store last) = omega (arith, c.drop-tx.ensures.survives.clean) in
     erred_with c.from_residual.result e (λ e. conn.schema ≡ no_schema → IsFaultBy (state g.S.Store conn) (state g.S.Store c.drop-tx.new.self.0) (failure_of e)) c.from_residual.ensures.1
     (λ none.
-    let write = c.in_err-make_tables.ensures.fault clean_last (ap (λ (h : Held _). h.schema) is ∙ none) in
+    let write = c.in_err-make_tables.ensures.fault clean_last tt (ap (λ (h : Held _). h.schema) is ∙ none) in
     of_call g.S.Store conn begun last end is c.drop-tx.ensures.survives.counts (failure_of e)
     (fault_of_write (state g.S.Store begun) (state g.S.Store last) e (ap (λ (h : Held _). h.step_limit) is ∙ c.args.db.now.unlimited) (ap (λ (h : Held _). h.in_transaction) is) write))
 

@@ -1,4 +1,4 @@
-use Rattle.std.proofs.Common.{◌≡◌, ◌∙◌, inl, inr, sym, ap, subst, arith, rules}
+use Rattle.std.proofs.Common.{◌≡◌, ◌∙◌, inl, inr, refl, sym, ap, subst, arith, rules}
 use Rattle.std.specs.Prelude.{IsTrue}
 use Rattle.sqlite.specs.Tree.{Trees}
 use Rattle.sqlite.specs.declared.error.Error.{Error}
@@ -6,8 +6,8 @@ use Rattle.sqlite.specs.Held.{Held, state}
 use Rattle.sqlite.specs.State.{HasCleanDisk}
 use Rattle.sqlite.proofs.StateLemmas.{survives_then}
 use Rattle.sqlite.proofs.Callers.{survives_begin}
-use Rattle.reg_tables.specs.SecondLayout.{second_unindexed, second_indexed_last}
-use Rattle.reg_tables.specs.SecondContents.{SecondContents, HoldsAllIn}
+use Rattle.reg_tables.specs.Layout.{layout_two_unindexed, layout_two_indexed_last}
+use Rattle.reg_tables.specs.Contents.{Contents, HoldsIn}
 use Rattle.reg_tables.proofs.Transactions.{on_ok, if_err, keeps_then, survives_both}
 use Rattle.reg_tables.proofs.WriteFaults.{erred_with}
 use Rattle.reg_store.specs.Inside.Making.{TakesIndex}
@@ -29,9 +29,9 @@ returns-clause-done g c clean =
     on_ok c.commit.result (λ done.
     let begun_open = (c.index_versions.ensures.frame.keeps.commit_stays clean_last).was_open done.1.was_open in
     let was_open = subst (λ h. IsTrue (state g.S.Store h).is_open) c.transaction-tx.ensures.begun begun_open in
-    let held = λ (contents : SecondContents) (holds : HoldsAllIn second_unindexed first.now contents).
-    let begun = subst (λ h. HoldsAllIn second_unindexed (state g.S.Store h).now contents) (sym c.transaction-tx.ensures.begun) holds in
-    subst (λ d. HoldsAllIn second_indexed_last d contents) (sym done.1.now_is) (c.in_ok-index_versions.ensures.indexed_second clean_last contents begun) in
+    let held = λ (contents : Contents) (holds : HoldsIn layout_two_unindexed first.now contents).
+    let begun = subst (λ h. HoldsIn layout_two_unindexed (state g.S.Store h).now contents) (sym c.transaction-tx.ensures.begun) holds in
+    subst (λ d. HoldsIn layout_two_indexed_last d contents) (sym done.1.now_is) (c.in_ok-index_versions.ensures.made clean_last (layout_two_unindexed, layout_two_indexed_last, contents) (inr (refl, refl), begun)) in
     (was_open, done.1.is_open, done.1.committed_is ∙ sym done.1.now_is, held)) (c.commit.ensures.ok late)
 
 pub returns-clause-survives : goal.returns-clause-survives
@@ -43,9 +43,9 @@ returns-clause-survives g c =
     let commits = λ (clean : HasCleanDisk (state g.S.Store end)) (db : Trees) (is : db ≡ last.now.trees).
     let clean_last : HasCleanDisk last = omega (arith, c.commit.ensures.survives.clean) in
     let was_open = subst (λ h. IsTrue (state g.S.Store h).is_open) c.transaction-tx.ensures.begun (c.in_ok-index_versions.ensures.frame.was_open clean_last) in
-    let indexed = λ (contents : SecondContents) (holds : HoldsAllIn second_unindexed first.now contents).
-    let begun = subst (λ h. HoldsAllIn second_unindexed (state g.S.Store h).now contents) (sym c.transaction-tx.ensures.begun) holds in
-    left_if_held second_indexed_last db last.now contents is (c.in_ok-index_versions.ensures.indexed_second clean_last contents begun) in
+    let indexed = λ (contents : Contents) (holds : HoldsIn layout_two_unindexed first.now contents).
+    let begun = subst (λ h. HoldsIn layout_two_unindexed (state g.S.Store h).now contents) (sym c.transaction-tx.ensures.begun) holds in
+    left_if_held layout_two_indexed_last db last.now contents is (c.in_ok-index_versions.ensures.made clean_last (layout_two_unindexed, layout_two_indexed_last, contents) (inr (refl, refl), begun)) in
     let both : P db = (was_open, indexed) in
     both in
     let whole = survives_then first last (state g.S.Store end) _ _ P (λ _ db none. absurd none) commits
@@ -81,11 +81,11 @@ returns-in_err-index_versions-clause-fault g c clean =
     let fault = λ (f : IsWriteFault begun last e).
     let until = by_until begun last (state g.S.Store end) c.drop-tx.ensures.survives.counts _ (fault_of_write begun last e unlimited inside f) in
     subst (λ h. IsFaultBy (state g.S.Store h) (state g.S.Store end) (failure_of e)) c.transaction-tx.ensures.begun until in
-    let Held : Error → Type 0 = λ x. (IsTrue first.is_open → (contents : SecondContents) × HoldsAllIn second_unindexed first.now contents) → IsFaultBy first (state g.S.Store c.drop-tx.new.self.0) (failure_of x) in
+    let Held : Error → Type 0 = λ x. (IsTrue first.is_open → (contents : Contents) × HoldsIn layout_two_unindexed first.now contents) → IsFaultBy first (state g.S.Store c.drop-tx.new.self.0) (failure_of x) in
     erred_with c.from_residual.result e Held c.from_residual.ensures.1 (λ held. elim (err.frame.shut clean_last) [
       | inl is_open ↦
           let it = held (subst (λ h. IsTrue (state g.S.Store h).is_open) c.transaction-tx.ensures.begun is_open) in
-          fault (err.fault_second clean_last it.0 (subst (λ h. HoldsAllIn second_unindexed (state g.S.Store h).now it.0) (sym c.transaction-tx.ensures.begun) it.1))
+          fault (err.fault clean_last (layout_two_unindexed, layout_two_indexed_last, it.0) (inr (refl, refl), subst (λ h. HoldsIn layout_two_unindexed (state g.S.Store h).now it.0) (sym c.transaction-tx.ensures.begun) it.1))
       | inr shut ↦ fault shut
     ])
 

@@ -3,13 +3,13 @@ use Rattle.sqlite.specs.Held.{state}
 use Rattle.reg_core.specs.Levels.{level_text}
 use Rattle.reg_core.specs.Modes.{mode_text}
 use Rattle.reg_tables.proofs.MetaLines.{value_read}
+use Rattle.reg_tables.proofs.Statements.{laid_out}
+use Rattle.reg_tables.proofs.Tables.{eight_has_five, two_has_eight}
 use Rattle.reg_store.specs.Inside.Viewing.{value_in}
-use Rattle.reg_store.proofs.Bases.{base_of}
 use Rattle.reg_store.proofs.MetaLemmas.{tells_meta}
 use Rattle.reg_store.proofs.ReadBack.{global_is, global_mode_is}
 use Rattle.reg_store.proofs.ReadLemmas.{read, not_read, match_on}
 use Rattle.reg_store.proofs.SettingLemmas.{level_said, mode_said, both_said}
-use Rattle.reg_store.proofs.TestLemmas.{is_known}
 use Rattle.reg_store.proofs.store.settings.globals.Goals as goal
 
 pub returns-in_err-lines : goal.returns-in_err-lines
@@ -20,9 +20,10 @@ returns g c =
     read c.in_ok-lines.ensures.lists.frame (λ clean was over.
     let it = over.spells in
     let db = (state g.S.Store c.args.db.now.idle.conn).now in
-    let lists = c.in_ok-lines.ensures.lists.listed clean (is_known db was (base_of it)) in
+    let first = eight_has_five it.schema (two_has_eight it.schema it.known) in
+    let lists = c.in_ok-lines.ensures.lists.listed clean (laid_out it.holds first) in
     let level : value_in (codes "global") c.as_slice.result.now ≡ Some (level_text was.registry.global) =
-    ap (value_in (codes "global")) c.as_slice.ensures.value ∙ value_read it.schema db it.contents.base it.holds.base c.in_ok-lines.lines.items lists (codes "global") ∙ global_is it.contents was it.spelled in
+    ap (value_in (codes "global")) c.as_slice.ensures.value ∙ value_read it.schema db first it.contents it.holds c.in_ok-lines.lines.items lists (codes "global") ∙ global_is it.contents was it.spelled in
     let mode : value_in (codes "mode") c.as_slice.result.now ≡ Some (mode_text was.registry.global_mode) =
-    ap (value_in (codes "mode")) c.as_slice.ensures.value ∙ value_read it.schema db it.contents.base it.holds.base c.in_ok-lines.lines.items lists (codes "mode") ∙ global_mode_is it.contents was it.spelled in
+    ap (value_in (codes "mode")) c.as_slice.ensures.value ∙ value_read it.schema db first it.contents it.holds c.in_ok-lines.lines.items lists (codes "mode") ∙ global_mode_is it.contents was it.spelled in
     match_on c.globals_in.result (λ globals spell. (level_said _ _ globals.0 level spell.0, mode_said _ _ globals.1 mode spell.1)) (λ none e. absurd (both_said _ _ _ _ level mode none)) c.globals_in.ensures.ok c.globals_in.ensures.err)

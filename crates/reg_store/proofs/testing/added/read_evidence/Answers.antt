@@ -1,6 +1,6 @@
 use Rattle.sqlite.specs.Held.{state}
-use Rattle.reg_store.proofs.SecondTests.{some_read_second}
-use Rattle.reg_tables.specs.SecondListings.{ListsEvidence}
+use Rattle.reg_store.proofs.EightTests.{some_read_eight}
+use Rattle.reg_tables.specs.Listings.{ListsEvidence}
 use Rattle.reg_store.specs.Failures.{IsNumberless}
 use Rattle.reg_store.proofs.Failing.{numberless, passed}
 use Rattle.reg_store.proofs.TestLemmas.{test_unread, test_read}
@@ -8,7 +8,7 @@ use Rattle.reg_store.proofs.testing.added.read_evidence.Goals as goal
 
 pub returns-in_err-lines-clause-tests : goal.returns-in_err-lines-clause-tests
 returns-in_err-lines-clause-tests g c =
-    test_unread g.S.Store c.args.db.now.idle.conn c.evidence_lines.new.db.conn c.from_residual.result c.in_err-lines.field-0.0 (some_read_second (state g.S.Store c.args.db.now.idle.conn)) c.args.db.now.unlimited c.in_err-lines.ensures.frame c.in_err-lines.ensures.fault c.in_err-lines.ensures.told c.from_residual.ensures.1
+    test_unread g.S.Store c.args.db.now.idle.conn c.evidence_lines.new.db.conn c.from_residual.result c.in_err-lines.field-0.0 (some_read_eight (state g.S.Store c.args.db.now.idle.conn)) c.args.db.now.unlimited c.in_err-lines.ensures.frame c.in_err-lines.ensures.fault c.in_err-lines.ensures.told c.from_residual.ensures.1
 
 pub returns-in_err-lines-clause-plain : goal.returns-in_err-lines-clause-plain
 returns-in_err-lines-clause-plain g c = passed IsNumberless c.from_residual.result _ c.from_residual.ensures.1 (numberless c.in_err-lines.field-0.0)

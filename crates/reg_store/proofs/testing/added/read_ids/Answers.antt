@@ -2,9 +2,9 @@ use Rattle.std.proofs.Common.{◌≡◌, ◌&&◌, Bool, List, map, IsTrue, sym,
 use Rattle.std.proofs.lemmas.List.{take_all}
 use Rattle.sqlite.specs.Held.{state}
 use Rattle.sqlite.specs.Effect.{Database}
-use Rattle.reg_tables.specs.declared.second_lines.EvidenceLine.{EvidenceLine}
-use Rattle.reg_tables.specs.SecondLayout.{HasSecondTables}
-use Rattle.reg_tables.specs.SecondListings.{HasAgainstRows}
+use Rattle.reg_tables.specs.declared.evidence.EvidenceLine.{EvidenceLine}
+use Rattle.reg_tables.specs.Layout.{HasEightTables}
+use Rattle.reg_tables.specs.Listings.{HasAgainstRows}
 use Rattle.reg_store.specs.declared.testing.added.Ids.{Ids}
 use Rattle.reg_store.specs.Inside.Testing.{version_at, JudgesVersions}
 use Rattle.reg_store.proofs.ReadLemmas.{rests_still, rests_read, rests_on, clean_at, same_db}
@@ -49,7 +49,7 @@ loop-version-preserved g c =
       judged = λ clean known.
           (let early = clean_at old mid new step clean in
           let same : mid.now ≡ db = same_db old mid before.rests (c.is_autocommit-idle.ensures.settled idle) early (it.frame.was_open clean) in
-          let next = it.tells clean (subst (λ (d : Database). HasSecondTables d.schema) (sym same) known) in
+          let next = it.tells clean (subst (λ (d : Database). HasEightTables d.schema) (sym same) known) in
           next_version db c.args.evidence.now c.loop-version.version-index _ _ c.loop-version-test.true c.version-item.is _ next.0 _ a b c.if-fit.fit (before.judged early known) mid.now same next.2 next.1 fit);
     }
 

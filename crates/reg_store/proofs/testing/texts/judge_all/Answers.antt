@@ -1,7 +1,7 @@
 use Rattle.std.proofs.Common.{◌≡◌, ◌+◌, ◌*◌, ◌&&◌, ℕ, Bool, IsTrue, sym, ap, subst, ◌∙◌, arith, rules}
 use Rattle.sqlite.specs.Held.{state}
 use Rattle.sqlite.specs.Effect.{Database}
-use Rattle.reg_tables.specs.Layout.{HasTablesFirst}
+use Rattle.reg_tables.specs.Layout.{HasFiveTables}
 use Rattle.reg_tables.specs.Listings.{ListsTextsBetween}
 use Rattle.reg_store.specs.Inside.Testing.{Judges}
 use Rattle.reg_store.proofs.ReadLemmas.{rests_still, rests_read, rests_on, clean_at, same_db}
@@ -42,7 +42,7 @@ loop-chunk-preserved g c =
       judged = λ clean known have.
           (let early = clean_at old mid new step clean in
           let same : mid.now ≡ db = same_db old mid before.rests (c.is_autocommit-idle.ensures.settled idle) early (it.frame.was_open clean) in
-          let next = subst (λ (d : Database). Judges (ListsTextsBetween (n + 1) (n + 16) d) b) same (it.tells clean (subst (λ (d : Database). HasTablesFirst d.schema) (sym same) known)) in
+          let next = subst (λ (d : Database). Judges (ListsTextsBetween (n + 1) (n + 16) d) b) same (it.tells clean (subst (λ (d : Database). HasFiveTables d.schema) (sym same) known)) in
           let both = judges_more db have n (n + 16) (omega arith) a b (before.judged early known have) next in
           subst (Judges (ListsTextsBetween 1 ((c.loop-chunk.chunk + 1) * 16) db)) (sym fit) (subst (λ m. Judges (ListsTextsBetween 1 m db) (a && b)) more both));
     }

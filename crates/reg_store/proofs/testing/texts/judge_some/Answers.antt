@@ -1,8 +1,8 @@
 use Rattle.std.proofs.Common.{◌↔◌, List, subst}
 use Rattle.std.specs.Prelude.{IsTrue}
 use Rattle.std.specs.List.{AllByRecursion}
-use Rattle.reg_tables.specs.declared.lines.TextLine.{TextLine}
-use Rattle.reg_tables.specs.Layout.{HasTablesFirst}
+use Rattle.reg_tables.specs.declared.text_lines.TextLine.{TextLine}
+use Rattle.reg_tables.specs.Layout.{HasFiveTables}
 use Rattle.reg_tables.specs.Listings.{ListsTextsBetween}
 use Rattle.reg_tables.specs.Reads.{HoldsReadable}
 use Rattle.reg_store.specs.Inside.Testing.{text_fits}
@@ -18,5 +18,5 @@ returns-clause-tests g c =
     let lines = c.in_ok-lines.lines in
     let fit = c.in_ok-are_identities.field-0 in
     test_tells g.S.Store c.args.db.now.idle.conn c.texts_between.new.db.conn {P = λ l d. ListsTextsBetween c.args.first c.args.last d l.items}
-    (test_read {Declared = HasTablesFirst} {Spelled = HoldsReadable} g.S.Store c.args.db.now.idle.conn c.texts_between.new.db.conn lines c.in_ok-lines.ensures.frame c.in_ok-lines.ensures.listed) fit
+    (test_read {Declared = HasFiveTables} {Spelled = HoldsReadable} g.S.Store c.args.db.now.idle.conn c.texts_between.new.db.conn lines c.in_ok-lines.ensures.frame c.in_ok-lines.ensures.listed) fit
     (λ db lists. record { lines = lines.items; lists = lists; judged = subst (λ (l : List TextLine). IsTrue fit ↔ AllByRecursion text_fits l) c.deref.ensures.value c.in_ok-are_identities.ensures })

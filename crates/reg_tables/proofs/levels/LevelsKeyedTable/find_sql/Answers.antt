@@ -3,15 +3,12 @@ use Rattle.sqlite.specs.Term.{col}
 use Rattle.sqlite.specs.Listing.{understood}
 use Rattle.sqlite_tied.specs.Compute.{everything}
 use Rattle.reg_tables.proofs.Statements.{behind_tables}
-use Rattle.reg_tables.proofs.LayoutTables.{levels_key, text_is_read}
+use Rattle.reg_tables.proofs.LayoutTables.{text_is_read}
 use Rattle.reg_tables.proofs.levels.LevelsKeyedTable.find_sql.Goals as goal
 
 pub returns-clause-finds : goal.returns-clause-finds
 unfolding understood everything
 returns-clause-finds c = behind_tables _ (λ tables indexes. record {
-  key = levels_key;
-  declared = λ db contents h. h.declared;
-  shows = λ db contents h. h.levels;
   shown = col 1 2 ∷ [];
   names = codes "level" ∷ [];
   is = record { command = record { is = refl; plain = (refl, refl) }; unlisted = refl };
@@ -20,7 +17,7 @@ returns-clause-finds c = behind_tables _ (λ tables indexes. record {
 })
 
 pub returns-clause-read : goal.returns-clause-read
-returns-clause-read c schema = text_is_read
+returns-clause-read c = text_is_read
 
 pub returns-clause-readable : goal.returns-clause-readable
-returns-clause-readable c schema contents readable key value is = (value, refl, (readable.levels key value is).1)
+returns-clause-readable c contents readable key value is = (value, refl, (readable.levels key value is).1)

@@ -3,7 +3,8 @@ use Rattle.sqlite.specs.Listing.{understood}
 use Rattle.sqlite_tied.specs.Compute.{everything}
 use Rattle.reg_tables.proofs.Statements.{two_terms}
 use Rattle.reg_tables.proofs.KeyedTables.{cast-Null}
-use Rattle.reg_tables.proofs.Written.{in_written, meta_keyed}
+use Rattle.reg_tables.proofs.LayoutTables.{meta_keyed}
+use Rattle.reg_tables.proofs.Tables.{begins_written}
 use Rattle.reg_tables.proofs.meta.MetaFilledTable.put_sql.Goals as goal
 
 pub returns-clause-keyed : goal.returns-clause-keyed
@@ -11,7 +12,7 @@ returns-clause-keyed c = meta_keyed
 
 pub returns-clause-puts : goal.returns-clause-puts
 unfolding understood everything
-returns-clause-puts c = in_written _ (λ tables indexes s. record {
+returns-clause-puts c = begins_written _ (λ tables indexes. record {
   terms = two_terms;
   width = 3;
   is = record { is = refl; plain = (refl, refl) };

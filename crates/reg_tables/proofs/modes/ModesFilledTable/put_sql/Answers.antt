@@ -3,15 +3,16 @@ use Rattle.sqlite.specs.Listing.{understood}
 use Rattle.sqlite_tied.specs.Compute.{everything}
 use Rattle.reg_tables.proofs.Statements.{two_terms}
 use Rattle.reg_tables.proofs.KeyedTables.{cast-Null}
-use Rattle.reg_tables.proofs.SecondTables.{in_seconds, modes_keyed}
+use Rattle.reg_tables.proofs.LayoutTables.{modes_keyed}
+use Rattle.reg_tables.proofs.Settled.{in_layout_two}
 use Rattle.reg_tables.proofs.modes.ModesFilledTable.put_sql.Goals as goal
 
 pub returns-clause-keyed : goal.returns-clause-keyed
-returns-clause-keyed c schema known others = modes_keyed schema known
+returns-clause-keyed c = modes_keyed
 
 pub returns-clause-puts : goal.returns-clause-puts
 unfolding understood everything
-returns-clause-puts c = in_seconds _ (λ first indexes. record {
+returns-clause-puts c = in_layout_two _ (λ first indexes high s. record {
   terms = two_terms;
   width = 3;
   is = record { is = refl; plain = (refl, refl) };

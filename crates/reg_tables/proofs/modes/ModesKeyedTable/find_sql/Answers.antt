@@ -2,27 +2,19 @@ use Rattle.std.proofs.Common.{[], ◌∷◌, lit≤, codes, refl}
 use Rattle.sqlite.specs.Term.{col}
 use Rattle.sqlite.specs.Listing.{understood}
 use Rattle.sqlite_tied.specs.Compute.{everything}
-use Rattle.reg_tables.specs.Layout.{begins}
-use Rattle.reg_tables.specs.SecondLayout.{added}
 use Rattle.reg_tables.proofs.LayoutTables.{text_is_read}
-use Rattle.reg_tables.proofs.SecondTables.{beside_tables, modes_key}
+use Rattle.reg_tables.proofs.Tables.{at_both}
 use Rattle.reg_tables.proofs.modes.ModesKeyedTable.find_sql.Goals as goal
 
 pub returns-clause-finds : goal.returns-clause-finds
 unfolding understood everything
-returns-clause-finds c = beside_tables _ (λ indexes. record {
-  key = modes_key (begins (added 10) indexes);
-  declared = λ db contents h. h.base.declared;
-  shows = λ db contents h. h.modes;
+returns-clause-finds c = at_both _ (λ indexes. record {
   shown = col 1 2 ∷ [];
   names = codes "mode" ∷ [];
   is = record { command = record { is = refl; plain = (refl, refl) }; unlisted = refl };
   takes = λ key. record { whole = (lit≤ tt, refl); typed = refl };
   whole = λ row key. refl;
 }) (λ indexes. record {
-  key = modes_key (begins (added 11) indexes);
-  declared = λ db contents h. h.base.declared;
-  shows = λ db contents h. h.modes;
   shown = col 1 2 ∷ [];
   names = codes "mode" ∷ [];
   is = record { command = record { is = refl; plain = (refl, refl) }; unlisted = refl };
@@ -31,7 +23,7 @@ returns-clause-finds c = beside_tables _ (λ indexes. record {
 })
 
 pub returns-clause-read : goal.returns-clause-read
-returns-clause-read c schema = text_is_read
+returns-clause-read c = text_is_read
 
 pub returns-clause-readable : goal.returns-clause-readable
-returns-clause-readable c schema contents readable key value is = (value, refl, (readable.modes key value is).1)
+returns-clause-readable c contents readable key value is = (value, refl, (readable.modes key value is).1)

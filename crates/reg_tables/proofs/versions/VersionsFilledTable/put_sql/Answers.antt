@@ -4,7 +4,8 @@ use Rattle.sqlite_tied.specs.Compute.{everything}
 use Rattle.reg_tables.proofs.Statements.{four_terms}
 use Rattle.reg_tables.proofs.KeyedTables.{cast-Null, cast-Int, cast-flag}
 use Rattle.reg_tables.proofs.FailedVersions.{flag_passes}
-use Rattle.reg_tables.proofs.Written.{in_written, versions_keyed}
+use Rattle.reg_tables.proofs.LayoutTables.{versions_keyed}
+use Rattle.reg_tables.proofs.Tables.{begins_in_two}
 use Rattle.reg_tables.proofs.versions.VersionsFilledTable.put_sql.Goals as goal
 
 pub returns-clause-keyed : goal.returns-clause-keyed
@@ -12,7 +13,7 @@ returns-clause-keyed c = versions_keyed
 
 pub returns-clause-puts : goal.returns-clause-puts
 unfolding understood everything
-returns-clause-puts c = in_written _ (λ tables indexes s. record {
+returns-clause-puts c = begins_in_two _ (λ tables indexes. record {
   terms = four_terms;
   width = 5;
   is = record { is = refl; plain = (refl, refl) };

@@ -1,0 +1,137 @@
+-- Calls inside a transaction, one after the other, and the statements that make tables.
+use Rattle.std.proofs.Common.{◌≡◌, ◌≤◌, ◌⊎◌, inl, ℕ, List, [], Ok, Err, Result, IsTrue, true, ◌∙◌, arith}
+use Rattle.std.specs.Prelude.{OnOk, IfErr, IsErrAnd}
+use Rattle.sqlite.specs.Table.{Table}
+use Rattle.sqlite.specs.Schema.{Schema}
+use Rattle.sqlite.specs.State.{State, HasCleanDisk, Survives, ExecutesInside}
+use Rattle.sqlite.specs.Effect.{Database}
+use Rattle.sqlite.specs.declared.error.Error.{Error}
+use Rattle.sqlite.specs.declared.transaction.Transaction.{Transaction}
+use Rattle.sqlite_trees.specs.declared.store.Store.{Ghosts}
+use Rattle.reg_tables.specs.Layout.{no_schema}
+use Rattle.reg_tables.specs.Contents.{Contents, HoldsIn}
+use Rattle.reg_tables.specs.Changes.{no_contents}
+use Rattle.reg_tables.specs.Frames.{state_in, StaysInside}
+use Rattle.reg_tables.specs.FailedCalls.{IsWriteFault}
+use Rattle.reg_tables.specs.Writing.{WhereHeld, Alters, Turns, IsEmpty, Holding}
+use Rattle.reg_tables.proofs.Statements.{MakesTable}
+use Rattle.reg_tables.proofs.MadeTables.{makes, holds_more, holds_nothing}
+use Rattle.reg_tables.proofs.CreationFaults.{CanBeMade, make_fails}
+use Rattle.reg_tables.proofs.Transactions.{keeps_then, survives_both, on_ok, if_err, if_err_is}
+use Rattle.reg_tables.proofs.WriteFaults.{OrTooLate, as_write_fault}
+
+-- a later failure of this kind is one since the start, because the transaction goes on
+abbrev pub IsCarried : (State → State → Error → Type 0) → Type 1
+IsCarried IsFailure = (first later new : State) → Survives first later (λ _. ⊥) → HasCleanDisk later → later.faults ≤ new.faults → later.in_transaction ≡ true → (e : Error) → IsFailure later new e → IsFailure first new e
+
+early : (b c : State) → Survives b c (λ _. ⊥) → HasCleanDisk c → HasCleanDisk b
+early b c survives clean = omega (arith, survives.clean)
+
+none : {X : Type 0} (Q : Type 0) (e : Error) (r : Result X Error) → IsErrAnd r (λ failure. failure ≡ e) → OnOk r Q
+none Q e (Ok x) is = absurd is
+none Q e (Err failure) is = tt
+
+module _ {S X Y : Type 0} {g : Ghosts S} {a b c : Transaction S} where
+  stays_then : {x : X} {r : Result Y Error} → StaysInside g a b (Ok x) → StaysInside g b c r → StaysInside g a c r
+  stays_then {r = r} p q =
+      let soon = early (state_in g b) (state_in g c) q.keeps.survives in
+      record {
+        keeps = record {
+          same_reference = q.keeps.same_reference ∙ p.keeps.same_reference;
+          commit_stays = λ clean. keeps_then (state_in g a) (state_in g b) (state_in g c) (p.keeps.commit_stays (soon clean)) (q.keeps.commit_stays clean);
+          survives = survives_both (state_in g a) (state_in g b) (state_in g c) p.keeps.survives q.keeps.survives;
+        };
+        shut = λ clean. if_err r (λ e failed. inl (p.was_open (soon clean))) (q.shut clean);
+        was_open = λ clean. on_ok r (λ is_open. p.was_open (soon clean)) (q.was_open clean);
+        inside = q.inside;
+      }
+
+module _ {S X Y : Type 0} {g : Ghosts S} {a b : Transaction S} where
+  stays_failed : {e : Error} {r : Result Y Error} → StaysInside {X = X} g a b (Err e) → IsErrAnd r (λ failure. failure ≡ e) → StaysInside g a b r
+  stays_failed {e} {r} p is = record {
+    keeps = p.keeps;
+    shut = λ clean. if_err_is r (λ failure. IsTrue (state_in g a).is_open ⊎ IsWriteFault (state_in g a) (state_in g b) failure) e is (p.shut clean);
+    was_open = λ clean. none _ e r is;
+    inside = λ clean. none _ e r is;
+  }
+
+module _ {IsFailure : State → State → Error → Type 0} {S X Y I : Type 0} {g : Ghosts S} {a b c : Transaction S} {From Mid To : I → Database → Type 0} where
+  pub turns_then : IsCarried IsFailure → {x : X} {r : Result Y Error} → Turns IsFailure g a b (Ok x) From Mid → Turns IsFailure g b c r Mid To → Turns IsFailure g a c r From To
+  turns_then carried {r = r} p q =
+      let soon = early (state_in g b) (state_in g c) q.frame.keeps.survives in
+      record {
+        frame = stays_then p.frame q.frame;
+        made = λ clean. on_ok r (λ to about from. to about (p.made (soon clean) about from)) (q.made clean);
+        fault = λ clean. if_err r
+            (λ e failed about from. carried (state_in g a) (state_in g b) (state_in g c) p.frame.keeps.survives (soon clean) q.frame.keeps.survives.counts (p.frame.inside (soon clean)) e (failed about (p.made (soon clean) about from)))
+            (q.fault clean);
+      }
+
+-- `?` passes the error on
+module _ {IsFailure : State → State → Error → Type 0} {S X Y I : Type 0} {g : Ghosts S} {a b : Transaction S} {From Mid To : I → Database → Type 0} where
+  pub turns_failed : {e : Error} {r : Result Y Error} → Turns {X = X} IsFailure g a b (Err e) From Mid → IsErrAnd r (λ failure. failure ≡ e) → Turns IsFailure g a b r From To
+  turns_failed {e} {r} p is = record {
+    frame = stays_failed p.frame is;
+    made = λ clean. none _ e r is;
+    fault = λ clean. if_err_is r (λ failure. (about : I) → From about (state_in g a).now → IsFailure (state_in g a) (state_in g b) failure) e is (p.fault clean);
+  }
+
+module _ {IsFailure : State → State → Error → Type 0} {S X I : Type 0} {g : Ghosts S} {a b : Transaction S} {r : Result X Error} {From To : I → Database → Type 0} where
+  pub turns_from : {J : Type 0} {Before : J → Database → Type 0} (about : J → I) → ((j : J) (db : Database) → Before j db → From (about j) db) → Turns IsFailure g a b r From To → Turns IsFailure g a b r Before (λ j. To (about j))
+  turns_from about from p = record {
+    frame = p.frame;
+    made = λ clean. on_ok r (λ made j before. made (about j) (from j (state_in g a).now before)) (p.made clean);
+    fault = λ clean. if_err r (λ e failed j before. failed (about j) (from j (state_in g a).now before)) (p.fault clean);
+  }
+
+  pub turns_to : {After : I → Database → Type 0} → ((about : I) (db : Database) → To about db → After about db) → Turns IsFailure g a b r From To → Turns IsFailure g a b r From After
+  turns_to to p = record { frame = p.frame; made = λ clean. on_ok r (λ made about from. to about (state_in g b).now (made about from)) (p.made clean); fault = p.fault }
+
+  pub turns_or : {IsOther : State → State → Error → Type 0} → ((e : Error) → IsFailure (state_in g a) (state_in g b) e → IsOther (state_in g a) (state_in g b) e) → Turns IsFailure g a b r From To → Turns IsOther g a b r From To
+  turns_or other p = record { frame = p.frame; made = p.made; fault = λ clean. if_err r (λ e failed about from. other e (failed about from)) (p.fault clean) }
+
+-- ---- changes of the contents
+
+module _ {IsFailure : State → State → Error → Type 0} {S X Y : Type 0} {g : Ghosts S} {a b c : Transaction S} {one two : Contents → Contents} where
+  pub alters_then : IsCarried IsFailure → {x : X} {r : Result Y Error} → Alters IsFailure g a b (Ok x) one → Alters IsFailure g b c r two → Alters IsFailure g a c r (λ contents. two (one contents))
+  alters_then carried {r = r} p q =
+      let soon = early (state_in g b) (state_in g c) q.frame.keeps.survives in
+      record {
+        frame = stays_then p.frame q.frame;
+        changed = λ clean. on_ok r (λ changed schema written contents holds. changed schema written (one contents) (p.changed (soon clean) schema written contents holds)) (q.changed clean);
+        fault = λ clean. if_err r
+            (λ e failed schema written contents holds.
+            carried (state_in g a) (state_in g b) (state_in g c) p.frame.keeps.survives (soon clean) q.frame.keeps.survives.counts (p.frame.inside (soon clean)) e (failed schema written (one contents) (p.changed (soon clean) schema written contents holds)))
+            (q.fault clean);
+      }
+
+module _ {IsFailure : State → State → Error → Type 0} {S X Y : Type 0} {g : Ghosts S} {a b : Transaction S} {one two : Contents → Contents} where
+  pub alters_failed : {e : Error} {r : Result Y Error} → Alters {X = X} IsFailure g a b (Err e) one → IsErrAnd r (λ failure. failure ≡ e) → Alters IsFailure g a b r two
+  alters_failed {e} {r} p is = record {
+    frame = stays_failed p.frame is;
+    changed = λ clean. none _ e r is;
+    fault = λ clean. if_err_is r (λ failure. WhereHeld (state_in g a) (λ contents. IsFailure (state_in g a) (state_in g b) failure)) e is (p.fault clean);
+  }
+
+-- ---- CREATE TABLE
+
+module _ {S X : Type 0} {g : Ghosts S} {a b : Transaction S} {r : Result X Error} {sql : List ℕ} {before : Schema} {table : Table} {after : Schema} (m : MakesTable sql before table after) (can : CanBeMade sql before table) (frame : StaysInside g a b r)
+    (runs : HasCleanDisk (state_in g b) → OnOk r ((count : ℕ) × ExecutesInside 0 sql [] (state_in g a) (state_in g b) (Ok count)))
+    (failed : HasCleanDisk (state_in g b) → IfErr r (λ e. OrTooLate (state_in g a) e (ExecutesInside 0 sql [] (state_in g a) (state_in g b) (Err e)))) where
+  pub makes_table : Turns IsWriteFault g a b r (Holding before) (Holding after)
+  makes_table = record {
+    frame = frame;
+    made = λ clean. on_ok r (λ ran contents holds. makes sql before table after m (state_in g a) (state_in g b) ran.0 contents holds ran.1.0) (runs clean);
+    fault = λ clean. if_err r (λ e why contents holds. as_write_fault (state_in g a) (state_in g b) e (make_fails sql before table after m can (state_in g a) (state_in g b) holds.declared e) why) (failed clean);
+  }
+
+-- in a database that has none
+module _ {S X : Type 0} {g : Ghosts S} {a b : Transaction S} {r : Result X Error} {sql : List ℕ} {table : Table} {after : Schema} (m : MakesTable sql no_schema table after) (can : CanBeMade sql no_schema table) (frame : StaysInside g a b r)
+    (runs : HasCleanDisk (state_in g b) → OnOk r ((count : ℕ) × ExecutesInside 0 sql [] (state_in g a) (state_in g b) (Ok count)))
+    (failed : HasCleanDisk (state_in g b) → IfErr r (λ e. OrTooLate (state_in g a) e (ExecutesInside 0 sql [] (state_in g a) (state_in g b) (Err e)))) where
+  pub makes_first : Turns IsWriteFault g a b r IsEmpty (λ _ db. HoldsIn after db no_contents)
+  makes_first = record {
+    frame = frame;
+    made = λ clean. on_ok r (λ ran about none. holds_more sql no_schema table after m (state_in g a) (state_in g b) ran.0 no_contents (holds_nothing (state_in g a).now.trees) none ran.1.0) (runs clean);
+    fault = λ clean. if_err r (λ e why about none. as_write_fault (state_in g a) (state_in g b) e (make_fails sql no_schema table after m can (state_in g a) (state_in g b) none e) why) (failed clean);
+  }

@@ -1,0 +1,4 @@
+use Rattle.reg_tables.proofs.meta.set_global_mode.Goals as goal
+
+pub returns : goal.returns
+returns g c = c.set_meta.ensures

@@ -1,0 +1,163 @@
+//! How the tables of both layouts are made.
+
+ghost use Rattle.std.specs.Prelude.{◌≡◌, ◌⊎◌, codes};
+ghost use Rattle.sqlite.specs.Schema.{Schema};
+ghost use Rattle.reg_tables.specs.Layout.{begun, layout_one, layout_one_unindexed, meta, GetsIndex, layout_two};
+ghost use Rattle.reg_tables.specs.Contents.{Contents, HoldsIn, Holds};
+ghost use Rattle.reg_tables.specs.Rooms.{HasRoom};
+ghost use Rattle.reg_tables.specs.FailedCalls.{IsWriteFault};
+ghost use Rattle.reg_tables.specs.Changes.{no_contents, new_contents_one, numbered_contents, contents_as, new_contents_two};
+ghost use Rattle.reg_tables.specs.Writing.{Turns, IsEmpty, Holding};
+
+use crate::meta::put_meta;
+use crate::statement::run;
+use sqlite::{Alter, Error, Transaction};
+
+/// Makes `texts` and `versions`.
+fn make_schema_tables<S: Alter>(tx: &mut Transaction<'_, S>) -> Result<(), Error>
+    ensures { Turns IsWriteFault S.Store tx.old tx.new result IsEmpty
+        (λ _ db. HoldsIn (begun 2) db no_contents) }
+{
+    run(
+        tx,
+        "CREATE TABLE texts (id INTEGER PRIMARY KEY, text TEXT NOT NULL UNIQUE) STRICT",
+        &[],
+    )?;
+    run(
+        tx,
+        "CREATE TABLE versions (subject TEXT NOT NULL, version INTEGER NOT NULL, id INTEGER NOT NULL REFERENCES texts (id), deleted INTEGER NOT NULL CHECK (deleted = 0 OR deleted = 1), PRIMARY KEY (subject, version)) STRICT",
+        &[],
+    )
+}
+
+/// Makes `levels`, `kept` and `meta`.
+fn make_other_tables<S: Alter>(tx: &mut Transaction<'_, S>) -> Result<(), Error>
+    ensures { Turns IsWriteFault S.Store tx.old tx.new result
+        (Holding (begun 2)) (Holding layout_one_unindexed) }
+{
+    run(
+        tx,
+        "CREATE TABLE levels (subject TEXT NOT NULL PRIMARY KEY, level TEXT NOT NULL) STRICT",
+        &[],
+    )?;
+    run(
+        tx,
+        "CREATE TABLE kept (key TEXT NOT NULL PRIMARY KEY, command TEXT NOT NULL, status INTEGER NOT NULL, body TEXT NOT NULL) STRICT",
+        &[],
+    )?;
+    run(
+        tx,
+        "CREATE TABLE meta (name TEXT NOT NULL PRIMARY KEY, value TEXT NOT NULL) STRICT",
+        &[],
+    )
+}
+
+/// Makes the index of `versions`, which tables that another program made may lack (`is_unindexed_one`,
+/// `is_unindexed_two`).
+///
+/// # Errors
+///
+/// `OutOfMemory`, a fault of the disk, `OperationInterrupted` at the limit on steps, or
+/// `TransactionState` where a failure has ended the transaction; another where the index is there
+/// or the tables aren't the layout's. Nothing is committed, and the transaction is to be rolled
+/// back.
+pub fn index_versions<S: Alter>(tx: &mut Transaction<'_, S>) -> Result<(), Error>
+    ensures { Turns IsWriteFault S.Store tx.old tx.new result
+        (λ (about : Schema × Schema × Contents) db. GetsIndex about.0 about.1 × HoldsIn about.0 db about.2)
+        (λ about db. HoldsIn about.1 db about.2) }
+{
+    run(tx, "CREATE INDEX versions_of_id ON versions (id)", &[])
+}
+
+/// Makes the tables and the index, with no row.
+fn make_tables<S: Alter>(tx: &mut Transaction<'_, S>) -> Result<(), Error>
+    ensures { Turns IsWriteFault S.Store tx.old tx.new result IsEmpty
+        (λ _ db. Holds db no_contents) }
+{
+    make_schema_tables(tx)?;
+    make_other_tables(tx)?;
+    index_versions(tx)
+}
+
+/// Makes the tables of layout 1, and says the format and a layout's number.
+fn make_numbered<S: Alter>(tx: &mut Transaction<'_, S>, number: &str) -> Result<(), Error>
+    requires known { (number.now ≡ codes "1") ⊎ (number.now ≡ codes "2") }
+    ensures { Turns IsWriteFault S.Store tx.old tx.new result IsEmpty
+        (λ _ db. Holds db (numbered_contents number.now) × HasRoom (db.trees meta.tree) 2) }
+{
+    make_tables(tx)?;
+    put_meta(tx, "format", "avroreg")?;
+    put_meta(tx, "layout", number)
+}
+
+/// Makes the tables of layout 1 with the rows of `meta` that both layouts have, the number being
+/// that of either.
+pub(crate) fn create_as<S: Alter>(tx: &mut Transaction<'_, S>, number: &str) -> Result<(), Error>
+    requires known { (number.now ≡ codes "1") ⊎ (number.now ≡ codes "2") }
+    ensures { Turns IsWriteFault S.Store tx.old tx.new result IsEmpty
+        (λ _ db. Holds db (contents_as number.now) × HasRoom (db.trees meta.tree) 1) }
+{
+    make_numbered(tx, number)?;
+    put_meta(tx, "global", "BACKWARD")
+}
+
+/// Makes the tables of a new registry in a database that has none (`has_no_tables`), with the global
+/// level BACKWARD. (Schema Registry API reference, Config.)
+///
+/// # Errors
+///
+/// `OutOfMemory`, a fault of the disk, `OperationInterrupted` at the limit on steps, or
+/// `TransactionState` where a failure has ended the transaction; another where there are tables.
+/// Nothing is committed, and the transaction is to be rolled back.
+pub fn create_layout_one<S: Alter>(tx: &mut Transaction<'_, S>) -> Result<(), Error>
+    ensures { Turns IsWriteFault S.Store tx.old tx.new result IsEmpty
+        (λ _ db. Holds db new_contents_one) }
+{
+    create_as(tx, "1")
+}
+
+/// Makes the tables that layout 2 adds, with no row, beside those of layout 1 and its index, which
+/// keep theirs.
+///
+/// # Errors
+///
+/// `OutOfMemory`, a fault of the disk, `OperationInterrupted` at the limit on steps, or
+/// `TransactionState` where a failure has ended the transaction; another where the tables aren't
+/// those of layout 1. Nothing is committed, and the transaction is to be rolled back.
+pub fn add_tables<S: Alter>(tx: &mut Transaction<'_, S>) -> Result<(), Error>
+    ensures { Turns IsWriteFault S.Store tx.old tx.new result (Holding layout_one) (Holding layout_two) }
+{
+    run(
+        tx,
+        "CREATE TABLE modes (subject TEXT NOT NULL PRIMARY KEY, mode TEXT NOT NULL) STRICT",
+        &[],
+    )?;
+    run(
+        tx,
+        "CREATE TABLE evidence (subject TEXT NOT NULL, version INTEGER NOT NULL, level TEXT NOT NULL, PRIMARY KEY (subject, version), FOREIGN KEY (subject, version) REFERENCES versions (subject, version) ON DELETE CASCADE) STRICT",
+        &[],
+    )?;
+    run(
+        tx,
+        "CREATE TABLE against (subject TEXT NOT NULL, version INTEGER NOT NULL, position INTEGER NOT NULL, id INTEGER NOT NULL REFERENCES texts (id), PRIMARY KEY (subject, version, position), FOREIGN KEY (subject, version) REFERENCES versions (subject, version) ON DELETE CASCADE) STRICT",
+        &[],
+    )
+}
+
+/// Makes the tables of a new registry in layout 2, in a database that has none (`has_no_tables`),
+/// with the global level BACKWARD and the global mode READWRITE. (Schema Registry API reference,
+/// Config, Mode.)
+///
+/// # Errors
+///
+/// `OutOfMemory`, a fault of the disk, `OperationInterrupted` at the limit on steps, or
+/// `TransactionState` where a failure has ended the transaction; another where there are tables.
+/// Nothing is committed, and the transaction is to be rolled back.
+pub fn create_layout_two<S: Alter>(tx: &mut Transaction<'_, S>) -> Result<(), Error>
+    ensures { Turns IsWriteFault S.Store tx.old tx.new result IsEmpty
+        (λ _ db. HoldsIn layout_two db new_contents_two) }
+{
+    create_as(tx, "2")?;
+    put_meta(tx, "mode", "READWRITE")?;
+    add_tables(tx)
+}
