@@ -3,6 +3,7 @@ use Rattle.std.proofs.Common.{◌≡◌, ◌⊎◌, inl, inr, ℕ, ◌+◌, ◌<
 use Rattle.std.proofs.lemmas.Bool.{cases_Bool, both_ways}
 use Rattle.std.proofs.lemmas.List.{take_more, length-take}
 use Rattle.sqlite.specs.Tree.{Trees}
+use Rattle.sqlite.specs.State.{HasCleanDisk}
 use Rattle.sqlite_trees.specs.declared.store.Store.{Ghosts}
 use Rattle.reg_core.specs.declared.code.Code.TheVariants.{BackendFault}
 use Rattle.reg_core.specs.declared.delivery.Delivery.{Delivery}
@@ -11,16 +12,16 @@ use Rattle.reg_core.specs.Registry.{Registry}
 use Rattle.reg_core.specs.Replies.{Told, fault}
 use Rattle.reg_core.specs.KeptReplies.{Kept}
 use Rattle.reg_core.specs.Stored.{Stored, HasTrueEvidence}
-use Rattle.reg_store.specs.Spells.{Leaves, IsOpenOver}
+use Rattle.reg_store.specs.Spells.{Leaves, IsOpenOver, SpellsWhileOpen}
 use Rattle.reg_store.specs.Stores.{has_failed, LeavesNoMore}
 use Rattle.reg_service.specs.declared.service.Service.{Service}
-use Rattle.reg_service.specs.Deliveries.{Exchange, is_first, reply_after, served, LeadsTo}
-use Rattle.reg_service.specs.Services.{store_in, state_in, FailsAt, KeepsService, ServesOver, SplitAt}
-use Rattle.reg_service.specs.Crashes.{LeavesAfter, LeavesSpelled, LeavesUnderWay, IsFoundAfter}
+use Rattle.reg_service.specs.Deliveries.{Exchange, is_first, reply_after, served, LeadsTo, Serves}
+use Rattle.reg_service.specs.Services.{store_in, state_in, FailsAt, KeepsService, ServesOver, ServesTo, SplitAt}
+use Rattle.reg_service.specs.Crashes.{LeavesAfter, LeavesSpelled, LeavesUnderWay, IsFoundAfter, ServesDurably}
 use Rattle.reg_service.specs.Inside.Crashing.{IsFoundOne}
 use Rattle.reg_service.proofs.CrashLemmas.{leaves_later, leaves_none}
 use Rattle.reg_service.proofs.ExchangeLists.{served-append, zip-push}
-use Rattle.reg_service.proofs.JoinedExchanges.{is_led, is_first-append, registry-append}
+use Rattle.reg_service.proofs.JoinedExchanges.{is_led, is_first-append, registry-append, serves_none, serves-append}
 use Rattle.reg_service.proofs.OpenConnections.{keeps_as, keeps_both, keeps_still}
 use Rattle.reg_service.proofs.SingleDeliveries.{served_fault}
 
@@ -37,10 +38,18 @@ zip_next list i d replies more reply lt item count longer =
     (λ j. zip (front j) (longer j)) ∙ zip-push (take i list) replies d reply same
 
 module _ {S : Type 0} {g : Ghosts S} where
+  -- an exchange that was answered 50001 isn't served
+  keeps_one : (old new : Service S g) (d : Delivery) (reply : Told) → KeepsService old new (reply ≡ fault BackendFault) → KeepsService old new (served ((d, reply) ∷ []) ≡ [])
+  keeps_one old new d reply = keeps_as old new (served_fault d reply)
+
+  -- exchanges after others
+  pub passes_both : (old mid new : Service S g) (xs ys : List Exchange) → KeepsService old mid (served xs ≡ []) → KeepsService mid new (served ys ≡ []) → KeepsService old new (served (xs ++ ys) ≡ [])
+  passes_both old mid new xs ys before later = keeps_both old mid new (none_of_both xs ys) before later
+
   -- one exchange more
   pub passes_next : (old mid new : Service S g) (xs : List Exchange) (d : Delivery) (reply : Told) → KeepsService old mid (served xs ≡ []) → KeepsService mid new (reply ≡ fault BackendFault)
       → KeepsService old new (served (xs ++ (d, reply) ∷ []) ≡ [])
-  passes_next old mid new xs d reply before one = keeps_both old mid new (λ none is. none_of_both xs ((d, reply) ∷ []) none (served_fault d reply is)) before one
+  passes_next old mid new xs d reply before one = passes_both old mid new xs ((d, reply) ∷ []) before (keeps_one mid new d reply one)
 
   -- ---- where a list splits
 
@@ -74,20 +83,19 @@ module _ {S : Type 0} {g : Ghosts S} where
     later = at.later;
   }
 
-  -- and in front of one that wasn't answered
-  abbrev split_still : (old mid new : Service S g) (xs : List Exchange) (d : Delivery) (reply : Told) → reply ≡ fault BackendFault → KeepsService mid new (reply ≡ fault BackendFault) → SplitAt old mid xs
-      → SplitAt old new (xs ++ (d, reply) ∷ [])
-  split_still old mid new xs d reply is keeps at = record {
+  -- and in front of others that weren't answered
+  abbrev split_still : (old mid new : Service S g) (xs ys : List Exchange) → served ys ≡ [] → KeepsService mid new (served ys ≡ []) → SplitAt old mid xs → SplitAt old new (xs ++ ys)
+  split_still old mid new xs ys none keeps at = record {
     before = at.before;
     exchange = at.exchange;
-    after = at.after ++ (d, reply) ∷ [];
-    split = ap (λ (zs : List Exchange). zs ++ (d, reply) ∷ []) at.split ∙ append_assoc at.before (at.exchange ∷ at.after) ((d, reply) ∷ []);
-    unanswered = none_of_both (at.exchange ∷ at.after) ((d, reply) ∷ []) at.unanswered (served_fault d reply is);
+    after = at.after ++ ys;
+    split = ap (λ (zs : List Exchange). zs ++ ys) at.split ∙ append_assoc at.before (at.exchange ∷ at.after) ys;
+    unanswered = none_of_both (at.exchange ∷ at.after) ys at.unanswered none;
     reached = at.reached;
     left = at.left;
     earlier = at.earlier;
     here = at.here;
-    later = passes_next at.left mid new at.after d reply at.later keeps;
+    later = passes_both at.left mid new at.after ys at.later keeps;
   }
 
   -- ---- where the store fails
@@ -101,7 +109,7 @@ module _ {S : Type 0} {g : Ghosts S} where
       by : (has_failed (store_in mid) ≡ true) ⊎ (has_failed (store_in mid) ≡ false) → IsTrue (has_failed (store_in old)) ⊎ FailsAt old new (xs ++ (d, reply) ∷ [])
       by (inl was) = elim (before was) [
         | inl first ↦ inl first
-        | inr it ↦ inr (record { at = split_still old mid new xs d reply (fails failed) one it.at; goes = it.goes; fails = it.fails })
+        | inr it ↦ inr (record { at = split_still old mid new xs ((d, reply) ∷ []) (served_fault d reply (fails failed)) (keeps_one mid new d reply one) it.at; goes = it.goes; fails = it.fails })
       ]
       by (inr goes) = inr (record { at = split_later old mid new xs ((d, reply) ∷ []) passed (split_here mid new d reply (fails failed) one); goes = goes; fails = failed })
 
@@ -165,39 +173,75 @@ module _ {S : Type 0} {g : Ghosts S} where
         leaves = λ db it. elim (u.leaves db it) [ inl leaves ↦ inl (both db leaves) | inr leaves ↦ inr (with_one u.at.before u.at.exchange.0 db leaves) ];
       })
 
-  -- an exchange that was answered 50001 and left no more changes nothing of what is found
-  found_still : (old mid new : Service S g) (was : Stored) (xs : List Exchange) (d : Delivery) (reply : Told) → reply ≡ fault BackendFault → KeepsService mid new (reply ≡ fault BackendFault)
-      → LeavesNoMore (state_in mid) (state_in new) → IsFoundAfter old mid was xs → IsFoundAfter old new was (xs ++ (d, reply) ∷ [])
-  found_still old mid new was xs d reply is keeps no_more found = by found
+  -- exchanges that weren't answered and left no more change nothing of what is found
+  found_still : (old mid new : Service S g) (was : Stored) (xs ys : List Exchange) → served ys ≡ [] → KeepsService mid new (served ys ≡ []) → LeavesNoMore (state_in mid) (state_in new)
+      → IsFoundAfter old mid was xs → IsFoundAfter old new was (xs ++ ys)
+  found_still old mid new was xs ys none keeps no_more found = by found
     where
-      still : (db : Trees) → LeavesAfter was (served xs) db → LeavesAfter was (served (xs ++ (d, reply) ∷ [])) db
+      still : (db : Trees) → LeavesAfter was (served xs) db → LeavesAfter was (served (xs ++ ys)) db
       still db leaves =
           let P : List Exchange → Type 0 = λ zs. LeavesAfter was zs db in
-          let same : served (xs ++ (d, reply) ∷ []) ≡ served xs = served-append xs ((d, reply) ∷ []) ∙ ap (λ zs. served xs ++ zs) (served_fault d reply is) ∙ append-nil (served xs) in
+          let same : served (xs ++ ys) ≡ served xs = served-append xs ys ∙ ap (λ zs. served xs ++ zs) none ∙ append-nil (served xs) in
           subst P (sym same) leaves
 
-      by : IsFoundAfter old mid was xs → IsFoundAfter old new was (xs ++ (d, reply) ∷ [])
+      by : IsFoundAfter old mid was xs → IsFoundAfter old new was (xs ++ ys)
       by (inl leaves) = inl (λ db it. still db (leaves db (no_more db it)))
       by (inr u) = inr (record {
-        at = split_still old mid new xs d reply is keeps u.at;
+        at = split_still old mid new xs ys none keeps u.at;
         was_open = u.was_open;
         shut = u.shut;
         first = u.first;
         leaves = λ db it. elim (u.leaves db (no_more db it)) [ inl leaves ↦ inl (still db leaves) | inr leaves ↦ inr leaves ];
       })
 
-  -- over an open connection the next exchange is answered from where the others led; over one that is shut it leaves no more
-  pub found_next : (old mid new : Service S g) (xs : List Exchange) (d : Delivery) (reply : Told) (was : Stored) → IsOpenOver (state_in old) was → ServesOver (state_in old) (state_in mid) (served xs)
-      → KeepsService old mid (served xs ≡ []) → KeepsService mid new (reply ≡ fault BackendFault) → IsFoundAfter old mid was xs
-      → ((was : Stored) → IsOpenOver (state_in mid) was → IsFoundAfter mid new was ((d, reply) ∷ []))
-      → ((IsTrue (state_in mid).is_open → ⊥) → (reply ≡ fault BackendFault) × LeavesNoMore (state_in mid) (state_in new))
-      → IsFoundAfter old new was (xs ++ (d, reply) ∷ [])
-  found_next old mid new xs d reply was over before passed one found once shut = by (cases_Bool (state_in mid).is_open)
+  -- over an open connection exchanges are answered from where the others led; over one that is shut they leave no more
+  pub found_both : (old mid new : Service S g) (was now : Stored) (xs ys : List Exchange) → LeadsTo was (served xs) now → (HasTrueEvidence was → HasTrueEvidence now) → SpellsWhileOpen (state_in mid) now
+      → KeepsService old mid (served xs ≡ []) → KeepsService mid new (served ys ≡ []) → HasCleanDisk (state_in new)
+      → IsFoundAfter old mid was xs → (IsOpenOver (state_in mid) now → IsFoundAfter mid new now ys) → IsFoundAfter old new was (xs ++ ys)
+  found_both old mid new was now xs ys leads stays spells passed keeps clean found later = by (cases_Bool (state_in mid).is_open)
     where
-      by : ((state_in mid).is_open ≡ true) ⊎ ((state_in mid).is_open ≡ false) → IsFoundAfter old new was (xs ++ (d, reply) ∷ [])
-      by (inl is_open) =
-          let it = before was (λ _. over) in
-          found_later old mid new was it.now xs ((d, reply) ∷ []) passed it.serves.leads it.stays_true (once it.now (it.spells is_open))
+      by : ((state_in mid).is_open ≡ true) ⊎ ((state_in mid).is_open ≡ false) → IsFoundAfter old new was (xs ++ ys)
+      by (inl is_open) = found_later old mid new was now xs ys passed leads stays (later (spells is_open))
       by (inr is_shut) =
-          let it = shut (λ is_open. both_ways _ is_shut is_open) in
-          found_still old mid new was xs d reply it.0 one it.1 found
+          let it = keeps.shut clean (λ is_open. both_ways _ is_shut is_open) in
+          found_still old mid new was xs ys it.0 keeps it.1 found
+
+  -- the same for the next exchange
+  pub found_next : (old mid new : Service S g) (xs : List Exchange) (d : Delivery) (reply : Told) (was : Stored) → IsOpenOver (state_in old) was → ServesOver (state_in old) (state_in mid) (served xs)
+      → KeepsService old mid (served xs ≡ []) → KeepsService mid new (reply ≡ fault BackendFault) → HasCleanDisk (state_in new) → IsFoundAfter old mid was xs
+      → ((was : Stored) → IsOpenOver (state_in mid) was → IsFoundAfter mid new was ((d, reply) ∷ [])) → IsFoundAfter old new was (xs ++ (d, reply) ∷ [])
+  found_next old mid new xs d reply was over before passed one clean found once =
+      let it = before was (λ _. over) in
+      found_both old mid new was it.now xs ((d, reply) ∷ []) it.serves.leads it.stays_true it.spells passed (keeps_one mid new d reply one) clean found (once it.now)
+
+  -- ---- durable exchanges
+
+  -- exchanges that weren't answered, and a service that did nothing
+  pub durable_none : (s : Service S g) (was : Stored) (xs : List Exchange) → served xs ≡ [] → LeavesSpelled (state_in s) → ServesDurably s s was was xs
+  durable_none s was xs none spelled =
+      let Q : List Exchange → Type 0 = λ zs. Serves was zs was in
+      record {
+        serves = subst Q (sym none) (serves_none was);
+        stays_true = λ holds. holds;
+        keeps = keeps_still s (served xs ≡ []) none;
+        crash = λ over. inl (λ db it.
+            let P : List Exchange → Type 0 = λ zs. LeavesAfter was zs db in
+            subst P (sym none) (leaves_none was db (spelled was over db it)));
+      }
+
+  -- one delivery
+  pub durable_one : (old new : Service S g) (was : Stored) (d : Delivery) (reply : Told) (it : ServesTo was (served ((d, reply) ∷ [])) (state_in new)) → KeepsService old new (reply ≡ fault BackendFault)
+      → (IsOpenOver (state_in old) was → IsFoundAfter old new was ((d, reply) ∷ [])) → ServesDurably old new was it.now ((d, reply) ∷ [])
+  durable_one old new was d reply it keeps crash = record { serves = it.serves; stays_true = it.stays_true; keeps = keeps_one old new d reply keeps; crash = crash }
+
+  -- exchanges after others
+  pub durable_both : (old mid new : Service S g) (was between now : Stored) → HasCleanDisk (state_in new) → SpellsWhileOpen (state_in mid) between
+      → (xs ys : List Exchange) → ServesDurably old mid was between xs → ServesDurably mid new between now ys → ServesDurably old new was now (xs ++ ys)
+  durable_both old mid new was between now clean spells xs ys p q =
+      let P : List Exchange → Type 0 = λ zs. Serves was zs now in
+      record {
+        serves = subst P (sym (served-append xs ys)) (serves-append was between now (served xs) (served ys) p.serves q.serves);
+        stays_true = λ holds. q.stays_true (p.stays_true holds);
+        keeps = passes_both old mid new xs ys p.keeps q.keeps;
+        crash = λ over. found_both old mid new was between xs ys p.serves.leads p.stays_true spells p.keeps q.keeps clean (p.crash over) q.crash;
+      }

@@ -160,7 +160,7 @@ due_later was evidence xs more x h = record {
     later = ap (λ (state : Registry). (step state x.0.command).1) (sym (registry-append was.registry was.replies xs more))
 
 -- an element of two lists is one of the first or one of the second
-split : {A : Type 0} (xs ys before : List A) (x : A) (after : List A) → xs ++ ys ≡ before ++ x ∷ after
+pub split : {A : Type 0} (xs ys before : List A) (x : A) (after : List A) → xs ++ ys ≡ before ++ x ∷ after
     → ((rest : List A) × (xs ≡ before ++ x ∷ rest)) ⊎ ((more : List A) × (xs ++ more ≡ before) × (ys ≡ more ++ x ∷ after))
 split [] ys before x after e = inr (before, refl, e)
 split (y ∷ xs) ys [] x after e = let h : y ≡ x = cc in inl (xs, ap (λ z. z ∷ xs) h)
@@ -191,6 +191,47 @@ serves-append was mid now xs ys p q =
       leads = leads-append was mid now xs ys p.leads q.leads;
       replies = answers-append was mid.evidence xs ys p.replies (subst P (is_led was mid xs p.leads) q.replies);
     }
+
+-- evidence after commands in two parts is evidence after each
+admitted_parts : (g : Registry) (a b : List Command) (old new : EvidenceOf) → AreAdmittedBy g (a ++ b) old new
+    → (mid : EvidenceOf) × AreAdmittedBy g a old mid × AreAdmittedBy (run_commands g a) b mid new
+admitted_parts g [] b old new p = (old, refl, p)
+admitted_parts g (c ∷ a) b old new p =
+    let (mid, first, rest) = admitted_parts (step g c).0 a b p.0 new p.2 in
+    (mid, (p.0, p.1, first), rest)
+
+-- what is due in both is due among the second
+due_among : (was : Stored) (evidence : EvidenceOf) (xs more : List Exchange) (x : Exchange)
+    → IsDue was (xs ++ more) x.0 x.1 → IsDue (led was xs evidence) more x.0 x.1
+due_among was evidence xs more x h = record {
+  read = λ f. h.read f ∙ earlier;
+  first = λ f. h.first (is_first-append was.replies xs more x.0 ∙ f) ∙ earlier;
+  again = λ key entry some has. h.again key entry some (kept_at was.replies xs more key ∙ has);
+  other = λ key entry some has. h.other key entry some (kept_at was.replies xs more key ∙ has);
+}
+  where
+    earlier : reply_after was (xs ++ more) x.0.command ≡ reply_after (led was xs evidence) more x.0.command
+    earlier = ap (λ (state : Registry). (step state x.0.command).1) (registry-append was.registry was.replies xs more)
+
+-- What is served as one list is served in two parts.
+pub serves_parts : (was now : Stored) (xs ys : List Exchange) → Serves was (xs ++ ys) now → (mid : Stored) × Serves was xs mid × Serves mid ys now
+serves_parts was now xs ys p =
+    let all = subst (λ (cs : List Command). AreAdmittedBy was.registry cs was.evidence now.evidence) (firsts-append was.replies xs ys) p.leads.evidence in
+    let (evidence, first, rest) = admitted_parts was.registry (firsts was.replies xs) (firsts (kept_after was.replies xs) ys) was.evidence now.evidence all in (
+      led was xs evidence,
+      record {
+        leads = record { registry = refl; kept = refl; evidence = first };
+        replies = λ before x after e. p.replies before x (after ++ ys) (ap (λ zs. zs ++ ys) e ∙ append_assoc before (x ∷ after) ys);
+      },
+      record {
+        leads = record {
+          registry = p.leads.registry ∙ registry-append was.registry was.replies xs ys;
+          kept = p.leads.kept ∙ kept_after-append was.replies xs ys;
+          evidence = rest;
+        };
+        replies = λ before x after e. due_among was evidence xs before x (p.replies (xs ++ before) x after (ap (λ zs. xs ++ zs) e ∙ sym (append_assoc xs before (x ∷ after))));
+      },
+    )
 
 -- No exchange leads from what is stored to itself.
 pub leads_none : (was : Stored) → LeadsTo was [] was

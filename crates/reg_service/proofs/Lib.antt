@@ -7,5 +7,7 @@ pub mod OverTables
 pub mod CrashLemmas
 pub mod OpenConnections
 pub mod FoundLists
+pub mod Chains
 pub mod Examples
 pub mod AdmissionLemmas
+pub mod RestartLemmas

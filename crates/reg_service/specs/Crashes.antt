@@ -8,8 +8,8 @@ use Rattle.reg_core.specs.Stored.{Stored, HasTrueEvidence}
 use Rattle.sqlite_trees.specs.declared.store.Store.{Ghosts}
 use Rattle.reg_store.specs.Spells.{Leaves, IsOpenOver}
 use Rattle.reg_service.specs.declared.service.Service.{Service}
-use Rattle.reg_service.specs.Services.{SplitAt, state_in}
-use Rattle.reg_service.specs.Deliveries.{Exchange, LeadsTo, is_first, reply_after, served}
+use Rattle.reg_service.specs.Services.{KeepsService, SplitAt, state_in}
+use Rattle.reg_service.specs.Deliveries.{Exchange, LeadsTo, Serves, is_first, reply_after, served}
 
 -- SQLite, transactions: the database that a crash leaves spells what these exchanges lead to: the registry, the kept replies and the evidence of versions,
 -- all three together
@@ -35,6 +35,16 @@ pub record LeavesUnderWay {S : Type 0} {g : Ghosts S} (old new : Service S g) (w
 -- that may be left.
 abbrev pub IsFoundAfter : {S : Type 0} {g : Ghosts S} → Service S g → Service S g → Stored → List Exchange → Type 0
 IsFoundAfter old new was xs = ((db : Trees) → (state_in new).may_leave db → LeavesAfter was (served xs) db) ⊎ LeavesUnderWay old new was xs
+
+-- This project's choice: the service carried out these exchanges, from what was stored to what is, and they are durable: a crash leaves all that was
+-- acknowledged, with or without one delivery in progress.
+pub record ServesDurably {S : Type 0} {g : Ghosts S} (old new : Service S g) (was now : Stored) (xs : List Exchange) : Type 0 where
+  pub serves : Serves was (served xs) now
+  -- if all evidence of versions was true, it still is
+  pub stays_true : HasTrueEvidence was → HasTrueEvidence now
+  -- after a fault of the disk, and over a closed connection, nothing is acknowledged
+  pub keeps : KeepsService old new (served xs ≡ [])
+  pub crash : IsOpenOver (state_in old) was → IsFoundAfter old new was xs
 
 -- this project's choice: an error is answered 50001
 abbrev pub reply_or_fault : {E : Type 0} → Result Told E → Told

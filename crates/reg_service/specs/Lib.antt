@@ -2,4 +2,6 @@ pub mod Deliveries
 pub mod Admissions
 pub mod Crashes
 pub mod Services
+pub mod Processing
 pub mod Inside
+pub mod Restarts

@@ -9,6 +9,7 @@ ghost use Rattle.reg_store.specs.Stores.{has_failed, LeavesNoMore, SpellsOn};
 ghost use Rattle.reg_service.specs.Deliveries.{served, RepeatsAgree, NoOtherAnswers};
 ghost use Rattle.reg_service.specs.Admissions.{AllAdmitted};
 ghost use Rattle.reg_service.specs.Crashes.{IsFoundAfter, LeavesSpelled, reply_or_fault};
+ghost use Rattle.reg_service.specs.Processing.{Processes, ProcessesEach};
 ghost use Rattle.reg_service.specs.Services.{store_in, state_in, ServesOver, AreUnanswered, FailsAt, KeepsService};
 ghost use Rattle.reg_service.specs.Inside.Crashing.{IsFoundOne};
 ghost use Rattle.reg_service.specs.Inside.Steps.{IsDecidedFor, CarriesOut};
@@ -66,28 +67,7 @@ impl<S: Alter> Service<S> {
     /// fails, the reply is 50001 and nothing has changed. One exception: if a fault of the disk closed
     /// the connection, a crash may leave the delivery carried out.
     pub fn answer(&mut self, delivery: &Delivery) -> Reply
-        // After a fault of the disk, and over a closed connection, nothing is done.
-        ensures frame { KeepsService self.old self.new (result ≡ fault Code.BackendFault) }
-
-        // The delivery at which the store fails gets 50001 too.
-        ensures fails { IsTrue (has_failed (store_in self.new)) → result ≡ fault Code.BackendFault }
-
-        // The evidence of versions is what the registry named, and true if all of it was true.
-        ensures served { HasCleanDisk (state_in self.new)
-            → ServesOver (state_in self.old) (state_in self.new) (served ((delivery.now, result) ∷ [])) }
-
-        // Each version that is added was admitted by its subject's level.
-        ensures admitted { HasCleanDisk (state_in self.new) → (was : Stored)
-            → IsOpenOver (state_in self.old) was
-            → AllAdmitted was (served ((delivery.now, result) ∷ [])) }
-
-        // A crash leaves what was answered. It may also leave a delivery that got 50001: version, reply
-        // and evidence together.
-        ensures crash { HasCleanDisk (state_in self.new) → (was : Stored)
-            → IsOpenOver (state_in self.old) was
-            → IsFoundAfter self.old self.new was ((delivery.now, result) ∷ []) }
-
-        ensures settled { LeavesSpelled (state_in self.new) }
+        ensures { Processes self.old self.new (delivery.now, result) }
     {
         match self.try_answer(delivery) {
             Ok(reply) => reply,
@@ -103,6 +83,9 @@ impl<S: Alter> Service<S> {
     /// `OutOfMemory` if memory for the replies can't be allocated. Then nothing was carried out.
     pub fn run(&mut self, list: &[Delivery]) -> Result<Vec<Reply>, OutOfMemory>
         ensures count { IfOk result (λ replies. vec_len replies ≡ length list.now) }
+
+        // Each delivery is processed as `answer` processes it, where the one before left the service.
+        ensures each { IfOk result (λ replies. ProcessesEach self.old self.new (zip list.now replies.items)) }
 
         // After a fault of the disk, and over a closed connection, nothing is done.
         ensures frame { KeepsService self.old self.new (IfOk result (λ replies. AreUnanswered replies.items)) }

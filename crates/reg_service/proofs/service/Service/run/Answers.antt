@@ -7,6 +7,8 @@ use Rattle.reg_core.specs.declared.delivery.Delivery.{Delivery}
 use Rattle.reg_store.specs.Stores.{has_failed}
 use Rattle.reg_service.specs.Deliveries.{Exchange, served}
 use Rattle.reg_service.specs.Crashes.{IsFoundAfter}
+use Rattle.reg_service.specs.Processing.{ProcessesEach}
+use Rattle.reg_service.proofs.Chains.{processes_next}
 use Rattle.reg_service.proofs.DueReplies.{repeats_agree, no_other_answers}
 use Rattle.reg_service.specs.Services.{store_in, state_in, AreUnanswered, FailsAt, KeepsService}
 use Rattle.reg_service.proofs.OverTables.{none_over, next_over}
@@ -22,6 +24,7 @@ loop-delivery-init g c =
     record {
       len = new.len;
       count = ap length new.items;
+      each = refl;
       room = new.capacity;
       frame = subst (λ items. KeepsService c.args.self.now c.args.self.now (AreUnanswered items)) (sym new.items) (keeps_still c.args.self.now (AreUnanswered []) (All-nil (λ reply. reply ≡ fault BackendFault)));
       passed = keeps_still c.args.self.now ([] ≡ []) refl;
@@ -42,6 +45,7 @@ loop-delivery-preserved g c =
     record {
       len = omega (arith, i.len, more.len);
       count = omega (arith, i.count, ap length more.items, length-append c.loop-delivery.replies.items (c.answer-reply.result ∷ []));
+      each = subst (λ (xs : List Exchange). ProcessesEach c.args.self.now c.answer-reply.new.self xs) next (processes_next c.args.self.now c.loop-delivery.self c.answer-reply.new.self all (c.delivery-item.result, c.answer-reply.result) i.each one);
       room = omega (arith, i.room, more.capacity);
       frame = keeps_next c.args.self.now c.loop-delivery.self c.answer-reply.new.self c.loop-delivery.replies.items c.push_reserved.new.self.items c.answer-reply.result more.items i.frame one.frame;
       passed = subst Passed next (passes_next c.args.self.now c.loop-delivery.self c.answer-reply.new.self all c.delivery-item.result c.answer-reply.result i.passed one.frame);
@@ -49,13 +53,18 @@ loop-delivery-preserved g c =
       served = λ h. next_over _ _ _ c.args.list.now c.loop-delivery.delivery-index c.delivery-item.result c.loop-delivery.replies.items c.push_reserved.new.self.items c.answer-reply.result
           c.loop-delivery-test.true c.delivery-item.is i.count more.items (i.served (one.frame.clean h)) (one.served h);
       crash = λ h was over. subst (λ (xs : List Exchange). IsFoundAfter c.args.self.now c.answer-reply.new.self was xs) next
-          (found_next c.args.self.now c.loop-delivery.self c.answer-reply.new.self all c.delivery-item.result c.answer-reply.result was over (i.served (one.frame.clean h)) i.passed one.frame (i.crash (one.frame.clean h) was over) (one.crash h) (one.frame.shut h));
+          (found_next c.args.self.now c.loop-delivery.self c.answer-reply.new.self all c.delivery-item.result c.answer-reply.result was over (i.served (one.frame.clean h)) i.passed one.frame h (i.crash (one.frame.clean h) was over) (one.crash h));
     }
 
 pub returns-clause-served : goal.returns-clause-served
 returns-clause-served g c clean was over =
     let all : take c.loop-delivery.delivery-index c.args.list.now ≡ c.args.list.now = take_all c.loop-delivery.delivery-index c.args.list.now c.loop-delivery-test.false in
     rw all at (c.loop-delivery.invariant.served clean was over)
+
+pub returns-clause-each : goal.returns-clause-each
+returns-clause-each g c =
+    let all : take c.loop-delivery.delivery-index c.args.list.now ≡ c.args.list.now = take_all c.loop-delivery.delivery-index c.args.list.now c.loop-delivery-test.false in
+    subst (λ (list : List Delivery). ProcessesEach c.args.self.now c.loop-delivery.self (zip list c.loop-delivery.replies.items)) all c.loop-delivery.invariant.each
 
 pub returns-clause-repeats : goal.returns-clause-repeats
 returns-clause-repeats g c clean was over =

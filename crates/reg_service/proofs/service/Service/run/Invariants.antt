@@ -5,6 +5,7 @@ use Rattle.reg_core.specs.Stored.{Stored}
 use Rattle.reg_store.specs.Spells.{IsOpenOver}
 use Rattle.reg_service.specs.Crashes.{IsFoundAfter}
 use Rattle.reg_service.specs.Deliveries.{served}
+use Rattle.reg_service.specs.Processing.{ProcessesEach}
 use Rattle.reg_store.specs.Stores.{has_failed}
 use Rattle.reg_service.specs.Services.{store_in, state_in, ServesOver, AreUnanswered, FailsAt, KeepsService}
 use Rattle.reg_service.proofs.service.Service.run.Given as goal
@@ -13,6 +14,7 @@ abbrev pub invariant-loop-delivery : goal.invariant-loop-delivery
 invariant-loop-delivery g l = record {
   len : vec_len l.replies ≡ l.delivery-index;
   count : length l.replies.items ≡ l.delivery-index;
+  each : ProcessesEach l.fn.self l.self (zip (take l.delivery-index l.list) l.replies.items);
   room : length l.list ≤ vec_capacity l.replies;
   frame : KeepsService l.fn.self l.self (AreUnanswered l.replies.items);
   passed : KeepsService l.fn.self l.self (served (zip (take l.delivery-index l.list) l.replies.items) ≡ []);

@@ -1,0 +1,33 @@
+-- One delivery after the other: what `Service::answer` promises of one, and a list as a chain of such steps.
+use Rattle.std.specs.Prelude.{◌≡◌, IsTrue, List, [], ◌∷◌}
+use Rattle.sqlite.specs.State.{HasCleanDisk}
+use Rattle.sqlite_trees.specs.declared.store.Store.{Ghosts}
+use Rattle.reg_core.specs.declared.code.Code.TheVariants.{BackendFault}
+use Rattle.reg_core.specs.Replies.{fault}
+use Rattle.reg_core.specs.Stored.{Stored}
+use Rattle.reg_store.specs.Spells.{IsOpenOver}
+use Rattle.reg_store.specs.Stores.{has_failed}
+use Rattle.reg_service.specs.declared.service.Service.{Service}
+use Rattle.reg_service.specs.Deliveries.{Exchange, served}
+use Rattle.reg_service.specs.Admissions.{AllAdmitted}
+use Rattle.reg_service.specs.Services.{store_in, state_in, ServesOver, KeepsService}
+use Rattle.reg_service.specs.Crashes.{IsFoundAfter, LeavesSpelled}
+
+-- This project's choice: the service processed one delivery, and replied so.
+pub record Processes {S : Type 0} {g : Ghosts S} (old new : Service S g) (x : Exchange) : Type 0 where
+  -- after a fault of the disk, and over a closed connection, nothing is done
+  pub frame : KeepsService old new (x.1 ≡ fault BackendFault)
+  -- the delivery at which the store fails gets 50001 too
+  pub fails : IsTrue (has_failed (store_in new)) → x.1 ≡ fault BackendFault
+  -- each version that is added was admitted by its subject's level
+  pub admitted : HasCleanDisk (state_in new) → (was : Stored) → IsOpenOver (state_in old) was → AllAdmitted was (served (x ∷ []))
+  -- a crash leaves what was answered; it may also leave a delivery that got 50001: version, reply and evidence together
+  pub crash : HasCleanDisk (state_in new) → (was : Stored) → IsOpenOver (state_in old) was → IsFoundAfter old new was (x ∷ [])
+  pub settled : LeavesSpelled (state_in new)
+  -- the evidence of versions is what the registry named, and true if all of it was true
+  pub served : HasCleanDisk (state_in new) → ServesOver (state_in old) (state_in new) (served (x ∷ []))
+
+-- This project's choice: it processed each delivery of a list, the next one from where the last one left it.
+abbrev pub ProcessesEach : {S : Type 0} {g : Ghosts S} → Service S g → Service S g → List Exchange → Type 0
+ProcessesEach old new [] = new ≡ old
+ProcessesEach {S} {g} old new (x ∷ xs) = (mid : Service S g) × Processes old mid x × ProcessesEach mid new xs

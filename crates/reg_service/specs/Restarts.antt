@@ -1,0 +1,27 @@
+-- A list of exchanges, a crash, a restart, and another list of exchanges.
+use Rattle.std.specs.Prelude.{◌≡◌, ◌⊎◌, IsTrue, List, [], ◌∷◌, ◌++◌}
+use Rattle.sqlite.specs.Tree.{Trees}
+use Rattle.reg_core.specs.declared.delivery.Delivery.{Delivery}
+use Rattle.reg_core.specs.Stored.{Stored, HasTrueEvidence}
+use Rattle.reg_store.specs.Spells.{Leaves}
+use Rattle.reg_service.specs.Deliveries.{Exchange, RepeatsAgree, Serves, is_first, reply_after, served}
+
+-- This project's choice: no delivery was in progress when the crash came, or one first delivery, which gets the plain machine's reply.
+abbrev pub IsInProgress : Stored → List Exchange → List Exchange → Type 0
+IsInProgress was before xs = (xs ≡ []) ⊎ ((d : Delivery) × IsTrue (is_first was.replies before d) × (xs ≡ (d, reply_after was before d.command) ∷ []))
+
+-- This project's choice: a crash came between two lists of exchanges, and together they are one list, with at most one delivery between them. So each first
+-- delivery is applied exactly once, and a retry after the crash gets the reply from before it.
+pub record ServesAcross (was : Stored) (xs ys : List Exchange) (now : Stored) : Type 0 where
+  pub between : List Exchange
+  pub in_progress : IsInProgress was (served xs) between
+  pub serves : Serves was (served xs ++ (between ++ served ys)) now
+  pub repeats : RepeatsAgree (served xs ++ (between ++ served ys))
+  -- if all evidence of versions was true, it still is
+  pub stays_true : HasTrueEvidence was → HasTrueEvidence now
+
+-- This project's choice: the database that a crash left spells what is stored, and whatever exchanges then lead from there continue those before the crash.
+pub record RestartsFrom (was : Stored) (xs : List Exchange) (db : Trees) : Type 0 where
+  pub left : Stored
+  pub leaves : Leaves db left
+  pub continues : (ys : List Exchange) (now : Stored) → Serves left (served ys) now → (HasTrueEvidence left → HasTrueEvidence now) → ServesAcross was xs ys now
