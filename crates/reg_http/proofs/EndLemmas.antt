@@ -3,18 +3,18 @@ use Rattle.std.proofs.Common.{◌≡◌, ◌⊎◌, ◌<◌, ℕ, List, [], ◌�
 use Rattle.std.specs.Prelude.{Option}
 use Rattle.std.specs.Io.KnownBytes.{Consumes, IsAtEnd}
 use Rattle.std.proofs.KnownBytes.{Consumes-nil}
-use Rattle.reg_core.specs.Stored.{Stored}
+use Rattle.reg_service.specs.Deliveries.{Exchange}
 use Rattle.reg_messages.specs.Messages.{Follows, Part}
 use Rattle.reg_messages.specs.MessageLooks.{IsPartUpTo}
 use Rattle.reg_http.specs.declared.serving.Ended.{Ended}
 use Rattle.reg_http.specs.declared.serving.Ended.TheVariants.{Closed, ReadFailed, Malformed, Memory}
-use Rattle.reg_http.specs.Output.{answers}
+use Rattle.reg_http.specs.Output.{answers, exchanges}
 use Rattle.reg_http.specs.declared.answering.Stop.{Stop}
 use Rattle.reg_http.specs.declared.answering.Stop.TheVariants.{Waiting}
 use Rattle.reg_http.specs.Inside.Readings.{end_of}
 use Rattle.reg_http.specs.Sessions.{Carries, EndsAs, Session}
 use Rattle.reg_http.specs.Inside.SessionSteps.{AnswersAs, Waits, Served}
-use Rattle.reg_http.proofs.SessionLemmas.{Carries-nil, Served-more, AnswersAs-after}
+use Rattle.reg_http.proofs.SessionLemmas.{Joins, Carries-nil, Served-more, AnswersAs-after}
 
 -- what is held, where less than a whole message is
 held : (bytes : List ℕ) (needs : ℕ) → Waits bytes needs → (bytes ≡ []) ⊎ Follows bytes Part
@@ -52,9 +52,9 @@ Waits-more bytes more needs w short = record {
       subst (λ (b : List ℕ). (b ≡ []) ⊎ Follows b Part) (sym e) (w.part (more ++ others) (omega (arith, few, ap length e)));
 }
 
-module _ (r r' w w' : Option (List ℕ)) (was now : Stored) (input rest : List ℕ) (reads : Consumes r r' input) (s : Served w w' was now input rest) where
+module _ (P : List Exchange → Type 0) (r r' w w' : Option (List ℕ)) (input rest : List ℕ) (reads : Consumes r r' input) (s : Served P w w' input rest) where
   -- a session so far
-  so_far : (ended : Ended) → EndsAs r' s.answered rest (answers s.answered) ended → Session r r' w w' was now ended
+  so_far : (ended : Ended) → EndsAs r' s.answered rest (answers s.answered) ended → Session P r r' w w' ended
   so_far ended e = record {
     input = input;
     reads = reads;
@@ -69,34 +69,34 @@ module _ (r r' w w' : Option (List ℕ)) (was now : Stored) (input rest : List �
   whole = sym (append-nil (answers s.answered))
 
   -- the input ended
-  pub Session-ended : (needs : ℕ) → Waits rest needs → IsAtEnd r' → Session r r' w w' was now (end_of rest)
+  pub Session-ended : (needs : ℕ) → Waits rest needs → IsAtEnd r' → Session P r r' w w' (end_of rest)
   Session-ended needs waits end = by rest refl
     where
-      by : (held_now : List ℕ) → rest ≡ held_now → Session r r' w w' was now (end_of held_now)
+      by : (held_now : List ℕ) → rest ≡ held_now → Session P r r' w w' (end_of held_now)
       by [] e = so_far Closed (inr (s.stay, end, e, whole))
       by (byte ∷ bytes) e = inside (held rest needs waits)
         where
-          inside : (rest ≡ []) ⊎ Follows rest Part → Session r r' w w' was now Malformed
+          inside : (rest ≡ []) ⊎ Follows rest Part → Session P r r' w w' Malformed
           inside (inl none) = absurd (cc)
           inside (inr part) = so_far Malformed (inr (s.stay, end, part, whole))
 
   -- a read failed
-  pub Session-failed : (needs : ℕ) → Waits rest needs → Session r r' w w' was now ReadFailed
+  pub Session-failed : (needs : ℕ) → Waits rest needs → Session P r r' w w' ReadFailed
   Session-failed needs waits = by (held rest needs waits)
     where
-      by : (rest ≡ []) ⊎ Follows rest Part → Session r r' w w' was now ReadFailed
+      by : (rest ≡ []) ⊎ Follows rest Part → Session P r r' w w' ReadFailed
       by (inl none) = so_far ReadFailed (s.stay, inl none, refl)
       by (inr part) = so_far ReadFailed (s.stay, inr part, refl)
 
 -- room was refused before anything was read
-pub Session-unread : (r w : Option (List ℕ)) (was : Stored) → Session r r w w was was Memory
-Session-unread r w was =
-    record { input = []; reads = Consumes-nil r; answered = []; rest = []; out = []; carries = Carries-nil w was []; ends = inl (tt, refl) }
+pub Session-unread : (P : List Exchange → Type 0) (r w : Option (List ℕ)) → P [] → Session P r r w w Memory
+Session-unread P r w none =
+    record { input = []; reads = Consumes-nil r; answered = []; rest = []; out = []; carries = Carries-nil P w [] none; ends = inl (tt, refl) }
 
 -- a session up to a stop of its answers
-pub Session-stopped : (r r' w w' : Option (List ℕ)) (was now : Stored) (input bytes : List ℕ) (stop : Stop) (ended : Ended) → Consumes r r' input
-    → (a : AnswersAs w w' was now input bytes stop) → EndsAs r' a.answered a.rest a.out ended → Session r r' w w' was now ended
-Session-stopped r r' w w' was now input bytes stop ended reads a e = record {
+pub Session-stopped : (P : List Exchange → Type 0) (r r' w w' : Option (List ℕ)) (input bytes : List ℕ) (stop : Stop) (ended : Ended) → Consumes r r' input
+    → (a : AnswersAs P w w' input bytes stop) → EndsAs r' a.answered a.rest a.out ended → Session P r r' w w' ended
+Session-stopped P r r' w w' input bytes stop ended reads a e = record {
   input = input;
   reads = reads;
   answered = a.answered;
@@ -107,17 +107,39 @@ Session-stopped r r' w w' was now input bytes stop ended reads a e = record {
 }
 
 -- and one that waits for more bytes
-pub Served-waiting : (w w' : Option (List ℕ)) (was now : Stored) (input bytes : List ℕ) (needs : ℕ)
-    → AnswersAs w w' was now input bytes (Waiting needs) → Served w w' was now input bytes
-Served-waiting w w' was now input bytes needs a =
-    let P : List ℕ × List ℕ → Type 0 = λ s. Carries w w' was now input a.answered s.0 s.1 in
-    record { answered = a.answered; stay = a.stops.0; carries = subst P (λ i. (a.stops.1 i, a.stops.3 i)) a.carries }
+pub Served-waiting : (P : List Exchange → Type 0) (w w' : Option (List ℕ)) (input bytes : List ℕ) (needs : ℕ) → AnswersAs P w w' input bytes (Waiting needs) → Served P w w' input bytes
+Served-waiting P w w' input bytes needs a =
+    let All : List ℕ × List ℕ → Type 0 = λ s. Carries P w w' input a.answered s.0 s.1 in
+    record { answered = a.answered; stay = a.stops.0; carries = subst All (λ i. (a.stops.1 i, a.stops.3 i)) a.carries }
 
 -- what was answered once more was read
-pub AnswersAs-read : (w w1 w2 : Option (List ℕ)) (was mid now : Stored) (input before bytes more held : List ℕ) (stop : Stop)
-    → Served w w1 was mid input before → bytes ≡ before ++ more → AnswersAs w1 w2 mid now bytes held stop
-    → AnswersAs w w2 was now (input ++ more) held stop
-AnswersAs-read w w1 w2 was mid now input before bytes more held stop s is a =
-    let P : List ℕ → Type 0 = λ rest. Served w w1 was mid (input ++ more) rest in
-    let all = subst P (sym is) (Served-more w w1 was mid input before more s) in
-    AnswersAs-after w w1 w2 was mid now (input ++ more) bytes held all.answered stop all.stay all.carries a
+pub AnswersAs-read : (P Q R : List Exchange → Type 0) → Joins P Q R → (w w1 w2 : Option (List ℕ)) (input before bytes more held : List ℕ) (stop : Stop)
+    → Served P w w1 input before → bytes ≡ before ++ more → AnswersAs Q w1 w2 bytes held stop → AnswersAs R w w2 (input ++ more) held stop
+AnswersAs-read P Q R joins w w1 w2 input before bytes more held stop s is a =
+    let Behind : List ℕ → Type 0 = λ rest. Served P w w1 (input ++ more) rest in
+    let all = subst Behind (sym is) (Served-more P w w1 input before more s) in
+    AnswersAs-after P Q R joins w w1 w2 (input ++ more) bytes held all.answered stop all.stay all.carries a
+
+-- what follows from what holds of the exchanges
+pub Session-map : (P Q : List Exchange → Type 0) → ((xs : List Exchange) → P xs → Q xs) → (r r' w w' : Option (List ℕ)) (ended : Ended) → Session P r r' w w' ended → Session Q r r' w w' ended
+Session-map P Q follows r r' w w' ended s = record {
+  input = s.input;
+  reads = s.reads;
+  answered = s.answered;
+  rest = s.rest;
+  out = s.out;
+  carries = record { leads = s.carries.leads; refused = s.carries.refused; serves = follows (exchanges s.answered) s.carries.serves; writes = s.carries.writes };
+  ends = s.ends;
+}
+
+-- its exchanges
+pub Session-same : (P : List Exchange → Type 0) (r r' w w' : Option (List ℕ)) (ended : Ended) (s : Session P r r' w w' ended) → Session (λ xs. xs ≡ exchanges s.answered) r r' w w' ended
+Session-same P r r' w w' ended s = record {
+  input = s.input;
+  reads = s.reads;
+  answered = s.answered;
+  rest = s.rest;
+  out = s.out;
+  carries = record { leads = s.carries.leads; refused = s.carries.refused; serves = refl; writes = s.carries.writes };
+  ends = s.ends;
+}

@@ -7,10 +7,7 @@ use Rattle.std.proofs.lemmas.List.{map-append}
 use Rattle.std.proofs.lemmas.List.Concat.{flat_map-append}
 use Rattle.reg_core.specs.declared.code.Code.{Code}
 use Rattle.reg_core.specs.Replies.{Told}
-use Rattle.reg_core.specs.Stored.{Stored}
-use Rattle.reg_service.specs.Deliveries.{Exchange, Serves, served}
-use Rattle.reg_service.proofs.JoinedExchanges.{serves_none, serves-append}
-use Rattle.reg_service.proofs.ExchangeLists.{served-append}
+use Rattle.reg_service.specs.Deliveries.{Exchange}
 use Rattle.reg_http.specs.declared.writing.Sent.{Sent}
 use Rattle.reg_http.specs.declared.writing.Sent.TheVariants.{Whole, CutShort, OutOfMemory as Unsent}
 use Rattle.reg_http.specs.declared.answering.Stop.{Stop}
@@ -43,33 +40,32 @@ exchanges-append xs ys = flat_map-append (λ (x : Answered). exchange_of (delive
 answers-append : (xs ys : List Answered) → answers (xs ++ ys) ≡ answers xs ++ answers ys
 answers-append xs ys = flat_map-append (λ (x : Answered). answer_to x.0 x.1) xs ys
 
+-- what holds of exchanges and of those after them holds of both
+abbrev pub Joins : (P Q R : List Exchange → Type 0) → Type 0
+Joins P Q R = (xs ys : List Exchange) → P xs → Q ys → R (xs ++ ys)
+
 -- no message
-pub Carries-nil : (w : Option (List ℕ)) (was : Stored) (bytes : List ℕ) → Carries w w was was bytes [] bytes []
-Carries-nil w was bytes = record { leads = refl; refused = tt; serves = serves_none was; writes = Appends-nil w }
+pub Carries-nil : (P : List Exchange → Type 0) (w : Option (List ℕ)) (bytes : List ℕ) → P [] → Carries P w w bytes [] bytes []
+Carries-nil P w bytes none = record { leads = refl; refused = tt; serves = none; writes = Appends-nil w }
 
 -- one message
-Carries-one : (w w' : Option (List ℕ)) (was now : Stored) (bytes rest out : List ℕ) (m : Message) (reply : Told)
-    → IsMessage bytes m rest → ReplyLeads (delivery_of m) reply was now → Appends w w' out → Carries w w' was now bytes ((m, reply) ∷ []) rest out
-Carries-one w w' was now bytes rest out m reply p r a = record {
+Carries-one : (P : List Exchange → Type 0) (w w' : Option (List ℕ)) (bytes rest out : List ℕ) (m : Message) (reply : Told)
+    → IsMessage bytes m rest → ReplyLeads P (delivery_of m) reply → Appends w w' out → Carries P w w' bytes ((m, reply) ∷ []) rest out
+Carries-one P w w' bytes rest out m reply p r a = record {
   leads = (rest, p, refl);
   refused = (r.refused, tt);
-  serves =
-      let P : List Exchange → Type 0 = λ xs. Serves was (served xs) now in
-      subst P (sym (append-nil (exchange_of (delivery_of m) reply))) r.serves;
+  serves = subst P (sym (append-nil (exchange_of (delivery_of m) reply))) r.serves;
   writes = a;
 }
 
 -- messages, and those after them
-Carries-append : (w w1 w2 : Option (List ℕ)) (was mid now : Stored) (bytes behind rest out out2 : List ℕ) (xs ys : List Answered)
-    → Carries w w1 was mid bytes xs behind out → Carries w1 w2 mid now behind ys rest out2 → Carries w w2 was now bytes (xs ++ ys) rest (out ++ out2)
-Carries-append w w1 w2 was mid now bytes behind rest out out2 xs ys p q = record {
+Carries-append : (P Q R : List Exchange → Type 0) → Joins P Q R → (w w1 w2 : Option (List ℕ)) (bytes behind rest out out2 : List ℕ) (xs ys : List Answered)
+    → Carries P w w1 bytes xs behind out → Carries Q w1 w2 behind ys rest out2 → Carries R w w2 bytes (xs ++ ys) rest (out ++ out2)
+Carries-append P Q R joins w w1 w2 bytes behind rest out out2 xs ys p q = record {
   leads = subst (λ (ms : List Message). Leads bytes ms rest) (sym (map-append message_of xs ys))
       (Leads-append bytes behind rest (map message_of xs) (map message_of ys) p.leads q.leads);
   refused = AreRefused-append xs ys p.refused q.refused;
-  serves =
-      let P : List Exchange → Type 0 = λ zs. Serves was zs now in
-      subst P (sym (ap served (exchanges-append xs ys) ∙ served-append (exchanges xs) (exchanges ys)))
-      (serves-append was mid now (served (exchanges xs)) (served (exchanges ys)) p.serves q.serves);
+  serves = subst R (sym (exchanges-append xs ys)) (joins (exchanges xs) (exchanges ys) p.serves q.serves);
   writes = Appends-trans w w1 w2 out out2 p.writes q.writes;
 }
 
@@ -126,27 +122,27 @@ StopsAs-after xs ys rest held out OutOfMemory p (inl s) = inl (StayOpen-append x
 StopsAs-after xs ys rest held out OutOfMemory p (inr s) = inr (IsCutShort-after xs ys rest out p s)
 
 -- the answers after messages
-pub AnswersAs-after : (w w1 w2 : Option (List ℕ)) (was mid now : Stored) (bytes behind held : List ℕ) (xs : List Answered) (stop : Stop)
-    → StayOpen xs → Carries w w1 was mid bytes xs behind (answers xs) → AnswersAs w1 w2 mid now behind held stop → AnswersAs w w2 was now bytes held stop
-AnswersAs-after w w1 w2 was mid now bytes behind held xs stop o p a = record {
+pub AnswersAs-after : (P Q R : List Exchange → Type 0) → Joins P Q R → (w w1 w2 : Option (List ℕ)) (bytes behind held : List ℕ) (xs : List Answered) (stop : Stop)
+    → StayOpen xs → Carries P w w1 bytes xs behind (answers xs) → AnswersAs Q w1 w2 behind held stop → AnswersAs R w w2 bytes held stop
+AnswersAs-after P Q R joins w w1 w2 bytes behind held xs stop o p a = record {
   answered = xs ++ a.answered;
   rest = a.rest;
   out = answers xs ++ a.out;
-  carries = Carries-append w w1 w2 was mid now bytes behind a.rest (answers xs) a.out xs a.answered p a.carries;
+  carries = Carries-append P Q R joins w w1 w2 bytes behind a.rest (answers xs) a.out xs a.answered p a.carries;
   stops = StopsAs-after xs a.answered a.rest held a.out stop o a.stops;
 }
 
 -- nothing more is answered
-pub AnswersAs-nil : (w : Option (List ℕ)) (was : Stored) (bytes : List ℕ) (stop : Stop) → StopsAs [] bytes bytes [] stop → AnswersAs w w was was bytes bytes stop
-AnswersAs-nil w was bytes stop s = record { answered = []; rest = bytes; out = []; carries = Carries-nil w was bytes; stops = s }
+pub AnswersAs-nil : (P : List Exchange → Type 0) (w : Option (List ℕ)) (bytes : List ℕ) (stop : Stop) → P [] → StopsAs [] bytes bytes [] stop → AnswersAs P w w bytes bytes stop
+AnswersAs-nil P w bytes stop none s = record { answered = []; rest = bytes; out = []; carries = Carries-nil P w bytes none; stops = s }
 
-written : (w w' : Option (List ℕ)) (was : Stored) (bytes out : List ℕ) (stop : Stop) → Appends w w' out → StopsAs [] bytes bytes out stop
-    → AnswersAs w w' was was bytes bytes stop
-written w w' was bytes out stop a s = record {
+written : (P : List Exchange → Type 0) (w w' : Option (List ℕ)) (bytes out : List ℕ) (stop : Stop) → P [] → Appends w w' out → StopsAs [] bytes bytes out stop
+    → AnswersAs P w w' bytes bytes stop
+written P w w' bytes out stop none a s = record {
   answered = [];
   rest = bytes;
   out = out;
-  carries = record { leads = refl; refused = tt; serves = serves_none was; writes = a };
+  carries = record { leads = refl; refused = tt; serves = none; writes = a };
   stops = s;
 }
 
@@ -154,46 +150,46 @@ fault_cut : (bytes part : List ℕ) (code : Code) → Follows bytes (Faulty code
 fault_cut bytes part code f front = inr (record { code = code; part = part; stay = tt; follows = f; front = front; written = refl })
 
 -- a fault was answered, or a beginning of its answer was written
-pub AnswersAs-fault : (w w' : Option (List ℕ)) (was : Stored) (bytes : List ℕ) (code : Code) (stop : Stop)
-    → Follows bytes (Faulty code) → FaultAs w w' code stop → AnswersAs w w' was was bytes bytes stop
-AnswersAs-fault w w' was bytes code AtFault f a = written w w' was bytes (fault_answer code) AtFault a (code, tt, f, refl)
-AnswersAs-fault w w' was bytes code NotWritten f a = written w w' was bytes a.0 NotWritten a.2 (fault_cut bytes a.0 code f a.1)
-AnswersAs-fault w w' was bytes code OutOfMemory f a = written w w' was bytes a.0 OutOfMemory a.2 (inr (fault_cut bytes a.0 code f a.1))
-AnswersAs-fault w w' was bytes code AtClose f a = absurd a
-AnswersAs-fault w w' was bytes code (Waiting needs) f a = absurd a
+pub AnswersAs-fault : (P : List Exchange → Type 0) (w w' : Option (List ℕ)) (bytes : List ℕ) (code : Code) (stop : Stop)
+    → P [] → Follows bytes (Faulty code) → FaultAs w w' code stop → AnswersAs P w w' bytes bytes stop
+AnswersAs-fault P w w' bytes code AtFault none f a = written P w w' bytes (fault_answer code) AtFault none a (code, tt, f, refl)
+AnswersAs-fault P w w' bytes code NotWritten none f a = written P w w' bytes a.0 NotWritten none a.2 (fault_cut bytes a.0 code f a.1)
+AnswersAs-fault P w w' bytes code OutOfMemory none f a = written P w w' bytes a.0 OutOfMemory none a.2 (inr (fault_cut bytes a.0 code f a.1))
+AnswersAs-fault P w w' bytes code AtClose none f a = absurd a
+AnswersAs-fault P w w' bytes code (Waiting needs) none f a = absurd a
 
 -- a whole message was answered, or a beginning of its answer was written
-pub Next-message : (w w' : Option (List ℕ)) (was now : Stored) (bytes : List ℕ) (size : ℕ) (m : Message) (reply : Told)
-    (sent : Sent) (close : Bool) → IsMessage bytes m (drop size bytes) → ReplyLeads (delivery_of m) reply was now → closes m ≡ close
+pub Next-message : (P : List Exchange → Type 0) (w w' : Option (List ℕ)) (bytes : List ℕ) (size : ℕ) (m : Message) (reply : Told)
+    (sent : Sent) (close : Bool) → IsMessage bytes m (drop size bytes) → ReplyLeads P (delivery_of m) reply → closes m ≡ close
     → (part : List ℕ) → IsFront part (answer_to m reply) → Appends w w' part → (sent ≡ Whole → Appends w w' (answer_to m reply))
-    → NextAs w w' was now bytes (next_after sent close size)
-Next-message w w' was now bytes size m reply Whole true is r c part front a whole = record {
+    → NextAs P w w' bytes (next_after sent close size)
+Next-message P w w' bytes size m reply Whole true is r c part front a whole = record {
   answered = (m, reply) ∷ [];
   rest = drop size bytes;
   out = answer_to m reply;
-  carries = Carries-one w w' was now bytes (drop size bytes) (answer_to m reply) m reply is r (whole refl);
+  carries = Carries-one P w w' bytes (drop size bytes) (answer_to m reply) m reply is r (whole refl);
   stops = (record { before = []; last = (m, reply); all = refl; stay = tt; closes_it = c }, sym (append-nil (answer_to m reply)));
 }
-Next-message w w' was now bytes size m reply Whole false is r c part front a whole =
-    let P : List ℕ → Type 0 = λ out. Carries w w' was now bytes ((m, reply) ∷ []) (drop size bytes) out in
+Next-message P w w' bytes size m reply Whole false is r c part front a whole =
+    let Q : List ℕ → Type 0 = λ out. Carries P w w' bytes ((m, reply) ∷ []) (drop size bytes) out in
     record {
       answered = (m, reply);
       stays = c;
-      carries = subst P (sym (append-nil (answer_to m reply)))
-          (Carries-one w w' was now bytes (drop size bytes) (answer_to m reply) m reply is r (whole refl));
+      carries = subst Q (sym (append-nil (answer_to m reply)))
+          (Carries-one P w w' bytes (drop size bytes) (answer_to m reply) m reply is r (whole refl));
     }
-Next-message w w' was now bytes size m reply CutShort close is r c part front a whole = record {
+Next-message P w w' bytes size m reply CutShort close is r c part front a whole = record {
   answered = (m, reply) ∷ [];
   rest = drop size bytes;
   out = part;
-  carries = Carries-one w w' was now bytes (drop size bytes) part m reply is r a;
+  carries = Carries-one P w w' bytes (drop size bytes) part m reply is r a;
   stops = inl (record { before = []; last = (m, reply); part = part; all = refl; stay = tt; front = front; written = refl });
 }
-Next-message w w' was now bytes size m reply Unsent close is r c part front a whole = record {
+Next-message P w w' bytes size m reply Unsent close is r c part front a whole = record {
   answered = (m, reply) ∷ [];
   rest = drop size bytes;
   out = part;
-  carries = Carries-one w w' was now bytes (drop size bytes) part m reply is r a;
+  carries = Carries-one P w w' bytes (drop size bytes) part m reply is r a;
   stops = inr (inl (record { before = []; last = (m, reply); part = part; all = refl; stay = tt; front = front; written = refl }));
 }
 
@@ -202,9 +198,8 @@ Leads-more bytes rest more [] e = ap (λ t. t ++ more) e
 Leads-more bytes rest more (m ∷ ms) p = (p.0 ++ more, IsMessage-more bytes p.0 more m p.1, Leads-more p.0 rest more ms p.2)
 
 -- more was read behind what is held
-pub Served-more : (w w' : Option (List ℕ)) (was now : Stored) (bytes held more : List ℕ)
-    → Served w w' was now bytes held → Served w w' was now (bytes ++ more) (held ++ more)
-Served-more w w' was now bytes held more s = record {
+pub Served-more : (P : List Exchange → Type 0) (w w' : Option (List ℕ)) (bytes held more : List ℕ) → Served P w w' bytes held → Served P w w' (bytes ++ more) (held ++ more)
+Served-more P w w' bytes held more s = record {
   answered = s.answered;
   stay = s.stay;
   carries = record {
@@ -216,17 +211,17 @@ Served-more w w' was now bytes held more s = record {
 }
 
 -- one more message was answered
-pub Served-one : (w w1 w2 : Option (List ℕ)) (was mid now : Stored) (bytes held : List ℕ) (size : ℕ)
-    → Served w w1 was mid bytes held → AnswersOne w1 w2 mid now held size → Served w w2 was now bytes (drop size held)
-Served-one w w1 w2 was mid now bytes held size s one =
+pub Served-one : (P Q R : List Exchange → Type 0) → Joins P Q R → (w w1 w2 : Option (List ℕ)) (bytes held : List ℕ) (size : ℕ)
+    → Served P w w1 bytes held → AnswersOne Q w1 w2 held size → Served R w w2 bytes (drop size held)
+Served-one P Q R joins w w1 w2 bytes held size s one =
     let xs = s.answered in
-    let P : List ℕ → Type 0 = λ out. Carries w w2 was now bytes (xs ++ one.answered ∷ []) (drop size held) out in
+    let All : List ℕ → Type 0 = λ out. Carries R w w2 bytes (xs ++ one.answered ∷ []) (drop size held) out in
     record {
       answered = xs ++ one.answered ∷ [];
       stay = StayOpen-append xs (one.answered ∷ []) s.stay (one.stays, tt);
-      carries = subst P (sym (answers-append xs (one.answered ∷ [])))
-          (Carries-append w w1 w2 was mid now bytes held (drop size held) (answers xs) (answers (one.answered ∷ [])) xs (one.answered ∷ []) s.carries one.carries);
+      carries = subst All (sym (answers-append xs (one.answered ∷ [])))
+          (Carries-append P Q R joins w w1 w2 bytes held (drop size held) (answers xs) (answers (one.answered ∷ [])) xs (one.answered ∷ []) s.carries one.carries);
     }
 
-pub Served-none : (w : Option (List ℕ)) (was : Stored) (bytes : List ℕ) → Served w w was was bytes bytes
-Served-none w was bytes = record { answered = []; stay = tt; carries = Carries-nil w was bytes }
+pub Served-none : (P : List Exchange → Type 0) (w : Option (List ℕ)) (bytes : List ℕ) → P [] → Served P w w bytes bytes
+Served-none P w bytes none = record { answered = []; stay = tt; carries = Carries-nil P w bytes none }

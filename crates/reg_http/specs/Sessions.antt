@@ -2,18 +2,17 @@
 use Rattle.std.specs.Prelude.{◌≡◌, ◌⊎◌, ℕ, List, map, Option}
 use Rattle.std.specs.Io.KnownBytes.{Appends, Consumes, IsAtEnd}
 use Rattle.reg_core.specs.declared.code.Code.{Code}
-use Rattle.reg_core.specs.Stored.{Stored}
-use Rattle.reg_service.specs.Deliveries.{Serves, served}
+use Rattle.reg_service.specs.Deliveries.{Exchange}
 use Rattle.reg_http.specs.declared.serving.Ended.{Ended}
 use Rattle.reg_http.specs.declared.serving.Ended.TheVariants.{Closed, ReadFailed, WriteFailed, Malformed, Memory}
 use Rattle.reg_messages.specs.Messages.{Leads, Follows, End, Part, Faulty}
 use Rattle.reg_http.specs.Output.{Answered, AreRefused, StayOpen, LastCloses, exchanges, answers, output, IsCutShort}
 
--- Messages at the front of bytes were carried out, rest follows them, and out was written. They led from what was stored to what is.
-pub record Carries (old new : Option (List ℕ)) (was now : Stored) (bytes : List ℕ) (xs : List Answered) (rest out : List ℕ) : Type 0 where
+-- Messages at the front of bytes were carried out, rest follows them, and out was written. AreServed holds of the exchanges of those messages.
+pub record Carries (AreServed : List Exchange → Type 0) (old new : Option (List ℕ)) (bytes : List ℕ) (xs : List Answered) (rest out : List ℕ) : Type 0 where
   pub leads : Leads bytes (map (λ x. x.0) xs) rest
   pub refused : AreRefused xs
-  pub serves : Serves was (served (exchanges xs)) now
+  pub serves : AreServed (exchanges xs)
   pub writes : Appends old new out
 
 -- Nothing follows the messages, and the input ended.
@@ -40,14 +39,14 @@ EndsAs reader xs rest out ReadFailed = StayOpen xs × (Follows rest End ⊎ Foll
 EndsAs reader xs rest out WriteFailed = IsCutShort xs rest out
 EndsAs reader xs rest out Memory = (StayOpen xs × (out ≡ answers xs)) ⊎ IsCutShort xs rest out
 
--- A session, from and to what the reader has left, what the writer holds, and what is stored.
+-- A session, from and to what the reader has left and what the writer holds. AreServed holds of its exchanges: those whose answers were written.
 -- How the reads were cut is no part of it.
-pub record Session (reader reader' writer writer' : Option (List ℕ)) (was now : Stored) (ended : Ended) : Type 0 where
+pub record Session (AreServed : List Exchange → Type 0) (reader reader' writer writer' : Option (List ℕ)) (ended : Ended) : Type 0 where
   -- all that was read
   pub input : List ℕ
   pub reads : Consumes reader reader' input
   pub answered : List Answered
   pub rest : List ℕ
   pub out : List ℕ
-  pub carries : Carries writer writer' was now input answered rest out
+  pub carries : Carries AreServed writer writer' input answered rest out
   pub ends : EndsAs reader' answered rest out ended

@@ -2,6 +2,7 @@
 
 ghost use Rattle.std.specs.Prelude.{◌≡◌, option_map};
 ghost use Rattle.sqlite.specs.State.{HasCleanDisk};
+ghost use Rattle.reg_service.specs.Crashes.{ServesDurably};
 ghost use Rattle.reg_service.specs.Services.{state_in};
 ghost use Rattle.reg_messages.specs.MessageLooks.{IsWhole};
 ghost use Rattle.reg_messages.specs.Messages.{Message};
@@ -54,7 +55,7 @@ fn reply_to<S: Alter>(
 ) -> (Reply, Option<&'static str>)
     ensures clean { HasCleanDisk (state_in service.new) → HasCleanDisk (state_in service.old) }
     ensures replies { HasCleanDisk (state_in service.new) → Over (state_in service.old) (state_in service.new)
-        (ReplyLeads (asked_by request.now) result.0) }
+        (λ was now. ReplyLeads (ServesDurably service.old service.new was now) (asked_by request.now) result.0) }
     ensures allow { option_map (λ text. text.now) result.1 ≡ allow_beside (asked_by request.now) result.0 }
 {
     match command_of(alloc, routes, request) {
@@ -89,7 +90,8 @@ fn answer_message<W: Write, S: Alter>(
     ensures clean { HasCleanDisk (state_in service.new) → HasCleanDisk (state_in service.old) }
     ensures within { IsWithin bytes.now result }
     ensures next { HasCleanDisk (state_in service.new) → Over (state_in service.old) (state_in service.new)
-        (λ was now. NextAs (W.contents writer.old) (W.contents writer.new) was now bytes.now result) }
+        (λ was now. NextAs (ServesDurably service.old service.new was now)
+        (W.contents writer.old) (W.contents writer.new) bytes.now result) }
 {
     let request = Request::of(bytes, headers, whole);
     let close = request.closes();
@@ -122,7 +124,8 @@ fn answer_front<W: Write, S: Alter>(
     ensures clean { HasCleanDisk (state_in service.new) → HasCleanDisk (state_in service.old) }
     ensures within { IsWithin bytes.now result }
     ensures next { HasCleanDisk (state_in service.new) → Over (state_in service.old) (state_in service.new)
-        (λ was now. NextAs (W.contents writer.old) (W.contents writer.new) was now bytes.now result) }
+        (λ was now. NextAs (ServesDurably service.old service.new was now)
+        (W.contents writer.old) (W.contents writer.new) bytes.now result) }
 {
     match look_at(bytes, headers) {
         Look::Whole(whole) => {
@@ -146,7 +149,8 @@ pub fn answer_held<W: Write, S: Alter>(
 ) -> Stop
     ensures clean { HasCleanDisk (state_in service.new) → HasCleanDisk (state_in service.old) }
     ensures answers { HasCleanDisk (state_in service.new) → Over (state_in service.old) (state_in service.new)
-        (λ was now. AnswersAs (W.contents writer.old) (W.contents writer.new) was now buffer.old buffer.new result) }
+        (λ was now. AnswersAs (ServesDurably service.old service.new was now)
+        (W.contents writer.old) (W.contents writer.new) buffer.old buffer.new result) }
     ensures waits { WaitsAt buffer.new result }
 {
     loop {

@@ -2,6 +2,7 @@
 
 ghost use Rattle.std.specs.Prelude.{◌≡◌, ◌<◌, [], length};
 ghost use Rattle.sqlite.specs.State.{HasCleanDisk};
+ghost use Rattle.reg_service.specs.Crashes.{ServesDurably};
 ghost use Rattle.reg_service.specs.Services.{state_in};
 ghost use Rattle.reg_http.specs.OverTables.{Over};
 ghost use Rattle.reg_http.specs.Sessions.{Session};
@@ -81,7 +82,8 @@ fn answer_more<W: Write, S: Alter>(
     requires { length buffer.old < needs → Waits buffer.old needs }
     ensures clean { HasCleanDisk (state_in service.new) → HasCleanDisk (state_in service.old) }
     ensures answers { HasCleanDisk (state_in service.new) → Over (state_in service.old) (state_in service.new)
-        (λ was now. AnswersAs (W.contents writer.old) (W.contents writer.new) was now buffer.old buffer.new result) }
+        (λ was now. AnswersAs (ServesDurably service.old service.new was now)
+        (W.contents writer.old) (W.contents writer.new) buffer.old buffer.new result) }
     ensures waits { WaitsAt buffer.new result }
 {
     if buffer.held().len() < needs {
@@ -103,8 +105,8 @@ fn serve_with<R: Read, W: Write, S: Alter>(
     requires { buffer ≡ [] }
     ensures clean { HasCleanDisk (state_in service.new) → HasCleanDisk (state_in service.old) }
     ensures session { HasCleanDisk (state_in service.new) → Over (state_in service.old) (state_in service.new)
-        (λ was now. Session (R.remaining reader.old) (R.remaining reader.new)
-        (W.contents writer.old) (W.contents writer.new) was now result) }
+        (λ was now. Session (ServesDurably service.old service.new was now)
+        (R.remaining reader.old) (R.remaining reader.new) (W.contents writer.old) (W.contents writer.new) result) }
 {
     let mut needs = 1;
     for _ in 0..u64::MAX {
@@ -134,8 +136,8 @@ pub fn serve<R: Read, W: Write, S: Alter>(
 ) -> Ended
     ensures clean { HasCleanDisk (state_in service.new) → HasCleanDisk (state_in service.old) }
     ensures session { HasCleanDisk (state_in service.new) → Over (state_in service.old) (state_in service.new)
-        (λ was now. Session (R.remaining reader.old) (R.remaining reader.new)
-        (W.contents writer.old) (W.contents writer.new) was now result) }
+        (λ was now. Session (ServesDurably service.old service.new was now)
+        (R.remaining reader.old) (R.remaining reader.new) (W.contents writer.old) (W.contents writer.new) result) }
 {
     let Ok(routes) = Routes::new(alloc) else {
         return Ended::Memory;

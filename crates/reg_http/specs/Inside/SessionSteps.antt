@@ -2,7 +2,7 @@
 use Rattle.std.specs.Prelude.{◌≡◌, ◌⊎◌, ℕ, ◌<◌, ◌≤◌, Bool, true, false, List, [], ◌∷◌, ◌++◌, drop, length, Option}
 use Rattle.std.specs.Io.KnownBytes.{Appends}
 use Rattle.reg_core.specs.declared.code.Code.{Code}
-use Rattle.reg_core.specs.Stored.{Stored}
+use Rattle.reg_service.specs.Deliveries.{Exchange}
 use Rattle.reg_http.specs.declared.answering.Stop.{Stop}
 use Rattle.reg_http.specs.declared.answering.Stop.TheVariants.{Waiting, AtClose, AtFault, NotWritten, OutOfMemory}
 use Rattle.reg_http.specs.declared.answering.Next.{Next}
@@ -31,22 +31,22 @@ StopsAs xs rest held out NotWritten = IsCutShort xs rest out
 StopsAs xs rest held out OutOfMemory = (StayOpen xs × (out ≡ answers xs)) ⊎ IsCutShort xs rest out
 
 -- Messages at the front of the bytes were carried out, up to a stop.
-pub record AnswersAs (old new : Option (List ℕ)) (was now : Stored) (bytes held : List ℕ) (stop : Stop) : Type 0 where
+pub record AnswersAs (AreServed : List Exchange → Type 0) (old new : Option (List ℕ)) (bytes held : List ℕ) (stop : Stop) : Type 0 where
   pub answered : List Answered
   pub rest : List ℕ
   pub out : List ℕ
-  pub carries : Carries old new was now bytes answered rest out
+  pub carries : Carries AreServed old new bytes answered rest out
   pub stops : StopsAs answered rest held out stop
 
 -- One message of so many bytes was answered, and the connection goes on.
-pub record AnswersOne (old new : Option (List ℕ)) (was now : Stored) (bytes : List ℕ) (size : ℕ) : Type 0 where
+pub record AnswersOne (AreServed : List Exchange → Type 0) (old new : Option (List ℕ)) (bytes : List ℕ) (size : ℕ) : Type 0 where
   pub answered : Answered
   pub stays : closes answered.0 ≡ false
-  pub carries : Carries old new was now bytes (answered ∷ []) (drop size bytes) (answers (answered ∷ []))
+  pub carries : Carries AreServed old new bytes (answered ∷ []) (drop size bytes) (answers (answered ∷ []))
 
-abbrev pub NextAs : Option (List ℕ) → Option (List ℕ) → Stored → Stored → List ℕ → Next → Type 0
-NextAs old new was now bytes (AnsweredNext size) = AnswersOne old new was now bytes size
-NextAs old new was now bytes (Stopped stop) = AnswersAs old new was now bytes bytes stop
+abbrev pub NextAs : (List Exchange → Type 0) → Option (List ℕ) → Option (List ℕ) → List ℕ → Next → Type 0
+NextAs AreServed old new bytes (AnsweredNext size) = AnswersOne AreServed old new bytes size
+NextAs AreServed old new bytes (Stopped stop) = AnswersAs AreServed old new bytes bytes stop
 
 -- how many bytes are waited for, if any are
 abbrev pub WaitsAt : List ℕ → Stop → Type 0
@@ -74,7 +74,7 @@ FaultAs old new code AtClose = ⊥
 FaultAs old new code (Waiting needs) = ⊥
 
 -- the messages that were answered stay open, and what is held follows them
-pub record Served (old new : Option (List ℕ)) (was now : Stored) (bytes held : List ℕ) : Type 0 where
+pub record Served (AreServed : List Exchange → Type 0) (old new : Option (List ℕ)) (bytes held : List ℕ) : Type 0 where
   pub answered : List Answered
   pub stay : StayOpen answered
-  pub carries : Carries old new was now bytes answered held (answers answered)
+  pub carries : Carries AreServed old new bytes answered held (answers answered)

@@ -1,5 +1,6 @@
 use Rattle.std.proofs.Common.{length}
 use Rattle.sqlite.specs.State.{HasCleanDisk}
+use Rattle.reg_service.specs.Crashes.{ServesDurably}
 use Rattle.reg_service.specs.Services.{state_in}
 use Rattle.reg_http.specs.OverTables.{Over}
 use Rattle.reg_http.specs.Inside.SessionSteps.{Served}
@@ -9,7 +10,7 @@ abbrev pub invariant-loop-size : goal.invariant-loop-size
 invariant-loop-size g l = record {
   clean : HasCleanDisk (state_in l.service) → HasCleanDisk (state_in l.fn.service);
   served : HasCleanDisk (state_in l.service) → Over (state_in l.fn.service) (state_in l.service)
-      (λ was now. Served (g.W.Write.contents l.fn.writer) (g.W.Write.contents l.writer) was now l.fn.buffer l.buffer);
+      (λ was now. Served (ServesDurably l.fn.service l.service was now) (g.W.Write.contents l.fn.writer) (g.W.Write.contents l.writer) l.fn.buffer l.buffer);
 }
 
 abbrev pub decreases-loop-size : goal.decreases-loop-size

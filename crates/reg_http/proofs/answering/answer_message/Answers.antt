@@ -3,6 +3,7 @@ use Rattle.std.specs.Prelude.{Result, option_map}
 use denote.Ref.{Bor}
 use Rattle.std.specs.Io.KnownBytes.{Appends}
 use Rattle.reg_core.specs.declared.delivery.Delivery.{Delivery}
+use Rattle.reg_service.specs.Crashes.{ServesDurably}
 use Rattle.reg_messages.specs.Answers.{answer_bytes}
 use Rattle.reg_messages.specs.Closing.{closes}
 use Rattle.reg_routes.specs.Deliveries.{Refusal, allow_beside}
@@ -22,12 +23,12 @@ returns-clause-next g c clean was over =
     let reply = c.reply_to-reply.result.0 in
     let what = asked_of_borrowed request m borrowed in
     let closing : closes m ≡ c.closes-close.result = sym (c.closes-close.ensures ∙ closes_of_borrowed request m borrowed) in
-    let P : Result Delivery Refusal → Type 0 = λ asked. ReplyLeads asked reply was r.stored in
+    let P : Result Delivery Refusal → Type 0 = λ asked. ReplyLeads (ServesDurably c.args.service.now c.reply_to-reply.new.service was r.stored) asked reply in
     let replies = subst P what r.holds in
     let bytes : answer_bytes reply (option_map (λ (text : Bor (List ℕ)). text.now) c.reply_to-reply.result.1) c.closes-close.result ≡ answer_to m reply =
     (λ i. answer_bytes reply (c.reply_to-reply.ensures.allow i) (sym closing i)) ∙ ap (λ asked. answer_bytes reply (allow_beside asked reply) (closes m)) what in
     let front = c.send-sent.ensures.front in
     let Q : List ℕ → Type 0 = λ out. Appends (g.W.Write.contents c.args.writer.now) (g.W.Write.contents c.send-sent.new.writer) out in
-    let next = Next-message _ _ _ _ c.args.bytes.now (c.args.whole.head.len + c.args.whole.body) m reply c.send-sent.result c.closes-close.result
+    let next = Next-message _ _ _ c.args.bytes.now (c.args.whole.head.len + c.args.whole.body) m reply c.send-sent.result c.closes-close.result
     w.reads replies closing front.0 (front.1.0, front.1.1 ∙ bytes) front.2 (λ h. subst Q bytes (c.send-sent.ensures.whole h)) in
     record { stored = r.stored; spells = r.spells; holds = rw c.next_after.ensures next }

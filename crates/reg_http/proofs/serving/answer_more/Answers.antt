@@ -1,4 +1,7 @@
-use Rattle.std.proofs.Common.{refl}
+use Rattle.std.proofs.Common.{[], refl}
+use Rattle.reg_service.specs.Services.{state_in}
+use Rattle.reg_service.proofs.CrashLemmas.{leaves_open}
+use Rattle.reg_service.proofs.FoundLists.{durable_none}
 use Rattle.reg_http.specs.declared.answering.Stop.TheVariants.{Waiting}
 use Rattle.reg_http.proofs.SessionLemmas.{AnswersAs-nil}
 use Rattle.reg_http.proofs.serving.answer_more.Goals as goal
@@ -9,5 +12,5 @@ returns-then-held-needs-clause-answers g c clean was over =
     record {
       stored = was;
       spells = over;
-      holds = AnswersAs-nil _ was c.args.buffer.now (Waiting c.args.needs) (tt, refl, c.requires few, refl);
+      holds = AnswersAs-nil _ _ c.args.buffer.now (Waiting c.args.needs) (durable_none c.args.service.now was [] refl (leaves_open (state_in c.args.service.now) (g.met.S.Store.settled c.args.service.now.store.db.idle.conn.store))) (tt, refl, c.requires few, refl);
     }

@@ -1,6 +1,9 @@
-use Rattle.std.proofs.Common.{◌++◌, ℕ, List, [], inl, subst, append-nil}
+use Rattle.std.proofs.Common.{◌++◌, ℕ, List, [], inl, refl, subst, append-nil}
 use Rattle.std.specs.Io.KnownBytes.{Consumes}
 use Rattle.std.proofs.KnownBytes.{Consumes-nil, Consumes-trans}
+use Rattle.reg_service.specs.Services.{state_in}
+use Rattle.reg_service.proofs.CrashLemmas.{leaves_open}
+use Rattle.reg_service.proofs.FoundLists.{durable_none, durable_both}
 use Rattle.reg_http.specs.declared.answering.Stop.TheVariants.{Waiting, AtClose, AtFault, NotWritten, OutOfMemory}
 use Rattle.reg_http.specs.declared.serving.Ended.TheVariants.{Closed, WriteFailed, Malformed, Memory}
 use Rattle.reg_http.proofs.SessionLemmas.{Served-none}
@@ -13,7 +16,7 @@ loop-init g c = record {
   input = [];
   reads = Consumes-nil (g.R.Read.remaining c.args.reader.now);
   clean = λ h. h;
-  served = λ h was over. record { stored = was; spells = over; holds = rw c.requires (Served-none _ was []) };
+  served = λ h was over. record { stored = was; spells = over; holds = rw c.requires (Served-none _ _ [] (durable_none c.args.service.now was [] refl (leaves_open (state_in c.args.service.now) (g.met.S.Store.settled c.args.service.now.store.db.idle.conn.store)))) };
 }
 
 pub loop-preserved : goal.loop-preserved
@@ -28,10 +31,11 @@ loop-preserved g c =
       served = λ h was over.
           let before = inv.served (c.answer_more.ensures.clean h) was over in
           let after = c.in-Waiting.ensures.answers h before.stored before.spells in
+          let joins = durable_both c.args.service.now c.loop.service c.answer_more.new.service was before.stored after.stored h before.spells in
           record {
             stored = after.stored;
             spells = after.spells;
-            holds = Served-waiting _ _ _ _ _ _ c.in-Waiting.more (AnswersAs-read _ _ _ _ _ _ inv.input _ _ more _ (Waiting c.in-Waiting.more) before.holds is after.holds);
+            holds = Served-waiting _ _ _ _ _ c.in-Waiting.more (AnswersAs-read _ _ _ joins _ _ _ inv.input _ _ more _ (Waiting c.in-Waiting.more) before.holds is after.holds);
           };
     }
 
@@ -45,7 +49,7 @@ returns-in-End-clause-session g c clean was over =
     record {
       stored = before.stored;
       spells = before.spells;
-      holds = rw (c.end_of.ensures, c.held.ensures, same) (Session-ended _ _ _ _ _ _ inv.input c.loop.buffer reads before.holds c.loop.needs inv.waits end);
+      holds = rw (c.end_of.ensures, c.held.ensures, same) (Session-ended _ _ _ _ _ inv.input c.loop.buffer reads before.holds c.loop.needs inv.waits end);
     }
 
 pub returns-in-Failed-clause-session : goal.returns-in-Failed-clause-session
@@ -58,7 +62,7 @@ returns-in-Failed-clause-session g c clean was over =
     record {
       stored = before.stored;
       spells = before.spells;
-      holds = Session-failed _ _ _ _ _ _ inv.input c.loop.buffer reads before.holds c.loop.needs inv.waits;
+      holds = Session-failed _ _ _ _ _ inv.input c.loop.buffer reads before.holds c.loop.needs inv.waits;
     }
 
 pub returns-in-AtClose-clause-session : goal.returns-in-AtClose-clause-session
@@ -67,11 +71,12 @@ returns-in-AtClose-clause-session g c clean was over =
     let (more, is, read) = c.in-Bytes.ensures in
     let before = inv.served (c.answer_more.ensures.clean clean) was over in
     let after = c.in-AtClose.ensures.answers clean before.stored before.spells in
-    let all = AnswersAs-read _ _ _ _ _ _ inv.input _ _ more _ AtClose before.holds is after.holds in
+    let joins = durable_both c.args.service.now c.loop.service c.answer_more.new.service was before.stored after.stored clean before.spells in
+    let all = AnswersAs-read _ _ _ joins _ _ _ inv.input _ _ more _ AtClose before.holds is after.holds in
     record {
       stored = after.stored;
       spells = after.spells;
-      holds = Session-stopped _ _ _ _ _ _ _ _ AtClose Closed (Consumes-trans _ _ _ _ _ inv.reads read) all (inl all.stops);
+      holds = Session-stopped _ _ _ _ _ _ _ AtClose Closed (Consumes-trans _ _ _ _ _ inv.reads read) all (inl all.stops);
     }
 
 pub returns-in-AtFault-clause-session : goal.returns-in-AtFault-clause-session
@@ -80,11 +85,12 @@ returns-in-AtFault-clause-session g c clean was over =
     let (more, is, read) = c.in-Bytes.ensures in
     let before = inv.served (c.answer_more.ensures.clean clean) was over in
     let after = c.in-AtFault.ensures.answers clean before.stored before.spells in
-    let all = AnswersAs-read _ _ _ _ _ _ inv.input _ _ more _ AtFault before.holds is after.holds in
+    let joins = durable_both c.args.service.now c.loop.service c.answer_more.new.service was before.stored after.stored clean before.spells in
+    let all = AnswersAs-read _ _ _ joins _ _ _ inv.input _ _ more _ AtFault before.holds is after.holds in
     record {
       stored = after.stored;
       spells = after.spells;
-      holds = Session-stopped _ _ _ _ _ _ _ _ AtFault Malformed (Consumes-trans _ _ _ _ _ inv.reads read) all (inl all.stops);
+      holds = Session-stopped _ _ _ _ _ _ _ AtFault Malformed (Consumes-trans _ _ _ _ _ inv.reads read) all (inl all.stops);
     }
 
 pub returns-in-NotWritten-clause-session : goal.returns-in-NotWritten-clause-session
@@ -93,11 +99,12 @@ returns-in-NotWritten-clause-session g c clean was over =
     let (more, is, read) = c.in-Bytes.ensures in
     let before = inv.served (c.answer_more.ensures.clean clean) was over in
     let after = c.in-NotWritten.ensures.answers clean before.stored before.spells in
-    let all = AnswersAs-read _ _ _ _ _ _ inv.input _ _ more _ NotWritten before.holds is after.holds in
+    let joins = durable_both c.args.service.now c.loop.service c.answer_more.new.service was before.stored after.stored clean before.spells in
+    let all = AnswersAs-read _ _ _ joins _ _ _ inv.input _ _ more _ NotWritten before.holds is after.holds in
     record {
       stored = after.stored;
       spells = after.spells;
-      holds = Session-stopped _ _ _ _ _ _ _ _ NotWritten WriteFailed (Consumes-trans _ _ _ _ _ inv.reads read) all all.stops;
+      holds = Session-stopped _ _ _ _ _ _ _ NotWritten WriteFailed (Consumes-trans _ _ _ _ _ inv.reads read) all all.stops;
     }
 
 pub returns-in-OutOfMemory-clause-session : goal.returns-in-OutOfMemory-clause-session
@@ -106,11 +113,12 @@ returns-in-OutOfMemory-clause-session g c clean was over =
     let (more, is, read) = c.in-Bytes.ensures in
     let before = inv.served (c.answer_more.ensures.clean clean) was over in
     let after = c.in-OutOfMemory.ensures.answers clean before.stored before.spells in
-    let all = AnswersAs-read _ _ _ _ _ _ inv.input _ _ more _ OutOfMemory before.holds is after.holds in
+    let joins = durable_both c.args.service.now c.loop.service c.answer_more.new.service was before.stored after.stored clean before.spells in
+    let all = AnswersAs-read _ _ _ joins _ _ _ inv.input _ _ more _ OutOfMemory before.holds is after.holds in
     record {
       stored = after.stored;
       spells = after.spells;
-      holds = Session-stopped _ _ _ _ _ _ _ _ OutOfMemory Memory (Consumes-trans _ _ _ _ _ inv.reads read) all all.stops;
+      holds = Session-stopped _ _ _ _ _ _ _ OutOfMemory Memory (Consumes-trans _ _ _ _ _ inv.reads read) all all.stops;
     }
 
 pub returns-clause-session : goal.returns-clause-session
@@ -120,5 +128,5 @@ returns-clause-session g c clean was over =
     record {
       stored = before.stored;
       spells = before.spells;
-      holds = Session-failed _ _ _ _ _ _ inv.input c.loop.buffer inv.reads before.holds c.loop.needs inv.waits;
+      holds = Session-failed _ _ _ _ _ inv.input c.loop.buffer inv.reads before.holds c.loop.needs inv.waits;
     }

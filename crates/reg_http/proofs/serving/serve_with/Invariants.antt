@@ -1,6 +1,7 @@
 use Rattle.std.proofs.Common.{ℕ, List}
 use Rattle.std.specs.Io.KnownBytes.{Consumes}
 use Rattle.sqlite.specs.State.{HasCleanDisk}
+use Rattle.reg_service.specs.Crashes.{ServesDurably}
 use Rattle.reg_service.specs.Services.{state_in}
 use Rattle.reg_http.specs.OverTables.{Over}
 use Rattle.reg_http.specs.Inside.SessionSteps.{Served, Waits}
@@ -13,5 +14,5 @@ invariant-loop g l = record {
   reads : Consumes (g.R.Read.remaining l.initial.reader) (g.R.Read.remaining l.reader) input;
   clean : HasCleanDisk (state_in l.service) → HasCleanDisk (state_in l.initial.service);
   served : HasCleanDisk (state_in l.service) → Over (state_in l.initial.service) (state_in l.service)
-      (λ was now. Served (g.W.Write.contents l.initial.writer) (g.W.Write.contents l.writer) was now input l.buffer);
+      (λ was now. Served (ServesDurably l.initial.service l.service was now) (g.W.Write.contents l.initial.writer) (g.W.Write.contents l.writer) input l.buffer);
 }
